@@ -1,0 +1,4 @@
+pub mod Event
+pub mod Places
+pub mod Processes
+pub mod Refusal

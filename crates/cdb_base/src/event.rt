@@ -1,0 +1,39 @@
+ghost use Rattle.std.specs.Prelude.{◌≡◌};
+ghost use Rattle.cdb_base.specs.Event.{event_name};
+
+use crate::name::{CopyName, Proc, StepId, StepName};
+use crate::register::Reg;
+
+/// What a step does. A send is named by its number among the sends of the process, a receive by its
+/// message.
+#[derive(Clone, Copy, Debug, PartialEq, Eq)]
+pub enum Kind {
+    Query(Proc),
+    Send(u16),
+    Recv(Proc, u16),
+    Read(Reg),
+    Write(Reg),
+    Local,
+    Learn,
+    Crash,
+}
+
+/// What stands in a history: a step of a process, or the loss of a copy by the network.
+#[derive(Clone, Copy, Debug, PartialEq, Eq)]
+pub enum Event {
+    /// The `k`-th standing step of process `p`, from 1 to 9,999, and what it does.
+    Step { p: Proc, k: u16, kind: Kind },
+    Lost(CopyName),
+}
+
+impl Event {
+    /// The name under which the event stands.
+    pub fn name(&self) -> StepId
+        ensures { result ≡ event_name self.now }
+    {
+        match *self {
+            Event::Step { p, k, .. } => StepId::Step(StepName { p, k }),
+            Event::Lost(copy) => StepId::Lost(copy),
+        }
+    }
+}

@@ -1,0 +1,19 @@
+//! Names, values, events and refusals of the debugger: plain types with their ranges.
+#![tactic(auto)]
+
+pub mod event;
+pub mod limits;
+pub mod name;
+pub mod no_memory;
+pub mod payload;
+pub mod refusal;
+pub mod register;
+pub mod value;
+
+pub use event::{Event, Kind};
+pub use name::{CopyName, MsgName, Proc, StepId, StepName};
+pub use no_memory::NoMemory;
+pub use payload::Payload;
+pub use refusal::Refusal;
+pub use register::{Cell, Reg};
+pub use value::Val;

@@ -1,0 +1,121 @@
+ghost use Rattle.std.specs.Prelude.{◌≡◌, ℕ, ◌+◌, ◌≤◌, ◌↔◌, IsSome, IfSome};
+ghost use Rattle.cdb_base.specs.Processes.{all_processes};
+
+use std::marker::Model;
+
+/// A process, by its number from 1 to 9. A contract sees the number.
+#[derive(Clone, Copy, Debug, PartialEq, Eq, PartialOrd, Ord)]
+pub struct Proc(u8);
+
+impl Model for Proc {
+    ghost Value = { ℕ };
+
+    ghost view = { λ p. p.0 };
+
+    ghost invariant = { λ p. (1 ≤ p.0) × (p.0 ≤ 9) };
+
+    ghost inverse = { λ n. record { 0 = n } };
+}
+
+impl Proc {
+    /// The process of that number, from 1 to 9.
+    pub fn new(number: u8) -> Self
+        requires from_one { 1 ≤ number }
+        requires to_nine { number ≤ 9 }
+        ensures value { result ≡ number }
+    {
+        Proc(number)
+    }
+
+    /// The process of that number, where there can be one.
+    pub fn from_number(number: u32) -> Option<Self>
+        ensures valid { IsSome result ↔ ((1 ≤ number) × (number ≤ 9)) }
+        ensures value { IfSome result (λ p. p ≡ number) }
+    {
+        if 1 <= number && number <= 9 {
+            Some(Proc(number as u8))
+        } else {
+            None
+        }
+    }
+
+    /// Every process that a run can have, in order of number.
+    #[tactic(auto, unfolding(crate::specs::Processes::all_processes))]
+    pub fn all() -> [Proc; 9]
+        ensures { result ≡ all_processes }
+    {
+        [
+            Proc(1),
+            Proc(2),
+            Proc(3),
+            Proc(4),
+            Proc(5),
+            Proc(6),
+            Proc(7),
+            Proc(8),
+            Proc(9),
+        ]
+    }
+
+    /// The number of the process, from 1 to 9.
+    pub fn number(self) -> u8
+        ensures value { result ≡ self }
+        ensures from_one { 1 ≤ result }
+        ensures to_nine { result ≤ 9 }
+    {
+        self.0
+    }
+
+    /// The place of the process in a list of all processes, from 0.
+    pub fn index(self) -> usize
+        ensures value { result + 1 ≡ self }
+        ensures below_nine { result ≤ 8 }
+    {
+        self.0 as usize - 1
+    }
+}
+
+/// The first process, for lists that keep their places filled.
+impl Default for Proc {
+    fn default() -> Self {
+        Proc(1)
+    }
+}
+
+/// The name `P.K` of a step: the `k`-th standing step of process `p`. The steps of a process count
+/// from 1 to 9,999; a name with another number names no step.
+#[derive(Clone, Copy, Debug, Default, PartialEq, Eq, PartialOrd, Ord)]
+pub struct StepName {
+    pub p: Proc,
+    pub k: u16,
+}
+
+/// The name `S#M` of a message: the `m`-th send of process `s`, from 1. Names are ordered by sender,
+/// then number.
+#[derive(Clone, Copy, Debug, Default, PartialEq, Eq, PartialOrd, Ord)]
+pub struct MsgName {
+    pub s: Proc,
+    pub m: u16,
+}
+
+/// The copy of a message that is meant for one process. Each message has one copy for each process,
+/// the sender too. Copies are ordered by message, then receiver.
+#[derive(Clone, Copy, Debug, Default, PartialEq, Eq, PartialOrd, Ord)]
+pub struct CopyName {
+    pub msg: MsgName,
+    pub to: Proc,
+}
+
+/// The name of an event: a step by its process and number, the loss of a copy by that copy.
+#[derive(Clone, Copy, Debug, PartialEq, Eq, PartialOrd, Ord)]
+pub enum StepId {
+    Step(StepName),
+    Lost(CopyName),
+}
+
+/// A name, for lists that keep their places filled.
+impl Default for StepId {
+    fn default() -> Self {
+        StepId::Step(StepName::default())
+    }
+}

@@ -1,0 +1,47 @@
+ghost use Rattle.std.specs.Prelude.{◌≡◌, ℕ, ◌≤◌, ◌↔◌, IsSome, IfSome};
+
+use std::marker::Model;
+
+/// A value that processes propose and decide, from 0 to 999,999. A contract sees the number.
+#[derive(Clone, Copy, Debug, PartialEq, Eq, PartialOrd, Ord)]
+pub struct Val(u32);
+
+impl Model for Val {
+    ghost Value = { ℕ };
+
+    ghost view = { λ v. v.0 };
+
+    ghost invariant = { λ v. v.0 ≤ 999999 };
+
+    ghost inverse = { λ n. record { 0 = n } };
+}
+
+impl Val {
+    /// The value of that number, from 0 to 999,999.
+    pub fn new(number: u32) -> Self
+        requires { number ≤ 999999 }
+        ensures value { result ≡ number }
+    {
+        Val(number)
+    }
+
+    /// The value of that number, where it is in range.
+    pub fn from_number(number: u64) -> Option<Self>
+        ensures valid { IsSome result ↔ (number ≤ 999999) }
+        ensures value { IfSome result (λ v. v ≡ number) }
+    {
+        if number <= 999_999 {
+            Some(Val(number as u32))
+        } else {
+            None
+        }
+    }
+
+    /// The number of the value, from 0 to 999,999.
+    pub fn number(self) -> u32
+        ensures value { result ≡ self }
+        ensures in_range { result ≤ 999999 }
+    {
+        self.0
+    }
+}
