@@ -1,6 +1,7 @@
 //! Names, values, events and refusals of the debugger: plain types with their ranges.
 #![tactic(auto)]
 
+pub mod act;
 pub mod event;
 pub mod limits;
 pub mod name;
@@ -10,6 +11,7 @@ pub mod refusal;
 pub mod register;
 pub mod value;
 
+pub use act::Act;
 pub use event::{Event, Kind};
 pub use name::{CopyName, MsgName, Proc, StepId, StepName};
 pub use no_memory::NoMemory;

@@ -1,0 +1,55 @@
+//! What a session is answered.
+
+use cdb_base::{Cell, Event, MsgName, Payload, Proc, Refusal, StepId, Val};
+use smallvec::SmallVec;
+
+/// A process as it is shown.
+#[derive(Clone, Copy, Debug, PartialEq, Eq)]
+pub struct ProcView {
+    pub p: Proc,
+    /// Whether it runs Alpha; else it runs the leader-based algorithm.
+    pub alpha: bool,
+    pub place: u8,
+    pub round: u32,
+    pub alive: bool,
+    /// How many of its steps stand.
+    pub steps: u32,
+    /// How many of its queries stand.
+    pub queries: u32,
+    pub decision: Option<Val>,
+}
+
+/// The reply to a command.
+#[derive(Drop)]
+pub enum Reply {
+    /// The event that was taken, the decision that it gave its process, and the breakpoint that it
+    /// set a pause by.
+    Stepped {
+        event: Event,
+        decides: Option<Val>,
+        paused: Option<u32>,
+    },
+    Undone(Event),
+    Redone {
+        event: Event,
+        decides: Option<Val>,
+    },
+    /// How many events were removed.
+    RolledBack(u32),
+    /// An event and its direct causes.
+    Because(StepId, SmallVec<StepId, 9>),
+    BreakSet(u32),
+    BreakGone(u32),
+    Resumed,
+    /// How many events the redo list held.
+    Forgot(u32),
+    Proc(ProcView),
+    /// The cells of the processes' registers and then that of the decision; none where the algorithm
+    /// has no registers.
+    Regs(Vec<Cell>),
+    /// The copies that were neither received nor lost: receiver, message and payload.
+    Mail(Vec<(Proc, MsgName, Payload)>),
+    History(Vec<Event>),
+    Decisions(Vec<(Proc, Val)>),
+    Refused(Refusal),
+}
