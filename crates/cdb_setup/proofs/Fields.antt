@@ -1,0 +1,14 @@
+-- Parts of a setup are equal where each of their fields is.
+use Rattle.std.proofs.Common.{◌≡◌, ℕ, List}
+use Rattle.cdb_setup.specs.declared.setup.Algorithm.{Algorithm}
+use Rattle.cdb_setup.specs.Parts.{Parts}
+
+same_built : (build : ℕ → Algorithm → ℕ → ℕ → List ℕ → List (List ℕ) → Parts) (s t : Parts)
+    → s.version ≡ t.version → s.algorithm ≡ t.algorithm → s.processes ≡ t.processes → s.quorum ≡ t.quorum → s.inputs ≡ t.inputs → s.answers ≡ t.answers
+    → build s.version s.algorithm s.processes s.quorum s.inputs s.answers ≡ build t.version t.algorithm t.processes t.quorum t.inputs t.answers
+same_built build s t version algorithm processes quorum inputs answers = cc
+
+pub same_fields : (s t : Parts)
+    → s.version ≡ t.version → s.algorithm ≡ t.algorithm → s.processes ≡ t.processes → s.quorum ≡ t.quorum → s.inputs ≡ t.inputs → s.answers ≡ t.answers → s ≡ t
+same_fields s t version algorithm processes quorum inputs answers =
+    same_built (λ v a n q xs ls. record { version = v; algorithm = a; processes = n; quorum = q; inputs = xs; answers = ls }) s t version algorithm processes quorum inputs answers

@@ -1,0 +1,177 @@
+-- The keys of an object, and the first needed key that is not there.
+use Rattle.std.proofs.Common.{◌≡◌, ◌≢◌, ◌⊎◌, ℕ, ◌<◌, ◌+◌, Bool, true, false, ◌||◌, ◌&&◌, cond, List, [], ◌∷◌, Option, Some, None, String, Global, string_bytes, bytes_eq, refl, sym, subst, ◌∙◌, arith, inl, inr}
+use Rattle.std.specs.Prelude.{MatchOption, MatchBool, is_none, find}
+use Rattle.std.specs.List.{list_all}
+use Rattle.std.specs.Map.{keys_of}
+use Rattle.std.proofs.lemmas.Bool.{cases_Bool, cases_eq}
+use Rattle.std.proofs.lemmas.Slice.Eq.{bytes_eq-Decides}
+use Rattle.serde_json.specs.Data.{Data, object}
+use Rattle.serde_json.specs.Find.{get, get_member}
+use Rattle.serde_json.specs.View.{view, members_view}
+use Rattle.serde_json.proofs.Views.{Entry, member_here, member_later}
+use Rattle.cdb_setup.specs.declared.key.Key.{Key}
+use Rattle.cdb_setup.specs.declared.key.Key.TheVariants.{Algorithm, Processes, Quorum, Inputs, Oracle, Version}
+use Rattle.cdb_setup.specs.declared.fault.SetupFault.{SetupFault}
+use Rattle.cdb_setup.specs.declared.fault.SetupFault.TheVariants as faults
+use Rattle.cdb_setup.specs.Format.{name_of, HasKnownKeys}
+use Rattle.cdb_setup.specs.Names.{is_key_name}
+use Rattle.cdb_setup.specs.Faults.{Holds}
+use Rattle.cdb_setup.specs.Order.{IsBefore, turn, key_place}
+use Rattle.cdb_setup.specs.Turns.{IsFirstOfTurn}
+
+-- one of two tests
+either : (a b : Bool) → (a || b) ≡ true → (a ≡ true) ⊎ (b ≡ true)
+either true b e = inl refl
+either false b e = inr e
+
+same_or : (name : List ℕ) (k : Key) → bytes_eq name (name_of k) ≡ true → (key : Key) × (name ≡ name_of key)
+same_or name k e = (k, (bytes_eq-Decides name (name_of k)).0 e)
+
+-- what the test on a name says
+is_name : (name : List ℕ) → is_key_name name ≡ true → (key : Key) × (name ≡ name_of key)
+is_name name e =
+    elim (either (bytes_eq name (name_of Algorithm) || bytes_eq name (name_of Processes) || bytes_eq name (name_of Quorum) || bytes_eq name (name_of Inputs) || bytes_eq name (name_of Oracle)) _ e) [
+      | inr h ↦ same_or name Version h
+      | inl a ↦ elim (either (bytes_eq name (name_of Algorithm) || bytes_eq name (name_of Processes) || bytes_eq name (name_of Quorum) || bytes_eq name (name_of Inputs)) _ a) [
+        | inr h ↦ same_or name Oracle h
+        | inl b ↦ elim (either (bytes_eq name (name_of Algorithm) || bytes_eq name (name_of Processes) || bytes_eq name (name_of Quorum)) _ b) [
+          | inr h ↦ same_or name Inputs h
+          | inl d ↦ elim (either (bytes_eq name (name_of Algorithm) || bytes_eq name (name_of Processes)) _ d) [
+            | inr h ↦ same_or name Quorum h
+            | inl f ↦ elim (either (bytes_eq name (name_of Algorithm)) _ f) [
+              | inr h ↦ same_or name Processes h
+              | inl h ↦ same_or name Algorithm h
+            ]
+          ]
+        ]
+      ]
+    ]
+
+name_is : (key : Key) → is_key_name (name_of key) ≡ true
+name_is Algorithm = refl
+name_is Processes = refl
+name_is Quorum = refl
+name_is Inputs = refl
+name_is Oracle = refl
+name_is Version = refl
+
+not_name : (name : List ℕ) → is_key_name name ≡ false → (key : Key) → name ≢ name_of key
+not_name name e key same = let here : is_key_name name ≡ true = subst (λ (n : List ℕ). is_key_name n ≡ true) (sym same) (name_is key) in cc
+
+abbrev test : String Global → Bool
+test name = is_key_name (string_bytes name)
+
+both : (a b : Bool) → (a && b) ≡ true → (a ≡ true) × (b ≡ true)
+both true b e = (refl, e)
+both false b e = absurd cc
+
+-- where each name is that of a key, what is found has the name of a key
+all_known : (entries : List Entry) → list_all test (keys_of entries) ≡ true → (name : List ℕ) (value : Data) → get_member name (members_view entries) ≡ Some value
+    → (key : Key) × (name ≡ name_of key)
+all_known [] e name value there = absurd cc
+all_known (entry ∷ entries) e name value there =
+    let parts = both (test entry.0) (list_all test (keys_of entries)) e in
+    elim (cases_Bool (bytes_eq name (string_bytes entry.0))) [
+      | inl h ↦ let same = (bytes_eq-Decides name (string_bytes entry.0)).0 h in let known = is_name (string_bytes entry.0) parts.0 in (known.0, same ∙ known.1)
+      | inr h ↦
+          let other : name ≡ string_bytes entry.0 → ⊥ = λ same. let equal = (bytes_eq-Decides name (string_bytes entry.0)).1 same in cc in
+          all_known entries parts.1 name value (sym (member_later name entry entries other) ∙ there)
+    ]
+
+-- a name that is not that of a key, with its value
+abbrev HasOther : List Entry → Type 0
+HasOther entries = (name : List ℕ) × (value : Data) × (get_member name (members_view entries) ≡ Some value) × ((key : Key) → name ≢ name_of key)
+
+-- a value further on is found, or the first entry has its name
+further : (entry : Entry) (entries : List Entry) → HasOther entries → HasOther (entry ∷ entries)
+further entry entries found =
+    elim (cases_Bool (bytes_eq found.0 (string_bytes entry.0))) [
+      | inl h ↦ (found.0, view entry.1, member_here found.0 entry entries ((bytes_eq-Decides found.0 (string_bytes entry.0)).0 h), found.3)
+      | inr h ↦
+          let other : found.0 ≡ string_bytes entry.0 → ⊥ = λ same. let equal = (bytes_eq-Decides found.0 (string_bytes entry.0)).1 same in cc in
+          (found.0, found.1, member_later found.0 entry entries other ∙ found.2, found.3)
+    ]
+
+some_other : (entries : List Entry) → list_all test (keys_of entries) ≡ false → HasOther entries
+some_other [] e = absurd cc
+some_other (entry ∷ entries) e =
+    elim (cases_Bool (test entry.0)) [
+      | inr h ↦ (string_bytes entry.0, view entry.1, member_here (string_bytes entry.0) entry entries refl, not_name (string_bytes entry.0) h)
+      | inl h ↦ further entry entries (some_other entries (let rest : list_all test (keys_of (entry ∷ entries)) ≡ list_all test (keys_of entries) = rw h refl in sym rest ∙ e))
+    ]
+
+-- what the test on all names says
+pub known_or_other : (entries : List Entry) (result : Bool) → result ≡ list_all (λ name. is_key_name (string_bytes name)) (keys_of entries)
+    → MatchBool result (HasKnownKeys (object (members_view entries))) (Holds faults.UnknownKey (object (members_view entries)))
+known_or_other entries true e = all_known entries (sym e)
+known_or_other entries false e = some_other entries (sym e)
+
+-- ---- the first key that is not there
+
+abbrev IsThere : Data → Key → Type 0
+IsThere json key = ¬ Holds (faults.Missing key) json
+
+absent : (found : Option Data) (value : Data) → is_none found ≡ true → found ≢ Some value
+absent None value e there = cc
+absent (Some found) value e there = cc
+
+present : (found : Option Data) → is_none found ≡ false → ((value : Data) → found ≢ Some value) → ⊥
+present None e none = cc
+present (Some value) e none = none value refl
+
+-- the keys of the places below n are there
+abbrev AreThereBelow : Data → ℕ → Type 0
+AreThereBelow json n = (key : Key) → key_place key < n → IsThere json key
+
+same_place : (j k : Key) → key_place j ≡ key_place k → j ≡ k
+same_place Algorithm Algorithm e = refl
+same_place Processes Processes e = refl
+same_place Quorum Quorum e = refl
+same_place Inputs Inputs e = refl
+same_place Oracle Oracle e = refl
+same_place Version Version e = refl
+same_place j k e = absurd (omega arith)
+
+one_more : (json : Data) (k : Key) → AreThereBelow json (key_place k) → IsThere json k → AreThereBelow json (key_place k + 1)
+one_more json k before here j below =
+    elim (cases_eq (key_place j) (key_place k)) [
+      | inl same ↦ subst (λ (i : Key). IsThere json i) (sym (same_place j k same)) here
+      | inr other ↦ before j (omega arith)
+    ]
+
+first_of_turn : (json : Data) (k : Key) → AreThereBelow json (key_place k) → Holds (faults.Missing k) json
+    → (other : SetupFault) → turn other ≡ 4 → IsBefore other (faults.Missing k) → ¬ Holds other json
+first_of_turn json k before holds (faults.Missing j) at earlier = before j (omega arith)
+first_of_turn json k before holds other at earlier = absurd (omega arith)
+
+-- the key at which the search stops is the first that is not there
+stops : (json : Data) (k : Key) → AreThereBelow json (key_place k) → Holds (faults.Missing k) json → IsFirstOfTurn 4 (faults.Missing k) json
+stops json k before holds = record { in_turn = refl; holds = holds; first = first_of_turn json k before holds }
+
+abbrev AreAllThere : Data → Type 0
+AreAllThere json = (key : Key) → IsThere json key
+
+-- what a search that goes on from the key k says
+abbrev Finds : Data → Option Key → Type 0
+Finds json found = MatchOption found (AreAllThere json) (λ k. IsFirstOfTurn 4 (faults.Missing k) json)
+
+goes_on : (json : Data) (k : Key) (missing : Bool) (further : Option Key) → k ≢ Version → is_none (get (name_of k) json) ≡ missing → AreThereBelow json (key_place k)
+    → (AreThereBelow json (key_place k + 1) → Finds json further) → Finds json (cond missing (Some k) further)
+goes_on json k true further needed e before rest = stops json k before (needed, λ value. absent (get (name_of k) json) value e)
+goes_on json k false further needed e before rest = rest (one_more json k before (λ holds. present (get (name_of k) json) e holds.1))
+
+all_there : (json : Data) → AreThereBelow json 5 → AreAllThere json
+all_there json below Algorithm = below Algorithm (omega arith)
+all_there json below Processes = below Processes (omega arith)
+all_there json below Quorum = below Quorum (omega arith)
+all_there json below Inputs = below Inputs (omega arith)
+all_there json below Oracle = below Oracle (omega arith)
+all_there json below Version = λ holds. holds.0 refl
+
+pub first_missing : (json : Data) → Finds json (find (λ k. is_none (get (name_of k) json)) (Algorithm ∷ Processes ∷ Quorum ∷ Inputs ∷ Oracle ∷ []))
+first_missing json =
+    goes_on json Algorithm _ _ (λ e. cc) refl (λ key below. absurd (omega arith)) (λ one.
+    goes_on json Processes _ _ (λ e. cc) refl one (λ two.
+    goes_on json Quorum _ _ (λ e. cc) refl two (λ three.
+    goes_on json Inputs _ _ (λ e. cc) refl three (λ four.
+    goes_on json Oracle _ _ (λ e. cc) refl four (λ five. all_there json five)))))

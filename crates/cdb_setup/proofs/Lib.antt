@@ -1,0 +1,10 @@
+pub mod Fields
+pub mod Values
+pub mod Walk
+pub mod Turns
+pub mod KeyNames
+pub mod NoFault
+pub mod Stages
+pub mod Whole
+pub mod Equal
+pub mod InRange

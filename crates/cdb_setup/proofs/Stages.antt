@@ -1,0 +1,84 @@
+-- The parts are read one after the other: what was read leaves no fault of its turn.
+use Rattle.std.proofs.Common.{◌≡◌, ℕ, ◌+◌, List, length, map, arith, inl, inr}
+use Rattle.std.specs.List.{AllByRecursion}
+use Rattle.std.proofs.lemmas.Bool.{cases_lt}
+use Rattle.serde_json.specs.Data.{Data, Members, string, object}
+use Rattle.cdb_setup.specs.declared.setup.Algorithm.{Algorithm}
+use Rattle.cdb_setup.specs.declared.key.Key.{Key}
+use Rattle.cdb_setup.specs.declared.key.Key.TheVariants as key
+use Rattle.cdb_setup.specs.declared.fault.SetupFault.{SetupFault}
+use Rattle.cdb_setup.specs.declared.fault.SetupFault.TheVariants.{NotJson, NotObject, UnknownKey, Missing, BadAlgorithm, BadCount, BadQuorum, BadInput, BadOracle, TooLong, BadVersion, NoMemory}
+use Rattle.cdb_setup.specs.Parts.{IsWithin}
+use Rattle.cdb_setup.specs.Format.{algorithm_name, whole, array_of, array_of_whole, HasAt, HasKnownKeys}
+use Rattle.cdb_setup.specs.Faults.{Holds, IsCount}
+use Rattle.cdb_setup.specs.Order.{turn, IsBefore}
+use Rattle.cdb_setup.specs.Turns.{IsFirstOfTurn, IsFirstOf, IsClearBelow}
+use Rattle.cdb_setup.proofs.NoFault.{no_bad_input, no_bad_answer}
+
+-- the first fault of a turn is the first of all where no earlier turn has one
+pub joined : (t : ℕ) (fault : SetupFault) (json : Data) → IsClearBelow t json → IsFirstOfTurn t fault json → IsFirstOf fault json
+joined t fault json clear found = record {
+  holds = found.holds;
+  first = λ other before holds. elim (cases_lt (turn other) t) [
+    | inl lt ↦ clear other lt holds
+    | inr le ↦ found.first other (omega (arith, found.in_turn)) before holds
+  ];
+}
+
+passes : (t : ℕ) (json : Data) → IsClearBelow t json → ((other : SetupFault) → turn other ≡ t → ¬ Holds other json) → IsClearBelow (t + 1) json
+passes t json clear none other below =
+    elim (cases_lt (turn other) t) [ inl lt ↦ clear other lt | inr le ↦ none other (omega arith) ]
+
+pub after_keys : (members : Members) (json : Data) → json ≡ object members → HasKnownKeys json → ((key : Key) → ¬ Holds (Missing key) json) → IsClearBelow 5 json
+after_keys ms json is known none TooLong below holds = holds
+after_keys ms json is known none NotJson below holds = holds
+after_keys ms json is known none NotObject below holds = holds ms is
+after_keys ms json is known none UnknownKey below holds = let found = known holds.0 holds.1 holds.2 in holds.3 found.0 found.1
+after_keys ms json is known none (Missing key) below holds = none key holds
+after_keys ms json is known none other below holds = absurd (omega arith)
+
+no_bad_algorithm : (algorithm : Algorithm) (json : Data) → HasAt key.Algorithm (string (algorithm_name algorithm)) json → (other : SetupFault) → turn other ≡ 5 → ¬ Holds other json
+no_bad_algorithm algorithm json at BadAlgorithm is holds = holds algorithm at
+no_bad_algorithm algorithm json at other is holds = absurd (omega arith)
+
+no_bad_count : (n : ℕ) (json : Data) → IsCount n json → (other : SetupFault) → turn other ≡ 6 → ¬ Holds other json
+no_bad_count n json count BadCount is holds = holds n count
+no_bad_count n json count other is holds = absurd (omega arith)
+
+no_bad_quorum : (n q : ℕ) (json : Data) → IsCount n json → HasAt key.Quorum (whole q) json → IsWithin 1 n q → (other : SetupFault) → turn other ≡ 7 → ¬ Holds other json
+no_bad_quorum n q json count at within BadQuorum is holds = holds n q count at within
+no_bad_quorum n q json count at within other is holds = absurd (omega arith)
+
+no_input : (n : ℕ) (inputs : List ℕ) (json : Data) → IsCount n json → HasAt key.Inputs (array_of_whole inputs) json → length inputs ≡ n → AllByRecursion (IsWithin 0 999999) inputs
+    → (other : SetupFault) → turn other ≡ 8 → ¬ Holds other json
+no_input n inputs json count at len all (BadInput place) is holds = no_bad_input n inputs json count at len all place holds
+no_input n inputs json count at len all other is holds = absurd (omega arith)
+
+no_answer : (n : ℕ) (lists : List (List ℕ)) (json : Data) → IsCount n json → HasAt key.Oracle (array_of (map array_of_whole lists)) json → length lists ≡ n
+    → AllByRecursion (AllByRecursion (IsWithin 1 n)) lists → (other : SetupFault) → turn other ≡ 9 → ¬ Holds other json
+no_answer n lists json count at len all (BadOracle process place) is holds = no_bad_answer n lists json count at len all process place holds
+no_answer n lists json count at len all other is holds = absurd (omega arith)
+
+-- once the inputs are read, no fault of a turn up to theirs is left
+pub after_inputs : (algorithm : Algorithm) (n q : ℕ) (inputs : List ℕ) (json : Data) → IsClearBelow 5 json → HasAt key.Algorithm (string (algorithm_name algorithm)) json → IsCount n json
+    → HasAt key.Quorum (whole q) json → IsWithin 1 n q → HasAt key.Inputs (array_of_whole inputs) json → length inputs ≡ n → AllByRecursion (IsWithin 0 999999) inputs → IsClearBelow 9 json
+after_inputs algorithm n q inputs json five named count quorum within at len all =
+    let six = passes 5 json five (no_bad_algorithm algorithm json named) in
+    let seven = passes 6 json six (no_bad_count n json count) in
+    let eight = passes 7 json seven (no_bad_quorum n q json count quorum within) in
+    passes 8 json eight (no_input n inputs json count at len all)
+
+pub after_answers : (n : ℕ) (lists : List (List ℕ)) (json : Data) → IsClearBelow 9 json → IsCount n json → HasAt key.Oracle (array_of (map array_of_whole lists)) json → length lists ≡ n
+    → AllByRecursion (AllByRecursion (IsWithin 1 n)) lists → IsClearBelow 10 json
+after_answers n lists json clear count at len all = passes 9 json clear (no_answer n lists json count at len all)
+
+-- the fault of the version is the first where no other holds
+only_version : (json : Data) → IsClearBelow 10 json → (other : SetupFault) → IsBefore other BadVersion → ¬ Holds other json
+only_version json clear TooLong before holds = holds
+only_version json clear NotJson before holds = holds
+only_version json clear BadVersion before holds = absurd (omega arith)
+only_version json clear NoMemory before holds = holds
+only_version json clear other before holds = clear other (omega arith) holds
+
+pub version_last : (json : Data) → IsClearBelow 10 json → Holds BadVersion json → IsFirstOf BadVersion json
+version_last json clear holds = record { holds = holds; first = only_version json clear }

@@ -1,0 +1,144 @@
+-- The bytes as a whole: what stands for a setup has no fault, and stands for no other.
+use Rattle.std.proofs.Common.{◌≡◌, ◌≢◌, ◌⊎◌, ℕ, ◌<◌, ◌≤◌, List, [], ◌∷◌, length, map, Some, None, refl, sym, ap, subst, ◌∙◌, arith, inl, inr}
+use Rattle.std.specs.Prelude.{Result, Ok, Err, IfOk, IfErr}
+use Rattle.std.specs.Str.{IsUtf8}
+use Rattle.serde_json.specs.Data.{Data, null, boolean, number, string, array, object, Members}
+use Rattle.serde_json.specs.Read as reading
+use Rattle.cdb_setup.specs.declared.setup.Algorithm.{Algorithm}
+use Rattle.cdb_setup.specs.declared.setup.Algorithm.TheVariants.{Leader, Alpha}
+use Rattle.cdb_setup.specs.declared.key.Key.TheVariants as key
+use Rattle.cdb_setup.specs.declared.fault.SetupFault.{SetupFault}
+use Rattle.cdb_setup.specs.declared.fault.SetupFault.TheVariants.{NotJson, NotObject, UnknownKey, Missing, BadAlgorithm, BadCount, BadQuorum, BadInput, BadOracle, TooLong, BadVersion, NoMemory}
+use Rattle.cdb_setup.specs.Parts.{Parts}
+use Rattle.cdb_setup.specs.Format.{algorithm_name, whole, array_of, array_of_whole, HasVersion, IsSetupOf, IsJsonOf, StandsFor, longest}
+use Rattle.cdb_setup.specs.Faults.{Holds, HoldsOf}
+use Rattle.cdb_setup.specs.Order.{IsFirstFault, IsBefore}
+use Rattle.cdb_setup.specs.Turns.{IsFirstOf}
+use Rattle.cdb_setup.proofs.Values.{array_same, whole_same}
+use Rattle.cdb_setup.proofs.Fields.{same_fields}
+use Rattle.cdb_setup.proofs.NoFault.{no_bad_input, no_bad_answer, no_bad_version}
+
+-- ---- a fault of the value is a fault of the bytes
+
+one_value : (bytes : List ℕ) (a b : Data) → IsJsonOf bytes a → IsJsonOf bytes b → a ≡ b
+one_value bytes a b x y = let p = x.1 in let q = y.1 in cc
+
+to_bytes : (fault : SetupFault) (bytes : List ℕ) (json : Data) → IsJsonOf bytes json → Holds fault json → HoldsOf fault bytes
+to_bytes TooLong bytes json is holds = absurd holds
+to_bytes NotJson bytes json is holds = absurd holds
+to_bytes fault bytes json is holds = (json, is, holds)
+
+from_bytes : (fault : SetupFault) (bytes : List ℕ) (json : Data) → length bytes ≤ longest → IsJsonOf bytes json → HoldsOf fault bytes → Holds fault json
+from_bytes TooLong bytes json short is holds = absurd (omega arith)
+from_bytes NotJson bytes json short is holds = absurd (holds json is)
+from_bytes fault bytes json short is holds = subst (λ (d : Data). Holds fault d) (one_value bytes holds.0 json holds.1 is) holds.2
+
+lifted : (fault : SetupFault) (bytes : List ℕ) (json : Data) → length bytes ≤ longest → IsJsonOf bytes json → IsFirstOf fault json → IsFirstFault fault bytes
+lifted fault bytes json short is found = record {
+  holds = to_bytes fault bytes json is found.holds;
+  first = λ other before holds. found.first other before (from_bytes other bytes json short is holds);
+}
+
+pub all_lifted : {A : Type 0} (result : Result A SetupFault) (bytes : List ℕ) (json : Data) → length bytes ≤ longest → IsJsonOf bytes json
+    → IfErr result (λ fault. fault ≢ NoMemory → IsFirstOf fault json) → IfErr result (λ fault. fault ≢ NoMemory → IsFirstFault fault bytes)
+all_lifted (Ok setup) bytes json short is faults = tt
+all_lifted (Err fault) bytes json short is faults = λ differs. lifted fault bytes json short is (faults differs)
+
+pub all_stand : {A : Type 0} (parts : A → Parts) (result : Result A SetupFault) (bytes : List ℕ) (json : Data) → length bytes ≤ longest → IsJsonOf bytes json
+    → IfOk result (λ setup. IsSetupOf json (parts setup)) → IfOk result (λ setup. StandsFor bytes (parts setup))
+all_stand parts (Ok setup) bytes json short is found = (short, json, is, found)
+all_stand parts (Err fault) bytes json short is found = tt
+
+pub too_long : (bytes : List ℕ) → longest < length bytes → IsFirstFault TooLong bytes
+too_long bytes long = record { holds = long; first = λ other before holds. omega arith }
+
+before_not_json : (other : SetupFault) (bytes : List ℕ) → length bytes ≤ longest → IsBefore other NotJson → ¬ HoldsOf other bytes
+before_not_json TooLong bytes short before holds = omega arith
+before_not_json other bytes short before holds = absurd (omega arith)
+
+pub not_json : (bytes : List ℕ) → length bytes ≤ longest → (IsUtf8 bytes → reading.read bytes ≡ None) → IsFirstFault NotJson bytes
+not_json bytes short none = record {
+  holds = λ json is. let nothing = none is.0 in let there = is.1 in cc;
+  first = λ other before. before_not_json other bytes short before;
+}
+
+-- ---- what stands for a setup has no fault
+
+same_at : {A : Type 0} {a b : A} → Some a ≡ Some b → a ≡ b
+same_at e = cc
+
+is_object : (json : Data) (parts : Parts) → IsSetupOf json parts → ¬ ((members : Members) → json ≢ object members)
+is_object null parts is none = let there = is.processes in cc
+is_object (boolean b) parts is none = let there = is.processes in cc
+is_object (number n) parts is none = let there = is.processes in cc
+is_object (string s) parts is none = let there = is.processes in cc
+is_object (array vs) parts is none = let there = is.processes in cc
+is_object (object members) parts is none = none members refl
+
+no_setup : (fault : SetupFault) (json : Data) (parts : Parts) → IsSetupOf json parts → ¬ Holds fault json
+no_setup NotObject json parts is holds = is_object json parts is holds
+no_setup UnknownKey json parts is holds = let known = is.keys holds.0 holds.1 holds.2 in holds.3 known.0 known.1
+no_setup (Missing key.Algorithm) json parts is holds = holds.1 (string (algorithm_name parts.algorithm)) is.algorithm
+no_setup (Missing key.Processes) json parts is holds = holds.1 (whole parts.processes) is.processes
+no_setup (Missing key.Quorum) json parts is holds = holds.1 (whole parts.quorum) is.quorum
+no_setup (Missing key.Inputs) json parts is holds = holds.1 (array_of_whole parts.inputs) is.inputs
+no_setup (Missing key.Oracle) json parts is holds = holds.1 (array_of (map array_of_whole parts.answers)) is.answers
+no_setup (Missing key.Version) json parts is holds = holds.0 refl
+no_setup BadAlgorithm json parts is holds = holds parts.algorithm is.algorithm
+no_setup BadCount json parts is holds = holds parts.processes (is.processes, is.ranges.processes)
+no_setup BadQuorum json parts is holds = holds parts.processes parts.quorum (is.processes, is.ranges.processes) is.quorum is.ranges.quorum
+no_setup (BadInput place) json parts is holds =
+    no_bad_input parts.processes parts.inputs json (is.processes, is.ranges.processes) is.inputs is.ranges.an_input_each is.ranges.inputs place holds
+no_setup (BadOracle process place) json parts is holds =
+    no_bad_answer parts.processes parts.answers json (is.processes, is.ranges.processes) is.answers is.ranges.a_list_each is.ranges.answers process place holds
+no_setup BadVersion json parts is holds = no_bad_version parts.version json is.version is.ranges.version holds
+no_setup NotJson json parts is holds = holds
+no_setup TooLong json parts is holds = holds
+no_setup NoMemory json parts is holds = holds
+
+no_setup_of_bytes : (fault : SetupFault) (bytes : List ℕ) (parts : Parts) → StandsFor bytes parts → ¬ HoldsOf fault bytes
+no_setup_of_bytes fault bytes parts stands holds = no_setup fault stands.1 parts stands.3 (from_bytes fault bytes stands.1 stands.0 stands.2 holds)
+
+-- ---- what stands for a setup stands for no other
+
+same_name : (a b : Algorithm) → string (algorithm_name a) ≡ string (algorithm_name b) → a ≡ b
+same_name Leader Leader e = refl
+same_name Leader Alpha e = cc
+same_name Alpha Leader e = cc
+same_name Alpha Alpha e = refl
+
+lists_same : (xs ys : List (List ℕ)) → map array_of_whole xs ≡ map array_of_whole ys → xs ≡ ys
+lists_same [] [] e = refl
+lists_same [] (y ∷ ys) e = cc
+lists_same (x ∷ xs) [] e = cc
+lists_same (x ∷ xs) (y ∷ ys) e =
+    let tails : map array_of_whole xs ≡ map array_of_whole ys = cc in
+    let heads : array_of (map whole x) ≡ array_of (map whole y) = cc in
+    let first : x ≡ y = whole_same x y (array_same (map whole x) (map whole y) heads) in
+    let rest = lists_same xs ys tails in cc
+
+same_version : (json : Data) (v w : ℕ) → HasVersion v json → HasVersion w json → v ≡ w
+same_version json v w (inl a) (inl b) = cc
+same_version json v w (inl a) (inr b) = let nothing = b.0 in cc
+same_version json v w (inr a) (inl b) = let nothing = a.0 in cc
+same_version json v w (inr a) (inr b) = a.1 ∙ sym b.1
+
+same_parts : (json : Data) (s t : Parts) → IsSetupOf json s → IsSetupOf json t → s ≡ t
+same_parts json s t a b =
+    let version = same_version json s.version t.version a.version b.version in
+    let algorithm : s.algorithm ≡ t.algorithm = same_name s.algorithm t.algorithm (same_at (sym a.algorithm ∙ b.algorithm)) in
+    let processes : s.processes ≡ t.processes = let e = same_at (sym a.processes ∙ b.processes) in cc in
+    let quorum : s.quorum ≡ t.quorum = let e = same_at (sym a.quorum ∙ b.quorum) in cc in
+    let inputs : s.inputs ≡ t.inputs = whole_same s.inputs t.inputs (array_same (map whole s.inputs) (map whole t.inputs) (same_at (sym a.inputs ∙ b.inputs))) in
+    let answers : s.answers ≡ t.answers = lists_same s.answers t.answers (array_same (map array_of_whole s.answers) (map array_of_whole t.answers) (same_at (sym a.answers ∙ b.answers))) in
+    same_fields s t version algorithm processes quorum inputs answers
+
+pub one_setup : (bytes : List ℕ) (s t : Parts) → StandsFor bytes s → StandsFor bytes t → s ≡ t
+one_setup bytes s t a b = same_parts a.1 s t a.3 (subst (λ (d : Data). IsSetupOf d t) (one_value bytes b.1 a.1 b.2 a.2) b.3)
+
+-- what stands for a setup is answered, unless memory runs out
+pub only : (result : Result Parts SetupFault) (bytes : List ℕ) → IfOk result (λ setup. StandsFor bytes setup) → IfErr result (λ fault. fault ≢ NoMemory → IsFirstFault fault bytes)
+    → (setup : Parts) → StandsFor bytes setup → (result ≡ Ok setup) ⊎ (result ≡ Err NoMemory)
+only (Ok found) bytes stands faults setup other = inl (ap Ok (one_setup bytes found setup stands other))
+only (Err NoMemory) bytes stands faults setup other = inr refl
+only (Err fault) bytes stands faults setup other = absurd (no_setup_of_bytes fault bytes setup other (faults (λ e. cc)).holds)

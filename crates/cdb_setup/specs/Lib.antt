@@ -1,0 +1,10 @@
+pub mod Parts
+pub mod Seen
+pub mod Format
+pub mod Faults
+pub mod Order
+pub mod Numbers
+pub mod Turns
+pub mod Stops
+pub mod Names
+pub mod Equal

@@ -1,0 +1,33 @@
+-- The number and the name under which a fault is shown.
+use Rattle.std.specs.Prelude.{ℕ, List, codes, Option, Some, None}
+use Rattle.cdb_setup.specs.declared.fault.SetupFault.{SetupFault}
+use Rattle.cdb_setup.specs.declared.fault.SetupFault.TheVariants.{NotJson, NotObject, UnknownKey, Missing, BadAlgorithm, BadCount, BadQuorum, BadInput, BadOracle, TooLong, BadVersion, NoMemory}
+
+-- want of memory has no number
+abbrev pub fault_number : SetupFault → Option ℕ
+fault_number NotJson = Some 1
+fault_number NotObject = Some 2
+fault_number UnknownKey = Some 3
+fault_number (Missing key) = Some 4
+fault_number BadAlgorithm = Some 5
+fault_number BadCount = Some 6
+fault_number BadQuorum = Some 7
+fault_number (BadInput number) = Some 8
+fault_number (BadOracle process number) = Some 9
+fault_number TooLong = Some 10
+fault_number BadVersion = Some 11
+fault_number NoMemory = None
+
+abbrev pub fault_name : SetupFault → List ℕ
+fault_name NotJson = codes "NotJson"
+fault_name NotObject = codes "NotObject"
+fault_name UnknownKey = codes "UnknownKey"
+fault_name (Missing key) = codes "Missing"
+fault_name BadAlgorithm = codes "BadAlgorithm"
+fault_name BadCount = codes "BadCount"
+fault_name BadQuorum = codes "BadQuorum"
+fault_name (BadInput number) = codes "BadInput"
+fault_name (BadOracle process number) = codes "BadOracle"
+fault_name TooLong = codes "TooLong"
+fault_name BadVersion = codes "BadVersion"
+fault_name NoMemory = codes "NoMemory"

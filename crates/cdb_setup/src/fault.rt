@@ -1,0 +1,99 @@
+//! Why bytes stand for no setup.
+
+ghost use Rattle.std.specs.Prelude.{◌≡◌};
+ghost use Rattle.cdb_setup.specs.declared.fault.SetupFault.TheVariants.{NoMemory};
+ghost use Rattle.cdb_setup.specs.Numbers.{fault_number, fault_name};
+
+use crate::key::Key;
+use std::alloc::{AllocError, AllocFailed};
+
+/// Why no setup was read. Processes and places count from 1.
+#[derive(Clone, Copy, Debug, PartialEq, Eq)]
+pub enum SetupFault {
+    /// The bytes are no JSON value, nest more than 127 deep, or aren't UTF-8.
+    NotJson,
+    /// The value is no object.
+    NotObject,
+    /// The object has a key that no setup has.
+    UnknownKey,
+    /// This key is absent, and each needed key before it is there.
+    Missing(Key),
+    /// The algorithm is neither `"leader"` nor `"alpha"`.
+    BadAlgorithm,
+    /// The number of processes is no whole number from 1 to 9.
+    BadCount,
+    /// The quorum is no whole number from 1 to the number of processes.
+    BadQuorum,
+    /// The input of this process is no whole number from 0 to 999,999; with 0, the inputs are no
+    /// array with one for each process.
+    BadInput(usize),
+    /// For this process, the answer at this place is no whole number from 1 to the number of
+    /// processes; with place 0, the answers for the process are no array; with 0 and 0, the oracle is
+    /// no array with one list for each process.
+    BadOracle(usize, usize),
+    /// There are more than 1,048,576 bytes.
+    TooLong,
+    /// The version is neither 1 nor 2.
+    BadVersion,
+    /// A growth was refused. The bytes may stand for a setup.
+    NoMemory,
+}
+
+impl SetupFault {
+    /// The number under which the fault is shown, from 1 to 11. Want of memory has none.
+    pub fn number(&self) -> Option<u8>
+        ensures { result ≡ fault_number self.now }
+    {
+        let number = match self {
+            SetupFault::NotJson => 1,
+            SetupFault::NotObject => 2,
+            SetupFault::UnknownKey => 3,
+            SetupFault::Missing(_) => 4,
+            SetupFault::BadAlgorithm => 5,
+            SetupFault::BadCount => 6,
+            SetupFault::BadQuorum => 7,
+            SetupFault::BadInput(_) => 8,
+            SetupFault::BadOracle(_, _) => 9,
+            SetupFault::TooLong => 10,
+            SetupFault::BadVersion => 11,
+            SetupFault::NoMemory => return None,
+        };
+        Some(number)
+    }
+
+    /// The name under which the fault is shown: that of the variant, with nothing that it carries.
+    pub fn name(&self) -> &'static str
+        ensures { result.now ≡ fault_name self.now }
+    {
+        match self {
+            SetupFault::NotJson => "NotJson",
+            SetupFault::NotObject => "NotObject",
+            SetupFault::UnknownKey => "UnknownKey",
+            SetupFault::Missing(_) => "Missing",
+            SetupFault::BadAlgorithm => "BadAlgorithm",
+            SetupFault::BadCount => "BadCount",
+            SetupFault::BadQuorum => "BadQuorum",
+            SetupFault::BadInput(_) => "BadInput",
+            SetupFault::BadOracle(_, _) => "BadOracle",
+            SetupFault::TooLong => "TooLong",
+            SetupFault::BadVersion => "BadVersion",
+            SetupFault::NoMemory => "NoMemory",
+        }
+    }
+}
+
+impl From<AllocError> for SetupFault {
+    ghost from_gives = { λ _ fault. fault ≡ NoMemory };
+
+    fn from(_error: AllocError) -> SetupFault {
+        SetupFault::NoMemory
+    }
+}
+
+impl<T: Drop> From<AllocFailed<T>> for SetupFault {
+    ghost from_gives = { λ _ fault. fault ≡ NoMemory };
+
+    fn from(_error: AllocFailed<T>) -> SetupFault {
+        SetupFault::NoMemory
+    }
+}

@@ -1,0 +1,129 @@
+//! The parts of a setup, each read from the JSON value under its key.
+
+ghost use Rattle.std.specs.Prelude.{◌≡◌, ◌≢◌, ◌<◌, ◌^◌, ◌+◌, List, length, map, MatchOption, IfOk, IfErr, ℕ};
+ghost use Rattle.std.specs.List.{AllByRecursion};
+ghost use Rattle.serde_json.specs.Data.{Data, string as text_value};
+ghost use Rattle.serde_json.specs.View.{view};
+ghost use Rattle.cdb_setup.specs.declared.key.Key.TheVariants as key;
+ghost use Rattle.cdb_setup.specs.Parts.{IsWithin};
+ghost use Rattle.cdb_setup.specs.Format.{algorithm_name, whole, array_of_whole, HasAt, HasVersion};
+ghost use Rattle.cdb_setup.specs.Faults.{Holds, IsCount, HasOneEach, IsWholeWithin};
+ghost use Rattle.cdb_setup.specs.Turns.{IsFirstOfTurn};
+ghost use Rattle.cdb_setup.specs.Stops.{IsFirstNot};
+
+use crate::fault::SetupFault;
+use crate::key::Key;
+use crate::setup::Algorithm;
+use cdb_base::Val;
+use cdb_base::limits::{MAX_PROCESSES, MAX_VALUE};
+use serde_json::Value;
+use std::alloc::Global;
+
+/// A whole number of the JSON value, from low to high.
+pub(crate) fn whole_within(value: &Value, low: u64, high: u64) -> Option<u32>
+    requires { high < 2 ^ 32 }
+    ensures { MatchOption result (¬ IsWholeWithin low high (view value.now))
+        (λ n. (view value.now ≡ whole n) × IsWithin low high n) }
+{
+    match value.as_u64() {
+        Some(n) if low <= n && n <= high => Some(n as u32),
+        _ => None,
+    }
+}
+
+/// The number of processes.
+pub(crate) fn count_of(value: &Value) -> Option<u8>
+    ensures { MatchOption result (Holds SetupFault.BadCount (view value.now)) (λ n. IsCount n (view value.now)) }
+{
+    let count = value.get(Key::Processes.name())?;
+    let number = whole_within(count, 1, MAX_PROCESSES as u64)?;
+    Some(number as u8)
+}
+
+/// The quorum, where there are this many processes.
+pub(crate) fn quorum_of(value: &Value, count: u8) -> Option<u8>
+    requires { IsCount count (view value.now) }
+    ensures { MatchOption result (Holds SetupFault.BadQuorum (view value.now))
+        (λ q. HasAt key.Quorum (whole q) (view value.now) × IsWithin 1 count q) }
+{
+    let quorum = value.get(Key::Quorum.name())?;
+    let number = whole_within(quorum, 1, count as u64)?;
+    Some(number as u8)
+}
+
+/// The algorithm.
+pub(crate) fn algorithm_of(value: &Value) -> Option<Algorithm>
+    ensures { MatchOption result (Holds SetupFault.BadAlgorithm (view value.now))
+        (λ a. HasAt key.Algorithm (text_value (algorithm_name a)) (view value.now)) }
+{
+    let name = value.get(Key::Algorithm.name())?;
+    match name.as_str() {
+        Some("leader") => Some(Algorithm::Leader),
+        Some("alpha") => Some(Algorithm::Alpha),
+        _ => None,
+    }
+}
+
+/// The version, which is 1 where its key is absent.
+pub(crate) fn version_of(value: &Value) -> Option<u8>
+    ensures { MatchOption result (Holds SetupFault.BadVersion (view value.now))
+        (λ v. HasVersion v (view value.now) × IsWithin 1 2 v) }
+{
+    let Some(version) = value.get(Key::Version.name()) else {
+        return Some(1);
+    };
+    let number = whole_within(version, 1, 2)?;
+    Some(number as u8)
+}
+
+/// The values under the key, where there is one for each process.
+pub(crate) fn one_each(value: &Value, key: Key, count: u8) -> Option<&[Value]>
+    requires { IsCount count (view value.now) }
+    ensures { MatchOption result ((values : List Data) → ¬ HasOneEach key values (view value.now))
+        (λ values. HasOneEach key (map view values.now) (view value.now) × (length values.now ≡ count)) }
+{
+    let values = value.get(key.name())?.as_array()?.as_slice();
+    if values.len() == count as usize {
+        Some(values)
+    } else {
+        None
+    }
+}
+
+/// The inputs that the values are, or the first that is none.
+fn all_inputs(alloc: Global, values: &[Value]) -> Result<Vec<Val>, SetupFault>
+    ensures found { IfOk result (λ inputs. (map view values.now ≡ map whole inputs.items)
+        × AllByRecursion (IsWithin 0 999999) inputs.items) }
+    ensures fault { IfErr result (λ fault. fault ≢ SetupFault.NoMemory → (i : ℕ) × (fault ≡ SetupFault.BadInput (i + 1))
+        × IsFirstNot (IsWholeWithin 0 999999) (map view values.now) i) }
+{
+    let mut inputs = Vec::new(alloc);
+    for (i, value) in values.iter().enumerate() {
+        match input_of(value) {
+            Some(input) => inputs.push(input)?,
+            None => return Err(SetupFault::BadInput(i + 1)),
+        }
+    }
+    Ok(inputs)
+}
+
+/// The input that the value is.
+fn input_of(value: &Value) -> Option<Val>
+    ensures { MatchOption result (¬ IsWholeWithin 0 999999 (view value.now))
+        (λ input. (view value.now ≡ whole input) × IsWithin 0 999999 input) }
+{
+    Some(Val::new(whole_within(value, 0, MAX_VALUE as u64)?))
+}
+
+/// The inputs, where there are this many processes.
+pub(crate) fn inputs_of(alloc: Global, value: &Value, count: u8) -> Result<Vec<Val>, SetupFault>
+    requires { IsCount count (view value.now) }
+    ensures found { IfOk result (λ inputs. HasAt key.Inputs (array_of_whole inputs.items) (view value.now)
+        × (length inputs.items ≡ count) × AllByRecursion (IsWithin 0 999999) inputs.items) }
+    ensures fault { IfErr result (λ fault. fault ≢ SetupFault.NoMemory → IsFirstOfTurn 8 fault (view value.now)) }
+{
+    let Some(values) = one_each(value, Key::Inputs, count) else {
+        return Err(SetupFault::BadInput(0));
+    };
+    all_inputs(alloc, values)
+}

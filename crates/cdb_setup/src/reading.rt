@@ -1,0 +1,63 @@
+//! Reading a setup from the bytes of a JSON text.
+
+ghost use Rattle.std.specs.Prelude.{◌≢◌, IfOk, IfErr};
+ghost use Rattle.serde_json.specs.View.{view};
+ghost use Rattle.cdb_setup.specs.Format.{IsSetupOf, StandsFor};
+ghost use Rattle.cdb_setup.specs.Order.{IsFirstFault};
+ghost use Rattle.cdb_setup.specs.Turns.{IsFirstOf};
+
+use crate::answers::answers_of;
+use crate::fault::SetupFault;
+use crate::keys::check_keys;
+use crate::parts::{algorithm_of, count_of, inputs_of, quorum_of, version_of};
+use crate::setup::Setup;
+use serde_json::Value;
+use std::alloc::Global;
+
+/// The most bytes that a setup may have.
+const LONGEST: usize = 1_048_576;
+
+/// The setup that the JSON value stands for.
+fn setup_of(alloc: Global, value: &Value) -> Result<Setup, SetupFault>
+    ensures found { IfOk result (λ setup. IsSetupOf (view value.now) setup) }
+    ensures fault { IfErr result (λ fault. fault ≢ SetupFault.NoMemory → IsFirstOf fault (view value.now)) }
+{
+    check_keys(value)?;
+    let Some(algorithm) = algorithm_of(value) else {
+        return Err(SetupFault::BadAlgorithm);
+    };
+    let Some(processes) = count_of(value) else {
+        return Err(SetupFault::BadCount);
+    };
+    let Some(quorum) = quorum_of(value, processes) else {
+        return Err(SetupFault::BadQuorum);
+    };
+    let inputs = inputs_of(alloc, value, processes)?;
+    let answers = answers_of(alloc, value, processes)?;
+    let Some(version) = version_of(value) else {
+        return Err(SetupFault::BadVersion);
+    };
+    Ok(Setup {
+        version,
+        algorithm,
+        processes,
+        quorum,
+        inputs,
+        answers,
+    })
+}
+
+/// The setup that the bytes stand for, or their first fault.
+pub(crate) fn read(alloc: Global, bytes: &[u8]) -> Result<Setup, SetupFault>
+    ensures found { IfOk result (λ setup. StandsFor bytes.now setup) }
+    ensures fault { IfErr result (λ fault. fault ≢ SetupFault.NoMemory → IsFirstFault fault bytes.now) }
+{
+    if bytes.len() > LONGEST {
+        return Err(SetupFault::TooLong);
+    }
+    match Value::from_slice(alloc, bytes) {
+        Ok(value) => setup_of(alloc, &value),
+        Err(error) if error.is_memory() => Err(SetupFault::NoMemory),
+        Err(_) => Err(SetupFault::NotJson),
+    }
+}
