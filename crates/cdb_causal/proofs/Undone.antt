@@ -1,0 +1,161 @@
+-- A rollback, undone one by one from the last consequence back: the last of what is rolled back is free, and without
+-- it the others are what is rolled back.
+use Rattle.std.proofs.Common.{◌≡◌, ℕ, zero, suc, Bool, true, false, cond, List, [], ◌∷◌, ◌++◌, Some, slice_get, refl, sym, ap, ◌∙◌, subst, arith}
+use Rattle.std.proofs.lemmas.Option.{same_Some, none-some}
+use Rattle.std.proofs.lemmas.List.Folds.{list_any-append}
+use Rattle.cdb_causal.specs.Causality.{IsFree}
+use Rattle.cdb_causal.specs.Rollback.{without, depends_on_one, caught, spared, rolled_back, remaining}
+use Rattle.cdb_causal.proofs.Dependents.{IsIndependentBehind, IsIndependent, free_behind}
+use Rattle.cdb_causal.proofs.Symmetry.{or-false_left, or-false_right}
+
+module _ {E : Type 0} where
+  same_first : (x y : E) (xs ys : List E) → x ∷ xs ≡ y ∷ ys → x ≡ y
+  same_first x y xs ys h = same_Some x y (ap (λ l. slice_get l 0) h)
+
+  same_rest : (x y : E) (xs ys : List E) → x ∷ xs ≡ y ∷ ys → xs ≡ ys
+  same_rest x y xs ys h = ap (λ l. without l 0) h
+
+  not_empty : (x : E) (xs : List E) → [] ≡ xs ++ x ∷ [] → ⊥
+  not_empty x [] h = none-some x (ap (λ l. slice_get l 0) h)
+  not_empty x (y ∷ ys) h = none-some y (ap (λ l. slice_get l 0) h)
+
+  not_cons : (x : E) (xs : List E) → x ∷ xs ≡ [] → ⊥
+  not_cons x xs h = none-some x (sym (ap (λ l. slice_get l 0) h))
+
+module _ {E : Type 0} (depends : E → E → Bool) where
+  -- causes of which nothing depends on any: nothing is caught, and all is spared
+  abbrev AreFree : List E → List E → Type 0
+  AreFree causes events = (j : ℕ) (event : E) → slice_get events j ≡ Some event → depends_on_one depends causes event ≡ false
+
+  none_caught : (causes events : List E) → caught depends causes events ≡ [] → AreFree causes events
+  none_caught causes [] h j event at = absurd (none-some event at)
+  none_caught causes (x ∷ xs) h j event at =
+      elim (depends_on_one depends causes x) as (λ b. depends_on_one depends causes x ≡ b → cond b (x ∷ caught depends (causes ++ x ∷ []) xs) (caught depends causes xs) ≡ [] → depends_on_one depends causes event ≡ false) [
+        | true ↦ λ e k. absurd (not_cons x (caught depends (causes ++ x ∷ []) xs) k)
+        | false ↦ λ e k. first_or_later j at e (none_caught causes xs k)
+      ] refl h
+    where
+      first_or_later : (j : ℕ) → slice_get (x ∷ xs) j ≡ Some event → depends_on_one depends causes x ≡ false → AreFree causes xs → depends_on_one depends causes event ≡ false
+      first_or_later zero at e rest = subst (λ y. depends_on_one depends causes y ≡ false) (same_Some x event at) e
+      first_or_later (suc j) at e rest = rest j event at
+
+  free_caught : (causes events : List E) → AreFree causes events → caught depends causes events ≡ []
+  free_caught causes [] free = refl
+  free_caught causes (x ∷ xs) free =
+      ap (λ b. cond b (x ∷ caught depends (causes ++ x ∷ []) xs) (caught depends causes xs)) (free zero x refl) ∙ free_caught causes xs (λ j event at. free (suc j) event at)
+
+  free_spared : (causes events : List E) → AreFree causes events → spared depends causes events ≡ events
+  free_spared causes [] free = refl
+  free_spared causes (x ∷ xs) free =
+      ap (λ b. cond b (spared depends (causes ++ x ∷ []) xs) (x ∷ spared depends causes xs)) (free zero x refl) ∙ ap (λ l. x ∷ l) (free_spared causes xs (λ j event at. free (suc j) event at))
+
+  fewer_causes : (causes : List E) (x : E) (events : List E) → AreFree (causes ++ x ∷ []) events → AreFree causes events
+  fewer_causes causes x events free j event at =
+      or-false_left (depends_on_one depends causes event) (depends_on_one depends (x ∷ []) event) (sym (list_any-append (λ cause. depends cause event) causes (x ∷ [])) ∙ free j event at)
+
+  last_cause : (causes : List E) (x : E) (events : List E) → AreFree (causes ++ x ∷ []) events → IsIndependent depends x events
+  last_cause causes x events free j event at =
+      or-false_left (depends x event) false
+      (or-false_right (depends_on_one depends causes event) (depends_on_one depends (x ∷ []) event) (sym (list_any-append (λ cause. depends cause event) causes (x ∷ [])) ∙ free j event at))
+
+  -- the last of what is caught
+  record IsLastCaught (causes events taken : List E) (last : E) : Type 0 where
+    place : ℕ
+    at : slice_get events place ≡ Some last
+    independent : IsIndependentBehind depends events place last
+    others_caught : caught depends causes (without events place) ≡ taken
+    same_spared : spared depends causes (without events place) ≡ spared depends causes events
+
+  later_place : (x : E) (events : List E) (i : ℕ) (last : E) → IsIndependentBehind depends events i last → IsIndependentBehind depends (x ∷ events) (suc i) last
+  later_place x events i last independent zero other less at = absurd (omega (arith, less))
+  later_place x events i last independent (suc j) other less at = independent j other (omega (arith, less)) at
+
+  first_place : (x : E) (events : List E) → IsIndependent depends x events → IsIndependentBehind depends (x ∷ events) 0 x
+  first_place x events independent zero other less at = absurd (omega (arith, less))
+  first_place x events independent (suc j) other less at = independent j other at
+
+  caught_here : (causes : List E) (x : E) (xs : List E) (b : Bool) → depends_on_one depends causes x ≡ b → caught depends causes (x ∷ xs) ≡ cond b (x ∷ caught depends (causes ++ x ∷ []) xs) (caught depends causes xs)
+  caught_here causes x xs b e = ap (λ b. cond b (x ∷ caught depends (causes ++ x ∷ []) xs) (caught depends causes xs)) e
+
+  spared_here : (causes : List E) (x : E) (xs : List E) (b : Bool) → depends_on_one depends causes x ≡ b → spared depends causes (x ∷ xs) ≡ cond b (spared depends (causes ++ x ∷ []) xs) (x ∷ spared depends causes xs)
+  spared_here causes x xs b e = ap (λ b. cond b (spared depends (causes ++ x ∷ []) xs) (x ∷ spared depends causes xs)) e
+
+  taken_one : (causes : List E) (x : E) (xs taken : List E) (last : E) → depends_on_one depends causes x ≡ true → x ∷ caught depends (causes ++ x ∷ []) xs ≡ taken ++ last ∷ [] → ((more : List E) → caught depends (causes ++ x ∷ []) xs ≡ more ++ last ∷ [] → IsLastCaught (causes ++ x ∷ []) xs more last) → IsLastCaught causes (x ∷ xs) taken last
+  taken_one causes x xs [] last e h go =
+      let is = same_first x last (caught depends (causes ++ x ∷ []) xs) [] h in
+      let free = none_caught (causes ++ x ∷ []) xs (same_rest x last (caught depends (causes ++ x ∷ []) xs) [] h) in
+      let fewer = fewer_causes causes x xs free in
+      record {
+        place = 0;
+        at = ap Some is;
+        independent = subst (λ y. IsIndependentBehind depends (x ∷ xs) 0 y) is (first_place x xs (last_cause causes x xs free));
+        others_caught = free_caught causes xs fewer;
+        same_spared = free_spared causes xs fewer ∙ sym (free_spared (causes ++ x ∷ []) xs free) ∙ sym (spared_here causes x xs true e);
+      }
+  taken_one causes x xs (t ∷ ts) last e h go =
+      let rest = go ts (same_rest x t (caught depends (causes ++ x ∷ []) xs) (ts ++ last ∷ []) h) in
+      record {
+        place = suc rest.place;
+        at = rest.at;
+        independent = later_place x xs rest.place last rest.independent;
+        others_caught =
+            caught_here causes x (without xs rest.place) true e
+            ∙ ap (λ l. x ∷ l) rest.others_caught
+            ∙ ap (λ y. y ∷ ts) (same_first x t (caught depends (causes ++ x ∷ []) xs) (ts ++ last ∷ []) h);
+        same_spared = spared_here causes x (without xs rest.place) true e ∙ rest.same_spared ∙ sym (spared_here causes x xs true e);
+      }
+
+  last_caught : (causes events taken : List E) (last : E) → caught depends causes events ≡ taken ++ last ∷ [] → IsLastCaught causes events taken last
+  last_caught causes [] taken last h = absurd (not_empty last taken h)
+  last_caught causes (x ∷ xs) taken last h =
+      elim (depends_on_one depends causes x) as (λ b. depends_on_one depends causes x ≡ b → cond b (x ∷ caught depends (causes ++ x ∷ []) xs) (caught depends causes xs) ≡ taken ++ last ∷ [] → IsLastCaught causes (x ∷ xs) taken last) [
+        | true ↦ λ e k. taken_one causes x xs taken last e k (λ more m. last_caught (causes ++ x ∷ []) xs more last m)
+        | false ↦ λ e k.
+            let rest = last_caught causes xs taken last k in
+            record {
+              place = suc rest.place;
+              at = rest.at;
+              independent = later_place x xs rest.place last rest.independent;
+              others_caught = caught_here causes x (without xs rest.place) false e ∙ rest.others_caught;
+              same_spared = spared_here causes x (without xs rest.place) false e ∙ ap (λ l. x ∷ l) rest.same_spared ∙ sym (spared_here causes x xs false e);
+            }
+      ] refl h
+
+  -- Where the event at place i has no consequence, it is free, and all else remains.
+  pub rolled_back_alone : (history : List E) (i : ℕ) (event : E) → rolled_back depends history i ≡ event ∷ [] → (slice_get history i ≡ Some event) × IsFree depends history i × (without history i ≡ remaining depends history i)
+  rolled_back_alone history i event h =
+      let q = alone history i event h in
+      (q.0, free_behind depends history i event q.0 q.1, q.2)
+    where
+      alone : (history : List E) (i : ℕ) (event : E) → rolled_back depends history i ≡ event ∷ [] → (slice_get history i ≡ Some event) × IsIndependentBehind depends history i event × (without history i ≡ remaining depends history i)
+      alone [] i event h = absurd (not_cons event [] (sym h))
+      alone (x ∷ xs) zero event h =
+          let is = same_first x event (caught depends (x ∷ []) xs) [] h in
+          let free = none_caught (x ∷ []) xs (same_rest x event (caught depends (x ∷ []) xs) [] h) in (
+            ap Some is,
+            subst (λ y. IsIndependentBehind depends (x ∷ xs) 0 y) is (first_place x xs (last_cause [] x xs free)),
+            sym (free_spared (x ∷ []) xs free),
+          )
+      alone (x ∷ xs) (suc i) event h =
+          let q = alone xs i event h in
+          (q.0, later_place x xs i event q.1, ap (λ l. x ∷ l) q.2)
+
+  -- Where it has some, the last of them is free, and without that one the others are its consequences, and the same events remain.
+  pub rolled_back_last : (history : List E) (i : ℕ) (event last : E) (taken : List E) → rolled_back depends history i ≡ event ∷ (taken ++ last ∷ []) → (j : ℕ) × (slice_get history j ≡ Some last) × IsFree depends history j × (rolled_back depends (without history j) i ≡ event ∷ taken) × (remaining depends (without history j) i ≡ remaining depends history i)
+  rolled_back_last history i event last taken h =
+      let q = some history i event last taken h in
+      (q.0, q.1, free_behind depends history q.0 last q.1 q.2, q.3, q.4)
+    where
+      some : (history : List E) (i : ℕ) (event last : E) (taken : List E) → rolled_back depends history i ≡ event ∷ (taken ++ last ∷ []) → (j : ℕ) × (slice_get history j ≡ Some last) × IsIndependentBehind depends history j last × (rolled_back depends (without history j) i ≡ event ∷ taken) × (remaining depends (without history j) i ≡ remaining depends history i)
+      some [] i event last taken h = absurd (not_cons event (taken ++ last ∷ []) (sym h))
+      some (x ∷ xs) zero event last taken h =
+          let q = last_caught (x ∷ []) xs taken last (same_rest x event (caught depends (x ∷ []) xs) (taken ++ last ∷ []) h) in (
+            suc q.place,
+            q.at,
+            later_place x xs q.place last q.independent,
+            ap (λ l. x ∷ l) q.others_caught ∙ ap (λ y. y ∷ taken) (same_first x event (caught depends (x ∷ []) xs) (taken ++ last ∷ []) h),
+            q.same_spared,
+          )
+      some (x ∷ xs) (suc i) event last taken h =
+          let q = some xs i event last taken h in
+          (suc q.0, q.1, later_place x xs q.0 last q.2, q.3, ap (λ l. x ∷ l) q.4)

@@ -1,0 +1,31 @@
+-- The last event of each process on which an event depends, as a search for direct causes finds it: steps are sought in a slot of
+-- their process, losses in a slot behind those.
+use Rattle.std.specs.Prelude.{◌≡◌, ℕ, ◌+◌, ◌≤◌, List}
+use Rattle.cdb_base.specs.Event.{event_name}
+use Rattle.cdb_base.specs.declared.event.Event.{Event}
+use Rattle.cdb_base.specs.declared.event.Event.TheVariants.{Step, Lost}
+use Rattle.cdb_base.specs.declared.name.StepId.{StepId}
+use Rattle.cdb_causal.specs.Causality.{IsDirectCause, IsLink}
+use Rattle.cdb_causal.specs.Dependence.{depends}
+
+-- slots 0 to 8 are those of processes 1 to 9, slot 9 is that of losses
+abbrev pub IsSlot : Event → ℕ → Type 0
+IsSlot (Step p k kind) slot = (slot + 1 ≡ p) × (slot ≤ 8)
+IsSlot (Lost copy) slot = slot ≡ 9
+
+-- the event at place j depends on none in the slot
+abbrev pub IsNoCause : List Event → ℕ → ℕ → Type 0
+IsNoCause history j slot = (i : ℕ) (l : IsLink depends history i j) → IsSlot l.cause slot → ⊥
+
+-- of those in the slot on which the event at place j depends, the one at place i is the last
+pub record IsLastCause (history : List Event) (j slot i : ℕ) : Type 0 where
+  pub link : IsLink depends history i j
+  pub has_slot : IsSlot link.cause slot
+  pub last : (k : ℕ) (l : IsLink depends history k j) → IsSlot l.cause slot → k ≤ i
+
+-- the name is that of a direct cause, in that slot, of the event at place j
+pub record NamesDirectCauseIn (history : List Event) (j slot : ℕ) (name : StepId) : Type 0 where
+  pub place : ℕ
+  pub direct : IsDirectCause depends history place j
+  pub has_name : event_name direct.link.cause ≡ name
+  pub has_slot : IsSlot direct.link.cause slot

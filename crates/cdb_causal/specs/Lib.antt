@@ -1,0 +1,16 @@
+pub mod Bounds
+pub mod Causality
+pub mod Cells
+pub mod Dependence
+pub mod DirectCauses
+pub mod DirectDependents
+pub mod Exchange
+pub mod Indexed
+pub mod LastCauses
+pub mod Names
+pub mod Paths
+pub mod PlacesByName
+pub mod Raised
+pub mod Reach
+pub mod Rollback
+pub mod Standing

@@ -1,0 +1,81 @@
+//! What depends on an event of a history.
+
+ghost use Rattle.std.specs.Prelude.{◌≡◌, ◌-◌, ◌<◌, ◌≤◌, length, map, MatchOption, IfOk};
+ghost use Rattle.cdb_base.specs.Event.{event_name};
+ghost use Rattle.cdb_causal.specs.Causality.{IsFree};
+ghost use Rattle.cdb_causal.specs.Dependence.{depends as depends_of};
+ghost use Rattle.cdb_causal.specs.Names.{IsFirstDependent};
+ghost use Rattle.cdb_causal.specs.Rollback.{depends_on_one as depends_on_one_of, consequences as consequences_of, rolled_back};
+
+use crate::dependence::depends;
+use crate::history::{History, append};
+use cdb_base::{Event, NoMemory, StepId};
+use std::alloc::Global;
+
+// The first event that depends on the one at place `i`, from 0.
+fn first_linked(events: &[Event], i: usize) -> Option<StepId>
+    requires { i < length events.now }
+    ensures { MatchOption result (IsFree depends_of events.now i) (λ name. IsFirstDependent events.now i name) }
+{
+    for j in i + 1..events.len() {
+        let event = &events[j];
+        if depends(&events[i], event) {
+            return Some(event.name());
+        }
+    }
+    None
+}
+
+/// The name of the first later event that depends on the one at a place, from 1 to the number of
+/// events. None says that the event is free.
+pub fn first_dependent(history: &History, at: usize) -> Option<StepId>
+    requires from_one { 1 ≤ at }
+    requires to_len { at ≤ length history.now }
+    ensures { MatchOption result (IsFree depends_of history.now (at - 1)) (λ name. IsFirstDependent history.now (at - 1) name) }
+{
+    first_linked(history.as_slice(), at - 1)
+}
+
+// Whether the event depends on one of the causes.
+fn depends_on_one(causes: &[Event], event: &Event) -> bool
+    ensures { result ≡ depends_on_one_of depends_of causes.now event.now }
+{
+    causes.iter().any(|cause| depends(cause, event))
+}
+
+// The event at a place, from 0, with its consequences, in order.
+fn rolled_back_events(alloc: Global, events: &[Event], i: usize) -> Result<Vec<Event>, NoMemory>
+    requires { i < length events.now }
+    ensures { IfOk result (λ taken. taken.items ≡ rolled_back depends_of events.now i) }
+{
+    let mut causes = Vec::new(alloc);
+    append(&mut causes, events[i])?;
+    for j in i + 1..events.len() {
+        if depends_on_one(&causes, &events[j]) {
+            append(&mut causes, events[j])?;
+        }
+    }
+    Ok(causes)
+}
+
+fn names(alloc: Global, events: &[Event]) -> Result<Vec<StepId>, NoMemory>
+    ensures { IfOk result (λ names. names.items ≡ map event_name events.now) }
+{
+    let mut names = Vec::new(alloc);
+    for event in events {
+        names.push(event.name())?;
+    }
+    Ok(names)
+}
+
+/// The names of the consequences of the event at a place, from 1 to the number of events: of the
+/// later events to which a chain of dependences leads from it, in the order of the history. It can
+/// fail only for want of memory.
+pub fn consequences(alloc: Global, history: &History, at: usize) -> Result<Vec<StepId>, NoMemory>
+    requires from_one { 1 ≤ at }
+    requires to_len { at ≤ length history.now }
+    ensures { IfOk result (λ names. names.items ≡ map event_name (consequences_of depends_of history.now (at - 1))) }
+{
+    let taken = rolled_back_events(alloc, history.as_slice(), at - 1)?;
+    names(alloc, &taken[1..])
+}

@@ -1,0 +1,106 @@
+//! The direct causes of an event of a history.
+
+ghost use Rattle.std.specs.Prelude.{◌≡◌, ℕ, ◌-◌, ◌<◌, ◌≤◌, ◌↔◌, length, MatchOption, IsTrue, true};
+ghost use Rattle.cdb_base.specs.declared.name.StepId.{StepId as AName};
+ghost use Rattle.cdb_causal.specs.Causality.{IsLink};
+ghost use Rattle.cdb_causal.specs.Dependence.{depends as depends_of};
+ghost use Rattle.cdb_causal.specs.DirectCauses.{AreDirectCauses};
+ghost use Rattle.cdb_causal.specs.LastCauses.{IsSlot, IsNoCause, IsLastCause, NamesDirectCauseIn};
+ghost use Rattle.cdb_causal.specs.Standing.{IsStanding};
+
+use crate::dependence::depends;
+use crate::history::History;
+use cdb_base::{Event, StepId};
+use smallvec::SmallVec;
+use std::alloc::Global;
+
+// Causes are sought in a slot for each process, and then in one for losses.
+const SLOTS: usize = 10;
+
+// The slot of an event as a cause.
+fn slot_of(event: &Event) -> usize
+    ensures { IsSlot event.now result }
+{
+    match event {
+        Event::Step { p, .. } => p.index(),
+        Event::Lost(_) => SLOTS - 1,
+    }
+}
+
+// Whether the event is one in the slot on which the effect depends.
+fn is_cause(event: &Event, effect: &Event, slot: usize) -> bool
+    ensures { IsTrue result ↔ (IsSlot event.now slot × (depends_of event.now effect.now ≡ true)) }
+{
+    slot_of(event) == slot && depends(event, effect)
+}
+
+// The place of the last event in a slot on which the one at place `j` depends. All such places are
+// below the end.
+fn last_cause(events: &[Event], j: usize, slot: usize, end: usize) -> Option<usize>
+    requires within { j < length events.now }
+    requires end { (i : ℕ) (l : IsLink depends_of events.now i j) → IsSlot l.cause slot → i < end }
+    ensures { MatchOption result (IsNoCause events.now j slot) (λ i. IsLastCause events.now j slot i) }
+{
+    for i in (0..end.min(j)).rev() {
+        if is_cause(&events[i], &events[j], slot) {
+            return Some(i);
+        }
+    }
+    None
+}
+
+// Whether the event depends on the first and the last one on it.
+fn leads_on(first: &Event, event: &Event, last: &Event) -> bool
+    ensures { IsTrue result ↔ ((depends_of first.now event.now ≡ true) × (depends_of event.now last.now ≡ true)) }
+{
+    depends(first, event) && depends(event, last)
+}
+
+// Whether no event between the two depends on the first and has the second depend on it.
+fn is_direct(events: &[Event], i: usize, j: usize) -> bool
+    requires order { i < j }
+    requires within { j < length events.now }
+    ensures { IsTrue result ↔ ((k : ℕ) → IsLink depends_of events.now i k → IsLink depends_of events.now k j → ⊥) }
+{
+    for k in i + 1..j {
+        if leads_on(&events[i], &events[k], &events[j]) {
+            return false;
+        }
+    }
+    true
+}
+
+// The name of the direct cause in a slot, if there is one.
+fn direct_cause(events: &[Event], j: usize, slot: usize, end: usize) -> Option<StepId>
+    requires standing { IsStanding events.now }
+    requires within { j < length events.now }
+    requires end { (i : ℕ) (l : IsLink depends_of events.now i j) → IsSlot l.cause slot → i < end }
+    ensures { MatchOption result ((name : AName) → NamesDirectCauseIn events.now j slot name → ⊥) (λ name. NamesDirectCauseIn events.now j slot name) }
+{
+    if let Some(i) = last_cause(events, j, slot, end) {
+        if is_direct(events, i, j) {
+            return Some(events[i].name());
+        }
+    }
+    None
+}
+
+/// The names of the earlier events on which the event at a place, from 1 to the number of events,
+/// depends directly: no event between depends on such an event and has the one at the place depend
+/// on it. Steps stand first, by process, at most one of each; a loss stands last. So nine places
+/// suffice, and no memory is taken.
+pub fn direct_causes(alloc: Global, history: &History, at: usize) -> SmallVec<StepId, 9>
+    requires from_one { 1 ≤ at }
+    requires to_len { at ≤ length history.now }
+    ensures { AreDirectCauses history.now (at - 1) result.items }
+{
+    let events = history.as_slice();
+    let mut causes = SmallVec::new(alloc);
+    for slot in 0..SLOTS {
+        let end = history.end_of_causes(at - 1, slot);
+        if let Some(name) = direct_cause(events, at - 1, slot, end) {
+            causes.push_reserved(name);
+        }
+    }
+    causes
+}
