@@ -1,0 +1,6 @@
+pub mod Choice
+pub mod Leads
+pub mod Rounds
+pub mod Written
+pub mod SameCells
+pub mod Reached

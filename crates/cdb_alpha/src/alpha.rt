@@ -1,0 +1,427 @@
+ghost use Rattle.std.specs.Prelude.{◌≡◌, ℕ, ◌+◌, ◌<◌, ◌≤◌, ◌↔◌, Option, Some, None, IsTrue, IsSome, IfOk, OnErr, is_some, length, false};
+ghost use Rattle.cdb_process.specs.declared.Input.{Input};
+
+use crate::back::{Back, SeenBefore};
+use crate::place::Place;
+use crate::seen::{are_same, find_value, shows_later_round};
+use cdb_base::{Cell, NoMemory, Proc, Reg, Val};
+use cdb_process::{Input, Process, SameState, Wish};
+use std::alloc::Global;
+use std::marker::Model;
+use std::mem;
+
+/// The Alpha machine of one process. A contract sees its local state.
+#[derive(Drop)]
+pub struct Alpha {
+    me: Proc,
+    processes: u8,
+    input: Val,
+    place: Place,
+    round: u32,
+    own: Cell,
+    seen: Vec<Cell>,
+    value: Val,
+    decision: Option<Val>,
+}
+
+impl Model for Alpha {
+    ghost use Rattle.std.specs.Prelude.{◌≡◌, ◌≤◌, is_some};
+    ghost use Rattle.cdb_alpha.specs.LocalState.{LocalState};
+    ghost use Rattle.cdb_alpha.specs.Place.{is_last};
+
+    ghost Value = { LocalState };
+
+    ghost view = { λ x. record {
+      me = x.me;
+      processes = x.processes;
+      input = x.input;
+      place = x.place;
+      round = x.round;
+      own = x.own;
+      seen = x.seen.items;
+      value = x.value;
+      decision = x.decision;
+    } };
+
+    ghost invariant = { λ x. (is_some x.decision ≡ is_last x.place) × (x.processes ≤ 9) };
+}
+
+impl Alpha {
+    ghost use Rattle.cdb_alpha.specs.LocalState.{LocalState};
+    ghost use Rattle.cdb_alpha.specs.Place.{is_last};
+    ghost use Rattle.cdb_alpha.specs.Table.{see_decision, entered, with_value, decided, begin_pass, next_register, see, next_round, judge, next_state};
+    ghost use Rattle.cdb_alpha.specs.Seen.{is_overtaken};
+    ghost use Rattle.cdb_alpha.specs.Back.{state_before, seen_before};
+
+    /// The cell with which the process enters its round: what it last wrote, with the new round.
+    fn entered(&self) -> Cell
+        ensures { result ≡ entered self.now }
+    {
+        Cell {
+            lre: self.round,
+            lrww: self.own.lrww,
+            val: self.own.val,
+        }
+    }
+
+    /// The cell with the value that the process chose.
+    fn with_value(&self) -> Cell
+        ensures { result ≡ with_value self.now }
+    {
+        Cell {
+            lre: self.round,
+            lrww: self.round,
+            val: Some(self.value),
+        }
+    }
+
+    /// The cell with the decision of the process.
+    fn decided(&self) -> Cell
+        ensures { result ≡ decided self.now }
+    {
+        Cell {
+            lre: 0,
+            lrww: 0,
+            val: Some(self.value),
+        }
+    }
+
+    /// The register that is read next in a pass.
+    fn next_register(&self) -> Option<Reg>
+        ensures { result ≡ next_register self.now }
+    {
+        let seen = self.seen.len();
+        if seen < usize::from(self.processes) {
+            Some(Reg::R(Proc::new(seen as u8 + 1)))
+        } else {
+            None
+        }
+    }
+
+    /// Whether the process has a next round.
+    fn has_next_round(&self) -> bool
+        ensures { result ≡ is_some (next_round self.now) }
+    {
+        u64::from(self.round) + u64::from(self.processes) <= 999_999
+    }
+
+    /// Whether another process entered a later round.
+    fn is_overtaken(&self) -> bool
+        ensures { result ≡ is_overtaken self.now.round self.now.seen }
+    {
+        shows_later_round(&self.seen, self.round)
+    }
+
+    fn is_same_process(&self, other: &Self) -> bool
+        ensures { IsTrue result ↔ ((self.now.me ≡ other.now.me)
+            × (self.now.processes ≡ other.now.processes)
+            × (self.now.input ≡ other.now.input)) }
+    {
+        self.me == other.me && self.processes == other.processes && self.input == other.input
+    }
+
+    fn is_as_far(&self, other: &Self) -> bool
+        ensures { IsTrue result ↔ ((self.now.place ≡ other.now.place)
+            × (self.now.round ≡ other.now.round)
+            × (self.now.value ≡ other.now.value)
+            × (self.now.decision ≡ other.now.decision)) }
+    {
+        self.place == other.place
+            && self.round == other.round
+            && self.value == other.value
+            && self.decision == other.decision
+    }
+
+    fn has_same_cells(&self, other: &Self) -> bool
+        ensures { IsTrue result ↔ ((self.now.own ≡ other.now.own) × (self.now.seen ≡ other.now.seen)) }
+    {
+        self.own == other.own && are_same(&self.seen, &other.seen)
+    }
+
+    /// What a step would overwrite.
+    fn back(&self, seen: SeenBefore) -> Back
+        ensures { (t : LocalState) → t.me ≡ self.now.me
+            → t.processes ≡ self.now.processes
+            → t.input ≡ self.now.input
+            → state_before t result ≡ record self.now { seen = seen_before seen t.seen } }
+    {
+        Back {
+            place: self.place,
+            round: self.round,
+            own: self.own,
+            value: self.value,
+            decision: self.decision,
+            seen,
+        }
+    }
+
+    /// Goes on to the next round.
+    fn go_to_next_round(&mut self)
+        requires not_done { is_last self.old.place ≡ false }
+        requires room { IsSome (next_round self.old) }
+        ensures { next_round self.old ≡ Some self.new }
+    {
+        self.place = Place::A0;
+        self.round += u32::from(self.processes);
+    }
+
+    /// Goes on behind a write of that cell to the own register: a pass begins.
+    fn begin_pass(&mut self, alloc: Global, cell: Cell, reading: Place) -> Back
+        requires not_done { is_last self.old.place ≡ false }
+        requires not_done_then { is_last reading ≡ false }
+        ensures after { self.new ≡ begin_pass reading self.old cell }
+        ensures back { state_before self.new result ≡ self.old }
+    {
+        let seen = mem::replace(&mut self.seen, Vec::new(alloc));
+        let back = self.back(SeenBefore::These(seen));
+        self.own = cell;
+        self.place = reading;
+        back
+    }
+
+    /// Takes what the register of the decision holds.
+    fn see_decision(&mut self, value: Option<Val>)
+        requires { self.old.place ≡ Place.A0 }
+        ensures { self.new ≡ see_decision self.old value }
+    {
+        match value {
+            Some(value) => {
+                self.decision = Some(value);
+                self.place = Place::A9;
+            }
+            None => self.place = Place::A1,
+        }
+    }
+
+    /// Adds a cell to those that are seen in this pass, behind which the process is at `over`.
+    fn see(&mut self, cell: Cell, over: Place) -> Result<(), NoMemory>
+        requires not_done { is_last self.old.place ≡ false }
+        requires not_done_then { is_last over ≡ false }
+        requires room { length self.old.seen < self.old.processes }
+        ensures after { IfOk result (λ _. self.new ≡ see self.old.place over self.old cell) }
+        ensures unchanged { OnErr result (self.new ≡ self.old) }
+    {
+        self.seen.push(cell)?;
+        if self.seen.len() == usize::from(self.processes) {
+            self.place = over;
+        }
+        Ok(())
+    }
+
+    /// Takes the answer to a query.
+    fn query(&mut self, leader: Proc) -> Back
+        requires { IsSome (next_state self.old (Input.Query leader)) }
+        ensures after { next_state self.old (Input.Query leader) ≡ Some self.new }
+        ensures back { state_before self.new result ≡ self.old }
+    {
+        let back = self.back(SeenBefore::Same);
+        self.place = if leader == self.me {
+            Place::A2
+        } else {
+            Place::A0
+        };
+        back
+    }
+
+    /// Takes the cell that a register holds.
+    fn read(&mut self, register: Reg, cell: Cell) -> Result<Back, NoMemory>
+        requires { IsSome (next_state self.old (Input.Read register cell)) }
+        ensures after { IfOk result (λ _. next_state self.old (Input.Read register cell) ≡ Some self.new) }
+        ensures back { IfOk result (λ b. state_before self.new b ≡ self.old) }
+        ensures unchanged { OnErr result (self.new ≡ self.old) }
+    {
+        match self.place {
+            Place::A0 => {
+                let back = self.back(SeenBefore::Same);
+                self.see_decision(cell.val);
+                Ok(back)
+            }
+            Place::A3 => {
+                let back = self.back(SeenBefore::OneLess);
+                self.see(cell, Place::A4)?;
+                Ok(back)
+            }
+            Place::A6 => {
+                let back = self.back(SeenBefore::OneLess);
+                self.see(cell, Place::A7)?;
+                Ok(back)
+            }
+            _ => unreachable!(),
+        }
+    }
+
+    /// Goes on behind a write.
+    fn write(&mut self, alloc: Global, register: Reg) -> Back
+        requires { IsSome (next_state self.old (Input.Write register)) }
+        ensures after { next_state self.old (Input.Write register) ≡ Some self.new }
+        ensures back { state_before self.new result ≡ self.old }
+    {
+        match self.place {
+            Place::A2 => {
+                let cell = self.entered();
+                self.begin_pass(alloc, cell, Place::A3)
+            }
+            Place::A5 => {
+                let cell = self.with_value();
+                self.begin_pass(alloc, cell, Place::A6)
+            }
+            Place::A8 => {
+                let back = self.back(SeenBefore::Same);
+                self.go_to_next_round();
+                back
+            }
+            _ => unreachable!(),
+        }
+    }
+
+    /// Ends a pass.
+    fn judge(&mut self) -> Back
+        requires { IsSome (next_state self.old Input.Local) }
+        ensures after { next_state self.old Input.Local ≡ Some self.new }
+        ensures back { state_before self.new result ≡ self.old }
+    {
+        let back = self.back(SeenBefore::Same);
+        if self.is_overtaken() {
+            self.go_to_next_round();
+        } else if self.place == Place::A4 {
+            self.value = find_value(&self.seen).unwrap_or(self.input);
+            self.place = Place::A5;
+        } else {
+            self.place = Place::A8;
+        }
+        back
+    }
+}
+
+impl Process for Alpha {
+    ghost use Rattle.cdb_alpha.specs.LocalState.{first_state};
+    ghost use Rattle.cdb_alpha.specs.Place.{place_number};
+    ghost use Rattle.cdb_alpha.specs.Table.{next_state, wish_of};
+    ghost use Rattle.cdb_alpha.specs.Back.{state_before};
+    ghost use Rattle.cdb_alpha.specs.TableLaws as laws;
+
+    type Back = Back;
+
+    ghost first = { λ me n q input. first_state me n input };
+
+    ghost next = { next_state };
+
+    ghost before = { state_before };
+
+    ghost wish = { wish_of };
+
+    ghost decision = { λ s. s.decision };
+
+    ghost place = { λ s. place_number s.place };
+
+    ghost round = { λ s. s.round };
+
+    ghost last_place = { 9 };
+
+    ghost query_by_state = { laws.next_state-query };
+
+    ghost recv_by_state = { laws.next_state-recv };
+
+    ghost wish_send = { laws.wish_of-send };
+
+    ghost wish_read = { laws.wish_of-read };
+
+    ghost wish_write = { laws.wish_of-write };
+
+    ghost wish_local = { laws.wish_of-local };
+
+    fn first(alloc: Global, me: Proc, n: u8, _q: u8, input: Val) -> Result<Self, NoMemory> {
+        Ok(Alpha {
+            me,
+            processes: n,
+            input,
+            place: Place::A0,
+            round: u32::from(me.number()),
+            own: Cell {
+                lre: 0,
+                lrww: 0,
+                val: None,
+            },
+            seen: Vec::new(alloc),
+            value: input,
+            decision: None,
+        })
+    }
+
+    fn wish(&self) -> Option<Wish> {
+        match self.place {
+            Place::A0 => Some(Wish::Read(Reg::Dec)),
+            Place::A2 => Some(Wish::Write(Reg::R(self.me), self.entered())),
+            Place::A3 | Place::A6 => Some(Wish::Read(self.next_register()?)),
+            Place::A4 | Place::A7 if !self.is_overtaken() => Some(Wish::Local),
+            Place::A4 | Place::A7 if self.has_next_round() => Some(Wish::Local),
+            Place::A5 => Some(Wish::Write(Reg::R(self.me), self.with_value())),
+            Place::A8 if self.has_next_round() => Some(Wish::Write(Reg::Dec, self.decided())),
+            _ => None,
+        }
+    }
+
+    fn accepts(&self, i: &Input) -> bool {
+        match i {
+            Input::Query(_) => self.place == Place::A1,
+            Input::Read(register, _) => self.wish() == Some(Wish::Read(*register)),
+            Input::Write(register) => match self.wish() {
+                Some(Wish::Write(due, _)) => due == *register,
+                _ => false,
+            },
+            Input::Local => self.wish() == Some(Wish::Local),
+            Input::Send | Input::Recv(_, _) | Input::Learn => false,
+        }
+    }
+
+    fn take(&mut self, alloc: Global, i: Input) -> Result<Back, NoMemory> {
+        match i {
+            Input::Query(leader) => Ok(self.query(leader)),
+            Input::Read(register, cell) => self.read(register, cell),
+            Input::Write(register) => Ok(self.write(alloc, register)),
+            Input::Local => Ok(self.judge()),
+            Input::Send | Input::Recv(_, _) | Input::Learn => unreachable!(),
+        }
+    }
+
+    fn put_back(&mut self, b: Back) {
+        let Back {
+            place,
+            round,
+            own,
+            value,
+            decision,
+            seen,
+        } = b;
+        self.place = place;
+        self.round = round;
+        self.own = own;
+        self.value = value;
+        self.decision = decision;
+        match seen {
+            SeenBefore::Same => {}
+            SeenBefore::OneLess => {
+                let _ = self.seen.pop();
+            }
+            SeenBefore::These(cells) => self.seen = cells,
+        }
+    }
+
+    fn decision(&self) -> Option<Val> {
+        self.decision
+    }
+
+    fn place(&self) -> u8 {
+        self.place.number()
+    }
+
+    fn round(&self) -> u32 {
+        self.round
+    }
+}
+
+impl SameState for Alpha {
+    fn has_same_state(&self, other: &Self) -> bool {
+        self.is_same_process(other) && self.is_as_far(other) && self.has_same_cells(other)
+    }
+}

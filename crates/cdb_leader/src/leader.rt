@@ -1,0 +1,401 @@
+ghost use Rattle.std.specs.Prelude.{◌≡◌, ℕ, ◌+◌, ◌<◌, ◌≤◌, ◌↔◌, Option, Some, None, IsTrue, IsSome, IfOk, OnErr, is_some, if◌then◌else◌};
+
+use crate::back::Back;
+use crate::inbox::{
+    Entry, all_propose, are_same, count_first_phase, count_second_phase, find_agreed_estimate,
+    find_first_phase, find_learnt, find_proposal,
+};
+use crate::place::Place;
+use cdb_base::{NoMemory, Payload, Proc, Val};
+use cdb_process::{Input, Process, SameState, Wish};
+use std::alloc::Global;
+use std::marker::Model;
+
+/// The leader machine of one process. A contract sees its local state.
+#[derive(Drop)]
+pub struct Leader {
+    quorum: u8,
+    place: Place,
+    round: u32,
+    estimate: Val,
+    lead: Option<Proc>,
+    aux: Option<Val>,
+    inbox: Vec<Entry>,
+    decision: Option<Val>,
+}
+
+impl Model for Leader {
+    ghost use Rattle.std.specs.Prelude.{◌≡◌, is_some};
+    ghost use Rattle.cdb_leader.specs.LocalState.{LocalState};
+    ghost use Rattle.cdb_leader.specs.Place.{is_last};
+
+    ghost Value = { LocalState };
+
+    ghost view = { λ x. record {
+      quorum = x.quorum;
+      place = x.place;
+      round = x.round;
+      estimate = x.estimate;
+      lead = x.lead;
+      aux = x.aux;
+      inbox = x.inbox.items;
+      decision = x.decision;
+    } };
+
+    ghost invariant = { λ x. is_some x.decision ≡ is_last x.place };
+}
+
+impl Leader {
+    ghost use Rattle.cdb_leader.specs.LocalState.{LocalState};
+    ghost use Rattle.cdb_leader.specs.Table.{heard_first_phase, heard_second_phase, heard_lead, set_aux, end_round, query_at, sent_at, send_at, local_at, learn_at, recv_at};
+    ghost use Rattle.cdb_leader.specs.Inbox.{proposal};
+    ghost use Rattle.cdb_leader.specs.Back.{state_before, without_last};
+
+    /// Whether the first phase of the round came from at least as many senders as the quorum.
+    fn heard_first_phase(&self) -> bool
+        ensures { result ≡ heard_first_phase self.now }
+    {
+        usize::from(self.quorum) <= count_first_phase(&self.inbox, self.round)
+    }
+
+    /// Whether the second phase of the round did.
+    fn heard_second_phase(&self) -> bool
+        ensures { result ≡ heard_second_phase self.now }
+    {
+        usize::from(self.quorum) <= count_second_phase(&self.inbox, self.round)
+    }
+
+    /// Whether the first phase of the round came from the process that the oracle named.
+    fn heard_lead(&self) -> bool
+        ensures { result ≡ heard_lead self.now }
+    {
+        match self.lead {
+            Some(lead) => find_first_phase(&self.inbox, self.round, lead).is_some(),
+            None => false,
+        }
+    }
+
+    /// The payload that the process would send.
+    fn payload(&self) -> Option<Payload>
+        ensures { result ≡ sent_at self.now.place self.now }
+    {
+        match self.place {
+            Place::L1 => {
+                let lead = self.lead?;
+                Some(Payload::P1 {
+                    round: self.round,
+                    est: self.estimate,
+                    lead,
+                })
+            }
+            Place::L3 => Some(Payload::P2 {
+                round: self.round,
+                aux: self.aux,
+            }),
+            Place::L5 => Some(Payload::D { est: self.estimate }),
+            _ => None,
+        }
+    }
+
+    /// Whether the process can go on by itself.
+    fn goes_on(&self) -> bool
+        ensures { result ≡ is_some (local_at self.now.place self.now) }
+    {
+        match self.place {
+            Place::L2 => self.heard_first_phase() && self.heard_lead(),
+            Place::L4 => self.heard_second_phase(),
+            _ => false,
+        }
+    }
+
+    /// Whether a decision was received that the process can adopt.
+    fn can_learn(&self) -> bool
+        ensures { result ≡ is_some (learn_at self.now.place self.now) }
+    {
+        match self.place {
+            Place::L5 | Place::L6 => false,
+            _ => find_learnt(&self.inbox).is_some(),
+        }
+    }
+
+    /// Whether a query is accepted.
+    fn can_query(&self) -> bool
+        ensures { (l : ℕ) → result ≡ is_some (query_at self.now.place self.now l) }
+    {
+        match self.place {
+            Place::L0 => self.round < 999_999,
+            Place::L2 => true,
+            _ => false,
+        }
+    }
+
+    fn is_as_far(&self, other: &Self) -> bool
+        ensures { IsTrue result ↔ ((self.now.quorum ≡ other.now.quorum)
+            × (self.now.place ≡ other.now.place)
+            × (self.now.round ≡ other.now.round)
+            × (self.now.estimate ≡ other.now.estimate)) }
+    {
+        self.quorum == other.quorum
+            && self.place == other.place
+            && self.round == other.round
+            && self.estimate == other.estimate
+    }
+
+    fn has_same_outcome(&self, other: &Self) -> bool
+        ensures { IsTrue result ↔ ((self.now.lead ≡ other.now.lead)
+            × (self.now.aux ≡ other.now.aux)
+            × (self.now.decision ≡ other.now.decision)) }
+    {
+        self.lead == other.lead && self.aux == other.aux && self.decision == other.decision
+    }
+
+    /// What a step would overwrite.
+    fn back(&self, received: bool) -> Back
+        ensures { (t : LocalState) → t.quorum ≡ self.now.quorum
+            → (if received then without_last t.inbox else t.inbox) ≡ self.now.inbox
+            → state_before t result ≡ self.now }
+    {
+        Back {
+            place: self.place,
+            round: self.round,
+            estimate: self.estimate,
+            lead: self.lead,
+            aux: self.aux,
+            decision: self.decision,
+            received,
+        }
+    }
+
+    /// Ends the first phase.
+    fn set_aux(&mut self)
+        requires { self.old.place ≡ Place.L2 }
+        ensures { self.new ≡ set_aux self.old }
+    {
+        self.aux = find_agreed_estimate(&self.inbox, self.round, self.quorum);
+        self.place = Place::L3;
+    }
+
+    /// Ends the second phase.
+    fn end_round(&mut self)
+        requires { self.old.place ≡ Place.L4 }
+        ensures { self.new ≡ end_round self.old (proposal self.old.round self.old.inbox) }
+    {
+        self.place = Place::L0;
+        if let Some(value) = find_proposal(&self.inbox, self.round) {
+            if all_propose(&self.inbox, self.round, value) {
+                self.place = Place::L5;
+            }
+            self.estimate = value;
+        }
+    }
+
+    /// Takes the answer to a query.
+    fn query(&mut self, leader: Proc)
+        requires { IsSome (query_at self.old.place self.old leader) }
+        ensures after { query_at self.old.place self.old leader ≡ Some self.new }
+        ensures quorum { self.new.quorum ≡ self.old.quorum }
+        ensures inbox { self.new.inbox ≡ self.old.inbox }
+    {
+        match self.place {
+            Place::L0 => {
+                self.round += 1;
+                self.lead = Some(leader);
+                self.place = Place::L1;
+            }
+            Place::L2 => {
+                if self.heard_first_phase() && self.lead != Some(leader) {
+                    self.set_aux();
+                }
+            }
+            _ => unreachable!(),
+        }
+    }
+
+    /// Goes on behind a send.
+    fn send(&mut self)
+        requires { IsSome (send_at self.old.place self.old) }
+        ensures after { send_at self.old.place self.old ≡ Some self.new }
+        ensures quorum { self.new.quorum ≡ self.old.quorum }
+        ensures inbox { self.new.inbox ≡ self.old.inbox }
+    {
+        match self.place {
+            Place::L1 => self.place = Place::L2,
+            Place::L3 => self.place = Place::L4,
+            Place::L5 => {
+                self.decision = Some(self.estimate);
+                self.place = Place::L6;
+            }
+            _ => unreachable!(),
+        }
+    }
+
+    /// Goes on by itself.
+    fn go_on(&mut self)
+        requires { IsSome (local_at self.old.place self.old) }
+        ensures after { local_at self.old.place self.old ≡ Some self.new }
+        ensures quorum { self.new.quorum ≡ self.old.quorum }
+        ensures inbox { self.new.inbox ≡ self.old.inbox }
+    {
+        match self.place {
+            Place::L2 => self.set_aux(),
+            Place::L4 => self.end_round(),
+            _ => unreachable!(),
+        }
+    }
+
+    /// Adopts a decision that was received.
+    fn learn(&mut self)
+        requires { IsSome (learn_at self.old.place self.old) }
+        ensures after { learn_at self.old.place self.old ≡ Some self.new }
+        ensures quorum { self.new.quorum ≡ self.old.quorum }
+        ensures inbox { self.new.inbox ≡ self.old.inbox }
+    {
+        if let Some(value) = find_learnt(&self.inbox) {
+            self.estimate = value;
+            self.place = Place::L5;
+        }
+    }
+
+    /// Adds an entry to the inbox.
+    fn receive(&mut self, from: Proc, payload: Payload) -> Result<(), NoMemory>
+        requires { IsSome (recv_at self.old.place self.old from payload) }
+        ensures after { IfOk result (λ _. recv_at self.old.place self.old from payload ≡ Some self.new) }
+        ensures quorum { self.new.quorum ≡ self.old.quorum }
+        ensures inbox { IfOk result (λ _. without_last self.new.inbox ≡ self.old.inbox) }
+        ensures unchanged { OnErr result (self.new ≡ self.old) }
+    {
+        self.inbox.push(Entry { from, payload })?;
+        Ok(())
+    }
+}
+
+impl Process for Leader {
+    ghost use Rattle.cdb_leader.specs.LocalState.{first_state};
+    ghost use Rattle.cdb_leader.specs.Place.{place_number};
+    ghost use Rattle.cdb_leader.specs.Table.{next_state, wish_of};
+    ghost use Rattle.cdb_leader.specs.Back.{state_before};
+    ghost use Rattle.cdb_leader.specs.TableLaws as laws;
+
+    type Back = Back;
+
+    ghost first = { λ me n q input. first_state q input };
+
+    ghost next = { next_state };
+
+    ghost before = { state_before };
+
+    ghost wish = { wish_of };
+
+    ghost decision = { λ s. s.decision };
+
+    ghost place = { λ s. place_number s.place };
+
+    ghost round = { λ s. s.round };
+
+    ghost last_place = { 6 };
+
+    ghost query_by_state = { laws.next_state-query };
+
+    ghost recv_by_state = { laws.next_state-recv };
+
+    ghost wish_send = { laws.wish_of-send };
+
+    ghost wish_read = { laws.wish_of-read };
+
+    ghost wish_write = { laws.wish_of-write };
+
+    ghost wish_local = { laws.wish_of-local };
+
+    fn first(alloc: Global, _me: Proc, _n: u8, q: u8, input: Val) -> Result<Self, NoMemory> {
+        Ok(Leader {
+            quorum: q,
+            place: Place::L0,
+            round: 0,
+            estimate: input,
+            lead: None,
+            aux: None,
+            inbox: Vec::new(alloc),
+            decision: None,
+        })
+    }
+
+    fn wish(&self) -> Option<Wish> {
+        match self.payload() {
+            Some(payload) => Some(Wish::Send(payload)),
+            None if self.goes_on() => Some(Wish::Local),
+            None => None,
+        }
+    }
+
+    fn accepts(&self, i: &Input) -> bool {
+        match i {
+            Input::Query(_) => self.can_query(),
+            Input::Send => self.payload().is_some(),
+            Input::Recv(_, _) => self.place != Place::L6,
+            Input::Local => self.goes_on(),
+            Input::Learn => self.can_learn(),
+            Input::Read(_, _) | Input::Write(_) => false,
+        }
+    }
+
+    fn take(&mut self, _alloc: Global, i: Input) -> Result<Back, NoMemory> {
+        match i {
+            Input::Query(leader) => {
+                let back = self.back(false);
+                self.query(leader);
+                Ok(back)
+            }
+            Input::Send => {
+                let back = self.back(false);
+                self.send();
+                Ok(back)
+            }
+            Input::Recv(from, payload) => {
+                let back = self.back(true);
+                self.receive(from, payload)?;
+                Ok(back)
+            }
+            Input::Local => {
+                let back = self.back(false);
+                self.go_on();
+                Ok(back)
+            }
+            Input::Learn => {
+                let back = self.back(false);
+                self.learn();
+                Ok(back)
+            }
+            Input::Read(_, _) | Input::Write(_) => unreachable!(),
+        }
+    }
+
+    fn put_back(&mut self, b: Back) {
+        self.place = b.place;
+        self.round = b.round;
+        self.estimate = b.estimate;
+        self.lead = b.lead;
+        self.aux = b.aux;
+        self.decision = b.decision;
+        if b.received {
+            let _ = self.inbox.pop();
+        }
+    }
+
+    fn decision(&self) -> Option<Val> {
+        self.decision
+    }
+
+    fn place(&self) -> u8 {
+        self.place.number()
+    }
+
+    fn round(&self) -> u32 {
+        self.round
+    }
+}
+
+impl SameState for Leader {
+    fn has_same_state(&self, other: &Self) -> bool {
+        self.is_as_far(other) && self.has_same_outcome(other) && are_same(&self.inbox, &other.inbox)
+    }
+}

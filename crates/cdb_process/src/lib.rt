@@ -1,0 +1,147 @@
+//! What a machine of one process is to a run: a function of its local state and of one input, with
+//! an inverse. A run knows no more of a machine than this trait says.
+#![tactic(auto)]
+
+ghost use Rattle.std.specs.Prelude.{◌≡◌, ℕ, ◌↔◌, ◌≤◌, Option, Some, IsTrue, IsSome, IfOk, OnErr};
+ghost use Rattle.cdb_process.specs.declared.Input.{Input};
+ghost use Rattle.cdb_process.specs.declared.Wish.{Wish};
+ghost use Rattle.cdb_process.specs.Process.{QueryHangsOnStateAlone, RecvHangsOnStateAlone, WishNamesSend, WishNamesRead, WishNamesWrite, WishNamesLocal};
+
+use cdb_base::{Cell, NoMemory, Payload, Proc, Reg, Val};
+use std::alloc::Global;
+
+/// What a machine takes in one step. A crash is no input: the run keeps it.
+#[derive(Clone, Copy, Debug, PartialEq, Eq)]
+pub enum Input {
+    /// The oracle is asked, and names this leader.
+    Query(Proc),
+    /// The process broadcasts.
+    Send,
+    /// The process receives this payload of that sender.
+    Recv(Proc, Payload),
+    /// The process reads this cell in that register.
+    Read(Reg, Cell),
+    /// The process writes to that register.
+    Write(Reg),
+    /// The process goes on by itself.
+    Local,
+    /// The process adopts a decision that it received.
+    Learn,
+}
+
+/// What a machine would do next of itself: the payload, register or cell is the one that is due.
+#[derive(Clone, Copy, Debug, PartialEq, Eq)]
+pub enum Wish {
+    /// It would broadcast this payload.
+    Send(Payload),
+    /// It would read that register.
+    Read(Reg),
+    /// It would write this cell to that register.
+    Write(Reg, Cell),
+    /// It would go on by itself.
+    Local,
+}
+
+/// The machine of one process. `Self` stands for its local state in the contracts.
+pub trait Process: Sized + Drop {
+    /// What an input consumed or overwrote, for going back.
+    type Back: Drop;
+
+    // The first local state of process `me` of `n`, with a quorum and an input of its own.
+    ghost first: { ℕ → ℕ → ℕ → ℕ → Self };
+
+    // The local state after an input, where the machine accepts the input.
+    ghost next: { Self → Input → Option Self };
+
+    // The local state from which an input led to this one, by what the input left for going back.
+    ghost before: { Self → Self.Back → Self };
+
+    // What the process would do of itself, where there is something.
+    ghost wish: { Self → Option Wish };
+
+    // The value that the process decided, if it has.
+    ghost decision: { Self → Option ℕ };
+
+    // The number of the place in the machine's table.
+    ghost place: { Self → ℕ };
+
+    ghost round: { Self → ℕ };
+
+    // The place at which the machine is done.
+    ghost last_place: { ℕ };
+
+    /// The machine of process `me` of `n`, at most 9, before its first step. The quorum `q` is from 1
+    /// to `n`. `NoMemory` if a growth is refused.
+    fn first(alloc: Global, me: Proc, n: u8, q: u8, input: Val) -> Result<Self, NoMemory>
+        requires among { (me ≤ n) × (n ≤ 9) }
+        requires quorum { (1 ≤ q) × (q ≤ n) }
+        ensures { IfOk result (λ local. local ≡ first me n q input) };
+
+    /// What the process would do of itself: a send, a read, a write or a local step.
+    fn wish(&self) -> Option<Wish>
+        ensures { result ≡ wish self.now };
+
+    /// Whether the machine accepts the input now.
+    fn accepts(&self, i: &Input) -> bool
+        ensures { IsTrue result ↔ IsSome (next self.now i.now) };
+
+    /// Takes an input that is accepted, and answers what `put_back` needs to undo it. After `NoMemory`
+    /// the local state is as it was.
+    fn take(&mut self, alloc: Global, i: Input) -> Result<Self::Back, NoMemory>
+        requires { IsSome (next self.old i) }
+        ensures after { IfOk result (λ _. next self.old i ≡ Some self.new) }
+        ensures back { IfOk result (λ b. before self.new b ≡ self.old) }
+        ensures unchanged { OnErr result (self.new ≡ self.old) };
+
+    /// Goes back by what a `take` answered. On the state that this `take` left, it gives the state
+    /// before. It takes no memory.
+    fn put_back(&mut self, b: Self::Back)
+        ensures { self.new ≡ before self.old b };
+
+    /// The value that the process decided: some exactly at the last place.
+    fn decision(&self) -> Option<Val>
+        ensures value { result ≡ decision self.now }
+        ensures at_last_place { IsSome result ↔ (place self.now ≡ last_place) };
+
+    /// The number of the place in the machine's table.
+    fn place(&self) -> u8
+        ensures { result ≡ place self.now };
+
+    /// The round that the process is in.
+    fn round(&self) -> u32
+        ensures { result ≡ round self.now };
+
+    ghost query_by_state: { QueryHangsOnStateAlone next };
+
+    ghost recv_by_state: { RecvHangsOnStateAlone next };
+
+    ghost wish_send: { WishNamesSend next wish };
+
+    ghost wish_read: { WishNamesRead next wish };
+
+    ghost wish_write: { WishNamesWrite next wish };
+
+    ghost wish_local: { WishNamesLocal next wish };
+}
+
+/// A machine whose local states can be compared.
+pub trait SameState: Process {
+    /// Whether both machines are in one local state.
+    fn has_same_state(&self, other: &Self) -> bool
+        ensures { IsTrue result ↔ (self.now ≡ other.now) };
+}
+
+/// Whether the machine accepts a query now, whoever is named.
+pub fn accepts_query<P: Process>(local: &P) -> bool
+    ensures { (l : ℕ) → IsTrue result ↔ IsSome (P.next local.now (Input.Query l)) }
+{
+    local.accepts(&Input::Query(Proc::new(1)))
+}
+
+/// Whether the machine accepts a receive now, whoever sent and whatever was sent.
+pub fn accepts_receive<P: Process>(local: &P) -> bool
+    ensures { (s : ℕ) (x : Payload) → IsTrue result ↔ IsSome (P.next local.now (Input.Recv s x)) }
+{
+    let any = Payload::D { est: Val::new(0) };
+    local.accepts(&Input::Recv(Proc::new(1), any))
+}
