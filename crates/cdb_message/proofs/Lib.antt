@@ -1,0 +1,7 @@
+pub mod MarkLaws
+pub mod Closed
+pub mod First
+pub mod Pending
+pub mod Sets
+pub mod TakenBack
+pub mod Sent

@@ -1,0 +1,320 @@
+ghost use Rattle.std.specs.Prelude.{◌≡◌, ℕ, ◌+◌, ◌-◌, ◌<◌, ◌≤◌, length, false, IsTrue, IfOk, OnOk, OnErr, IfSome, IfNone, MatchOption, nat_le, map, filter, find};
+ghost use Rattle.std.specs.List.{range_with_len};
+ghost use Rattle.std.specs.Option.{option_copied};
+ghost use Rattle.cdb_message.specs.Mail.{message_name, stands_above};
+
+use crate::copies::Copies;
+use crate::marks::Marks;
+use crate::names::Names;
+use crate::outbox::Outbox;
+use cdb_base::{CopyName, MsgName, NoMemory, Payload, Proc};
+use std::alloc::Global;
+use std::marker::Model;
+
+/// The messages of a run. A contract sees the payloads that each process sent, the set of the names
+/// that it received, and the set of the copies that are lost.
+#[derive(Drop)]
+pub struct Mail {
+    sent: Vec<Outbox>,
+    received: Vec<Names>,
+    lost: Copies,
+    // Where the look for a pending copy begins: below a mark every copy was received or lost.
+    marks: Marks,
+}
+
+impl Model for Mail {
+    ghost use Rattle.std.specs.Prelude.{◌≡◌, ◌≤◌, length};
+    ghost use Rattle.cdb_message.specs.Mail.{MailState, mail_code};
+    ghost use Rattle.cdb_message.specs.Marks.{AreBelowOpenCopies};
+
+    ghost Value = { MailState };
+
+    ghost coded = { mail_code };
+
+    ghost view = { λ x. record { sent = x.sent.items; received = x.received.items; lost = x.lost } };
+
+    ghost invariant = { λ x. (length x.sent.items ≡ length x.received.items)
+        × (length x.sent.items ≤ 9)
+        × AreBelowOpenCopies x.marks (record { sent = x.sent.items; received = x.received.items; lost = x.lost }) };
+}
+
+impl Mail {
+    ghost use Rattle.cdb_base.specs.declared.payload.Payload.{Payload};
+    ghost use Rattle.cdb_message.specs.Mail.{MailState, first_mail, sent_by, payload_of, is_sent, is_received, is_lost, copy_name, add_send, add_receive, add_loss, remove_send, remove_receive, remove_loss, messages_of, is_open, next_pending};
+
+    /// The mail of `n` processes, at most 9, none of which has sent or received anything. `NoMemory` if
+    /// a growth is refused.
+    pub fn new(alloc: Global, n: u8) -> Result<Self, NoMemory>
+        requires { n ≤ 9 }
+        ensures { IfOk result (λ mail. mail ≡ first_mail n) }
+    {
+        let mut sent = Vec::new(alloc);
+        let mut received = Vec::new(alloc);
+        for _ in 0..n {
+            sent.push(Outbox::new(alloc))?;
+            received.push(Names::new(alloc))?;
+        }
+        let lost = Copies::new(alloc);
+        let marks = Marks::new();
+        Ok(Mail {
+            sent,
+            received,
+            lost,
+            marks,
+        })
+    }
+
+    /// Process `p`, which has sent fewer than 9,999 messages, broadcasts a payload. Answers the name of
+    /// the message. After `NoMemory` nothing was sent.
+    pub fn send(&mut self, _alloc: Global, p: Proc, payload: Payload) -> Result<MsgName, NoMemory>
+        requires among { p ≤ length self.old.sent }
+        requires room { length (sent_by self.old p) < 9999 }
+        ensures name { IfOk result (λ name. name ≡ message_name p (length (sent_by self.old p) + 1)) }
+        ensures ok { OnOk result (self.new ≡ add_send self.old p payload) }
+        ensures err { OnErr result (self.new ≡ self.old) }
+    {
+        let outbox = &mut self.sent[p.index()];
+        outbox.push(payload)?;
+        let m = outbox.count();
+        Ok(MsgName { s: p, m })
+    }
+
+    /// Takes the last send of process `p` back. Nobody has received that message, and none of its
+    /// copies is lost.
+    pub fn take_back_send(&mut self, p: Proc)
+        requires among { p ≤ length self.old.sent }
+        requires sent { 0 < length (sent_by self.old p) }
+        requires not_received { (q : ℕ) → is_received self.old q (message_name p (length (sent_by self.old p))) ≡ false }
+        requires not_lost { (q : ℕ) → is_lost self.old (copy_name (message_name p (length (sent_by self.old p))) q) ≡ false }
+        ensures after { self.new ≡ remove_send self.old p }
+        ensures undoes { (mail : MailState) (x : Payload) → self.old ≡ add_send mail p x → self.new ≡ mail }
+    {
+        let outbox = &mut self.sent[p.index()];
+        outbox.pop();
+    }
+
+    /// Process `p` receives its copy of a message: it was sent, and `p` has not received it, nor is the
+    /// copy lost. After `NoMemory` nothing was received.
+    pub fn recv(&mut self, _alloc: Global, p: Proc, name: MsgName) -> Result<(), NoMemory>
+        requires among { p ≤ length self.old.received }
+        requires sent { IsTrue (is_sent self.old name) }
+        requires not_received { is_received self.old p name ≡ false }
+        requires not_lost { is_lost self.old (copy_name name p) ≡ false }
+        ensures ok { OnOk result (self.new ≡ add_receive self.old p name) }
+        ensures err { OnErr result (self.new ≡ self.old) }
+    {
+        let sender = name.s;
+        let names = &mut self.received[p.index()];
+        names.insert(name)?;
+        self.pass_over(p, sender);
+        Ok(())
+    }
+
+    /// Takes the receive of a message, which process `p` has received, back.
+    pub fn take_back_recv(&mut self, p: Proc, name: MsgName)
+        requires among { p ≤ length self.old.received }
+        requires received { IsTrue (is_received self.old p name) }
+        ensures after { self.new ≡ remove_receive self.old p name }
+        ensures undoes { (mail : MailState) → is_received mail p name ≡ false
+            → self.old ≡ add_receive mail p name → self.new ≡ mail }
+    {
+        self.marks.lower(p, name.s, name.m);
+        let names = &mut self.received[p.index()];
+        names.remove(name);
+    }
+
+    /// The copy of a message for process `p` gets lost: it was sent, and `p` has not received it, nor
+    /// is the copy lost. After `NoMemory` nothing was lost.
+    pub fn lose(&mut self, _alloc: Global, p: Proc, name: MsgName) -> Result<(), NoMemory>
+        requires among { p ≤ length self.old.received }
+        requires sent { IsTrue (is_sent self.old name) }
+        requires not_received { is_received self.old p name ≡ false }
+        requires not_lost { is_lost self.old (copy_name name p) ≡ false }
+        ensures ok { OnOk result (self.new ≡ add_loss self.old (copy_name name p)) }
+        ensures err { OnErr result (self.new ≡ self.old) }
+    {
+        let sender = name.s;
+        self.lost.insert(CopyName { msg: name, to: p })?;
+        self.pass_over(p, sender);
+        Ok(())
+    }
+
+    /// Takes the loss of the copy of a message for process `p`, which is lost, back.
+    pub fn take_back_lose(&mut self, p: Proc, name: MsgName)
+        requires lost { IsTrue (is_lost self.old (copy_name name p)) }
+        ensures after { self.new ≡ remove_loss self.old (copy_name name p) }
+        ensures undoes { (mail : MailState) → is_lost mail (copy_name name p) ≡ false
+            → self.old ≡ add_loss mail (copy_name name p) → self.new ≡ mail }
+    {
+        self.marks.lower(p, name.s, name.m);
+        self.lost.remove(CopyName { msg: name, to: p });
+    }
+
+    /// The payload of the message of that name, if it was sent.
+    pub fn payload(&self, name: MsgName) -> Option<&Payload>
+        ensures { option_copied result ≡ payload_of self.now name }
+    {
+        if name.m == 0 {
+            return None;
+        }
+        let outbox = self.sent.get(name.s.index())?;
+        outbox.get(name.m as usize - 1)
+    }
+
+    /// The name of the `m`-th message of process `s`, where there is such a process and it was sent.
+    pub fn find(&self, s: u32, m: u32) -> Option<MsgName>
+        ensures { MatchOption result (is_sent self.now (message_name s m) ≡ false) (λ name. (name ≡ message_name s m) × IsTrue (is_sent self.now (message_name s m))) }
+    {
+        if !self.is_process(s) {
+            return None;
+        }
+        let sender = Proc::new(s as u8);
+        if !self.was_sent(sender, m) {
+            return None;
+        }
+        Some(MsgName {
+            s: sender,
+            m: m as u16,
+        })
+    }
+
+    /// Whether there is a process of that number.
+    fn is_process(&self, s: u32) -> bool
+        ensures range { IsTrue result → (1 ≤ s) × (s ≤ 9) }
+        ensures none { result ≡ false → (m : ℕ) → is_sent self.now (message_name s m) ≡ false }
+    {
+        1 <= s && s as usize <= self.sent.len()
+    }
+
+    /// Whether process `s` has sent an `m`-th message.
+    #[tactic(auto, using(crate::proofs::Sent::is_sent_within))]
+    fn was_sent(&self, s: Proc, m: u32) -> bool
+        ensures value { result ≡ is_sent self.now (message_name s m) }
+        ensures limit { IsTrue result → m ≤ 9999 }
+    {
+        1 <= m && m <= u32::from(self.count_sent(s))
+    }
+
+    /// Whether process `p` has received the message of that name.
+    pub fn has_received(&self, p: Proc, name: MsgName) -> bool
+        requires { p ≤ length self.now.received }
+        ensures { result ≡ is_received self.now p name }
+    {
+        let names = &self.received[p.index()];
+        names.contains(name)
+    }
+
+    /// Whether the copy of that message for process `p` is lost.
+    pub fn lost(&self, p: Proc, name: MsgName) -> bool
+        ensures { result ≡ is_lost self.now (copy_name name p) }
+    {
+        self.lost.contains(CopyName { msg: name, to: p })
+    }
+
+    /// The least name above `after`, by sender and number, of a message that was sent and whose copy
+    /// for process `p` was neither received nor lost.
+    pub fn pending(&self, p: Proc, after: Option<MsgName>) -> Option<MsgName>
+        requires among { p ≤ length self.now.received }
+        ensures { result ≡ next_pending self.now p after }
+    {
+        for sender in Proc::all() {
+            let above = after;
+            if let Some(name) = self.pending_from(p, sender, above) {
+                return Some(name);
+            }
+        }
+        None
+    }
+
+    /// The least such name of the sender `s`.
+    fn pending_from(&self, p: Proc, s: Proc, after: Option<MsgName>) -> Option<MsgName>
+        requires among { p ≤ length self.now.received }
+        ensures { result ≡ find (stands_above after) (filter (is_open self.now p) (messages_of self.now s)) }
+    {
+        let low = lowest_above(after, s)?;
+        let behind = u32::from(self.mark(p, s)) + 1;
+        self.first_open(p, s, low.max(behind))
+    }
+
+    /// The least name of the sender `s`, from the number `low` on, whose copy for process `p` was
+    /// neither received nor lost.
+    fn first_open(&self, p: Proc, s: Proc, low: u32) -> Option<MsgName>
+        requires among { p ≤ length self.now.received }
+        requires from_one { 1 ≤ low }
+        ensures { result ≡ find (is_open self.now p) (map (message_name s) (range_with_len low (length (sent_by self.now s) + 1 - low))) }
+    {
+        for m in low..u32::from(self.count_sent(s)) + 1 {
+            let name = MsgName { s, m: m as u16 };
+            if self.is_open(p, name) {
+                return Some(MsgName { s, m: m as u16 });
+            }
+        }
+        None
+    }
+
+    /// A number up to which process `p` has received or lost each message of `s`.
+    fn mark(&self, p: Proc, s: Proc) -> u16
+        ensures { (m : ℕ) → 1 ≤ m → m ≤ result → is_open self.now p (message_name s m) ≡ false }
+    {
+        self.marks.get(p, s)
+    }
+
+    /// The greatest such number, among the messages that were sent.
+    fn farthest_mark(&self, p: Proc, s: Proc) -> u16
+        requires among { p ≤ length self.now.received }
+        ensures { (m : ℕ) → 1 ≤ m → m ≤ result → is_open self.now p (message_name s m) ≡ false }
+    {
+        let count = self.count_sent(s);
+        let mut mark = self.mark(p, s);
+        while mark < count && !self.is_open(p, MsgName { s, m: mark + 1 }) {
+            mark += 1;
+        }
+        mark
+    }
+
+    /// Moves the mark of receiver `p` and sender `s` on as far as it goes.
+    fn pass_over(&mut self, p: Proc, s: Proc)
+        requires among { p ≤ length self.old.received }
+        ensures { self.new ≡ self.old }
+    {
+        let mark = self.farthest_mark(p, s);
+        self.marks.set(p, s, mark);
+    }
+
+    /// How many messages process `s` sent: at most 9,999.
+    pub fn count_sent(&self, s: Proc) -> u16
+        ensures value { result ≡ length (sent_by self.now s) }
+        ensures limit { result ≤ 9999 }
+    {
+        match self.sent.get(s.index()) {
+            Some(outbox) => outbox.count(),
+            None => 0,
+        }
+    }
+
+    /// Whether the copy of a message for process `p` was neither received nor lost.
+    fn is_open(&self, p: Proc, name: MsgName) -> bool
+        requires among { p ≤ length self.now.received }
+        ensures { result ≡ is_open self.now p name }
+    {
+        let again = name;
+        !self.has_received(p, again) && !self.lost(p, name)
+    }
+}
+
+/// The least number from which on every name of `s` stands above the other name.
+fn lowest_above(after: Option<MsgName>, s: Proc) -> Option<u32>
+    ensures some { IfSome result (λ low. (m : ℕ) → stands_above after (message_name s m) ≡ nat_le low m) }
+    ensures none { IfNone result ((m : ℕ) → stands_above after (message_name s m) ≡ false) }
+{
+    let Some(name) = after else {
+        return Some(0);
+    };
+    if name.s < s {
+        Some(0)
+    } else if name.s == s {
+        Some(u32::from(name.m) + 1)
+    } else {
+        None
+    }
+}

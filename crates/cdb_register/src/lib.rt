@@ -1,0 +1,10 @@
+//! The atomic registers of a run: what each holds, and how many of its writes stand.
+#![tactic(auto)]
+
+pub mod register_state;
+pub mod registers;
+#[cfg(test)]
+mod tests;
+
+pub use register_state::RegisterState;
+pub use registers::Registers;
