@@ -1,0 +1,174 @@
+-- Fixed words and registers.
+use Rattle.std.proofs.Common.{◌≡◌, ℕ, ◌+◌, ◌-◌, ◌<◌, ◌≤◌, Bool, true, ◌&&◌, cond, List, [], ◌∷◌, length, get_or, Option, Some, None, bytes_eq, eqb, refl, ap, subst, ◌∙◌, arith, inl, inr, lit≤}
+use Rattle.std.specs.Prelude.{find, codes, decimal, slice_index, nat_le}
+use Rattle.std.proofs.lemmas.Bool.{and_parts, cases_Bool, le-leb, leb-true, eqb-true}
+use Rattle.std.proofs.lemmas.Slice.Eq.{bytes_eq-Decides}
+use Rattle.std.proofs.lemmas.Fmt.{decimal_digit, decimal_nonempty, digits_decimal}
+use Rattle.std.specs.Str.Parse.{AllDigits}
+use Rattle.std.proofs.lemmas.Str.Parse.{digit_at, numerals_by_value, tells_digits}
+use Rattle.cdb_base.specs.declared.register.Reg.{Reg}
+use Rattle.cdb_base.specs.declared.register.Reg.TheVariants.{R, Dec}
+use Rattle.cdb_text.specs.declared.keyword.Keyword.{Keyword}
+use Rattle.cdb_text.specs.declared.keyword.Keyword.TheVariants as key
+use Rattle.cdb_text.specs.declared.keyword.TheConstants as constants
+use Rattle.cdb_text.specs.Keywords.{keyword_name}
+use Rattle.cdb_text.specs.Commands.{register}
+use Rattle.cdb_text.specs.Grammar.{written, IsInRange}
+use Rattle.cdb_text.specs.Reading.{keyword_of, register_of}
+
+found_is : {A : Type 0} (p : A → Bool) (xs : List A) (x : A) → find p xs ≡ Some x → p x ≡ true
+found_is p [] x e = absurd cc
+found_is p (y ∷ xs) x e =
+    elim (cases_Bool (p y)) [
+      | inl h ↦ let same : y ≡ x = (let there : Some y ≡ Some x = rw h at e in cc) in subst (λ z. p z ≡ true) same h
+      | inr h ↦ found_is p xs x (rw h at e)
+    ]
+
+-- a word that is read as a fixed word is that word
+pub keyword_says : (word : List ℕ) (k : Keyword) → keyword_of word ≡ Some k → word ≡ keyword_name k
+unfolding keyword_of
+keyword_says word k e = (bytes_eq-Decides word (keyword_name k)).0 (found_is (λ k. bytes_eq word (keyword_name k)) constants.Keyword.ALL k e)
+
+-- each fixed word is read as itself
+pub keyword_again : (k : Keyword) → keyword_of (keyword_name k) ≡ Some k
+unfolding keyword_of
+keyword_again key.Step = refl
+keyword_again key.Auto = refl
+keyword_again key.Lose = refl
+keyword_again key.Undo = refl
+keyword_again key.Redo = refl
+keyword_again key.Forget = refl
+keyword_again key.Rollback = refl
+keyword_again key.Why = refl
+keyword_again key.Break = refl
+keyword_again key.Unbreak = refl
+keyword_again key.Resume = refl
+keyword_again key.Show = refl
+keyword_again key.Decisions = refl
+keyword_again key.Go = refl
+keyword_again key.Learn = refl
+keyword_again key.Crash = refl
+keyword_again key.Query = refl
+keyword_again key.Recv = refl
+keyword_again key.Decide = refl
+keyword_again key.Round = refl
+keyword_again key.Write = refl
+keyword_again key.Regs = refl
+keyword_again key.Mail = refl
+keyword_again key.History = refl
+keyword_again key.Lost = refl
+
+-- a fixed word begins with a letter
+letter : (k : Keyword) → 97 ≤ get_or (keyword_name k) 0 0
+letter key.Step = lit≤ tt
+letter key.Auto = lit≤ tt
+letter key.Lose = lit≤ tt
+letter key.Undo = lit≤ tt
+letter key.Redo = lit≤ tt
+letter key.Forget = lit≤ tt
+letter key.Rollback = lit≤ tt
+letter key.Why = lit≤ tt
+letter key.Break = lit≤ tt
+letter key.Unbreak = lit≤ tt
+letter key.Resume = lit≤ tt
+letter key.Show = lit≤ tt
+letter key.Decisions = lit≤ tt
+letter key.Go = lit≤ tt
+letter key.Learn = lit≤ tt
+letter key.Crash = lit≤ tt
+letter key.Query = lit≤ tt
+letter key.Recv = lit≤ tt
+letter key.Decide = lit≤ tt
+letter key.Round = lit≤ tt
+letter key.Write = lit≤ tt
+letter key.Regs = lit≤ tt
+letter key.Mail = lit≤ tt
+letter key.History = lit≤ tt
+letter key.Lost = lit≤ tt
+
+no_keyword_at : (word : List ℕ) (found : Option Keyword) → get_or word 0 0 < 97 → keyword_of word ≡ found → keyword_of word ≡ None
+no_keyword_at word None low e = e
+no_keyword_at word (Some k) low e =
+    let same = keyword_says word k e in
+    let first : get_or word 0 0 ≡ get_or (keyword_name k) 0 0 = ap (λ (w : List ℕ). get_or w 0 0) same in
+    absurd (omega (arith, first, letter k))
+
+first_digit : (n : ℕ) → 1 ≤ n → n ≤ 999999 → get_or (decimal n) 0 0 < 97
+first_digit n low high =
+    let digits : AllDigits 10 (decimal n) = digits_decimal (numerals_by_value (AllDigits 10) tells_digits) n (omega arith) in
+    let range = digit_at (decimal n) 0 digits (decimal_nonempty n (omega arith)) in
+    omega (arith, range)
+
+-- a number is no fixed word
+pub number_is_no_keyword : (n : ℕ) → 1 ≤ n → n ≤ 999999 → keyword_of (decimal n) ≡ None
+number_is_no_keyword n low high = no_keyword_at (decimal n) (keyword_of (decimal n)) (first_digit n low high) refl
+
+-- each register is read as itself
+pub register_again : (x : Reg) → IsInRange (register x) → register_of (written (register x)) ≡ Some x
+unfolding register_of
+register_again Dec is = refl
+register_again (R p) is =
+    let low : nat_le 49 (48 + p) ≡ true = le-leb 49 (48 + p) (omega arith) in
+    let high : nat_le (48 + p) 57 ≡ true = le-leb (48 + p) 57 (omega arith) in
+    let back : 48 + p - 48 ≡ p = omega arith in
+    rw (decimal_digit p (omega arith), low, high, back) refl
+
+two_bytes : (word : List ℕ) → length word ≡ 2 → word ≡ get_or word 0 0 ∷ get_or word 1 0 ∷ []
+two_bytes [] e = absurd (omega arith)
+two_bytes (a ∷ []) e = absurd (omega arith)
+two_bytes (a ∷ b ∷ []) e = refl
+two_bytes (a ∷ b ∷ c ∷ word) e = absurd (omega arith)
+
+-- `r` and a digit are a register
+digit_says : (a b : ℕ) → a ≡ 114 → 49 ≤ b → b ≤ 57 → (a ∷ b ∷ [] ≡ written (register (R (b - 48)))) × IsInRange (register (R (b - 48)))
+digit_says a b is low high =
+    let back : 48 + (b - 48) ≡ b = omega arith in
+    ((rw (decimal_digit (b - 48) (omega arith), back, is) refl), (omega arith, omega arith))
+
+abbrev test : List ℕ → Bool
+test word = eqb (length word) 2 && eqb (slice_index word 0) 114 && nat_le 49 (slice_index word 1) && nat_le (slice_index word 1) 57
+
+test_says : (word : List ℕ) → test word ≡ true → (word ≡ written (register (R (slice_index word 1 - 48)))) × IsInRange (register (R (slice_index word 1 - 48)))
+test_says word e =
+    let without_high = and_parts (eqb (length word) 2 && eqb (slice_index word 0) 114 && nat_le 49 (slice_index word 1)) _ e in
+    let without_low = and_parts (eqb (length word) 2 && eqb (slice_index word 0) 114) _ without_high.0 in
+    let without_r = and_parts (eqb (length word) 2) _ without_low.0 in
+    let is = digit_says (slice_index word 0) (slice_index word 1) (eqb-true _ _ without_r.1) (leb-true _ _ without_low.1) (leb-true _ _ without_high.1) in
+    (two_bytes word (eqb-true _ _ without_r.0) ∙ is.0, is.1)
+
+register_says_r : (word : List ℕ) (x : Reg) → cond (test word) (Some (R (slice_index word 1 - 48))) None ≡ Some x → (word ≡ written (register x)) × IsInRange (register x)
+register_says_r word x e =
+    elim (cases_Bool (test word)) [
+      | inl h ↦
+          let there : Some (R (slice_index word 1 - 48)) ≡ Some x = rw h at e in
+          let same : R (slice_index word 1 - 48) ≡ x = cc in
+          subst (λ (y : Reg). (word ≡ written (register y)) × IsInRange (register y)) same (test_says word h)
+      | inr h ↦ absurd (let none : None ≡ Some x = rw h at e in cc)
+    ]
+
+-- a word that is read as a register is that register
+pub register_says : (word : List ℕ) (x : Reg) → register_of word ≡ Some x → (word ≡ written (register x)) × IsInRange (register x)
+unfolding register_of
+register_says word x e =
+    elim (cases_Bool (bytes_eq word (codes "dec"))) [
+      | inl h ↦
+          let there : Some Dec ≡ Some x = rw h at e in
+          let same : Dec ≡ x = cc in
+          subst (λ (y : Reg). (word ≡ written (register y)) × IsInRange (register y)) same ((bytes_eq-Decides word (codes "dec")).0 h, tt)
+      | inr h ↦ register_says_r word x (rw h at e)
+    ]
+
+starts_with_letter : (x : Reg) → IsInRange (register x) → 97 ≤ get_or (written (register x)) 0 0
+starts_with_letter (R p) is = lit≤ tt
+starts_with_letter Dec is = lit≤ tt
+
+no_register : (word : List ℕ) (found : Option Reg) → get_or word 0 0 < 97 → register_of word ≡ found → register_of word ≡ None
+no_register word None low e = e
+no_register word (Some x) low e =
+    let says = register_says word x e in
+    let first : get_or word 0 0 ≡ get_or (written (register x)) 0 0 = ap (λ (w : List ℕ). get_or w 0 0) says.0 in
+    absurd (omega (arith, first, starts_with_letter x says.1))
+
+-- a number is no register
+pub number_is_no_register : (n : ℕ) → 1 ≤ n → n ≤ 999999 → register_of (decimal n) ≡ None
+number_is_no_register n low high = no_register (decimal n) (register_of (decimal n)) (first_digit n low high) refl

@@ -1,0 +1,12 @@
+pub mod Again
+pub mod Behind
+pub mod Cut
+pub mod Keys
+pub mod Numbers
+pub mod Printed
+pub mod Reading
+pub mod Registers
+pub mod States
+pub mod Table
+pub mod Unique
+pub mod Whole

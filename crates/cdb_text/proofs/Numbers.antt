@@ -1,0 +1,107 @@
+-- Numbers of one to six digits.
+use Rattle.std.proofs.Common.{◌≡◌, ◌≢◌, ℕ, zero, suc, ◌-◌, ◌^◌, ◌<◌, ◌≤◌, true, ◌&&◌, cond, List, [], ◌∷◌, length, take, Option, Some, None, refl, sym, ◌∙◌, arith, inl, inr}
+use Rattle.std.specs.Prelude.{MatchOption, slice_index, decimal, nat_lt, nat_le}
+use Rattle.std.specs.Str.{all_ascii_digits}
+use Rattle.std.specs.Str.Parse.{AllDigits, digits_value}
+use Rattle.std.proofs.lemmas.Bool.{and_from, and_parts, not-true, cases_Bool, ltb-true, leb-true, lt-ltb, le-leb, eqb-false, ne_eqb}
+use Rattle.std.proofs.lemmas.Bool.Decides.{nat_tests}
+use Rattle.std.specs.Char.{digit_value}
+use Rattle.std.proofs.lemmas.List.{length-take}
+use Rattle.std.proofs.lemmas.Str.Parse.{IsNumeralModel, numerals_by_value, tells_all_ascii_digits, tells_digits, digits_value_short}
+use Rattle.std.proofs.lemmas.Fmt.{decimal_digit, digits_decimal, digits_value-decimal, decimal-digits_value, length-decimal-le, decimal_nonempty, first_decimal}
+use Rattle.cdb_text.specs.Reading.{is_number, number_of}
+
+by_all : IsNumeralModel (AllDigits 10) (digits_value 10)
+by_all = numerals_by_value (AllDigits 10) tells_digits
+
+by_test : IsNumeralModel (λ ds. all_ascii_digits ds ≡ true) (digits_value 10)
+by_test = numerals_by_value (λ ds. all_ascii_digits ds ≡ true) tells_all_ascii_digits
+
+-- up to five digits stand for a number below 100,000
+pub five_digits : (word : List ℕ) (i : ℕ) → i < length word → length word ≤ 6 → AllDigits 10 (take i word) → digits_value 10 (take i word) < 100000
+five_digits word i below few digits = digits_value_short by_all (take i word) 5 digits (omega (arith, length-take i word))
+
+-- what a digit is worth
+pub digit_is : (byte : ℕ) → 48 ≤ byte → byte ≤ 57 → digit_value byte ≡ byte - 48
+digit_is byte low high = grind (arith, nat_tests)
+
+-- a word of one to six digits, the first not 0
+pub record IsDigits (word : List ℕ) : Type 0 where
+  pub all : AllDigits 10 word
+  pub some : 0 < length word
+  pub few : length word ≤ 6
+  pub first : slice_index word 0 ≢ 48
+
+positive : (word : List ℕ) (n : ℕ) → IsDigits word → word ≡ decimal n → n ≤ 999999 → 1 ≤ n
+positive word zero is written high = absurd (is.first (let zero_is : word ≡ 48 ∷ [] = written ∙ decimal_digit 0 (omega arith) in rw zero_is refl))
+positive word (suc n) is written high = omega arith
+
+tests_say : (word : List ℕ) → is_number word ≡ true → IsDigits word
+unfolding is_number
+tests_say word e =
+    let without_first = and_parts (all_ascii_digits word && nat_lt 0 (length word) && nat_le (length word) 6) _ e in
+    let without_few = and_parts (all_ascii_digits word && nat_lt 0 (length word)) _ without_first.0 in
+    let without_some = and_parts (all_ascii_digits word) _ without_few.0 in
+    record {
+      all = by_test.to word without_some.0;
+      some = ltb-true _ _ without_some.1;
+      few = leb-true _ _ without_few.1;
+      first = eqb-false (slice_index word 0) 48 (not-true _ without_first.1);
+    }
+
+says_tests : (word : List ℕ) → IsDigits word → is_number word ≡ true
+unfolding is_number
+says_tests word is =
+    and_from _ _ (and_from _ _ (and_from _ _ (by_test.from word is.all) (lt-ltb _ _ is.some)) (le-leb _ _ is.few)) (let e = ne_eqb (slice_index word 0) 48 is.first in rw e refl)
+
+-- what reading a word gives
+pub number_is : (word : List ℕ) (found : Option ℕ) → 0 < length word → length word ≤ 6 → slice_index word 0 ≢ 48
+    → MatchOption found (¬ AllDigits 10 word) (λ n. AllDigits 10 word × (n ≡ digits_value 10 word)) → found ≡ number_of word
+unfolding number_of
+number_is word (Some n) some few first is =
+    let yes = says_tests word (record { all = is.0; some = some; few = few; first = first }) in rw (yes, is.1) refl
+number_is word None some few first is =
+    elim (cases_Bool (is_number word)) [
+      | inl h ↦ absurd (is (tests_say word h).all)
+      | inr h ↦ rw h refl
+    ]
+
+pub no_number : (word : List ℕ) → ¬ IsDigits word → number_of word ≡ None
+unfolding number_of
+no_number word missing =
+    elim (cases_Bool (is_number word)) [
+      | inl h ↦ absurd (missing (tests_say word h))
+      | inr h ↦ rw h refl
+    ]
+
+value_says : (word : List ℕ) (n : ℕ) → cond (is_number word) (Some (digits_value 10 word)) None ≡ Some n → IsDigits word × (n ≡ digits_value 10 word)
+value_says word n e =
+    elim (cases_Bool (is_number word)) [
+      | inl h ↦ (tests_say word h, (let same : Some (digits_value 10 word) ≡ Some n = rw h at e in cc))
+      | inr h ↦ absurd (let same : None ≡ Some n = rw h at e in cc)
+    ]
+
+-- a word that is read as n is n in decimal
+pub number_says : (word : List ℕ) (n : ℕ) → number_of word ≡ Some n → (word ≡ decimal n) × (1 ≤ n) × (n ≤ 999999)
+unfolding number_of
+number_says word n e =
+    let found = value_says word n e in
+    let short = digits_value_short by_all word 6 found.0.all found.0.few in
+    let small : n < 1000000 = omega (arith, short, found.1) in
+    let same : decimal (digits_value 10 word) ≡ word = decimal-digits_value by_all word found.0.all found.0.some (λ zero_first. absurd (found.0.first zero_first)) (omega (arith, short)) in
+    let written : word ≡ decimal n = rw found.1 (sym same) in
+    (written, positive word n found.0 written (omega arith), omega arith)
+
+-- n in decimal is read as n
+pub number_again : (n : ℕ) → 1 ≤ n → n ≤ 999999 → number_of (decimal n) ≡ Some n
+unfolding number_of
+number_again n low high =
+    let fits : n < 2 ^ 64 = omega arith in
+    let first = first_decimal n (omega arith) fits in
+    let yes = says_tests (decimal n) (record {
+      all = digits_decimal by_all n fits;
+      some = decimal_nonempty n fits;
+      few = length-decimal-le 6 n (omega arith) (omega arith) fits;
+      first = omega arith;
+    }) in
+    rw (yes, digits_value-decimal by_all n fits) refl

@@ -1,0 +1,115 @@
+-- The printed words of a command are its words again.
+use Rattle.std.proofs.Common.{◌≡◌, ◌≢◌, ℕ, ◌<◌, ◌≤◌, Bool, true, false, not, List, [], ◌∷◌, ◌++◌, map, eqb, refl, sym, ap, subst, ◌∙◌, arith}
+use Rattle.std.specs.Prelude.{codes, decimal, Some, None}
+use Rattle.std.specs.Char.{digit_value}
+use Rattle.std.specs.List.{AllByRecursion, join_with_byte, list_all}
+use Rattle.std.specs.Str.Parse.{AllDigits}
+use Rattle.std.proofs.lemmas.Bool.{and_parts, not-true, false_from_ne_true, eqb-true}
+use Rattle.std.proofs.lemmas.Fmt.{digits_decimal}
+use Rattle.std.proofs.lemmas.List.Splits.{join_with_byte-slice_split}
+use Rattle.std.proofs.lemmas.Str.Parse.{numerals_by_value, tells_digits}
+use Rattle.cdb_base.specs.declared.act.Act.TheVariants as act
+use Rattle.cdb_base.specs.declared.register.Reg.TheVariants.{R, Dec}
+use Rattle.cdb_control.specs.declared.command.Command.{Command}
+use Rattle.cdb_control.specs.declared.command.Command.TheVariants.{Step, Break, Show}
+use Rattle.cdb_control.specs.declared.command.Stop.TheVariants as stop
+use Rattle.cdb_control.specs.declared.command.View.TheVariants as view
+use Rattle.cdb_text.specs.Commands.{Part, fixed, number, register, parts_of}
+use Rattle.cdb_text.specs.Grammar.{IsInRange, HasNumbersInRange, IsLineOf, printed, words_of, written}
+use Rattle.cdb_text.specs.Laws.{EachCommandHasOneLine}
+
+abbrev IsSpaceless : List ℕ → Type 0
+IsSpaceless word = AllByRecursion (λ byte. eqb byte 32 ≡ false) word
+
+last_word : (word : List ℕ) → IsSpaceless word → words_of word ≡ word ∷ []
+last_word [] is = refl
+last_word (byte ∷ word) is = rw (is.0, last_word word is.1) refl
+
+first_word : (word line : List ℕ) → IsSpaceless word → words_of (word ++ 32 ∷ line) ≡ word ∷ words_of line
+first_word [] line is = refl
+first_word (byte ∷ word) line is = rw (is.0, first_word word line is.1) refl
+
+-- words without a space, joined by spaces, are cut into these words
+joined : (word : List ℕ) (words : List (List ℕ)) → IsSpaceless word → AllByRecursion IsSpaceless words → words_of (join_with_byte 32 (word ∷ words)) ≡ word ∷ words
+joined word [] is all = last_word word is
+joined word (next ∷ words) is all = first_word word (join_with_byte 32 (next ∷ words)) is ∙ ap (λ (ws : List (List ℕ)). word ∷ ws) (joined next words all.0 all.1)
+
+-- ---- the words of a command
+
+digit_is_no_space : (byte : ℕ) → digit_value byte < 10 → eqb byte 32 ≡ false
+digit_is_no_space byte is =
+    false_from_ne_true (eqb byte 32) (λ e. let space : digit_value 32 < 10 = subst (λ (b : ℕ). digit_value b < 10) (eqb-true byte 32 e) is in omega (arith, space))
+
+digits_are_spaceless : (word : List ℕ) → AllDigits 10 word → IsSpaceless word
+digits_are_spaceless [] all = tt
+digits_are_spaceless (byte ∷ word) all = (digit_is_no_space byte all.0, digits_are_spaceless word all.1)
+
+number_is_spaceless : (n : ℕ) → n ≤ 999999 → IsSpaceless (decimal n)
+number_is_spaceless n high = digits_are_spaceless (decimal n) (digits_decimal (numerals_by_value (AllDigits 10) tells_digits) n (omega arith))
+
+abbrev no_space : Part → Bool
+no_space (fixed text) = list_all (λ byte. not (eqb byte 32)) (codes text)
+no_space other = true
+
+-- no fixed word has a space
+no_spaces : (command : Command) → list_all no_space (parts_of command) ≡ true
+no_spaces (Step p act.Go) = refl
+no_spaces (Step p act.Learn) = refl
+no_spaces (Step p act.Crash) = refl
+no_spaces (Step p (act.Query None)) = refl
+no_spaces (Step p (act.Query (Some l))) = refl
+no_spaces (Step p (act.Recv s m)) = refl
+no_spaces (Break (stop.Decide p)) = refl
+no_spaces (Break (stop.Round p r)) = refl
+no_spaces (Break (stop.Recv p)) = refl
+no_spaces (Break (stop.Write x)) = refl
+no_spaces (Show (view.Proc p)) = refl
+no_spaces (Show view.Regs) = refl
+no_spaces (Show view.Mail) = refl
+no_spaces (Show view.History) = refl
+no_spaces other = refl
+
+tested : (word : List ℕ) → list_all (λ byte. not (eqb byte 32)) word ≡ true → IsSpaceless word
+tested [] e = tt
+tested (byte ∷ word) e = let parts = and_parts _ _ e in (not-true (eqb byte 32) parts.0, tested word parts.1)
+
+part_is_spaceless : (part : Part) → no_space part ≡ true → IsInRange part → IsSpaceless (written part)
+part_is_spaceless (fixed text) e is = tested (codes text) e
+part_is_spaceless (number n) e is = number_is_spaceless n is.1
+part_is_spaceless (register (R p)) e is = (refl, number_is_spaceless p (omega (arith, is.1)))
+part_is_spaceless (register Dec) e is = (refl, (refl, (refl, tt)))
+
+parts_are_spaceless : (parts : List Part) → list_all no_space parts ≡ true → AllByRecursion IsInRange parts → AllByRecursion IsSpaceless (map written parts)
+parts_are_spaceless [] e all = tt
+parts_are_spaceless (part ∷ parts) e all = let tests = and_parts _ _ e in (part_is_spaceless part tests.0 all.0, parts_are_spaceless parts tests.1 all.1)
+
+-- a command has a part
+cut_again : (parts : List Part) → parts ≢ [] → AllByRecursion IsSpaceless (map written parts) → words_of (join_with_byte 32 (map written parts)) ≡ map written parts
+cut_again [] some all = absurd (some refl)
+cut_again (part ∷ parts) some all = joined (written part) (map written parts) all.0 all.1
+
+some_part : (command : Command) → parts_of command ≢ []
+some_part (Step p act.Go) e = cc
+some_part (Step p act.Learn) e = cc
+some_part (Step p act.Crash) e = cc
+some_part (Step p (act.Query None)) e = cc
+some_part (Step p (act.Query (Some l))) e = cc
+some_part (Step p (act.Recv s m)) e = cc
+some_part (Break (stop.Decide p)) e = cc
+some_part (Break (stop.Round p r)) e = cc
+some_part (Break (stop.Recv p)) e = cc
+some_part (Break (stop.Write x)) e = cc
+some_part (Show (view.Proc p)) e = cc
+some_part (Show view.Regs) e = cc
+some_part (Show view.Mail) e = cc
+some_part (Show view.History) e = cc
+some_part other e = cc
+
+printed_is_line : (command : Command) → HasNumbersInRange command → IsLineOf command (printed command)
+printed_is_line command ranges = (cut_again (parts_of command) (some_part command) (parts_are_spaceless (parts_of command) (no_spaces command) ranges), ranges)
+
+line_is_printed : (command : Command) (line : List ℕ) → IsLineOf command line → line ≡ printed command
+line_is_printed command line is = sym (join_with_byte-slice_split 32 line) ∙ ap (join_with_byte 32) is.0
+
+pub one_line : EachCommandHasOneLine
+one_line command line = (λ is. (is.1, line_is_printed command line is), λ both. subst (λ (l : List ℕ). IsLineOf command l) (sym both.1) (printed_is_line command both.0))

@@ -1,0 +1,40 @@
+-- The script grammar: which line is which command.
+use Rattle.std.specs.Prelude.{◌≡◌, ℕ, ◌≤◌, List, ◌++◌, map, codes, decimal, nat_eq}
+use Rattle.std.specs.List.{AllByRecursion, join_with_byte, slice_split}
+use Rattle.cdb_base.specs.declared.register.Reg.TheVariants.{R, Dec}
+use Rattle.cdb_control.specs.declared.command.Command.{Command}
+use Rattle.cdb_text.specs.Commands.{Part, fixed, number, register, parts_of}
+
+-- a line is cut at every space
+abbrev pub words_of : List ℕ → List (List ℕ)
+words_of line = slice_split (λ byte. nat_eq byte 32) line
+
+-- how a part is written: numbers in decimal, registers as `r1` to `r9` and `dec`
+abbrev pub written : Part → List ℕ
+written (fixed text) = codes text
+written (number n) = decimal n
+written (register (R p)) = codes "r" ++ decimal p
+written (register Dec) = codes "dec"
+
+-- a number has one to six digits, the first not 0
+abbrev pub IsInRange : Part → Type 0
+IsInRange (fixed text) = Unit {0}
+IsInRange (number n) = (1 ≤ n) × (n ≤ 999999)
+IsInRange (register (R p)) = (1 ≤ p) × (p ≤ 9)
+IsInRange (register Dec) = Unit {0}
+
+-- the numbers of the command are in range
+abbrev pub HasNumbersInRange : Command → Type 0
+HasNumbersInRange command = AllByRecursion IsInRange (parts_of command)
+
+-- the words are those of the command
+abbrev pub AreWordsOf : Command → List (List ℕ) → Type 0
+AreWordsOf command words = (words ≡ map written (parts_of command)) × HasNumbersInRange command
+
+-- the line is that of the command
+abbrev pub IsLineOf : Command → List ℕ → Type 0
+IsLineOf command line = AreWordsOf command (words_of line)
+
+-- the command as it is printed: its words, with one space between each two
+abbrev pub printed : Command → List ℕ
+printed command = join_with_byte 32 (map written (parts_of command))

@@ -1,0 +1,13 @@
+pub mod Commands
+pub mod Events
+pub mod Faults
+pub mod Grammar
+pub mod Keywords
+pub mod Laws
+pub mod Names
+pub mod Reading
+pub mod Refusals
+pub mod Reports
+pub mod Texts
+pub mod Verbs
+pub mod Words

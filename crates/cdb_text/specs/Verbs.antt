@@ -1,0 +1,21 @@
+-- The commands that name an event.
+use Rattle.std.specs.Prelude.{ℕ, List, codes}
+use Rattle.cdb_control.specs.declared.command.Command.{Command}
+use Rattle.cdb_control.specs.declared.command.Command.TheVariants as command
+use Rattle.cdb_text.specs.declared.verb.Verb.{Verb}
+use Rattle.cdb_text.specs.declared.verb.Verb.TheVariants.{Undo, Rollback, Why}
+
+abbrev pub verb_name : Verb → List ℕ
+verb_name Undo = codes "undo"
+verb_name Rollback = codes "rollback"
+verb_name Why = codes "why"
+
+abbrev pub on_step : Verb → ℕ → ℕ → Command
+on_step Undo = command.Undo
+on_step Rollback = command.Rollback
+on_step Why = command.Why
+
+abbrev pub on_loss : Verb → ℕ → ℕ → ℕ → Command
+on_loss Undo = command.UndoLost
+on_loss Rollback = command.RollbackLost
+on_loss Why = command.WhyLost

@@ -1,0 +1,109 @@
+//! The fixed words of the grammar.
+
+ghost use Rattle.std.specs.Prelude.{◌≡◌};
+ghost use Rattle.cdb_text.specs.Keywords.{keyword_name};
+
+/// A fixed word.
+#[derive(Clone, Copy, Debug, PartialEq, Eq)]
+pub(crate) enum Keyword {
+    Step,
+    Auto,
+    Lose,
+    Undo,
+    Redo,
+    Forget,
+    Rollback,
+    Why,
+    Break,
+    Unbreak,
+    Resume,
+    Show,
+    Decisions,
+    Go,
+    Learn,
+    Crash,
+    Query,
+    Recv,
+    Decide,
+    Round,
+    Write,
+    Regs,
+    Mail,
+    History,
+    Lost,
+}
+
+impl Keyword {
+    ghost use Rattle.cdb_text.specs.Reading.{keyword_of};
+
+    pub(crate) const ALL: [Keyword; 25] = [
+        Keyword::Step,
+        Keyword::Auto,
+        Keyword::Lose,
+        Keyword::Undo,
+        Keyword::Redo,
+        Keyword::Forget,
+        Keyword::Rollback,
+        Keyword::Why,
+        Keyword::Break,
+        Keyword::Unbreak,
+        Keyword::Resume,
+        Keyword::Show,
+        Keyword::Decisions,
+        Keyword::Go,
+        Keyword::Learn,
+        Keyword::Crash,
+        Keyword::Query,
+        Keyword::Recv,
+        Keyword::Decide,
+        Keyword::Round,
+        Keyword::Write,
+        Keyword::Regs,
+        Keyword::Mail,
+        Keyword::History,
+        Keyword::Lost,
+    ];
+
+    fn name(self) -> &'static [u8]
+        ensures { result.now ≡ keyword_name self }
+    {
+        match self {
+            Keyword::Step => b"step",
+            Keyword::Auto => b"auto",
+            Keyword::Lose => b"lose",
+            Keyword::Undo => b"undo",
+            Keyword::Redo => b"redo",
+            Keyword::Forget => b"forget",
+            Keyword::Rollback => b"rollback",
+            Keyword::Why => b"why",
+            Keyword::Break => b"break",
+            Keyword::Unbreak => b"unbreak",
+            Keyword::Resume => b"resume",
+            Keyword::Show => b"show",
+            Keyword::Decisions => b"decisions",
+            Keyword::Go => b"go",
+            Keyword::Learn => b"learn",
+            Keyword::Crash => b"crash",
+            Keyword::Query => b"query",
+            Keyword::Recv => b"recv",
+            Keyword::Decide => b"decide",
+            Keyword::Round => b"round",
+            Keyword::Write => b"write",
+            Keyword::Regs => b"regs",
+            Keyword::Mail => b"mail",
+            Keyword::History => b"history",
+            Keyword::Lost => b"lost",
+        }
+    }
+
+    /// The fixed word that this is.
+    #[tactic(auto, unfolding(crate::specs::Reading::keyword_of))]
+    pub(crate) fn of(word: &[u8]) -> Option<Keyword>
+        ensures { result ≡ keyword_of word.now }
+    {
+        Keyword::ALL
+            .iter()
+            .copied()
+            .find(|keyword| word == keyword.name())
+    }
+}

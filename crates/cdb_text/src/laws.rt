@@ -1,0 +1,9 @@
+//! Laws of the grammar.
+
+ghost use Rattle.cdb_text.specs.Laws.{EachCommandHasOneLine};
+
+/// Each command whose numbers are in range has exactly one line, the printed one, and any other command has
+/// none. So `parse_line` gives a printed command back, and takes no other line for it.
+pub fn each_command_has_one_line()
+    ensures { EachCommandHasOneLine }
+{}

@@ -1,0 +1,115 @@
+//! The texts of replies.
+
+ghost use Rattle.std.specs.Prelude.{◌≡◌, ◌++◌, OnOk, IfOk, string_bytes, codes};
+ghost use Rattle.cdb_control.specs.Answer.{told};
+ghost use Rattle.cdb_text.specs.Events.{event_text};
+ghost use Rattle.cdb_text.specs.Names.{name_text};
+ghost use Rattle.cdb_text.specs.Reports.{causes_text};
+ghost use Rattle.cdb_text.specs.Texts.{decides_text, break_text, text_of};
+
+mod event;
+mod name;
+mod refusal;
+mod report;
+
+use cdb_base::{Event, NoMemory, StepId, Val};
+use cdb_control::Reply;
+use event::push_event;
+use name::push_name;
+use refusal::push_refusal;
+use report::{push_causes, push_decisions, push_history, push_mail, push_process, push_registers};
+use std::alloc::{AllocError, Global};
+
+fn push_decides(text: &mut String, decides: Option<Val>) -> Result<(), AllocError>
+    ensures { OnOk result (string_bytes text.new ≡ string_bytes text.old ++ decides_text decides) }
+{
+    match decides {
+        Some(value) => {
+            let number = value.number();
+            write!(text, " decides {number}")
+        }
+        None => Ok(()),
+    }
+}
+
+fn push_break(text: &mut String, paused: Option<u32>) -> Result<(), AllocError>
+    ensures { OnOk result (string_bytes text.new ≡ string_bytes text.old ++ break_text paused) }
+{
+    match paused {
+        Some(number) => write!(text, " break {number}"),
+        None => Ok(()),
+    }
+}
+
+/// An event that was taken, the decision that it gave, and the end of the line.
+fn push_taken(text: &mut String, event: &Event, decides: Option<Val>) -> Result<(), AllocError>
+    ensures { OnOk result (string_bytes text.new ≡ string_bytes text.old ++ event_text event.now ++ decides_text decides) }
+{
+    push_event(text, event)?;
+    push_decides(text, decides)
+}
+
+/// An event and its direct causes.
+fn push_because(text: &mut String, name: StepId, causes: &[StepId]) -> Result<(), AllocError>
+    ensures { OnOk result (string_bytes text.new ≡ string_bytes text.old ++ name_text name ++ codes " because" ++ causes_text causes.now) }
+{
+    push_name(text, name)?;
+    text.push_str(" because")?;
+    push_causes(text, causes)
+}
+
+fn push_reply(text: &mut String, reply: &Reply) -> Result<(), AllocError>
+    ensures { OnOk result (string_bytes text.new ≡ string_bytes text.old ++ text_of (told reply.now)) }
+{
+    match reply {
+        Reply::Stepped {
+            event,
+            decides,
+            paused,
+        } => {
+            push_taken(text, event, *decides)?;
+            push_break(text, *paused)?;
+            text.push_str("\n")
+        }
+        Reply::Undone(event) => {
+            text.push_str("undone ")?;
+            push_event(text, event)?;
+            text.push_str("\n")
+        }
+        Reply::Redone { event, decides } => {
+            text.push_str("redone ")?;
+            push_taken(text, event, *decides)?;
+            text.push_str("\n")
+        }
+        Reply::RolledBack(count) => writeln!(text, "rolled back {count}"),
+        Reply::Because(name, causes) => {
+            push_because(text, *name, causes.as_slice())?;
+            text.push_str("\n")
+        }
+        Reply::BreakSet(number) => writeln!(text, "break {number}"),
+        Reply::BreakGone(number) => writeln!(text, "unbreak {number}"),
+        Reply::Resumed => text.push_str("resumed\n"),
+        Reply::Forgot(count) => writeln!(text, "forgot {count}"),
+        Reply::Proc(view) => push_process(text, view),
+        Reply::Regs(cells) => push_registers(text, cells.as_slice()),
+        Reply::Mail(copies) => push_mail(text, copies.as_slice()),
+        Reply::History(events) => push_history(text, events.as_slice()),
+        Reply::Decisions(decisions) => push_decisions(text, decisions.as_slice()),
+        Reply::Refused(refusal) => {
+            push_refusal(text, refusal)?;
+            text.push_str("\n")
+        }
+    }
+}
+
+/// The text of a reply: its lines, each ended by byte 10. Only want of memory is an error.
+pub fn reply_text(alloc: Global, reply: &Reply) -> Result<Vec<u8>, NoMemory>
+    ensures { IfOk result (λ bytes. bytes.items ≡ text_of (told reply.now)) }
+{
+    let mut text = String::new(alloc);
+    push_reply(&mut text, reply)?;
+    Ok(text.into_bytes())
+}
+
+#[cfg(test)]
+mod tests;

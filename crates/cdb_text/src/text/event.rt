@@ -1,0 +1,52 @@
+//! The texts of events.
+
+ghost use Rattle.std.specs.Prelude.{◌≡◌, ◌++◌, OnOk, string_bytes};
+ghost use Rattle.cdb_text.specs.Events.{kind_text, event_text};
+
+use super::name::{push_loss, push_message, push_register, push_step};
+use cdb_base::{Event, Kind, MsgName, Proc};
+use std::alloc::AllocError;
+
+fn push_kind(text: &mut String, p: Proc, kind: Kind) -> Result<(), AllocError>
+    ensures { OnOk result (string_bytes text.new ≡ string_bytes text.old ++ kind_text p kind) }
+{
+    match kind {
+        Kind::Query(leader) => {
+            let number = leader.number();
+            write!(text, "query {number}")
+        }
+        Kind::Send(m) => {
+            text.push_str("send ")?;
+            push_message(text, MsgName { s: p, m })
+        }
+        Kind::Recv(s, m) => {
+            text.push_str("recv ")?;
+            push_message(text, MsgName { s, m })
+        }
+        Kind::Read(register) => {
+            text.push_str("read ")?;
+            push_register(text, register)
+        }
+        Kind::Write(register) => {
+            text.push_str("write ")?;
+            push_register(text, register)
+        }
+        Kind::Local => text.push_str("local"),
+        Kind::Learn => text.push_str("learn"),
+        Kind::Crash => text.push_str("crash"),
+    }
+}
+
+pub(super) fn push_event(text: &mut String, event: &Event) -> Result<(), AllocError>
+    ensures { OnOk result (string_bytes text.new ≡ string_bytes text.old ++ event_text event.now) }
+{
+    match *event {
+        Event::Step { p, k, kind } => {
+            let doer = p;
+            push_step(text, p, k)?;
+            text.push_str(" ")?;
+            push_kind(text, doer, kind)
+        }
+        Event::Lost(copy) => push_loss(text, copy),
+    }
+}

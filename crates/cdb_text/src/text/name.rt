@@ -1,0 +1,52 @@
+//! The texts of names.
+
+ghost use Rattle.std.specs.Prelude.{◌≡◌, ◌++◌, OnOk, string_bytes};
+ghost use Rattle.cdb_text.specs.Names.{step_text, message_text, loss_text, name_text, register_text};
+
+use cdb_base::{CopyName, MsgName, Proc, Reg, StepId, StepName};
+use std::alloc::AllocError;
+
+pub(super) fn push_step(text: &mut String, p: Proc, k: u16) -> Result<(), AllocError>
+    ensures { OnOk result (string_bytes text.new ≡ string_bytes text.old ++ step_text p k) }
+{
+    let p = p.number();
+    write!(text, "{p}.{k}")
+}
+
+pub(super) fn push_message(text: &mut String, name: MsgName) -> Result<(), AllocError>
+    ensures { OnOk result (string_bytes text.new ≡ string_bytes text.old ++ message_text name.s name.m) }
+{
+    let s = name.s.number();
+    let m = name.m;
+    write!(text, "{s}#{m}")
+}
+
+pub(super) fn push_loss(text: &mut String, copy: CopyName) -> Result<(), AllocError>
+    ensures { OnOk result (string_bytes text.new ≡ string_bytes text.old ++ loss_text copy) }
+{
+    text.push_str("lost ")?;
+    push_message(text, copy.msg)?;
+    let to = copy.to.number();
+    write!(text, " to {to}")
+}
+
+pub(super) fn push_name(text: &mut String, name: StepId) -> Result<(), AllocError>
+    ensures { OnOk result (string_bytes text.new ≡ string_bytes text.old ++ name_text name) }
+{
+    match name {
+        StepId::Step(StepName { p, k }) => push_step(text, p, k),
+        StepId::Lost(copy) => push_loss(text, copy),
+    }
+}
+
+pub(super) fn push_register(text: &mut String, register: Reg) -> Result<(), AllocError>
+    ensures { OnOk result (string_bytes text.new ≡ string_bytes text.old ++ register_text register) }
+{
+    match register {
+        Reg::R(p) => {
+            let number = p.number();
+            write!(text, "r{number}")
+        }
+        Reg::Dec => text.push_str("dec"),
+    }
+}

@@ -1,0 +1,218 @@
+//! The texts of what is shown: processes, registers, mail, history and decisions.
+
+ghost use Rattle.std.specs.Prelude.{◌≡◌, ◌++◌, OnOk, string_bytes};
+ghost use Rattle.std.specs.List.{flat_map};
+ghost use Rattle.cdb_text.specs.Reports.{value_text, payload_text, machine_letter, life_word, process_text, cause_text, causes_text, event_line, history_text, copy_line, mail_text, decision_text, decisions_text, register_line, decision_line, registers_from, registers_text};
+
+use super::event::push_event;
+use super::name::{push_message, push_name};
+use cdb_base::{Cell, Event, MsgName, Payload, Proc, StepId, Val};
+use cdb_control::ProcView;
+use std::alloc::AllocError;
+
+fn push_value(text: &mut String, value: Option<Val>) -> Result<(), AllocError>
+    ensures { OnOk result (string_bytes text.new ≡ string_bytes text.old ++ value_text value) }
+{
+    match value {
+        Some(value) => {
+            let number = value.number();
+            write!(text, "{number}")
+        }
+        None => text.push_str("none"),
+    }
+}
+
+fn push_payload(text: &mut String, payload: &Payload) -> Result<(), AllocError>
+    ensures { OnOk result (string_bytes text.new ≡ string_bytes text.old ++ payload_text payload.now) }
+{
+    match *payload {
+        Payload::P1 { round, est, lead } => {
+            let est = est.number();
+            let lead = lead.number();
+            write!(text, "p1 {round} {est} {lead}")
+        }
+        Payload::P2 { round, aux } => {
+            write!(text, "p2 {round} ")?;
+            push_value(text, aux)
+        }
+        Payload::D { est } => {
+            let est = est.number();
+            write!(text, "d {est}")
+        }
+    }
+}
+
+/// The letter of the machine.
+fn machine_letter(alpha: bool) -> &'static str
+    ensures { result.now ≡ machine_letter alpha }
+{
+    if alpha { "A" } else { "L" }
+}
+
+/// Tells whether the process is alive.
+fn life_word(alive: bool) -> &'static str
+    ensures { result.now ≡ life_word alive }
+{
+    if alive { "alive" } else { "crashed" }
+}
+
+pub(super) fn push_process(text: &mut String, view: &ProcView) -> Result<(), AllocError>
+    ensures { OnOk result (string_bytes text.new ≡ string_bytes text.old ++ process_text view.now) }
+{
+    let p = view.p.number();
+    let letter = machine_letter(view.alpha);
+    let place = view.place;
+    let round = view.round;
+    write!(text, "process {p} {letter}{place} round {round} ")?;
+    let life = life_word(view.alive);
+    let steps = view.steps;
+    let queries = view.queries;
+    write!(text, "{life} steps {steps} queries {queries} decision ")?;
+    push_value(text, view.decision)?;
+    text.push_str("\n")
+}
+
+/// Each cause after a space.
+fn push_each_cause(text: &mut String, causes: &[StepId]) -> Result<(), AllocError>
+    ensures { OnOk result (string_bytes text.new ≡ string_bytes text.old ++ flat_map cause_text causes.now) }
+{
+    for name in causes {
+        text.push_str(" ")?;
+        push_name(text, *name)?;
+    }
+    Ok(())
+}
+
+pub(super) fn push_causes(text: &mut String, causes: &[StepId]) -> Result<(), AllocError>
+    ensures { OnOk result (string_bytes text.new ≡ string_bytes text.old ++ causes_text causes.now) }
+{
+    if causes.is_empty() {
+        return text.push_str(" none");
+    }
+    push_each_cause(text, causes)
+}
+
+/// Each event in a line.
+fn push_each_event(text: &mut String, events: &[Event]) -> Result<(), AllocError>
+    ensures { OnOk result (string_bytes text.new ≡ string_bytes text.old ++ flat_map event_line events.now) }
+{
+    for event in events {
+        push_event(text, event)?;
+        text.push_str("\n")?;
+    }
+    Ok(())
+}
+
+pub(super) fn push_history(text: &mut String, events: &[Event]) -> Result<(), AllocError>
+    ensures { OnOk result (string_bytes text.new ≡ string_bytes text.old ++ history_text events.now) }
+{
+    if events.is_empty() {
+        return text.push_str("no steps\n");
+    }
+    push_each_event(text, events)
+}
+
+/// Each copy of a message in a line.
+fn push_each_copy(text: &mut String, copies: &[(Proc, MsgName, Payload)]) -> Result<(), AllocError>
+    ensures { OnOk result (string_bytes text.new ≡ string_bytes text.old ++ flat_map copy_line copies.now) }
+{
+    for (receiver, name, payload) in copies {
+        push_copy(text, *receiver, *name, payload)?;
+    }
+    Ok(())
+}
+
+fn push_copy(
+    text: &mut String,
+    receiver: Proc,
+    name: MsgName,
+    payload: &Payload,
+) -> Result<(), AllocError>
+    ensures { OnOk result (string_bytes text.new
+        ≡ string_bytes text.old ++ copy_line (receiver, name, payload.now)) }
+{
+    let receiver = receiver.number();
+    write!(text, "to {receiver} ")?;
+    push_message(text, name)?;
+    text.push_str(" ")?;
+    push_payload(text, payload)?;
+    text.push_str("\n")
+}
+
+pub(super) fn push_mail(
+    text: &mut String,
+    copies: &[(Proc, MsgName, Payload)],
+) -> Result<(), AllocError>
+    ensures { OnOk result (string_bytes text.new ≡ string_bytes text.old ++ mail_text copies.now) }
+{
+    if copies.is_empty() {
+        return text.push_str("no mail\n");
+    }
+    push_each_copy(text, copies)
+}
+
+/// Each decision after a space.
+fn push_each_decision(text: &mut String, decisions: &[(Proc, Val)]) -> Result<(), AllocError>
+    ensures { OnOk result (string_bytes text.new ≡ string_bytes text.old ++ flat_map decision_text decisions.now) }
+{
+    for (p, value) in decisions {
+        let p = p.number();
+        let value = value.number();
+        write!(text, " {p}={value}")?;
+    }
+    Ok(())
+}
+
+pub(super) fn push_decisions(text: &mut String, decisions: &[(Proc, Val)]) -> Result<(), AllocError>
+    ensures { OnOk result (string_bytes text.new ≡ string_bytes text.old ++ decisions_text decisions.now) }
+{
+    if decisions.is_empty() {
+        return text.push_str("decisions none\n");
+    }
+    text.push_str("decisions")?;
+    push_each_decision(text, decisions)?;
+    text.push_str("\n")
+}
+
+/// The register with this number and what it holds.
+fn push_register_line(text: &mut String, number: usize, cell: &Cell) -> Result<(), AllocError>
+    ensures { OnOk result (string_bytes text.new ≡ string_bytes text.old ++ register_line number cell.now) }
+{
+    let lre = cell.lre;
+    let lrww = cell.lrww;
+    write!(text, "r{number} lre {lre} lrww {lrww} val ")?;
+    push_value(text, cell.val)?;
+    text.push_str("\n")
+}
+
+/// The cell of the decision.
+fn push_decision_line(text: &mut String, cell: &Cell) -> Result<(), AllocError>
+    ensures { OnOk result (string_bytes text.new ≡ string_bytes text.old ++ decision_line cell.now) }
+{
+    text.push_str("dec ")?;
+    push_value(text, cell.val)?;
+    text.push_str("\n")
+}
+
+/// The registers of the processes, and then that of the decision.
+fn push_each_register(text: &mut String, cells: &[Cell]) -> Result<(), AllocError>
+    ensures { OnOk result (string_bytes text.new ≡ string_bytes text.old ++ registers_from 1 cells.now) }
+{
+    for (place, cell) in cells.iter().enumerate() {
+        if place + 1 < cells.len() {
+            push_register_line(text, place + 1, cell)?;
+        } else {
+            push_decision_line(text, cell)?;
+        }
+    }
+    Ok(())
+}
+
+pub(super) fn push_registers(text: &mut String, cells: &[Cell]) -> Result<(), AllocError>
+    ensures { OnOk result (string_bytes text.new ≡ string_bytes text.old ++ registers_text cells.now) }
+{
+    if cells.is_empty() {
+        return text.push_str("no registers\n");
+    }
+    push_each_register(text, cells)
+}
