@@ -1,0 +1,11 @@
+use cdb_base::{Cell, Event};
+
+/// A standing event with what it takes to take it back. `B` is what an input leaves of its machine.
+#[derive(Drop)]
+pub struct Entry<B: Drop> {
+    pub event: Event,
+    /// What the step consumed or overwrote in its machine; none for a crash and for the loss of a copy.
+    pub back: Option<B>,
+    /// The cell that a write overwrote.
+    pub overwritten: Option<Cell>,
+}

@@ -1,0 +1,103 @@
+-- Recorded events that do not depend on each other may be exchanged with the records that they have, so that a free one
+-- may be taken last.
+use Rattle.std.proofs.Common.{◌≡◌, ℕ, zero, suc, Bool, false, List, [], ◌∷◌, Option, Some, slice_get, option_map, refl, sym, ap, ◌∙◌}
+use Rattle.std.proofs.lemmas.Option.{none-some}
+use Rattle.cdb_base.specs.Places.{nth}
+use Rattle.cdb_base.specs.declared.event.Event.{Event}
+use Rattle.cdb_base.specs.declared.event.Event.TheVariants.{Step, Lost}
+use Rattle.cdb_base.specs.declared.event.Kind.{Kind}
+use Rattle.cdb_base.specs.declared.event.Kind.TheVariants.{Write}
+use Rattle.cdb_causal.specs.Causality.{IsFree}
+use Rattle.cdb_causal.specs.Dependence.{kind_affects, depends}
+use Rattle.cdb_causal.specs.Paths.{IsPath, IsExchangeable}
+use Rattle.cdb_causal.specs.Rollback.{without}
+use Rattle.cdb_causal.proofs.Paths.{free_last}
+use Rattle.cdb_causal.proofs.Reaches.{two_parts, two_taken}
+use Rattle.cdb_causal.proofs.Symmetry.{depends-symmetric, other_process, unaffected}
+use Rattle.cdb_record.specs.Entries.{events_of}
+use Rattle.cdb_record.specs.declared.entry.Entry.{Entry}
+use Rattle.cdb_register.specs.declared.RegisterState.{RegisterState}
+use Rattle.cdb_run.specs.Back.{overwritten_cell}
+use Rattle.cdb_run.specs.Recorded.{IsRecorded, LeadsBack, overwritten_by}
+use Rattle.cdb_run.specs.State.{Machine, RunState}
+use Rattle.cdb_run.specs.Step.{after}
+use Rattle.cdb_run.proofs.Commutes.{after_commutes, lost_from}
+use Rattle.cdb_run.proofs.Kept.{nat_eq-ne, affects_read, process_kept, register_kept}
+use Rattle.cdb_run.proofs.Taken.{IsTaken, taken_from}
+
+abbrev pub entries_depend : {B : Type 0} → Entry B → Entry B → Bool
+entries_depend first second = depends first.event second.event
+
+module _ {L : Type 0} (machine : Machine L) where
+  -- what an event leaves of what the record of another one speaks of: its process, and the cell that it writes
+
+  abbrev IsAlike : RunState L → RunState L → Event → Type 0
+  IsAlike state to (Step q l kind) = (nth to.processes q ≡ nth state.processes q) × (overwritten_cell to.registers kind ≡ overwritten_cell state.registers kind)
+  IsAlike state to (Lost copy) = Unit {0}
+
+  cell_kept : (state to : RunState L) (p k : ℕ) (kind : Kind) → IsTaken machine state p k kind to → (other : Kind) → kind_affects p kind other ≡ false → overwritten_cell to.registers other ≡ overwritten_cell state.registers other
+  cell_kept state to p k kind t (Write x) h = ap (option_map (λ (stands : RegisterState). stands.cell)) (register_kept machine state to p k kind t x (affects_read p kind x ∙ h))
+  cell_kept state to p k kind t _ h = refl
+
+  alike : (state to : RunState L) (first second : Event) → depends first second ≡ false → after machine state first ≡ Some to → IsAlike state to second
+  alike state to (Step p k kind) (Step q l other) h one =
+      let t = taken_from machine state to p k kind one in (
+        process_kept machine state to p k kind t q (nat_eq-ne p q (other_process (Step p k kind) (Step q l other) h)),
+        cell_kept state to p k kind t other (unaffected (Step p k kind) (Step q l other) h),
+      )
+  alike state to (Lost copy) (Step q l other) h one =
+      let is = (lost_from machine state to copy one).1 in
+      (ap (λ (x : RunState L). nth x.processes q) (sym is), ap (λ (x : RunState L). overwritten_cell x.registers other) (sym is))
+  alike state to first (Lost copy) h one = tt
+
+  module _ {B : Type 0} (before : L → B → L) where
+    module _ (state to other_state other_to : RunState L) where
+      back_kept : (event : Event) (back : Option B) → IsAlike other_state state event → IsAlike other_to to event → LeadsBack before state event back to → LeadsBack before other_state event back other_to
+      back_kept (Step p k kind) back was is h = λ process left at at_left. h process left (was.0 ∙ at) (is.0 ∙ at_left)
+      back_kept (Lost copy) back was is h = h
+
+      overwritten_kept : (event : Event) → IsAlike other_state state event → overwritten_by state event ≡ overwritten_by other_state event
+      overwritten_kept (Step p k kind) was = was.1
+      overwritten_kept (Lost copy) was = refl
+
+      recorded_kept : (entry : Entry B) → IsAlike other_state state entry.event → IsAlike other_to to entry.event → after machine other_state entry.event ≡ Some other_to → IsRecorded machine before state entry to → IsRecorded machine before other_state entry other_to
+      recorded_kept entry was is leads recorded =
+          record {
+            leads = leads;
+            back = back_kept entry.event entry.back was is recorded.back;
+            cell = recorded.cell ∙ overwritten_kept entry.event was;
+          }
+
+    flipped : (state to : RunState L) (event : Event) → IsAlike state to event → IsAlike to state event
+    flipped state to (Step q l kind) h = (sym h.0, sym h.1)
+    flipped state to (Lost copy) h = tt
+
+    -- each meets what it met, so that its record is the same
+    pub recorded_exchange : IsExchangeable (IsRecorded machine before) entries_depend
+    recorded_exchange state between to first second independent one two =
+        let turned = sym (depends-symmetric first.event second.event) ∙ independent in
+        let both = two_taken (after machine) depends depends-symmetric state between to first.event second.event one.leads two.leads in
+        let swapped = two_parts (after machine) depends depends-symmetric first.event to (after machine state second.event) (sym (after_commutes machine state first.event second.event independent) ∙ both) in
+        let other = swapped.0 in (
+          other,
+          recorded_kept between to state other second (alike state between first.event second.event independent one.leads) (alike other to first.event second.event independent swapped.2) swapped.1 two,
+          recorded_kept state between other to first
+              (flipped state other first.event (alike state other second.event first.event turned swapped.1))
+              (flipped between to first.event (alike between to second.event first.event turned two.leads))
+              swapped.2 one,
+        )
+
+    pub get-events : (entries : List (Entry B)) (i : ℕ) (entry : Entry B) → slice_get entries i ≡ Some entry → slice_get (events_of entries) i ≡ Some entry.event
+    get-events [] i entry at = absurd (none-some entry at)
+    get-events (x ∷ xs) zero entry at = ap (option_map (λ (e : Entry B). e.event)) at
+    get-events (x ∷ xs) (suc i) entry at = get-events xs i entry at
+
+    -- an event that is free in the history is free among the recorded events
+    free_recorded : (entries : List (Entry B)) (i : ℕ) → IsFree depends (events_of entries) i → IsFree entries_depend entries i
+    free_recorded entries i free j l =
+        free j (record { cause = l.cause.event; effect = l.effect.event; later = l.later; at_cause = get-events entries i l.cause l.at_cause; at_effect = get-events entries j l.effect l.at_effect; linked = l.linked })
+
+    -- the others lead to a state from which the free one, with its record, leads to the state that was reached
+    pub free_recorded_last : (state to : RunState L) (entries : List (Entry B)) (i : ℕ) (entry : Entry B) → slice_get entries i ≡ Some entry → IsFree depends (events_of entries) i → IsPath (IsRecorded machine before) state entries to → (last : RunState L) × IsPath (IsRecorded machine before) state (without entries i) last × IsRecorded machine before last entry to
+    free_recorded_last state to entries i entry at free led =
+        free_last (IsRecorded machine before) entries_depend recorded_exchange state to entries i entry at (free_recorded entries i free) led

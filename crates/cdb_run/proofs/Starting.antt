@@ -1,0 +1,68 @@
+-- What is held of a run in which nothing has happened.
+use Rattle.std.proofs.Common.{◌≡◌, ℕ, zero, suc, ◌+◌, List, [], ◌∷◌, ◌++◌, length, map, replicate, drop, Some, slice_get, if◌then◌else◌, refl, sym, ap, ap₂, ◌∙◌, subst, add-one, append_assoc}
+use Rattle.std.proofs.lemmas.Option.{none-some, same_Some}
+use Rattle.std.specs.FinSet as set
+use Rattle.cdb_base.specs.Places.{nth}
+use Rattle.cdb_base.specs.declared.event.Event.{Event}
+use Rattle.cdb_causal.specs.Paths.{IsPath}
+use Rattle.cdb_message.specs.Mail.{MailState, first_mail}
+use Rattle.cdb_record.specs.Entries.{events_of}
+use Rattle.cdb_record.specs.declared.entry.Entry.{Entry}
+use Rattle.cdb_register.specs.Registers.{RegisterStates, fresh_registers}
+use Rattle.cdb_run.specs.Current.{IsCurrent}
+use Rattle.cdb_run.specs.Machines.{first_states}
+use Rattle.cdb_run.specs.Recorded.{IsRecorded}
+use Rattle.cdb_run.specs.State.{Machine, start, fresh_process, fresh_progress}
+use Rattle.cdb_run.specs.declared.progress.Progress.{Progress}
+
+pub length-first_states : {L : Type 0} (first : ℕ → ℕ → ℕ → ℕ → L) (p n q : ℕ) (values : List ℕ) → length (first_states first p n q values) ≡ length values
+length-first_states first p n q [] = refl
+length-first_states first p n q (value ∷ values) = ap suc (length-first_states first (suc p) n q values)
+
+drop_at : (xs : List ℕ) (i value : ℕ) → slice_get xs i ≡ Some value → drop i xs ≡ value ∷ drop (suc i) xs
+drop_at [] i value at = absurd (none-some value at)
+drop_at (x ∷ xs) zero value at = ap (λ y. y ∷ xs) (same_Some x value at)
+drop_at (x ∷ xs) (suc i) value at = drop_at xs i value at
+
+-- one process more is made
+pub first_added : {L : Type 0} (first : ℕ → ℕ → ℕ → ℕ → L) (n q i p value : ℕ) (values : List ℕ) (local : L) (made more whole : List (Progress L))
+    → p ≡ i + 1 → nth values p ≡ Some value → local ≡ first p n q value → more ≡ made ++ fresh_progress local ∷ []
+    → made ++ map fresh_progress (first_states first (i + 1) n q (drop i values)) ≡ whole
+    → more ++ map fresh_progress (first_states first (i + 1 + 1) n q (drop (i + 1) values)) ≡ whole
+first_added first n q i p value values local made more whole place at local_is more_is before =
+    let suc_is : p ≡ suc i = place ∙ add-one i in
+    let value_at = subst (λ x. nth values x ≡ Some value) suc_is at in
+    ap₂ (λ l j. l ++ map fresh_progress (first_states first j n q (drop (i + 1) values))) more_is (add-one (i + 1))
+    ∙ append_assoc made (fresh_progress local ∷ []) (map fresh_progress (first_states first (suc (i + 1)) n q (drop (i + 1) values)))
+    ∙ ap (λ x. made ++ fresh_progress x ∷ map fresh_progress (first_states first (suc (i + 1)) n q (drop (i + 1) values))) (local_is ∙ ap (λ x. first x n q value) place)
+    ∙ ap (λ j. made ++ fresh_progress (first (i + 1) n q value) ∷ map fresh_progress (first_states first (suc (i + 1)) n q (drop j values))) (add-one i)
+    ∙ ap (λ l. made ++ map fresh_progress (first_states first (i + 1) n q l)) (sym (drop_at values i value value_at))
+    ∙ before
+
+none_sent : {L : Type 0} (firsts : List L) → replicate (length firsts) [] ≡ map (λ process. process.sent) (map fresh_process firsts)
+none_sent [] = refl
+none_sent (x ∷ xs) = ap (λ l. [] ∷ l) (none_sent xs)
+
+none_received : {L : Type 0} (firsts : List L) → replicate (length firsts) set.empty ≡ map (λ process. process.received) (map fresh_process firsts)
+none_received [] = refl
+none_received (x ∷ xs) = ap (λ l. set.empty ∷ l) (none_received xs)
+
+all_fresh : {L : Type 0} (firsts : List L) → map fresh_progress firsts ≡ map (λ process. process.progress) (map fresh_process firsts)
+all_fresh [] = refl
+all_fresh (x ∷ xs) = ap (λ l. fresh_progress x ∷ l) (all_fresh xs)
+
+pub current_at_start : {L B : Type 0} (machine : Machine L) (before : L → B → L) (n : ℕ) (processes : List (Progress L)) (mail : MailState) (registers : RegisterStates) (history : List Event) (entries : List (Entry B))
+    → length machine.firsts ≡ n → processes ≡ map fresh_progress machine.firsts → mail ≡ first_mail n
+    → registers ≡ fresh_registers (if machine.has_registers then n else 0) → history ≡ [] → entries ≡ []
+    → IsCurrent machine before processes mail registers history entries
+current_at_start machine before n processes mail registers history entries number processes_are mail_is registers_are no_history no_entries =
+    record {
+      state = start machine;
+      led = subst (λ l. IsPath (IsRecorded machine before) (start machine) l (start machine)) (sym no_entries) refl;
+      processes_are = processes_are ∙ all_fresh machine.firsts;
+      mail_is =
+          mail_is ∙ ap first_mail (sym number)
+          ∙ ap₂ (λ s r. let m : MailState = record { sent = s; received = r; lost = set.empty } in m) (none_sent machine.firsts) (none_received machine.firsts);
+      registers_are = registers_are ∙ ap (λ k. fresh_registers (if machine.has_registers then k else 0)) (sym number);
+      history_is = no_history ∙ ap events_of (sym no_entries);
+    }

@@ -1,0 +1,5 @@
+use Rattle.cdb_run.proofs.Naming.{names_differ}
+use Rattle.cdb_run.proofs.laws.names.Goals as goal
+
+pub returns-clause-apart : goal.returns-clause-apart
+returns-clause-apart g c = names_differ

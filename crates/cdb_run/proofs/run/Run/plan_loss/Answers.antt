@@ -1,0 +1,35 @@
+use Rattle.std.proofs.Common.{◌≡◌, length, IfOk, IsSome, ap, ◌∙◌, sym, subst, refl}
+use Rattle.cdb_message.specs.Mail.{message_name}
+use Rattle.cdb_run.specs.Current.{Standing}
+use Rattle.cdb_run.specs.Machines.{machine_of}
+use Rattle.cdb_run.specs.Refusals.{lose_answer}
+use Rattle.cdb_run.specs.Step.{after, state_of}
+use Rattle.cdb_run.proofs.Again.{lose_enabled}
+use Rattle.cdb_run.proofs.Starting.{length-first_states}
+use Rattle.cdb_run.proofs.Views.{loss_shown, receivers_shown}
+use Rattle.cdb_run.proofs.run.Run.plan_loss.Goals as goal
+
+pub plan_loss-requires : goal.plan_loss-requires
+plan_loss-requires g c =
+    let process = g.P.Process in
+    let setup = c.self.inside.setup in
+    let inputs : length setup.inputs ≡ setup.processes = c.n-ranges.ensures.ranges.an_input_each in
+    receivers_shown c.self.invariant ∙ length-first_states process.first 1 setup.processes setup.quorum setup.inputs ∙ inputs
+
+pub returns-clause-answer : goal.returns-clause-answer
+returns-clause-answer g c =
+    let process = g.P.Process in
+    loss_shown c.self.invariant c.self.inside.setup (message_name c.args.s c.args.m) c.args.p c.plan_loss.result c.plan_loss.ensures
+    ∙ ap (λ (s : Standing). let machine = machine_of process.first process.next process.wish process.place process.last_place s.setup in lose_answer s.setup (state_of machine s.history) (message_name c.args.s c.args.m) c.args.p) c.self.view_is
+
+pub returns-clause-enabled : goal.returns-clause-enabled
+returns-clause-enabled g c =
+    let process = g.P.Process in
+    let setup = c.self.inside.setup in
+    let inputs : length setup.inputs ≡ setup.processes = c.n-ranges.ensures.ranges.an_input_each in
+    let number = length-first_states process.first 1 setup.processes setup.quorum setup.inputs ∙ inputs in
+    let machine = machine_of process.first process.next process.wish process.place process.last_place setup in
+    subst (λ (s : Standing). let machine = machine_of process.first process.next process.wish process.place process.last_place s.setup in IfOk c.plan_loss.result (λ event. IsSome (after machine (state_of machine s.history) event))) c.self.view_is
+    (subst (λ answer. IfOk answer (λ event. IsSome (after machine (state_of machine c.self.inside.history.items) event)))
+    (sym (loss_shown c.self.invariant setup (message_name c.args.s c.args.m) c.args.p c.plan_loss.result c.plan_loss.ensures))
+    (lose_enabled machine setup number refl (state_of machine c.self.inside.history.items) (message_name c.args.s c.args.m) c.args.p))

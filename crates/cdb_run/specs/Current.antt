@@ -1,0 +1,28 @@
+-- The one state that a run holds belongs to its standing events.
+use Rattle.std.specs.Prelude.{◌≡◌, List, map}
+use Rattle.cdb_base.specs.declared.event.Event.{Event}
+use Rattle.cdb_causal.specs.Paths.{IsPath}
+use Rattle.cdb_message.specs.Mail.{MailState}
+use Rattle.cdb_record.specs.Entries.{events_of}
+use Rattle.cdb_record.specs.declared.entry.Entry.{Entry}
+use Rattle.cdb_register.specs.Registers.{RegisterStates}
+use Rattle.cdb_run.specs.Mail.{mail_of}
+use Rattle.cdb_run.specs.Recorded.{IsRecorded}
+use Rattle.cdb_run.specs.State.{Machine, RunState, start}
+use Rattle.cdb_run.specs.declared.progress.Progress.{Progress}
+use Rattle.cdb_setup.specs.Parts.{Parts}
+
+-- what a contract sees of a run: its setup, and its standing events in the order in which they were taken
+pub record Standing : Type 0 where
+  pub setup : Parts
+  pub history : List Event
+
+-- The standing events lead, one after another and each with its record, from the start to a state, and what is held
+-- is that state.
+pub record IsCurrent {L B : Type 0} (machine : Machine L) (before : L → B → L) (processes : List (Progress L)) (mail : MailState) (registers : RegisterStates) (history : List Event) (entries : List (Entry B)) : Type 0 where
+  pub state : RunState L
+  pub led : IsPath (IsRecorded machine before) (start machine) entries state
+  pub processes_are : processes ≡ map (λ process. process.progress) state.processes
+  pub mail_is : mail ≡ mail_of state
+  pub registers_are : registers ≡ state.registers
+  pub history_is : history ≡ events_of entries

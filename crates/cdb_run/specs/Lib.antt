@@ -1,0 +1,15 @@
+pub mod State
+pub mod Mail
+pub mod Step
+pub mod Machines
+pub mod Refusals
+pub mod Back
+pub mod Registers
+pub mod Recorded
+pub mod Current
+pub mod Decisions
+pub mod Undo
+pub mod Rules
+pub mod Algorithms
+pub mod Restored
+pub mod Any

@@ -1,0 +1,85 @@
+-- What is taken back, and why it is not.
+use Rattle.std.specs.Prelude.{ℕ, suc, Bool, false, ◌&&◌, ◌==◌, List, [], ◌∷◌, ◌++◌, Option, Some, None, Result, Ok, Err, find, drop, take, filter, map, flat_map, slice_get, if◌then◌else◌}
+use Rattle.std.specs.List.{position}
+use Rattle.cdb_base.specs.Event.{event_name}
+use Rattle.cdb_base.specs.Processes.{all_processes}
+use Rattle.cdb_base.specs.declared.event.Event.{Event}
+use Rattle.cdb_base.specs.declared.event.Event.TheVariants.{Step, Lost}
+use Rattle.cdb_base.specs.declared.name.StepId.{StepId}
+use Rattle.cdb_base.specs.declared.name.StepId.TheVariants as named
+use Rattle.cdb_base.specs.declared.refusal.Refusal.{Refusal}
+use Rattle.cdb_base.specs.declared.refusal.Refusal.TheVariants as refusal
+use Rattle.cdb_causal.specs.Dependence.{depends}
+use Rattle.cdb_causal.specs.DirectDependents.{is_direct}
+use Rattle.cdb_causal.specs.Rollback.{without, rolled_back, remaining}
+use Rattle.cdb_run.specs.Step.{is_among}
+
+-- whether the event has the name
+abbrev pub has_name : StepId → Event → Bool
+has_name (named.Step name) (Step p k kind) = (p == name.p) && (k == name.k)
+has_name (named.Lost copy) (Lost other) = (other.msg.s == copy.msg.s) && (other.msg.m == copy.msg.m) && (other.to == copy.to)
+has_name name event = false
+
+-- the processes that the name names are among 1 to n
+abbrev pub names_processes : ℕ → StepId → Bool
+names_processes n (named.Step name) = is_among n name.p
+names_processes n (named.Lost copy) = is_among n copy.msg.s && is_among n copy.to
+
+-- A standing event, where it stands, and what stood before and came later.
+pub record Found : Type 0 where
+  pub event : Event
+  pub place : ℕ
+  pub earlier : List Event
+  pub later : List Event
+
+-- what stands at that place, from 0, if something does
+abbrev pub found_at : List Event → ℕ → Result Found Refusal
+found_at history place = go (slice_get history place)
+  where
+    go : Option Event → Result Found Refusal
+    go None = Err refusal.NoStep
+    go (Some event) = Ok (record { event = event; place = place; earlier = take place history; later = drop (suc place) history })
+
+-- the standing event of that name; the checks are that its processes are there, and that it stands
+abbrev pub standing_of : ℕ → List Event → StepId → Result Found Refusal
+standing_of n history name = if names_processes n name then stands (position (has_name name) history) else Err refusal.NoProcess
+  where
+    stands : Option ℕ → Result Found Refusal
+    stands None = Err refusal.NoStep
+    stands (Some place) = found_at history place
+
+-- the answer for a standing event, or the refusal
+abbrev pub for_standing : {A : Type 0} → Result Found Refusal → (Found → Result A Refusal) → Result A Refusal
+for_standing (Ok found) answer = answer found
+for_standing (Err why) answer = Err why
+
+-- Undo: the event, and the history without it, where no later event depends on it; else the first that does.
+abbrev pub undo_of : ℕ → List Event → StepId → Result (Event × List Event) Refusal
+undo_of n history name = for_standing (standing_of n history name) (λ found. unless_needed found (find (depends found.event) found.later))
+  where
+    unless_needed : Found → Option Event → Result (Event × List Event) Refusal
+    unless_needed found None = Ok (found.event, without history found.place)
+    unless_needed found (Some dependent) = Err (refusal.NeededBy (event_name dependent))
+
+abbrev pub reversed : List Event → List Event
+reversed [] = []
+reversed (event ∷ events) = reversed events ++ event ∷ []
+
+-- Rollback: the event and its consequences, the last first, and the history without them.
+abbrev pub rollback_of : ℕ → List Event → StepId → Result (List Event × List Event) Refusal
+rollback_of n history name =
+    for_standing (standing_of n history name) (λ found. Ok (reversed (rolled_back depends history found.place), remaining depends history found.place))
+
+-- of the events, in their order, those on which the effect depends directly
+abbrev pub direct_among : List Event → Event → List Event
+direct_among [] effect = []
+direct_among (cause ∷ between) effect = if is_direct depends cause between effect then cause ∷ direct_among between effect else direct_among between effect
+
+abbrev pub is_step_of : ℕ → Event → Bool
+is_step_of p (Step q k kind) = q == p
+is_step_of p (Lost copy) = false
+
+-- Why: the names of the direct causes, in order of process. A loss causes nothing.
+abbrev pub causes_of : ℕ → List Event → StepId → Result (List StepId) Refusal
+causes_of n history name =
+    for_standing (standing_of n history name) (λ found. Ok (map event_name (flat_map (λ p. filter (is_step_of p) (direct_among found.earlier found.event)) all_processes)))

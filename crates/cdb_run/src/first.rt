@@ -1,0 +1,33 @@
+//! The processes of a run in which nothing has happened.
+
+ghost use Rattle.std.specs.Prelude.{◌≡◌, map, IfOk};
+ghost use Rattle.cdb_run.specs.Machines.{first_states};
+ghost use Rattle.cdb_run.specs.State.{fresh_progress};
+
+use crate::progress::Progress;
+use cdb_base::{NoMemory, Proc};
+use cdb_process::Process;
+use cdb_setup::Setup;
+use std::alloc::Global;
+
+/// The processes of a setup in their first local states.
+pub(crate) fn first_processes<P: Process>(
+    alloc: Global,
+    setup: &Setup,
+) -> Result<Vec<Progress<P>>, NoMemory>
+    ensures { IfOk result (λ processes. processes.items ≡ map fresh_progress (first_states P.first 1 setup.now.processes setup.now.quorum setup.now.inputs)) }
+{
+    let n = setup.n();
+    let mut processes = Vec::new(alloc);
+    for i in 0..n {
+        let p = Proc::new(i + 1);
+        let local = P::first(alloc, p, n, setup.q(), setup.input(p))?;
+        processes.push(Progress {
+            local,
+            alive: true,
+            steps: 0,
+            queries: 0,
+        })?;
+    }
+    Ok(processes)
+}

@@ -1,0 +1,97 @@
+//! What holds of the histories of any machine. Each function does nothing: its contract is the law.
+
+ghost use Rattle.std.specs.Prelude.{◌≡◌, ℕ, ◌<◌, ◌≤◌, false, List, [], ◌∷◌, ◌++◌, length, Some, slice_get};
+ghost use Rattle.cdb_causal.specs.Causality.{IsFree};
+ghost use Rattle.cdb_causal.specs.Dependence.{depends};
+ghost use Rattle.cdb_causal.specs.Exchange.{IsExchanged, IsIn, IsBefore, IsEachOnce};
+ghost use Rattle.cdb_causal.specs.Names.{IsNamedAt};
+ghost use Rattle.cdb_causal.specs.Paths.{IsPath};
+ghost use Rattle.cdb_causal.specs.Reach.{IsCommuting};
+ghost use Rattle.cdb_causal.specs.Rollback.{without, remaining, rolled_back};
+ghost use Rattle.cdb_causal.specs.Standing.{IsStanding};
+ghost use Rattle.cdb_record.specs.Entries.{events_of};
+ghost use Rattle.cdb_run.specs.Recorded.{IsRecorded};
+ghost use Rattle.cdb_run.specs.State.{Machine, RunState};
+ghost use Rattle.cdb_run.specs.Step.{after, fold, IsEnabled, IsValid, state_of};
+
+use cdb_base::{CopyName, Event, Kind, StepId};
+use cdb_record::Entry;
+
+/// Two events that do not depend on each other may be taken in either order, from every state: both
+/// orders lead to the same state, or in neither order may both be taken.
+#[tactic(auto, using(crate::proofs::Commutes::after_commutes))]
+pub fn independent_events_commute<L>()
+    ensures { (machine : Machine L) → IsCommuting (after machine) depends }
+{}
+
+/// Two neighbours that do not depend on each other may be exchanged: the one history is valid where
+/// the other is, and both reach the same state.
+#[tactic(auto, using(crate::proofs::Histories::fold_exchange))]
+pub fn exchange<L>()
+    ensures { (machine : Machine L) (before rest : List Event) (first second : Event) → depends first second ≡ false → fold machine (before ++ first ∷ second ∷ rest) ≡ fold machine (before ++ second ∷ first ∷ rest) }
+{}
+
+/// Histories that are equal up to exchange reach the same state.
+#[tactic(auto, using(crate::proofs::Histories::fold_exchanged))]
+pub fn exchanged_histories<L>()
+    ensures { (machine : Machine L) (history other : List Event) → IsExchanged depends history other → fold machine history ≡ fold machine other }
+{}
+
+/// A free event may be taken back. What remains is valid, the event is enabled there, and taking it
+/// again leads back to the state that the history reached.
+#[tactic(auto, using(crate::proofs::Histories::undo_valid, crate::proofs::Histories::undo_enabled, crate::proofs::Histories::undo_again))]
+pub fn undo<L>()
+    ensures valid { (machine : Machine L) (history : List Event) (i : ℕ) (event : Event) → slice_get history i ≡ Some event → IsFree depends history i → IsValid machine history → IsValid machine (without history i) }
+    ensures enabled { (machine : Machine L) (history : List Event) (i : ℕ) (event : Event) → slice_get history i ≡ Some event → IsFree depends history i → IsValid machine history → IsEnabled machine (state_of machine (without history i)) event }
+    ensures again { (machine : Machine L) (history : List Event) (i : ℕ) (event : Event) → slice_get history i ≡ Some event → IsFree depends history i → IsValid machine history → after machine (state_of machine (without history i)) event ≡ Some (state_of machine history) }
+{}
+
+/// An event may be taken back with its consequences. What remains is valid, and what was taken back,
+/// taken again in order, leads to the state that the history reached.
+#[tactic(auto, using(crate::proofs::Histories::rollback_valid, crate::proofs::Histories::rollback_redo))]
+pub fn rollback<L>()
+    ensures valid { (machine : Machine L) (history : List Event) (i : ℕ) → IsValid machine history → IsValid machine (remaining depends history i) }
+    ensures again { (machine : Machine L) (history : List Event) (i : ℕ) → fold machine (remaining depends history i ++ rolled_back depends history i) ≡ fold machine history }
+{}
+
+/// An event that was just taken is free, and the history without it is the one before it.
+#[tactic(auto, using(cdb_causal::proofs::Dependents::last_free, cdb_causal::proofs::Dependents::without_push_back))]
+pub fn step_then_undo()
+    ensures free { (history : List Event) (event : Event) → IsFree depends (history ++ event ∷ []) (length history) }
+    ensures history { (history : List Event) (event : Event) → without (history ++ event ∷ []) (length history) ≡ history }
+{}
+
+/// In a valid history each event stands once, the steps of one process stand in the order of their
+/// numbers, and a name names one event.
+#[tactic(auto, using(crate::proofs::Naming::valid_once, crate::proofs::Naming::numbers_rise))]
+pub fn names<L>()
+    ensures once { (machine : Machine L) (history : List Event) → IsValid machine history → IsEachOnce history }
+    ensures rising { (machine : Machine L) (history : List Event) → IsValid machine history → (p k l : ℕ) (kind other : Kind) → IsBefore (Event.Step p k kind) (Event.Step p l other) history → k < l }
+    ensures apart { (machine : Machine L) (history : List Event) → IsValid machine history → (i j : ℕ) (name : StepId) → IsNamedAt history i name → IsNamedAt history j name → i ≡ j }
+{}
+
+/// A valid history of nine processes at most is one that the look-ups over histories ask for.
+#[tactic(auto, using(crate::proofs::Naming::valid_standing))]
+pub fn valid_histories_stand<L>()
+    ensures { (machine : Machine L) (history : List Event) → IsValid machine history → length machine.firsts ≤ 9 → IsStanding history }
+{}
+
+/// In a valid history the loss of a copy stands behind the send of its message, and no receive of
+/// that copy stands anywhere.
+#[tactic(auto, using(crate::proofs::Naming::lost_after_send, crate::proofs::Naming::lost_unreceived))]
+pub fn losses<L>()
+    ensures sent { (machine : Machine L) (history : List Event) → IsValid machine history → (copy : CopyName) → IsIn (Event.Lost copy) history → (k : ℕ) × IsBefore (Event.Step copy.msg.s k (Kind.Send copy.msg.m)) (Event.Lost copy) history }
+    ensures unreceived { (machine : Machine L) (history : List Event) → IsValid machine history → (copy : CopyName) (k : ℕ) → IsIn (Event.Lost copy) history → IsIn (Event.Step copy.to k (Kind.Recv copy.msg.s copy.msg.m)) history → ⊥ }
+{}
+
+/// Histories that reach the same state are equal up to exchange.
+#[tactic(auto, using(crate::proofs::SameState::same_state_exchanged))]
+pub fn same_state_exchanged<L>()
+    ensures { (machine : Machine L) (history other : List Event) (state : RunState L) → fold machine history ≡ Some state → fold machine other ≡ Some state → IsExchanged depends history other }
+{}
+
+/// Recorded events lead to a state. Where one of them is free, the others, each with the record that
+/// it has, lead to a state from which that one, with its record, leads to the end.
+pub fn undo_with_records<L, B>()
+    ensures { (machine : Machine L) (before : L → B → L) (from to : RunState L) (entries : List (Entry B)) (i : ℕ) (entry : Entry B) → slice_get entries i ≡ Some entry → IsFree depends (events_of entries) i → IsPath (IsRecorded machine before) from entries to → (last : RunState L) × IsPath (IsRecorded machine before) from (without entries i) last × IsRecorded machine before last entry to }
+{}

@@ -1,0 +1,16 @@
+//! The run of a machine: its states, its steps, and what stands of it.
+#![tactic(auto)]
+
+mod any;
+mod change;
+mod first;
+pub mod laws;
+mod plan;
+mod progress;
+mod restore;
+mod run;
+
+pub use any::AnyRun;
+pub use cdb_base::Act;
+pub use progress::Progress;
+pub use run::Run;

@@ -1,0 +1,313 @@
+//! Whether a step may be taken, and which event it is.
+
+ghost use Rattle.std.specs.Prelude.{◌≡◌, ◌+◌, ◌≤◌, ◌==◌, nat_le, true, false, not, [], ◌∷◌, None, Some, Ok, Err, length, if◌then◌else◌};
+ghost use Rattle.cdb_message.specs.Mail.{sent_by, is_sent, is_received, is_lost, message_name, copy_name};
+ghost use Rattle.cdb_run.specs.Refusals.{first_refusal, wished_kind, accepts_kind, planned, unless_refused, again_checks, lose_checks};
+ghost use Rattle.cdb_run.specs.Machines.{machine_of};
+
+use crate::progress::Progress;
+use cdb_base::{Act, CopyName, Event, Kind, MsgName, Proc, Refusal};
+use cdb_message::mail::Mail;
+use cdb_process::{Input, Process, Wish, accepts_query, accepts_receive};
+use cdb_register::Registers;
+use cdb_setup::Setup;
+
+/// The kind of step that a wish names, after so many sends.
+fn kind_of_wish(wish: &Wish, sends: u16) -> Kind
+    requires { sends ≤ 9999 }
+    ensures { result ≡ wished_kind sends wish.now }
+{
+    match wish {
+        Wish::Send(_) => Kind::Send(sends + 1),
+        Wish::Read(register) => Kind::Read(*register),
+        Wish::Write(register, _) => Kind::Write(*register),
+        Wish::Local => Kind::Local,
+    }
+}
+
+/// Whether a machine accepts a step of that kind now.
+fn does_accept<P: Process>(local: &P, sends: u16, registers: &Registers, kind: &Kind) -> bool
+    requires { sends ≤ 9999 }
+    ensures { result ≡ accepts_kind P.next local.now sends registers.now kind.now }
+{
+    match kind {
+        Kind::Query(_) => accepts_query(local),
+        Kind::Send(m) => *m == sends + 1 && local.accepts(&Input::Send),
+        Kind::Recv(_, _) => accepts_receive(local),
+        Kind::Read(register) => {
+            registers.has(*register)
+                && local.accepts(&Input::Read(*register, registers.read(*register)))
+        }
+        Kind::Write(register) => {
+            registers.has(*register) && local.accepts(&Input::Write(*register))
+        }
+        Kind::Local => local.accepts(&Input::Local),
+        Kind::Learn => local.accepts(&Input::Learn),
+        Kind::Crash => true,
+    }
+}
+
+/// The next step of process `p`, where it has fewer than 9,999.
+fn next_step<P: Process>(progress: &Progress<P>, p: Proc, kind: Kind) -> Result<Event, Refusal>
+    ensures { result ≡ (if nat_le 9999 progress.now.steps then Err Refusal.StepLimit else Ok (Event.Step p (progress.now.steps + 1) kind)) }
+{
+    if progress.steps >= 9_999 {
+        return Err(Refusal::StepLimit);
+    }
+    let k = progress.steps as u16 + 1;
+    Ok(Event::Step { p, k, kind })
+}
+
+/// What a process does of itself, learns, or that it crashes.
+fn plan_kind<P: Process>(
+    mail: &Mail,
+    registers: &Registers,
+    progress: &Progress<P>,
+    p: Proc,
+    kind: Kind,
+) -> Result<Event, Refusal>
+    ensures { result ≡ (if accepts_kind P.next progress.now.local (length (sent_by mail.now p)) registers.now kind
+        then (if nat_le 9999 progress.now.steps then Err Refusal.StepLimit else Ok (Event.Step p (progress.now.steps + 1) kind))
+        else Err Refusal.NotNow) }
+{
+    let asked = kind;
+    if !does_accept(&progress.local, mail.count_sent(p), registers, &asked) {
+        return Err(Refusal::NotNow);
+    }
+    next_step(progress, p, kind)
+}
+
+/// What process `p` does of itself.
+fn plan_go<P: Process>(
+    setup: &Setup,
+    mail: &Mail,
+    registers: &Registers,
+    progress: &Progress<P>,
+    p: Proc,
+) -> Result<Event, Refusal>
+    requires alive { progress.now.alive ≡ true }
+    requires going { (P.place progress.now.local == P.last_place) ≡ false }
+    ensures { result ≡ planned (machine_of P.first P.next P.wish P.place P.last_place setup.now) setup.now mail.now registers.now progress.now p Act.Go }
+{
+    let Some(wish) = progress.local.wish() else {
+        return Err(Refusal::NotNow);
+    };
+    let kind = kind_of_wish(&wish, mail.count_sent(p));
+    plan_kind(mail, registers, progress, p, kind)
+}
+
+/// Process `p` asks the oracle, for the setup's next answer.
+fn plan_query<P: Process>(
+    setup: &Setup,
+    mail: &Mail,
+    registers: &Registers,
+    progress: &Progress<P>,
+    p: Proc,
+) -> Result<Event, Refusal>
+    requires alive { progress.now.alive ≡ true }
+    requires going { (P.place progress.now.local == P.last_place) ≡ false }
+    requires queries { progress.now.queries ≤ 9999 }
+    ensures { result ≡ planned (machine_of P.first P.next P.wish P.place P.last_place setup.now) setup.now mail.now registers.now progress.now p (Act.Query None) }
+{
+    if !accepts_query(&progress.local) {
+        return Err(Refusal::NotNow);
+    }
+    let Some(leader) = setup.answer(p, progress.queries + 1) else {
+        return Err(Refusal::NoAnswer);
+    };
+    next_step(progress, p, Kind::Query(leader))
+}
+
+/// Process `p` asks the oracle, and is answered that leader.
+fn plan_answer<P: Process>(
+    setup: &Setup,
+    mail: &Mail,
+    registers: &Registers,
+    progress: &Progress<P>,
+    p: Proc,
+    leader: u32,
+) -> Result<Event, Refusal>
+    requires alive { progress.now.alive ≡ true }
+    requires going { (P.place progress.now.local == P.last_place) ≡ false }
+    ensures { result ≡ planned (machine_of P.first P.next P.wish P.place P.last_place setup.now) setup.now mail.now registers.now progress.now p (Act.Query (Some leader)) }
+{
+    if !accepts_query(&progress.local) {
+        return Err(Refusal::NotNow);
+    }
+    if !(1 <= leader && leader <= u32::from(setup.n())) {
+        return Err(Refusal::BadLeader);
+    }
+    next_step(progress, p, Kind::Query(Proc::new(leader as u8)))
+}
+
+/// Process `p` receives the `m`-th message of process `s`.
+fn plan_recv<P: Process>(
+    setup: &Setup,
+    mail: &Mail,
+    registers: &Registers,
+    progress: &Progress<P>,
+    p: Proc,
+    s: u32,
+    m: u32,
+) -> Result<Event, Refusal>
+    requires among { p ≤ length mail.now.received }
+    requires alive { progress.now.alive ≡ true }
+    requires going { (P.place progress.now.local == P.last_place) ≡ false }
+    ensures { result ≡ planned (machine_of P.first P.next P.wish P.place P.last_place setup.now) setup.now mail.now registers.now progress.now p (Act.Recv s m) }
+{
+    if !accepts_receive(&progress.local) {
+        return Err(Refusal::NotNow);
+    }
+    let Some(name) = mail.find(s, m) else {
+        return Err(Refusal::NoMessage);
+    };
+    let asked = name;
+    if mail.has_received(p, asked) {
+        return Err(Refusal::Taken);
+    }
+    let step = next_step(progress, p, Kind::Recv(name.s, name.m))?;
+    if mail.lost(p, name) {
+        return Err(Refusal::Lost);
+    }
+    Ok(step)
+}
+
+/// What a step of process `p` is answered: the first refusal that holds, else the event that the act
+/// names.
+pub(crate) fn plan<P: Process>(
+    setup: &Setup,
+    mail: &Mail,
+    registers: &Registers,
+    progress: &Progress<P>,
+    p: Proc,
+    act: Act,
+) -> Result<Event, Refusal>
+    requires among { p ≤ length mail.now.received }
+    requires queries { progress.now.queries ≤ 9999 }
+    ensures { result ≡ planned (machine_of P.first P.next P.wish P.place P.last_place setup.now) setup.now mail.now registers.now progress.now p act }
+{
+    if !progress.alive {
+        return Err(Refusal::Crashed);
+    }
+    if progress.local.decision().is_some() {
+        return Err(Refusal::Done);
+    }
+    match act {
+        Act::Go => plan_go(setup, mail, registers, progress, p),
+        Act::Learn => plan_kind(mail, registers, progress, p, Kind::Learn),
+        Act::Crash => plan_kind(mail, registers, progress, p, Kind::Crash),
+        Act::Query(None) => plan_query(setup, mail, registers, progress, p),
+        Act::Query(Some(leader)) => plan_answer(setup, mail, registers, progress, p, leader),
+        Act::Recv(s, m) => plan_recv(setup, mail, registers, progress, p, s, m),
+    }
+}
+
+/// Why the copy of a message for process `p` can be neither received nor lost, if it cannot.
+fn refuses_copy(mail: &Mail, p: Proc, name: &MsgName) -> Option<Refusal>
+    requires among { p ≤ length mail.now.received }
+    ensures { result ≡ first_refusal ((not (is_sent mail.now name.now), Refusal.NoMessage) ∷ (is_received mail.now p name.now, Refusal.Taken) ∷ (is_lost mail.now (copy_name name.now p), Refusal.Lost) ∷ []) }
+{
+    if mail.payload(*name).is_none() {
+        return Some(Refusal::NoMessage);
+    }
+    if mail.has_received(p, *name) {
+        return Some(Refusal::Taken);
+    }
+    if mail.lost(p, *name) {
+        return Some(Refusal::Lost);
+    }
+    None
+}
+
+/// What it is answered to lose the copy of the `m`-th message of process `s` for process `p`.
+pub(crate) fn plan_loss(
+    setup: &Setup,
+    mail: &Mail,
+    s: u32,
+    m: u32,
+    p: u32,
+) -> Result<Event, Refusal>
+    requires { length mail.now.received ≡ setup.now.processes }
+    ensures { result ≡ unless_refused (first_refusal (lose_checks setup.now mail.now (message_name s m) p)) (Some (Event.Lost (copy_name (message_name s m) p))) }
+{
+    if setup.version() != 2 {
+        return Err(Refusal::NoLoss);
+    }
+    if !(1 <= p && p <= u32::from(setup.n())) {
+        return Err(Refusal::NoProcess);
+    }
+    let to = Proc::new(p as u8);
+    let Some(msg) = mail.find(s, m) else {
+        return Err(Refusal::NoMessage);
+    };
+    if let Some(refusal) = refuses_copy(mail, to, &msg) {
+        return Err(refusal);
+    }
+    Ok(Event::Lost(CopyName { msg, to }))
+}
+
+/// Why a step that was undone is not taken again, if it is not.
+fn refuses_again<P: Process>(
+    setup: &Setup,
+    mail: &Mail,
+    registers: &Registers,
+    progress: &Progress<P>,
+    p: Proc,
+    k: u16,
+    kind: &Kind,
+) -> Option<Refusal>
+    requires among { p ≤ length mail.now.received }
+    requires steps { progress.now.steps ≤ 9999 }
+    ensures { result ≡ first_refusal (again_checks (machine_of P.first P.next P.wish P.place P.last_place setup.now) mail.now registers.now progress.now p k kind.now) }
+{
+    if u32::from(k) != progress.steps + 1 {
+        return Some(Refusal::Moved);
+    }
+    if !progress.alive {
+        return Some(Refusal::Crashed);
+    }
+    if progress.local.decision().is_some() {
+        return Some(Refusal::Done);
+    }
+    if !does_accept(&progress.local, mail.count_sent(p), registers, kind) {
+        return Some(Refusal::NotNow);
+    }
+    match kind {
+        Kind::Recv(s, m) => refuses_copy(mail, p, &MsgName { s: *s, m: *m }),
+        _ => None,
+    }
+}
+
+/// What it is answered to take the `k`-th step of process `p` again.
+pub(crate) fn plan_again<P: Process>(
+    setup: &Setup,
+    mail: &Mail,
+    registers: &Registers,
+    progress: &Progress<P>,
+    p: Proc,
+    k: u16,
+    kind: &Kind,
+) -> Result<Event, Refusal>
+    requires among { p ≤ length mail.now.received }
+    requires steps { progress.now.steps ≤ 9999 }
+    ensures { result ≡ unless_refused (first_refusal (again_checks (machine_of P.first P.next P.wish P.place P.last_place setup.now) mail.now registers.now progress.now p k kind.now)) (Some (Event.Step p k kind.now)) }
+{
+    match refuses_again(setup, mail, registers, progress, p, k, kind) {
+        Some(refusal) => Err(refusal),
+        None => Ok(Event::Step { p, k, kind: *kind }),
+    }
+}
+
+/// What it is answered to lose a copy for a process of the run again, where copies can be lost.
+pub(crate) fn plan_loss_again(setup: &Setup, mail: &Mail, copy: &CopyName) -> Result<Event, Refusal>
+    requires loses { setup.now.version ≡ 2 }
+    requires among { copy.now.to ≤ setup.now.processes }
+    requires receivers { length mail.now.received ≡ setup.now.processes }
+    ensures { result ≡ unless_refused (first_refusal (lose_checks setup.now mail.now copy.now.msg copy.now.to)) (Some (Event.Lost copy.now)) }
+{
+    let _from_one = copy.to.number();
+    match refuses_copy(mail, copy.to, &copy.msg) {
+        Some(refusal) => Err(refusal),
+        None => Ok(Event::Lost(*copy)),
+    }
+}

@@ -1,0 +1,78 @@
+//! How far a process has come.
+
+ghost use Rattle.std.specs.Prelude.{◌≡◌, ℕ, ◌<◌, ◌≤◌, length, map, Some, IsSome, IfOk, OnErr};
+ghost use Rattle.std.specs.Option.{ForSome};
+ghost use Rattle.cdb_run.specs.Decisions.{decided_from};
+ghost use Rattle.cdb_run.specs.Back.{put_back};
+ghost use Rattle.cdb_run.specs.Step.{taken_local, progress_after};
+
+use cdb_base::{Kind, NoMemory, Proc, Val};
+use cdb_process::{Input, Process};
+use std::alloc::Global;
+
+/// How far a process has come: its local state, whether it is alive, and how many of its steps and of
+/// its queries stand.
+#[derive(Drop)]
+pub struct Progress<L: Drop> {
+    pub local: L,
+    pub alive: bool,
+    pub steps: u32,
+    pub queries: u32,
+}
+
+/// Gives a machine its input, if a step has one. A refused growth changes nothing.
+pub(crate) fn take_input<P: Process>(
+    alloc: Global,
+    local: &mut P,
+    input: Option<Input>,
+) -> Result<Option<P::Back>, NoMemory>
+    requires { ForSome input (λ given. IsSome (P.next local.old given)) }
+    ensures next { IfOk result (λ _. taken_local P.next local.old input ≡ Some local.new) }
+    ensures back { IfOk result (λ back. put_back P.before local.new back ≡ local.old) }
+    ensures unchanged { OnErr result (local.new ≡ local.old) }
+{
+    match input {
+        Some(given) => Ok(Some(local.take(alloc, given)?)),
+        None => Ok(None),
+    }
+}
+
+/// Puts back what an input left.
+pub(crate) fn give_back<P: Process>(local: &mut P, back: Option<P::Back>)
+    ensures { local.new ≡ put_back P.before local.old back }
+{
+    if let Some(back) = back {
+        local.put_back(back);
+    }
+}
+
+/// Counts a step of that kind.
+pub(crate) fn count<P: Process>(progress: &mut Progress<P>, kind: &Kind)
+    requires steps { progress.old.steps < 9999 }
+    requires queries { progress.old.queries ≤ progress.old.steps }
+    ensures { progress.new ≡ progress_after progress.old kind.now progress.old.local }
+{
+    progress.steps += 1;
+    match kind {
+        Kind::Query(_) => progress.queries += 1,
+        Kind::Crash => progress.alive = false,
+        _ => {}
+    }
+}
+
+/// Of processes 1, 2 and so on those that have decided, in order, each with its value.
+pub(crate) fn decided<P: Process>(
+    alloc: Global,
+    processes: &[Progress<P>],
+) -> Result<Vec<(Proc, Val)>, NoMemory>
+    requires { length processes.now ≤ 9 }
+    ensures { IfOk result (λ found. found.items ≡ decided_from P.decision 1 (map (λ progress. progress.local) processes.now)) }
+{
+    let mut found = Vec::new(alloc);
+    for (i, progress) in processes.iter().enumerate() {
+        if let Some(value) = progress.local.decision() {
+            found.push((Proc::new(i as u8 + 1), value))?;
+        }
+    }
+    Ok(found)
+}

@@ -1,0 +1,449 @@
+//! A run, with one current state and a record of each standing event.
+
+ghost use Rattle.std.specs.Prelude.{◌≡◌, ◌<◌, ◌≤◌, ◌↔◌, [], ◌∷◌, ◌++◌, length, false, None, Some, is_some, IsSome, IsOk, IfOk, OnOk, OnErr, IfNone, MatchOption, option_map, vec_len, vec_capacity};
+ghost use Rattle.cdb_base.specs.Places.{nth};
+ghost use Rattle.std.specs.Option.{option_copied};
+ghost use Rattle.cdb_message.specs.Mail.{message_name, next_pending, payload_of, is_lost};
+ghost use Rattle.cdb_register.specs.Registers.{register_of};
+ghost use Rattle.cdb_run.specs.Decisions.{decisions_of};
+ghost use Rattle.cdb_run.specs.Mail.{mail_of};
+ghost use Rattle.cdb_run.specs.Machines.{machine_of};
+ghost use Rattle.cdb_run.specs.Refusals.{refusal_of, step_answer, again_answer, lose_answer, IsOfRun, with_taken};
+ghost use Rattle.cdb_run.specs.Step.{IsEnabled, IsValid, is_among, state_of};
+
+use crate::change::change;
+use crate::first::first_processes;
+use crate::plan::{plan, plan_again, plan_loss, plan_loss_again};
+use crate::progress::{Progress, decided};
+use cdb_base::{
+    Act, Cell, CopyName, Event, Kind, MsgName, NoMemory, Payload, Proc, Refusal, Reg, Val,
+};
+use cdb_message::mail::Mail;
+use cdb_process::Process;
+use cdb_record::Entry;
+use cdb_register::Registers;
+use cdb_setup::{Algorithm, Setup};
+use std::alloc::Global;
+use std::marker::Model;
+
+mod undo;
+
+/// A run. A contract sees its setup and its standing events; the state that it holds is what these
+/// events reach from the start.
+#[derive(Drop)]
+pub struct Run<P: Process> {
+    setup: Setup,
+    processes: Vec<Progress<P>>,
+    mail: Mail,
+    registers: Registers,
+    history: Vec<Event>,
+    entries: Vec<Entry<P::Back>>,
+}
+
+impl<P: Process> Model for Run<P> {
+    ghost use Rattle.cdb_run.specs.Machines.{machine_of};
+    ghost use Rattle.cdb_run.specs.Current.{Standing, IsCurrent};
+
+    ghost Value = { Standing };
+
+    ghost view = { λ run. record { setup = run.setup; history = run.history.items } };
+
+    ghost invariant = { λ run. IsCurrent (machine_of P.first P.next P.wish P.place P.last_place run.setup) P.before run.processes.items run.mail run.registers run.history.items run.entries.items };
+}
+
+/// Makes room for one event more.
+fn reserve(events: &mut Vec<Event>) -> Result<(), NoMemory>
+    ensures same { events.new.items ≡ events.old.items }
+    ensures room { OnOk result (vec_len events.new < vec_capacity events.new) }
+{
+    events.reserve(1)?;
+    Ok(())
+}
+
+/// Adds an event where there is room.
+fn push_reserved(events: &mut Vec<Event>, event: &Event)
+    requires { vec_len events.old < vec_capacity events.old }
+    ensures { events.new.items ≡ events.old.items ++ event.now ∷ [] }
+{
+    // Names the types inside an event, which the check finds in no other part of the function.
+    let _parts: (Option<Kind>, Option<Reg>) = (None, None);
+    events.push_reserved(*event);
+}
+
+/// Adds an entry where there is room.
+fn push_entry<B: Drop>(entries: &mut Vec<Entry<B>>, entry: Entry<B>)
+    requires { vec_len entries.old < vec_capacity entries.old }
+    ensures { entries.new.items ≡ entries.old.items ++ entry ∷ [] }
+{
+    match entries.push(entry) {
+        Ok(()) => {}
+        Err(_) => unreachable!(),
+    }
+}
+
+/// Whether the number is that of one of `n` processes.
+fn is_process(n: u8, p: u32) -> bool
+    ensures { result ≡ is_among n p }
+{
+    1 <= p && p <= u32::from(n)
+}
+
+impl<P: Process> Run<P> {
+    ghost use Rattle.cdb_base.specs.declared.event.Event.{Event};
+
+    /// The run of a setup in which nothing has happened. After `NoMemory` the setup is given up.
+    pub fn start(alloc: Global, setup: Setup) -> Result<Self, NoMemory>
+        ensures { IfOk result (λ run. run ≡ record { setup = setup; history = [] }) }
+    {
+        let n = setup.n();
+        let processes = first_processes(alloc, &setup)?;
+        let mail = Mail::new(alloc, n)?;
+        let with_registers = match setup.algorithm() {
+            Algorithm::Leader => 0,
+            Algorithm::Alpha => n,
+        };
+        let registers = Registers::new(alloc, with_registers)?;
+        Ok(Run {
+            setup,
+            processes,
+            mail,
+            registers,
+            history: Vec::new(alloc),
+            entries: Vec::new(alloc),
+        })
+    }
+
+    /// Takes an enabled step. A refused growth changes nothing.
+    fn take_step(&mut self, alloc: Global, p: Proc, k: u16, kind: &Kind) -> Result<(), NoMemory>
+        requires { IsEnabled (machine_of P.first P.next P.wish P.place P.last_place self.old.setup) (state_of (machine_of P.first P.next P.wish P.place P.last_place self.old.setup) self.old.history) (Event.Step p k kind.now) }
+        ensures ok { OnOk result (self.new ≡ record self.old { history = self.old.history ++ Event.Step p k kind.now ∷ [] }) }
+        ensures err { OnErr result (self.new ≡ self.old) }
+    {
+        let _ranges = self.setup.n();
+        reserve(&mut self.history)?;
+        self.entries.reserve(1)?;
+        let progress = &mut self.processes[p.index()];
+        let left = change(
+            alloc,
+            progress,
+            &mut self.mail,
+            &mut self.registers,
+            p,
+            kind,
+        )?;
+        let event = Event::Step { p, k, kind: *kind };
+        push_reserved(&mut self.history, &event);
+        push_entry(
+            &mut self.entries,
+            Entry {
+                event,
+                back: left.back,
+                overwritten: left.overwritten,
+            },
+        );
+        Ok(())
+    }
+
+    /// Takes an enabled loss. A refused growth changes nothing.
+    fn take_loss(&mut self, alloc: Global, copy: &CopyName) -> Result<(), NoMemory>
+        requires { IsEnabled (machine_of P.first P.next P.wish P.place P.last_place self.old.setup) (state_of (machine_of P.first P.next P.wish P.place P.last_place self.old.setup) self.old.history) (Event.Lost copy.now) }
+        ensures ok { OnOk result (self.new ≡ record self.old { history = self.old.history ++ Event.Lost copy.now ∷ [] }) }
+        ensures err { OnErr result (self.new ≡ self.old) }
+    {
+        reserve(&mut self.history)?;
+        self.entries.reserve(1)?;
+        self.mail.lose(alloc, copy.to, copy.msg)?;
+        let event = Event::Lost(*copy);
+        push_reserved(&mut self.history, &event);
+        push_entry(
+            &mut self.entries,
+            Entry {
+                event,
+                back: None,
+                overwritten: None,
+            },
+        );
+        Ok(())
+    }
+
+    /// Takes an enabled event. A refused growth changes nothing.
+    fn take(&mut self, alloc: Global, event: &Event) -> Result<(), NoMemory>
+        requires { IsEnabled (machine_of P.first P.next P.wish P.place P.last_place self.old.setup) (state_of (machine_of P.first P.next P.wish P.place P.last_place self.old.setup) self.old.history) event.now }
+        ensures ok { OnOk result (self.new ≡ record self.old { history = self.old.history ++ event.now ∷ [] }) }
+        ensures err { OnErr result (self.new ≡ self.old) }
+    {
+        match event {
+            Event::Step { p, k, kind } => self.take_step(alloc, *p, *k, kind),
+            Event::Lost(copy) => self.take_loss(alloc, copy),
+        }
+    }
+
+    /// The process of that number, where the run has it.
+    pub fn process(&self, p: u32) -> Option<Proc>
+        ensures number { MatchOption result (is_among self.now.setup.processes p ≡ false) (λ q. (q ≡ p) × (p ≤ self.now.setup.processes)) }
+        ensures none { IfNone result (nth (state_of (machine_of P.first P.next P.wish P.place P.last_place self.now.setup) self.now.history).processes p ≡ None) }
+    {
+        let n = self.setup.n();
+        if !is_process(n, p) {
+            return None;
+        }
+        Some(Proc::new(p as u8))
+    }
+
+    /// How far a process has come.
+    pub fn progress(&self, p: Proc) -> &Progress<P>
+        requires { p ≤ self.now.setup.processes }
+        ensures { option_map (λ process. process.progress) (nth (state_of (machine_of P.first P.next P.wish P.place P.last_place self.now.setup) self.now.history).processes p) ≡ Some result.now }
+    {
+        let _ranges = self.setup.n();
+        &self.processes[p.index()]
+    }
+
+    /// What a step of process `p` is answered.
+    fn plan(&self, p: u32, act: Act) -> Result<Event, Refusal>
+        ensures answer { result ≡ step_answer (machine_of P.first P.next P.wish P.place P.last_place self.now.setup) self.now.setup (state_of (machine_of P.first P.next P.wish P.place P.last_place self.now.setup) self.now.history) p act }
+        ensures enabled { IfOk result (λ event. IsEnabled (machine_of P.first P.next P.wish P.place P.last_place self.now.setup) (state_of (machine_of P.first P.next P.wish P.place P.last_place self.now.setup) self.now.history) event) }
+    {
+        let _ranges = self.setup.n();
+        let Some(process) = self.process(p) else {
+            return Err(Refusal::NoProcess);
+        };
+        let progress = &self.processes[process.index()];
+        plan(
+            &self.setup,
+            &self.mail,
+            &self.registers,
+            progress,
+            process,
+            act,
+        )
+    }
+
+    /// What a step of process `p` would be refused with, if it would be.
+    pub fn refuses(&self, p: u32, act: Act) -> Option<Refusal>
+        ensures { result ≡ refusal_of (step_answer (machine_of P.first P.next P.wish P.place P.last_place self.now.setup) self.now.setup (state_of (machine_of P.first P.next P.wish P.place P.last_place self.now.setup) self.now.history) p act) }
+    {
+        match self.plan(p, act) {
+            Ok(_) => None,
+            Err(refusal) => Some(refusal),
+        }
+    }
+
+    /// Takes the step of process `p` that an act names, or answers the first refusal that holds:
+    /// `NoProcess`, `Crashed`, `Done`, `NotNow`, `NoMessage`, `Taken`, `BadLeader`, `NoAnswer`,
+    /// `StepLimit` or `Lost`, in this order. After a refusal and after `NoMemory` the run is as it was.
+    pub fn step(
+        &mut self,
+        alloc: Global,
+        p: u32,
+        act: Act,
+    ) -> Result<Result<Event, Refusal>, NoMemory>
+        ensures answer { IfOk result (λ answer. answer ≡ step_answer (machine_of P.first P.next P.wish P.place P.last_place self.old.setup) self.old.setup (state_of (machine_of P.first P.next P.wish P.place P.last_place self.old.setup) self.old.history) p act) }
+        ensures after { IfOk result (λ answer. self.new ≡ record self.old { history = with_taken self.old.history answer }) }
+        ensures err { OnErr result (self.new ≡ self.old) }
+    {
+        match self.plan(p, act) {
+            Ok(event) => {
+                self.take(alloc, &event)?;
+                Ok(Ok(event))
+            }
+            Err(refusal) => Ok(Err(refusal)),
+        }
+    }
+
+    /// What it is answered to take an undone event again.
+    fn plan_again(&self, event: &Event) -> Result<Event, Refusal>
+        requires { IsOfRun self.now.setup event.now }
+        ensures answer { result ≡ again_answer (machine_of P.first P.next P.wish P.place P.last_place self.now.setup) self.now.setup (state_of (machine_of P.first P.next P.wish P.place P.last_place self.now.setup) self.now.history) event.now }
+        ensures taken { IsOk result ↔ IsEnabled (machine_of P.first P.next P.wish P.place P.last_place self.now.setup) (state_of (machine_of P.first P.next P.wish P.place P.last_place self.now.setup) self.now.history) event.now }
+        ensures same { IfOk result (λ taken. taken ≡ event.now) }
+    {
+        let _ranges = self.setup.n();
+        match event {
+            Event::Step { p, k, kind } => {
+                let progress = &self.processes[p.index()];
+                plan_again(
+                    &self.setup,
+                    &self.mail,
+                    &self.registers,
+                    progress,
+                    *p,
+                    *k,
+                    kind,
+                )
+            }
+            Event::Lost(copy) => plan_loss_again(&self.setup, &self.mail, copy),
+        }
+    }
+
+    /// Takes an undone event of the run again, at the end of the history, or answers the first
+    /// refusal that holds: of a step `Moved`, `Crashed`, `Done`, `NotNow`, `NoMessage`, `Taken` or
+    /// `Lost`, of a loss `NoMessage`, `Taken` or `Lost`, in this order. A step reads what stands now.
+    /// After a refusal and after `NoMemory` the run is as it was.
+    pub fn again(
+        &mut self,
+        alloc: Global,
+        event: &Event,
+    ) -> Result<Result<Event, Refusal>, NoMemory>
+        requires { IsOfRun self.old.setup event.now }
+        ensures answer { IfOk result (λ answer. answer ≡ again_answer (machine_of P.first P.next P.wish P.place P.last_place self.old.setup) self.old.setup (state_of (machine_of P.first P.next P.wish P.place P.last_place self.old.setup) self.old.history) event.now) }
+        ensures taken { IfOk result (λ answer. IsOk answer ↔ IsEnabled (machine_of P.first P.next P.wish P.place P.last_place self.old.setup) (state_of (machine_of P.first P.next P.wish P.place P.last_place self.old.setup) self.old.history) event.now) }
+        ensures after { IfOk result (λ answer. self.new ≡ record self.old { history = with_taken self.old.history answer }) }
+        ensures err { OnErr result (self.new ≡ self.old) }
+    {
+        let answer = self.plan_again(event);
+        if answer.is_ok() {
+            self.take(alloc, event)?;
+        }
+        Ok(answer)
+    }
+
+    /// Loses the copy of the `m`-th message of process `s` for process `p`, or answers the first
+    /// refusal that holds: `NoLoss`, `NoProcess` of `p`, `NoMessage`, `Taken` or `Lost`, in this
+    /// order. After a refusal and after `NoMemory` the run is as it was.
+    pub fn lose(
+        &mut self,
+        alloc: Global,
+        s: u32,
+        m: u32,
+        p: u32,
+    ) -> Result<Result<Event, Refusal>, NoMemory>
+        ensures answer { IfOk result (λ answer. answer ≡ lose_answer self.old.setup (state_of (machine_of P.first P.next P.wish P.place P.last_place self.old.setup) self.old.history) (message_name s m) p) }
+        ensures after { IfOk result (λ answer. self.new ≡ record self.old { history = with_taken self.old.history answer }) }
+        ensures err { OnErr result (self.new ≡ self.old) }
+    {
+        match self.plan_loss(s, m, p) {
+            Ok(event) => {
+                self.take(alloc, &event)?;
+                Ok(Ok(event))
+            }
+            Err(refusal) => Ok(Err(refusal)),
+        }
+    }
+
+    /// What it is answered to lose a copy.
+    fn plan_loss(&self, s: u32, m: u32, p: u32) -> Result<Event, Refusal>
+        ensures answer { result ≡ lose_answer self.now.setup (state_of (machine_of P.first P.next P.wish P.place P.last_place self.now.setup) self.now.history) (message_name s m) p }
+        ensures enabled { IfOk result (λ event. IsEnabled (machine_of P.first P.next P.wish P.place P.last_place self.now.setup) (state_of (machine_of P.first P.next P.wish P.place P.last_place self.now.setup) self.now.history) event) }
+    {
+        let _ranges = self.setup.n();
+        plan_loss(&self.setup, &self.mail, s, m, p)
+    }
+
+    /// The setup of the run.
+    pub fn setup(&self) -> &Setup
+        ensures { result.now ≡ self.now.setup }
+    {
+        &self.setup
+    }
+
+    /// The standing events, in the order in which they were taken: each was enabled in its turn.
+    pub fn history(&self) -> &[Event]
+        ensures events { result.now ≡ self.now.history }
+        ensures valid { IsValid (machine_of P.first P.next P.wish P.place P.last_place self.now.setup) self.now.history }
+    {
+        self.history.as_slice()
+    }
+
+    /// Whether no crash of the process stands.
+    pub fn alive(&self, p: Proc) -> bool
+        requires { p ≤ self.now.setup.processes }
+        ensures { option_map (λ process. process.progress.alive) (nth (state_of (machine_of P.first P.next P.wish P.place P.last_place self.now.setup) self.now.history).processes p) ≡ Some result }
+    {
+        self.progress(p).alive
+    }
+
+    /// How many steps of the process stand: at most 9,999.
+    pub fn steps(&self, p: Proc) -> u32
+        requires { p ≤ self.now.setup.processes }
+        ensures { option_map (λ process. process.progress.steps) (nth (state_of (machine_of P.first P.next P.wish P.place P.last_place self.now.setup) self.now.history).processes p) ≡ Some result }
+    {
+        self.progress(p).steps
+    }
+
+    /// How many queries of the process stand.
+    pub fn queries(&self, p: Proc) -> u32
+        requires { p ≤ self.now.setup.processes }
+        ensures { option_map (λ process. process.progress.queries) (nth (state_of (machine_of P.first P.next P.wish P.place P.last_place self.now.setup) self.now.history).processes p) ≡ Some result }
+    {
+        self.progress(p).queries
+    }
+
+    /// The machine of the process, in its local state.
+    pub fn local(&self, p: Proc) -> &P
+        requires { p ≤ self.now.setup.processes }
+        ensures { option_map (λ process. process.progress.local) (nth (state_of (machine_of P.first P.next P.wish P.place P.last_place self.now.setup) self.now.history).processes p) ≡ Some result.now }
+    {
+        &self.progress(p).local
+    }
+
+    /// The mail as it stands.
+    fn mail(&self) -> &Mail
+        ensures mail { result.now ≡ mail_of (state_of (machine_of P.first P.next P.wish P.place P.last_place self.now.setup) self.now.history) }
+        ensures receivers { length result.now.received ≡ self.now.setup.processes }
+    {
+        let _ranges = self.setup.n();
+        &self.mail
+    }
+
+    /// The registers as they stand.
+    fn registers(&self) -> &Registers
+        ensures { result.now ≡ (state_of (machine_of P.first P.next P.wish P.place P.last_place self.now.setup) self.now.history).registers }
+    {
+        &self.registers
+    }
+
+    /// Whether the run has the register: Alpha alone has some.
+    pub fn has(&self, register: Reg) -> bool
+        ensures { result ≡ is_some (register_of (state_of (machine_of P.first P.next P.wish P.place P.last_place self.now.setup) self.now.history).registers register) }
+    {
+        self.registers().has(register)
+    }
+
+    /// What the register holds.
+    pub fn cell(&self, register: Reg) -> Cell
+        requires { IsSome (register_of (state_of (machine_of P.first P.next P.wish P.place P.last_place self.now.setup) self.now.history).registers register) }
+        ensures { option_map (λ stands. stands.cell) (register_of (state_of (machine_of P.first P.next P.wish P.place P.last_place self.now.setup) self.now.history).registers register) ≡ Some result }
+    {
+        self.registers().read(register)
+    }
+
+    /// How many writes of the register stand.
+    pub fn writes(&self, register: Reg) -> u32
+        requires { IsSome (register_of (state_of (machine_of P.first P.next P.wish P.place P.last_place self.now.setup) self.now.history).registers register) }
+        ensures { option_map (λ stands. stands.writes) (register_of (state_of (machine_of P.first P.next P.wish P.place P.last_place self.now.setup) self.now.history).registers register) ≡ Some result }
+    {
+        self.registers().writes(register)
+    }
+
+    /// The least name above `after`, by sender and number, of a message that was sent and whose copy
+    /// for process `p` was neither received nor lost.
+    pub fn pending(&self, p: Proc, after: Option<MsgName>) -> Option<MsgName>
+        requires { p ≤ self.now.setup.processes }
+        ensures { result ≡ next_pending (mail_of (state_of (machine_of P.first P.next P.wish P.place P.last_place self.now.setup) self.now.history)) p after }
+    {
+        self.mail().pending(p, after)
+    }
+
+    /// The payload of the message of that name, if it was sent.
+    pub fn payload(&self, name: MsgName) -> Option<&Payload>
+        ensures { option_copied result ≡ payload_of (mail_of (state_of (machine_of P.first P.next P.wish P.place P.last_place self.now.setup) self.now.history)) name }
+    {
+        self.mail().payload(name)
+    }
+
+    /// Whether the copy is lost.
+    pub fn lost(&self, copy: CopyName) -> bool
+        ensures { result ≡ is_lost (mail_of (state_of (machine_of P.first P.next P.wish P.place P.last_place self.now.setup) self.now.history)) copy }
+    {
+        self.mail().lost(copy.to, copy.msg)
+    }
+
+    /// The decisions that stand: each process that has decided with its value, in order.
+    pub fn decisions(&self, alloc: Global) -> Result<Vec<(Proc, Val)>, NoMemory>
+        ensures { IfOk result (λ found. found.items ≡ decisions_of P.decision (state_of (machine_of P.first P.next P.wish P.place P.last_place self.now.setup) self.now.history)) }
+    {
+        let _ranges = self.setup.n();
+        decided(alloc, &self.processes)
+    }
+}
