@@ -1,0 +1,4 @@
+pub mod Streams
+pub mod Auto
+pub mod First
+pub mod Statuses
