@@ -19,4 +19,16 @@ pub mod Naming
 pub mod Records
 pub mod SentFirst
 pub mod Restoring
+pub mod Answering
 pub mod Forwarding
+pub mod Answered
+pub mod FoldKeeps
+pub mod Firsts
+pub mod Decided
+pub mod LeaderLaws
+pub mod LeaderRuns
+pub mod LeaderHistories
+pub mod AlphaRuns
+pub mod AlphaHistories
+pub mod Agreed
+pub mod Worked

@@ -13,3 +13,5 @@ pub mod Rules
 pub mod Algorithms
 pub mod Restored
 pub mod Any
+pub mod Agreement
+pub mod WorkedRuns

@@ -1,6 +1,7 @@
 -- What is taken back, and why it is not.
-use Rattle.std.specs.Prelude.{ℕ, suc, Bool, false, ◌&&◌, ◌==◌, List, [], ◌∷◌, ◌++◌, Option, Some, None, Result, Ok, Err, find, drop, take, filter, map, flat_map, slice_get, if◌then◌else◌}
+use Rattle.std.specs.Prelude.{ℕ, suc, Bool, false, ◌&&◌, ◌==◌, List, [], ◌∷◌, ◌++◌, Result, Ok, Err, find, drop, take, filter, map, flat_map, slice_get, if◌then◌else◌}
 use Rattle.std.specs.List.{position}
+use Rattle.std.specs.Option.{option_map_or}
 use Rattle.cdb_base.specs.Event.{event_name}
 use Rattle.cdb_base.specs.Processes.{all_processes}
 use Rattle.cdb_base.specs.declared.event.Event.{Event}
@@ -34,19 +35,14 @@ pub record Found : Type 0 where
 
 -- what stands at that place, from 0, if something does
 abbrev pub found_at : List Event → ℕ → Result Found Refusal
-found_at history place = go (slice_get history place)
-  where
-    go : Option Event → Result Found Refusal
-    go None = Err refusal.NoStep
-    go (Some event) = Ok (record { event = event; place = place; earlier = take place history; later = drop (suc place) history })
+found_at history place =
+    option_map_or (λ event. Ok (record { event = event; place = place; earlier = take place history; later = drop (suc place) history }))
+    (slice_get history place) (Err refusal.NoStep)
 
 -- the standing event of that name; the checks are that its processes are there, and that it stands
 abbrev pub standing_of : ℕ → List Event → StepId → Result Found Refusal
-standing_of n history name = if names_processes n name then stands (position (has_name name) history) else Err refusal.NoProcess
-  where
-    stands : Option ℕ → Result Found Refusal
-    stands None = Err refusal.NoStep
-    stands (Some place) = found_at history place
+standing_of n history name =
+    if names_processes n name then option_map_or (found_at history) (position (has_name name) history) (Err refusal.NoStep) else Err refusal.NoProcess
 
 -- the answer for a standing event, or the refusal
 abbrev pub for_standing : {A : Type 0} → Result Found Refusal → (Found → Result A Refusal) → Result A Refusal
@@ -54,12 +50,23 @@ for_standing (Ok found) answer = answer found
 for_standing (Err why) answer = Err why
 
 -- Undo: the event, and the history without it, where no later event depends on it; else the first that does.
+abbrev pub undo_found : List Event → Found → Result (Event × List Event) Refusal
+undo_found history found =
+    option_map_or (λ dependent. Err (refusal.NeededBy (event_name dependent)))
+    (find (depends found.event) found.later) (Ok (found.event, without history found.place))
+
 abbrev pub undo_of : ℕ → List Event → StepId → Result (Event × List Event) Refusal
-undo_of n history name = for_standing (standing_of n history name) (λ found. unless_needed found (find (depends found.event) found.later))
-  where
-    unless_needed : Found → Option Event → Result (Event × List Event) Refusal
-    unless_needed found None = Ok (found.event, without history found.place)
-    unless_needed found (Some dependent) = Err (refusal.NeededBy (event_name dependent))
+undo_of n history name = for_standing (standing_of n history name) (undo_found history)
+
+-- what is answered of an answer that also says which history it leaves
+abbrev pub answered : {A : Type 0} → Result (A × List Event) Refusal → Result A Refusal
+answered (Ok done) = Ok done.0
+answered (Err why) = Err why
+
+-- the history that an answer leaves; a refusal leaves it as it was
+abbrev pub left_by : {A : Type 0} → List Event → Result (A × List Event) Refusal → List Event
+left_by history (Ok done) = done.1
+left_by history (Err why) = history
 
 abbrev pub reversed : List Event → List Event
 reversed [] = []

@@ -4,6 +4,7 @@ ghost use Rattle.std.specs.Prelude.{◌≡◌, ◌≤◌, ◌↔◌, [], Some, i
 ghost use Rattle.std.specs.Option.{option_copied};
 ghost use Rattle.cdb_message.specs.Mail.{message_name, next_pending, payload_of, is_lost};
 ghost use Rattle.cdb_register.specs.Registers.{register_of};
+ghost use Rattle.cdb_run.specs.Agreement.{AllAgree, HasMajorityIfNeeded};
 ghost use Rattle.cdb_run.specs.Algorithms.{rules};
 ghost use Rattle.cdb_run.specs.Any.{standing_of, IsTrueToSetup};
 ghost use Rattle.cdb_run.specs.Refusals.{refusal_of, IsOfRun, with_taken};
@@ -278,12 +279,16 @@ impl AnyRun {
         }
     }
 
-    /// The decisions that stand: each process that has decided with its value, in order. `NoMemory` if
-    /// a growth is refused.
+    /// The decisions that stand: each process that has decided with its value, in order. No two values
+    /// differ, unless the algorithm is the leader-based one and a quorum at most half of the processes.
+    /// `NoMemory` if a growth is refused.
     pub fn decisions(&self, alloc: Global) -> Result<Vec<(Proc, Val)>, NoMemory>
         requires { IsTrueToSetup self.now }
-        ensures { IfOk result (λ found. found.items ≡ (rules (standing_of self.now).setup).decisions (standing_of self.now).history) }
+        ensures value { IfOk result (λ found. found.items ≡ (rules (standing_of self.now).setup).decisions (standing_of self.now).history) }
+        ensures agreement { IfOk result (λ found. HasMajorityIfNeeded (standing_of self.now).setup → AllAgree found.items) }
     {
+        let _ranges = self.setup().n();
+        let _valid = self.history();
         match self {
             AnyRun::Leader(run) => run.decisions(alloc),
             AnyRun::Alpha(run) => run.decisions(alloc),

@@ -1,6 +1,6 @@
 //! What holds of the histories of any machine. Each function does nothing: its contract is the law.
 
-ghost use Rattle.std.specs.Prelude.{◌≡◌, ℕ, ◌<◌, ◌≤◌, false, List, [], ◌∷◌, ◌++◌, length, Some, slice_get};
+ghost use Rattle.std.specs.Prelude.{◌≡◌, ℕ, ◌<◌, ◌≤◌, true, false, List, [], ◌∷◌, ◌++◌, length, Some, Ok, slice_get};
 ghost use Rattle.cdb_causal.specs.Causality.{IsFree};
 ghost use Rattle.cdb_causal.specs.Dependence.{depends};
 ghost use Rattle.cdb_causal.specs.Exchange.{IsExchanged, IsIn, IsBefore, IsEachOnce};
@@ -12,6 +12,7 @@ ghost use Rattle.cdb_causal.specs.Standing.{IsStanding};
 ghost use Rattle.cdb_record.specs.Entries.{events_of};
 ghost use Rattle.cdb_run.specs.Recorded.{IsRecorded};
 ghost use Rattle.cdb_run.specs.State.{Machine, RunState};
+ghost use Rattle.cdb_run.specs.Undo.{has_name, undo_of, rollback_of, reversed};
 ghost use Rattle.cdb_run.specs.Step.{after, fold, IsEnabled, IsValid, state_of};
 
 use cdb_base::{CopyName, Event, Kind, StepId};
@@ -46,12 +47,28 @@ pub fn undo<L>()
     ensures again { (machine : Machine L) (history : List Event) (i : ℕ) (event : Event) → slice_get history i ≡ Some event → IsFree depends history i → IsValid machine history → after machine (state_of machine (without history i)) event ≡ Some (state_of machine history) }
 {}
 
+/// An undo that is answered took the event of that name back, on which no later event depended. What
+/// it leaves is valid, and the event, taken again, leads back to the state that the history reached.
+#[tactic(auto, using(crate::proofs::Answered::undone_free))]
+pub fn answered_undo<L>()
+    ensures free { (n : ℕ) (history : List Event) (name : StepId) (event : Event) (left : List Event) → undo_of n history name ≡ Ok (event, left) → (i : ℕ) × (has_name name event ≡ true) × (slice_get history i ≡ Some event) × IsFree depends history i × (left ≡ without history i) }
+    ensures back { (machine : Machine L) (n : ℕ) (history : List Event) (name : StepId) (event : Event) (left : List Event) → undo_of n history name ≡ Ok (event, left) → IsValid machine history → IsValid machine left × (after machine (state_of machine left) event ≡ Some (state_of machine history)) }
+{}
+
 /// An event may be taken back with its consequences. What remains is valid, and what was taken back,
 /// taken again in order, leads to the state that the history reached.
 #[tactic(auto, using(crate::proofs::Histories::rollback_valid, crate::proofs::Histories::rollback_redo))]
 pub fn rollback<L>()
     ensures valid { (machine : Machine L) (history : List Event) (i : ℕ) → IsValid machine history → IsValid machine (remaining depends history i) }
     ensures again { (machine : Machine L) (history : List Event) (i : ℕ) → fold machine (remaining depends history i ++ rolled_back depends history i) ≡ fold machine history }
+{}
+
+/// A rollback that is answered took the event of that name back with its consequences, the last
+/// first. What it leaves is valid, and what it took, taken again in order, leads back to the state
+/// that the history reached.
+pub fn answered_rollback<L>()
+    ensures exact { (n : ℕ) (history : List Event) (name : StepId) (taken left : List Event) → rollback_of n history name ≡ Ok (taken, left) → (i : ℕ) × (event : Event) × (has_name name event ≡ true) × (slice_get history i ≡ Some event) × (taken ≡ reversed (rolled_back depends history i)) × (left ≡ remaining depends history i) }
+    ensures back { (machine : Machine L) (n : ℕ) (history : List Event) (name : StepId) (taken left : List Event) → rollback_of n history name ≡ Ok (taken, left) → IsValid machine history → IsValid machine left × (fold machine (left ++ reversed taken) ≡ fold machine history) }
 {}
 
 /// An event that was just taken is free, and the history without it is the one before it.

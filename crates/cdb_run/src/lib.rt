@@ -1,6 +1,7 @@
 //! The run of a machine: its states, its steps, and what stands of it.
 #![tactic(auto)]
 
+pub mod agreement;
 mod any;
 mod change;
 mod first;
@@ -9,6 +10,8 @@ mod plan;
 mod progress;
 mod restore;
 mod run;
+#[cfg(test)]
+mod tests;
 
 pub use any::AnyRun;
 pub use cdb_base::Act;

@@ -1,0 +1,40 @@
+//! Agreement: no two decisions that stand in a run differ, whatever the oracle answers, whoever crashes,
+//! whatever is lost, and in whatever order the events stand. Each function does nothing: its contract
+//! is the law.
+
+ghost use Rattle.std.specs.Prelude.{◌≡◌, ◌*◌, ◌<◌, List, [], ◌∷◌, ◌++◌, Some, IsTrue};
+ghost use Rattle.cdb_alpha.specs.LocalState.{LocalState as AlphaState};
+ghost use Rattle.cdb_base.specs.declared.event.Event.{Event};
+ghost use Rattle.cdb_leader.specs.LocalState.{LocalState as LeaderState};
+ghost use Rattle.cdb_run.specs.Agreement.{AllAgree, HasMajorityIfNeeded};
+ghost use Rattle.cdb_run.specs.Algorithms.{leader_machine, alpha_machine, rules};
+ghost use Rattle.cdb_run.specs.Decisions.{decisions_of};
+ghost use Rattle.cdb_run.specs.State.{RunState};
+ghost use Rattle.cdb_run.specs.Step.{fold};
+ghost use Rattle.cdb_run.specs.WorkedRuns.{leader_steps, leader_decisions, alpha_steps, alpha_decisions};
+ghost use Rattle.cdb_setup.specs.Parts.{Parts, AreInRange};
+
+/// No two standing decisions of the leader-based algorithm differ, where a quorum is more than half of
+/// the processes.
+pub fn leader_decisions_agree()
+    ensures { (setup : Parts) → AreInRange setup → setup.processes < 2 * setup.quorum → (history : List Event) (state : RunState LeaderState) → fold (leader_machine setup) history ≡ Some state → AllAgree (decisions_of (λ local. local.decision) state) }
+{}
+
+/// No two standing decisions of Alpha differ, whatever the quorum.
+pub fn alpha_decisions_agree()
+    ensures { (setup : Parts) → AreInRange setup → (history : List Event) (state : RunState AlphaState) → fold (alpha_machine setup) history ≡ Some state → AllAgree (decisions_of (λ local. local.decision) state) }
+{}
+
+/// The decisions that a valid history shows agree, by the rules of its setup.
+pub fn shown_decisions_agree()
+    ensures { (setup : Parts) → AreInRange setup → HasMajorityIfNeeded setup → (history : List Event) → IsTrue ((rules setup).valid history) → AllAgree ((rules setup).decisions history) }
+{}
+
+/// By either algorithm a process alone decides its input: the laws above are about decisions that are
+/// reached. Where a quorum is not more than half of the processes, two processes of the leader-based
+/// algorithm decide two values.
+pub fn worked_runs()
+    ensures leader { leader_decisions (7 ∷ []) (leader_steps 1) ≡ Some ((1, 7) ∷ []) }
+    ensures two_values { leader_decisions (5 ∷ 6 ∷ []) (leader_steps 1 ++ leader_steps 2) ≡ Some ((1, 5) ∷ (2, 6) ∷ []) }
+    ensures alpha { alpha_decisions (7 ∷ []) alpha_steps ≡ Some ((1, 7) ∷ []) }
+{}
