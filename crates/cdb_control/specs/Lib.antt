@@ -1,1 +1,10 @@
 pub mod Answer
+pub mod Auto
+pub mod Named
+pub mod Stops
+pub mod Views
+pub mod State
+pub mod Commands
+pub mod Changes
+pub mod Lawful
+pub mod Journal

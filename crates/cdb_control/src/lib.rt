@@ -1,9 +1,20 @@
-//! Commands and replies of a session.
+//! Commands and replies of a session; breakpoints, redo lists and the journal; the control, which is the
+//! replay of its journal.
 #![tactic(auto)]
 
 mod command;
+mod control;
+pub mod laws;
+mod named;
+mod redo;
 mod reply;
+mod runs;
+mod state;
+mod stops;
 
 pub use cdb_base::Act;
 pub use command::{Command, Stop, View};
+pub use control::{CallFault, Control, Entry, MOST_ENTRIES, OpenFault};
+pub use named::Named;
 pub use reply::{ProcView, Reply};
+pub use runs::Runs;

@@ -4,7 +4,8 @@ use Rattle.cdb_base.specs.declared.act.Act.{Act}
 use Rattle.cdb_base.specs.declared.event.Event.{Event}
 use Rattle.cdb_control.specs.Answer.{Stepped}
 use Rattle.cdb_run.specs.Rules.{Rules}
-use Rattle.revdbg.specs.Auto.{choice, taken_of, auto_answer, decision_in, step_reply}
+use Rattle.cdb_control.specs.Auto.{choice}
+use Rattle.revdbg.specs.Auto.{taken_of, auto_answer, decision_in, step_reply}
 
 pub reply_taken : (rules : Rules) (history left : List Event) (p : ℕ) (act : Act) (event : Event) (decides : Option ℕ)
     → choice rules history p ≡ Ok act → rules.step history p act ≡ Ok event → left ≡ history ++ event ∷ [] → decides ≡ decision_in rules left p

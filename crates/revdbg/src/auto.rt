@@ -2,11 +2,12 @@
 
 ghost use Rattle.std.specs.Prelude.{◌≡◌, ◌≤◌, [], ◌∷◌, None, IfOk, OnErr};
 ghost use Rattle.cdb_control.specs.Answer.{told};
+ghost use Rattle.cdb_control.specs.Auto.{acts_after_learn, acts_of_auto, first_possible, choice};
 ghost use Rattle.cdb_message.specs.Mail.{next_pending};
 ghost use Rattle.cdb_run.specs.Machines.{machine_of};
 ghost use Rattle.cdb_run.specs.Refusals.{refusal_of, with_taken};
 ghost use Rattle.cdb_run.specs.Rules.{rules_of};
-ghost use Rattle.revdbg.specs.Auto.{acts_after_learn, acts_of_auto, first_possible, choice, auto_answer, step_reply, decision_in};
+ghost use Rattle.revdbg.specs.Auto.{auto_answer, step_reply, decision_in};
 
 use cdb_base::{MsgName, NoMemory, Proc, Refusal, Val};
 use cdb_control::Reply;

@@ -1,0 +1,11 @@
+pub mod Numbers
+pub mod Held
+pub mod Alls
+pub mod Removed
+pub mod Table
+pub mod Along
+pub mod Steps
+pub mod Refused
+pub mod Own
+pub mod OfRun
+pub mod RunsOf

@@ -1,0 +1,86 @@
+-- Beginnings of journals, and a seat's own commands and replies.
+use Rattle.std.proofs.Common.{◌≡◌, ◌≢◌, ℕ, ◌==◌, Bool, true, false, cond, List, [], ◌∷◌, ◌++◌, refl, sym, ap, ◌∙◌, arith, append_assoc, append-nil}
+use Rattle.cdb_control.specs.declared.command.Command.{Command}
+use Rattle.cdb_control.specs.declared.control.Entry.{Entry}
+use Rattle.cdb_setup.specs.Parts.{Parts}
+use Rattle.cdb_control.specs.Answer.{Answer}
+use Rattle.cdb_run.specs.Rules.{Rules}
+use Rattle.cdb_control.specs.State.{State, first_state}
+use Rattle.cdb_control.specs.Commands.{answer, obey}
+use Rattle.cdb_control.specs.Journal.{entry, replay_from, replay, own, replies_from, replies_of, Begins}
+
+-- a journal begins with itself
+pub Begins-refl : (es : List Entry) → Begins es es
+Begins-refl es = ([], sym (append-nil es))
+
+pub Begins-trans : (a b c : List Entry) → Begins a b → Begins b c → Begins a c
+Begins-trans a b c x y = (x.0 ++ y.0, y.1 ∙ ap (λ l. l ++ y.0) x.1 ∙ append_assoc a x.0 y.0)
+
+pub Begins-push : (a b : List Entry) (e : Entry) → Begins a b → Begins a (b ++ e ∷ [])
+Begins-push a b e x = (x.0 ++ e ∷ [], ap (λ l. l ++ e ∷ []) x.1 ∙ append_assoc a x.0 (e ∷ []))
+
+if_append : (b : Bool) (x : Command) (xs ys zs : List Command) → zs ≡ xs ++ ys → cond b (x ∷ zs) zs ≡ cond b (x ∷ xs) xs ++ ys
+if_append true x xs ys zs e = ap (λ l. x ∷ l) e
+if_append false x xs ys zs e = e
+
+pub own-append : (seat : ℕ) (es fs : List Entry) → own seat (es ++ fs) ≡ own seat es ++ own seat fs
+own-append seat [] fs = refl
+own-append seat (e ∷ es) fs = if_append (e.seat == seat) e.command (own seat es) (own seat fs) (own seat (es ++ fs)) (own-append seat es fs)
+
+same_seat : (n : ℕ) → (n == n) ≡ true
+same_seat n = grind arith
+
+pub own-push : (seat : ℕ) (es : List Entry) (command : _) → own seat (es ++ entry seat command ∷ []) ≡ own seat es ++ command ∷ []
+own-push seat es command = own-append seat es (entry seat command ∷ []) ∙ ap (λ b. own seat es ++ cond b (command ∷ []) []) (same_seat seat)
+
+pub own-push_other : (seat other : ℕ) (es : List Entry) (command : _) → other ≢ seat → own seat (es ++ entry other command ∷ []) ≡ own seat es
+own-push_other seat other es command apart =
+    own-append seat es (entry other command ∷ []) ∙ ap (λ b. own seat es ++ cond b (command ∷ []) []) (other_seat other seat apart) ∙ append-nil (own seat es)
+  where
+    other_seat : (n m : ℕ) → n ≢ m → (n == m) ≡ false
+    other_seat n m ne = grind arith
+
+pub replay_from-append : (rules : Rules) (t : State) (es fs : List Entry) → replay_from rules t (es ++ fs) ≡ replay_from rules (replay_from rules t es) fs
+replay_from-append rules t [] fs = refl
+replay_from-append rules t (e ∷ es) fs = replay_from-append rules (obey rules t e.seat e.command) es fs
+
+replies_if : (b : Bool) (r : Answer) (xs ys zs : List Answer) → zs ≡ xs ++ ys → cond b (r ∷ zs) zs ≡ cond b (r ∷ xs) xs ++ ys
+replies_if true r xs ys zs e = ap (λ l. r ∷ l) e
+replies_if false r xs ys zs e = e
+
+pub replies_from-append : (rules : Rules) (t : State) (seat : ℕ) (es fs : List Entry) → replies_from rules t seat (es ++ fs) ≡ replies_from rules t seat es ++ replies_from rules (replay_from rules t es) seat fs
+replies_from-append rules t seat [] fs = refl
+replies_from-append rules t seat (e ∷ es) fs =
+    let next = obey rules t e.seat e.command in
+    replies_if (e.seat == seat) (answer rules t e.seat e.command) (replies_from rules next seat es) (replies_from rules (replay_from rules next es) seat fs) (replies_from rules next seat (es ++ fs)) (replies_from-append rules next seat es fs)
+
+-- a list that is the same after something was added: nothing was added
+nothing_added : {A : Type 0} (xs ys : List A) → xs ++ ys ≡ xs → ys ≡ []
+nothing_added [] ys e = e
+nothing_added (x ∷ xs) ys e = nothing_added xs ys (cc)
+
+none_if : (b : Bool) (x : Command) (xs : List Command) (r : Answer) (rs : List Answer) → (xs ≡ [] → rs ≡ []) → cond b (x ∷ xs) xs ≡ [] → cond b (r ∷ rs) rs ≡ []
+none_if true x xs r rs rest none = absurd (cc)
+none_if false x xs r rs rest none = rest none
+
+-- a seat with no command has no reply
+pub replies_from-none : (rules : Rules) (t : State) (seat : ℕ) (es : List Entry) → own seat es ≡ [] → replies_from rules t seat es ≡ []
+replies_from-none rules t seat [] none = refl
+replies_from-none rules t seat (e ∷ es) none =
+    let next = obey rules t e.seat e.command in
+    none_if (e.seat == seat) e.command (own seat es) (answer rules t e.seat e.command) (replies_from rules next seat es) (replies_from-none rules next seat es) none
+
+-- what others did adds no reply of this seat
+pub replies_of-same : (rules : Rules) (setup : Parts) (seats seat : ℕ) (seen journal : List Entry) → Begins seen journal → own seat journal ≡ own seat seen → replies_of rules setup seats seat journal ≡ replies_of rules setup seats seat seen
+replies_of-same rules setup seats seat seen journal begins same =
+    let t = first_state setup seats in
+    let rest = begins.0 in
+    let none : own seat rest ≡ [] = nothing_added (own seat seen) (own seat rest) (sym (own-append seat seen rest) ∙ ap (own seat) (sym begins.1) ∙ same) in
+    ap (replies_from rules t seat) begins.1 ∙ replies_from-append rules t seat seen rest ∙ ap (λ l. replies_from rules t seat seen ++ l) (replies_from-none rules (replay_from rules t seen) seat rest none) ∙ append-nil (replies_from rules t seat seen)
+
+-- one command of the seat adds its reply
+pub replies_of-push : (rules : Rules) (setup : Parts) (seats seat : ℕ) (journal : List Entry) (command : Command) → replies_of rules setup seats seat (journal ++ entry seat command ∷ []) ≡ replies_of rules setup seats seat journal ++ answer rules (replay rules setup seats journal) seat command ∷ []
+unfolding replay
+replies_of-push rules setup seats seat journal command =
+    let t = first_state setup seats in
+    replies_from-append rules t seat journal (entry seat command ∷ []) ∙ ap (λ b. replies_from rules t seat journal ++ cond b (answer rules (replay_from rules t journal) seat command ∷ []) []) (same_seat seat)

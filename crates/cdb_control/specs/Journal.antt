@@ -1,0 +1,72 @@
+-- A control as contracts see it: a setup, a number of seats and a journal. The control state is the replay.
+use Rattle.std.specs.Prelude.{◌≡◌, ℕ, ◌+◌, ◌≤◌, ◌==◌, List, [], ◌∷◌, ◌++◌, length, if◌then◌else◌}
+use Rattle.cdb_control.specs.declared.command.Command.{Command}
+use Rattle.cdb_control.specs.declared.control.Entry.{Entry}
+use Rattle.cdb_setup.specs.Parts.{Parts, AreInRange}
+use Rattle.cdb_run.specs.Rules.{Rules}
+use Rattle.cdb_control.specs.State.{State, first_state, held, AreOfRun}
+use Rattle.cdb_control.specs.Commands.{answer, obey}
+use Rattle.cdb_control.specs.Answer.{Answer}
+
+pub record Journaled : Type 0 where
+  pub setup : Parts
+  pub seats : ℕ
+  pub journal : List Entry
+
+abbrev pub entry : ℕ → Command → Entry
+entry seat command = record { seat = seat; command = command }
+
+abbrev pub opened : Parts → ℕ → Journaled
+opened setup seats = record { setup = setup; seats = seats; journal = [] }
+
+-- one entry more
+abbrev pub extended : Journaled → ℕ → Command → Journaled
+extended c seat command = record c { journal = c.journal ++ entry seat command ∷ [] }
+
+-- the state after these entries
+abbrev pub replay_from : Rules → State → List Entry → State
+replay_from rules t [] = t
+replay_from rules t (e ∷ es) = replay_from rules (obey rules t e.seat e.command) es
+
+unfoldable pub replay : Rules → Parts → ℕ → List Entry → State
+replay rules setup seats journal = replay_from rules (first_state setup seats) journal
+
+abbrev pub state_of : Rules → Journaled → State
+state_of rules c = replay rules c.setup c.seats c.journal
+
+-- the commands of a seat
+abbrev pub own : ℕ → List Entry → List Command
+own seat [] = []
+own seat (e ∷ es) = if e.seat == seat then (e.command ∷ own seat es) else own seat es
+
+-- the answers to a seat's commands, along the journal
+abbrev pub replies_from : Rules → State → ℕ → List Entry → List Answer
+replies_from rules t seat [] = []
+replies_from rules t seat (e ∷ es) =
+    if e.seat == seat then (answer rules t e.seat e.command ∷ replies_from rules (obey rules t e.seat e.command) seat es)
+    else replies_from rules (obey rules t e.seat e.command) seat es
+
+abbrev pub replies_of : Rules → Parts → ℕ → ℕ → List Entry → List Answer
+replies_of rules setup seats seat journal = replies_from rules (first_state setup seats) seat journal
+
+-- the first journal is a beginning of the second
+abbrev pub Begins : List Entry → List Entry → Type 0
+Begins seen journal = (rest : List Entry) × (journal ≡ seen ++ rest)
+
+-- each entry is of a seat from 1 to this number
+abbrev pub AreOfSeats : ℕ → List Entry → Type 0
+AreOfSeats seats [] = Unit {0}
+AreOfSeats seats (e ∷ es) = (1 ≤ e.seat) × (e.seat ≤ seats) × AreOfSeats seats es
+
+-- the state is the journal's replay, and numbers stay within what a journal can reach
+pub record IsReplayed (rules : Rules) (setup : Parts) (seats : ℕ) (journal : List Entry) (state : State) : Type 0 where
+  pub replayed : replay rules setup seats journal ≡ state
+  pub some_seat : 1 ≤ seats
+  pub few_seats : seats ≤ 64
+  pub of_seats : AreOfSeats seats journal
+  pub few_entries : length journal ≤ 999999
+  pub lists : length state.redo ≡ seats
+  pub numbers : state.next ≤ length journal + 1
+  pub events : held state ≤ length journal
+  pub of_run : AreOfRun state
+  pub in_range : AreInRange setup

@@ -1,0 +1,11 @@
+-- The events that commands name, by the numbers that the session gave.
+use Rattle.cdb_base.specs.declared.name.StepId.{StepId}
+use Rattle.cdb_base.specs.declared.name.StepId.TheVariants as name
+use Rattle.cdb_control.specs.declared.named.Named.{Named}
+use Rattle.cdb_control.specs.declared.named.Named.TheVariants.{Step, Lost}
+use Rattle.cdb_message.specs.Mail.{message_name, copy_name}
+
+-- a step by its process and number, a loss by the message and the process for which the copy was meant
+abbrev pub name_of : Named → StepId
+name_of (Step p k) = name.Step (record { p = p; k = k })
+name_of (Lost s m p) = name.Lost (copy_name (message_name s m) p)

@@ -1,0 +1,65 @@
+-- Breakpoints: a list of numbered stops in order of setting.
+use Rattle.std.specs.Prelude.{ℕ, ◌+◌, ◌++◌, nat_eq, ◌==◌, ◌<◌, Bool, true, false, not, ◌&&◌, List, [], ◌∷◌, Option, Some, None, is_some, if◌then◌else◌}
+use Rattle.std.specs.Map.{remove_entry}
+use Rattle.cdb_base.specs.declared.event.Event.{Event}
+use Rattle.cdb_base.specs.declared.event.Event.TheVariants.{Step}
+use Rattle.cdb_base.specs.declared.event.Kind.TheVariants as kind
+use Rattle.cdb_base.specs.declared.register.Reg.{Reg}
+use Rattle.cdb_base.specs.declared.register.Reg.TheVariants.{R, Dec}
+use Rattle.cdb_control.specs.declared.command.Stop.{Stop}
+use Rattle.cdb_control.specs.declared.command.Stop.TheVariants as stop
+use Rattle.cdb_control.specs.declared.stops.Taken.{Taken}
+use Rattle.cdb_run.specs.Step.{is_among}
+use Rattle.cdb_run.specs.Undo.{is_step_of}
+
+abbrev pub Stops : Type 0
+Stops = List (ℕ × Stop)
+
+abbrev pub is_same_register : Reg → Reg → Bool
+is_same_register (R p) (R q) = p == q
+is_same_register Dec Dec = true
+is_same_register _ _ = false
+
+abbrev pub is_receive : Event → Bool
+is_receive (Step p k (kind.Recv s m)) = true
+is_receive _ = false
+
+abbrev pub is_write_of : Reg → Event → Bool
+is_write_of x (Step p k (kind.Write y)) = is_same_register x y
+is_write_of x _ = false
+
+-- whether a step that was taken fires a stop
+abbrev pub fires : Taken → Stop → Bool
+fires taken (stop.Decide p) = is_step_of p taken.event && is_some taken.decides
+fires taken (stop.Round p round) = is_step_of p taken.event && taken.round_after == round && not (taken.round_before == round)
+fires taken (stop.Recv p) = is_step_of p taken.event && is_receive taken.event
+fires taken (stop.Write register) = is_write_of register taken.event
+
+-- the number of the first breakpoint that a step fires. Numbers rise in order of setting, so it is the least
+abbrev pub first_fired : Taken → Stops → Option ℕ
+first_fired taken [] = None
+first_fired taken (b ∷ more) = if fires taken b.1 then Some b.0 else first_fired taken more
+
+-- whether a stop names a process or a register of a process that is not among 1 to n
+abbrev pub names_none_of : ℕ → Stop → Bool
+names_none_of n (stop.Decide p) = not (is_among n p)
+names_none_of n (stop.Round p round) = not (is_among n p)
+names_none_of n (stop.Recv p) = not (is_among n p)
+names_none_of n (stop.Write (R p)) = not (is_among n p)
+names_none_of n (stop.Write Dec) = false
+
+-- the standing breakpoints, and the number of the next one
+pub record Numbered : Type 0 where
+  pub stops : Stops
+  pub next : ℕ
+
+-- each number is below this one
+abbrev pub AreBelow : ℕ → Stops → Type 0
+AreBelow next [] = Unit {0}
+AreBelow next (b ∷ more) = (b.0 < next) × AreBelow next more
+
+abbrev pub with_stop : Numbered → Stop → Numbered
+with_stop b stop = record { stops = b.stops ++ (b.next, stop) ∷ []; next = b.next + 1 }
+
+abbrev pub without_stop : Numbered → ℕ → Numbered
+without_stop b number = record { stops = remove_entry (nat_eq number) b.stops; next = b.next }

@@ -1,0 +1,106 @@
+//! The redo list of a seat.
+ghost use Rattle.std.specs.Prelude.{◌≡◌, ◌≤◌, List, [], IfOk, OnErr, length};
+ghost use Rattle.cdb_control.specs.State.{last_of, without_last};
+ghost use Rattle.cdb_base.specs.declared.event.Event.{Event};
+ghost use Rattle.cdb_control.specs.Changes.{with_rest, counted, WentTo};
+ghost use Rattle.cdb_control.specs.Named.{name_of};
+ghost use Rattle.cdb_run.specs.Refusals.{with_taken};
+ghost use Rattle.cdb_run.specs.Undo.{undo_of, rollback_of};
+
+use crate::named::Named;
+use crate::runs::Runs;
+use cdb_base::{Event, Kind, NoMemory, Refusal, Reg};
+use std::alloc::Global;
+use std::marker::Model;
+
+/// The events that a seat undid and has not taken again, the last undone at the end.
+#[derive(Drop)]
+pub struct RedoList {
+    events: Vec<Event>,
+}
+
+impl Model for RedoList {
+    ghost use Rattle.std.specs.Prelude.{List};
+    ghost use Rattle.cdb_base.specs.declared.event.Event.{Event};
+
+    ghost Value = { List Event };
+
+    ghost view = { λ r. r.events.items };
+}
+
+impl RedoList {
+    pub fn new(alloc: Global) -> Self
+        ensures { result ≡ [] }
+    {
+        RedoList {
+            events: Vec::new(alloc),
+        }
+    }
+
+    pub fn len(&self) -> usize
+        ensures { result ≡ length self.now }
+    {
+        self.events.len()
+    }
+
+    /// The event that was undone last.
+    pub fn last(&self) -> Option<Event>
+        ensures { result ≡ last_of self.now }
+    {
+        self.events.last().copied()
+    }
+
+    pub fn drop_last(&mut self)
+        ensures { self.new ≡ without_last self.old }
+    {
+        self.events.pop();
+    }
+
+    pub fn clear(&mut self)
+        ensures { self.new ≡ [] }
+    {
+        self.events.clear();
+    }
+
+    /// Takes an event of a run back, and adds it at the end. After a refusal and after `NoMemory` both
+    /// are as they were.
+    pub fn undo<R: Runs>(
+        &mut self,
+        run: &mut R,
+        name: &Named,
+    ) -> Result<Result<Event, Refusal>, NoMemory>
+        ensures setup { R.setup run.new ≡ R.setup run.old }
+        ensures undone { IfOk result (λ r. with_rest r (R.history run.new) ≡ undo_of (R.setup run.old).processes (R.history run.old) (name_of name.now)) }
+        ensures refused { IfOk result (λ r. OnErr r (R.history run.new ≡ R.history run.old)) }
+        ensures list { IfOk result (λ r. self.new ≡ with_taken self.old r) }
+        ensures err { OnErr result (R.history run.new ≡ R.history run.old) }
+        ensures list_err { OnErr result (self.new ≡ self.old) }
+    {
+        let _kind: Option<Kind> = None;
+        let _register: Option<Reg> = None;
+        self.events.reserve(1)?;
+        let undone = run.undo(name);
+        if let Ok(event) = &undone {
+            self.events.push_reserved(*event);
+        }
+        Ok(undone)
+    }
+
+    /// Takes an event of a run back with its consequences, adds them at the end, the last first, and
+    /// answers how many they are. After a refusal and after `NoMemory` both are as they were.
+    pub fn rollback<R: Runs>(
+        &mut self,
+        alloc: Global,
+        run: &mut R,
+        name: &Named,
+    ) -> Result<Result<u32, Refusal>, NoMemory>
+        requires { length (R.history run.old) ≤ 999999 }
+        ensures setup { R.setup run.new ≡ R.setup run.old }
+        ensures removed { IfOk result (λ r. (events : List Event) × (with_rest (counted r events) (R.history run.new) ≡ rollback_of (R.setup run.old).processes (R.history run.old) (name_of name.now)) × WentTo r events self.old self.new) }
+        ensures refused { IfOk result (λ r. OnErr r (R.history run.new ≡ R.history run.old)) }
+        ensures err { OnErr result (R.history run.new ≡ R.history run.old) }
+        ensures list_err { OnErr result (self.new ≡ self.old) }
+    {
+        run.rollback(alloc, name, &mut self.events)
+    }
+}

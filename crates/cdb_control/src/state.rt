@@ -1,0 +1,374 @@
+//! The control state: a run, the breakpoints, the pause and the redo lists.
+ghost use Rattle.std.specs.Prelude.{◌≡◌, ℕ, ◌≤◌, [], IfOk, OnErr, replicate, length};
+ghost use Rattle.cdb_control.specs.Answer.{told};
+ghost use Rattle.cdb_control.specs.Auto.{choice};
+ghost use Rattle.cdb_control.specs.Commands.{outcome, step, undo, rollback, why, shown, decides, newly_fired, or_else};
+ghost use Rattle.cdb_control.specs.Named.{name_of};
+ghost use Rattle.cdb_control.specs.State.{first_state, held, AreOfRun};
+ghost use Rattle.cdb_control.specs.Views.{round_of, decision_of};
+ghost use Rattle.cdb_setup.specs.Parts.{AreInRange};
+
+use crate::command::{Command, Stop, View};
+use crate::named::Named;
+use crate::redo::RedoList;
+use crate::reply::Reply;
+use crate::runs::Runs;
+use crate::stops::{Breakpoints, Taken, names_none_of};
+use cdb_base::{Act, Event, NoMemory, Refusal, Val};
+use cdb_setup::Setup;
+use std::alloc::Global;
+use std::marker::Model;
+
+/// A run with what sessions do to it.
+#[derive(Drop)]
+pub struct ControlState<R: Runs> {
+    run: R,
+    breakpoints: Breakpoints,
+    pause: Option<u32>,
+    redo: Vec<RedoList>,
+}
+
+impl<R: Runs> Model for ControlState<R> {
+    ghost use Rattle.cdb_control.specs.State.{State};
+
+    ghost Value = { State };
+
+    ghost view = { λ t. record { setup = R.setup t.run; history = R.history t.run; stops = t.breakpoints.stops; next = t.breakpoints.next; pause = t.pause; redo = t.redo.items } };
+}
+
+// An empty redo list for each seat.
+fn empty_lists(alloc: Global, seats: u8) -> Result<Vec<RedoList>, NoMemory>
+    ensures { IfOk result (λ lists. lists.items ≡ replicate seats []) }
+{
+    let mut lists = Vec::new(alloc);
+    for _ in 0..seats {
+        lists.push(RedoList::new(alloc))?;
+    }
+    Ok(lists)
+}
+
+impl<R: Runs> ControlState<R> {
+    /// The state in which nothing has happened.
+    pub fn open(alloc: Global, setup: Setup, seats: u8) -> Result<Self, NoMemory>
+        ensures { IfOk result (λ t. t ≡ first_state setup seats) }
+    {
+        let redo = empty_lists(alloc, seats)?;
+        let run = R::start(alloc, setup)?;
+        Ok(ControlState {
+            run,
+            breakpoints: Breakpoints::new(alloc),
+            pause: None,
+            redo,
+        })
+    }
+
+    pub fn run(&self) -> &R
+        ensures setup { R.setup result.now ≡ self.now.setup }
+        ensures history { R.history result.now ≡ self.now.history }
+    {
+        &self.run
+    }
+
+    /// Ends the pause.
+    #[tactic(auto, unfolding(crate::specs::Commands::outcome))]
+    pub fn resume(&mut self) -> Reply
+        ensures { (seat : ℕ) → record { reply = told result; after = self.new } ≡ outcome (R.rules self.old.setup) self.old seat Command.Resume }
+    {
+        self.pause = None;
+        Reply::Resumed
+    }
+
+    /// Takes a breakpoint away.
+    #[tactic(auto, unfolding(crate::specs::Commands::outcome))]
+    pub fn unbreak(&mut self, number: u32) -> Reply
+        ensures { (seat : ℕ) → record { reply = told result; after = self.new } ≡ outcome (R.rules self.old.setup) self.old seat (Command.Unbreak number) }
+    {
+        if !self.breakpoints.has(number) {
+            return Reply::Refused(Refusal::NoBreak);
+        }
+        self.breakpoints.remove(number);
+        Reply::BreakGone(number)
+    }
+
+    /// Sets a breakpoint.
+    #[tactic(auto, unfolding(crate::specs::Commands::outcome))]
+    pub fn set_break(&mut self, stop: Stop) -> Result<Reply, NoMemory>
+        requires { self.old.next ≤ 999999 }
+        ensures ok { IfOk result (λ reply. (seat : ℕ) → record { reply = told reply; after = self.new } ≡ outcome (R.rules self.old.setup) self.old seat (Command.Break stop)) }
+        ensures err { OnErr result (self.new ≡ self.old) }
+    {
+        if names_none_of(self.run.processes(), &stop) {
+            return Ok(Reply::Refused(Refusal::NoProcess));
+        }
+        if self.breakpoints.len() >= 99 {
+            return Ok(Reply::Refused(Refusal::BreakLimit));
+        }
+        let number = self.breakpoints.set(stop)?;
+        Ok(Reply::BreakSet(number))
+    }
+
+    /// Empties the redo list of a seat.
+    #[tactic(auto, unfolding(crate::specs::Commands::outcome))]
+    pub fn forget(&mut self, seat: u8) -> Reply
+        requires from_one { 1 ≤ seat }
+        requires to_last { seat ≤ length self.old.redo }
+        requires few { held self.old ≤ 999999 }
+        ensures { record { reply = told result; after = self.new } ≡ outcome (R.rules self.old.setup) self.old seat Command.Forget }
+    {
+        let list = &mut self.redo[seat as usize - 1];
+        let count = list.len();
+        list.clear();
+        Reply::Forgot(count as u32)
+    }
+
+    /// Takes an event back on which no standing event depends, and puts it at the end of the seat's
+    /// redo list.
+    pub fn undo(&mut self, seat: u8, name: &Named) -> Result<Reply, NoMemory>
+        requires from_one { 1 ≤ seat }
+        requires to_last { seat ≤ length self.old.redo }
+        ensures ok { IfOk result (λ reply. record { reply = told reply; after = self.new } ≡ undo self.old seat (name_of name.now)) }
+        ensures err { OnErr result (self.new ≡ self.old) }
+    {
+        let list = &mut self.redo[seat as usize - 1];
+        match list.undo(&mut self.run, name)? {
+            Ok(event) => Ok(Reply::Undone(event)),
+            Err(refusal) => Ok(Reply::Refused(refusal)),
+        }
+    }
+
+    /// Takes an event back with its consequences, and puts them on the seat's redo list, the last first.
+    pub fn rollback(&mut self, alloc: Global, seat: u8, name: &Named) -> Result<Reply, NoMemory>
+        requires from_one { 1 ≤ seat }
+        requires to_last { seat ≤ length self.old.redo }
+        requires few { held self.old ≤ 999999 }
+        ensures ok { IfOk result (λ reply. record { reply = told reply; after = self.new } ≡ rollback self.old seat (name_of name.now)) }
+        ensures err { OnErr result (self.new ≡ self.old) }
+    {
+        let list = &mut self.redo[seat as usize - 1];
+        match list.rollback(alloc, &mut self.run, name)? {
+            Ok(count) => Ok(Reply::RolledBack(count)),
+            Err(refusal) => Ok(Reply::Refused(refusal)),
+        }
+    }
+
+    /// Takes the seat's last undone event again, and off its redo list.
+    #[tactic(auto, unfolding(crate::specs::Commands::outcome))]
+    pub fn redo(&mut self, alloc: Global, seat: u8) -> Result<Reply, NoMemory>
+        requires from_one { 1 ≤ seat }
+        requires to_last { seat ≤ length self.old.redo }
+        requires of_run { AreOfRun self.old }
+        ensures ok { IfOk result (λ reply. record { reply = told reply; after = self.new } ≡ outcome (R.rules self.old.setup) self.old seat Command.Redo) }
+        ensures err { OnErr result (self.new ≡ self.old) }
+    {
+        let list = &mut self.redo[seat as usize - 1];
+        let Some(undone) = list.last() else {
+            return Ok(Reply::Refused(Refusal::NothingToRedo));
+        };
+        match self.run.again(alloc, &undone)? {
+            Ok(event) => {
+                list.drop_last();
+                let decides = self.decides(&event);
+                Ok(Reply::Redone { event, decides })
+            }
+            Err(refusal) => Ok(Reply::Refused(refusal)),
+        }
+    }
+
+    // The round of a process, 0 where there is no such process.
+    fn round_of(&self, p: u32) -> u32
+        ensures { result ≡ round_of (R.rules self.now.setup) self.now.history p }
+    {
+        match self.run.view(p) {
+            Some(process) => process.round,
+            None => 0,
+        }
+    }
+
+    // The decision of a process, if it has one.
+    fn decision_of(&self, p: u32) -> Option<Val>
+        ensures { result ≡ decision_of (R.rules self.now.setup) self.now.history p }
+    {
+        match self.run.view(p) {
+            Some(process) => process.decision,
+            None => None,
+        }
+    }
+
+    // The decision that an event which stands last gave its process.
+    fn decides(&self, event: &Event) -> Option<Val>
+        ensures { result ≡ decides (R.rules self.now.setup) self.now.history event.now }
+    {
+        match event {
+            Event::Step { p, .. } => self.decision_of(u32::from(p.number())),
+            Event::Lost(_) => None,
+        }
+    }
+
+    // Sets the pause, where none stands and a breakpoint fires.
+    fn fire(&mut self, taken: &Taken) -> Option<u32>
+        ensures fired { result ≡ newly_fired self.old.pause taken.now self.old.stops }
+        ensures after { self.new ≡ record self.old { pause = or_else self.old.pause result } }
+    {
+        if self.pause.is_some() {
+            return None;
+        }
+        self.pause = self.breakpoints.first_fired(taken);
+        self.pause
+    }
+
+    /// Takes a step.
+    pub fn step(&mut self, alloc: Global, p: u32, act: Act) -> Result<Reply, NoMemory>
+        ensures ok { IfOk result (λ reply. record { reply = told reply; after = self.new } ≡ step (R.rules self.old.setup) self.old p act) }
+        ensures err { OnErr result (self.new ≡ self.old) }
+    {
+        let round_before = self.round_of(p);
+        match self.run.step(alloc, p, act)? {
+            Ok(event) => {
+                let taken = Taken {
+                    event,
+                    decides: self.decision_of(p),
+                    round_before,
+                    round_after: self.round_of(p),
+                };
+                let paused = self.fire(&taken);
+                Ok(Reply::Stepped {
+                    event: taken.event,
+                    decides: taken.decides,
+                    paused,
+                })
+            }
+            Err(refusal) => Ok(Reply::Refused(refusal)),
+        }
+    }
+
+    /// Loses the copy of the `m`-th message of process `s` for process `p`. No breakpoint looks at it.
+    #[tactic(auto, unfolding(crate::specs::Commands::outcome))]
+    pub fn lose(&mut self, alloc: Global, s: u32, m: u32, p: u32) -> Result<Reply, NoMemory>
+        ensures ok { IfOk result (λ reply. (seat : ℕ) → record { reply = told reply; after = self.new } ≡ outcome (R.rules self.old.setup) self.old seat (Command.Lose s m p)) }
+        ensures err { OnErr result (self.new ≡ self.old) }
+    {
+        match self.run.lose(alloc, s, m, p)? {
+            Ok(event) => Ok(Reply::Stepped {
+                event,
+                decides: None,
+                paused: None,
+            }),
+            Err(refusal) => Ok(Reply::Refused(refusal)),
+        }
+    }
+
+    /// What `auto` would do for a process.
+    pub fn choose(&self, p: u32) -> Result<Act, Refusal>
+        requires { AreInRange self.now.setup }
+        ensures { result ≡ choice (R.rules self.now.setup) self.now.history p }
+    {
+        if let Some(refusal) = self.run.refuses(p, Act::Crash) {
+            return Err(refusal);
+        }
+        if self.run.refuses(p, Act::Learn).is_none() {
+            return Ok(Act::Learn);
+        }
+        if let Some(name) = self.run.pending(p) {
+            let act = Act::Recv(u32::from(name.s.number()), u32::from(name.m));
+            if self.run.refuses(p, act).is_none() {
+                return Ok(act);
+            }
+        }
+        if self.run.refuses(p, Act::Go).is_none() {
+            return Ok(Act::Go);
+        }
+        if self.run.refuses(p, Act::Query(None)).is_none() {
+            return Ok(Act::Query(None));
+        }
+        Err(Refusal::Idle)
+    }
+
+    /// Takes the first step that is possible for a process.
+    #[tactic(auto, unfolding(crate::specs::Commands::outcome))]
+    pub fn auto(&mut self, alloc: Global, p: u32) -> Result<Reply, NoMemory>
+        requires { AreInRange self.old.setup }
+        ensures ok { IfOk result (λ reply. (seat : ℕ) → record { reply = told reply; after = self.new } ≡ outcome (R.rules self.old.setup) self.old seat (Command.Auto p)) }
+        ensures err { OnErr result (self.new ≡ self.old) }
+    {
+        match self.choose(p) {
+            Err(refusal) => Ok(Reply::Refused(refusal)),
+            Ok(act) => match self.pause {
+                Some(number) => Ok(Reply::Refused(Refusal::Paused(number))),
+                None => self.step(alloc, p, act),
+            },
+        }
+    }
+
+    /// Tells the direct causes of an event.
+    pub fn why(&self, name: &Named) -> Reply
+        ensures { record { reply = told result; after = self.now } ≡ why self.now (name_of name.now) }
+    {
+        match self.run.explain(name) {
+            Ok((event, causes)) => Reply::Because(event, causes),
+            Err(refusal) => Reply::Refused(refusal),
+        }
+    }
+
+    fn show_process(&self, p: u32) -> Reply
+        ensures { record { reply = told result; after = self.now } ≡ shown (R.rules self.now.setup) self.now (View.Proc p) }
+    {
+        match self.run.view(p) {
+            Some(process) => Reply::Proc(process),
+            None => Reply::Refused(Refusal::NoProcess),
+        }
+    }
+
+    /// Shows a part of the run.
+    #[tactic(auto, unfolding(crate::specs::Commands::outcome))]
+    pub fn show(&self, alloc: Global, view: View) -> Result<Reply, NoMemory>
+        ensures { IfOk result (λ reply. (seat : ℕ) → record { reply = told reply; after = self.now } ≡ outcome (R.rules self.now.setup) self.now seat (Command.Show view)) }
+    {
+        let reply = match view {
+            View::Proc(p) => self.show_process(p),
+            View::Regs => Reply::Regs(self.run.cells(alloc)?),
+            View::Mail => Reply::Mail(self.run.mail(alloc)?),
+            View::History => Reply::History(self.run.events(alloc)?),
+        };
+        Ok(reply)
+    }
+
+    /// Shows who has decided what.
+    #[tactic(auto, unfolding(crate::specs::Commands::outcome))]
+    pub fn decisions(&self, alloc: Global) -> Result<Reply, NoMemory>
+        ensures { IfOk result (λ reply. (seat : ℕ) → record { reply = told reply; after = self.now } ≡ outcome (R.rules self.now.setup) self.now seat Command.Decisions) }
+    {
+        Ok(Reply::Decisions(self.run.decisions(alloc)?))
+    }
+
+    /// Carries a command of a seat out.
+    #[tactic(auto, using(crate::proofs::Steps::as_step, crate::proofs::Steps::as_undo, crate::proofs::Steps::as_undo_lost, crate::proofs::Steps::as_rollback, crate::proofs::Steps::as_rollback_lost, crate::proofs::Steps::as_why, crate::proofs::Steps::as_why_lost))]
+    pub fn perform(&mut self, alloc: Global, seat: u8, command: Command) -> Result<Reply, NoMemory>
+        requires from_one { 1 ≤ seat }
+        requires to_last { seat ≤ length self.old.redo }
+        requires few { held self.old ≤ 999999 }
+        requires numbers { self.old.next ≤ 999999 }
+        requires of_run { AreOfRun self.old }
+        requires in_range { AreInRange self.old.setup }
+        ensures ok { IfOk result (λ reply. record { reply = told reply; after = self.new } ≡ outcome (R.rules self.old.setup) self.old seat command) }
+        ensures err { OnErr result (self.new ≡ self.old) }
+    {
+        match command {
+            Command::Step(p, act) => self.step(alloc, p, act),
+            Command::Auto(p) => self.auto(alloc, p),
+            Command::Lose(s, m, p) => self.lose(alloc, s, m, p),
+            Command::Undo(p, k) => self.undo(seat, &Named::Step(p, k)),
+            Command::UndoLost(s, m, p) => self.undo(seat, &Named::Lost(s, m, p)),
+            Command::Redo => self.redo(alloc, seat),
+            Command::Forget => Ok(self.forget(seat)),
+            Command::Rollback(p, k) => self.rollback(alloc, seat, &Named::Step(p, k)),
+            Command::RollbackLost(s, m, p) => self.rollback(alloc, seat, &Named::Lost(s, m, p)),
+            Command::Why(p, k) => Ok(self.why(&Named::Step(p, k))),
+            Command::WhyLost(s, m, p) => Ok(self.why(&Named::Lost(s, m, p))),
+            Command::Break(stop) => self.set_break(stop),
+            Command::Unbreak(number) => Ok(self.unbreak(number)),
+            Command::Resume => Ok(self.resume()),
+            Command::Show(view) => self.show(alloc, view),
+            Command::Decisions => self.decisions(alloc),
+        }
+    }
+}
