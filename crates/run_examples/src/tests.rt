@@ -1,0 +1,7 @@
+mod again;
+mod alpha;
+mod leader;
+mod losses;
+mod memory;
+mod script;
+mod setups;

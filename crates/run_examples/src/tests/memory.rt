@@ -1,0 +1,161 @@
+//! Want of memory: a run is as it was, and answers the same when it is asked again. To see it, let each
+//! allocation of these tests fail in turn.
+
+ghost use Rattle.std.specs.Prelude.{◌≤◌, IfOk, IfSome};
+ghost use Rattle.cdb_run.specs.Any.{standing_of, IsTrueToSetup};
+
+use super::again::is_of_run;
+use super::script::{Turn, take};
+use super::setups::{ALPHA_PAIR, LOSSY};
+use cdb_base::{Act, NoMemory, Proc, Reg};
+use cdb_run::AnyRun;
+use cdb_setup::Setup;
+use std::alloc::Global;
+use std::process::Abort;
+use std::test::Fail;
+
+/// Whether process `p` shows the same in both runs.
+fn is_as_far(one: &AnyRun, other: &AnyRun, p: &Proc) -> bool
+    requires one { IsTrueToSetup one.now }
+    requires other { IsTrueToSetup other.now }
+    requires in_one { p.now ≤ (standing_of one.now).setup.processes }
+    requires in_other { p.now ≤ (standing_of other.now).setup.processes }
+{
+    one.place(*p) == other.place(*p)
+        && one.round(*p) == other.round(*p)
+        && one.alive(*p) == other.alive(*p)
+        && one.steps(*p) == other.steps(*p)
+        && one.queries(*p) == other.queries(*p)
+        && one.decision(*p) == other.decision(*p)
+        && one.pending(*p, None) == other.pending(*p, None)
+}
+
+/// Whether the register shows the same in both runs.
+fn is_same_register(one: &AnyRun, other: &AnyRun, register: &Reg) -> bool
+    requires one { IsTrueToSetup one.now }
+    requires other { IsTrueToSetup other.now }
+{
+    if !one.has(*register) || !other.has(*register) {
+        return one.has(*register) == other.has(*register);
+    }
+    one.cell(*register) == other.cell(*register) && one.writes(*register) == other.writes(*register)
+}
+
+/// Whether both runs show the same.
+fn look_same(one: &AnyRun, other: &AnyRun) -> bool
+    requires one { IsTrueToSetup one.now }
+    requires other { IsTrueToSetup other.now }
+{
+    let n = one.setup().n();
+    if other.setup().n() != n {
+        return false;
+    }
+    for p in &Proc::all() {
+        if p.number() <= n && !is_as_far(one, other, p) {
+            return false;
+        }
+        if !is_same_register(one, other, &Reg::R(*p)) {
+            return false;
+        }
+    }
+    is_same_register(one, other, &Reg::Dec) && one.history() == other.history()
+}
+
+fn try_start(alloc: Global, setup: &str) -> Option<AnyRun>
+    ensures { IfSome result IsTrueToSetup }
+{
+    let setup = Setup::read(alloc, setup.as_bytes()).ok()?;
+    AnyRun::start(alloc, setup).ok()
+}
+
+/// The run of a setup in which nothing has happened, at the second try if the first wants memory.
+fn start_again<R: AllocGlobal>(rt: &R, setup: &str) -> Result<AnyRun, Fail>
+    ensures { IfOk result IsTrueToSetup }
+{
+    match try_start(rt.alloc(), setup) {
+        Some(run) => Ok(run),
+        None => Ok(try_start(rt.alloc(), setup).ok_or("no run")?),
+    }
+}
+
+/// Takes the turns in two runs, the second always a turn behind the first, and asks again where memory
+/// was wanting.
+fn take_turns<R: Abort + AllocGlobal>(rt: &R, setup: &str, turns: &[Turn]) -> Result<AnyRun, Fail>
+    ensures { IfOk result IsTrueToSetup }
+{
+    let mut run = start_again(rt, setup)?;
+    let mut behind = start_again(rt, setup)?;
+    for turn in turns {
+        let answer = match take(rt.alloc(), &mut run, turn) {
+            Ok(answer) => answer,
+            Err(NoMemory) => {
+                assert!(rt; look_same(&run, &behind));
+                take(rt.alloc(), &mut run, turn)?
+            }
+        };
+        let expected = match take(rt.alloc(), &mut behind, turn) {
+            Ok(answer) => answer,
+            Err(NoMemory) => take(rt.alloc(), &mut behind, turn)?,
+        };
+        assert_eq!(rt; answer, expected);
+        assert!(rt; look_same(&run, &behind));
+    }
+    Ok(run)
+}
+
+/// Takes the events of a run again in two others, as `take_turns` takes turns.
+fn take_events<R: Abort + AllocGlobal>(rt: &R, setup: &str, ahead: &AnyRun) -> Result<(), Fail>
+    requires { IsTrueToSetup ahead.now }
+{
+    let mut run = start_again(rt, setup)?;
+    let mut behind = start_again(rt, setup)?;
+    for event in ahead.history() {
+        assert!(rt; is_of_run(run.setup(), event));
+        let answer = match run.again(rt.alloc(), event) {
+            Ok(answer) => answer,
+            Err(NoMemory) => {
+                assert!(rt; look_same(&run, &behind));
+                assert!(rt; is_of_run(run.setup(), event));
+                run.again(rt.alloc(), event)?
+            }
+        };
+        assert!(rt; answer.is_ok());
+        assert!(rt; is_of_run(behind.setup(), event));
+        if behind.again(rt.alloc(), event).is_err() {
+            assert!(rt; is_of_run(behind.setup(), event));
+            let _answer = behind.again(rt.alloc(), event)?;
+        }
+        assert!(rt; look_same(&run, &behind));
+    }
+    assert!(rt; look_same(&run, ahead));
+    Ok(())
+}
+
+const WITH_LOSSES: [Turn; 10] = [
+    Turn::Auto(1),
+    Turn::Auto(1),
+    Turn::Lose(1, 1, 2),
+    Turn::Step(2, Act::Recv(1, 1)),
+    Turn::Auto(1),
+    Turn::Auto(2),
+    Turn::Auto(2),
+    Turn::Lose(2, 1, 1),
+    Turn::Auto(2),
+    Turn::Step(1, Act::Crash),
+];
+
+const TWELVE_STEPS: [Turn; 12] = [Turn::Auto(1); 12];
+
+#[test]
+fn messages_without_memory(rt: HostRuntime) -> Result<(), Fail> {
+    let run = take_turns(&rt, LOSSY, &WITH_LOSSES)?;
+    assert_eq!(rt; run.history().len(), 9);
+    take_events(&rt, LOSSY, &run)
+}
+
+#[test]
+fn registers_without_memory(rt: HostRuntime) -> Result<(), Fail> {
+    let run = take_turns(&rt, ALPHA_PAIR, &TWELVE_STEPS)?;
+    assert_eq!(rt; run.history().len(), 12);
+    take_events(&rt, ALPHA_PAIR, &run)
+}
