@@ -5,7 +5,7 @@ use Rattle.cdb_control.specs.declared.command.Command.{Command}
 use Rattle.cdb_control.specs.declared.control.Entry.{Entry}
 use Rattle.cdb_setup.specs.Parts.{Parts, AreInRange}
 use Rattle.cdb_run.specs.Rules.{Rules}
-use Rattle.cdb_control.specs.Lawful.{AreLawful}
+use Rattle.cdb_run.specs.Lawful.{AreLawful}
 use Rattle.cdb_control.specs.State.{State, first_state, waiting}
 use Rattle.cdb_control.specs.Commands.{obey}
 use Rattle.cdb_control.specs.Journal.{entry, replay_from, replay, AreOfSeats, IsReplayed}

@@ -1,11 +1,12 @@
 pub mod Numbers
 pub mod Held
 pub mod Alls
+pub mod OpenCopies
+pub mod Cells
+pub mod Nameable
 pub mod Removed
 pub mod Table
 pub mod Along
 pub mod Steps
 pub mod Refused
 pub mod Own
-pub mod OfRun
-pub mod RunsOf

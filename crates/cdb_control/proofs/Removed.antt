@@ -1,5 +1,5 @@
 -- What undo and rollback take out of a history is missing from it.
-use Rattle.std.proofs.Common.{◌≡◌, ℕ, zero, suc, ◌+◌, Bool, true, false, cond, List, [], ◌∷◌, ◌++◌, length, Option, Some, None, Result, Ok, Err, slice_get, find, refl, subst, arith, length-append}
+use Rattle.std.proofs.Common.{◌≡◌, ℕ, zero, suc, ◌+◌, ◌≤◌, Bool, true, false, cond, List, [], ◌∷◌, ◌++◌, length, Option, Some, None, Result, Ok, Err, slice_get, find, refl, subst, arith, length-append}
 use Rattle.std.specs.List.{AllByRecursion, position}
 use Rattle.std.proofs.lemmas.Option.{none-some, same_Some}
 use Rattle.cdb_base.specs.declared.event.Event.{Event}
@@ -8,7 +8,7 @@ use Rattle.cdb_base.specs.declared.refusal.Refusal.{Refusal}
 use Rattle.cdb_causal.specs.Dependence.{depends}
 use Rattle.cdb_causal.specs.Rollback.{without, depends_on_one, caught, spared, rolled_back, remaining}
 use Rattle.cdb_control.proofs.Alls.{all-append}
-use Rattle.cdb_run.specs.Undo.{Found, has_name, names_processes, found_at, standing_of, undo_of, rollback_of, reversed}
+use Rattle.cdb_run.specs.Undo.{Found, has_name, names_processes, found_at, event_named, undo_of, rollback_of, reversed, answered, number_removed}
 
 option_cases : {A : Type 0} (G : Type 0) (o : Option A) → (o ≡ None → G) → ((a : A) → o ≡ Some a → G) → G
 option_cases G None none some = none refl
@@ -35,13 +35,13 @@ at-place history place found h =
     (λ none. let f : found_at history place ≡ Ok found → IsAt history found = rw none (λ k. absurd (cc)) in f h)
     (λ event some. let f : found_at history place ≡ Ok found → IsAt history found = rw some (λ k. subst (IsAt history) (ok_same _ found k) some) in f h)
 
-standing-at : (n : ℕ) (history : List Event) (name : StepId) (found : Found) → standing_of n history name ≡ Ok found → IsAt history found
+standing-at : (n : ℕ) (history : List Event) (name : StepId) (found : Found) → event_named n history name ≡ Ok found → IsAt history found
 standing-at n history name found h =
     bool_cases (IsAt history found) (names_processes n name)
     (λ named. option_cases (IsAt history found) (position (has_name name) history)
-    (λ none. let f : standing_of n history name ≡ Ok found → IsAt history found = rw (named, none) (λ k. absurd (cc)) in f h)
-    (λ place some. let f : standing_of n history name ≡ Ok found → IsAt history found = rw (named, some) (λ k. at-place history place found k) in f h))
-    (λ unnamed. let f : standing_of n history name ≡ Ok found → IsAt history found = rw unnamed (λ k. absurd (cc)) in f h)
+    (λ none. let f : event_named n history name ≡ Ok found → IsAt history found = rw (named, none) (λ k. absurd (cc)) in f h)
+    (λ place some. let f : event_named n history name ≡ Ok found → IsAt history found = rw (named, some) (λ k. at-place history place found k) in f h))
+    (λ unnamed. let f : event_named n history name ≡ Ok found → IsAt history found = rw unnamed (λ k. absurd (cc)) in f h)
 
 module _ (P : Event → Type 0) where
   -- the events that went and those that are left are those that stood, in number and in what is true of each
@@ -83,7 +83,7 @@ module _ (P : Event → Type 0) where
 
   pub undone-parted : (n : ℕ) (history : List Event) (name : StepId) (undone : Event × List Event) → undo_of n history name ≡ Ok undone → Parted history (undone.0 ∷ []) undone.1
   undone-parted n history name undone h =
-      result_cases (Parted history (undone.0 ∷ []) undone.1) (standing_of n history name)
+      result_cases (Parted history (undone.0 ∷ []) undone.1) (event_named n history name)
       (λ found is. option_cases (Parted history (undone.0 ∷ []) undone.1) (find (depends found.event) found.later)
       (λ none. let f : undo_of n history name ≡ Ok undone → Parted history (undone.0 ∷ []) undone.1 =
       rw (is, none) (λ k. subst (λ (u : Event × List Event). Parted history (u.0 ∷ []) u.1) (ok_same _ undone k) (without-parted history found.place found.event (standing-at n history name found is)))
@@ -94,7 +94,7 @@ module _ (P : Event → Type 0) where
 
   pub rolled_back-parted : (n : ℕ) (history : List Event) (name : StepId) (removed : List Event × List Event) → rollback_of n history name ≡ Ok removed → Parted history removed.0 removed.1
   rolled_back-parted n history name removed h =
-      result_cases (Parted history removed.0 removed.1) (standing_of n history name)
+      result_cases (Parted history removed.0 removed.1) (event_named n history name)
       (λ found is. let f : rollback_of n history name ≡ Ok removed → Parted history removed.0 removed.1 =
       rw is (λ k. subst (λ (r : List Event × List Event). Parted history r.0 r.1) (ok_same _ removed k) (turned history found.place)) in
       f h)
@@ -108,3 +108,14 @@ module _ (P : Event → Type 0) where
             gone = λ all. all-reversed (rolled_back depends history i) (parted.gone all);
             left = parted.left;
           }
+
+-- no more events are removed than stood
+pub few-removed : (n : ℕ) (history : List Event) (name : StepId) (count most : ℕ) → length history ≤ most → number_removed (answered (rollback_of n history name)) ≡ Ok count → count ≤ most
+few-removed n history name count most few counted = go (rollback_of n history name) refl counted
+  where
+    go : (r : Result (List Event × List Event) Refusal) → rollback_of n history name ≡ r → number_removed (answered r) ≡ Ok count → count ≤ most
+    go (Ok removed) is h =
+        let parted = rolled_back-parted (λ _. Unit {0}) n history name removed is in
+        let same : length removed.0 ≡ count = cc in
+        omega (arith, parted.count, same, few)
+    go (Err why) is h = absurd (cc)

@@ -11,7 +11,7 @@ use Rattle.cdb_base.specs.declared.refusal.Refusal.{Refusal}
 use Rattle.cdb_base.specs.declared.refusal.Refusal.TheVariants.{NoProcess, NothingToRedo, NoBreak, BreakLimit}
 use Rattle.cdb_control.specs.Auto.{choice}
 use Rattle.cdb_control.specs.Commands.{Outcome, unless, granted, found, unpaused, stepped, step, lost, taken_back, undo, rollback, why, redone, shown, outcome, obey}
-use Rattle.cdb_control.specs.Lawful.{AreLawful}
+use Rattle.cdb_run.specs.Lawful.{AreLawful}
 use Rattle.cdb_control.specs.Named.{name_of}
 use Rattle.cdb_control.specs.State.{State, held, redo_of, last_of, without_last, AreOfRun}
 use Rattle.cdb_control.specs.Stops.{names_none_of}

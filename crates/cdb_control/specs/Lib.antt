@@ -5,6 +5,4 @@ pub mod Stops
 pub mod Views
 pub mod State
 pub mod Commands
-pub mod Changes
-pub mod Lawful
 pub mod Journal

@@ -5,7 +5,7 @@ ghost use Rattle.cdb_control.specs.declared.command.Command.{Command};
 ghost use Rattle.cdb_control.specs.declared.control.Entry.{Entry};
 ghost use Rattle.cdb_control.specs.Answer.{Refused};
 ghost use Rattle.cdb_control.specs.Commands.{answer, obey};
-ghost use Rattle.cdb_control.specs.Lawful.{AreLawful};
+ghost use Rattle.cdb_run.specs.Lawful.{AreLawful};
 ghost use Rattle.cdb_control.specs.Journal.{entry, replay, own, replies_of, Begins};
 ghost use Rattle.cdb_control.specs.State.{State, redo_of};
 ghost use Rattle.cdb_run.specs.Rules.{Rules};
@@ -43,7 +43,7 @@ pub fn others_add_no_reply()
 {}
 
 /// The rules of every run keep what the control layer needs of them.
-#[tactic(auto, using(crate::proofs::RunsOf::rules_are_lawful))]
+#[tactic(auto, using(cdb_run::proofs::Lawful::rules_are_lawful))]
 pub fn rules_are_lawful()
     ensures { (setup : Parts) → AreInRange setup → AreLawful (rules_of_setup setup) setup }
 {}

@@ -2,6 +2,7 @@
 //! replay of its journal.
 #![tactic(auto)]
 
+mod any_run;
 mod command;
 mod control;
 pub mod laws;
@@ -12,6 +13,7 @@ mod runs;
 mod state;
 mod stops;
 
+pub use any_run::RunOfSetup;
 pub use cdb_base::Act;
 pub use command::{Command, Stop, View};
 pub use control::{CallFault, Control, Entry, MOST_ENTRIES, OpenFault};

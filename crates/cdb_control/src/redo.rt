@@ -1,11 +1,9 @@
 //! The redo list of a seat.
-ghost use Rattle.std.specs.Prelude.{◌≡◌, ◌≤◌, List, [], IfOk, OnErr, length};
+ghost use Rattle.std.specs.Prelude.{◌≡◌, ◌≤◌, [], IfOk, OnErr, length};
 ghost use Rattle.cdb_control.specs.State.{last_of, without_last};
-ghost use Rattle.cdb_base.specs.declared.event.Event.{Event};
-ghost use Rattle.cdb_control.specs.Changes.{with_rest, counted, WentTo};
 ghost use Rattle.cdb_control.specs.Named.{name_of};
 ghost use Rattle.cdb_run.specs.Refusals.{with_taken};
-ghost use Rattle.cdb_run.specs.Undo.{undo_of, rollback_of};
+ghost use Rattle.cdb_run.specs.Undo.{undo_of, rollback_of, answered, left_by, number_removed, with_removed};
 
 use crate::named::Named;
 use crate::runs::Runs;
@@ -70,8 +68,8 @@ impl RedoList {
         name: &Named,
     ) -> Result<Result<Event, Refusal>, NoMemory>
         ensures setup { R.setup run.new ≡ R.setup run.old }
-        ensures undone { IfOk result (λ r. with_rest r (R.history run.new) ≡ undo_of (R.setup run.old).processes (R.history run.old) (name_of name.now)) }
-        ensures refused { IfOk result (λ r. OnErr r (R.history run.new ≡ R.history run.old)) }
+        ensures answer { IfOk result (λ r. r ≡ answered (undo_of (R.setup run.old).processes (R.history run.old) (name_of name.now))) }
+        ensures history { IfOk result (λ _. R.history run.new ≡ left_by (R.history run.old) (undo_of (R.setup run.old).processes (R.history run.old) (name_of name.now))) }
         ensures list { IfOk result (λ r. self.new ≡ with_taken self.old r) }
         ensures err { OnErr result (R.history run.new ≡ R.history run.old) }
         ensures list_err { OnErr result (self.new ≡ self.old) }
@@ -96,8 +94,9 @@ impl RedoList {
     ) -> Result<Result<u32, Refusal>, NoMemory>
         requires { length (R.history run.old) ≤ 999999 }
         ensures setup { R.setup run.new ≡ R.setup run.old }
-        ensures removed { IfOk result (λ r. (events : List Event) × (with_rest (counted r events) (R.history run.new) ≡ rollback_of (R.setup run.old).processes (R.history run.old) (name_of name.now)) × WentTo r events self.old self.new) }
-        ensures refused { IfOk result (λ r. OnErr r (R.history run.new ≡ R.history run.old)) }
+        ensures answer { IfOk result (λ r. r ≡ number_removed (answered (rollback_of (R.setup run.old).processes (R.history run.old) (name_of name.now)))) }
+        ensures history { IfOk result (λ _. R.history run.new ≡ left_by (R.history run.old) (rollback_of (R.setup run.old).processes (R.history run.old) (name_of name.now))) }
+        ensures list { IfOk result (λ _. self.new ≡ with_removed self.old (answered (rollback_of (R.setup run.old).processes (R.history run.old) (name_of name.now)))) }
         ensures err { OnErr result (R.history run.new ≡ R.history run.old) }
         ensures list_err { OnErr result (self.new ≡ self.old) }
     {

@@ -2,15 +2,14 @@
 
 ghost use Rattle.std.specs.Prelude.{◌≡◌, ◌≤◌, List, [], None, MatchResult, IfOk, OnErr, IsOk, Err, true, length, option_map};
 ghost use Rattle.cdb_base.specs.declared.event.Event.{Event};
-ghost use Rattle.cdb_control.specs.Changes.{with_rest, counted, WentTo};
-ghost use Rattle.cdb_control.specs.Lawful.{AreLawful};
+ghost use Rattle.cdb_run.specs.Lawful.{AreLawful};
 ghost use Rattle.cdb_control.specs.Named.{name_of};
 ghost use Rattle.cdb_control.specs.Views.{seen_as, cells_of, all_open_copies};
 ghost use Rattle.cdb_message.specs.Mail.{message_name, next_pending};
 ghost use Rattle.cdb_run.specs.Refusals.{IsOfRun, refusal_of, with_taken};
 ghost use Rattle.cdb_run.specs.Rules.{Rules};
 ghost use Rattle.cdb_run.specs.Step.{is_among};
-ghost use Rattle.cdb_run.specs.Undo.{undo_of, rollback_of, causes_of};
+ghost use Rattle.cdb_run.specs.Undo.{undo_of, rollback_of, causes_of, answered, left_by, number_removed, with_removed};
 ghost use Rattle.cdb_setup.specs.Parts.{Parts, AreInRange};
 
 use crate::named::Named;
@@ -70,8 +69,8 @@ pub trait Runs: Sized + Drop {
     /// that holds, and then the run is as it was.
     fn undo(&mut self, name: &Named) -> Result<Event, Refusal>
         ensures setup { setup self.new ≡ setup self.old }
-        ensures undone { with_rest result (history self.new) ≡ undo_of (setup self.old).processes (history self.old) (name_of name.now) }
-        ensures refused { OnErr result (history self.new ≡ history self.old) };
+        ensures answer { result ≡ answered (undo_of (setup self.old).processes (history self.old) (name_of name.now)) }
+        ensures history { history self.new ≡ left_by (history self.old) (undo_of (setup self.old).processes (history self.old) (name_of name.now)) };
 
     /// Takes a standing event back with its consequences, adds them to a list, the last first, and
     /// answers how many they are. After a refusal and after `NoMemory` run and list are as they were.
@@ -83,8 +82,9 @@ pub trait Runs: Sized + Drop {
     ) -> Result<Result<u32, Refusal>, NoMemory>
         requires { length (history self.old) ≤ 999999 }
         ensures setup { setup self.new ≡ setup self.old }
-        ensures removed { IfOk result (λ r. (events : List Event) × (with_rest (counted r events) (history self.new) ≡ rollback_of (setup self.old).processes (history self.old) (name_of name.now)) × WentTo r events taken.old.items taken.new.items) }
-        ensures refused { IfOk result (λ r. OnErr r (history self.new ≡ history self.old)) }
+        ensures answer { IfOk result (λ r. r ≡ number_removed (answered (rollback_of (setup self.old).processes (history self.old) (name_of name.now)))) }
+        ensures history { IfOk result (λ _. history self.new ≡ left_by (history self.old) (rollback_of (setup self.old).processes (history self.old) (name_of name.now))) }
+        ensures list { IfOk result (λ _. taken.new.items ≡ with_removed taken.old.items (answered (rollback_of (setup self.old).processes (history self.old) (name_of name.now)))) }
         ensures err { OnErr result (history self.new ≡ history self.old) }
         ensures list_err { OnErr result (taken.new.items ≡ taken.old.items) };
 
@@ -102,8 +102,8 @@ pub trait Runs: Sized + Drop {
         ensures { result ≡ next_pending ((rules (setup self.now)).mail (history self.now)) p None };
 
     /// The name of a standing event, and its direct causes in order of process; or the first refusal
-    /// that holds.
-    fn explain(&self, name: &Named) -> Result<(StepId, SmallVec<StepId, 9>), Refusal>
+    /// that holds. It takes no memory.
+    fn explain(&self, alloc: Global, name: &Named) -> Result<(StepId, SmallVec<StepId, 9>), Refusal>
         ensures { MatchResult (causes_of (setup self.now).processes (history self.now) (name_of name.now)) (λ causes. IfOk result (λ r. (r.0 ≡ name_of name.now) × (r.1.items ≡ causes)) × IsOk result) (λ why. result ≡ Err why) };
 
     /// The process of that number as it is shown, where there is one.

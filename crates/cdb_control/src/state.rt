@@ -300,10 +300,10 @@ impl<R: Runs> ControlState<R> {
     }
 
     /// Tells the direct causes of an event.
-    pub fn why(&self, name: &Named) -> Reply
+    pub fn why(&self, alloc: Global, name: &Named) -> Reply
         ensures { record { reply = told result; after = self.now } ≡ why self.now (name_of name.now) }
     {
-        match self.run.explain(name) {
+        match self.run.explain(alloc, name) {
             Ok((event, causes)) => Reply::Because(event, causes),
             Err(refusal) => Reply::Refused(refusal),
         }
@@ -362,8 +362,8 @@ impl<R: Runs> ControlState<R> {
             Command::Forget => Ok(self.forget(seat)),
             Command::Rollback(p, k) => self.rollback(alloc, seat, &Named::Step(p, k)),
             Command::RollbackLost(s, m, p) => self.rollback(alloc, seat, &Named::Lost(s, m, p)),
-            Command::Why(p, k) => Ok(self.why(&Named::Step(p, k))),
-            Command::WhyLost(s, m, p) => Ok(self.why(&Named::Lost(s, m, p))),
+            Command::Why(p, k) => Ok(self.why(alloc, &Named::Step(p, k))),
+            Command::WhyLost(s, m, p) => Ok(self.why(alloc, &Named::Lost(s, m, p))),
             Command::Break(stop) => self.set_break(stop),
             Command::Unbreak(number) => Ok(self.unbreak(number)),
             Command::Resume => Ok(self.resume()),

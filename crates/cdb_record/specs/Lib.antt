@@ -1,1 +1,4 @@
+pub mod Accounts
+pub mod Changes
 pub mod Entries
+pub mod Taken

@@ -1,6 +1,11 @@
 //! Records of standing events, by which they are taken back.
 #![tactic(auto)]
 
+mod accounts;
 mod entry;
+mod records;
+#[cfg(test)]
+mod tests;
 
 pub use entry::Entry;
+pub use records::Records;

@@ -12,7 +12,7 @@ use Rattle.cdb_base.specs.declared.refusal.Refusal.TheVariants as refusal
 use Rattle.cdb_causal.specs.Causality.{IsFree}
 use Rattle.cdb_causal.specs.Dependence.{depends}
 use Rattle.cdb_causal.specs.Rollback.{without, remaining, rolled_back}
-use Rattle.cdb_run.specs.Undo.{Found, found_at, standing_of, for_standing, undo_found, undo_of, rollback_of, reversed, names_processes, has_name}
+use Rattle.cdb_run.specs.Undo.{Found, found_at, event_named, for_standing, undo_found, undo_of, rollback_of, reversed, names_processes, has_name}
 use Rattle.cdb_run.specs.State.{Machine}
 use Rattle.cdb_run.specs.Step.{IsValid, after, fold, state_of}
 use Rattle.cdb_run.proofs.Answering.{get-drop}
@@ -61,7 +61,7 @@ module _ {A : Type 0} (history : List Event) (name : StepId) (answer : Found →
   by_names false h = not_ok refusal.NoProcess done h
   by_names true h = by_position (position (has_name name) history) refl h
 
-  stands_answered : (n : ℕ) → for_standing (standing_of n history name) answer ≡ Ok done → StandsAnswered
+  stands_answered : (n : ℕ) → for_standing (event_named n history name) answer ≡ Ok done → StandsAnswered
   stands_answered n h = by_names (names_processes n name) h
 
 module _ (history : List Event) (i : ℕ) (event : Event) (at : slice_get history i ≡ Some event) where
@@ -105,7 +105,7 @@ rolled_back_answered n history name taken left answer =
     same_Ok (reversed (rolled_back depends history s.0), remaining depends history s.0) done s.4 in
     (s.0, s.1, s.2, s.3, sym (ap (λ d. d.0) same), sym (ap (λ d. d.1) same))
 
-reversed_push : (events : List Event) (event : Event) → reversed (events ++ event ∷ []) ≡ event ∷ reversed events
+pub reversed_push : (events : List Event) (event : Event) → reversed (events ++ event ∷ []) ≡ event ∷ reversed events
 reversed_push [] event = refl
 reversed_push (x ∷ xs) event = ap (λ l. l ++ x ∷ []) (reversed_push xs event)
 

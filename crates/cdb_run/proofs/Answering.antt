@@ -36,7 +36,7 @@ get-drop (x ∷ xs) (suc i) k (suc n) e = get-drop xs i k n (omega (arith, e))
 
 module _ (history : List Event) (i : ℕ) where
   module _ (event : Event) (at : slice_get history i ≡ Some event) where
-    found_is : found_at history i ≡ Ok (record { event = event; place = i; earlier = take i history; later = drop (suc i) history })
+    pub found_is : found_at history i ≡ Ok (record { event = event; place = i; earlier = take i history; later = drop (suc i) history })
     found_is = ap (λ o. option_map_or (λ e. Ok (record { event = e; place = i; earlier = take i history; later = drop (suc i) history })) o (Err refusal.NoStep)) at
 
     none_needs : IsFree depends history i → find (depends event) (drop (suc i) history) ≡ None

@@ -150,7 +150,7 @@ module _ {L : Type 0} where
       step_sound : IsSound machine to
       step_sound = subst (IsSound machine) t.leads_to left_sound
 
-    event_sound : (state to : RunState L) (event : Event) → after machine state event ≡ Some to → IsSound machine state → IsSound machine to
+    pub event_sound : (state to : RunState L) (event : Event) → after machine state event ≡ Some to → IsSound machine state → IsSound machine to
     event_sound state to (Step p k kind) leads sound = step_sound state to p k kind (taken_from machine state to p k kind leads) sound
     event_sound state to (Lost copy) leads sound =
         let lost = where_true (may_lose machine (mail_of state) copy) (Some (record state { lost = set.insert state.lost copy })) to leads in

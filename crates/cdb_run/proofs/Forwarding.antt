@@ -1,5 +1,5 @@
 -- What the machine of an algorithm gives, a run of that algorithm gives.
-use Rattle.std.proofs.Common.{◌≡◌, List, Option, Some, None, option_map, ap, ◌∙◌, sym, subst}
+use Rattle.std.proofs.Common.{◌≡◌, List, Option, Some, None, IfNone, option_map, ap, ◌∙◌, sym, subst}
 use Rattle.cdb_alpha.specs.LocalState.{LocalState as AlphaState}
 use Rattle.cdb_alpha.specs.Place.{place_number as alpha_place}
 use Rattle.cdb_base.specs.declared.event.Event.{Event}
@@ -53,3 +53,8 @@ pub as_shown : {L A B : Type 0} (read : ProcessState L → A) (show : ProcessSta
     → option_map read process ≡ Some found → result ≡ view found → option_map of (option_map show process) ≡ Some result
 as_shown read show of view same None found result is given = ap (option_map view) is ∙ ap Some (sym given)
 as_shown read show of view same (Some process) found result is given = ap Some (same process) ∙ ap (option_map view) is ∙ ap Some (sym given)
+
+-- a process that is not there is not shown
+pub none_shown : {L A : Type 0} (show : ProcessState L → Shown) (found : Option A) (process : Option (ProcessState L)) → IfNone found (process ≡ None) → IfNone found (option_map show process ≡ None)
+none_shown show None process none = ap (option_map show) none
+none_shown show (Some a) process none = tt

@@ -16,12 +16,18 @@ pub mod Numbers
 pub mod Members
 pub mod SameState
 pub mod Naming
+pub mod Limits
+pub mod Finding
+pub mod Admitting
 pub mod Records
 pub mod SentFirst
 pub mod Restoring
 pub mod Answering
 pub mod Forwarding
 pub mod Answered
+pub mod ListMembers
+pub mod Causes
+pub mod RollingBack
 pub mod FoldKeeps
 pub mod Firsts
 pub mod Decided
@@ -32,3 +38,8 @@ pub mod AlphaRuns
 pub mod AlphaHistories
 pub mod Agreed
 pub mod Worked
+pub mod Counting
+pub mod Compared
+pub mod OwnOfState
+pub mod SameRuns
+pub mod Lawful

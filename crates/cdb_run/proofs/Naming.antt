@@ -29,7 +29,7 @@ use Rattle.cdb_run.proofs.Places.{nth-map, nth_within}
 use Rattle.cdb_run.proofs.SameState.{once, sends_it, stand_apart}
 use Rattle.cdb_run.proofs.Taken.{taken_from, some_of}
 
-in_place : {E : Type 0} (events : List E) (j : ℕ) (event : E) → slice_get events j ≡ Some event → IsIn event events
+pub in_place : {E : Type 0} (events : List E) (j : ℕ) (event : E) → slice_get events j ≡ Some event → IsIn event events
 in_place [] j event at = absurd (none-some event at)
 in_place (x ∷ xs) zero event at = subst (λ y. IsIn event (y ∷ xs)) (sym (same_Some x event at)) here
 in_place (x ∷ xs) (suc j) event at = there (in_place xs j event at)
@@ -64,12 +64,12 @@ from_one : {A : Type 0} (xs : List A) (p : ℕ) (x : A) → nth xs p ≡ Some x 
 from_one xs zero x at = absurd (none-some x at)
 from_one xs (suc i) x at = omega arith
 
-in_cases : (x y : Event) (ys : List Event) → IsIn x (y ∷ ys) → (x ≡ y) ⊎ IsIn x ys
+pub in_cases : {E : Type 0} (x y : E) (ys : List E) → IsIn x (y ∷ ys) → (x ≡ y) ⊎ IsIn x ys
 in_cases x y ys here = inl refl
 in_cases x y ys (there j) = inr j
 
 module _ {L : Type 0} (machine : Machine L) where
-  count_kept : (state next : RunState L) (event : Event) → after machine state event ≡ Some next → length next.processes ≡ length state.processes
+  pub count_kept : (state next : RunState L) (event : Event) → after machine state event ≡ Some next → length next.processes ≡ length state.processes
   count_kept state next (Step p k kind) one =
       let t = taken_from machine state next p k kind one in
       ap (λ (x : RunState L). length x.processes) (sym t.leads_to) ∙ length-set_nth state.processes p (left machine state next p k kind t)

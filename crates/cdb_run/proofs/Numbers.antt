@@ -59,7 +59,7 @@ IsCounted {L} state = (p : ℕ) (process : ProcessState L) → nth state.process
 
 -- registers
 
-register_same : (x y : Reg) → same_register x y ≡ true → x ≡ y
+pub register_same : (x y : Reg) → same_register x y ≡ true → x ≡ y
 register_same (R p) (R q) h = ap R (nat_eq-is p q h)
 register_same (R p) Dec h = absurd (true≢false (sym h))
 register_same Dec (R q) h = absurd (true≢false (sym h))

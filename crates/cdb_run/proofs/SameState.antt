@@ -11,11 +11,13 @@ use Rattle.cdb_causal.specs.Dependence.{accesses, sends, receives, kind_affects,
 use Rattle.cdb_causal.specs.Exchange.{IsExchanged, IsIn, here, there, IsBefore, IsEachOnce, KeepsOrder}
 use Rattle.cdb_causal.proofs.Orders.{exchanged_from_order}
 use Rattle.cdb_causal.proofs.Symmetry.{depends-symmetric}
+use Rattle.cdb_message.specs.Mail.{is_lost}
+use Rattle.cdb_run.specs.Mail.{mail_of}
 use Rattle.cdb_run.specs.State.{Machine, OwnEvent, RunState, start}
 use Rattle.cdb_run.specs.Step.{fold}
 use Rattle.cdb_run.proofs.Kept.{nat_eq-is}
 use Rattle.cdb_run.proofs.Members.{IsOrdered, AreStepsOrdered, member, ordered, own_comes, lost_comes, start_counted, start_empty, start_unlost}
-use Rattle.cdb_run.proofs.Numbers.{same_register_itself}
+use Rattle.cdb_run.proofs.Numbers.{own_at, same_register_itself}
 use Rattle.cdb_run.proofs.Taken.{both}
 
 or_cases : (a b : Bool) → (a || b) ≡ true → (a ≡ true) ⊎ (b ≡ true)
@@ -94,41 +96,68 @@ module _ {L : Type 0} (machine : Machine L) where
   pub once : (events : List Event) (to : RunState L) → fold machine events ≡ Some to → IsEachOnce events
   once events to h event b = once_ordered to event (ordered machine events (start machine) to (start_counted machine) h event event b)
 
-  also_in : (events others : List Event) (to : RunState L) → fold machine events ≡ Some to → fold machine others ≡ Some to → (event : Event) → IsIn event events → IsIn event others
-  also_in events others to h g (Step p k kind) i =
-      let m = member machine events (start machine) to (start_counted machine) h (Step p k kind) i in
-      let own : OwnEvent = record { event = Step p k kind; writes_before = m.writes_before } in
-      ⊎_elim
-      (λ old. absurd (start_empty machine p k own old))
-      (λ j. j)
-      (own_comes machine others (start machine) to g p k own m.stands)
-  also_in events others to h g (Lost copy) i =
-      let m = member machine events (start machine) to (start_counted machine) h (Lost copy) i in
-      ⊎_elim
-      (λ old. absurd (start_unlost machine copy old))
-      (λ j. j)
-      (lost_comes machine others (start machine) to g copy m.stands)
+  -- what two states have shown that two histories reach: the own events of each process, and what is lost
+  pub record ShowTheSame (to other : RunState L) : Type 0 where
+    pub own : (p k : ℕ) → own_at to p k ≡ own_at other p k
+    pub lost : (copy : CopyName) → is_lost (mail_of to) copy ≡ is_lost (mail_of other) copy
 
-  same_order : (events others : List Event) (to : RunState L) → fold machine events ≡ Some to → fold machine others ≡ Some to → KeepsOrder depends events others
-  same_order events others to h g x y d b =
-      let o = ordered machine events (start machine) to (start_counted machine) h x y b in
-      ⊎_elim (λ c. c)
-      (⊎_elim
-      (λ same. absurd (once events to h x (subst (λ z. IsBefore x z events) (sym same) b)))
-      (λ c. absurd (not_both_orders to x y d o (ordered machine others (start machine) to (start_counted machine) g y x c))))
-      (stand_apart x y others (also_in events others to h g x (first_of b)) (also_in events others to h g y (second_of b)))
-    where
-      first_of : {u v : Event} {l : List Event} → IsBefore u v l → IsIn u l
-      first_of (here i) = here
-      first_of (there c) = there (first_of c)
+  pub shown_turned : (to other : RunState L) → ShowTheSame to other → ShowTheSame other to
+  shown_turned to other shown = record { own = λ p k. sym (shown.own p k); lost = λ copy. sym (shown.lost copy) }
 
-      second_of : {u v : Event} {l : List Event} → IsBefore u v l → IsIn v l
-      second_of (here i) = there i
-      second_of (there c) = there (second_of c)
+  -- an order that the one state shows the other shows too
+  also_ordered : (to other : RunState L) → ShowTheSame to other → (x y : Event) → IsOrdered machine other x y → IsOrdered machine to x y
+  also_ordered to other shown (Step p k kind) (Step q l kind') o =
+      record {
+        numbers = o.numbers;
+        no_early_receive = o.no_early_receive;
+        writes = λ register one two.
+            let w = o.writes register one two in
+            (w.0, w.1, shown.own p k ∙ w.2, shown.own q l ∙ w.3, w.4, w.5);
+      }
+  also_ordered to other shown (Step p k kind) (Lost copy) o = o
+  also_ordered to other shown (Lost copy) (Step q l kind') o = o
+  also_ordered to other shown (Lost copy) (Lost copy') o = o
+
+  module _ (events others : List Event) (to other : RunState L) (shown : ShowTheSame to other) (h : fold machine events ≡ Some to) (g : fold machine others ≡ Some other) where
+    also_in : (event : Event) → IsIn event events → IsIn event others
+    also_in (Step p k kind) i =
+        let m = member machine events (start machine) to (start_counted machine) h (Step p k kind) i in
+        let own : OwnEvent = record { event = Step p k kind; writes_before = m.writes_before } in
+        ⊎_elim
+        (λ old. absurd (start_empty machine p k own old))
+        (λ j. j)
+        (own_comes machine others (start machine) other g p k own (sym (shown.own p k) ∙ m.stands))
+    also_in (Lost copy) i =
+        let m = member machine events (start machine) to (start_counted machine) h (Lost copy) i in
+        ⊎_elim
+        (λ old. absurd (start_unlost machine copy old))
+        (λ j. j)
+        (lost_comes machine others (start machine) other g copy (sym (shown.lost copy) ∙ m.stands))
+
+    same_order : KeepsOrder depends events others
+    same_order x y d b =
+        let o = ordered machine events (start machine) to (start_counted machine) h x y b in
+        ⊎_elim (λ c. c)
+        (⊎_elim
+        (λ same. absurd (once events to h x (subst (λ z. IsBefore x z events) (sym same) b)))
+        (λ c. absurd (not_both_orders to x y d o (also_ordered to other shown y x (ordered machine others (start machine) other (start_counted machine) g y x c)))))
+        (stand_apart x y others (also_in x (first_of b)) (also_in y (second_of b)))
+      where
+        first_of : {u v : Event} {l : List Event} → IsBefore u v l → IsIn u l
+        first_of (here i) = here
+        first_of (there c) = there (first_of c)
+
+        second_of : {u v : Event} {l : List Event} → IsBefore u v l → IsIn v l
+        second_of (here i) = there i
+        second_of (there c) = there (second_of c)
+
+  -- histories that reach states with the same own events and losses are equal up to exchange
+  pub shown_exchanged : (history others : List Event) (to other : RunState L) → ShowTheSame to other → fold machine history ≡ Some to → fold machine others ≡ Some other → IsExchanged depends history others
+  shown_exchanged history others to other shown h g =
+      exchanged_from_order depends history others (once history to h) (once others other g)
+      (λ event. (also_in history others to other shown h g event, also_in others history other to (shown_turned to other shown) g h event))
+      (same_order history others to other shown h g)
 
   -- histories that reach the same state are equal up to exchange
   pub same_state_exchanged : (history other : List Event) (state : RunState L) → fold machine history ≡ Some state → fold machine other ≡ Some state → IsExchanged depends history other
-  same_state_exchanged history other state h g =
-      exchanged_from_order depends history other (once history state h) (once other state g)
-      (λ event. (also_in history other state h g event, also_in other history state g h event))
-      (same_order history other state h g)
+  same_state_exchanged history other state h g = shown_exchanged history other state state (record { own = λ p k. refl; lost = λ copy. refl }) h g

@@ -9,8 +9,12 @@ pub mod Recorded
 pub mod Current
 pub mod Decisions
 pub mod Undo
+pub mod WriteCounts
+pub mod OwnSteps
 pub mod Rules
+pub mod Lawful
 pub mod Algorithms
+pub mod SameState
 pub mod Restored
 pub mod Any
 pub mod Agreement

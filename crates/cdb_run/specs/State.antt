@@ -1,12 +1,12 @@
 -- The state of a run.
-use Rattle.std.specs.Prelude.{ℕ, Bool, true, List, [], Option, map, length, if◌then◌else◌}
+use Rattle.std.specs.Prelude.{Bool, true, List, [], Option, map, length, if◌then◌else◌}
 use Rattle.std.specs.FinSet as set
-use Rattle.cdb_base.specs.declared.event.Event.{Event}
 use Rattle.cdb_base.specs.declared.payload.Payload.{Payload}
 use Rattle.cdb_message.specs.Names.{NameSet, CopySet}
 use Rattle.cdb_process.specs.declared.Input.{Input}
 use Rattle.cdb_process.specs.declared.Wish.{Wish}
 use Rattle.cdb_register.specs.Registers.{RegisterStates, fresh_registers}
+pub use Rattle.cdb_run.specs.declared.own_steps.OwnEvent.{OwnEvent}
 use Rattle.cdb_run.specs.declared.progress.Progress.{Progress}
 
 -- an algorithm at a setup: the first local states of processes 1 to n, whether it has registers, whether copies can
@@ -18,11 +18,6 @@ pub record Machine (Local : Type 0) : Type 0 where
   pub next : Local → Input → Option Local
   pub wish : Local → Option Wish
   pub done : Local → Bool
-
--- an event of a process and, at a read or a write, how many writes of that register stood before it
-pub record OwnEvent : Type 0 where
-  pub event : Event
-  pub writes_before : Option ℕ
 
 -- what a process alone changes, by its own steps
 pub record ProcessState (Local : Type 0) : Type 0 where

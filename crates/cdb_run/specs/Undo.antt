@@ -1,5 +1,5 @@
 -- What is taken back, and why it is not.
-use Rattle.std.specs.Prelude.{ℕ, suc, Bool, false, ◌&&◌, ◌==◌, List, [], ◌∷◌, ◌++◌, Result, Ok, Err, find, drop, take, filter, map, flat_map, slice_get, if◌then◌else◌}
+use Rattle.std.specs.Prelude.{ℕ, suc, Bool, false, ◌&&◌, ◌==◌, List, [], ◌∷◌, ◌++◌, Result, Ok, Err, find, drop, take, filter, map, flat_map, slice_get, length, if◌then◌else◌}
 use Rattle.std.specs.List.{position}
 use Rattle.std.specs.Option.{option_map_or}
 use Rattle.cdb_base.specs.Event.{event_name}
@@ -10,8 +10,10 @@ use Rattle.cdb_base.specs.declared.name.StepId.{StepId}
 use Rattle.cdb_base.specs.declared.name.StepId.TheVariants as named
 use Rattle.cdb_base.specs.declared.refusal.Refusal.{Refusal}
 use Rattle.cdb_base.specs.declared.refusal.Refusal.TheVariants as refusal
+use Rattle.cdb_causal.specs.Causality.{IsFree}
 use Rattle.cdb_causal.specs.Dependence.{depends}
 use Rattle.cdb_causal.specs.DirectDependents.{is_direct}
+use Rattle.cdb_causal.specs.Names.{IsNamedAt}
 use Rattle.cdb_causal.specs.Rollback.{without, rolled_back, remaining}
 use Rattle.cdb_run.specs.Step.{is_among}
 
@@ -40,14 +42,18 @@ found_at history place =
     (slice_get history place) (Err refusal.NoStep)
 
 -- the standing event of that name; the checks are that its processes are there, and that it stands
-abbrev pub standing_of : ℕ → List Event → StepId → Result Found Refusal
-standing_of n history name =
+abbrev pub event_named : ℕ → List Event → StepId → Result Found Refusal
+event_named n history name =
     if names_processes n name then option_map_or (found_at history) (position (has_name name) history) (Err refusal.NoStep) else Err refusal.NoProcess
 
 -- the answer for a standing event, or the refusal
 abbrev pub for_standing : {A : Type 0} → Result Found Refusal → (Found → Result A Refusal) → Result A Refusal
 for_standing (Ok found) answer = answer found
 for_standing (Err why) answer = Err why
+
+-- an event of the name stands on which no later one depends
+abbrev pub IsFreeName : List Event → StepId → Type 0
+IsFreeName history name = (i : ℕ) × IsNamedAt history i name × IsFree depends history i
 
 -- Undo: the event, and the history without it, where no later event depends on it; else the first that does.
 abbrev pub undo_found : List Event → Found → Result (Event × List Event) Refusal
@@ -56,7 +62,7 @@ undo_found history found =
     (find (depends found.event) found.later) (Ok (found.event, without history found.place))
 
 abbrev pub undo_of : ℕ → List Event → StepId → Result (Event × List Event) Refusal
-undo_of n history name = for_standing (standing_of n history name) (undo_found history)
+undo_of n history name = for_standing (event_named n history name) (undo_found history)
 
 -- what is answered of an answer that also says which history it leaves
 abbrev pub answered : {A : Type 0} → Result (A × List Event) Refusal → Result A Refusal
@@ -72,10 +78,20 @@ abbrev pub reversed : List Event → List Event
 reversed [] = []
 reversed (event ∷ events) = reversed events ++ event ∷ []
 
+-- how many events were removed, or the refusal
+abbrev pub number_removed : Result (List Event) Refusal → Result ℕ Refusal
+number_removed (Ok events) = Ok (length events)
+number_removed (Err why) = Err why
+
+-- a list with the removed events at its end; a refusal leaves it as it was
+abbrev pub with_removed : List Event → Result (List Event) Refusal → List Event
+with_removed list (Ok events) = list ++ events
+with_removed list (Err why) = list
+
 -- Rollback: the event and its consequences, the last first, and the history without them.
 abbrev pub rollback_of : ℕ → List Event → StepId → Result (List Event × List Event) Refusal
 rollback_of n history name =
-    for_standing (standing_of n history name) (λ found. Ok (reversed (rolled_back depends history found.place), remaining depends history found.place))
+    for_standing (event_named n history name) (λ found. Ok (reversed (rolled_back depends history found.place), remaining depends history found.place))
 
 -- of the events, in their order, those on which the effect depends directly
 abbrev pub direct_among : List Event → Event → List Event
@@ -89,4 +105,4 @@ is_step_of p (Lost copy) = false
 -- Why: the names of the direct causes, in order of process. A loss causes nothing.
 abbrev pub causes_of : ℕ → List Event → StepId → Result (List StepId) Refusal
 causes_of n history name =
-    for_standing (standing_of n history name) (λ found. Ok (map event_name (flat_map (λ p. filter (is_step_of p) (direct_among found.earlier found.event)) all_processes)))
+    for_standing (event_named n history name) (λ found. Ok (map event_name (flat_map (λ p. filter (is_step_of p) (direct_among found.earlier found.event)) all_processes)))

@@ -1,20 +1,28 @@
 //! A run of either algorithm.
 
-ghost use Rattle.std.specs.Prelude.{◌≡◌, ◌≤◌, ◌↔◌, [], Some, is_some, IsTrue, IsSome, IsOk, IfOk, OnErr, option_map};
+ghost use Rattle.std.specs.Prelude.{◌≡◌, ◌≤◌, ◌↔◌, [], false, None, Some, is_some, IsTrue, IsSome, IfNone, IsOk, IfOk, OnErr, Ok, Err, MatchOption, MatchResult, option_map};
 ghost use Rattle.std.specs.Option.{option_copied};
-ghost use Rattle.cdb_message.specs.Mail.{message_name, next_pending, payload_of, is_lost};
+ghost use Rattle.cdb_causal.specs.Dependence.{depends};
+ghost use Rattle.cdb_causal.specs.Exchange.{IsExchanged};
+ghost use Rattle.cdb_message.specs.Mail.{message_name, copy_name, next_pending, payload_of, is_lost};
 ghost use Rattle.cdb_register.specs.Registers.{register_of};
 ghost use Rattle.cdb_run.specs.Agreement.{AllAgree, HasMajorityIfNeeded};
 ghost use Rattle.cdb_run.specs.Algorithms.{rules};
 ghost use Rattle.cdb_run.specs.Any.{standing_of, IsTrueToSetup};
 ghost use Rattle.cdb_run.specs.Refusals.{refusal_of, IsOfRun, with_taken};
+ghost use Rattle.cdb_run.specs.SameState.{ReachSameState};
+ghost use Rattle.cdb_run.specs.Step.{is_among};
+ghost use Rattle.cdb_run.specs.Undo.{undo_of, rollback_of, causes_of, answered, left_by, number_removed, with_removed};
 
 use crate::run::Run;
 use cdb_alpha::Alpha;
-use cdb_base::{Act, Cell, CopyName, Event, MsgName, NoMemory, Payload, Proc, Refusal, Reg, Val};
+use cdb_base::{
+    Act, Cell, CopyName, Event, MsgName, NoMemory, Payload, Proc, Refusal, Reg, StepId, Val,
+};
 use cdb_leader::Leader;
 use cdb_process::Process;
 use cdb_setup::{Algorithm, Setup};
+use smallvec::SmallVec;
 use std::alloc::Global;
 
 /// A run of the algorithm that its setup names. A contract sees its setup and its standing events, and
@@ -115,6 +123,161 @@ impl AnyRun {
         }
     }
 
+    /// Undoes the `k`-th step of process `p`, whatever came later in time, or answers the first
+    /// refusal that holds: `NoProcess`, `NoStep`, or `NeededBy` the first standing event that depends
+    /// on it. After a refusal the run is as it was. It takes no memory.
+    pub fn undo(&mut self, p: u32, k: u32) -> Result<Event, Refusal>
+        requires { IsTrueToSetup self.old }
+        ensures answer { result ≡ answered (undo_of (standing_of self.old).setup.processes (standing_of self.old).history (StepId.Step (record { p = p; k = k }))) }
+        ensures after { standing_of self.new ≡ record (standing_of self.old) { history = left_by (standing_of self.old).history (undo_of (standing_of self.old).setup.processes (standing_of self.old).history (StepId.Step (record { p = p; k = k }))) } }
+        ensures true_to_setup { IsTrueToSetup self.new }
+    {
+        match self {
+            AnyRun::Leader(run) => run.undo(p, k),
+            AnyRun::Alpha(run) => run.undo(p, k),
+        }
+    }
+
+    /// Undoes the loss of the copy for process `p` of the `m`-th message of process `s`, or answers
+    /// the first refusal that holds: `NoProcess` of `s` or `p`, `NoStep`, or `NeededBy`. After a
+    /// refusal the run is as it was. It takes no memory.
+    pub fn undo_lost(&mut self, s: u32, m: u32, p: u32) -> Result<Event, Refusal>
+        requires { IsTrueToSetup self.old }
+        ensures answer { result ≡ answered (undo_of (standing_of self.old).setup.processes (standing_of self.old).history (StepId.Lost (copy_name (message_name s m) p))) }
+        ensures after { standing_of self.new ≡ record (standing_of self.old) { history = left_by (standing_of self.old).history (undo_of (standing_of self.old).setup.processes (standing_of self.old).history (StepId.Lost (copy_name (message_name s m) p))) } }
+        ensures true_to_setup { IsTrueToSetup self.new }
+    {
+        match self {
+            AnyRun::Leader(run) => run.undo_lost(s, m, p),
+            AnyRun::Alpha(run) => run.undo_lost(s, m, p),
+        }
+    }
+
+    /// Takes the `k`-th step of process `p` back with its consequences, and answers what was taken
+    /// back, the last first; or answers the first refusal that holds: `NoProcess` or `NoStep`. After a
+    /// refusal and after `NoMemory` the run is as it was.
+    pub fn rollback(
+        &mut self,
+        alloc: Global,
+        p: u32,
+        k: u32,
+    ) -> Result<Result<Vec<Event>, Refusal>, NoMemory>
+        requires { IsTrueToSetup self.old }
+        ensures answer { IfOk result (λ answer. MatchResult answer (λ taken. answered (rollback_of (standing_of self.old).setup.processes (standing_of self.old).history (StepId.Step (record { p = p; k = k }))) ≡ Ok taken.items) (λ why. answered (rollback_of (standing_of self.old).setup.processes (standing_of self.old).history (StepId.Step (record { p = p; k = k }))) ≡ Err why)) }
+        ensures after { IfOk result (λ _. standing_of self.new ≡ record (standing_of self.old) { history = left_by (standing_of self.old).history (rollback_of (standing_of self.old).setup.processes (standing_of self.old).history (StepId.Step (record { p = p; k = k }))) }) }
+        ensures err { OnErr result (self.new ≡ self.old) }
+        ensures true_to_setup { IsTrueToSetup self.new }
+    {
+        match self {
+            AnyRun::Leader(run) => run.rollback(alloc, p, k),
+            AnyRun::Alpha(run) => run.rollback(alloc, p, k),
+        }
+    }
+
+    /// Takes the loss of the copy for process `p` of the `m`-th message of process `s` back with its
+    /// consequences, and answers what was taken back, the last first; or answers the first refusal
+    /// that holds: `NoProcess` of `s` or `p`, or `NoStep`. After a refusal and after `NoMemory` the run
+    /// is as it was.
+    pub fn rollback_lost(
+        &mut self,
+        alloc: Global,
+        s: u32,
+        m: u32,
+        p: u32,
+    ) -> Result<Result<Vec<Event>, Refusal>, NoMemory>
+        requires { IsTrueToSetup self.old }
+        ensures answer { IfOk result (λ answer. MatchResult answer (λ taken. answered (rollback_of (standing_of self.old).setup.processes (standing_of self.old).history (StepId.Lost (copy_name (message_name s m) p))) ≡ Ok taken.items) (λ why. answered (rollback_of (standing_of self.old).setup.processes (standing_of self.old).history (StepId.Lost (copy_name (message_name s m) p))) ≡ Err why)) }
+        ensures after { IfOk result (λ _. standing_of self.new ≡ record (standing_of self.old) { history = left_by (standing_of self.old).history (rollback_of (standing_of self.old).setup.processes (standing_of self.old).history (StepId.Lost (copy_name (message_name s m) p))) }) }
+        ensures err { OnErr result (self.new ≡ self.old) }
+        ensures true_to_setup { IsTrueToSetup self.new }
+    {
+        match self {
+            AnyRun::Leader(run) => run.rollback_lost(alloc, s, m, p),
+            AnyRun::Alpha(run) => run.rollback_lost(alloc, s, m, p),
+        }
+    }
+
+    /// Takes the `k`-th step of process `p` back with its consequences, adds what was taken back to
+    /// the end of a list, the last first, and answers how many events that are; or answers the first
+    /// refusal that holds: `NoProcess` or `NoStep`. After a refusal and after `NoMemory` run and list
+    /// are as they were.
+    pub fn rollback_onto(
+        &mut self,
+        alloc: Global,
+        p: u32,
+        k: u32,
+        taken: &mut Vec<Event>,
+    ) -> Result<Result<usize, Refusal>, NoMemory>
+        requires { IsTrueToSetup self.old }
+        ensures answer { IfOk result (λ answer. answer ≡ number_removed (answered (rollback_of (standing_of self.old).setup.processes (standing_of self.old).history (StepId.Step (record { p = p; k = k }))))) }
+        ensures after { IfOk result (λ _. standing_of self.new ≡ record (standing_of self.old) { history = left_by (standing_of self.old).history (rollback_of (standing_of self.old).setup.processes (standing_of self.old).history (StepId.Step (record { p = p; k = k }))) }) }
+        ensures list { IfOk result (λ _. taken.new.items ≡ with_removed taken.old.items (answered (rollback_of (standing_of self.old).setup.processes (standing_of self.old).history (StepId.Step (record { p = p; k = k }))))) }
+        ensures err { OnErr result (self.new ≡ self.old) }
+        ensures list_err { OnErr result (taken.new.items ≡ taken.old.items) }
+        ensures true_to_setup { IsTrueToSetup self.new }
+    {
+        match self {
+            AnyRun::Leader(run) => run.rollback_onto(alloc, p, k, taken),
+            AnyRun::Alpha(run) => run.rollback_onto(alloc, p, k, taken),
+        }
+    }
+
+    /// Takes the loss of the copy for process `p` of the `m`-th message of process `s` back with its
+    /// consequences, adds what was taken back to the end of a list, the last first, and answers how
+    /// many events that are; or answers the first refusal that holds: `NoProcess` of `s` or `p`, or
+    /// `NoStep`. After a refusal and after `NoMemory` run and list are as they were.
+    pub fn rollback_lost_onto(
+        &mut self,
+        alloc: Global,
+        s: u32,
+        m: u32,
+        p: u32,
+        taken: &mut Vec<Event>,
+    ) -> Result<Result<usize, Refusal>, NoMemory>
+        requires { IsTrueToSetup self.old }
+        ensures answer { IfOk result (λ answer. answer ≡ number_removed (answered (rollback_of (standing_of self.old).setup.processes (standing_of self.old).history (StepId.Lost (copy_name (message_name s m) p))))) }
+        ensures after { IfOk result (λ _. standing_of self.new ≡ record (standing_of self.old) { history = left_by (standing_of self.old).history (rollback_of (standing_of self.old).setup.processes (standing_of self.old).history (StepId.Lost (copy_name (message_name s m) p))) }) }
+        ensures list { IfOk result (λ _. taken.new.items ≡ with_removed taken.old.items (answered (rollback_of (standing_of self.old).setup.processes (standing_of self.old).history (StepId.Lost (copy_name (message_name s m) p))))) }
+        ensures err { OnErr result (self.new ≡ self.old) }
+        ensures list_err { OnErr result (taken.new.items ≡ taken.old.items) }
+        ensures true_to_setup { IsTrueToSetup self.new }
+    {
+        match self {
+            AnyRun::Leader(run) => run.rollback_lost_onto(alloc, s, m, p, taken),
+            AnyRun::Alpha(run) => run.rollback_lost_onto(alloc, s, m, p, taken),
+        }
+    }
+
+    /// The direct causes of the `k`-th step of process `p`, in order of process, at most one of each;
+    /// or the first refusal that holds: `NoProcess` or `NoStep`. It takes no memory.
+    pub fn causes(&self, alloc: Global, p: u32, k: u32) -> Result<SmallVec<StepId, 9>, Refusal>
+        requires { IsTrueToSetup self.now }
+        ensures { MatchResult result (λ causes. causes_of (standing_of self.now).setup.processes (standing_of self.now).history (StepId.Step (record { p = p; k = k })) ≡ Ok causes.items) (λ why. causes_of (standing_of self.now).setup.processes (standing_of self.now).history (StepId.Step (record { p = p; k = k })) ≡ Err why) }
+    {
+        match self {
+            AnyRun::Leader(run) => run.causes(alloc, p, k),
+            AnyRun::Alpha(run) => run.causes(alloc, p, k),
+        }
+    }
+
+    /// The direct cause of the loss of the copy for process `p` of the `m`-th message of process `s`;
+    /// or the first refusal that holds: `NoProcess` of `s` or `p`, or `NoStep`. It takes no memory.
+    pub fn causes_of_loss(
+        &self,
+        alloc: Global,
+        s: u32,
+        m: u32,
+        p: u32,
+    ) -> Result<SmallVec<StepId, 9>, Refusal>
+        requires { IsTrueToSetup self.now }
+        ensures { MatchResult result (λ causes. causes_of (standing_of self.now).setup.processes (standing_of self.now).history (StepId.Lost (copy_name (message_name s m) p)) ≡ Ok causes.items) (λ why. causes_of (standing_of self.now).setup.processes (standing_of self.now).history (StepId.Lost (copy_name (message_name s m) p)) ≡ Err why) }
+    {
+        match self {
+            AnyRun::Leader(run) => run.causes_of_loss(alloc, s, m, p),
+            AnyRun::Alpha(run) => run.causes_of_loss(alloc, s, m, p),
+        }
+    }
+
     pub fn setup(&self) -> &Setup
         ensures { result.now ≡ (standing_of self.now).setup }
     {
@@ -133,6 +296,18 @@ impl AnyRun {
         match self {
             AnyRun::Leader(run) => run.history(),
             AnyRun::Alpha(run) => run.history(),
+        }
+    }
+
+    /// The process of that number, where the run has it.
+    pub fn process(&self, p: u32) -> Option<Proc>
+        requires { IsTrueToSetup self.now }
+        ensures number { MatchOption result (is_among (standing_of self.now).setup.processes p ≡ false) (λ q. (q ≡ p) × (p ≤ (standing_of self.now).setup.processes)) }
+        ensures none { IfNone result ((rules (standing_of self.now).setup).process (standing_of self.now).history p ≡ None) }
+    {
+        match self {
+            AnyRun::Leader(run) => run.process(p),
+            AnyRun::Alpha(run) => run.process(p),
         }
     }
 
@@ -276,6 +451,22 @@ impl AnyRun {
         match self {
             AnyRun::Leader(run) => run.lost(copy),
             AnyRun::Alpha(run) => run.lost(copy),
+        }
+    }
+
+    /// Whether both runs are in the same state, that is, whether their histories are equal up to
+    /// exchange of neighbours that do not depend on each other. It takes no memory.
+    pub fn same_run(&self, other: &AnyRun) -> bool
+        requires true_to_setup { IsTrueToSetup self.now }
+        requires other_true_to_setup { IsTrueToSetup other.now }
+        requires equal_setups { (standing_of self.now).setup ≡ (standing_of other.now).setup }
+        ensures state { IsTrue result ↔ ReachSameState (standing_of self.now).setup (standing_of self.now).history (standing_of other.now).history }
+        ensures exchange { IsTrue result ↔ IsExchanged depends (standing_of self.now).history (standing_of other.now).history }
+    {
+        match (self, other) {
+            (AnyRun::Leader(run), AnyRun::Leader(other)) => run.same_run(other),
+            (AnyRun::Alpha(run), AnyRun::Alpha(other)) => run.same_run(other),
+            _ => unreachable!(),
         }
     }
 

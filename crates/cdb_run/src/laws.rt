@@ -10,6 +10,7 @@ ghost use Rattle.cdb_causal.specs.Reach.{IsCommuting};
 ghost use Rattle.cdb_causal.specs.Rollback.{without, remaining, rolled_back};
 ghost use Rattle.cdb_causal.specs.Standing.{IsStanding};
 ghost use Rattle.cdb_record.specs.Entries.{events_of};
+ghost use Rattle.cdb_run.specs.OwnSteps.{own_of, own_steps};
 ghost use Rattle.cdb_run.specs.Recorded.{IsRecorded};
 ghost use Rattle.cdb_run.specs.State.{Machine, RunState};
 ghost use Rattle.cdb_run.specs.Undo.{has_name, undo_of, rollback_of, reversed};
@@ -105,6 +106,13 @@ pub fn losses<L>()
 #[tactic(auto, using(crate::proofs::SameState::same_state_exchanged))]
 pub fn same_state_exchanged<L>()
     ensures { (machine : Machine L) (history other : List Event) (state : RunState L) → fold machine history ≡ Some state → fold machine other ≡ Some state → IsExchanged depends history other }
+{}
+
+/// The own events of a process, in the state that a history reaches, are its steps as the history
+/// alone tells them: each read and write of a register with the number of writes before it.
+#[tactic(auto, using(crate::proofs::OwnOfState::own_of_history))]
+pub fn own_events<L>()
+    ensures { (machine : Machine L) (history : List Event) (state : RunState L) → fold machine history ≡ Some state → (p : ℕ) → own_of state p ≡ own_steps p history }
 {}
 
 /// Recorded events lead to a state. Where one of them is free, the others, each with the record that

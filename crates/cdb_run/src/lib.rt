@@ -2,10 +2,12 @@
 #![tactic(auto)]
 
 pub mod agreement;
+mod among;
 mod any;
 mod change;
 mod first;
 pub mod laws;
+mod own_steps;
 mod plan;
 mod progress;
 mod restore;

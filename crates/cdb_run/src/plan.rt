@@ -5,6 +5,7 @@ ghost use Rattle.cdb_message.specs.Mail.{sent_by, is_sent, is_received, is_lost,
 ghost use Rattle.cdb_run.specs.Refusals.{first_refusal, wished_kind, accepts_kind, planned, unless_refused, again_checks, lose_checks};
 ghost use Rattle.cdb_run.specs.Machines.{machine_of};
 
+use crate::among::process_among;
 use crate::progress::Progress;
 use cdb_base::{Act, CopyName, Event, Kind, MsgName, Proc, Refusal};
 use cdb_message::mail::Mail;
@@ -134,10 +135,10 @@ fn plan_answer<P: Process>(
     if !accepts_query(&progress.local) {
         return Err(Refusal::NotNow);
     }
-    if !(1 <= leader && leader <= u32::from(setup.n())) {
+    let Some(leader) = process_among(setup.n(), leader) else {
         return Err(Refusal::BadLeader);
-    }
-    next_step(progress, p, Kind::Query(Proc::new(leader as u8)))
+    };
+    next_step(progress, p, Kind::Query(leader))
 }
 
 /// Process `p` receives the `m`-th message of process `s`.
@@ -233,10 +234,9 @@ pub(crate) fn plan_loss(
     if setup.version() != 2 {
         return Err(Refusal::NoLoss);
     }
-    if !(1 <= p && p <= u32::from(setup.n())) {
+    let Some(to) = process_among(setup.n(), p) else {
         return Err(Refusal::NoProcess);
-    }
-    let to = Proc::new(p as u8);
+    };
     let Some(msg) = mail.find(s, m) else {
         return Err(Refusal::NoMessage);
     };

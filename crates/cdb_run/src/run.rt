@@ -1,9 +1,12 @@
 //! A run, with one current state and a record of each standing event.
 
-ghost use Rattle.std.specs.Prelude.{◌≡◌, ◌<◌, ◌≤◌, ◌↔◌, [], ◌∷◌, ◌++◌, length, false, None, Some, is_some, IsSome, IsOk, IfOk, OnOk, OnErr, IfNone, MatchOption, option_map, vec_len, vec_capacity};
+ghost use Rattle.std.specs.Prelude.{◌≡◌, List, ◌<◌, ◌≤◌, ◌↔◌, [], ◌∷◌, ◌++◌, length, false, None, Some, is_some, IsSome, IsOk, IfOk, OnOk, OnErr, IfNone, MatchOption, option_map};
 ghost use Rattle.cdb_base.specs.Places.{nth};
+ghost use Rattle.cdb_causal.specs.Standing.{IsStanding};
 ghost use Rattle.std.specs.Option.{option_copied};
+ghost use Rattle.cdb_base.specs.declared.event.Event.{Event};
 ghost use Rattle.cdb_message.specs.Mail.{message_name, next_pending, payload_of, is_lost};
+ghost use Rattle.cdb_record.specs.Entries.{events_of};
 ghost use Rattle.cdb_register.specs.Registers.{register_of};
 ghost use Rattle.cdb_run.specs.Decisions.{decisions_of};
 ghost use Rattle.cdb_run.specs.Mail.{mail_of};
@@ -11,6 +14,7 @@ ghost use Rattle.cdb_run.specs.Machines.{machine_of};
 ghost use Rattle.cdb_run.specs.Refusals.{refusal_of, step_answer, again_answer, lose_answer, IsOfRun, with_taken};
 ghost use Rattle.cdb_run.specs.Step.{IsEnabled, IsValid, is_among, state_of};
 
+use crate::among::process_among;
 use crate::change::change;
 use crate::first::first_processes;
 use crate::plan::{plan, plan_again, plan_loss, plan_loss_again};
@@ -18,14 +22,17 @@ use crate::progress::{Progress, decided};
 use cdb_base::{
     Act, Cell, CopyName, Event, Kind, MsgName, NoMemory, Payload, Proc, Refusal, Reg, Val,
 };
+use cdb_causal::History;
 use cdb_message::mail::Mail;
 use cdb_process::Process;
-use cdb_record::Entry;
+use cdb_record::Records;
 use cdb_register::Registers;
 use cdb_setup::{Algorithm, Setup};
 use std::alloc::Global;
 use std::marker::Model;
 
+mod rollback;
+mod same;
 mod undo;
 
 /// A run. A contract sees its setup and its standing events; the state that it holds is what these
@@ -36,61 +43,32 @@ pub struct Run<P: Process> {
     processes: Vec<Progress<P>>,
     mail: Mail,
     registers: Registers,
-    history: Vec<Event>,
-    entries: Vec<Entry<P::Back>>,
+    records: Records<P::Back>,
 }
 
 impl<P: Process> Model for Run<P> {
+    ghost use Rattle.cdb_record.specs.Entries.{events_of};
     ghost use Rattle.cdb_run.specs.Machines.{machine_of};
     ghost use Rattle.cdb_run.specs.Current.{Standing, IsCurrent};
 
     ghost Value = { Standing };
 
-    ghost view = { λ run. record { setup = run.setup; history = run.history.items } };
+    ghost view = { λ run. record { setup = run.setup; history = events_of run.records } };
 
-    ghost invariant = { λ run. IsCurrent (machine_of P.first P.next P.wish P.place P.last_place run.setup) P.before run.processes.items run.mail run.registers run.history.items run.entries.items };
+    ghost invariant = { λ run. IsCurrent (machine_of P.first P.next P.wish P.place P.last_place run.setup) P.before run.processes.items run.mail run.registers (events_of run.records) run.records };
 }
 
-/// Makes room for one event more.
-fn reserve(events: &mut Vec<Event>) -> Result<(), NoMemory>
-    ensures same { events.new.items ≡ events.old.items }
-    ensures room { OnOk result (vec_len events.new < vec_capacity events.new) }
+/// Adds an event to the records, with nothing yet to take it back by. Without memory they do not
+/// change.
+fn admit<B: Drop>(alloc: Global, records: &mut Records<B>, event: &Event) -> Result<(), NoMemory>
+    requires { IsStanding (events_of records.old ++ event.now ∷ []) }
+    ensures ok { OnOk result (records.new ≡ records.old ++ record { event = event.now; back = None; overwritten = None } ∷ []) }
+    ensures err { OnErr result (records.new ≡ records.old) }
 {
-    events.reserve(1)?;
-    Ok(())
-}
-
-/// Adds an event where there is room.
-fn push_reserved(events: &mut Vec<Event>, event: &Event)
-    requires { vec_len events.old < vec_capacity events.old }
-    ensures { events.new.items ≡ events.old.items ++ event.now ∷ [] }
-{
-    // Names the types inside an event, which the check finds in no other part of the function.
-    let _parts: (Option<Kind>, Option<Reg>) = (None, None);
-    events.push_reserved(*event);
-}
-
-/// Adds an entry where there is room.
-fn push_entry<B: Drop>(entries: &mut Vec<Entry<B>>, entry: Entry<B>)
-    requires { vec_len entries.old < vec_capacity entries.old }
-    ensures { entries.new.items ≡ entries.old.items ++ entry ∷ [] }
-{
-    match entries.push(entry) {
-        Ok(()) => {}
-        Err(_) => unreachable!(),
-    }
-}
-
-/// Whether the number is that of one of `n` processes.
-fn is_process(n: u8, p: u32) -> bool
-    ensures { result ≡ is_among n p }
-{
-    1 <= p && p <= u32::from(n)
+    records.push(alloc, *event)
 }
 
 impl<P: Process> Run<P> {
-    ghost use Rattle.cdb_base.specs.declared.event.Event.{Event};
-
     /// The run of a setup in which nothing has happened. After `NoMemory` the setup is given up.
     pub fn start(alloc: Global, setup: Setup) -> Result<Self, NoMemory>
         ensures { IfOk result (λ run. run ≡ record { setup = setup; history = [] }) }
@@ -108,8 +86,7 @@ impl<P: Process> Run<P> {
             processes,
             mail,
             registers,
-            history: Vec::new(alloc),
-            entries: Vec::new(alloc),
+            records: Records::new(alloc),
         })
     }
 
@@ -120,28 +97,26 @@ impl<P: Process> Run<P> {
         ensures err { OnErr result (self.new ≡ self.old) }
     {
         let _ranges = self.setup.n();
-        reserve(&mut self.history)?;
-        self.entries.reserve(1)?;
+        let event = Event::Step { p, k, kind: *kind };
+        admit(alloc, &mut self.records, &event)?;
         let progress = &mut self.processes[p.index()];
-        let left = change(
+        match change(
             alloc,
             progress,
             &mut self.mail,
             &mut self.registers,
             p,
             kind,
-        )?;
-        let event = Event::Step { p, k, kind: *kind };
-        push_reserved(&mut self.history, &event);
-        push_entry(
-            &mut self.entries,
-            Entry {
-                event,
-                back: left.back,
-                overwritten: left.overwritten,
-            },
-        );
-        Ok(())
+        ) {
+            Ok(left) => {
+                self.records.set_last(left.back, left.overwritten);
+                Ok(())
+            }
+            Err(refused) => {
+                self.records.withdraw();
+                Err(refused)
+            }
+        }
     }
 
     /// Takes an enabled loss. A refused growth changes nothing.
@@ -150,20 +125,16 @@ impl<P: Process> Run<P> {
         ensures ok { OnOk result (self.new ≡ record self.old { history = self.old.history ++ Event.Lost copy.now ∷ [] }) }
         ensures err { OnErr result (self.new ≡ self.old) }
     {
-        reserve(&mut self.history)?;
-        self.entries.reserve(1)?;
-        self.mail.lose(alloc, copy.to, copy.msg)?;
+        let _ranges = self.setup.n();
         let event = Event::Lost(*copy);
-        push_reserved(&mut self.history, &event);
-        push_entry(
-            &mut self.entries,
-            Entry {
-                event,
-                back: None,
-                overwritten: None,
-            },
-        );
-        Ok(())
+        admit(alloc, &mut self.records, &event)?;
+        match self.mail.lose(alloc, copy.to, copy.msg) {
+            Ok(()) => Ok(()),
+            Err(refused) => {
+                self.records.withdraw();
+                Err(refused)
+            }
+        }
     }
 
     /// Takes an enabled event. A refused growth changes nothing.
@@ -180,14 +151,10 @@ impl<P: Process> Run<P> {
 
     /// The process of that number, where the run has it.
     pub fn process(&self, p: u32) -> Option<Proc>
-        ensures number { MatchOption result (is_among self.now.setup.processes p ≡ false) (λ q. (q ≡ p) × (p ≤ self.now.setup.processes)) }
+        ensures number { MatchOption result (is_among self.now.setup.processes p ≡ false) (λ q. (q ≡ p) × (p ≤ self.now.setup.processes) × (1 ≤ p)) }
         ensures none { IfNone result (nth (state_of (machine_of P.first P.next P.wish P.place P.last_place self.now.setup) self.now.history).processes p ≡ None) }
     {
-        let n = self.setup.n();
-        if !is_process(n, p) {
-            return None;
-        }
-        Some(Proc::new(p as u8))
+        process_among(self.setup.n(), p)
     }
 
     /// How far a process has come.
@@ -342,7 +309,14 @@ impl<P: Process> Run<P> {
         ensures events { result.now ≡ self.now.history }
         ensures valid { IsValid (machine_of P.first P.next P.wish P.place P.last_place self.now.setup) self.now.history }
     {
-        self.history.as_slice()
+        self.records.history().as_slice()
+    }
+
+    /// The standing events, with their places by name.
+    pub(crate) fn standing(&self) -> &History
+        ensures { result.now ≡ self.now.history }
+    {
+        self.records.history()
     }
 
     /// Whether no crash of the process stands.

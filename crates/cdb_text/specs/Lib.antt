@@ -4,6 +4,7 @@ pub mod Faults
 pub mod Grammar
 pub mod Keywords
 pub mod Laws
+pub mod LineFaults
 pub mod Names
 pub mod Reading
 pub mod Refusals

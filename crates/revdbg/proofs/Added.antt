@@ -1,9 +1,12 @@
 -- Bytes that are added one piece after the other.
-use Rattle.std.proofs.Common.{false, not, ◌&&◌, ◌==◌, ◌≡◌, ◌≢◌, ℕ, ◌+◌, ◌-◌, List, ◌++◌, length, take, drop, Option, Some, None, refl, sym, ap, ◌∙◌, append_assoc, take-append-drop}
+use Rattle.std.proofs.Common.{false, not, ◌&&◌, ◌==◌, ◌≡◌, ◌≢◌, ℕ, ◌+◌, ◌-◌, ◌<◌, List, [], ◌∷◌, ◌++◌, length, get_or, take, drop, add-one, append-nil, Option, Some, None, refl, sym, ap, ◌∙◌, append_assoc, take-append-drop}
 use Rattle.std.specs.Prelude.{Ok}
+use Rattle.std.specs.List.{flat_map}
 use Rattle.std.proofs.lemmas.Bool.{ne_eqb}
 use Rattle.std.proofs.lemmas.List.{take_rest}
-use Rattle.std.proofs.Math.Seq.{take-add}
+use Rattle.std.proofs.lemmas.List.Concat.{flat_map-cons}
+use Rattle.std.proofs.lemmas.Grind.{flat_map-append}
+use Rattle.std.proofs.Math.Seq.{take-add, drop-cons}
 use Rattle.revdbg.specs.Streams.{after, AddsBeginning, is_failure}
 
 -- one text after the other
@@ -34,3 +37,21 @@ no_failure count piece some = ap (λ b. b && not (length piece == 0)) (ne_eqb co
 pub beginning_of_all : (old now new : Option (List ℕ)) (before text behind all : List ℕ) → now ≡ after old before → all ≡ before ++ (text ++ behind) → AddsBeginning now new text → AddsBeginning old new all
 beginning_of_all old now new before text behind all e is added =
     (before ++ added.0, added.1 ++ behind, is ∙ rw added.2 (simp append_assoc), added.3 ∙ ap (λ (h : Option (List ℕ)). after h added.0) e ∙ after_after old before added.0)
+
+-- the items before one, that one, and those behind it
+pub parted : {X : Type 0} (xs : List X) (i : ℕ) (d : X) → i < length xs → xs ≡ take i xs ++ (get_or xs i d ∷ drop (i + 1) xs)
+parted {X} xs i d below = sym (take-append-drop i xs) ∙ ap (λ (ys : List X). take i xs ++ ys) (drop-cons xs i d below ∙ (rw add-one refl))
+
+-- the same of their texts
+pub parted_texts : {X : Type 0} (text : X → List ℕ) (xs : List X) (i : ℕ) (d : X) → i < length xs → flat_map text xs ≡ flat_map text (take i xs) ++ (text (get_or xs i d) ++ flat_map text (drop (i + 1) xs))
+parted_texts text xs i d below =
+    ap (flat_map text) (parted xs i d below) ∙ flat_map-append text (take i xs) (get_or xs i d ∷ drop (i + 1) xs) ∙ ap (λ (bs : List ℕ). flat_map text (take i xs) ++ bs) (flat_map-cons text (get_or xs i d) (drop (i + 1) xs))
+
+-- nothing more was added
+pub after_nothing : (held : Option (List ℕ)) → after held [] ≡ held
+after_nothing None = refl
+after_nothing (Some bytes) = ap Some (append-nil bytes)
+
+-- nothing is a beginning
+pub nothing : (held : Option (List ℕ)) (text : List ℕ) → AddsBeginning held held text
+nothing held text = ([], text, refl, sym (after_nothing held))

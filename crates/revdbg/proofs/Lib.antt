@@ -1,3 +1,8 @@
 pub mod Added
-pub mod Replies
-pub mod Progress
+pub mod CommandLine
+pub mod Given
+pub mod Cutting
+pub mod Reading
+pub mod ScriptFaults
+pub mod Transcribing
+pub mod Numbered

@@ -1,4 +1,10 @@
 pub mod Streams
-pub mod Auto
-pub mod First
+pub mod CommandLine
+pub mod Asking
+pub mod Pieces
+pub mod Lines
+pub mod Scripts
+pub mod Transcripts
+pub mod Faults
+pub mod FaultTexts
 pub mod Statuses

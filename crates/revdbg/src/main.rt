@@ -1,46 +1,186 @@
 //! revdbg: a causal reversible debugger for indulgent consensus.
 #![tactic(auto)]
 
-mod auto;
-mod first;
+mod fault;
+mod fault_text;
+mod input;
+mod lines;
 mod output;
+mod piece;
+mod play;
+mod race;
+mod request;
+mod script;
 mod sink;
+mod source;
+mod status;
+mod words;
 
-ghost use Rattle.std.specs.Prelude.{◌≡◌};
-ghost use Rattle.revdbg.specs.Statuses.{status_number};
-
-use first::{PlayFault, first_run};
+use cdb_setup::Setup;
+use fault::{PlayFault, RaceFault};
+use fault_text::{write_fault, write_race_fault};
+use input::{Bytes, Input};
 use output::Output;
-use std::io;
+use piece::{Piece, write_piece};
+use play::play;
+use race::race;
+use request::{AskFault, Asked};
+use script::LONGEST;
+use source::read_up_to;
+use status::{fits, race_status_of, status_of};
+use std::alloc::AllocError;
+use std::fs::File;
+use std::io::{ErrorKind, Input as _};
 use std::process::ExitCode;
+use std::{env, io};
+use words::{ask_status, asked};
 
-/// The status with which the program ends after a fault.
-fn status_of(fault: &PlayFault) -> u8
-    ensures { result ≡ status_number fault.now }
-{
-    match fault {
-        PlayFault::NoMemory => 6,
-        PlayFault::Write => 7,
+/// The setup that a script from standard input is played on.
+const ONE_PROCESS: &[u8] =
+    b"{\"algorithm\":\"leader\",\"processes\":1,\"quorum\":1,\"inputs\":[7],\"oracle\":[[1]]}";
+
+/// The status after words that can't be read.
+const USAGE: u8 = 2;
+
+/// Says how a play ended, and answers the status. The name is that of what it could not read.
+fn ended(rt: &HostRuntime, outcome: Result<(), PlayFault>, name: &str) -> u8 {
+    match outcome {
+        Ok(()) => 0,
+        Err(fault) => {
+            let _ = write_fault(&fault, name, &mut Output::new(rt.stderr()));
+            status_of(&fault)
+        }
     }
 }
 
-/// What the program says of a fault.
-fn text_of(fault: &PlayFault) -> &'static str {
-    match fault {
-        PlayFault::NoMemory => "no memory",
-        PlayFault::Write => "output failed",
+/// Says how a race ended, and answers the status.
+fn race_ended(rt: &HostRuntime, outcome: Result<(), RaceFault>) -> u8 {
+    match outcome {
+        Ok(()) => 0,
+        Err(fault) => {
+            let _ = write_race_fault(&fault, &mut Output::new(rt.stderr()));
+            race_status_of(&fault)
+        }
     }
+}
+
+/// The bytes of a file, and no more than one byte too many.
+fn read_file(rt: &HostRuntime, name: &str) -> Result<Vec<u8>, PlayFault> {
+    let file = match File::open(rt, name) {
+        Ok(file) => file,
+        Err(error) if error.kind() == ErrorKind::OutOfMemory => return Err(PlayFault::NoMemory),
+        Err(_) => return Err(PlayFault::Read),
+    };
+    let bytes = read_up_to(rt.alloc(), &mut Input::new(file), LONGEST + 1)?;
+    Ok(bytes)
+}
+
+/// Plays the script on standard input.
+fn play_input(rt: &HostRuntime) -> u8 {
+    let mut script = Input::new(rt.reader());
+    let mut out = Output::new(io::writer(rt));
+    let outcome = play(rt.alloc(), ONE_PROCESS, &mut script, &mut out);
+    ended(rt, outcome, "standard input")
+}
+
+/// Plays a script file on a run of a setup file.
+fn play_files(rt: &HostRuntime, setup: &str, script: &str) -> u8 {
+    let setup = match read_file(rt, setup) {
+        Ok(bytes) => bytes,
+        Err(fault) => return ended(rt, Err(fault), setup),
+    };
+    let bytes = match read_file(rt, script) {
+        Ok(bytes) => bytes,
+        Err(fault) => return ended(rt, Err(fault), script),
+    };
+    let mut out = Output::new(io::writer(rt));
+    let outcome = play(
+        rt.alloc(),
+        setup.as_slice(),
+        &mut Bytes::new(bytes.as_slice()),
+        &mut out,
+    );
+    ended(rt, outcome, script)
+}
+
+/// Runs a race of script files on a run of a setup file.
+fn race_files(rt: &HostRuntime, setup: &str, turns: u32, names: &[&str]) -> u8 {
+    let setup = match read_file(rt, setup) {
+        Ok(bytes) => bytes,
+        Err(fault) => return ended(rt, Err(fault), setup),
+    };
+    let mut scripts = Vec::new(rt.alloc());
+    for name in names {
+        match read_file(rt, name) {
+            Ok(bytes) => {
+                if scripts.push(bytes).is_err() {
+                    return ended(rt, Err(PlayFault::NoMemory), name);
+                }
+            }
+            Err(fault) => return ended(rt, Err(fault), name),
+        }
+    }
+    if let Ok(parts) = Setup::read(rt.alloc(), setup.as_slice())
+        && !fits(&parts, names.len())
+    {
+        let many = Piece::Text("too many seats\n");
+        let _ = write_piece(&mut Output::new(rt.stderr()), many);
+        return USAGE;
+    }
+    race_ended(
+        rt,
+        race(rt.alloc(), setup.as_slice(), turns, scripts.as_slice()),
+    )
+}
+
+/// Does what the words ask for, and answers the status.
+fn run(rt: &HostRuntime, words: &[&str]) -> u8 {
+    match asked(rt.alloc(), words) {
+        Ok(Asked::Script) => play_input(rt),
+        Ok(Asked::Play { setup, script }) => play_files(rt, setup, script),
+        Ok(
+            Asked::Race {
+                setup,
+                turns,
+                scripts,
+            },
+        ) => race_files(rt, setup, turns, scripts.as_slice()),
+        Err(fault) => {
+            if let AskFault::Words(error) = &fault {
+                let _ = error.print(rt);
+            } else {
+                let _ = write_fault(&PlayFault::NoMemory, "", &mut Output::new(rt.stderr()));
+            }
+            ask_status(&fault)
+        }
+    }
+}
+
+/// The words of the command line.
+fn words_of(rt: &HostRuntime) -> io::Result<Vec<String>> {
+    let words = env::args(rt)?.collect(rt.alloc())?;
+    Ok(words)
+}
+
+/// The texts of the words.
+fn texts_of<'a>(rt: &HostRuntime, words: &'a [String]) -> Result<Vec<&'a str>, AllocError> {
+    words.iter().map(|word| word.as_str()).collect(rt.alloc())
 }
 
 fn main(rt: HostRuntime) -> ExitCode {
-    let mut out = Output::new(io::writer(&rt));
-    match first_run(rt.alloc(), 8, &mut out) {
-        Ok(()) => ExitCode::SUCCESS,
-        Err(fault) => {
-            let text = text_of(&fault);
-            let _ = eprintln!(rt; "{text}");
-            ExitCode::from(status_of(&fault))
+    let words = match words_of(&rt) {
+        Ok(words) => words,
+        Err(error) if error.kind() == ErrorKind::OutOfMemory => {
+            return ExitCode::from(ended(&rt, Err(PlayFault::NoMemory), ""));
         }
+        Err(_) => {
+            let _ = eprintln!(rt; "a word is no text");
+            return ExitCode::from(USAGE);
+        }
+    };
+    match texts_of(&rt, words.as_slice()) {
+        Ok(texts) => ExitCode::from(run(&rt, texts.as_slice())),
+        Err(_) => ExitCode::from(ended(&rt, Err(PlayFault::NoMemory), "")),
     }
 }
 

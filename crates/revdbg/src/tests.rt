@@ -1,29 +1,34 @@
-//! What the first run writes, and to a writer that fails.
+//! Worked examples as scripts, and readers and writers of the tests.
 
-use crate::first::{PlayFault, first_run};
+mod examples;
+mod failures;
+mod faults;
+mod limits;
+mod losses;
+mod setups;
+mod tour;
+mod words;
+
+use crate::fault::PlayFault;
+use crate::input::Bytes;
+use crate::play::play;
 use crate::sink::{Failed, Sink};
+use crate::source::Source;
+use setups::ONE_PROCESS;
+use std::process::Abort;
 use std::test::Fail;
 
-const EIGHT_LINES: &str = "1.1 query 1
-1.2 send 1#1
-1.3 recv 1#1
-1.4 local
-1.5 send 1#2
-1.6 recv 1#2
-1.7 local
-1.8 send 1#3 decides 7
-";
-
-/// A writer over memory that takes `most` bytes a call, and that fails once it holds `limit` bytes.
+/// A writer over memory that takes `most` bytes a call. After so many good calls one takes none, or fails.
 #[derive(Drop)]
-struct Limited {
+struct Memory {
     held: Vec<u8>,
     most: usize,
-    limit: usize,
+    good_calls: usize,
+    takes_none: bool,
     failures: u64,
 }
 
-impl Sink for Limited {
+impl Sink for Memory {
     ghost use Rattle.std.specs.Prelude.{Some};
 
     ghost contents = { λ out. Some out.held.items };
@@ -31,11 +36,14 @@ impl Sink for Limited {
     ghost failures = { λ out. out.failures };
 
     fn write(&mut self, piece: &[u8]) -> Result<usize, Failed> {
-        let count = piece.len().min(self.most);
-        if self.held.len() >= self.limit || self.held.extend_from_slice(&piece[..count]).is_err() {
+        let most = if self.good_calls == 0 { 0 } else { self.most };
+        let count = piece.len().min(most);
+        let fails = self.good_calls == 0 && !self.takes_none;
+        if fails || self.held.extend_from_slice(&piece[..count]).is_err() {
             self.failures = self.failures.wrapping_add(1);
             return Err(Failed);
         }
+        self.good_calls = self.good_calls.saturating_sub(1);
         if count == 0 && !piece.is_empty() {
             self.failures = self.failures.wrapping_add(1);
         }
@@ -43,51 +51,84 @@ impl Sink for Limited {
     }
 }
 
-fn sink_of(rt: &HostRuntime, most: usize, limit: usize) -> Limited {
-    Limited {
+/// A reader over memory that gives 5 bytes a call, and whose calls fail from this one on, counted from 0.
+#[derive(Drop)]
+struct Halting<'a> {
+    rest: &'a [u8],
+    good_calls: usize,
+    failures: u64,
+}
+
+impl<'a> Source for Halting<'a> {
+    ghost use Rattle.std.specs.Prelude.{Some};
+
+    ghost remaining = { λ source. Some source.rest.now };
+
+    ghost failures = { λ source. source.failures };
+
+    fn read(&mut self, buffer: &mut [u8]) -> Result<usize, Failed> {
+        if self.good_calls == 0 {
+            self.failures = self.failures.wrapping_add(1);
+            return Err(Failed);
+        }
+        self.good_calls -= 1;
+        let count = buffer.len().min(self.rest.len()).min(5);
+        buffer[..count].copy_from_slice(&self.rest[..count]);
+        self.rest = &self.rest[count..];
+        Ok(count)
+    }
+}
+
+/// A writer that takes so many bytes a call, and never fails.
+fn writer(rt: &impl AllocGlobal, most: usize) -> Memory {
+    Memory {
         held: Vec::new(rt.alloc()),
         most,
-        limit,
+        good_calls: usize::MAX,
+        takes_none: false,
         failures: 0,
     }
 }
 
-#[test]
-fn one_process_decides(rt: HostRuntime) -> Result<(), Fail> {
-    let mut out = sink_of(&rt, 1_000, 1_000);
-    assert_eq!(rt; first_run(rt.alloc(), 8, &mut out), Ok(()));
-    assert_eq!(rt; out.held.as_slice(), EIGHT_LINES.as_bytes());
+/// Plays a script, and compares what it wrote.
+fn check(
+    rt: &(impl Abort + AllocGlobal),
+    setup: &str,
+    script: &str,
+    transcript: &str,
+) -> Result<(), Fail> {
+    let mut out = writer(rt, 1_000);
+    let mut source = Bytes::new(script.as_bytes());
+    assert_eq!(rt;
+        play(rt.alloc(), setup.as_bytes(), &mut source, &mut out),
+        Ok(())
+    );
+    assert_eq!(rt; str::from_utf8(out.held.as_slice()), Ok(transcript));
     Ok(())
 }
 
-#[test]
-fn done_refuses(rt: HostRuntime) -> Result<(), Fail> {
-    let mut out = sink_of(&rt, 1, 1_000);
-    assert_eq!(rt; first_run(rt.alloc(), 9, &mut out), Ok(()));
-    let mut lines = String::from_str(rt.alloc(), "refused 3 Done\n")?;
-    lines.insert_str(0, EIGHT_LINES)?;
-    assert_eq!(rt; out.held.as_slice(), lines.as_bytes());
-    Ok(())
-}
-
-#[test]
-fn no_turns_write_nothing(rt: HostRuntime) {
-    let mut out = sink_of(&rt, 1_000, 0);
-    assert_eq!(rt; first_run(rt.alloc(), 0, &mut out), Ok(()));
+/// Plays a script that has a fault, which writes nothing.
+fn check_fault(rt: &(impl Abort + AllocGlobal), setup: &str, script: &[u8], fault: PlayFault) {
+    let mut out = writer(rt, 1_000);
+    let mut source = Bytes::new(script);
+    assert_eq!(rt;
+        play(rt.alloc(), setup.as_bytes(), &mut source, &mut out),
+        Err(fault)
+    );
     assert_eq!(rt; out.held.len(), 0);
 }
 
 #[test]
-fn a_failing_writer_holds_a_beginning(rt: HostRuntime) {
-    let mut out = sink_of(&rt, 5, 20);
-    assert_eq!(rt; first_run(rt.alloc(), 8, &mut out), Err(PlayFault::Write));
-    assert_eq!(rt; out.held.as_slice(), "1.1 query 1\n1.2 send 1".as_bytes());
-    assert_eq!(rt; out.failures, 1);
+fn an_empty_script_writes_nothing(rt: HostRuntime) -> Result<(), Fail> {
+    check(&rt, ONE_PROCESS, "", "")
 }
 
 #[test]
-fn a_writer_that_takes_nothing_fails(rt: HostRuntime) {
-    let mut out = sink_of(&rt, 0, 1_000);
-    assert_eq!(rt; first_run(rt.alloc(), 8, &mut out), Err(PlayFault::Write));
-    assert_eq!(rt; out.held.len(), 0);
+fn the_last_line_may_lack_its_end(rt: HostRuntime) -> Result<(), Fail> {
+    check(
+        &rt,
+        ONE_PROCESS,
+        "auto 1\nauto 1",
+        "1.1 query 1\n1.2 send 1#1\n",
+    )
 }

@@ -1,92 +1,74 @@
-//! Steps and losses of a run, taken back in place.
+//! Steps and losses of a run, found by their names and taken back in place.
 
-ghost use Rattle.std.specs.Prelude.{◌≡◌, ◌<◌, length, Some, slice_get, MatchOption};
-ghost use Rattle.std.specs.List.{position};
+ghost use Rattle.std.specs.Prelude.{◌≡◌, ◌-◌, ◌≤◌, length, Some, Err, MatchOption, MatchResult, IfOk};
+ghost use Rattle.cdb_base.specs.Places.{nth};
 ghost use Rattle.cdb_causal.specs.Causality.{IsFree};
 ghost use Rattle.cdb_causal.specs.Dependence.{depends as depends_of};
 ghost use Rattle.cdb_causal.specs.Names.{IsFirstDependent};
 ghost use Rattle.cdb_causal.specs.Rollback.{without};
 ghost use Rattle.cdb_message.specs.Mail.{message_name, copy_name};
-ghost use Rattle.cdb_run.specs.Undo.{has_name, found_at, for_standing, undo_found, undo_of, answered, left_by};
+ghost use Rattle.cdb_run.specs.Undo.{event_named, found_at, for_standing, undo_found, undo_of, answered, left_by};
 
 use crate::change::Left;
 use crate::restore::change_back;
 use crate::run::Run;
-use cdb_base::{Event, Refusal, StepId};
-use cdb_causal::depends;
+use cdb_base::{CopyName, Event, MsgName, Refusal, StepId, StepName};
+use cdb_causal::first_dependent;
 use cdb_process::Process;
 use cdb_record::Entry;
 
-/// Whether the event is the `k`-th step of process `p`.
-fn is_step(event: &Event, p: u32, k: u32) -> bool
-    ensures { result ≡ has_name (StepId.Step (record { p = p; k = k })) event.now }
-{
-    match event {
-        Event::Step {
-            p: q,
-            k: number,
-            kind: _,
-        } => u32::from(q.number()) == p && u32::from(*number) == k,
-        Event::Lost(_) => false,
-    }
-}
-
-/// Whether the event is the loss of the copy for process `p` of the `m`-th message of process `s`.
-fn is_loss(event: &Event, s: u32, m: u32, p: u32) -> bool
-    ensures { result ≡ has_name (StepId.Lost (copy_name (message_name s m) p)) event.now }
-{
-    match event {
-        Event::Step { .. } => false,
-        Event::Lost(copy) => {
-            u32::from(copy.msg.s.number()) == s
-                && u32::from(copy.msg.m) == m
-                && u32::from(copy.to.number()) == p
-        }
-    }
-}
-
-/// The place, from 0, of the `k`-th standing step of process `p`.
-fn step_place(history: &[Event], p: u32, k: u32) -> Option<usize>
-    ensures { result ≡ position (has_name (StepId.Step (record { p = p; k = k }))) history.now }
-{
-    history.iter().position(|event| is_step(event, p, k))
-}
-
-/// The place, from 0, of the standing loss of that copy.
-fn loss_place(history: &[Event], s: u32, m: u32, p: u32) -> Option<usize>
-    ensures { result ≡ position (has_name (StepId.Lost (copy_name (message_name s m) p))) history.now }
-{
-    history.iter().position(|event| is_loss(event, s, m, p))
-}
-
-/// The name of the first later event that depends on the one at a place, from 0.
-fn first_needing(history: &[Event], i: usize) -> Option<StepId>
-    requires { i < length history.now }
-    ensures { MatchOption result (IsFree depends_of history.now i) (λ name. IsFirstDependent history.now i name) }
-{
-    for j in i + 1..history.len() {
-        let later = &history[j];
-        if depends(&history[i], later) {
-            return Some(later.name());
-        }
-    }
-    None
-}
-
 impl<P: Process> Run<P> {
-    /// Takes the free event at a place, from 0, back. It takes no memory.
-    fn take_back(&mut self, i: usize) -> Event
-        requires within { i < length self.old.history }
-        requires free { IsFree depends_of self.old.history i }
-        ensures event { slice_get self.old.history i ≡ Some result }
-        ensures after { self.new ≡ record self.old { history = without self.old.history i } }
+    /// The place, from 1, of the `k`-th standing step of process `p`; or `NoProcess` or `NoStep`.
+    pub(crate) fn find_step(&self, p: u32, k: u32) -> Result<usize, Refusal>
+        ensures found { MatchResult result (λ at. event_named self.now.setup.processes self.now.history (StepId.Step (record { p = p; k = k })) ≡ found_at self.now.history (at - 1)) (λ why. event_named self.now.setup.processes self.now.history (StepId.Step (record { p = p; k = k })) ≡ Err why) }
+        ensures within { IfOk result (λ at. (1 ≤ at) × (at ≤ length self.now.history)) }
     {
-        let taken = self.history.remove(i);
+        let _valid = self.history();
+        let Some(p) = self.process(p) else {
+            return Err(Refusal::NoProcess);
+        };
+        let Ok(k) = u16::try_from(k) else {
+            return Err(Refusal::NoStep);
+        };
+        let name = StepId::Step(StepName { p, k });
+        self.standing().position(name).ok_or(Refusal::NoStep)
+    }
+
+    /// The place, from 1, of the standing loss of the copy for process `p` of the `m`-th message of
+    /// process `s`; or `NoProcess` of `s` or `p`, or `NoStep`.
+    pub(crate) fn find_loss(&self, s: u32, m: u32, p: u32) -> Result<usize, Refusal>
+        ensures found { MatchResult result (λ at. event_named self.now.setup.processes self.now.history (StepId.Lost (copy_name (message_name s m) p)) ≡ found_at self.now.history (at - 1)) (λ why. event_named self.now.setup.processes self.now.history (StepId.Lost (copy_name (message_name s m) p)) ≡ Err why) }
+        ensures within { IfOk result (λ at. (1 ≤ at) × (at ≤ length self.now.history)) }
+    {
+        let _valid = self.history();
+        let Some(s) = self.process(s) else {
+            return Err(Refusal::NoProcess);
+        };
+        let Some(to) = self.process(p) else {
+            return Err(Refusal::NoProcess);
+        };
+        let Ok(m) = u16::try_from(m) else {
+            return Err(Refusal::NoStep);
+        };
+        let msg = MsgName { s, m };
+        let name = StepId::Lost(CopyName { msg, to });
+        self.standing().position(name).ok_or(Refusal::NoStep)
+    }
+
+    /// Takes the free event at a place, from 1, back. It takes no memory.
+    pub(crate) fn take_back(&mut self, at: usize) -> Event
+        requires from_one { 1 ≤ at }
+        requires to_len { at ≤ length self.old.history }
+        requires free { IsFree depends_of self.old.history (at - 1) }
+        ensures event { nth self.old.history at ≡ Some result }
+        ensures after { self.new ≡ record self.old { history = without self.old.history (at - 1) } }
+    {
         let Entry {
             event,
             back,
             overwritten,
-        } = self.entries.remove(i);
+        } = self.records.take_out(at);
+        let taken = event;
         match event {
             Event::Step { p, k: _, kind } => {
                 let progress = &mut self.processes[p.index()];
@@ -105,15 +87,30 @@ impl<P: Process> Run<P> {
         taken
     }
 
-    /// Takes the event at a place, from 0, back where it is free, else names the first that needs it.
-    fn undo_at(&mut self, i: usize) -> Result<Event, Refusal>
-        requires { i < length self.old.history }
-        ensures answer { result ≡ answered (for_standing (found_at self.old.history i) (undo_found self.old.history)) }
-        ensures after { self.new ≡ record self.old { history = left_by self.old.history (for_standing (found_at self.old.history i) (undo_found self.old.history)) } }
+    /// The name of the first event that depends on the one at a place, from 1. It is looked for only
+    /// where the count of the event says that there is one.
+    fn first_needing(&self, at: usize) -> Option<StepId>
+        requires from_one { 1 ≤ at }
+        requires to_len { at ≤ length self.now.history }
+        ensures { MatchOption result (IsFree depends_of self.now.history (at - 1)) (λ name. IsFirstDependent self.now.history (at - 1) name) }
     {
-        match first_needing(&self.history, i) {
+        let name = self.standing().get(at).name();
+        if self.records.count_of(name) == 0 {
+            return None;
+        }
+        first_dependent(self.standing(), at)
+    }
+
+    /// Takes the event at a place, from 1, back where it is free, else names the first that needs it.
+    fn undo_at(&mut self, at: usize) -> Result<Event, Refusal>
+        requires from_one { 1 ≤ at }
+        requires to_len { at ≤ length self.old.history }
+        ensures answer { result ≡ answered (for_standing (found_at self.old.history (at - 1)) (undo_found self.old.history)) }
+        ensures after { self.new ≡ record self.old { history = left_by self.old.history (for_standing (found_at self.old.history (at - 1)) (undo_found self.old.history)) } }
+    {
+        match self.first_needing(at) {
             Some(name) => Err(Refusal::NeededBy(name)),
-            None => Ok(self.take_back(i)),
+            None => Ok(self.take_back(at)),
         }
     }
 
@@ -124,13 +121,8 @@ impl<P: Process> Run<P> {
         ensures answer { result ≡ answered (undo_of self.old.setup.processes self.old.history (StepId.Step (record { p = p; k = k }))) }
         ensures after { self.new ≡ record self.old { history = left_by self.old.history (undo_of self.old.setup.processes self.old.history (StepId.Step (record { p = p; k = k }))) } }
     {
-        if self.process(p).is_none() {
-            return Err(Refusal::NoProcess);
-        }
-        match step_place(&self.history, p, k) {
-            Some(i) => self.undo_at(i),
-            None => Err(Refusal::NoStep),
-        }
+        let at = self.find_step(p, k)?;
+        self.undo_at(at)
     }
 
     /// Undoes the loss of the copy for process `p` of the `m`-th message of process `s`, or answers
@@ -140,12 +132,7 @@ impl<P: Process> Run<P> {
         ensures answer { result ≡ answered (undo_of self.old.setup.processes self.old.history (StepId.Lost (copy_name (message_name s m) p))) }
         ensures after { self.new ≡ record self.old { history = left_by self.old.history (undo_of self.old.setup.processes self.old.history (StepId.Lost (copy_name (message_name s m) p))) } }
     {
-        if self.process(s).is_none() || self.process(p).is_none() {
-            return Err(Refusal::NoProcess);
-        }
-        match loss_place(&self.history, s, m, p) {
-            Some(i) => self.undo_at(i),
-            None => Err(Refusal::NoStep),
-        }
+        let at = self.find_loss(s, m, p)?;
+        self.undo_at(at)
     }
 }

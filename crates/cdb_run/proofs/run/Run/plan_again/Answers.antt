@@ -1,6 +1,7 @@
 use Rattle.std.proofs.Common.{rules, ◌≡◌, ◌<◌, ◌↔◌, length, IsOk, IfOk, IsSome, ap, ◌∙◌, sym, subst, refl, arith}
 use Rattle.std.proofs.lemmas.Grind.{common_steps}
 use Rattle.cdb_base.specs.declared.event.Event.TheVariants.{Step, Lost}
+use Rattle.cdb_record.specs.Entries.{events_of}
 use Rattle.cdb_run.specs.Current.{Standing}
 use Rattle.cdb_run.specs.Machines.{machine_of}
 use Rattle.cdb_run.specs.Refusals.{again_answer, IsOfRun}
@@ -107,7 +108,7 @@ returns-in-Step-clause-taken g c =
     let lawful : IsLawful machine = record { query = laws.query_by_state; recv = laws.recv_by_state; send = laws.wish_send; write = laws.wish_write } in
     let answer = returns-in-Step-clause-answer g c in
     subst (λ (s : Standing). let machine = machine_of process.first process.next process.wish process.place process.last_place s.setup in IsOk c.plan_again.result ↔ IsSome (after machine (state_of machine s.history) c.args.event.now)) c.self.view_is
-    (again_exact machine lawful setup number refl (state_of machine c.self.inside.history.items) c.args.event.now of_run c.plan_again.result
+    (again_exact machine lawful setup number refl (state_of machine (events_of c.self.inside.records)) c.args.event.now of_run c.plan_again.result
     (answer ∙ ap (λ (s : Standing). let machine = machine_of process.first process.next process.wish process.place process.last_place s.setup in again_answer machine s.setup (state_of machine s.history) c.args.event.now) (sym c.self.view_is)))
 
 pub returns-in-Step-clause-same : goal.returns-in-Step-clause-same
@@ -129,7 +130,7 @@ returns-in-Lost-clause-taken g c =
     let lawful : IsLawful machine = record { query = laws.query_by_state; recv = laws.recv_by_state; send = laws.wish_send; write = laws.wish_write } in
     let answer = returns-in-Lost-clause-answer g c in
     subst (λ (s : Standing). let machine = machine_of process.first process.next process.wish process.place process.last_place s.setup in IsOk c.plan_loss_again.result ↔ IsSome (after machine (state_of machine s.history) c.args.event.now)) c.self.view_is
-    (again_exact machine lawful setup number refl (state_of machine c.self.inside.history.items) c.args.event.now of_run c.plan_loss_again.result
+    (again_exact machine lawful setup number refl (state_of machine (events_of c.self.inside.records)) c.args.event.now of_run c.plan_loss_again.result
     (answer ∙ ap (λ (s : Standing). let machine = machine_of process.first process.next process.wish process.place process.last_place s.setup in again_answer machine s.setup (state_of machine s.history) c.args.event.now) (sym c.self.view_is)))
 
 pub returns-in-Lost-clause-same : goal.returns-in-Lost-clause-same

@@ -1,5 +1,6 @@
 use Rattle.std.proofs.Common.{◌≡◌, length, IfOk, IsSome, ap, ◌∙◌, sym, subst, refl}
 use Rattle.cdb_message.specs.Mail.{message_name}
+use Rattle.cdb_record.specs.Entries.{events_of}
 use Rattle.cdb_run.specs.Current.{Standing}
 use Rattle.cdb_run.specs.Machines.{machine_of}
 use Rattle.cdb_run.specs.Refusals.{lose_answer}
@@ -30,6 +31,6 @@ returns-clause-enabled g c =
     let number = length-first_states process.first 1 setup.processes setup.quorum setup.inputs ∙ inputs in
     let machine = machine_of process.first process.next process.wish process.place process.last_place setup in
     subst (λ (s : Standing). let machine = machine_of process.first process.next process.wish process.place process.last_place s.setup in IfOk c.plan_loss.result (λ event. IsSome (after machine (state_of machine s.history) event))) c.self.view_is
-    (subst (λ answer. IfOk answer (λ event. IsSome (after machine (state_of machine c.self.inside.history.items) event)))
+    (subst (λ answer. IfOk answer (λ event. IsSome (after machine (state_of machine (events_of c.self.inside.records)) event)))
     (sym (loss_shown c.self.invariant setup (message_name c.args.s c.args.m) c.args.p c.plan_loss.result c.plan_loss.ensures))
-    (lose_enabled machine setup number refl (state_of machine c.self.inside.history.items) (message_name c.args.s c.args.m) c.args.p))
+    (lose_enabled machine setup number refl (state_of machine (events_of c.self.inside.records)) (message_name c.args.s c.args.m) c.args.p))

@@ -1,5 +1,6 @@
 use Rattle.std.proofs.Common.{◌≡◌, if◌then◌else◌, sym, ap, ◌∙◌}
 use Rattle.cdb_message.specs.Mail.{first_mail}
+use Rattle.cdb_record.specs.Entries.{events_of}
 use Rattle.cdb_register.specs.Registers.{fresh_registers}
 use Rattle.cdb_run.specs.Machines.{machine_of, uses_registers}
 use Rattle.cdb_run.proofs.Starting.{current_at_start, length-first_states}
@@ -18,10 +19,10 @@ invariant_of-result g c =
       | in-Alpha w ↦ w.with_registers-is ∙ n ∙ sym (ap (λ a. if uses_registers a then setup.processes else 0) (sym c.algorithm.ensures ∙ w.in-Alpha.is))
     ]
     in
-    current_at_start machine process.before setup.processes c.in_ok-processes.processes.items c.in_ok-mail.mail c.in_ok-registers.registers c.new-3.result.items c.new-4.result.items
+    current_at_start machine process.before setup.processes c.in_ok-processes.processes.items c.in_ok-mail.mail c.in_ok-registers.registers (events_of c.new-3.result) c.new-3.result
     (length-first_states process.first 1 setup.processes setup.quorum setup.inputs ∙ c.n-n.ensures.ranges.an_input_each)
     c.in_ok-processes.ensures
     (c.in_ok-mail.ensures ∙ ap first_mail n)
     (c.in_ok-registers.ensures ∙ ap fresh_registers with_registers)
-    c.new-3.ensures.items
-    c.new-4.ensures.items
+    (ap events_of c.new-3.ensures)
+    c.new-3.ensures

@@ -1,157 +1,176 @@
-use Rattle.std.proofs.Common.{rules, ◌≡◌, ◌<◌, length, Some, List, slice_get, sym, ap, ap₂, ◌∙◌, subst, arith, refl}
+use Rattle.std.proofs.Common.{rules, ◌≡◌, ◌-◌, ◌<◌, ◌≤◌, length, Some, List, sym, ap, ap₂, ◌∙◌, subst, arith}
 use Rattle.std.proofs.lemmas.Grind.{common_steps}
-use Rattle.std.proofs.lemmas.Option.{slice_get_read}
+use Rattle.cdb_base.specs.Places.{nth}
 use Rattle.cdb_causal.specs.Causality.{IsFree}
 use Rattle.cdb_causal.specs.Dependence.{depends}
 use Rattle.cdb_causal.specs.Rollback.{without}
-use Rattle.cdb_causal.proofs.Lists.{remove-without}
 use Rattle.cdb_base.specs.declared.event.Event.{Event}
+use Rattle.cdb_record.specs.Entries.{events_of}
+use Rattle.cdb_record.proofs.Seams.{before_nth, length-map}
+use Rattle.cdb_record.proofs.TakingOut.{events_without}
 use Rattle.cdb_run.specs.Current.{Standing}
 use Rattle.cdb_setup.specs.Parts.{Parts}
-use Rattle.cdb_run.proofs.Restoring.{entry_there, stepped_within, stepped_there, may_unpost, may_restore, may_count_back, current_undone, is_lost_now, current_found}
+use Rattle.cdb_run.proofs.Admitting.{nth_events}
+use Rattle.cdb_run.proofs.Restoring.{stepped_within, stepped_there, may_unpost, may_restore, may_count_back, current_undone, is_lost_now, current_found}
 use Rattle.cdb_run.proofs.run.Run.take_back.Goals as goal
 use Rattle.cdb_run.proofs.run.Run.take_back.Goals.{in-Some-1, in-None-1}
 
+pub take_out-back-requires-clause-to_len : goal.take_out-back-requires-clause-to_len
+take_out-back-requires-clause-to_len g c =
+    let same = ap (λ (s : Standing). s.history) c.self.view_is in
+    let to_len = subst (λ h. c.args.at ≤ length h) (sym same) c.requires.to_len in
+    let mapped = length-map (λ entry. entry.event) c.self.inside.records in
+    omega (arith, to_len, mapped)
+
+pub take_out-back-requires-clause-free : goal.take_out-back-requires-clause-free
+take_out-back-requires-clause-free g c = subst (λ (s : Standing). IsFree depends s.history (c.args.at - 1)) (sym c.self.view_is) c.requires.free
+
 pub index_mut-progress-requires : goal.index_mut-progress-requires
 index_mut-progress-requires g c =
+    let i = c.args.at - 1 in
     let same = ap (λ (s : Standing). s.history) c.self.view_is in
-    let below = subst (λ h. c.args.i < length h) (sym same) c.requires.within in
-    let free = subst (λ h. IsFree depends h c.args.i) (sym same) c.requires.free in
-    let entry = c.remove-event.result in
-    let at = entry_there c.self.invariant c.args.i entry below c.remove-event.ensures.value in
+    let first = c.requires.from_one in
+    let free = subst (λ h. IsFree depends h i) (sym same) c.requires.free in
+    let entry = c.take_out-back.result in
+    let at = before_nth c.self.inside.records c.args.at entry first c.take_out-back.ensures.entry in
     let p = c.in-Step.p in
     let k = c.in-Step.k in
     let kind = c.in-Step.kind in
     let is = c.in-Step.is in
-    let here_within = stepped_within c.self.invariant c.args.i entry at free p k kind is in
+    let here_within = stepped_within c.self.invariant i entry at free p k kind is in
     let place = c.index.ensures.value in
     let below_len : c.index.result < length c.self.inside.processes.items = omega (arith, here_within, place) in
     first_of (search (rules, below_len), grind (arith, below_len, common_steps))
 
 pub change_back-requires-clause-countable : goal.change_back-requires-clause-countable
 change_back-requires-clause-countable g c =
+    let i = c.args.at - 1 in
     let same = ap (λ (s : Standing). s.history) c.self.view_is in
-    let below = subst (λ h. c.args.i < length h) (sym same) c.requires.within in
-    let free = subst (λ h. IsFree depends h c.args.i) (sym same) c.requires.free in
-    let entry = c.remove-event.result in
-    let at = entry_there c.self.invariant c.args.i entry below c.remove-event.ensures.value in
+    let first = c.requires.from_one in
+    let free = subst (λ h. IsFree depends h i) (sym same) c.requires.free in
+    let entry = c.take_out-back.result in
+    let at = before_nth c.self.inside.records c.args.at entry first c.take_out-back.ensures.entry in
     let p = c.in-Step.p in
     let k = c.in-Step.k in
     let kind = c.in-Step.kind in
     let is = c.in-Step.is in
     let progress = c.index_mut-progress.result.now in
-    let held = stepped_there c.self.invariant c.args.i entry at free p k kind is c.index.result progress c.index.ensures.value c.index_mut-progress.ensures.value in
-    may_count_back c.self.invariant c.args.i entry at free p k kind is progress held
+    let held = stepped_there c.self.invariant i entry at free p k kind is c.index.result progress c.index.ensures.value c.index_mut-progress.ensures.value in
+    may_count_back c.self.invariant i entry at free p k kind is progress held
 
 pub change_back-requires-clause-unpostable : goal.change_back-requires-clause-unpostable
 change_back-requires-clause-unpostable g c =
+    let i = c.args.at - 1 in
     let same = ap (λ (s : Standing). s.history) c.self.view_is in
-    let below = subst (λ h. c.args.i < length h) (sym same) c.requires.within in
-    let free = subst (λ h. IsFree depends h c.args.i) (sym same) c.requires.free in
-    let entry = c.remove-event.result in
-    let at = entry_there c.self.invariant c.args.i entry below c.remove-event.ensures.value in
+    let first = c.requires.from_one in
+    let free = subst (λ h. IsFree depends h i) (sym same) c.requires.free in
+    let entry = c.take_out-back.result in
+    let at = before_nth c.self.inside.records c.args.at entry first c.take_out-back.ensures.entry in
     let p = c.in-Step.p in
     let k = c.in-Step.k in
     let kind = c.in-Step.kind in
     let is = c.in-Step.is in
-    may_unpost c.self.invariant c.args.i entry at free p k kind is
+    may_unpost c.self.invariant i entry at free p k kind is
 
 pub change_back-requires-clause-restorable : goal.change_back-requires-clause-restorable
 change_back-requires-clause-restorable g c =
+    let i = c.args.at - 1 in
     let same = ap (λ (s : Standing). s.history) c.self.view_is in
-    let below = subst (λ h. c.args.i < length h) (sym same) c.requires.within in
-    let free = subst (λ h. IsFree depends h c.args.i) (sym same) c.requires.free in
-    let entry = c.remove-event.result in
-    let at = entry_there c.self.invariant c.args.i entry below c.remove-event.ensures.value in
+    let first = c.requires.from_one in
+    let free = subst (λ h. IsFree depends h i) (sym same) c.requires.free in
+    let entry = c.take_out-back.result in
+    let at = before_nth c.self.inside.records c.args.at entry first c.take_out-back.ensures.entry in
     let p = c.in-Step.p in
     let k = c.in-Step.k in
     let kind = c.in-Step.kind in
     let is = c.in-Step.is in
-    may_restore c.self.invariant c.args.i entry at free p k kind is
+    may_restore c.self.invariant i entry at free p k kind is
 
 pub invariant_of-self : goal.invariant_of-self
 invariant_of-self g c =
+    let i = c.args.at - 1 in
     let same = ap (λ (s : Standing). s.history) c.self.view_is in
-    let below = subst (λ h. c.args.i < length h) (sym same) c.requires.within in
-    let free = subst (λ h. IsFree depends h c.args.i) (sym same) c.requires.free in
-    let entry = c.remove-event.result in
-    let at = entry_there c.self.invariant c.args.i entry below c.remove-event.ensures.value in
+    let first = c.requires.from_one in
+    let free = subst (λ h. IsFree depends h i) (sym same) c.requires.free in
+    let entry = c.take_out-back.result in
+    let at = before_nth c.self.inside.records c.args.at entry first c.take_out-back.ensures.entry in
     let p = c.in-Step.p in
     let k = c.in-Step.k in
     let kind = c.in-Step.kind in
     let is = c.in-Step.is in
     let progress = c.index_mut-progress.result.now in
-    let held = stepped_there c.self.invariant c.args.i entry at free p k kind is c.index.result progress c.index.ensures.value c.index_mut-progress.ensures.value in
-    current_undone c.self.invariant c.args.i entry at free p k kind is progress held c.change_back.new.progress c.index.result c.index.ensures.value
+    let held = stepped_there c.self.invariant i entry at free p k kind is c.index.result progress c.index.ensures.value c.index_mut-progress.ensures.value in
+    current_undone c.self.invariant i entry at free p k kind is progress held c.change_back.new.progress c.index.result c.index.ensures.value
     c.change_back.ensures.progress c.change_back.ensures.mail c.change_back.ensures.registers
-    (c.remove-taken.ensures.items ∙ remove-without c.self.inside.history.items c.args.i)
-    (c.remove-event.ensures.items ∙ remove-without c.self.inside.entries.items c.args.i)
+    (ap events_of c.take_out-back.ensures.rest ∙ events_without c.self.inside.records i)
+    c.take_out-back.ensures.rest
 
 pub take_back_lose-requires : goal.take_back_lose-requires
 take_back_lose-requires g c =
+    let i = c.args.at - 1 in
     let same = ap (λ (s : Standing). s.history) c.self.view_is in
-    let below = subst (λ h. c.args.i < length h) (sym same) c.requires.within in
-    let free = subst (λ h. IsFree depends h c.args.i) (sym same) c.requires.free in
-    let entry = c.remove-event.result in
-    let at = entry_there c.self.invariant c.args.i entry below c.remove-event.ensures.value in
+    let first = c.requires.from_one in
+    let free = subst (λ h. IsFree depends h i) (sym same) c.requires.free in
+    let entry = c.take_out-back.result in
+    let at = before_nth c.self.inside.records c.args.at entry first c.take_out-back.ensures.entry in
     let copy = c.in-Lost.copy in
     let is = c.in-Lost.is in
-    record { lost = is_lost_now c.self.invariant c.args.i entry at free copy is }
+    record { lost = is_lost_now c.self.invariant i entry at free copy is }
 
 pub invariant_of-self-in-Lost : goal.invariant_of-self-in-Lost
 invariant_of-self-in-Lost g c =
+    let i = c.args.at - 1 in
     let same = ap (λ (s : Standing). s.history) c.self.view_is in
-    let below = subst (λ h. c.args.i < length h) (sym same) c.requires.within in
-    let free = subst (λ h. IsFree depends h c.args.i) (sym same) c.requires.free in
-    let entry = c.remove-event.result in
-    let at = entry_there c.self.invariant c.args.i entry below c.remove-event.ensures.value in
+    let first = c.requires.from_one in
+    let free = subst (λ h. IsFree depends h i) (sym same) c.requires.free in
+    let entry = c.take_out-back.result in
+    let at = before_nth c.self.inside.records c.args.at entry first c.take_out-back.ensures.entry in
     let copy = c.in-Lost.copy in
     let is = c.in-Lost.is in
-    current_found c.self.invariant c.args.i entry at free copy is c.take_back_lose.ensures.after
-    (c.remove-taken.ensures.items ∙ remove-without c.self.inside.history.items c.args.i)
-    (c.remove-event.ensures.items ∙ remove-without c.self.inside.entries.items c.args.i)
+    current_found c.self.invariant i entry at free copy is c.take_back_lose.ensures.after
+    (ap events_of c.take_out-back.ensures.rest ∙ events_without c.self.inside.records i)
+    c.take_out-back.ensures.rest
 
 pub invariant_of-self-in-Lost-2 : goal.invariant_of-self-in-Lost-2
 invariant_of-self-in-Lost-2 g c =
+    let i = c.args.at - 1 in
     let same = ap (λ (s : Standing). s.history) c.self.view_is in
-    let below = subst (λ h. c.args.i < length h) (sym same) c.requires.within in
-    let free = subst (λ h. IsFree depends h c.args.i) (sym same) c.requires.free in
-    let entry = c.remove-event.result in
-    let at = entry_there c.self.invariant c.args.i entry below c.remove-event.ensures.value in
+    let first = c.requires.from_one in
+    let free = subst (λ h. IsFree depends h i) (sym same) c.requires.free in
+    let entry = c.take_out-back.result in
+    let at = before_nth c.self.inside.records c.args.at entry first c.take_out-back.ensures.entry in
     let copy = c.in-Lost.copy in
     let is = c.in-Lost.is in
-    current_found c.self.invariant c.args.i entry at free copy is c.take_back_lose.ensures.after
-    (c.remove-taken.ensures.items ∙ remove-without c.self.inside.history.items c.args.i)
-    (c.remove-event.ensures.items ∙ remove-without c.self.inside.entries.items c.args.i)
+    current_found c.self.invariant i entry at free copy is c.take_back_lose.ensures.after
+    (ap events_of c.take_out-back.ensures.rest ∙ events_without c.self.inside.records i)
+    c.take_out-back.ensures.rest
 
 pub returns-in-Step-clause-event : goal.returns-in-Step-clause-event
 returns-in-Step-clause-event g c =
     let same = ap (λ (s : Standing). s.history) c.self.view_is in
-    let below = subst (λ h. c.args.i < length h) (sym same) c.requires.within in
-    subst (λ h. slice_get h c.args.i ≡ Some c.remove-taken.result) same
-    (slice_get_read c.self.inside.history.items (length c.self.inside.history.items) c.args.i c.remove-taken.result refl below c.remove-taken.ensures.value)
+    subst (λ h. nth h c.args.at ≡ Some c.take_out-back.result.event) same (nth_events c.self.inside.records c.args.at c.take_out-back.result c.take_out-back.ensures.entry)
 
 pub returns-in-Step-clause-after : goal.returns-in-Step-clause-after
 returns-in-Step-clause-after g c =
+    let i = c.args.at - 1 in
     let view = c.self.view_is in
     λ j.
     record {
       setup = ap (λ (s : Standing). s.setup) view j;
-      history = (c.remove-taken.ensures.items ∙ remove-without c.self.inside.history.items c.args.i ∙ ap (λ (s : Standing). without s.history c.args.i) view) j;
+      history = (ap events_of c.take_out-back.ensures.rest ∙ events_without c.self.inside.records i ∙ ap (λ (s : Standing). without s.history i) view) j;
     }
 
 pub returns-in-Lost-clause-event : goal.returns-in-Lost-clause-event
 returns-in-Lost-clause-event g c =
     let same = ap (λ (s : Standing). s.history) c.self.view_is in
-    let below = subst (λ h. c.args.i < length h) (sym same) c.requires.within in
-    subst (λ h. slice_get h c.args.i ≡ Some c.remove-taken.result) same
-    (slice_get_read c.self.inside.history.items (length c.self.inside.history.items) c.args.i c.remove-taken.result refl below c.remove-taken.ensures.value)
+    subst (λ h. nth h c.args.at ≡ Some c.take_out-back.result.event) same (nth_events c.self.inside.records c.args.at c.take_out-back.result c.take_out-back.ensures.entry)
 
 pub returns-in-Lost-clause-after : goal.returns-in-Lost-clause-after
 returns-in-Lost-clause-after g c =
+    let i = c.args.at - 1 in
     let view = c.self.view_is in
     let left =
     ap₂ (λ (setup : Parts) (history : List Event). let standing : Standing = record { setup = setup; history = history } in standing)
     (ap (λ (s : Standing). s.setup) view)
-    (c.remove-taken.ensures.items ∙ remove-without c.self.inside.history.items c.args.i ∙ ap (λ (s : Standing). without s.history c.args.i) view) in
+    (ap events_of c.take_out-back.ensures.rest ∙ events_without c.self.inside.records i ∙ ap (λ (s : Standing). without s.history i) view) in
     elim c.match-back.branch [ in-Some-1 w ↦ w.self-is ∙ left | in-None-1 w ↦ w.self-is ∙ left ]

@@ -1,12 +1,27 @@
-use Rattle.std.proofs.Common.{rules, ◌<◌, [], ◌∷◌, ◌++◌, length, IsSome, sym, ap, ◌∙◌, subst, arith}
+use Rattle.std.proofs.Common.{rules, ◌<◌, length, None, IsSome, sym, ap, ◌∙◌, subst, arith}
 use Rattle.std.proofs.lemmas.Grind.{common_steps}
 use Rattle.cdb_base.specs.declared.event.Event.TheVariants.{Step}
+use Rattle.cdb_record.specs.Entries.{events_of}
+use Rattle.cdb_record.proofs.Seams.{events_push}
 use Rattle.cdb_run.specs.Current.{Standing}
 use Rattle.cdb_run.specs.Machines.{machine_of}
 use Rattle.cdb_run.specs.Step.{after, state_of}
+use Rattle.cdb_run.proofs.Admitting.{enabled_standing}
 use Rattle.cdb_run.proofs.Held.{within, held_there, steps_few, queries_few, accepted_input, may_post, may_write, current_same, current_stepped}
 use Rattle.cdb_run.proofs.Starting.{length-first_states}
 use Rattle.cdb_run.proofs.run.Run.take_step.Goals as goal
+
+pub admit-requires : goal.admit-requires
+admit-requires g c =
+    let process = g.P.Process in
+    let event = Step c.args.p c.args.k c.args.kind.now in
+    let enabled = subst (λ (s : Standing). let machine = machine_of process.first process.next process.wish process.place process.last_place s.setup in IsSome (after machine (state_of machine s.history) event)) (sym c.self.view_is) c.requires in
+    let setup = c.self.inside.setup in
+    let ranges = c.n-ranges.ensures.ranges in
+    let number = length-first_states process.first 1 setup.processes setup.quorum setup.inputs in
+    let inputs = ranges.an_input_each in
+    let few = ranges.processes.1 in
+    enabled_standing c.self.invariant event enabled (omega (arith, number, inputs, few))
 
 pub index_mut-progress-requires : goal.index_mut-progress-requires
 index_mut-progress-requires g c =
@@ -62,25 +77,29 @@ change-requires-clause-writable g c =
     let few = ranges.processes.1 in
     may_write c.self.invariant c.args.p c.args.k c.args.kind.now enabled progress held (omega (arith, number, inputs, few))
 
-pub invariant_of-self-in_err-left : goal.invariant_of-self-in_err-left
-invariant_of-self-in_err-left g c =
+pub invariant_of-self-in-Err : goal.invariant_of-self-in-Err
+invariant_of-self-in-Err g c =
     let process = g.P.Process in
     let enabled = subst (λ (s : Standing). let machine = machine_of process.first process.next process.wish process.place process.last_place s.setup in IsSome (after machine (state_of machine s.history) (Step c.args.p c.args.k c.args.kind.now))) (sym c.self.view_is) c.requires in
     let progress = c.index_mut-progress.result.now in
     let held = held_there c.self.invariant c.args.p c.args.k c.args.kind.now enabled c.index.result progress c.index.ensures.value c.index_mut-progress.ensures.value in
-    let err = c.in_err-left.ensures in
-    current_same c.self.invariant c.args.p c.args.k c.args.kind.now enabled progress held c.change.new.progress c.index.result
-    c.index.ensures.value err.same_progress err.same_mail err.same_registers c.in_ok-reserve.ensures.same c.in_ok-reserve-2.ensures.items
-
-pub invariant_of-self-2 : goal.invariant_of-self-2
-invariant_of-self-2 g c =
-    let process = g.P.Process in
-    let enabled = subst (λ (s : Standing). let machine = machine_of process.first process.next process.wish process.place process.last_place s.setup in IsSome (after machine (state_of machine s.history) (Step c.args.p c.args.k c.args.kind.now))) (sym c.self.view_is) c.requires in
-    let progress = c.index_mut-progress.result.now in
-    let held = held_there c.self.invariant c.args.p c.args.k c.args.kind.now enabled c.index.result progress c.index.ensures.value c.index_mut-progress.ensures.value in
-    let ok = c.in_ok-left.ensures in
     let event = Step c.args.p c.args.k c.args.kind.now in
-    current_stepped c.self.invariant c.args.p c.args.k c.args.kind.now enabled progress held c.change.new.progress c.index.result c.in_ok-left.left.back c.in_ok-left.left.overwritten
+    let err = c.in-Err.ensures in
+    let left = (c.withdraw.ensures c.self.inside.records (record { event = event; back = None; overwritten = None }) c.in_ok-admit.ensures.ok).1 in
+    current_same c.self.invariant c.args.p c.args.k c.args.kind.now enabled progress held c.change.new.progress c.index.result
+    c.index.ensures.value err.same_progress err.same_mail err.same_registers
+    (ap events_of left) left
+
+pub invariant_of-self-in-Ok : goal.invariant_of-self-in-Ok
+invariant_of-self-in-Ok g c =
+    let process = g.P.Process in
+    let enabled = subst (λ (s : Standing). let machine = machine_of process.first process.next process.wish process.place process.last_place s.setup in IsSome (after machine (state_of machine s.history) (Step c.args.p c.args.k c.args.kind.now))) (sym c.self.view_is) c.requires in
+    let progress = c.index_mut-progress.result.now in
+    let held = held_there c.self.invariant c.args.p c.args.k c.args.kind.now enabled c.index.result progress c.index.ensures.value c.index_mut-progress.ensures.value in
+    let ok = c.in-Ok.ensures in
+    let event = Step c.args.p c.args.k c.args.kind.now in
+    let added = c.set_last.ensures c.self.inside.records (record { event = event; back = None; overwritten = None }) c.in_ok-admit.ensures.ok in
+    current_stepped c.self.invariant c.args.p c.args.k c.args.kind.now enabled progress held c.change.new.progress c.index.result c.in-Ok.left.back c.in-Ok.left.overwritten
     c.index.ensures.value ok.next ok.counted ok.mail ok.registers ok.back ok.overwritten
-    (c.push_reserved.ensures ∙ ap (λ l. l ++ event ∷ []) c.in_ok-reserve.ensures.same)
-    (c.push_entry.ensures ∙ ap (λ l. l ++ record { event = event; back = c.in_ok-left.left.back; overwritten = c.in_ok-left.left.overwritten } ∷ []) c.in_ok-reserve-2.ensures.items)
+    (ap events_of added ∙ events_push c.self.inside.records event c.in-Ok.left.back c.in-Ok.left.overwritten)
+    added

@@ -1,0 +1,37 @@
+-- From what a thread has done to what its seat has finished.
+use Rattle.std.proofs.Common.{◌≡◌, inl, inr, ℕ, List, None, refl, length, take, ap, ◌∙◌, subst, arith}
+use Rattle.std.proofs.lemmas.List.{take_all}
+use Rattle.cdb_control.specs.Answer.{Answer}
+use Rattle.cdb_control.specs.declared.command.Command.{Command}
+use Rattle.cdb_race.specs.Faults.{fault_at}
+use Rattle.cdb_race.specs.Plans.{script_of}
+use Rattle.cdb_race.specs.Runs.{HasDriven, HasServed, HasRun, EndsWell, IsDrivenOut, HasFinished}
+use Rattle.cdb_race.specs.declared.plan.Plan.{Plan}
+use Rattle.cdb_shared.specs.Seats.{SeatView}
+use Rattle.cdb_shared.specs.Sessions.{calls_of, replies_to, IsDriven}
+use Rattle.cdb_shared.specs.declared.session.End.{End}
+use Rattle.cdb_shared.specs.declared.session.End.TheVariants.{All, Done, Stopped, NoMemory, JournalFull}
+
+driven_out : (turns : ℕ) (seat : SeatView) (end : End) → EndsWell end → HasDriven turns seat end → IsDrivenOut seat.number turns (calls_of seat) (replies_to seat)
+driven_out turns seat end (inl is) h = record { count = h.count; few = h.few; calls_are = h.calls; ended = inl (subst (λ (e : End). IsDriven e h.count turns (replies_to seat)) is h.ended) }
+driven_out turns seat end (inr is) h = record { count = h.count; few = h.few; calls_are = h.calls; ended = inr (subst (λ (e : End). IsDriven e h.count turns (replies_to seat)) is h.ended) }
+
+served_out : (commands : List Command) (seat : SeatView) (answered : List Answer) (end : End) → EndsWell end → HasServed commands seat answered end → (calls_of seat ≡ commands) × (replies_to seat ≡ answered)
+served_out commands seat answered end (inl is) h = (h.calls ∙ ap (λ n. take n commands) (h.whole is) ∙ take_all (length commands) commands (omega arith), h.replies)
+served_out commands seat answered end (inr is) h = absurd (h.done is)
+
+-- a seat without a fault
+pub ends_well : (seat : ℕ) (end : End) → fault_at seat end ≡ None → EndsWell end
+ends_well seat All none = inl refl
+ends_well seat Done none = inr refl
+ends_well seat Stopped none = absurd (cc)
+ends_well seat NoMemory none = absurd (cc)
+ends_well seat JournalFull none = absurd (cc)
+
+-- a session that ended well
+pub finished : (plan : Plan) (before seat : SeatView) (answered : List Answer) (end : End) → EndsWell end → HasRun plan before seat answered end → HasFinished plan before seat answered
+finished plan before seat answered end well h = record {
+  later = h.later;
+  driven = λ low. let driven = h.driven low in (driven_out plan.turns seat end well driven.0, driven.1);
+  served = λ high. served_out (script_of plan before.number) seat answered end well (h.served high);
+}

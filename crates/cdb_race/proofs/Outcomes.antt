@@ -1,0 +1,113 @@
+-- What the final journal has of the seats of a race.
+use Rattle.std.proofs.Common.{◌≡◌, ℕ, zero, suc, ◌+◌, ◌-◌, ◌<◌, ◌≤◌, List, [], All, length, get_or, refl, sym, ap, ◌∙◌, subst, arith}
+use Rattle.atomic_table.specs.Seated.{TableId}
+use Rattle.cdb_control.proofs.Own.{replies_of-same}
+use Rattle.cdb_control.specs.Answer.{Answer}
+use Rattle.cdb_control.specs.Journal.{Journaled, opened, own, replies_of, AreOfSeats}
+use Rattle.cdb_control.specs.declared.command.Command.{Command}
+use Rattle.cdb_race.specs.Plans.{IsReady, seats_of}
+use Rattle.cdb_race.specs.Races.{AllFinished, IsRaced, answers_to}
+use Rattle.cdb_race.specs.Runs.{IsDrivenOut, HasFinished}
+use Rattle.cdb_race.specs.declared.plan.Plan.{Plan}
+use Rattle.cdb_run.specs.Algorithms.{rules}
+use Rattle.cdb_setup.specs.Parts.{Parts}
+use Rattle.cdb_shared.specs.Seats.{SeatView, RestsAt, IsKnownBy, fresh_seat, fresh_seats}
+use Rattle.cdb_shared.specs.Sessions.{calls_of, replies_to}
+
+length-fresh_seats : (shared : TableId) (c : Journaled) (first n : ℕ) → length (fresh_seats shared c first n) ≡ n
+length-fresh_seats shared c first zero = refl
+length-fresh_seats shared c first (suc n) = ap suc (length-fresh_seats shared c (first + 1) n)
+
+get_or-fresh_seats : (shared : TableId) (c : Journaled) (first n k : ℕ) (d : SeatView) → k < n → get_or (fresh_seats shared c first n) k d ≡ fresh_seat shared c (first + k)
+get_or-fresh_seats shared c first zero k d low = absurd (omega arith)
+get_or-fresh_seats shared c first (suc n) zero d low = ap (fresh_seat shared c) (omega arith)
+get_or-fresh_seats shared c first (suc n) (suc k) d low = get_or-fresh_seats shared c (first + 1) n k d (omega arith) ∙ ap (fresh_seat shared c) (omega arith)
+
+-- the seats of a control in which nothing has happened
+pub record AreFresh (shared : TableId) (setup : Parts) (count : ℕ) (seats : List SeatView) : Type 0 where
+  pub many : length seats ≡ count
+  pub each : (k : ℕ) (d : SeatView) → k < count → get_or seats k d ≡ fresh_seat shared (opened setup count) (1 + k)
+
+pub fresh : (shared : TableId) (setup : Parts) (plan : Plan) (count : ℕ) (c : Journaled) (seats : List SeatView) → c ≡ opened setup count → count ≡ seats_of plan → seats ≡ fresh_seats shared c 1 c.seats → AreFresh shared setup (seats_of plan) seats
+fresh shared setup plan count c seats is planned dealt =
+    let many = seats_of plan in
+    let all : seats ≡ fresh_seats shared (opened setup many) 1 many = dealt ∙ ap (λ (x : Journaled). fresh_seats shared x 1 x.seats) (is ∙ ap (opened setup) planned) in
+    record {
+      many = ap length all ∙ length-fresh_seats shared (opened setup many) 1 many;
+      each = λ k d low. ap (λ l. get_or l k d) all ∙ get_or-fresh_seats shared (opened setup many) 1 many k d low;
+    }
+
+pub all_ready : (shared : TableId) (plan : Plan) (setup : Parts) (seats : List SeatView) → AreFresh shared setup (seats_of plan) seats → All (λ seat. IsReady shared plan seat) seats
+all_ready shared plan setup seats new k d low =
+    let below : k < seats_of plan = omega (arith, new.many) in
+    subst (λ (s : SeatView). IsReady shared plan s) (sym (new.each k d below)) (record { rests = (refl, refl); new = refl; planned = omega arith })
+
+pub all_rest : (shared : TableId) (plan : Plan) (setup : Parts) (before seats : List SeatView) (answers : List (List Answer)) → AreFresh shared setup (seats_of plan) before → length seats ≡ seats_of plan → AllFinished plan before seats answers → All (λ seat. RestsAt shared seat) seats
+all_rest shared plan setup before seats answers new many finished k d low =
+    let f = finished k d [] low d in
+    (f.later.home ∙ ap (λ (b : SeatView). b.home) (new.each k d (omega arith)), f.later.rests)
+
+-- the commands and the answers of a seat whose journal is known
+own_known : (c : Journaled) (seat : SeatView) (n : ℕ) → seat.number ≡ n → IsKnownBy c seat → own n c.journal ≡ calls_of seat
+own_known c seat n is known = ap (λ m. own m c.journal) (sym is) ∙ known.calls
+
+answers_known : (c : Journaled) (seat : SeatView) (n : ℕ) → seat.number ≡ n → IsKnownBy c seat → answers_to n c ≡ replies_to seat
+answers_known c seat n is known =
+    (λ i. replies_of (rules (known.setup i)) (known.setup i) (known.seats i) (sym is i) c.journal)
+    ∙ replies_of-same (rules seat.setup) seat.setup seat.seats seat.number seat.seen c.journal known.begins known.calls
+
+module _ (shared : TableId) (plan : Plan) (setup : Parts) (c : Journaled) (before seats : List SeatView) (answers : List (List Answer))
+    (same : plan.processes ≡ setup.processes) (new : AreFresh shared setup (seats_of plan) before) (many : length seats ≡ seats_of plan)
+    (finished : AllFinished plan before seats answers) (known : All (λ seat. IsKnownBy c seat) seats) where
+  abbrev nobody : SeatView
+  nobody = fresh_seat shared (opened setup 0) 0
+
+  abbrev seat_at : ℕ → SeatView
+  seat_at k = get_or seats k nobody
+
+  finished_at : (k : ℕ) → k < seats_of plan → HasFinished plan (fresh_seat shared (opened setup (seats_of plan)) (1 + k)) (seat_at k) (get_or answers k [])
+  finished_at k low = subst (λ (b : SeatView). HasFinished plan b (seat_at k) (get_or answers k [])) (new.each k nobody low) (finished k nobody [] (omega arith) nobody)
+
+  known_at : (k : ℕ) → k < seats_of plan → IsKnownBy c (seat_at k)
+  known_at k low = known k nobody (omega arith)
+
+  driven_at : (p : ℕ) → 1 ≤ p → p ≤ plan.processes → IsDrivenOut p plan.turns (own p c.journal) (answers_to p c)
+  driven_at p from to =
+      let k = p - 1 in
+      let low : k < seats_of plan = omega arith in
+      let f = finished_at k low in
+      let seat = seat_at k in
+      let is : seat.number ≡ p = f.later.number ∙ omega arith in
+      let at = known_at k low in
+      subst (λ (y : ℕ × List Command × List Answer). IsDrivenOut y.0 plan.turns y.1 y.2) (λ i. (is i, sym (own_known c seat p is at) i, sym (answers_known c seat p is at) i)) (f.driven (omega arith)).0
+
+  served_at : (k : ℕ) → k < length plan.scripts.now
+      → (own (plan.processes + k + 1) c.journal ≡ get_or plan.scripts.now k []) × (get_or answers (plan.processes + k) [] ≡ answers_to (plan.processes + k + 1) c)
+  served_at k below =
+      let place = plan.processes + k in
+      let low : place < seats_of plan = omega arith in
+      let f = finished_at place low in
+      let seat = seat_at place in
+      let is : seat.number ≡ place + 1 = f.later.number ∙ omega arith in
+      let at = known_at place low in
+      let served = f.served (omega arith) in
+      let its : 1 + place - plan.processes - 1 ≡ k = omega arith in
+      (own_known c seat (place + 1) is at ∙ served.0 ∙ ap (λ n. get_or plan.scripts.now n []) its, sym (answers_known c seat (place + 1) is at ∙ served.1))
+
+  -- the whole race
+  pub raced : 1 ≤ setup.processes → length answers ≡ length seats → AreOfSeats c.seats c.journal → IsRaced setup plan.turns plan.scripts.now c answers
+  raced some long entries =
+      let low : 0 < seats_of plan = omega arith in
+      let first = (finished_at 0 low).later in
+      let at = known_at 0 low in
+      let seats_are : c.seats ≡ seats_of plan = at.seats ∙ first.seats in
+      record {
+        setup_is = at.setup ∙ first.setup;
+        seats_are = seats_are ∙ ap (λ n. n + length plan.scripts.now) same;
+        entries = entries;
+        driven = λ p from to. driven_at p from (omega arith);
+        served = λ k below. ap (λ n. own (n + k + 1) c.journal) (sym same) ∙ (served_at k below).0;
+        many = long ∙ many ∙ sym seats_are;
+        none = λ k below. ((finished_at k (omega arith)).driven (omega arith)).1;
+        answered = λ k below. ap (λ n. get_or answers (n + k) []) (sym same) ∙ (served_at k below).1 ∙ ap (λ n. answers_to (n + k + 1) c) same;
+      }

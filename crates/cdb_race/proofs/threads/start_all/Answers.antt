@@ -1,0 +1,38 @@
+use Rattle.std.proofs.Common.{◌≡◌, ℕ, ◌-◌, ◌∙◌, sym, ap, subst, arith, [], ◌∷◌, ◌++◌, get_or, append_assoc, vec_len, length}
+use Rattle.std.specs.declared.thread.PromisedHandle.{PromisedHandle}
+use Rattle.cdb_race.specs.Plans.{IsReady}
+use Rattle.cdb_race.specs.Promises.{IsPromise}
+use Rattle.cdb_race.specs.declared.worker.Ran.{Ran}
+use Rattle.cdb_race.specs.declared.worker.Runs.{Runs}
+use Rattle.cdb_shared.specs.Seats.{SeatView}
+use Rattle.cdb_race.proofs.Ends.{each_front, each_push, get_or-middle}
+use Rattle.cdb_race.proofs.threads.start_all.Goals as goal
+
+pub loop-seat-preserved : goal.loop-seat-preserved
+loop-seat-preserved g c =
+    let was = c.loop-seat.invariant in
+    let plan = c.args.plan in
+    let all = c.args.seats.items in
+    let front = c.pop.new.self.items in
+    let seat = c.in-Some.seat in
+    let popped = c.in-Some.ensures.items in
+    let seats = c.in-Some.ensures.cases in
+    let gates = c.in-Some-pop.ensures.cases in
+    let handles = c.loop-seat.handles.ok.0 in
+    let whole : all ≡ front ++ (seat ∷ was.left.0) = was.left.1 ∙ ap (λ l. l ++ was.left.0) popped ∙ append_assoc front (seat ∷ []) was.left.0 in
+    let place : vec_len c.args.seats - 1 - length c.loop-seat.handles.items ≡ length front = omega (arith, seats, c.pop.new.self.ok.0, handles, was.count) in
+    record {
+      ready = (each_front (λ (k : ℕ) (s : SeatView). IsReady c.args.shared.now plan s) _ _ _ popped was.ready).0;
+      gates = omega (arith, seats, gates);
+      left = (seat ∷ was.left.0, whole);
+      count = omega (arith, seats);
+      room = omega arith;
+      each = λ k before handle low.
+          let here : seat ≡ get_or all (vec_len c.args.seats - 1 - length c.loop-seat.handles.items) before = sym (get_or-middle front was.left.0 all seat before _ whole place) in
+          let one = subst (λ (s : SeatView). IsPromise plan s c.in_ok-handle.handle.promise) here c.in_ok-handle.ensures in
+          each_push (λ (i : ℕ) (h : PromisedHandle Ran Runs). IsPromise plan (get_or all (vec_len c.args.seats - 1 - i) before) h.promise) c.loop-seat.handles.items c.push_reserved.new.self.items c.in_ok-handle.handle c.push_reserved.ensures.items
+          (λ i h below. was.each i before h (omega (arith, handles))) one k handle (omega (arith, c.push_reserved.new.self.ok.0));
+    }
+
+pub returns-clause-each : goal.returns-clause-each
+returns-clause-each g c = λ k before handle low. c.loop-seat.invariant.each k before handle (omega (arith, c.in_default-pop.ensures.cases.0, c.loop-seat.invariant.count))

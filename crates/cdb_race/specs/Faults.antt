@@ -1,0 +1,29 @@
+-- Which fault a race answers.
+use Rattle.std.specs.Prelude.{◌≡◌, ℕ, List, ◌∷◌, ◌++◌, Option, Some, None}
+use Rattle.std.specs.List.{AllByRecursion}
+use Rattle.cdb_race.specs.declared.threads.RaceFault.{RaceFault}
+use Rattle.cdb_race.specs.declared.threads.RaceFault.TheVariants as fault
+use Rattle.cdb_race.specs.declared.worker.Ran.{Ran}
+use Rattle.cdb_shared.specs.declared.session.End.{End}
+use Rattle.cdb_shared.specs.declared.session.End.TheVariants.{All, Done, Stopped, NoMemory, JournalFull}
+
+-- the fault of a seat whose session did not end well
+abbrev pub fault_at : ℕ → End → Option RaceFault
+fault_at seat All = None
+fault_at seat Done = None
+fault_at seat Stopped = Some (fault.Stopped seat)
+fault_at seat NoMemory = Some fault.NoMemory
+fault_at seat JournalFull = Some fault.JournalFull
+
+-- that of what a thread hands back
+abbrev pub fault_in : Ran → Option RaceFault
+fault_in ran = fault_at ran.seat.number ran.end
+
+-- of the seats that have a fault the least has this one. The last seat's outcome comes first
+pub record IsOfLeastSeat (fault : RaceFault) (rans : List Ran) : Type 0 where
+  pub greater : List Ran
+  pub its : Ran
+  pub less : List Ran
+  pub all : rans ≡ greater ++ its ∷ less
+  pub has : fault_in its ≡ Some fault
+  pub none : AllByRecursion (λ ran. fault_in ran ≡ None) less

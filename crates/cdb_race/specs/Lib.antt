@@ -1,0 +1,5 @@
+pub mod Plans
+pub mod Runs
+pub mod Promises
+pub mod Races
+pub mod Faults

@@ -1,0 +1,48 @@
+-- What the seats of a race have done.
+use Rattle.std.specs.Prelude.{◌≡◌, ◌≢◌, ◌⊎◌, ℕ, ◌<◌, ◌≤◌, List, [], length, take, replicate}
+use Rattle.cdb_control.specs.Answer.{Answer}
+use Rattle.cdb_control.specs.declared.command.Command.{Command}
+use Rattle.cdb_control.specs.declared.command.Command.TheVariants.{Auto}
+use Rattle.cdb_race.specs.Plans.{script_of}
+use Rattle.cdb_race.specs.declared.plan.Plan.{Plan}
+use Rattle.cdb_shared.specs.Seats.{SeatView, IsLater}
+use Rattle.cdb_shared.specs.Sessions.{calls_of, replies_to, IsDriven}
+use Rattle.cdb_shared.specs.declared.session.End.{End}
+use Rattle.cdb_shared.specs.declared.session.End.TheVariants.{All, Done}
+
+-- the calls of the seat are steps of its process by `auto`, as many as the turns, or fewer where the session ended before
+pub record HasDriven (turns : ℕ) (seat : SeatView) (end : End) : Type 0 where
+  pub count : ℕ
+  pub few : count ≤ turns
+  pub calls : calls_of seat ≡ replicate count (Auto seat.number)
+  pub ended : IsDriven end count turns (replies_to seat)
+
+-- the calls of the seat are the first of these commands, and all of them where the session ended so
+pub record HasServed (commands : List Command) (seat : SeatView) (answered : List Answer) (end : End) : Type 0 where
+  pub calls : calls_of seat ≡ take (length answered) commands
+  pub replies : replies_to seat ≡ answered
+  pub whole : end ≡ All → length answered ≡ length commands
+  pub done : end ≢ Done
+
+-- what a seat has done when its thread has ended: the first seats drive the processes, and the others serve the scripts
+pub record HasRun (plan : Plan) (before seat : SeatView) (answered : List Answer) (end : End) : Type 0 where
+  pub later : IsLater before seat
+  pub driven : before.number ≤ plan.processes → HasDriven plan.turns seat end × (answered ≡ [])
+  pub served : plan.processes < before.number → HasServed (script_of plan before.number) seat answered end
+
+-- the session ended well: its script was served to the end, or its process was done or had its turns
+abbrev pub EndsWell : End → Type 0
+EndsWell end = (end ≡ All) ⊎ (end ≡ Done)
+
+-- the steps of a process by `auto`: all its turns, none answered that it was done; or fewer or as many, the last alone answered so
+pub record IsDrivenOut (process turns : ℕ) (calls : List Command) (answered : List Answer) : Type 0 where
+  pub count : ℕ
+  pub few : count ≤ turns
+  pub calls_are : calls ≡ replicate count (Auto process)
+  pub ended : IsDriven All count turns answered ⊎ IsDriven Done count turns answered
+
+-- what a seat has done where its session ended well
+pub record HasFinished (plan : Plan) (before seat : SeatView) (answered : List Answer) : Type 0 where
+  pub later : IsLater before seat
+  pub driven : before.number ≤ plan.processes → IsDrivenOut seat.number plan.turns (calls_of seat) (replies_to seat) × (answered ≡ [])
+  pub served : plan.processes < before.number → (calls_of seat ≡ script_of plan before.number) × (replies_to seat ≡ answered)

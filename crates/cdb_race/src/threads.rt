@@ -1,0 +1,198 @@
+//! Starting and joining the threads of a race.
+ghost use Rattle.std.specs.Prelude.{◌≡◌, ℕ, ◌+◌, ◌-◌, ◌<◌, ◌≤◌, List, length, map, vec_len, All, IfOk, IfErr, ◌⊎◌, slice_index_or};
+ghost use Rattle.cdb_race.specs.Faults.{fault_at, IsOfLeastSeat};
+ghost use Rattle.cdb_race.specs.Plans.{IsReady, seats_of};
+ghost use Rattle.cdb_race.specs.Promises.{IsPromise, HasRan};
+ghost use Rattle.cdb_race.specs.Races.{all_told, AllRan, AllFinished, IsRaced};
+ghost use Rattle.cdb_race.specs.declared.plan.Plan.{Plan as Planned};
+ghost use Rattle.cdb_shared.specs.Seats.{SeatView};
+
+use crate::plan::{Plan, Script};
+use crate::worker::{Ran, Runs, run};
+use cdb_control::{Control, Reply, RunOfSetup};
+use cdb_setup::Setup;
+use cdb_shared::{End, Gate, Seat, Shared};
+use std::alloc::Global;
+use std::snapshot::Snapshot;
+use std::sync::Wait;
+use std::thread;
+use std::thread::{PromisedHandle, Scope, Threads};
+
+/// Why a race came to nothing.
+#[derive(Debug, Clone, Copy, PartialEq)]
+pub enum RaceFault {
+    NoMemory,
+    JournalFull,
+    /// The start of a thread was refused.
+    Spawn,
+    /// The gate of this seat stopped its session.
+    Stopped(u8),
+}
+
+// Starts a thread for one seat.
+fn start_one<'s, E, G: Gate + Drop + Send + 's, R: Threads + Wait + Sync>(
+    scope: &Scope<'s, E>,
+    rt: &'s R,
+    alloc: Global,
+    shared: &'s Shared,
+    plan: Plan<'s>,
+    seat: Seat,
+    gate: G,
+) -> Result<PromisedHandle<Ran, Runs<'s>>, RaceFault>
+    requires { IsReady shared.now plan seat }
+    ensures { IfOk result (λ handle. IsPromise plan.entry seat handle.promise) }
+{
+    let promise = Runs {
+        plan,
+        seat: Snapshot::of(&seat),
+    };
+    let started = scope.spawn_with(
+        promise,
+        move || -> Ran
+            requires { IsReady shared.now plan seat }
+            ensures { HasRan plan.entry seat result }
+        { run(shared, rt, alloc, plan, seat, gate) },
+    );
+    match started {
+        Ok(handle) => Ok(handle),
+        Err(_) => Err(RaceFault::Spawn),
+    }
+}
+
+// Starts a thread for each seat, the last seat's first.
+fn start_all<'s, E, G: Gate + Drop + Send + 's, R: Threads + Wait + Sync>(
+    scope: &Scope<'s, E>,
+    rt: &'s R,
+    alloc: Global,
+    shared: &'s Shared,
+    plan: Plan<'s>,
+    mut seats: Vec<Seat>,
+    mut gates: Vec<G>,
+) -> Result<Vec<PromisedHandle<Ran, Runs<'s>>>, RaceFault>
+    requires ready { All (λ seat. IsReady shared.now plan seat) seats.items }
+    requires gates { vec_len gates ≡ vec_len seats }
+    ensures count { IfOk result (λ handles. vec_len handles ≡ vec_len seats) }
+    ensures each { IfOk result (λ handles. (k : ℕ) (before : SeatView) (handle : _) → k < vec_len seats → IsPromise plan.entry (slice_index_or seats.items (vec_len seats - 1 - k) before) (slice_index_or handles.items k handle).promise) }
+{
+    let Ok(mut handles) = Vec::with_capacity(alloc, seats.len()) else {
+        return Err(RaceFault::NoMemory);
+    };
+    while let Some(seat) = seats.pop() {
+        let Some(gate) = gates.pop() else {
+            unreachable!()
+        };
+        let handle = start_one(scope, rt, alloc, shared, plan, seat, gate)?;
+        handles.push_reserved(handle);
+    }
+    Ok(handles)
+}
+
+// Runs every seat in a thread of its own, and joins them all. The last seat's outcome comes first.
+fn run_all<G: Gate + Drop + Send, R: Threads + Wait + Sync>(
+    rt: &R,
+    alloc: Global,
+    shared: &Shared,
+    plan: Plan<'_>,
+    seats: Vec<Seat>,
+    gates: Vec<G>,
+) -> Result<Vec<Ran>, RaceFault>
+    requires ready { All (λ seat. IsReady shared.now plan seat) seats.items }
+    requires gates { vec_len gates ≡ vec_len seats }
+    ensures count { IfOk result (λ rans. vec_len rans ≡ vec_len seats) }
+    ensures each { IfOk result (λ rans. AllRan plan.entry seats.items rans.items) }
+{
+    thread::scope(
+        thread::scope_env(),
+        rt,
+        |scope| -> Result<Vec<Ran>, RaceFault>
+            requires ready { All (λ seat. IsReady shared.now plan seat) seats.items }
+            requires gates { vec_len gates ≡ vec_len seats }
+            ensures count { IfOk result (λ rans. vec_len rans ≡ vec_len seats) }
+            ensures each { IfOk result (λ rans. AllRan plan.entry seats.items rans.items) }
+        {
+            let handles = start_all(scope, rt, alloc, shared, plan, seats, gates)?;
+            match thread::join_promised(rt, handles) {
+                Ok(rans) => Ok(rans),
+                Err(_) => Err(RaceFault::NoMemory),
+            }
+        },
+    )
+}
+
+// The fault of a seat whose session did not end well.
+fn fault_of(seat: u8, end: End) -> Option<RaceFault>
+    ensures { result ≡ fault_at seat end }
+{
+    match end {
+        End::All | End::Done => None,
+        End::Stopped => Some(RaceFault::Stopped(seat)),
+        End::NoMemory => Some(RaceFault::NoMemory),
+        End::JournalFull => Some(RaceFault::JournalFull),
+    }
+}
+
+// The seats and their replies, the first seat's first, or the fault of the least seat.
+fn collect(alloc: Global, mut rans: Vec<Ran>) -> Result<(Vec<Seat>, Vec<Vec<Reply>>), RaceFault>
+    ensures least { IfErr result (λ fault. (fault ≡ RaceFault.NoMemory) ⊎ IsOfLeastSeat fault rans.items) }
+    ensures count { IfOk result (λ r. (vec_len r.0 ≡ vec_len rans) × (vec_len r.1 ≡ vec_len rans)) }
+    ensures each { IfOk result (λ r. (plan : Planned) (seats : List SeatView) → length seats ≡ vec_len rans → AllRan plan seats rans.items → AllFinished plan seats r.0.items (all_told r.1.items)) }
+{
+    let Ok(mut seats) = Vec::with_capacity(alloc, rans.len()) else {
+        return Err(RaceFault::NoMemory);
+    };
+    let Ok(mut answered) = Vec::with_capacity(alloc, rans.len()) else {
+        return Err(RaceFault::NoMemory);
+    };
+    while let Some(ran) = rans.pop() {
+        let Ran { seat, replies, end } = ran;
+        if let Some(fault) = fault_of(seat.number(), end) {
+            return Err(fault);
+        }
+        seats.push_reserved(seat);
+        answered.push_reserved(replies);
+    }
+    Ok((seats, answered))
+}
+
+/// The final control, and for each seat the replies to its script, none where it drove a process.
+#[derive(Drop)]
+pub struct Raced {
+    pub control: Control<RunOfSetup>,
+    pub replies: Vec<Vec<Reply>>,
+}
+
+/// Drives each process by so many turns and serves each script, each in a thread of its own, and joins
+/// them all. The seats and the gates of the processes come first, and then those of the scripts; there
+/// are at most 64. Of several faults the one of the least seat is answered, and the race leaves nothing.
+pub fn race<G: Gate + Drop + Send, R: Threads + Wait + Sync>(
+    rt: &R,
+    alloc: Global,
+    setup: Setup,
+    turns: u32,
+    scripts: &[Script],
+    gates: Vec<G>,
+) -> Result<Raced, RaceFault>
+    requires fits { setup.processes + length scripts.now ≤ 64 }
+    requires gates { vec_len gates ≡ setup.processes + length scripts.now }
+    ensures { IfOk result (λ r. IsRaced setup turns scripts.now r.control (all_told r.replies.items)) }
+{
+    let processes = setup.n();
+    let plan = Plan {
+        processes,
+        turns,
+        scripts,
+    };
+    let count = processes + scripts.len() as u8;
+    let Ok(control) = Control::open(alloc, setup, count) else {
+        return Err(RaceFault::NoMemory);
+    };
+    let Ok((shared, seats)) = Shared::open(rt, alloc, control) else {
+        return Err(RaceFault::NoMemory);
+    };
+    let rans = run_all(rt, alloc, &shared, plan, seats, gates)?;
+    let (seats, replies) = collect(alloc, rans)?;
+    let control = shared.finish(rt, seats);
+    // Its clause says that each entry is of a seat.
+    control.journal();
+    Ok(Raced { control, replies })
+}

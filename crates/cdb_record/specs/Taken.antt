@@ -1,0 +1,19 @@
+-- What is taken out of a list of entries.
+use Rattle.std.specs.Prelude.{◌≡◌, ℕ, ◌≤◌, List, Some, slice_get}
+use Rattle.cdb_base.specs.declared.event.Event.{Event}
+use Rattle.cdb_base.specs.declared.event.Event.TheVariants.{Step}
+use Rattle.cdb_base.specs.declared.event.Kind.{Kind}
+use Rattle.cdb_causal.specs.Rollback.{without}
+use Rattle.cdb_record.specs.declared.entry.Entry.{Entry}
+
+-- the entry stood at place i, and the others are left
+abbrev pub IsTakenOut : {B : Type 0} → List (Entry B) → ℕ → Entry B → List (Entry B) → Type 0
+IsTakenOut entries i entry left = (slice_get entries i ≡ Some entry) × (left ≡ without entries i)
+
+-- a step of process p stands at place i
+abbrev pub IsStepOf : List Event → ℕ → ℕ → Type 0
+IsStepOf history p i = (k : ℕ) × (kind : Kind) × (slice_get history i ≡ Some (Step p k kind))
+
+-- of the steps of process p, the one at place i is the last
+abbrev pub IsLastStepOf : List Event → ℕ → ℕ → Type 0
+IsLastStepOf history p i = IsStepOf history p i × ((j : ℕ) → IsStepOf history p j → j ≤ i)

@@ -1,0 +1,286 @@
+-- The direct causes of an event, sought by process, are those that are looked for in the history.
+use Rattle.std.proofs.Common.{◌≡◌, ℕ, zero, suc, ◌<◌, ◌≤◌, true, false, not, ◌&&◌, ◌||◌, ◌==◌, ⊎_elim, List, [], ◌∷◌, ◌++◌, Some, length, take, drop, map, filter, cond, nat_eq, slice_get, if◌then◌else◌, refl, sym, ap, ap₂, ◌∙◌, subst, true≢false, arith}
+use Rattle.std.proofs.lemmas.Bool.Decides.{nat_tests}
+use Rattle.std.proofs.lemmas.Option.{none-some, same_Some, slice_get_within}
+use Rattle.std.specs.List.{list_any, flat_map}
+use Rattle.cdb_base.specs.Event.{event_name}
+use Rattle.cdb_base.specs.Processes.{all_processes}
+use Rattle.cdb_base.specs.declared.event.Event.{Event}
+use Rattle.cdb_base.specs.declared.event.Event.TheVariants.{Step, Lost}
+use Rattle.cdb_base.specs.declared.name.CopyName.{CopyName}
+use Rattle.cdb_base.specs.declared.name.StepId.{StepId}
+use Rattle.cdb_base.specs.declared.name.StepId.TheVariants as named
+use Rattle.cdb_causal.specs.Causality.{IsLink, IsDirectCause}
+use Rattle.cdb_causal.specs.Dependence.{affects, depends}
+use Rattle.cdb_causal.specs.DirectCauses.{ComesBefore, AreDirectCauses, NamesDirectCause}
+use Rattle.cdb_causal.specs.DirectDependents.{is_direct}
+use Rattle.cdb_causal.specs.Exchange.{IsIn, here, there}
+use Rattle.cdb_causal.specs.Standing.{IsStanding}
+use Rattle.cdb_causal.proofs.DirectByList.{direct_between}
+use Rattle.cdb_causal.proofs.SlotsOfCauses.{lost_received}
+use Rattle.cdb_run.specs.State.{Machine}
+use Rattle.cdb_run.specs.Step.{IsValid}
+use Rattle.cdb_run.specs.Undo.{direct_among, is_step_of}
+use Rattle.cdb_run.proofs.Kept.{is_false}
+use Rattle.cdb_run.proofs.ListMembers.{nothing_in, place_in, in_filter, from_filter, filter_none, any_none, get-take, get_up_to, length_up_to, in_map, from_map, in_flat, from_flat}
+use Rattle.cdb_run.proofs.Mails.{not_true}
+use Rattle.cdb_run.proofs.Naming.{in_cases, in_place, lost_unreceived, valid_standing}
+use Rattle.cdb_run.proofs.Taken.{both}
+
+-- Two rows of names with the same members, both in order, are one.
+
+abbrev IsRising : List StepId → Type 0
+IsRising [] = Unit {0}
+IsRising (name ∷ names) = ((other : StepId) → IsIn other names → ComesBefore name other) × IsRising names
+
+not_both : (a b : StepId) → ComesBefore a b → ComesBefore b a → ⊥
+not_both (named.Step a) (named.Step b) one two = omega (arith, one, two)
+not_both (named.Step a) (named.Lost b) one two = two
+not_both (named.Lost a) b one two = one
+
+same_names : (xs ys : List StepId) → IsRising xs → IsRising ys → ((z : StepId) → IsIn z xs → IsIn z ys) → ((z : StepId) → IsIn z ys → IsIn z xs) → xs ≡ ys
+same_names [] [] a b to from = refl
+same_names [] (y ∷ ys) a b to from = absurd (nothing_in y (from y here))
+same_names (x ∷ xs) [] a b to from = absurd (nothing_in x (to x here))
+same_names (x ∷ xs) (y ∷ ys) a b to from =
+    ap₂ (λ z zs. z ∷ zs) heads
+    (same_names xs ys a.1 b.1
+    (λ z i. ⊎_elim (λ e. absurd (let itself = subst (ComesBefore x) (e ∙ sym heads) (a.0 z i) in not_both x x itself itself)) (λ later. later) (in_cases z y ys (to z (there i))))
+    (λ z i. ⊎_elim (λ e. absurd (let itself = subst (ComesBefore y) (e ∙ heads) (b.0 z i) in not_both y y itself itself)) (λ later. later) (in_cases z x xs (from z (there i)))))
+  where
+    heads : x ≡ y
+    heads =
+        ⊎_elim
+        (λ e. e)
+        (λ later. ⊎_elim (λ e. sym e) (λ behind. absurd (not_both x y (a.0 y behind) (b.0 x later))) (in_cases y x xs (from y here)))
+        (in_cases x y ys (to x here))
+
+rising_names : (names : List StepId) → ((k l : ℕ) (name other : StepId) → k < l → slice_get names k ≡ Some name → slice_get names l ≡ Some other → ComesBefore name other) → IsRising names
+rising_names [] order = tt
+rising_names (x ∷ xs) order = (
+  λ y i. let at = place_in y xs i in order 0 (suc at.0) x y (omega arith) refl at.1,
+  rising_names xs (λ k l name other less at_k at_l. order (suc k) (suc l) name other (omega (arith, less)) at_k at_l),
+)
+
+-- at most one event
+abbrev IsShort : List Event → Type 0
+IsShort [] = Unit {0}
+IsShort (x ∷ []) = Unit {0}
+IsShort (x ∷ y ∷ ys) = ⊥
+
+-- The direct causes among the events before an event: of each process there is at most one.
+
+module _ (effect : Event) where
+  direct_in : (earlier : List Event) (i : ℕ) (cause : Event) → slice_get earlier i ≡ Some cause → is_direct depends cause (drop (suc i) earlier) effect ≡ true → IsIn cause (direct_among earlier effect)
+  direct_in [] i cause at direct = absurd (none-some cause at)
+  direct_in (x ∷ xs) zero cause at direct =
+      let same = same_Some x cause at in
+      subst (λ b. IsIn cause (if b then x ∷ direct_among xs effect else direct_among xs effect)) (sym (ap (λ y. is_direct depends y xs effect) same ∙ direct))
+      (subst (λ y. IsIn cause (y ∷ direct_among xs effect)) (sym same) here)
+  direct_in (x ∷ xs) (suc i) cause at direct =
+      let rest = direct_in xs i cause at direct in
+      elim (is_direct depends x xs effect) as (λ b. IsIn cause (if b then x ∷ direct_among xs effect else direct_among xs effect)) [ true ↦ there rest | false ↦ rest ]
+
+  in_direct : (earlier : List Event) (cause : Event) → IsIn cause (direct_among earlier effect) → (i : ℕ) × (slice_get earlier i ≡ Some cause) × (is_direct depends cause (drop (suc i) earlier) effect ≡ true)
+  in_direct [] cause i = absurd (nothing_in cause i)
+  in_direct (x ∷ xs) cause i =
+      elim (is_direct depends x xs effect) as (λ b. is_direct depends x xs effect ≡ b → IsIn cause (if b then x ∷ direct_among xs effect else direct_among xs effect) → (k : ℕ) × (slice_get (x ∷ xs) k ≡ Some cause) × (is_direct depends cause (drop (suc k) (x ∷ xs)) effect ≡ true)) [
+        | true ↦ λ e j.
+            ⊎_elim
+            (λ same. (0, ap Some (sym same), ap (λ y. is_direct depends y xs effect) same ∙ e))
+            (λ later. let rest = in_direct xs cause later in (suc rest.0, rest.1, rest.2))
+            (in_cases cause x (direct_among xs effect) j)
+        | false ↦ λ e j. let rest = in_direct xs cause j in (suc rest.0, rest.1, rest.2)
+      ] refl i
+
+  same_process_depends : (p : ℕ) (one other : Event) → is_step_of p one ≡ true → is_step_of p other ≡ true → depends one other ≡ true
+  same_process_depends p (Step q k kind) (Step r l other) one two =
+      ap (λ b. b || (affects (Step q k kind) (Step r l other) || affects (Step r l other) (Step q k kind))) (same q r one two)
+    where
+      same : (q r : ℕ) → (q == p) ≡ true → (r == p) ≡ true → nat_eq q r ≡ true
+      same q r one two = grind (arith, nat_tests)
+  same_process_depends p (Step q k kind) (Lost copy) one two = absurd (true≢false (sym two))
+  same_process_depends p (Lost copy) other one two = absurd (true≢false (sym one))
+
+  no_other : (p : ℕ) (cause : Event) (between : List Event) → is_step_of p cause ≡ true → is_direct depends cause between effect ≡ true → filter (is_step_of p) (direct_among between effect) ≡ []
+  no_other p cause between of_p direct =
+      filter_none (is_step_of p) (direct_among between effect)
+      (λ other i.
+      let d = in_direct between other i in
+      let linked = (both (depends other effect) (not (list_any (λ x. depends other x && depends x effect) (drop (suc d.0) between))) d.2).0 in
+      let none = not_true (list_any (λ x. depends cause x && depends x effect) between) (both (depends cause effect) (not (list_any (λ x. depends cause x && depends x effect) between)) direct).1 in
+      is_false (is_step_of p other)
+      (λ of_p_too. true≢false
+      (sym (ap₂ (λ a b. a && b) (same_process_depends p cause other of_p of_p_too) linked)
+      ∙ any_none (λ x. depends cause x && depends x effect) between none other (in_place between d.0 other d.1))))
+
+  one_of_process : (p : ℕ) (earlier : List Event) → IsShort (filter (is_step_of p) (direct_among earlier effect))
+  one_of_process p [] = tt
+  one_of_process p (cause ∷ between) =
+      elim (is_direct depends cause between effect) as (λ b. is_direct depends cause between effect ≡ b → IsShort (filter (is_step_of p) (if b then cause ∷ direct_among between effect else direct_among between effect))) [
+        | true ↦ λ direct.
+            elim (is_step_of p cause) as (λ b. is_step_of p cause ≡ b → IsShort (cond b (cause ∷ filter (is_step_of p) (direct_among between effect)) (filter (is_step_of p) (direct_among between effect)))) [
+              | true ↦ λ of_p. subst (λ l. IsShort (cause ∷ l)) (sym (no_other p cause between of_p direct)) tt
+              | false ↦ λ other. one_of_process p between
+            ] refl
+        | false ↦ λ indirect. one_of_process p between
+      ] refl
+
+-- The rows of the processes, one behind the other.
+
+abbrev Rises : ℕ → List ℕ → Type 0
+Rises low [] = Unit {0}
+Rises low (p ∷ ps) = (low < p) × Rises p ps
+
+above : (low : ℕ) (ps : List ℕ) → Rises low ps → (q : ℕ) → IsIn q ps → low < q
+above low [] rises q i = absurd (nothing_in q i)
+above low (p ∷ ps) rises q i =
+    let first = rises.0 in
+    ⊎_elim (λ e. omega (arith, first, e)) (λ later. let more = above p ps rises.1 q later in omega (arith, first, more)) (in_cases q p ps i)
+
+steps_in_order : (p q : ℕ) (one other : Event) → is_step_of p one ≡ true → is_step_of q other ≡ true → p < q → ComesBefore (event_name one) (event_name other)
+steps_in_order p q (Step r k kind) (Step s l other) of_p of_q less = less_too r s of_p of_q
+  where
+    less_too : (r s : ℕ) → (r == p) ≡ true → (s == q) ≡ true → r < s
+    less_too r s one two = grind (arith, nat_tests)
+steps_in_order p q (Step r k kind) (Lost copy) of_p of_q less = absurd (true≢false (sym of_q))
+steps_in_order p q (Lost copy) other of_p of_q less = absurd (true≢false (sym of_p))
+
+module _ (events : List Event) where
+  abbrev of_process : ℕ → List Event
+  of_process p = filter (is_step_of p) events
+
+  abbrev row : List ℕ → List StepId
+  row ps = map event_name (flat_map of_process ps)
+
+  in_row : (ps : List ℕ) (name : StepId) → IsIn name (row ps) → (p : ℕ) × (event : Event) × IsIn p ps × IsIn event events × (is_step_of p event ≡ true) × (event_name event ≡ name)
+  in_row ps name i =
+      let m = from_map event_name name (flat_map of_process ps) i in
+      let f = from_flat of_process ps m.0 m.1 in
+      let e = from_filter (is_step_of f.0) m.0 events f.2 in
+      (f.0, m.0, f.1, e.0, e.1, m.2)
+
+  row_in : (ps : List ℕ) (p : ℕ) (event : Event) → IsIn p ps → IsIn event events → is_step_of p event ≡ true → IsIn (event_name event) (row ps)
+  row_in ps p event i j of_p = in_map event_name event (flat_map of_process ps) (in_flat of_process p ps event i (in_filter (is_step_of p) event events j of_p))
+
+  module _ (short : (p : ℕ) → IsShort (of_process p)) where
+    row_rises : (low : ℕ) (ps : List ℕ) → Rises low ps → IsRising (row ps)
+    row_rises low [] rises = tt
+    row_rises low (p ∷ ps) rises = by (row_rises p ps rises.1) (of_process p) refl (short p)
+      where
+        by : IsRising (row ps) → (found : List Event) → of_process p ≡ found → IsShort found → IsRising (map event_name (found ++ flat_map of_process ps))
+        by rest [] is s = rest
+        by rest (x ∷ []) is s = (
+          λ other i.
+              let r = in_row ps other i in
+              let of_p = (from_filter (is_step_of p) x events (subst (IsIn x) (sym is) here)).1 in
+              subst (ComesBefore (event_name x)) r.5 (steps_in_order p r.0 x r.1 of_p r.4 (above p ps rises.1 r.0 r.2)),
+          rest,
+        )
+        by rest (x ∷ y ∷ ys) is s = absurd s
+
+processes_rise : Rises 0 all_processes
+unfolding all_processes
+processes_rise = (omega arith, (omega arith, (omega arith, (omega arith, (omega arith, (omega arith, (omega arith, (omega arith, (omega arith, tt)))))))))
+
+is_process : (p : ℕ) → 1 ≤ p → p ≤ 9 → IsIn p all_processes
+unfolding all_processes
+is_process zero first last = absurd (omega (arith, first))
+is_process (suc zero) first last = here
+is_process (suc (suc zero)) first last = there here
+is_process (suc (suc (suc zero))) first last = there (there here)
+is_process (suc (suc (suc (suc zero)))) first last = there (there (there here))
+is_process (suc (suc (suc (suc (suc zero))))) first last = there (there (there (there here)))
+is_process (suc (suc (suc (suc (suc (suc zero)))))) first last = there (there (there (there (there here))))
+is_process (suc (suc (suc (suc (suc (suc (suc zero))))))) first last = there (there (there (there (there (there here)))))
+is_process (suc (suc (suc (suc (suc (suc (suc (suc zero)))))))) first last = there (there (there (there (there (there (there here))))))
+is_process (suc (suc (suc (suc (suc (suc (suc (suc (suc zero))))))))) first last = there (there (there (there (there (there (there (there here)))))))
+is_process (suc (suc (suc (suc (suc (suc (suc (suc (suc (suc p)))))))))) first last = absurd (omega (arith, last))
+
+-- Direct causes in a list and in its front.
+
+module _ (one other : List Event) (j : ℕ) (agree : (k : ℕ) → k ≤ j → slice_get one k ≡ slice_get other k) where
+  link_along : (i k : ℕ) → k ≤ j → IsLink depends one i k → IsLink depends other i k
+  link_along i k last l =
+      let later = l.later in
+      record {
+        cause = l.cause;
+        effect = l.effect;
+        later = later;
+        at_cause = sym (agree i (omega (arith, later, last))) ∙ l.at_cause;
+        at_effect = sym (agree k last) ∙ l.at_effect;
+        linked = l.linked;
+      }
+
+direct_along : (one other : List Event) (j : ℕ) → ((k : ℕ) → k ≤ j → slice_get one k ≡ slice_get other k) → (i : ℕ) → IsDirectCause depends one i j → IsDirectCause depends other i j
+direct_along one other j agree i d =
+    record {
+      link = link_along one other j agree i j (omega arith) d.link;
+      nothing_between = λ k first second.
+          let before = second.later in
+          d.nothing_between k
+          (link_along other one j (λ l last. sym (agree l last)) i k (omega (arith, before)) first)
+          (link_along other one j (λ l last. sym (agree l last)) k j (omega arith) second);
+    }
+
+-- In a valid history a loss causes nothing.
+
+module _ {L : Type 0} (machine : Machine L) (history : List Event) (valid : IsValid machine history) (few : length machine.firsts ≤ 9) where
+  standing : IsStanding history
+  standing = valid_standing machine history valid few
+
+  no_loss : (i j : ℕ) (l : IsLink depends history i j) (copy : CopyName) → l.cause ≡ Lost copy → ⊥
+  no_loss i j l copy is =
+      let received = lost_received history standing j i l copy is in
+      lost_unreceived machine history valid copy received.k
+      (in_place history i (Lost copy) (l.at_cause ∙ ap Some is))
+      (in_place history j _ (l.at_effect ∙ ap Some received.is))
+
+  process_of_cause : (i j : ℕ) (l : IsLink depends history i j) (event : Event) → l.cause ≡ event → (p : ℕ) × IsIn p all_processes × (is_step_of p event ≡ true)
+  process_of_cause i j l (Step p k kind) is =
+      let range = standing.processes i p k kind (l.at_cause ∙ ap Some is) in
+      (p, is_process p range.0 range.1, itself p)
+    where
+      itself : (p : ℕ) → (p == p) ≡ true
+      itself p = grind (arith, nat_tests)
+  process_of_cause i j l (Lost copy) is = absurd (no_loss i j l copy is)
+
+  module _ (j : ℕ) (event : Event) (at : slice_get history j ≡ Some event) where
+    abbrev earlier : List Event
+    earlier = take j history
+
+    abbrev causes : List Event
+    causes = direct_among earlier event
+
+    up_to : (k : ℕ) → k ≤ j → slice_get (earlier ++ event ∷ []) k ≡ slice_get history k
+    up_to = get_up_to history j event at
+
+    cause_in : (name : StepId) → NamesDirectCause history j name → IsIn name (row causes all_processes)
+    cause_in name n =
+        let link = n.1.link in
+        let later = link.later in
+        let cause = link.cause in
+        let at_cause : slice_get earlier n.0 ≡ Some cause = get-take history j n.0 later ∙ link.at_cause in
+        let longer = subst (IsDirectCause depends (earlier ++ event ∷ []) n.0) (sym (length_up_to history j event at))
+        (direct_along history (earlier ++ event ∷ []) j (λ k last. sym (up_to k last)) n.0 n.1) in
+        let direct = (direct_between depends earlier event n.0 cause at_cause).0 longer in
+        let process = process_of_cause n.0 j link cause refl in
+        let is_named = ap event_name (same_Some cause n.2.0 (sym link.at_cause ∙ n.2.1)) ∙ n.2.2 in
+        subst (λ z. IsIn z (row causes all_processes)) is_named
+        (row_in causes all_processes process.0 cause process.1 (direct_in event earlier n.0 cause at_cause direct) process.2)
+
+    in_cause : (name : StepId) → IsIn name (row causes all_processes) → NamesDirectCause history j name
+    in_cause name i =
+        let r = in_row causes all_processes name i in
+        let d = in_direct event earlier r.1 r.3 in
+        let longer = (direct_between depends earlier event d.0 r.1 d.1).1 d.2 in
+        let below : d.0 < j = (let within = slice_get_within earlier d.0 r.1 d.1 in let number = length_up_to history j event at in omega (arith, within, number)) in
+        let direct = direct_along (earlier ++ event ∷ []) history j up_to d.0 (subst (IsDirectCause depends (earlier ++ event ∷ []) d.0) (length_up_to history j event at) longer) in
+        (d.0, direct, (r.1, sym (get-take history j d.0 below) ∙ d.1, r.5))
+
+    pub causes_are : (names : List StepId) → AreDirectCauses history j names → names ≡ row causes all_processes
+    causes_are names are =
+        same_names names (row causes all_processes) (rising_names names are.in_order)
+        (row_rises causes (λ p. one_of_process event p earlier) 0 all_processes processes_rise)
+        (λ name i. let k = place_in name names i in cause_in name (are.only k.0 name k.1))
+        (λ name i. let k = are.each name (in_cause name i) in in_place names k.0 name k.1)

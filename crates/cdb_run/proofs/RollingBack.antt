@@ -1,0 +1,174 @@
+-- A rollback, event by event, from the last consequence back.
+use Rattle.std.proofs.Common.{◌≡◌, ℕ, zero, suc, ◌+◌, ◌-◌, ◌<◌, ◌≤◌, Bool, true, false, cond, List, [], ◌∷◌, ◌++◌, length, map, filter, Some, Ok, slice_get, append_assoc, length-append, refl, sym, ap, ap₂, ◌∙◌, arith}
+use Rattle.std.proofs.lemmas.List.{length-map}
+use Rattle.std.proofs.lemmas.Option.{same_Some}
+use Rattle.std.specs.List.{flat_map}
+use Rattle.cdb_base.specs.Event.{event_name}
+use Rattle.cdb_base.specs.Processes.{all_processes}
+use Rattle.cdb_base.specs.declared.event.Event.{Event}
+use Rattle.cdb_base.specs.declared.name.StepId.{StepId}
+use Rattle.cdb_causal.specs.Causality.{IsFree}
+use Rattle.cdb_causal.specs.Dependence.{depends}
+use Rattle.cdb_causal.specs.DirectCauses.{AreDirectCauses}
+use Rattle.cdb_causal.specs.Names.{IsNamedAt}
+use Rattle.cdb_causal.specs.Rollback.{without, depends_on_one, caught, consequences, rolled_back, remaining}
+use Rattle.cdb_causal.proofs.Undone.{rolled_back_alone, rolled_back_last}
+use Rattle.cdb_causal.proofs.Walks.{rolled_back_split}
+use Rattle.cdb_run.specs.State.{Machine}
+use Rattle.cdb_run.specs.Step.{IsValid}
+use Rattle.cdb_run.specs.Undo.{event_named, found_at, for_standing, rollback_of, causes_of, answered, left_by, number_removed, with_removed, reversed, direct_among, is_step_of}
+use Rattle.cdb_run.proofs.Answered.{reversed_push}
+use Rattle.cdb_run.proofs.Answering.{found_is}
+use Rattle.cdb_run.proofs.Causes.{causes_are}
+
+module _ {E : Type 0} (depends : E → E → Bool) where
+  caught_few : (causes events : List E) → length (caught depends causes events) ≤ length events
+  caught_few causes [] = omega arith
+  caught_few causes (x ∷ xs) =
+      let more = caught_few (causes ++ x ∷ []) xs in
+      let less = caught_few causes xs in
+      elim (depends_on_one depends causes x) as (λ b. length (cond b (x ∷ caught depends (causes ++ x ∷ []) xs) (caught depends causes xs)) ≤ length (x ∷ xs)) [ true ↦ omega (arith, more) | false ↦ omega (arith, less) ]
+
+  pub rolled_back_few : (history : List E) (i : ℕ) → length (rolled_back depends history i) ≤ length history
+  rolled_back_few [] i = omega arith
+  rolled_back_few (x ∷ xs) zero = let few = caught_few (x ∷ []) xs in omega (arith, few)
+  rolled_back_few (x ∷ xs) (suc i) = let few = rolled_back_few xs i in omega (arith, few)
+
+-- the last of the names is that of the last of the events
+record IsSplit (left : List Event) (rest : List StepId) (name : StepId) : Type 0 where
+  more : List Event
+  last : Event
+  left_is : left ≡ more ++ last ∷ []
+  rest_is : rest ≡ map event_name more
+  name_is : event_name last ≡ name
+
+split : (left : List Event) (rest : List StepId) (name : StepId) → rest ++ name ∷ [] ≡ map event_name left → IsSplit left rest name
+split [] [] name h = absurd (cc)
+split [] (r ∷ rest) name h = absurd (cc)
+split (x ∷ []) [] name h = record { more = []; last = x; left_is = refl; rest_is = refl; name_is = cc }
+split (x ∷ y ∷ ys) [] name h = absurd (cc)
+split (x ∷ xs) (r ∷ rest) name h =
+    let tails : rest ++ name ∷ [] ≡ map event_name xs = cc in
+    let heads : r ≡ event_name x = cc in
+    let s = split xs rest name tails in
+    record {
+      more = x ∷ s.more;
+      last = s.last;
+      left_is = ap (λ l. x ∷ l) s.left_is;
+      rest_is = ap₂ (λ a l. a ∷ l) heads s.rest_is;
+      name_is = s.name_is;
+    }
+
+-- What is left to take back, by names, of the event at place i and its consequences, the first of which is that event; what
+-- has been taken back stands at the end of the list into which it goes.
+pub record IsLeft (before : List Event) (i : ℕ) (into : List Event) (history : List Event) (names : List StepId) (taken : List Event) : Type 0 where
+  pub event : Event
+  pub left : List Event
+  pub rolled : rolled_back depends history i ≡ event ∷ left
+  pub names_are : names ≡ map event_name left
+  pub remains : remaining depends history i ≡ remaining depends before i
+  pub went : taken ++ reversed (event ∷ left) ≡ into ++ reversed (rolled_back depends before i)
+
+-- only the event itself is left
+pub record IsAlone (before : List Event) (i : ℕ) (into history taken : List Event) : Type 0 where
+  pub event : Event
+  pub at : slice_get history i ≡ Some event
+  pub free : IsFree depends history i
+  pub remains : without history i ≡ remaining depends before i
+  pub went : taken ++ event ∷ [] ≡ into ++ reversed (rolled_back depends before i)
+
+module _ (before : List Event) (i : ℕ) (into : List Event) where
+  pub left_first : (event : Event) → slice_get before i ≡ Some event → IsLeft before i into before (map event_name (consequences depends before i)) into
+  left_first event at =
+      let rolled = rolled_back_split depends before i event at in
+      record {
+        event = event;
+        left = consequences depends before i;
+        rolled = rolled;
+        names_are = refl;
+        remains = refl;
+        went = ap (λ l. into ++ reversed l) (sym rolled);
+      }
+
+  pub number_left : (event : Event) → slice_get before i ≡ Some event → length (map event_name (consequences depends before i)) + 1 ≡ length (rolled_back depends before i)
+  number_left event at =
+      let rolled = ap length (rolled_back_split depends before i event at) in
+      let names = length-map (consequences depends before i) event_name in
+      omega (arith, rolled, names)
+
+  module _ {history : List Event} {taken : List Event} where
+    pub next_free : (rest : List StepId) (name : StepId) → IsLeft before i into history (rest ++ name ∷ []) taken
+        → (j : ℕ) × IsNamedAt history j name × IsFree depends history j × ((event : Event) → slice_get history j ≡ Some event → IsLeft before i into (without history j) rest (taken ++ event ∷ []))
+    next_free rest name h =
+        let s = split h.left rest name h.names_are in
+        let q = rolled_back_last depends history i h.event s.last s.more (h.rolled ∙ ap (λ l. h.event ∷ l) s.left_is) in (
+          q.0,
+          (s.last, q.1, s.name_is),
+          q.2,
+          λ event at.
+              record {
+                event = h.event;
+                left = s.more;
+                rolled = q.3;
+                names_are = s.rest_is;
+                remains = q.4 ∙ h.remains;
+                went =
+                    append_assoc taken (event ∷ []) (reversed (h.event ∷ s.more))
+                    ∙ ap (λ e. taken ++ e ∷ reversed (h.event ∷ s.more)) (same_Some event s.last (sym at ∙ q.1))
+                    ∙ ap (λ l. taken ++ (l ++ h.event ∷ [])) (sym (reversed_push s.more s.last))
+                    ∙ ap (λ l. taken ++ (reversed l ++ h.event ∷ [])) (sym s.left_is)
+                    ∙ h.went;
+              },
+        )
+
+    pub alone_left : (names : List StepId) {len : ℕ} → len ≡ length names → len ≡ 0 → IsLeft before i into history names taken → IsAlone before i into history taken
+    alone_left names {len = len} is none h =
+        let no_more : h.left ≡ [] = empty h.left (sym (ap length h.names_are ∙ length-map h.left event_name) ∙ sym is ∙ none) in
+        let q = rolled_back_alone depends history i h.event (h.rolled ∙ ap (λ l. h.event ∷ l) no_more) in
+        record {
+          event = h.event;
+          at = q.0;
+          free = q.1;
+          remains = q.2 ∙ h.remains;
+          went = ap (λ l. taken ++ reversed (h.event ∷ l)) (sym no_more) ∙ h.went;
+        }
+      where
+        empty : (left : List Event) → length left ≡ 0 → left ≡ []
+        empty [] is = refl
+        empty (x ∷ xs) is = absurd (omega (arith, is))
+
+-- What a rollback is answered, by what is found.
+
+length-reversed : (events : List Event) → length (reversed events) ≡ length events
+length-reversed [] = refl
+length-reversed (x ∷ xs) = omega (arith, length-append (reversed xs) (x ∷ []), length-reversed xs)
+
+pub stands_at : {E : Type 0} (xs : List E) (i : ℕ) → i < length xs → (x : E) × (slice_get xs i ≡ Some x)
+stands_at [] i below = absurd (omega (arith, below))
+stands_at (x ∷ xs) zero below = (x, refl)
+stands_at (x ∷ xs) (suc i) below = stands_at xs i (omega (arith, below))
+
+module _ (n : ℕ) (history : List Event) (name : StepId) (at : ℕ) (found : event_named n history name ≡ found_at history (at - 1)) (within : (1 ≤ at) × (at ≤ length history)) where
+  pub found_event : (event : Event) × (slice_get history (at - 1) ≡ Some event)
+  found_event = let first = within.0 in let last = within.1 in stands_at history (at - 1) (omega (arith, first, last))
+
+  pub rolled_answer : rollback_of n history name ≡ Ok (reversed (rolled_back depends history (at - 1)), remaining depends history (at - 1))
+  rolled_answer =
+      ap (λ f. for_standing f (λ stands. Ok (reversed (rolled_back depends history stands.place), remaining depends history stands.place)))
+      (found ∙ found_is history (at - 1) found_event.0 found_event.1)
+
+  pub number_answer : (number : ℕ) → number ≡ length (rolled_back depends history (at - 1)) → Ok number ≡ number_removed (answered (rollback_of n history name))
+  number_answer number is = ap Ok (is ∙ sym (length-reversed (rolled_back depends history (at - 1)))) ∙ sym (ap (λ a. number_removed (answered a)) rolled_answer)
+
+  pub history_answer : (left : List Event) → left ≡ remaining depends history (at - 1) → left ≡ left_by history (rollback_of n history name)
+  history_answer left is = is ∙ sym (ap (left_by history) rolled_answer)
+
+  pub list_answer : (old new : List Event) → new ≡ old ++ reversed (rolled_back depends history (at - 1)) → new ≡ with_removed old (answered (rollback_of n history name))
+  list_answer old new is = is ∙ sym (ap (λ a. with_removed old (answered a)) rolled_answer)
+
+  -- Why, by the direct causes that are looked for.
+  pub causes_answer : {L : Type 0} (machine : Machine L) → IsValid machine history → length machine.firsts ≤ 9 → (names : List StepId) → AreDirectCauses history (at - 1) names → causes_of n history name ≡ Ok names
+  causes_answer machine valid few names are =
+      ap (λ f. for_standing f (λ stands. Ok (map event_name (flat_map (λ p. filter (is_step_of p) (direct_among stands.earlier stands.event)) all_processes))))
+      (found ∙ found_is history (at - 1) found_event.0 found_event.1)
+      ∙ ap Ok (sym (causes_are machine history valid few (at - 1) found_event.0 found_event.1 names are))

@@ -1,0 +1,31 @@
+use Rattle.std.proofs.Common.{◌-◌, ◌≤◌, length, IsSome, subst, arith}
+use Rattle.cdb_base.specs.declared.name.StepId.{StepId}
+use Rattle.cdb_base.specs.declared.name.StepId.TheVariants as named
+use Rattle.cdb_causal.specs.DirectCauses.{AreDirectCauses}
+use Rattle.cdb_message.specs.Mail.{message_name, copy_name}
+use Rattle.cdb_run.specs.Current.{Standing}
+use Rattle.cdb_run.specs.Machines.{machine_of}
+use Rattle.cdb_run.specs.Step.{fold}
+use Rattle.cdb_run.proofs.RollingBack.{causes_answer}
+use Rattle.cdb_run.proofs.Starting.{length-first_states}
+use Rattle.cdb_run.proofs.Views.{history_valid}
+use Rattle.cdb_run.proofs.run.Run.causes_of_loss.Goals as goal
+
+pub returns : goal.returns
+returns g c =
+    let process = g.P.Process in
+    let name : StepId = named.Lost (copy_name (message_name c.args.s c.args.m) c.args.p) in
+    let standing = c.args.self.now in
+    let setup = c.self.inside.setup in
+    let found = c.in_ok-at.ensures in
+    let ranges = c.n-ranges.ensures.ranges in
+    let number = length-first_states process.first 1 setup.processes setup.quorum setup.inputs in
+    let inputs = ranges.an_input_each in
+    let most = ranges.processes.1 in
+    let few : length (machine_of process.first process.next process.wish process.place process.last_place setup).firsts ≤ 9 = omega (arith, number, inputs, most) in
+    causes_answer standing.setup.processes standing.history name c.in_ok-at.at found.found found.within
+    (machine_of process.first process.next process.wish process.place process.last_place standing.setup)
+    (subst (λ (s : Standing). IsSome (fold (machine_of process.first process.next process.wish process.place process.last_place s.setup) s.history)) c.self.view_is (history_valid c.self.invariant))
+    (subst (λ (s : Standing). length (machine_of process.first process.next process.wish process.place process.last_place s.setup).firsts ≤ 9) c.self.view_is few)
+    c.direct_causes.result.items
+    (subst (λ h. AreDirectCauses h (c.in_ok-at.at - 1) c.direct_causes.result.items) c.standing.ensures c.direct_causes.ensures)

@@ -1,0 +1,14 @@
+use Rattle.std.proofs.Common.{◌≡◌, ◌+◌, ◌-◌, ◌<◌, length, vec_len, vec_capacity}
+use Rattle.cdb_run.proofs.RollingBack.{IsLeft}
+use Rattle.cdb_run.proofs.run.Run.roll_back.Given as goal
+
+abbrev pub invariant-loop-name : goal.invariant-loop-name
+invariant-loop-name g l =
+    record {
+      setup : l.self.setup ≡ l.fn.self.setup;
+      left : IsLeft l.fn.self.history (l.at - 1) l.fn.taken.items l.self.history l.names.items l.taken.items;
+      room : vec_len l.taken + length l.names.items < vec_capacity l.taken;
+    }
+
+abbrev pub decreases-loop-name : goal.decreases-loop-name
+decreases-loop-name g l = vec_len l.names

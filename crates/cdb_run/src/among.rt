@@ -1,0 +1,18 @@
+//! The processes of a run, by their numbers.
+
+ghost use Rattle.std.specs.Prelude.{◌≡◌, ◌≤◌, None, Some, if◌then◌else◌};
+ghost use Rattle.cdb_run.specs.Step.{is_among};
+
+use cdb_base::Proc;
+
+/// The process of that number, where it is one of processes 1 to `n`.
+pub(crate) fn process_among(n: u8, number: u32) -> Option<Proc>
+    requires { n ≤ 9 }
+    ensures { result ≡ (if is_among n number then Some number else None) }
+{
+    if 1 <= number && number <= u32::from(n) {
+        Some(Proc::new(number as u8))
+    } else {
+        None
+    }
+}

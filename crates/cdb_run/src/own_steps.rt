@@ -1,0 +1,161 @@
+//! The steps of one process as a history alone tells them, each access with the number of writes
+//! before it.
+
+ghost use Rattle.std.specs.Prelude.{◌≡◌, ℕ, ◌+◌, ◌<◌, ◌^◌, ◌↔◌, length, IsTrue};
+ghost use Rattle.cdb_base.specs.declared.register.Reg.{Reg as ARegister};
+ghost use Rattle.std.specs.Iterator.{YieldsFirst, item_count};
+ghost use Rattle.cdb_run.specs.OwnSteps.{no_writes, with_write, writes_with, writes_met, noted, own_steps};
+ghost use Rattle.cdb_run.specs.Undo.{is_step_of};
+
+use cdb_base::{Event, Kind, Proc, Reg};
+use std::marker::Model;
+
+/// An event and, at a read or a write, how many writes of that register stood before it.
+#[derive(Clone, Copy, PartialEq, Eq)]
+pub struct OwnEvent {
+    pub event: Event,
+    pub writes_before: Option<usize>,
+}
+
+/// How many writes of each register stand before a place of a history.
+#[derive(Drop)]
+struct WriteCounts {
+    of_processes: [usize; 9],
+    of_decision: usize,
+}
+
+impl WriteCounts {
+    ghost use Rattle.cdb_run.specs.WriteCounts.{count_of};
+
+    fn new() -> Self
+        ensures { (register : ARegister) → count_of result register ≡ 0 }
+    {
+        WriteCounts {
+            of_processes: [0; 9],
+            of_decision: 0,
+        }
+    }
+
+    /// How many writes of the register were counted.
+    fn get(&self, register: Reg) -> usize
+        ensures { result ≡ count_of self.now register }
+    {
+        match register {
+            Reg::R(p) => self.of_processes[p.index()],
+            Reg::Dec => self.of_decision,
+        }
+    }
+
+    /// Of the register that the event reads or writes, how many writes were counted.
+    fn met_by(&self, event: &Event) -> Option<usize>
+        ensures { result ≡ writes_met (count_of self.now) event.now }
+    {
+        match event {
+            Event::Step {
+                kind: Kind::Read(register),
+                ..
+            } => Some(self.get(*register)),
+            Event::Step {
+                kind: Kind::Write(register),
+                ..
+            } => Some(self.get(*register)),
+            _ => None,
+        }
+    }
+
+    /// Counts a write of the register.
+    fn add(&mut self, register: Reg)
+        requires { count_of self.old register + 1 < 2 ^ 64 }
+        ensures { (other : ARegister) → count_of self.new other ≡ with_write (count_of self.old) register other }
+    {
+        match register {
+            Reg::R(p) => self.of_processes[p.index()] += 1,
+            Reg::Dec => self.of_decision += 1,
+        }
+    }
+
+    /// Counts the event, where it is a write.
+    fn count(&mut self, event: &Event)
+        requires { (register : ARegister) → count_of self.old register + 1 < 2 ^ 64 }
+        ensures { (register : ARegister) → count_of self.new register ≡ writes_with (count_of self.old) event.now register }
+    {
+        if let Event::Step {
+            kind: Kind::Write(register),
+            ..
+        } = event
+        {
+            self.add(*register);
+        }
+    }
+}
+
+/// The events of a history that are still to come, each with the writes that it meets.
+#[derive(Drop)]
+struct Noted<'a> {
+    events: &'a [Event],
+    writes: WriteCounts,
+}
+
+impl<'a> Model for Noted<'a> {
+    ghost use Rattle.std.specs.Prelude.{◌+◌, ◌<◌, ◌^◌, List, length};
+    ghost use Rattle.cdb_base.specs.declared.register.Reg.{Reg as ARegister};
+    ghost use Rattle.cdb_run.specs.declared.own_steps.OwnEvent.{OwnEvent};
+    ghost use Rattle.cdb_run.specs.WriteCounts.{count_of};
+    ghost use Rattle.cdb_run.specs.OwnSteps.{noted};
+
+    ghost Value = { List OwnEvent };
+
+    ghost view = { λ x. noted (count_of x.writes) x.events.now };
+
+    ghost invariant = { λ x. (register : ARegister) → count_of x.writes register + length x.events.now < 2 ^ 64 };
+}
+
+impl<'a> Noted<'a> {
+    fn new(history: &'a [Event]) -> Self
+        ensures { result ≡ noted no_writes history.now }
+    {
+        Noted {
+            events: history,
+            writes: WriteCounts::new(),
+        }
+    }
+}
+
+impl<'a> Iterator for Noted<'a> {
+    type Item = OwnEvent;
+
+    ghost next_gives = { YieldsFirst (λ left. left) };
+
+    ghost remaining = { item_count (λ left. left) };
+
+    fn next(&mut self) -> Option<OwnEvent> {
+        let (first, later) = self.events.split_first()?;
+        let writes_before = self.writes.met_by(first);
+        self.writes.count(first);
+        self.events = later;
+        Some(OwnEvent {
+            event: *first,
+            writes_before,
+        })
+    }
+}
+
+/// Whether the event is a step of the process.
+fn is_step_of(p: Proc, event: &Event) -> bool
+    ensures { result ≡ is_step_of p event.now }
+{
+    match event {
+        Event::Step { p: q, .. } => *q == p,
+        Event::Lost(_) => false,
+    }
+}
+
+/// Whether process `p` takes the same steps in both histories, each access behind as many writes.
+pub(crate) fn same_steps(p: Proc, history: &[Event], other: &[Event]) -> bool
+    ensures { IsTrue result ↔ (own_steps p history.now ≡ own_steps p other.now) }
+{
+    let theirs = Noted::new(other).filter(|own| is_step_of(p, &own.event));
+    Noted::new(history)
+        .filter(|own| is_step_of(p, &own.event))
+        .eq(theirs)
+}

@@ -1,0 +1,13 @@
+use Rattle.std.proofs.Common.{◌≡◌, ◌++◌, List, replicate}
+use Rattle.cdb_control.specs.declared.command.Command.TheVariants.{Auto}
+use Rattle.cdb_control.specs.Answer.{Answer}
+use Rattle.cdb_shared.specs.Seats.{IsLater}
+use Rattle.cdb_shared.specs.Sessions.{calls_of, replies_to, NoneDone}
+use Rattle.cdb_shared.proofs.session.drive.Given as goal
+
+abbrev pub invariant-loop-turn : goal.invariant-loop-turn
+invariant-loop-turn g l = record {
+  seat : IsLater l.fn.seat l.seat;
+  calls : calls_of l.seat ≡ calls_of l.fn.seat ++ replicate l.turn (Auto l.process);
+  replies : (replies : List Answer) × (replies_to l.seat ≡ replies_to l.fn.seat ++ replies) × NoneDone replies;
+}

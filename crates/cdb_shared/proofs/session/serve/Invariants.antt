@@ -1,0 +1,16 @@
+use Rattle.std.proofs.Common.{◌≡◌, ◌≤◌, ◌++◌, length, map, take, vec_len, vec_capacity}
+use Rattle.cdb_control.specs.Answer.{told}
+use Rattle.cdb_shared.specs.Seats.{IsLater}
+use Rattle.cdb_shared.specs.Sessions.{calls_of, replies_to}
+use Rattle.cdb_shared.proofs.session.serve.Given as goal
+
+abbrev pub invariant-loop-command : goal.invariant-loop-command
+invariant-loop-command g l = record {
+  seat : IsLater l.fn.seat l.seat;
+  calls : calls_of l.seat ≡ calls_of l.fn.seat ++ take l.command-index l.commands;
+  replies : replies_to l.seat ≡ replies_to l.fn.seat ++ map told l.replies.items;
+  count : vec_len l.replies ≡ l.command-index;
+  number : l.number ≡ l.command-index;
+  limit : l.number ≤ 999999;
+  room : length l.commands ≤ vec_capacity l.replies;
+}

@@ -1,0 +1,101 @@
+//! The rule of the turn: what each pass of the queue knows. Values of these types exist in proofs alone.
+
+use cdb_control::{Control, Entry, RunOfSetup};
+use cdb_setup::Setup;
+use crossbeam_queue::protocol::{Join, Lesson, Outcome, Protocol, Split};
+use std::collections::LinkedList;
+
+/// Whether a pass has the turn. `Opening` is the first pass until its control is put, and `Spent` one that another took in.
+pub enum Stage {
+    Opening,
+    Spent,
+    Resting,
+    Holding,
+}
+
+/// A seat: its number, the setup and the number of seats of the opening, and the journal that it has seen.
+pub struct Place {
+    pub number: u8,
+    pub setup: Setup,
+    pub seats: u8,
+    pub seen: LinkedList<Entry>,
+}
+
+/// What a pass knows: its seats, and while it holds the control, that control.
+pub struct Knowledge {
+    pub stage: Stage,
+    pub places: LinkedList<Place>,
+    pub held: Option<Control<RunOfSetup>>,
+}
+
+/// The rule: one control, which stands in the queue or is with one pass.
+pub struct OneControl;
+
+impl Protocol<Control<RunOfSetup>, Knowledge> for OneControl {
+    ghost use Rattle.cdb_shared.specs.Turn.{opening, Stands};
+
+    ghost holds = { Stands };
+
+    ghost first = { opening };
+}
+
+/// The first give back, of the control that is handed in.
+pub struct Opens;
+
+impl Outcome<Control<RunOfSetup>, Knowledge> for Opens {
+    ghost use Rattle.cdb_shared.specs.Turn.{Opened};
+
+    ghost then = { Opened };
+}
+
+impl Lesson<Control<RunOfSetup>, Knowledge> for Opens {
+    ghost use Rattle.cdb_shared.specs.Turn.{NoneStands};
+
+    ghost fact = { NoneStands };
+}
+
+/// The turn is taken.
+pub struct Takes;
+
+impl Outcome<Control<RunOfSetup>, Knowledge> for Takes {
+    ghost use Rattle.cdb_shared.specs.Turn.{Taken};
+
+    ghost then = { Taken };
+}
+
+/// The turn is given back.
+pub struct Gives;
+
+impl Outcome<Control<RunOfSetup>, Knowledge> for Gives {
+    ghost use Rattle.cdb_shared.specs.Turn.{Given};
+
+    ghost then = { Given };
+}
+
+impl Lesson<Control<RunOfSetup>, Knowledge> for Gives {
+    ghost use Rattle.cdb_shared.specs.Turn.{NoneStands};
+
+    ghost fact = { NoneStands };
+}
+
+/// The first seat of a pass gets a pass of its own.
+pub struct FirstPlace;
+
+impl Split<Knowledge> for FirstPlace {
+    ghost use Rattle.cdb_shared.specs.Turn.{without_first, first_alone};
+
+    ghost left = { without_first };
+
+    ghost right = { first_alone };
+}
+
+/// A pass takes in the seats of another.
+pub struct AllPlaces;
+
+impl Join<Knowledge> for AllPlaces {
+    ghost use Rattle.cdb_shared.specs.Turn.{joined, spent};
+
+    ghost both = { joined };
+
+    ghost spent = { spent };
+}

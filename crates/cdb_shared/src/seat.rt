@@ -1,0 +1,36 @@
+//! A seat: one session's place at a shared control.
+ghost use Rattle.std.specs.Prelude.{◌≡◌, ◌≤◌};
+
+use crate::turn::TurnPass;
+use std::marker::Model;
+
+/// One session's place at a shared control. A contract sees which control it is of, with its setup and its
+/// number of seats, the seat's own number, the journal that it has seen, and whether it rests, that is,
+/// has not the turn.
+#[derive(Drop)]
+pub struct Seat {
+    pub(crate) number: u8,
+    pub(crate) pass: TurnPass,
+}
+
+impl Model for Seat {
+    ghost use Rattle.std.specs.Prelude.{◌≡◌, []};
+    ghost use Rattle.crossbeam_queue.specs.Passes.{view as view_of};
+    ghost use Rattle.cdb_shared.specs.Seats.{SeatView, seat_of, IsPassFor};
+
+    ghost Value = { SeatView };
+
+    ghost view = { λ s. seat_of s.pass.table_id (view_of s.pass) };
+
+    ghost invariant = { λ s. (s.pass.me.1 ≡ []) × IsPassFor s.number (view_of s.pass) };
+}
+
+impl Seat {
+    /// Its number, from 1 to the number of seats.
+    pub fn number(&self) -> u8
+        ensures number { result ≡ self.now.number }
+        ensures range { (1 ≤ result) × (result ≤ self.now.seats) }
+    {
+        self.number
+    }
+}

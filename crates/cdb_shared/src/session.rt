@@ -1,0 +1,130 @@
+//! Sessions: a seat's calls in order, each behind a gate.
+ghost use Rattle.std.specs.Prelude.{◌≡◌, ◌≢◌, ◌++◌, ◌<◌, ◌≤◌, ◌↔◌, ◌⊎◌, length, map, take, replicate, vec_len, List, true, IsTrue};
+ghost use Rattle.cdb_control.specs.Answer.{Answer, Refused, told};
+ghost use Rattle.cdb_shared.specs.Seats.{RestsAt, IsLater};
+ghost use Rattle.cdb_shared.specs.Sessions.{calls_of, replies_to, end_at, IsDriven};
+
+use crate::seat::Seat;
+use crate::shared::Shared;
+use cdb_base::Refusal;
+use cdb_control::{CallFault, Command, MOST_ENTRIES, Reply};
+use std::alloc::Global;
+use std::sync::Wait;
+
+/// What is asked before each call of a session, and told after it. The calls are numbered from 1, and the
+/// seat that is shown rests.
+pub trait Gate {
+    /// Whether the session goes on with this call.
+    fn before(&mut self, call: u32, seat: &Seat) -> bool
+        requires { seat.now.rests ≡ true };
+
+    /// This call was answered.
+    fn after(&mut self, call: u32, seat: &Seat)
+        requires { seat.now.rests ≡ true };
+}
+
+/// Why a session ended.
+#[derive(Debug, Clone, Copy, PartialEq)]
+pub enum End {
+    /// Each command was answered, or each turn was used up.
+    All,
+    /// The process was done.
+    Done,
+    /// The gate did not let a call pass.
+    Stopped,
+    NoMemory,
+    JournalFull,
+}
+
+// How a session ends at a fault.
+fn ended_by(fault: CallFault) -> End
+    ensures { result ≡ end_at fault }
+{
+    match fault {
+        CallFault::JournalFull => End::JournalFull,
+        CallFault::NoMemory => End::NoMemory,
+    }
+}
+
+// Whether the process was done.
+fn is_done(reply: &Reply) -> bool
+    ensures { IsTrue result ↔ (told reply.now ≡ Refused Refusal.Done) }
+{
+    matches!(reply, Reply::Refused(Refusal::Done))
+}
+
+/// Makes a session's calls in order, each behind the gate, and hands the seat back with the replies. It
+/// ends with `Stopped` where the gate says so, and with `JournalFull` or `NoMemory` where a call meets
+/// that; the replies are those before. Room for all of them is reserved first.
+pub fn serve<G: Gate + Drop, R: Wait>(
+    shared: &Shared,
+    rt: &R,
+    alloc: Global,
+    mut seat: Seat,
+    mut gate: G,
+    commands: &[Command],
+) -> (Seat, Vec<Reply>, End)
+    requires { RestsAt shared.now seat }
+    ensures seat { IsLater seat result.0 }
+    ensures calls { calls_of result.0 ≡ calls_of seat ++ take (vec_len result.1) commands.now }
+    ensures replies { replies_to result.0 ≡ replies_to seat ++ map told result.1.items }
+    ensures fewer { vec_len result.1 ≤ length commands.now }
+    ensures all { (result.2 ≡ End.All) ↔ (vec_len result.1 ≡ length commands.now) }
+    ensures done { result.2 ≢ End.Done }
+    ensures full { result.2 ≡ End.JournalFull → length result.0.seen ≡ MOST_ENTRIES }
+    ensures short { result.2 ≡ End.NoMemory → (vec_len result.1 ≡ 0) ⊎ (length result.0.seen < MOST_ENTRIES) }
+{
+    let mut replies = Vec::new(alloc);
+    let mut number = 0u32;
+    if replies.reserve(commands.len()).is_err() {
+        return (seat, replies, End::NoMemory);
+    }
+    for command in commands {
+        number += 1;
+        if !gate.before(number, &seat) {
+            return (seat, replies, End::Stopped);
+        }
+        match shared.call(rt, alloc, &mut seat, *command) {
+            Ok(reply) => replies.push_reserved(reply),
+            Err(fault) => return (seat, replies, ended_by(fault)),
+        }
+        gate.after(number, &seat);
+    }
+    (seat, replies, End::All)
+}
+
+/// Steps a process by `auto`, each call behind the gate, until one is answered that the process is done
+/// or the turns are used up, and hands the seat back with the number of calls. It ends with `Done` at that
+/// answer, also at the last turn, and with `Stopped`, `JournalFull` and `NoMemory` as `serve` does.
+pub fn drive<G: Gate + Drop, R: Wait>(
+    shared: &Shared,
+    rt: &R,
+    alloc: Global,
+    mut seat: Seat,
+    mut gate: G,
+    process: u32,
+    turns: u32,
+) -> (Seat, u32, End)
+    requires { RestsAt shared.now seat }
+    ensures seat { IsLater seat result.0 }
+    ensures calls { calls_of result.0 ≡ calls_of seat ++ replicate result.1 (Command.Auto process) }
+    ensures turns { result.1 ≤ turns }
+    ensures replies { (replies : List Answer) × (replies_to result.0 ≡ replies_to seat ++ replies) × IsDriven result.2 result.1 turns replies }
+    ensures full { result.2 ≡ End.JournalFull → length result.0.seen ≡ MOST_ENTRIES }
+    ensures short { result.2 ≡ End.NoMemory → length result.0.seen < MOST_ENTRIES }
+{
+    for turn in 0..turns {
+        if !gate.before(turn + 1, &seat) {
+            return (seat, turn, End::Stopped);
+        }
+        let reply = match shared.call(rt, alloc, &mut seat, Command::Auto(process)) {
+            Ok(reply) => reply,
+            Err(fault) => return (seat, turn, ended_by(fault)),
+        };
+        gate.after(turn + 1, &seat);
+        if is_done(&reply) {
+            return (seat, turn + 1, End::Done);
+        }
+    }
+    (seat, turns, End::All)
+}

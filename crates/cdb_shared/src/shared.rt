@@ -1,0 +1,172 @@
+//! The shared control: opening it, calling it, meeting and finishing.
+ghost use Rattle.std.specs.Prelude.{◌≡◌, ◌<◌, ◌≤◌, ◌↔◌, [], ◌∷◌, length, vec_len, vec_capacity, All, IfOk, IfErr, OnErr};
+ghost use Rattle.cdb_control.specs.Answer.{told};
+ghost use Rattle.cdb_control.specs.Journal.{Journaled, Begins};
+ghost use Rattle.cdb_shared.specs.Seats.{RestsAt, fresh_seats, IsLater, IsCall, IsKnownBy, SameCalls};
+ghost use Rattle.cdb_shared.specs.Turn.{resting, places_from, AllKnow};
+ghost use Rattle.crossbeam_queue.specs.Passes.{view, IsPassOf, IsSamePass, ruled_capacity};
+
+use crate::knowledge::{AllPlaces, FirstPlace, Stage};
+use crate::seat::Seat;
+use crate::turn::{Turn, TurnPass, give, put, take};
+use cdb_base::NoMemory;
+use cdb_control::{CallFault, Command, Control, MOST_ENTRIES, Reply, RunOfSetup};
+use std::alloc::Global;
+use std::marker::Model;
+use std::sync::Wait;
+
+/// A control that threads share. A contract sees which one it is; what its journal has, the seats know.
+#[derive(Drop)]
+pub struct Shared {
+    pub(crate) turn: Turn,
+}
+
+impl Model for Shared {
+    ghost use Rattle.std.specs.Prelude.{◌≡◌};
+    ghost use Rattle.atomic_table.specs.Seated.{TableId, table_id_coded};
+
+    ghost Value = { TableId };
+
+    ghost coded = { table_id_coded };
+
+    ghost use Rattle.crossbeam_queue.specs.Passes.{ruled_capacity};
+
+    ghost view = { λ s. s.turn.table.shared.table_id };
+
+    ghost invariant = { λ s. ruled_capacity s.turn ≡ 1 };
+}
+
+impl Shared {
+    /// Carries a command out for a seat: takes the turn, executes and gives the turn back. It tries until
+    /// it has the turn, so it may wait. After `JournalFull`, where the journal has as many entries as it
+    /// can, and after `NoMemory` the control is as it was, and the seat has seen what others did.
+    pub fn call<R: Wait>(
+        &self,
+        rt: &R,
+        alloc: Global,
+        seat: &mut Seat,
+        command: Command,
+    ) -> Result<Reply, CallFault>
+        requires { RestsAt self.now seat.old }
+        ensures seat { IsLater seat.old seat.new }
+        ensures call { IfOk result (λ reply. IsCall seat.old command (told reply) seat.new) }
+        ensures fault { OnErr result (SameCalls seat.old seat.new.seen) }
+        ensures full { IfErr result (λ f. (f ≡ CallFault.JournalFull) ↔ (length seat.new.seen ≡ MOST_ENTRIES)) }
+        ensures limit { length seat.new.seen ≤ MOST_ENTRIES }
+    {
+        let mut control = take(rt, &self.turn, &mut seat.pass);
+        let reply = control.execute(alloc, seat.number, command);
+        give(rt, &self.turn, &mut seat.pass, control);
+        reply
+    }
+
+    /// Shares a control, with one seat for each of its seats, numbered from 1, which has seen the journal
+    /// so far. `NoMemory` hands the control back as it was.
+    pub fn open<R: Wait>(
+        rt: &R,
+        alloc: Global,
+        control: Control<RunOfSetup>,
+    ) -> Result<(Shared, Vec<Seat>), (Control<RunOfSetup>, NoMemory)>
+        ensures opened { IfOk result (λ r. r.1.items ≡ fresh_seats r.0 control 1 control.seats) }
+        ensures rest { IfOk result (λ r. All (λ seat. RestsAt r.0 seat) r.1.items) }
+        ensures refused { IfErr result (λ r. r.0 ≡ control) }
+    {
+        let count = control.seats();
+        let Ok(seats) = Vec::with_capacity(alloc, usize::from(count)) else {
+            return Err((control, NoMemory));
+        };
+        let Ok((turn, mut pass)) = Turn::ruled(alloc, 1) else {
+            return Err((control, NoMemory));
+        };
+        put(rt, &turn, &mut pass, control);
+        let seats = deal(&turn, pass, count, seats);
+        Ok((Shared { turn }, seats))
+    }
+
+    /// Lets two seats see the journal, and hands both back. What `a` has seen is then a beginning of what
+    /// `b` has seen. It may wait for the turn.
+    pub fn meet<R: Wait>(&self, rt: &R, a: Seat, b: Seat) -> (Seat, Seat)
+        requires a { RestsAt self.now a }
+        requires b { RestsAt self.now b }
+        ensures a { IsLater a result.0 × SameCalls a result.0.seen }
+        ensures b { IsLater b result.1 × SameCalls b result.1.seen }
+        ensures met { Begins result.0.seen result.1.seen × SameCalls a result.1.seen }
+    {
+        let Seat {
+            number: first,
+            pass: other,
+        } = a;
+        let Seat {
+            number: second,
+            mut pass,
+        } = b;
+        self.turn.absorb::<AllPlaces>(&mut pass, other);
+        let control = take(rt, &self.turn, &mut pass);
+        give(rt, &self.turn, &mut pass, control);
+        let alone = self.turn.another::<FirstPlace>(&mut pass);
+        (
+            Seat {
+                number: first,
+                pass: alone,
+            },
+            Seat {
+                number: second,
+                pass,
+            },
+        )
+    }
+
+    /// Takes the turn for good and gives the control out of it. The seats, one at least, are used up. It may
+    /// wait for the turn.
+    pub fn finish<R: Wait>(self, rt: &R, seats: Vec<Seat>) -> Control<RunOfSetup>
+        requires some { 0 < vec_len seats }
+        requires rest { All (λ seat. RestsAt self seat) seats.items }
+        ensures { All (λ seat. IsKnownBy result seat) seats.items }
+    {
+        let Shared { turn } = self;
+        let mut pass = gather(&turn, seats);
+        take(rt, &turn, &mut pass)
+    }
+}
+
+// A pass for each seat, by the numbers from 1 on.
+fn deal(turn: &Turn, mut pass: TurnPass, count: u8, mut seats: Vec<Seat>) -> Vec<Seat>
+    requires queue { IsPassOf turn.now pass }
+    requires all { (c : Journaled) × (view pass ≡ resting (places_from c 1 count)) × (count ≤ c.seats) }
+    requires room { (seats.items ≡ []) × (count ≤ vec_capacity seats) }
+    ensures { (c : Journaled) → view pass ≡ resting (places_from c 1 count) → result.items ≡ fresh_seats turn.now.table.shared.table_id c 1 count }
+{
+    for dealt in 0..count {
+        let alone = turn.another::<FirstPlace>(&mut pass);
+        seats.push_reserved(Seat {
+            number: dealt + 1,
+            pass: alone,
+        });
+    }
+    seats
+}
+
+// One pass for all the seats.
+fn gather(turn: &Turn, mut seats: Vec<Seat>) -> TurnPass
+    requires some { 0 < vec_len seats }
+    requires rest { All (λ seat. RestsAt turn.now.table.shared.table_id seat) seats.items }
+    ensures queue { IsPassOf turn.now result }
+    ensures rests { (view result).stage ≡ Stage.Resting }
+    ensures seats { (c : Journaled) → AllKnow c (view result).places → All (λ seat. IsKnownBy c seat) seats.items }
+{
+    let Some(last) = seats.pop() else {
+        unreachable!()
+    };
+    let Seat {
+        number: _,
+        mut pass,
+    } = last;
+    while let Some(seat) = seats.pop() {
+        let Seat {
+            number: _,
+            pass: other,
+        } = seat;
+        turn.absorb::<AllPlaces>(&mut pass, other);
+    }
+    pass
+}

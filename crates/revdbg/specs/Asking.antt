@@ -1,0 +1,43 @@
+-- What the words ask for.
+use Rattle.std.specs.Prelude.{◌≡◌, ◌⊎◌, ℕ, ◌≤◌, List, [], codes, map, Option, Some, None, decimal, unwrap_or}
+use Rattle.clap.specs.Words.{Row, Text, first_of, all_of, kind_of}
+use Rattle.clap.specs.declared.error.kind.ErrorKind.{ErrorKind}
+use Rattle.clap.specs.declared.error.kind.ErrorKind.TheVariants.{DisplayHelp}
+use Rattle.revdbg.specs.declared.request.AskFault.{AskFault}
+use Rattle.revdbg.specs.declared.request.AskFault.TheVariants.{Words, NoMemory}
+use Rattle.revdbg.specs.declared.request.Asked.{Asked}
+use Rattle.revdbg.specs.declared.request.Asked.TheVariants.{Script, Play, Race}
+
+-- one of the two subcommands, or none
+abbrev pub NamesOne : Option (Text × List Row) → Type 0
+NamesOne None = Unit {0}
+NamesOne (Some found) = (found.0 ≡ codes "play") ⊎ (found.0 ≡ codes "race")
+
+-- the text of an argument, which is empty where the matches have none
+abbrev pub text_at : Text → List Row → Text
+text_at id rows = unwrap_or (first_of id rows) []
+
+-- the texts of an argument, of which there are none where the matches have none
+abbrev pub texts_at : Text → List Row → List Text
+texts_at id rows = unwrap_or (all_of id rows) []
+
+-- a number of 0 to 99,999, and the one that the text is in decimal
+abbrev pub IsTurns : Text → ℕ → Type 0
+IsTurns text turns = (turns ≤ 99999) × ((n : ℕ) → n ≤ 99999 → text ≡ decimal n → turns ≡ n)
+
+-- the subcommand that the matches name, with its texts in their order
+abbrev pub Asks : Option (Text × List Row) → Asked → Type 0
+Asks found Script = found ≡ None
+Asks found (Play setup script) = (rows : List Row) × (found ≡ Some (codes "play", rows)) × (setup.now ≡ text_at (codes "SETUP") rows) × (script.now ≡ text_at (codes "SCRIPT") rows)
+Asks found (Race setup turns scripts) =
+    (rows : List Row) × (found ≡ Some (codes "race", rows)) × (setup.now ≡ text_at (codes "SETUP") rows) × IsTurns (text_at (codes "TURNS") rows) turns
+    × (map (λ script. script.now) scripts.items ≡ texts_at (codes "SCRIPT") rows)
+
+-- help is no mistake; other words are
+abbrev pub words_status : ErrorKind → ℕ
+words_status DisplayHelp = 0
+words_status kind = 2
+
+abbrev pub ask_status_of : AskFault → ℕ
+ask_status_of (Words error) = words_status (kind_of error)
+ask_status_of NoMemory = 6

@@ -1,0 +1,21 @@
+-- The commands of a script, and its first bad line.
+use Rattle.std.specs.Prelude.{◌≡◌, ℕ, ◌+◌, List, [], ◌∷◌, ◌++◌, length}
+use Rattle.cdb_control.specs.declared.command.Command.{Command}
+use Rattle.cdb_text.specs.declared.fault.LineFault.{LineFault}
+use Rattle.cdb_text.specs.Grammar.{IsLineOf}
+use Rattle.cdb_text.specs.Faults.{IsFaultOf}
+
+-- the most bytes that a script may have
+abbrev pub longest : ℕ
+longest = 1048576
+
+-- each line is that of its command
+abbrev pub AreCommandsOf : List Command → List (List ℕ) → Type 0
+AreCommandsOf [] [] = Unit {0}
+AreCommandsOf (command ∷ commands) (line ∷ lines) = IsLineOf command line × AreCommandsOf commands lines
+AreCommandsOf commands lines = ⊥
+
+-- the line at this place, counted from 1, is no command and has this fault, and each line before it is a command
+abbrev pub IsFirstBadLine : ℕ → LineFault → List (List ℕ) → Type 0
+IsFirstBadLine place fault lines =
+    (commands : List Command) × (good : List (List ℕ)) × (bad : List ℕ) × (rest : List (List ℕ)) × (lines ≡ good ++ bad ∷ rest) × (place ≡ length good + 1) × AreCommandsOf commands good × IsFaultOf fault bad

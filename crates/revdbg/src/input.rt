@@ -1,0 +1,71 @@
+//! Readers of the system, and bytes in memory, as sources.
+
+ghost use Rattle.std.specs.Prelude.{◌≡◌};
+
+use crate::sink::Failed;
+use crate::source::Source;
+use std::io::Read;
+
+/// A reader whose failures are counted. What it has left is not known.
+#[derive(Drop)]
+pub struct Input<R: Read + Drop> {
+    reader: R,
+    failures: u64,
+}
+
+impl<R: Read + Drop> Input<R> {
+    /// The reader, of which no call has failed.
+    pub fn new(reader: R) -> Self
+        ensures { result.failures ≡ 0 }
+    {
+        Input {
+            reader,
+            failures: 0,
+        }
+    }
+}
+
+impl<R: Read + Drop> Source for Input<R> {
+    ghost use Rattle.std.specs.Prelude.{None};
+
+    ghost remaining = { λ _. None };
+
+    ghost failures = { λ input. input.failures };
+
+    fn read(&mut self, buffer: &mut [u8]) -> Result<usize, Failed> {
+        let Ok(count) = self.reader.read(buffer) else {
+            self.failures = self.failures.wrapping_add(1);
+            return Err(Failed);
+        };
+        Ok(count)
+    }
+}
+
+/// Bytes in memory that are not yet read.
+#[derive(Drop)]
+pub struct Bytes<'a> {
+    rest: &'a [u8],
+}
+
+impl<'a> Bytes<'a> {
+    pub fn new(bytes: &'a [u8]) -> Self
+        ensures { result.rest ≡ bytes.entry }
+    {
+        Bytes { rest: bytes }
+    }
+}
+
+impl<'a> Source for Bytes<'a> {
+    ghost use Rattle.std.specs.Prelude.{Some};
+
+    ghost remaining = { λ bytes. Some bytes.rest.now };
+
+    ghost failures = { λ _. 0 };
+
+    fn read(&mut self, buffer: &mut [u8]) -> Result<usize, Failed> {
+        let count = buffer.len().min(self.rest.len());
+        buffer[..count].copy_from_slice(&self.rest[..count]);
+        self.rest = &self.rest[count..];
+        Ok(count)
+    }
+}

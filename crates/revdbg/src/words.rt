@@ -1,0 +1,251 @@
+//! Reading the words of the command line.
+
+ghost use Rattle.std.specs.Prelude.{◌≡◌, IfOk, IfErr, false, true, map, codes};
+ghost use Rattle.clap.specs.Words.{app_of, rule_of, found_of, kind_of, rows_of, subcommand_of, subcommand_rows_of, takes};
+ghost use Rattle.clap.specs.declared.builder.command.Command.TheViews.{out-Command};
+ghost use Rattle.revdbg.specs.CommandLine.{required_rule, turns_rule, scripts_rule, play_app, race_app, program};
+ghost use Rattle.revdbg.specs.Asking.{NamesOne, IsTurns, text_at, texts_at, Asks, ask_status_of, words_status};
+
+use crate::request::{AskFault, Asked};
+use clap::error::ErrorKind;
+use clap::{Arg, ArgMatches, Command, Error};
+use std::alloc::{AllocError, Global};
+
+const ABOUT: &str =
+    "Drives one run of a consensus algorithm by the lines of a script, forwards and, as far as no standing
+step depends on what is taken back, backwards. Each reply is printed.";
+
+const PLAY: &str = "Plays the lines of a script, one after the other";
+
+const RACE: &str =
+    "Drives each process and plays each script in a thread of its own, all on one run";
+
+const LINES: &str =
+    "Without a command it plays the script on standard input; one process then proposes 7.
+
+Lines of a script (P, S: processes; K: a step of P; M: a send of S):
+  auto P                what process P can do next
+  step P go             what the machine of P wishes: send, read, write or a local step
+  step P query [L]      a query, which the setup answers, or L
+  step P recv S M       a receive of message S#M
+  step P learn          a decision in the inbox is taken over
+  step P crash          P crashes
+  lose S M P            the copy of S#M for P is lost (version 2)
+  undo P K              takes a step back on which no standing step depends
+  rollback P K          takes a step back with all that depends on it
+  why P K               the direct causes of a step
+  undo|rollback|why lost S M P    the same of a lost copy
+  redo, forget          takes the last undone step again; empties the list of these
+  break decide P        pauses auto where P decides
+  break round P R       .. enters round R
+  break recv P          .. receives
+  break write X         .. where register X is written: r1 to r9 or dec
+  unbreak B, resume     removes a breakpoint; ends the pause
+  show P, show regs, show mail, show history, decisions";
+
+const SETUPS: &str = "A setup:
+  {\"algorithm\":\"leader\",\"processes\":2,\"quorum\":2,\"inputs\":[5,6],\"oracle\":[[1],[1]]}
+  algorithm  \"leader\" or \"alpha\"
+  processes  1 to 9
+  quorum     1 to the number of processes
+  inputs     what each process proposes, 0 to 999999
+  oracle     for each process the leaders that its queries are answered, one after the other
+  version    1, or 2 where copies of messages can be lost; may be left out";
+
+/// An argument in its place that has to be given.
+fn required<'a>(alloc: Global, name: &'a str, help: &'a str) -> Arg<'a>
+    ensures rule { rule_of result ≡ required_rule name.entry.now }
+    ensures local { result.global ≡ false }
+{
+    Arg::new(alloc, name).required(true).help(help)
+}
+
+/// The file of a setup.
+fn setup<'a>(alloc: Global) -> Arg<'a>
+    ensures rule { rule_of result ≡ required_rule (codes "SETUP") }
+    ensures local { result.global ≡ false }
+{
+    required(alloc, "SETUP", "The file of the setup, in JSON")
+}
+
+/// The file of a script.
+fn script<'a>(alloc: Global) -> Arg<'a>
+    ensures rule { rule_of result ≡ required_rule (codes "SCRIPT") }
+    ensures local { result.global ≡ false }
+{
+    required(
+        alloc,
+        "SCRIPT",
+        "The file of the script, one command a line",
+    )
+}
+
+/// A number of 0 to 99,999.
+fn turns<'a>(alloc: Global) -> Arg<'a>
+    ensures rule { rule_of result ≡ turns_rule }
+    ensures local { result.global ≡ false }
+{
+    let help = "How often each process is driven at most, 0 to 99999";
+    let turns = required(alloc, "TURNS", help);
+    turns.value_parser(clap::value_parser!(u32).range(0..100_000))
+}
+
+/// One script or more.
+fn scripts<'a>(alloc: Global) -> Arg<'a>
+    ensures rule { rule_of result ≡ scripts_rule }
+    ensures local { result.global ≡ false }
+{
+    let help = "The files of the scripts, one for each session";
+    required(alloc, "SCRIPT", help).num_args(1..)
+}
+
+/// `play SETUP SCRIPT`.
+fn play<'a>(alloc: Global) -> Result<Command<'a>, AllocError>
+    ensures app { IfOk result (λ command. app_of command ≡ play_app) }
+    ensures local { IfOk result (λ command. (out-Command command).has_globals ≡ false) }
+{
+    let command = Command::new(alloc, "play")
+        .about(PLAY)
+        .after_help(SETUPS)
+        .arg(setup(alloc))?;
+    command.arg(script(alloc))
+}
+
+/// `race SETUP TURNS SCRIPT..`.
+fn race<'a>(alloc: Global) -> Result<Command<'a>, AllocError>
+    ensures app { IfOk result (λ command. app_of command ≡ race_app) }
+    ensures local { IfOk result (λ command. (out-Command command).has_globals ≡ false) }
+{
+    let command = Command::new(alloc, "race")
+        .about(RACE)
+        .after_help(SETUPS)
+        .arg(setup(alloc))?;
+    let command = command.arg(turns(alloc))?;
+    command.arg(scripts(alloc))
+}
+
+/// The program with its two subcommands.
+#[tactic(auto, unfolding(crate::specs::CommandLine::program))]
+fn program<'a>(alloc: Global) -> Result<Command<'a>, AllocError>
+    ensures { IfOk result (λ command. app_of command ≡ program) }
+{
+    let command = Command::new(alloc, "revdbg")
+        .about(ABOUT)
+        .after_help(LINES)
+        .disable_help_subcommand(true)
+        .subcommand(play(alloc)?)?;
+    command.subcommand(race(alloc)?)
+}
+
+/// The matches of the words.
+fn matches_of<'a>(alloc: Global, words: &'a [&'a str]) -> Result<ArgMatches<'a>, AskFault>
+    ensures ok { IfOk result (λ m. subcommand_rows_of m ≡ subcommand_of program (map (λ word. word.now) words.entry.now)) }
+    ensures taken { takes program (map (λ word. word.now) words.entry.now) ≡ true → IfErr result (λ fault. fault ≡ AskFault.NoMemory) }
+{
+    let program = match program(alloc) {
+        Ok(program) => program,
+        Err(_) => return Err(AskFault::NoMemory),
+    };
+    match program.try_get_matches_from(words) {
+        Ok(matches) => Ok(matches),
+        Err(error) => Err(fault_of(error)),
+    }
+}
+
+/// Want of memory apart from the other errors.
+fn fault_of(error: Error) -> AskFault
+    ensures { kind_of error ≡ ErrorKind.OutOfMemory → result ≡ AskFault.NoMemory }
+{
+    if error.kind() == ErrorKind::OutOfMemory {
+        AskFault::NoMemory
+    } else {
+        AskFault::Words(error)
+    }
+}
+
+/// The number of turns that the text is.
+fn turns_of(text: &str) -> u32
+    ensures { IsTurns text.now result }
+{
+    match text.parse::<u32>() {
+        Ok(turns) if turns <= 99_999 => turns,
+        _ => 0,
+    }
+}
+
+/// The text of an argument.
+fn text_of<'a>(matches: &ArgMatches<'a>, id: &str) -> &'a str
+    ensures { result.now ≡ text_at id.now (rows_of (found_of matches.now)) }
+{
+    matches.get_str(id).unwrap_or("")
+}
+
+/// The texts of an argument.
+fn texts_of<'a>(
+    alloc: Global,
+    matches: &ArgMatches<'a>,
+    id: &str,
+) -> Result<Vec<&'a str>, AllocError>
+    ensures { IfOk result (λ texts. map (λ text. text.now) texts.items ≡ texts_at id.now (rows_of (found_of matches.now))) }
+{
+    match matches.get_raw(id) {
+        Some(texts) => Vec::from_slice(alloc, texts),
+        None => Ok(Vec::new(alloc)),
+    }
+}
+
+/// What the matches ask for.
+fn asked_by<'a>(alloc: Global, matches: &ArgMatches<'a>) -> Result<Asked<'a>, AllocError>
+    requires { NamesOne (subcommand_rows_of matches.now) }
+    ensures { IfOk result (λ asked. Asks (subcommand_rows_of matches.now) asked) }
+{
+    let Some((name, found)) = matches.subcommand() else {
+        return Ok(Asked::Script);
+    };
+    let setup = text_of(found, "SETUP");
+    if name == "play" {
+        return Ok(Asked::Play {
+            setup,
+            script: text_of(found, "SCRIPT"),
+        });
+    }
+    Ok(Asked::Race {
+        setup,
+        turns: turns_of(text_of(found, "TURNS")),
+        scripts: texts_of(alloc, found, "SCRIPT")?,
+    })
+}
+
+/// The status with which the program ends where the words ask for nothing.
+pub fn ask_status(fault: &AskFault) -> u8
+    ensures { result ≡ ask_status_of fault.now }
+{
+    match fault {
+        AskFault::Words(error) => status_of_words(error),
+        AskFault::NoMemory => 6,
+    }
+}
+
+/// Help is no mistake.
+fn status_of_words(error: &Error) -> u8
+    ensures { result ≡ words_status (kind_of error.now) }
+{
+    if error.kind() == ErrorKind::DisplayHelp {
+        0
+    } else {
+        2
+    }
+}
+
+/// What the words of the command line ask for; the first is the program's name. Words that the command
+/// line does not take have `clap`'s error, which is help where help was asked for.
+pub fn asked<'a>(alloc: Global, words: &'a [&'a str]) -> Result<Asked<'a>, AskFault>
+    ensures ok { IfOk result (λ asked. Asks (subcommand_of program (map (λ word. word.now) words.entry.now)) asked) }
+    ensures taken { takes program (map (λ word. word.now) words.entry.now) ≡ true → IfErr result (λ fault. fault ≡ AskFault.NoMemory) }
+{
+    let matches = matches_of(alloc, words)?;
+    match asked_by(alloc, &matches) {
+        Ok(asked) => Ok(asked),
+        Err(_) => Err(AskFault::NoMemory),
+    }
+}
