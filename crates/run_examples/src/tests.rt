@@ -1,7 +1,11 @@
 mod again;
 mod alpha;
+mod back;
+mod generated;
 mod leader;
 mod losses;
 mod memory;
+mod same;
 mod script;
 mod setups;
+mod twin;

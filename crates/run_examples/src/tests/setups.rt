@@ -27,3 +27,11 @@ pub const ALPHA_ALONE: &str =
 /// Two processes of Alpha, each its own leader.
 pub const ALPHA_PAIR: &str =
     r#"{"algorithm":"alpha","processes":2,"quorum":2,"inputs":[7,8],"oracle":[[1],[2]]}"#;
+
+/// Three processes with a majority, each of which hears another leader named at each question.
+pub const THREE_LEADERS: &str =
+    r#"{"version":2,"algorithm":"leader","processes":3,"quorum":2,"inputs":[5,6,7],"oracle":[[1,2,3,1],[2,3,1],[3,1,2,1]]}"#;
+
+/// Three processes of Alpha, each of which now and then takes itself for the leader.
+pub const THREE_WRITERS: &str =
+    r#"{"algorithm":"alpha","processes":3,"quorum":2,"inputs":[5,6,7],"oracle":[[1,2,1,3,1],[2,2,3,2],[3,1,3,3,2,3]]}"#;

@@ -1,0 +1,143 @@
+//! Runs by many schedules that look like chance: undo and rollback compared with the slow way, and
+//! contention of three processes, in which no two decisions differ.
+
+ghost use Rattle.std.specs.Prelude.{IfOk};
+ghost use Rattle.cdb_run.specs.Any.{IsTrueToSetup};
+
+use super::script::{Turn, start, take};
+use super::setups::{ALPHA_PAIR, LOSSY, NO_MAJORITY, THREE_LEADERS, THREE_WRITERS};
+use super::twin::{roll_back_as_replayed, undo_as_replayed};
+use cdb_base::Act;
+use cdb_run::AnyRun;
+use std::process::Abort;
+use std::test::Fail;
+
+/// Numbers that look like chance, the same in each run of the test.
+#[derive(Drop)]
+struct Dice {
+    state: u32,
+}
+
+impl Dice {
+    /// A number below the number of sides, or 0 if there are none.
+    fn roll(&mut self, sides: u32) -> u32 {
+        self.state = self
+            .state
+            .wrapping_mul(1_664_525)
+            .wrapping_add(1_013_904_223);
+        (self.state >> 16).checked_rem(sides).unwrap_or(0)
+    }
+
+    /// A turn of one of three processes, mostly of what it can do.
+    fn turn(&mut self) -> Turn {
+        let p = self.roll(3).wrapping_add(1);
+        match self.roll(24) {
+            0 => Turn::Step(p, Act::Crash),
+            1 => Turn::Lose(self.roll(3), self.roll(4), p),
+            2 => Turn::Step(p, Act::Query(None)),
+            3 => Turn::Step(p, Act::Recv(self.roll(3), self.roll(4))),
+            _ => Turn::Auto(p),
+        }
+    }
+}
+
+/// A run of the setup after that many turns, the refused ones among them.
+fn tumbled<R: AllocGlobal>(rt: &R, setup: &str, dice: &mut Dice, turns: u32) -> Result<AnyRun, Fail>
+    ensures { IfOk result IsTrueToSetup }
+{
+    let mut run = start(rt, setup)?;
+    for _ in 0..turns {
+        let turn = dice.turn();
+        let _answer = take(rt.alloc(), &mut run, &turn)?;
+    }
+    Ok(run)
+}
+
+/// Takes an event of a run back, alone and with its consequences.
+fn take_one_back<R: Abort + AllocGlobal>(rt: &R, run: &AnyRun, dice: &mut Dice) -> Result<(), Fail>
+    requires { IsTrueToSetup run.now }
+{
+    let length = run.history().len();
+    let Ok(sides) = u32::try_from(length) else {
+        return Ok(());
+    };
+    if sides > 0 {
+        let at = dice.roll(sides) as usize;
+        undo_as_replayed(rt, run, at)?;
+        roll_back_as_replayed(rt, run, at)?;
+    }
+    Ok(())
+}
+
+fn take_back_in_many_runs<R: Abort + AllocGlobal>(rt: &R, setup: &str) -> Result<(), Fail> {
+    for seed in 0..250 {
+        let mut dice = Dice { state: seed };
+        let turns = dice.roll(40);
+        let run = tumbled(rt, setup, &mut dice, turns)?;
+        take_one_back(rt, &run, &mut dice)?;
+    }
+    Ok(())
+}
+
+#[test]
+fn two_leaders_taken_back(rt: HostRuntime) -> Result<(), Fail> {
+    take_back_in_many_runs(&rt, NO_MAJORITY)
+}
+
+#[test]
+fn lost_copies_taken_back(rt: HostRuntime) -> Result<(), Fail> {
+    take_back_in_many_runs(&rt, LOSSY)
+}
+
+#[test]
+fn three_leaders_taken_back(rt: HostRuntime) -> Result<(), Fail> {
+    take_back_in_many_runs(&rt, THREE_LEADERS)
+}
+
+#[test]
+fn two_writers_taken_back(rt: HostRuntime) -> Result<(), Fail> {
+    take_back_in_many_runs(&rt, ALPHA_PAIR)
+}
+
+#[test]
+fn three_writers_taken_back(rt: HostRuntime) -> Result<(), Fail> {
+    take_back_in_many_runs(&rt, THREE_WRITERS)
+}
+
+/// Whether there is a decision; no two of them may differ.
+fn has_one_value<R: Abort + AllocGlobal>(rt: &R, run: &AnyRun) -> Result<bool, Fail>
+    requires { IsTrueToSetup run.now }
+{
+    let decisions = run.decisions(rt.alloc())?;
+    let mut found: Option<u32> = None;
+    for (_, value) in &decisions {
+        let number = value.number();
+        assert!(rt; found.is_none() || found == Some(number));
+        found = Some(number);
+    }
+    Ok(found.is_some())
+}
+
+/// Many schedules of one setup; some of them have to come to a decision.
+fn contend<R: Abort + AllocGlobal>(rt: &R, setup: &str) -> Result<(), Fail> {
+    let mut is_decided = false;
+    for seed in 0..300 {
+        let mut dice = Dice { state: seed };
+        let run = tumbled(rt, setup, &mut dice, 150)?;
+        if has_one_value(rt, &run)? {
+            is_decided = true;
+        }
+    }
+    assert!(rt; is_decided);
+    Ok(())
+}
+
+#[test]
+fn three_contending_writers_decide_one_value(rt: HostRuntime) -> Result<(), Fail> {
+    contend(&rt, THREE_WRITERS)
+}
+
+#[test]
+fn three_contending_leaders_decide_one_value(rt: HostRuntime) -> Result<(), Fail> {
+    contend(&rt, THREE_LEADERS)
+}
