@@ -1,33 +1,15 @@
 //! revdbg: a causal reversible debugger for indulgent consensus.
 #![tactic(auto)]
 
-mod fault;
-mod fault_text;
-mod input;
-mod lines;
-mod output;
-mod piece;
-mod play;
-mod race;
 mod request;
-mod script;
-mod sink;
-mod source;
-mod status;
 mod words;
 
+use cdb_play::{
+    Bytes, Input, LONGEST, Output, PlayFault, RaceFault, fits, play, race, race_status_of,
+    read_up_to, status_of, write_fault, write_race_fault,
+};
 use cdb_setup::Setup;
-use fault::{PlayFault, RaceFault};
-use fault_text::{write_fault, write_race_fault};
-use input::{Bytes, Input};
-use output::Output;
-use piece::{Piece, write_piece};
-use play::play;
-use race::race;
 use request::{AskFault, Asked};
-use script::LONGEST;
-use source::read_up_to;
-use status::{fits, race_status_of, status_of};
 use std::alloc::AllocError;
 use std::fs::File;
 use std::io::{ErrorKind, Input as _};
@@ -123,8 +105,7 @@ fn race_files(rt: &HostRuntime, setup: &str, turns: u32, names: &[&str]) -> u8 {
     if let Ok(parts) = Setup::read(rt.alloc(), setup.as_slice())
         && !fits(&parts, names.len())
     {
-        let many = Piece::Text("too many seats\n");
-        let _ = write_piece(&mut Output::new(rt.stderr()), many);
+        let _ = eprintln!(rt; "too many seats");
         return USAGE;
     }
     race_ended(
