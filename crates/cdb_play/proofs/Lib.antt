@@ -4,3 +4,7 @@ pub mod Reading
 pub mod ScriptFaults
 pub mod Transcribing
 pub mod Numbered
+pub mod ScriptsRead
+pub mod RaceTexts
+pub mod RaceGrowth
+pub mod SeatsFit

@@ -1,6 +1,5 @@
 -- The text of a fault of a setup, in pieces.
-use Rattle.std.proofs.Common.{◌≡◌, ℕ, List, [], ◌∷◌, ◌++◌, codes, decimal, ap, ◌∙◌, append_assoc, append-nil, refl, sym}
-use Rattle.std.specs.Borrow.{Bor}
+use Rattle.std.proofs.Common.{◌≡◌, ℕ, List, [], ◌∷◌, ◌++◌, codes, decimal, ap, ◌∙◌, append_assoc, append-nil}
 use Rattle.cdb_play.specs.Pieces.{piece_text, pieces_text}
 use Rattle.cdb_play.specs.declared.piece.Piece.{Piece}
 

@@ -1,11 +1,10 @@
 -- A transcript grows by the text of one reply after the other.
-use Rattle.std.proofs.Common.{◌≡◌, ℕ, List, [], ◌∷◌, ◌++◌, map, refl, sym, ap, ◌∙◌, append-nil, append_assoc}
+use Rattle.std.proofs.Common.{◌≡◌, ℕ, List, [], ◌∷◌, ◌++◌, refl, sym, ap, ◌∙◌, append-nil}
 use Rattle.std.specs.Prelude.{Option}
 use Rattle.std.specs.List.{flat_map}
 use Rattle.std.proofs.lemmas.List.{map-append}
 use Rattle.std.proofs.lemmas.Grind.{flat_map-append}
 use Rattle.cdb_control.specs.declared.command.Command.{Command}
-use Rattle.cdb_control.specs.Answer.{Answer}
 use Rattle.cdb_control.specs.Commands.{answer, obey}
 use Rattle.cdb_control.specs.Journal.{Journaled, entry, extended, replay, replay_from, replies_from, state_of}
 use Rattle.cdb_control.specs.State.{first_state}
@@ -15,7 +14,7 @@ use Rattle.cdb_setup.specs.Parts.{Parts}
 use Rattle.cdb_text.specs.Texts.{text_of}
 use Rattle.cdb_play.specs.Streams.{after, AddsBeginning}
 use Rattle.cdb_play.specs.Transcripts.{journal_of, transcript}
-use Rattle.cdb_play.proofs.Added.{after_after, after_nothing, beginning_of_all}
+use Rattle.cdb_play.proofs.Added.{after_after, beginning_of_all}
 
 -- a control of one seat that has carried these commands out
 abbrev pub so_far : Parts → List Command → Journaled

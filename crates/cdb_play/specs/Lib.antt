@@ -6,3 +6,4 @@ pub mod Transcripts
 pub mod Faults
 pub mod FaultTexts
 pub mod Statuses
+pub mod Races

@@ -1,5 +1,5 @@
 -- What readers and writers do to the bytes that are known of them.
-use Rattle.std.specs.Prelude.{◌≡◌, ℕ, ◌+◌, ◌%◌, ◌^◌, Bool, true, not, ◌&&◌, ◌==◌, List, [], ◌++◌, length, Option, option_map, IfSome, Result, Ok, Err, is_err, if◌then◌else◌}
+use Rattle.std.specs.Prelude.{◌≡◌, ℕ, ◌+◌, ◌%◌, ◌^◌, Bool, true, not, ◌&&◌, ◌==◌, List, [], ◌++◌, length, Option, option_map, IfSome, Result, Ok, Err, if◌then◌else◌}
 
 -- what is held once the text was added
 abbrev pub after : Option (List ℕ) → List ℕ → Option (List ℕ)

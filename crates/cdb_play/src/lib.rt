@@ -19,7 +19,7 @@ pub use fault_text::{write_fault, write_race_fault};
 pub use input::{Bytes, Input};
 pub use output::Output;
 pub use plays::play;
-pub use races::race;
+pub use races::{race, race_with};
 pub use script::LONGEST;
 pub use sink::{Failed, Sink};
 pub use source::{ReadFault, Source, read_up_to};

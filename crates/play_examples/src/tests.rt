@@ -7,6 +7,7 @@ mod faults;
 mod leader;
 mod limits;
 mod losses;
+mod races;
 mod rollback;
 mod setups;
 mod tour;

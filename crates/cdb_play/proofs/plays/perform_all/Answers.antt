@@ -1,8 +1,6 @@
-use Rattle.std.proofs.Common.{◌≡◌, ◌≢◌, sym, ap, ◌∙◌, refl, List, ◌∷◌, [], ◌++◌, take, drop, ◌+◌, rules}
-use Rattle.std.specs.Prelude.{Ok, Err}
+use Rattle.std.proofs.Common.{◌≡◌, sym, ap, ◌∙◌, refl, ◌∷◌, [], ◌++◌, take, drop, ◌+◌}
 use Rattle.std.proofs.lemmas.List.{take_more}
 use Rattle.std.proofs.lemmas.Result.{err_from_is_err_and}
-use Rattle.cdb_control.specs.declared.command.Command.{Command}
 use Rattle.cdb_play.specs.Streams.{after}
 use Rattle.cdb_play.specs.Transcripts.{transcript}
 use Rattle.cdb_play.proofs.Added.{parted, after_nothing}

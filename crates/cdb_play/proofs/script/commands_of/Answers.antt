@@ -1,4 +1,4 @@
-use Rattle.std.proofs.Common.{◌≡◌, ◌<◌, [], ap, sym, ◌∙◌, rules, arith, length, refl}
+use Rattle.std.proofs.Common.{◌≡◌, ◌<◌, rules, length, refl}
 use Rattle.cdb_text.specs.declared.fault.LineFault.TheVariants.{Empty}
 use Rattle.cdb_play.proofs.Reading.{one_line, ended, not_empty}
 use Rattle.cdb_play.proofs.script.commands_of.Goals as goal
