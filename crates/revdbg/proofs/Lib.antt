@@ -1,8 +1,2 @@
-pub mod Added
 pub mod CommandLine
 pub mod Given
-pub mod Cutting
-pub mod Reading
-pub mod ScriptFaults
-pub mod Transcribing
-pub mod Numbered

@@ -1,10 +1,2 @@
-pub mod Streams
 pub mod CommandLine
 pub mod Asking
-pub mod Pieces
-pub mod Lines
-pub mod Scripts
-pub mod Transcripts
-pub mod Faults
-pub mod FaultTexts
-pub mod Statuses

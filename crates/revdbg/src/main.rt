@@ -1,37 +1,23 @@
 //! revdbg: a causal reversible debugger for indulgent consensus.
 #![tactic(auto)]
 
-mod fault;
-mod fault_text;
-mod input;
-mod lines;
-mod output;
-mod piece;
-mod play;
-mod race;
+ghost use Rattle.std.specs.Prelude.{◌≤◌};
+
 mod request;
-mod script;
-mod sink;
-mod source;
-mod status;
 mod words;
 
+use cdb_play::{
+    Bytes, Input, LONGEST, Output, PlayFault, RaceFault, fits, play, race, race_status_of,
+    read_up_to, status_of, write_fault, write_race_fault,
+};
 use cdb_setup::Setup;
-use fault::{PlayFault, RaceFault};
-use fault_text::{write_fault, write_race_fault};
-use input::{Bytes, Input};
-use output::Output;
-use piece::{Piece, write_piece};
-use play::play;
-use race::race;
 use request::{AskFault, Asked};
-use script::LONGEST;
-use source::read_up_to;
-use status::{fits, race_status_of, status_of};
 use std::alloc::AllocError;
 use std::fs::File;
 use std::io::{ErrorKind, Input as _};
 use std::process::ExitCode;
+use std::sync::Wait;
+use std::thread::Threads;
 use std::{env, io};
 use words::{ask_status, asked};
 
@@ -103,8 +89,39 @@ fn play_files(rt: &HostRuntime, setup: &str, script: &str) -> u8 {
     ended(rt, outcome, script)
 }
 
+/// Runs a race of scripts, where it has seats enough.
+fn race_scripts<R: Threads + Wait + Sync>(
+    rt: &HostRuntime,
+    threads: &R,
+    setup: &[u8],
+    turns: u32,
+    scripts: &[Vec<u8>],
+) -> u8
+    requires { turns ≤ 99999 }
+{
+    let parts = match Setup::read(rt.alloc(), setup) {
+        Ok(parts) => parts,
+        Err(fault) => return race_ended(rt, Err(RaceFault::from(fault))),
+    };
+    if !fits(&parts, scripts.len()) {
+        let _ = eprintln!(rt; "too many seats");
+        return USAGE;
+    }
+    let mut out = Output::new(io::writer(rt));
+    let outcome = race(threads, rt.alloc(), setup, turns, scripts, &mut out);
+    race_ended(rt, outcome)
+}
+
 /// Runs a race of script files on a run of a setup file.
-fn race_files(rt: &HostRuntime, setup: &str, turns: u32, names: &[&str]) -> u8 {
+fn race_files<R: Threads + Wait + Sync>(
+    rt: &HostRuntime,
+    threads: &R,
+    setup: &str,
+    turns: u32,
+    names: &[&str],
+) -> u8
+    requires { turns ≤ 99999 }
+{
     let setup = match read_file(rt, setup) {
         Ok(bytes) => bytes,
         Err(fault) => return ended(rt, Err(fault), setup),
@@ -120,21 +137,11 @@ fn race_files(rt: &HostRuntime, setup: &str, turns: u32, names: &[&str]) -> u8 {
             Err(fault) => return ended(rt, Err(fault), name),
         }
     }
-    if let Ok(parts) = Setup::read(rt.alloc(), setup.as_slice())
-        && !fits(&parts, names.len())
-    {
-        let many = Piece::Text("too many seats\n");
-        let _ = write_piece(&mut Output::new(rt.stderr()), many);
-        return USAGE;
-    }
-    race_ended(
-        rt,
-        race(rt.alloc(), setup.as_slice(), turns, scripts.as_slice()),
-    )
+    race_scripts(rt, threads, setup.as_slice(), turns, scripts.as_slice())
 }
 
 /// Does what the words ask for, and answers the status.
-fn run(rt: &HostRuntime, words: &[&str]) -> u8 {
+fn run<R: Threads + Wait + Sync>(rt: &HostRuntime, threads: &R, words: &[&str]) -> u8 {
     match asked(rt.alloc(), words) {
         Ok(Asked::Script) => play_input(rt),
         Ok(Asked::Play { setup, script }) => play_files(rt, setup, script),
@@ -144,7 +151,7 @@ fn run(rt: &HostRuntime, words: &[&str]) -> u8 {
                 turns,
                 scripts,
             },
-        ) => race_files(rt, setup, turns, scripts.as_slice()),
+        ) => race_files(rt, threads, setup, turns, scripts.as_slice()),
         Err(fault) => {
             if let AskFault::Words(error) = &fault {
                 let _ = error.print(rt);
@@ -179,7 +186,7 @@ fn main(rt: HostRuntime) -> ExitCode {
         }
     };
     match texts_of(&rt, words.as_slice()) {
-        Ok(texts) => ExitCode::from(run(&rt, texts.as_slice())),
+        Ok(texts) => ExitCode::from(run(&rt, &rt, texts.as_slice())),
         Err(_) => ExitCode::from(ended(&rt, Err(PlayFault::NoMemory), "")),
     }
 }

@@ -1,0 +1,10 @@
+pub mod Added
+pub mod Cutting
+pub mod Reading
+pub mod ScriptFaults
+pub mod Transcribing
+pub mod Numbered
+pub mod ScriptsRead
+pub mod RaceTexts
+pub mod RaceGrowth
+pub mod SeatsFit

@@ -1,0 +1,61 @@
+-- The text of a race grows seat by seat, and is that of its journal.
+use Rattle.std.proofs.Common.{inl, inr, ◌≡◌, ℕ, suc, ◌+◌, ◌-◌, ◌<◌, List, [], ◌∷◌, ◌++◌, length, map, get_or, take, drop, Vec, Global, refl, sym, ap, ◌∙◌, arith, append_assoc, length-drop}
+use Rattle.std.specs.Prelude.{◌⊎◌, Option}
+use Rattle.std.specs.List.{range_with_len}
+use Rattle.std.proofs.lemmas.List.{get_or-drop, drop-map, take_rest}
+use Rattle.cdb_control.specs.Answer.{Answer, told}
+use Rattle.cdb_control.specs.Journal.{Journaled}
+use Rattle.cdb_control.specs.declared.command.Command.{Command}
+use Rattle.cdb_control.specs.declared.reply.Reply.{Reply}
+use Rattle.cdb_race.specs.Races.{IsRaced, answers_to, all_told}
+use Rattle.cdb_setup.specs.Format.{StandsFor}
+use Rattle.cdb_setup.specs.Parts.{Parts}
+use Rattle.cdb_play.specs.Races.{seat_text, seats_text, end_text, last_decisions, race_text, AreScripts, IsTextOfRace}
+use Rattle.cdb_play.specs.Streams.{AddsBeginning}
+
+-- seats, and then others
+pub seats_text-append : (first : ℕ) (lists others : List (List Answer)) → seats_text first (lists ++ others) ≡ seats_text first lists ++ seats_text (first + length lists) others
+seats_text-append first [] others = ap (λ n. seats_text n others) (omega arith)
+seats_text-append first (answers ∷ lists) others =
+    let same : first + 1 + length lists ≡ first + suc (length lists) = omega arith in
+    ap (λ text. seat_text first answers ++ text) (seats_text-append (first + 1) lists others ∙ ap (λ n. seats_text (first + 1) lists ++ seats_text n others) same)
+    ∙ sym (append_assoc (seat_text first answers) (seats_text (first + 1) lists) (seats_text (first + suc (length lists)) others))
+
+-- lists with these items, in order
+these_items : (f : ℕ → List Answer) (first : ℕ) (lists : List (List Answer)) → ((k : ℕ) → k < length lists → get_or lists k [] ≡ f (first + k)) → lists ≡ map f (range_with_len first (length lists))
+these_items f first [] same = refl
+these_items f first (answers ∷ lists) same =
+    let head : answers ≡ f first = same 0 (omega arith) ∙ ap f (omega arith) in
+    let others = these_items f (first + 1) lists (λ k below. same (suc k) (omega arith) ∙ ap f (omega arith)) in
+    ap (λ list. list ∷ lists) head ∙ ap (λ rest. f first ∷ rest) others
+
+-- what the seats of the scripts were answered is what the journal says
+pub text_of_race : (setup : Parts) (turns : ℕ) (scripts : List (List Command)) (c : Journaled) (answers : List (List Answer)) → IsRaced setup turns scripts c answers
+    → seats_text (c.setup.processes + 1) (drop setup.processes answers) ++ end_text (last_decisions c) ≡ race_text c
+unfolding race_text
+text_of_race setup turns scripts c answers raced =
+    let n = setup.processes in
+    let same : c.setup.processes ≡ n = ap (λ (s : Parts). s.processes) raced.setup_is in
+    let many : length (drop n answers) ≡ c.seats - c.setup.processes = omega (arith, length-drop n answers, raced.many, same) in
+    let few : length (drop n answers) ≡ length scripts = omega (arith, length-drop n answers, raced.many, raced.seats_are) in
+    let item : (k : ℕ) → k < length (drop n answers) → get_or (drop n answers) k [] ≡ answers_to (c.setup.processes + 1 + k) c =
+    λ k below. get_or-drop n answers k [] ∙ raced.answered k (omega (arith, below, few)) ∙ ap (λ s. answers_to s c) (omega (arith, same)) in
+    ap (λ lists. seats_text (c.setup.processes + 1) lists ++ end_text (last_decisions c))
+    (these_items (λ s. answers_to s c) (c.setup.processes + 1) (drop n answers) item ∙ ap (λ k. map (λ s. answers_to s c) (range_with_len (c.setup.processes + 1) k)) many)
+
+-- the same of replies of which those of the scripts' seats are shown
+pub text_of_replies : (setup : Parts) (turns : ℕ) (scripts : List (List Command)) (c : Journaled) (replies shown : List (Vec Reply Global)) (n : ℕ) → shown ≡ replies → n ≡ setup.processes → IsRaced setup turns scripts c (all_told replies)
+    → seats_text (c.setup.processes + 1) (all_told (take (length shown - n) (drop n shown))) ++ end_text (last_decisions c) ≡ race_text c
+text_of_replies setup turns scripts c replies shown n same count raced =
+    ap (λ list. seats_text (c.setup.processes + 1) (all_told list) ++ end_text (last_decisions c)) (take_rest shown n ∙ ap (drop n) same)
+    ∙ ap (λ lists. seats_text (c.setup.processes + 1) lists ++ end_text (last_decisions c)) (sym (drop-map (λ (list : Vec Reply Global). map told list.items) n replies))
+    ∙ ap (λ k. seats_text (c.setup.processes + 1) (drop k (all_told replies)) ++ end_text (last_decisions c)) count
+    ∙ text_of_race setup turns scripts c (all_told replies) raced
+
+-- what was written of a race on a setup and scripts that were read
+pub beginning_of_race : {Same : Type 0} (json : List ℕ) (setup : Parts) (turns : ℕ) (scripts : List (List ℕ)) (commands : List (List Command)) (old new : Option (List ℕ)) → StandsFor json setup → AreScripts commands scripts
+    → Same ⊎ ((c : Journaled) × (answers : List (List Answer)) × IsRaced setup turns commands c answers × AddsBeginning old new (race_text c))
+    → Same ⊎ ((text : List ℕ) × IsTextOfRace json turns scripts text × AddsBeginning old new text)
+beginning_of_race json setup turns scripts commands old new stands read (inl same) = inl same
+beginning_of_race json setup turns scripts commands old new stands read (inr (c, answers, raced, added)) =
+    inr (race_text c, record { setup = setup; commands = commands; control = c; answers = answers; stands = stands; read = read; raced = raced; is = refl }, added)

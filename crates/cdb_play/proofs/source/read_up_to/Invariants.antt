@@ -1,0 +1,13 @@
+use Rattle.std.proofs.Common.{◌≡◌, ◌-◌, ◌≤◌, length}
+use Rattle.cdb_play.specs.Streams.{before}
+use Rattle.cdb_play.proofs.source.read_up_to.Given as goal
+
+abbrev pub invariant-loop-buffer : goal.invariant-loop-buffer
+invariant-loop-buffer g l = record {
+  within : length l.bytes.items ≤ l.most;
+  taken : g.R.Source.remaining l.initial.source ≡ before l.bytes.items (g.R.Source.remaining l.source);
+  failures : g.R.Source.failures l.source ≡ g.R.Source.failures l.initial.source;
+}
+
+abbrev pub decreases-loop-buffer : goal.decreases-loop-buffer
+decreases-loop-buffer g l = l.most - length l.bytes.items

@@ -1,0 +1,31 @@
+-- What readers and writers do to the bytes that are known of them.
+use Rattle.std.specs.Prelude.{◌≡◌, ℕ, ◌+◌, ◌%◌, ◌^◌, Bool, true, not, ◌&&◌, ◌==◌, List, [], ◌++◌, length, Option, option_map, IfSome, Result, Ok, Err, if◌then◌else◌}
+
+-- what is held once the text was added
+abbrev pub after : Option (List ℕ) → List ℕ → Option (List ℕ)
+after held text = option_map (λ bytes. bytes ++ text) held
+
+-- what was left before the text was taken
+abbrev pub before : List ℕ → Option (List ℕ) → Option (List ℕ)
+before text left = option_map (λ bytes. text ++ bytes) left
+
+-- the bytes were all that was left
+abbrev pub IsReadToEnd : Option (List ℕ) → List ℕ → Option (List ℕ) → Type 0
+IsReadToEnd old bytes new = (old ≡ before bytes new) × IfSome new (λ left. left ≡ [])
+
+-- a beginning of the text was added
+abbrev pub AddsBeginning : Option (List ℕ) → Option (List ℕ) → List ℕ → Type 0
+AddsBeginning old new text = (written rest : List ℕ) × (text ≡ written ++ rest) × (new ≡ after old written)
+
+-- the call failed: it answered an error, or took none of a piece that is not empty
+abbrev pub is_failure : {E : Type 0} → Result ℕ E → List ℕ → Bool
+is_failure (Err e) piece = true
+is_failure (Ok count) piece = (count == 0) && not (length piece == 0)
+
+-- a count of failures once there is one more; it is kept in 64 bits, so behind the greatest comes 0
+abbrev pub one_more : ℕ → ℕ
+one_more failures = (failures + 1) % 2 ^ 64
+
+-- the count after a call
+abbrev pub counted : Bool → ℕ → ℕ
+counted failed failures = if failed then one_more failures else failures

@@ -1,0 +1,34 @@
+-- What a play writes.
+use Rattle.std.specs.Prelude.{◌≡◌, ℕ, ◌≤◌, List, length, map, Option}
+use Rattle.std.specs.List.{flat_map}
+use Rattle.cdb_control.specs.declared.command.Command.{Command}
+use Rattle.cdb_control.specs.declared.control.Entry.{Entry}
+use Rattle.cdb_control.specs.Journal.{entry, replies_of}
+use Rattle.cdb_run.specs.Rules.{Rules}
+use Rattle.cdb_setup.specs.Parts.{Parts}
+use Rattle.cdb_setup.specs.Format.{StandsFor}
+use Rattle.cdb_text.specs.Texts.{text_of}
+use Rattle.cdb_play.specs.Lines.{lines_of}
+use Rattle.cdb_play.specs.Scripts.{longest, AreCommandsOf}
+use Rattle.cdb_play.specs.Streams.{IsReadToEnd}
+
+-- the commands as the journal of the only seat
+abbrev pub journal_of : List Command → List Entry
+journal_of commands = map (entry 1) commands
+
+-- the texts of the replies to these commands, one after the other
+unfoldable pub transcript : Rules → Parts → List Command → List ℕ
+transcript rules setup commands = flat_map text_of (replies_of rules setup 1 1 (journal_of commands))
+
+-- the text is the transcript of a script, by the rules of the setup that a text of JSON stands for
+pub record IsTranscriptOf (rules : Parts → Rules) (json script text : List ℕ) : Type 0 where
+  pub setup : Parts
+  pub commands : List Command
+  pub stands : StandsFor json setup
+  pub short : length script ≤ longest
+  pub lines : AreCommandsOf commands (lines_of script)
+  pub is : text ≡ transcript (rules setup) setup commands
+
+-- a reader was read to its end, and the text is the transcript of the script that it gave
+abbrev pub Plays : (Parts → Rules) → List ℕ → Option (List ℕ) → Option (List ℕ) → List ℕ → Type 0
+Plays rules json old new text = (script : List ℕ) × IsReadToEnd old script new × IsTranscriptOf rules json script text

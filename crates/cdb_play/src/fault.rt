@@ -1,0 +1,110 @@
+//! Why a play or a race ended early.
+
+use crate::script::ScriptFault;
+use crate::sink::Failed;
+use crate::source::ReadFault;
+use cdb_base::NoMemory;
+use cdb_setup::SetupFault;
+use cdb_text::LineFault;
+
+/// Why a play ended early. Scripts and lines count from 1, and a play has one script.
+#[derive(Clone, Copy, Debug, PartialEq, Eq)]
+pub enum PlayFault {
+    /// The setup's first fault, which is never want of memory.
+    Setup(SetupFault),
+    /// Of this script this line is no command: the first such line, with its first fault.
+    Line(usize, usize, LineFault),
+    /// This script has more than 1,048,576 bytes.
+    ScriptTooLong(usize),
+    /// The reader failed in this call.
+    Read,
+    /// The writer failed in this call.
+    Write,
+    NoMemory,
+}
+
+/// Why a race ended early. Scripts, lines and seats count from 1.
+#[derive(Clone, Copy, Debug, PartialEq, Eq)]
+pub enum RaceFault {
+    /// The setup's first fault, which is never want of memory.
+    Setup(SetupFault),
+    /// Of this script this line is no command: the first such line, with its first fault.
+    Line(usize, usize, LineFault),
+    /// This script has more than 1,048,576 bytes.
+    ScriptTooLong(usize),
+    /// The writer failed in this call.
+    Write,
+    NoMemory,
+    /// The journal took no further entry.
+    JournalFull,
+    /// The start of a thread was refused.
+    Spawn,
+    /// The gate of this seat stopped its calls.
+    Stopped(u8),
+}
+
+impl From<SetupFault> for PlayFault {
+    ghost use Rattle.std.specs.Prelude.{◌≡◌};
+    ghost use Rattle.cdb_play.specs.Faults.{of_setup};
+
+    ghost from_gives = { λ fault made. made ≡ of_setup fault };
+
+    fn from(fault: SetupFault) -> Self {
+        match fault {
+            SetupFault::NoMemory => PlayFault::NoMemory,
+            fault => PlayFault::Setup(fault),
+        }
+    }
+}
+
+/// A fault of the only script.
+impl From<ScriptFault> for PlayFault {
+    ghost use Rattle.std.specs.Prelude.{◌≡◌};
+    ghost use Rattle.cdb_play.specs.Faults.{of_script};
+
+    ghost from_gives = { λ fault made. made ≡ of_script fault };
+
+    fn from(fault: ScriptFault) -> Self {
+        match fault {
+            ScriptFault::Line(line, fault) => PlayFault::Line(1, line, fault),
+            ScriptFault::TooLong => PlayFault::ScriptTooLong(1),
+            ScriptFault::NoMemory => PlayFault::NoMemory,
+        }
+    }
+}
+
+impl From<ReadFault> for PlayFault {
+    ghost use Rattle.std.specs.Prelude.{◌≡◌};
+    ghost use Rattle.cdb_play.specs.Faults.{of_reading};
+
+    ghost from_gives = { λ fault made. made ≡ of_reading fault };
+
+    fn from(fault: ReadFault) -> Self {
+        match fault {
+            ReadFault::Failed => PlayFault::Read,
+            ReadFault::NoMemory => PlayFault::NoMemory,
+        }
+    }
+}
+
+impl From<Failed> for PlayFault {
+    ghost use Rattle.std.specs.Prelude.{◌≡◌};
+    ghost use Rattle.cdb_play.specs.declared.fault.PlayFault.TheVariants.{Write as write};
+
+    ghost from_gives = { λ _ made. made ≡ write };
+
+    fn from(_error: Failed) -> Self {
+        PlayFault::Write
+    }
+}
+
+impl From<NoMemory> for PlayFault {
+    ghost use Rattle.std.specs.Prelude.{◌≡◌};
+    ghost use Rattle.cdb_play.specs.declared.fault.PlayFault.TheVariants.{NoMemory as no_memory};
+
+    ghost from_gives = { λ _ made. made ≡ no_memory };
+
+    fn from(_error: NoMemory) -> Self {
+        PlayFault::NoMemory
+    }
+}

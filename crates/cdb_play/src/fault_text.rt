@@ -1,0 +1,145 @@
+//! The texts of faults. They are written without memory.
+
+ghost use Rattle.std.specs.Prelude.{◌≡◌, ◌∷◌, [], Some, OnOk, OnErr};
+ghost use Rattle.cdb_play.specs.FaultTexts.{setup_detail, numbered_text, setup_text, line_text, too_long_text, play_text, race_text};
+ghost use Rattle.cdb_play.specs.Pieces.{pieces_text};
+ghost use Rattle.cdb_play.specs.Streams.{after, AddsBeginning, one_more};
+
+use crate::fault::{PlayFault, RaceFault};
+use crate::piece::Piece::{Number, Text};
+use crate::piece::{Piece, write_each};
+use crate::sink::{Failed, Sink};
+use cdb_setup::SetupFault;
+use cdb_text::LineFault;
+
+const NO_MEMORY: &str = "no memory\n";
+
+const OUTPUT_FAILED: &str = "output failed\n";
+
+/// What a fault of a setup carries: after a space its key, its place, or its process and place.
+fn detail_of(
+    fault: &SetupFault,
+) -> (
+    Piece<'static>,
+    Piece<'static>,
+    Piece<'static>,
+    Piece<'static>,
+)
+    ensures { pieces_text (result.0 ∷ result.1 ∷ result.2 ∷ result.3 ∷ []) ≡ setup_detail fault.now }
+{
+    let (space, nothing) = (Text(" "), Text(""));
+    match fault {
+        SetupFault::Missing(key) => (space, Text(key.name()), nothing, nothing),
+        SetupFault::BadInput(place) => (space, Number(*place), nothing, nothing),
+        SetupFault::BadOracle(process, place) => (space, Number(*process), space, Number(*place)),
+        _ => (nothing, nothing, nothing, nothing),
+    }
+}
+
+/// A fault of a setup that has this number.
+fn write_numbered<W: Sink>(number: u8, fault: &SetupFault, err: &mut W) -> Result<(), Failed>
+    ensures ok { OnOk result (W.contents err.new ≡ after (W.contents err.old) (numbered_text (Some number) fault.now)) }
+    ensures beginning { OnErr result (AddsBeginning (W.contents err.old) (W.contents err.new) (numbered_text (Some number) fault.now)) }
+    ensures no_failure { OnOk result (W.failures err.new ≡ W.failures err.old) }
+    ensures one_failure { OnErr result (W.failures err.new ≡ one_more (W.failures err.old)) }
+{
+    let number = Number(usize::from(number));
+    let name = Text(fault.name());
+    let (first, second, third, fourth) = detail_of(fault);
+    let pieces = [
+        Text("setup fault "),
+        number,
+        Text(" "),
+        name,
+        first,
+        second,
+        third,
+        fourth,
+        Text("\n"),
+    ];
+    write_each(err, &pieces)
+}
+
+fn write_setup_fault<W: Sink>(fault: &SetupFault, err: &mut W) -> Result<(), Failed>
+    ensures ok { OnOk result (W.contents err.new ≡ after (W.contents err.old) (setup_text fault.now)) }
+    ensures beginning { OnErr result (AddsBeginning (W.contents err.old) (W.contents err.new) (setup_text fault.now)) }
+    ensures no_failure { OnOk result (W.failures err.new ≡ W.failures err.old) }
+    ensures one_failure { OnErr result (W.failures err.new ≡ one_more (W.failures err.old)) }
+{
+    match fault.number() {
+        Some(number) => write_numbered(number, fault, err),
+        None => write_each(err, &[Text(NO_MEMORY)]),
+    }
+}
+
+fn write_line_fault<W: Sink>(
+    script: usize,
+    line: usize,
+    fault: LineFault,
+    err: &mut W,
+) -> Result<(), Failed>
+    ensures ok { OnOk result (W.contents err.new ≡ after (W.contents err.old) (line_text script line fault)) }
+    ensures beginning { OnErr result (AddsBeginning (W.contents err.old) (W.contents err.new) (line_text script line fault)) }
+    ensures no_failure { OnOk result (W.failures err.new ≡ W.failures err.old) }
+    ensures one_failure { OnErr result (W.failures err.new ≡ one_more (W.failures err.old)) }
+{
+    let (script, line) = (Number(script), Number(line));
+    let (number, name) = (Number(usize::from(fault.number())), Text(fault.name()));
+    let pieces = [
+        Text("script "),
+        script,
+        Text(" line "),
+        line,
+        Text(" fault "),
+        number,
+        Text(" "),
+        name,
+        Text("\n"),
+    ];
+    write_each(err, &pieces)
+}
+
+fn write_too_long<W: Sink>(script: usize, err: &mut W) -> Result<(), Failed>
+    ensures ok { OnOk result (W.contents err.new ≡ after (W.contents err.old) (too_long_text script)) }
+    ensures beginning { OnErr result (AddsBeginning (W.contents err.old) (W.contents err.new) (too_long_text script)) }
+    ensures no_failure { OnOk result (W.failures err.new ≡ W.failures err.old) }
+    ensures one_failure { OnErr result (W.failures err.new ≡ one_more (W.failures err.old)) }
+{
+    write_each(err, &[Text("script "), Number(script), Text(" too long\n")])
+}
+
+/// Writes the text of a fault. The name is that of what could not be read. Where the writer fails, what was
+/// written is a beginning of the text.
+pub fn write_fault<W: Sink>(fault: &PlayFault, name: &str, err: &mut W) -> Result<(), Failed>
+    ensures ok { OnOk result (W.contents err.new ≡ after (W.contents err.old) (play_text fault.now name.now)) }
+    ensures beginning { OnErr result (AddsBeginning (W.contents err.old) (W.contents err.new) (play_text fault.now name.now)) }
+    ensures no_failure { OnOk result (W.failures err.new ≡ W.failures err.old) }
+    ensures one_failure { OnErr result (W.failures err.new ≡ one_more (W.failures err.old)) }
+{
+    match fault {
+        PlayFault::Setup(fault) => write_setup_fault(fault, err),
+        PlayFault::Line(script, line, fault) => write_line_fault(*script, *line, *fault, err),
+        PlayFault::ScriptTooLong(script) => write_too_long(*script, err),
+        PlayFault::Read => write_each(err, &[Text("cannot read "), Text(name), Text("\n")]),
+        PlayFault::Write => write_each(err, &[Text(OUTPUT_FAILED)]),
+        PlayFault::NoMemory => write_each(err, &[Text(NO_MEMORY)]),
+    }
+}
+
+/// Writes the text of a fault of a race. Where the writer fails, what was written is a beginning of it.
+pub fn write_race_fault<W: Sink>(fault: &RaceFault, err: &mut W) -> Result<(), Failed>
+    ensures ok { OnOk result (W.contents err.new ≡ after (W.contents err.old) (race_text fault.now)) }
+    ensures beginning { OnErr result (AddsBeginning (W.contents err.old) (W.contents err.new) (race_text fault.now)) }
+    ensures no_failure { OnOk result (W.failures err.new ≡ W.failures err.old) }
+    ensures one_failure { OnErr result (W.failures err.new ≡ one_more (W.failures err.old)) }
+{
+    match fault {
+        RaceFault::Setup(fault) => write_setup_fault(fault, err),
+        RaceFault::Line(script, line, fault) => write_line_fault(*script, *line, *fault, err),
+        RaceFault::ScriptTooLong(script) => write_too_long(*script, err),
+        RaceFault::Write => write_each(err, &[Text(OUTPUT_FAILED)]),
+        RaceFault::NoMemory => write_each(err, &[Text(NO_MEMORY)]),
+        RaceFault::JournalFull => write_each(err, &[Text("journal full\n")]),
+        RaceFault::Spawn | RaceFault::Stopped(_) => write_each(err, &[Text("no thread\n")]),
+    }
+}

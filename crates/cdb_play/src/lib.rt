@@ -1,0 +1,26 @@
+//! Plays and races of scripts: readers and writers, faults with their texts, and statuses.
+#![tactic(auto)]
+
+mod fault;
+mod fault_text;
+mod input;
+mod lines;
+mod output;
+mod piece;
+mod plays;
+mod races;
+mod script;
+mod sink;
+mod source;
+mod status;
+
+pub use fault::{PlayFault, RaceFault};
+pub use fault_text::{write_fault, write_race_fault};
+pub use input::{Bytes, Input};
+pub use output::Output;
+pub use plays::play;
+pub use races::{race, race_with};
+pub use script::LONGEST;
+pub use sink::{Failed, Sink};
+pub use source::{ReadFault, Source, read_up_to};
+pub use status::{fits, race_status_of, status_of};

@@ -1,0 +1,73 @@
+//! The commands of a script.
+
+ghost use Rattle.std.specs.Prelude.{◌≡◌, ◌↔◌, ℕ, ◌+◌, ◌*◌, ◌<◌, ◌≤◌, [], ◌∷◌, ◌++◌, length, Err, IfOk, OnOk};
+ghost use Rattle.cdb_text.specs.declared.fault.LineFault.{LineFault as LineFaultName};
+ghost use Rattle.cdb_play.specs.Lines.{lines_of};
+ghost use Rattle.cdb_play.specs.Scripts.{longest, AreCommandsOf, IsFirstBadLine};
+
+use crate::lines::first_line;
+use cdb_base::{Act, Reg};
+use cdb_control::{Command, Stop, View};
+use cdb_text::{LineFault, parse_line};
+use std::alloc::{AllocError, AllocFailed, Global};
+
+/// The most bytes that a script may have.
+pub const LONGEST: usize = 1_048_576;
+
+/// Why a script can't be played.
+#[derive(Clone, Copy, Debug, PartialEq, Eq)]
+pub enum ScriptFault {
+    /// The line of this number, counted from 1, is no command. It is the first such line.
+    Line(usize, LineFault),
+    /// The script has more than 1,048,576 bytes.
+    TooLong,
+    NoMemory,
+}
+
+impl From<AllocError> for ScriptFault {
+    ghost use Rattle.std.specs.Prelude.{◌≡◌};
+    ghost use Rattle.cdb_play.specs.declared.script.ScriptFault.TheVariants.{NoMemory as no_memory};
+
+    ghost from_gives = { λ _ made. made ≡ no_memory };
+
+    fn from(_error: AllocError) -> Self {
+        ScriptFault::NoMemory
+    }
+}
+
+/// Adds a command.
+fn push_command(commands: &mut Vec<Command>, command: Command) -> Result<(), AllocError>
+    ensures { OnOk result (commands.new.items ≡ commands.old.items ++ command ∷ []) }
+{
+    // Names each type inside a command: the checker asks for that where a command is passed for a type parameter.
+    let _parts: (Option<Stop>, Option<Act>, Option<View>, Option<Reg>) = (None, None, None, None);
+    match commands.push(command) {
+        Ok(()) => Ok(()),
+        Err(_) => Err(AllocError),
+    }
+}
+
+/// The commands of the lines of a script, in their order. Where a line is no command, the first such line is
+/// named with its first fault.
+pub fn commands_of(alloc: Global, script: &[u8]) -> Result<Vec<Command>, ScriptFault>
+    ensures commands { IfOk result (λ commands. AreCommandsOf commands.items (lines_of script.now)) }
+    // No line is empty, so two bytes at least stand for each but the last.
+    ensures few { IfOk result (λ commands. 2 * length commands.items ≤ length script.now + 1) }
+    ensures line { (place : ℕ) → (fault : LineFaultName) → result ≡ Err (ScriptFault.Line place fault) → IsFirstBadLine place fault (lines_of script.now) }
+    ensures too_long { (result ≡ Err ScriptFault.TooLong) ↔ (longest < length script.now) }
+{
+    if script.len() > LONGEST {
+        return Err(ScriptFault::TooLong);
+    }
+    let mut commands = Vec::new(alloc);
+    let mut rest = script;
+    while !rest.is_empty() {
+        let (line, behind) = first_line(rest);
+        match parse_line(line) {
+            Ok(command) => push_command(&mut commands, command)?,
+            Err(fault) => return Err(ScriptFault::Line(commands.len() + 1, fault)),
+        }
+        rest = behind;
+    }
+    Ok(commands)
+}

@@ -1,0 +1,83 @@
+//! Readers.
+
+ghost use Rattle.std.specs.Prelude.{◌≡◌, ◌≢◌, ℕ, ◌<◌, ◌≤◌, List, [], take, length, Option, Err, IfOk, IfSome, is_err};
+ghost use Rattle.cdb_play.specs.Streams.{before, counted, one_more};
+
+use crate::sink::Failed;
+use std::alloc::{AllocError, Global};
+
+/// What gives bytes.
+pub trait Source {
+    /// The bytes that are left, where they are known.
+    ghost remaining: { Self → Option (List ℕ) };
+
+    /// How many of its calls have failed, in 64 bits.
+    ghost failures: { Self → ℕ };
+
+    /// Puts the next bytes at the front of the buffer, and answers how many. It answers 0 at the end,
+    /// and where the buffer is empty.
+    fn read(&mut self, buffer: &mut [u8]) -> Result<usize, Failed>
+        ensures within { IfOk result (λ count. count ≤ length buffer.old) }
+        ensures taken { IfOk result (λ count. remaining self.old ≡ before (take count buffer.new) (remaining self.new)) }
+        ensures end { IfOk result (λ count. count ≡ 0 → 0 < length buffer.old → IfSome (remaining self.new) (λ left. left ≡ [])) }
+        ensures failures { failures self.new ≡ counted (is_err result) (failures self.old) };
+}
+
+/// Why a reader was not read.
+#[derive(Clone, Copy, Debug, PartialEq, Eq)]
+pub enum ReadFault {
+    /// The reader failed in this call.
+    Failed,
+    NoMemory,
+}
+
+impl From<Failed> for ReadFault {
+    ghost use Rattle.std.specs.Prelude.{◌≡◌};
+    ghost use Rattle.cdb_play.specs.declared.source.ReadFault.TheVariants.{Failed as failed};
+
+    ghost from_gives = { λ _ made. made ≡ failed };
+
+    fn from(_error: Failed) -> Self {
+        ReadFault::Failed
+    }
+}
+
+impl From<AllocError> for ReadFault {
+    ghost use Rattle.std.specs.Prelude.{◌≡◌};
+    ghost use Rattle.cdb_play.specs.declared.source.ReadFault.TheVariants.{NoMemory as no_memory};
+
+    ghost from_gives = { λ _ made. made ≡ no_memory };
+
+    fn from(_error: AllocError) -> Self {
+        ReadFault::NoMemory
+    }
+}
+
+/// How many bytes are asked for at a time.
+const PIECE: usize = 4096;
+
+/// Reads to the end, or so many bytes where the reader has more. No byte is read twice, and nothing is tried
+/// again. After an error what was read is given up.
+pub fn read_up_to<R: Source>(
+    alloc: Global,
+    source: &mut R,
+    most: usize,
+) -> Result<Vec<u8>, ReadFault>
+    ensures taken { IfOk result (λ bytes. R.remaining source.old ≡ before bytes.items (R.remaining source.new)) }
+    ensures most { IfOk result (λ bytes. length bytes.items ≤ most) }
+    ensures end { IfOk result (λ bytes. length bytes.items < most → IfSome (R.remaining source.new) (λ left. left ≡ [])) }
+    ensures failed { result ≡ Err ReadFault.Failed → R.failures source.new ≡ one_more (R.failures source.old) }
+    ensures unfailed { result ≢ Err ReadFault.Failed → R.failures source.new ≡ R.failures source.old }
+{
+    let mut bytes = Vec::new(alloc);
+    let mut buffer = [0u8; PIECE];
+    while bytes.len() < most {
+        let room = PIECE.min(most - bytes.len());
+        let count = source.read(&mut buffer[..room])?;
+        if count == 0 {
+            return Ok(bytes);
+        }
+        bytes.extend_from_slice(&buffer[..count])?;
+    }
+    Ok(bytes)
+}

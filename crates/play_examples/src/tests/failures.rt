@@ -1,0 +1,169 @@
+//! Readers and writers that fail, and bad scripts and setups.
+
+use super::setups::{MAJORITY, ONE_PROCESS};
+use super::{Halting, Memory, check_fault, writer};
+use cdb_play::{Bytes, PlayFault, play};
+use cdb_setup::SetupFault;
+use cdb_text::LineFault;
+
+/// Two processes drive themselves to a decision, in 12 lines.
+const SCRIPT: &str =
+    "auto 1\nauto 1\nauto 1\nauto 1\nauto 2\nauto 2\nauto 2\nauto 2\nauto 2\nauto 2\nauto 2\nshow 3\n";
+
+const TRANSCRIPT: &str = "1.1 query 1
+1.2 send 1#1
+1.3 recv 1#1
+refused 12 Idle
+2.1 recv 1#1
+2.2 query 1
+2.3 send 2#1
+2.4 recv 2#1
+2.5 local
+2.6 send 2#2
+2.7 recv 2#2
+refused 1 NoProcess
+";
+
+#[test]
+fn a_reader_that_fails_at_each_call(rt: HostRuntime) {
+    // The script's 11 bytes come in three calls, and a fourth finds the end.
+    for good_calls in 0..4 {
+        let mut source = Halting {
+            rest: b"auto 1\nredo",
+            good_calls,
+            failures: 0,
+        };
+        let mut out = writer(&rt, 1_000);
+        let answer = play(rt.alloc(), ONE_PROCESS.as_bytes(), &mut source, &mut out);
+        assert_eq!(rt; answer, Err(PlayFault::Read), "after {good_calls} calls");
+        assert_eq!(rt; source.failures, 1);
+        assert_eq!(rt; out.held.len(), 0);
+    }
+}
+
+#[test]
+fn a_reader_that_comes_to_its_end(rt: HostRuntime) {
+    let mut source = Halting {
+        rest: b"auto 1\nredo",
+        good_calls: 4,
+        failures: 0,
+    };
+    let mut out = writer(&rt, 1_000);
+    assert_eq!(rt;
+        play(rt.alloc(), ONE_PROCESS.as_bytes(), &mut source, &mut out),
+        Ok(())
+    );
+    assert_eq!(rt;
+        out.held.as_slice(),
+        b"1.1 query 1\nrefused 14 NothingToRedo\n".as_slice()
+    );
+}
+
+#[test]
+fn a_writer_that_stops_at_each_call(rt: HostRuntime) {
+    for takes_none in [false, true] {
+        for good_calls in 0..12 {
+            let mut out = Memory {
+                held: Vec::new(rt.alloc()),
+                most: 1_000,
+                good_calls,
+                takes_none,
+                failures: 0,
+            };
+            let mut source = Bytes::new(SCRIPT.as_bytes());
+            let answer = play(rt.alloc(), MAJORITY.as_bytes(), &mut source, &mut out);
+            assert_eq!(rt; answer, Err(PlayFault::Write), "after {good_calls} calls");
+            assert_eq!(rt; out.failures, 1);
+            let ends = out.held.iter().filter(|byte| **byte == b'\n').count();
+            assert_eq!(rt; ends, good_calls);
+            assert!(rt; TRANSCRIPT.as_bytes().starts_with(out.held.as_slice()));
+        }
+    }
+}
+
+#[test]
+fn a_writer_that_takes_few_bytes_a_call(rt: HostRuntime) {
+    for most in [1, 2, 7] {
+        let mut out = writer(&rt, most);
+        let mut source = Bytes::new(SCRIPT.as_bytes());
+        let answer = play(rt.alloc(), MAJORITY.as_bytes(), &mut source, &mut out);
+        assert_eq!(rt; answer, Ok(()), "{most} bytes a call");
+        assert_eq!(rt; out.held.as_slice(), TRANSCRIPT.as_bytes());
+    }
+}
+
+#[test]
+fn a_bad_line_writes_nothing(rt: HostRuntime) {
+    let fault = PlayFault::Line(1, 2, LineFault::Number);
+    check_fault(&rt, ONE_PROCESS, b"auto 1\nstep 01 go\n", fault);
+}
+
+#[test]
+fn the_first_bad_line_is_named(rt: HostRuntime) {
+    let fault = PlayFault::Line(1, 3, LineFault::Empty);
+    check_fault(&rt, ONE_PROCESS, b"auto 1\nredo\n\njump\n", fault);
+}
+
+#[test]
+fn each_fault_of_a_line(rt: HostRuntime) {
+    let lines = [
+        ("\n", LineFault::Empty),
+        ("jump", LineFault::Word),
+        ("step 01 go", LineFault::Number),
+        ("step 0 go", LineFault::Number),
+        ("step  1 go", LineFault::Number),
+        ("step 1 query 1000000", LineFault::Number),
+        ("step 1 query 2 3", LineFault::Extra),
+        ("redo ", LineFault::Extra),
+    ];
+    for (line, fault) in &lines {
+        check_fault(
+            &rt,
+            ONE_PROCESS,
+            line.as_bytes(),
+            PlayFault::Line(1, 1, *fault),
+        );
+    }
+}
+
+#[test]
+fn further_faults_of_lines(rt: HostRuntime) {
+    let lines = [
+        ("undo 1", LineFault::Missing),
+        ("show r1", LineFault::Word),
+        ("break write r10", LineFault::Word),
+        ("lose 1 1", LineFault::Missing),
+        ("undo lost 1 1 2 3", LineFault::Extra),
+        ("undo x 1", LineFault::Number),
+        // Byte 13 is a byte of the word.
+        ("auto 1\r\n", LineFault::Number),
+    ];
+    for (line, fault) in &lines {
+        check_fault(
+            &rt,
+            ONE_PROCESS,
+            line.as_bytes(),
+            PlayFault::Line(1, 1, *fault),
+        );
+    }
+}
+
+#[test]
+fn each_beginning_of_a_setup_is_none(rt: HostRuntime) {
+    for end in 0..ONE_PROCESS.len() {
+        let Some(setup) = ONE_PROCESS.get(..end) else {
+            continue;
+        };
+        check_fault(
+            &rt,
+            setup,
+            b"auto 1\n",
+            PlayFault::Setup(SetupFault::NotJson),
+        );
+    }
+}
+
+#[test]
+fn a_fault_of_the_setup_comes_first(rt: HostRuntime) {
+    check_fault(&rt, "[]", b"jump", PlayFault::Setup(SetupFault::NotObject));
+}
