@@ -8,10 +8,6 @@ pub mod direct;
 pub mod history;
 pub mod laws;
 mod places;
-#[cfg(test)]
-mod tests;
-#[cfg(test)]
-mod twins;
 
 pub use causes::{consequences, first_dependent};
 pub use dependence::depends;

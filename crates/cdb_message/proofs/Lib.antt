@@ -1,6 +1,5 @@
 pub mod MarkLaws
 pub mod Closed
-pub mod First
 pub mod Pending
 pub mod Sets
 pub mod TakenBack

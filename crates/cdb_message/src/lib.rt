@@ -7,7 +7,5 @@ pub mod mail;
 mod marks;
 mod names;
 mod outbox;
-#[cfg(test)]
-mod tests;
 
 pub use mail::Mail;

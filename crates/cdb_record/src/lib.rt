@@ -4,8 +4,6 @@
 mod accounts;
 mod entry;
 mod records;
-#[cfg(test)]
-mod tests;
 
 pub use entry::Entry;
 pub use records::Records;

@@ -3,8 +3,6 @@
 
 pub mod register_state;
 pub mod registers;
-#[cfg(test)]
-mod tests;
 
 pub use register_state::RegisterState;
 pub use registers::Registers;

@@ -12,8 +12,6 @@ mod plan;
 mod progress;
 mod restore;
 mod run;
-#[cfg(test)]
-mod tests;
 
 pub use any::AnyRun;
 pub use cdb_base::Act;

@@ -12,6 +12,3 @@ mod setup;
 pub use fault::SetupFault;
 pub use key::Key;
 pub use setup::{Algorithm, Setup};
-
-#[cfg(test)]
-mod tests;

@@ -164,6 +164,3 @@ pub fn parse_line(line: &[u8]) -> Result<Command, LineFault>
     }
     command(Words::of(line))
 }
-
-#[cfg(test)]
-mod tests;

@@ -110,6 +110,3 @@ pub fn reply_text(alloc: Global, reply: &Reply) -> Result<Vec<u8>, NoMemory>
     push_reply(&mut text, reply)?;
     Ok(text.into_bytes())
 }
-
-#[cfg(test)]
-mod tests;

@@ -1,7 +1,10 @@
 mod again;
 mod alpha;
+mod back;
 mod leader;
 mod losses;
 mod memory;
+mod same;
 mod script;
 mod setups;
+mod twin;

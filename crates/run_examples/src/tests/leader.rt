@@ -33,7 +33,7 @@ fn one_process_decides(rt: HostRuntime) -> Result<(), Fail> {
     Ok(())
 }
 
-const FIRST_VALUE: [(Turn, &str); 8] = [
+pub const FIRST_VALUE: [(Turn, &str); 8] = [
     (Turn::Step(1, Act::Query(None)), "1.1 query 1"),
     (Turn::Step(1, Act::Go), "1.2 send 1#1"),
     (Turn::Step(1, Act::Recv(1, 1)), "1.3 recv 1#1"),
@@ -44,7 +44,7 @@ const FIRST_VALUE: [(Turn, &str); 8] = [
     (Turn::Step(1, Act::Go), "1.8 send 1#3 decides 5"),
 ];
 
-const SECOND_VALUE: [(Turn, &str); 8] = [
+pub const SECOND_VALUE: [(Turn, &str); 8] = [
     (Turn::Step(2, Act::Query(None)), "2.1 query 2"),
     (Turn::Step(2, Act::Go), "2.2 send 2#1"),
     (Turn::Step(2, Act::Recv(2, 1)), "2.3 recv 2#1"),

@@ -7,7 +7,7 @@ ghost use Rattle.cdb_run.specs.Any.{standing_of, IsTrueToSetup};
 use super::again::is_of_run;
 use super::script::{Turn, take};
 use super::setups::{ALPHA_PAIR, LOSSY};
-use cdb_base::{Act, NoMemory, Proc, Reg};
+use cdb_base::{Act, Event, NoMemory, Proc, Refusal, Reg};
 use cdb_run::AnyRun;
 use cdb_setup::Setup;
 use std::alloc::Global;
@@ -42,7 +42,7 @@ fn is_same_register(one: &AnyRun, other: &AnyRun, register: &Reg) -> bool
 }
 
 /// Whether both runs show the same.
-fn look_same(one: &AnyRun, other: &AnyRun) -> bool
+pub fn look_same(one: &AnyRun, other: &AnyRun) -> bool
     requires one { IsTrueToSetup one.now }
     requires other { IsTrueToSetup other.now }
 {
@@ -78,6 +78,40 @@ fn start_again<R: AllocGlobal>(rt: &R, setup: &str) -> Result<AnyRun, Fail>
     }
 }
 
+/// Takes the turn, and takes it again where memory was wanting, after which the run shows what the one
+/// behind it shows.
+fn take_at_last<R: Abort + AllocGlobal>(
+    rt: &R,
+    run: &mut AnyRun,
+    behind: &AnyRun,
+    turn: &Turn,
+) -> Result<Result<Event, Refusal>, Fail>
+    requires run { IsTrueToSetup run.old }
+    requires behind { IsTrueToSetup behind.now }
+    ensures { IsTrueToSetup run.new }
+{
+    if let Ok(answer) = take(rt.alloc(), run, turn) {
+        return Ok(answer);
+    }
+    assert!(rt; look_same(run, behind));
+    Ok(take(rt.alloc(), run, turn)?)
+}
+
+/// Takes the turn in the run that is behind, and again where memory was wanting.
+fn catch_up<R: AllocGlobal>(
+    rt: &R,
+    behind: &mut AnyRun,
+    turn: &Turn,
+) -> Result<Result<Event, Refusal>, Fail>
+    requires { IsTrueToSetup behind.old }
+    ensures { IsTrueToSetup behind.new }
+{
+    if let Ok(answer) = take(rt.alloc(), behind, turn) {
+        return Ok(answer);
+    }
+    Ok(take(rt.alloc(), behind, turn)?)
+}
+
 /// Takes the turns in two runs, the second always a turn behind the first, and asks again where memory
 /// was wanting.
 fn take_turns<R: Abort + AllocGlobal>(rt: &R, setup: &str, turns: &[Turn]) -> Result<AnyRun, Fail>
@@ -86,21 +120,44 @@ fn take_turns<R: Abort + AllocGlobal>(rt: &R, setup: &str, turns: &[Turn]) -> Re
     let mut run = start_again(rt, setup)?;
     let mut behind = start_again(rt, setup)?;
     for turn in turns {
-        let answer = match take(rt.alloc(), &mut run, turn) {
-            Ok(answer) => answer,
-            Err(NoMemory) => {
-                assert!(rt; look_same(&run, &behind));
-                take(rt.alloc(), &mut run, turn)?
-            }
-        };
-        let expected = match take(rt.alloc(), &mut behind, turn) {
-            Ok(answer) => answer,
-            Err(NoMemory) => take(rt.alloc(), &mut behind, turn)?,
-        };
+        let answer = take_at_last(rt, &mut run, &behind, turn)?;
+        let expected = catch_up(rt, &mut behind, turn)?;
         assert_eq!(rt; answer, expected);
         assert!(rt; look_same(&run, &behind));
     }
     Ok(run)
+}
+
+/// Takes the event of the run again.
+fn take_event<R: Abort + AllocGlobal>(
+    rt: &R,
+    run: &mut AnyRun,
+    event: &Event,
+) -> Result<bool, NoMemory>
+    requires { IsTrueToSetup run.old }
+    ensures { IsTrueToSetup run.new }
+{
+    assert!(rt; is_of_run(run.setup(), event));
+    Ok(run.again(rt.alloc(), event)?.is_ok())
+}
+
+/// Takes the event again, and once more where memory was wanting, after which the run shows what the
+/// one behind it shows.
+fn take_event_at_last<R: Abort + AllocGlobal>(
+    rt: &R,
+    run: &mut AnyRun,
+    behind: &AnyRun,
+    event: &Event,
+) -> Result<bool, NoMemory>
+    requires run { IsTrueToSetup run.old }
+    requires behind { IsTrueToSetup behind.now }
+    ensures { IsTrueToSetup run.new }
+{
+    if let Ok(is_taken) = take_event(rt, run, event) {
+        return Ok(is_taken);
+    }
+    assert!(rt; look_same(run, behind));
+    take_event(rt, run, event)
 }
 
 /// Takes the events of a run again in two others, as `take_turns` takes turns.
@@ -110,20 +167,9 @@ fn take_events<R: Abort + AllocGlobal>(rt: &R, setup: &str, ahead: &AnyRun) -> R
     let mut run = start_again(rt, setup)?;
     let mut behind = start_again(rt, setup)?;
     for event in ahead.history() {
-        assert!(rt; is_of_run(run.setup(), event));
-        let answer = match run.again(rt.alloc(), event) {
-            Ok(answer) => answer,
-            Err(NoMemory) => {
-                assert!(rt; look_same(&run, &behind));
-                assert!(rt; is_of_run(run.setup(), event));
-                run.again(rt.alloc(), event)?
-            }
-        };
-        assert!(rt; answer.is_ok());
-        assert!(rt; is_of_run(behind.setup(), event));
-        if behind.again(rt.alloc(), event).is_err() {
-            assert!(rt; is_of_run(behind.setup(), event));
-            let _answer = behind.again(rt.alloc(), event)?;
+        assert!(rt; take_event_at_last(rt, &mut run, &behind, event)?);
+        if take_event(rt, &mut behind, event).is_err() {
+            assert!(rt; take_event(rt, &mut behind, event)?);
         }
         assert!(rt; look_same(&run, &behind));
     }

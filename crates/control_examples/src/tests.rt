@@ -1,0 +1,10 @@
+mod alpha;
+mod breakpoints;
+mod leader;
+mod lines;
+mod losses;
+mod replies;
+mod rollback;
+mod session;
+mod setups;
+mod undo;

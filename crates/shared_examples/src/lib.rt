@@ -1,0 +1,5 @@
+//! Worked examples of one control for many seats, and of races in threads.
+#![tactic(auto)]
+
+#[cfg(test)]
+mod tests;

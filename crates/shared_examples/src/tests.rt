@@ -1,0 +1,6 @@
+mod gates;
+mod limits;
+mod opening;
+mod races;
+mod seats;
+mod sessions;
