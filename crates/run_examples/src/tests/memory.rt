@@ -112,6 +112,11 @@ fn catch_up<R: AllocGlobal>(
     Ok(take(rt.alloc(), behind, turn)?)
 }
 
+/// Whether two turns were answered the same.
+fn is_same_answer(one: &Result<Event, Refusal>, other: &Result<Event, Refusal>) -> bool {
+    one == other
+}
+
 /// Takes the turn in a run and in the one behind it, and compares the answers and what both show then.
 fn take_in_both<R: Abort + AllocGlobal>(
     rt: &R,
@@ -126,7 +131,7 @@ fn take_in_both<R: Abort + AllocGlobal>(
 {
     let answer = take_at_last(rt, run, behind, turn)?;
     let expected = catch_up(rt, behind, turn)?;
-    assert!(rt; answer == expected);
+    assert!(rt; is_same_answer(&answer, &expected));
     assert!(rt; look_same(run, behind));
     Ok(())
 }
