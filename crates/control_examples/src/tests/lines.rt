@@ -3,9 +3,17 @@
 use cdb_base::{Act, Proc, Reg};
 use cdb_control::{Command, Stop, View};
 use cdb_text::{LineFault, parse_line};
+use std::process::Abort;
+
+/// Reads each line, and compares what it says with the command beside it.
+fn read_each<R: Abort>(rt: &R, lines: &[(&str, Command)]) {
+    for (line, command) in lines {
+        assert_eq!(rt; parse_line(line.as_bytes()), Ok(*command), "{line}");
+    }
+}
 
 #[test]
-fn each_command(rt: HostRuntime) {
+fn steps_and_losses(rt: HostRuntime) {
     let lines = [
         ("step 1 go", Command::Step(1, Act::Go)),
         ("step 2 learn", Command::Step(2, Act::Learn)),
@@ -15,6 +23,13 @@ fn each_command(rt: HostRuntime) {
         ("step 2 recv 1 3", Command::Step(2, Act::Recv(1, 3))),
         ("auto 1", Command::Auto(1)),
         ("lose 1 3 2", Command::Lose(1, 3, 2)),
+    ];
+    read_each(&rt, &lines);
+}
+
+#[test]
+fn what_is_taken_back(rt: HostRuntime) {
+    let lines = [
         ("undo 1 8", Command::Undo(1, 8)),
         ("undo lost 1 3 2", Command::UndoLost(1, 3, 2)),
         ("redo", Command::Redo),
@@ -23,21 +38,33 @@ fn each_command(rt: HostRuntime) {
         ("rollback lost 1 3 2", Command::RollbackLost(1, 3, 2)),
         ("why 2 1", Command::Why(2, 1)),
         ("why lost 1 3 2", Command::WhyLost(1, 3, 2)),
+    ];
+    read_each(&rt, &lines);
+}
+
+#[test]
+fn breakpoints(rt: HostRuntime) {
+    let lines = [
         ("break decide 1", Command::Break(Stop::Decide(1))),
         ("break round 1 2", Command::Break(Stop::Round(1, 2))),
         ("break recv 1", Command::Break(Stop::Recv(1))),
         ("break write dec", Command::Break(Stop::Write(Reg::Dec))),
         ("unbreak 2", Command::Unbreak(2)),
         ("resume", Command::Resume),
+    ];
+    read_each(&rt, &lines);
+}
+
+#[test]
+fn views(rt: HostRuntime) {
+    let lines = [
         ("show 10", Command::Show(View::Proc(10))),
         ("show regs", Command::Show(View::Regs)),
         ("show mail", Command::Show(View::Mail)),
         ("show history", Command::Show(View::History)),
         ("decisions", Command::Decisions),
     ];
-    for (line, command) in &lines {
-        assert_eq!(rt; parse_line(line.as_bytes()), Ok(*command), "{line}");
-    }
+    read_each(&rt, &lines);
 }
 
 #[test]
@@ -53,6 +80,13 @@ fn the_greatest_number(rt: HostRuntime) {
     assert_eq!(rt; parse_line(b"auto 999999"), Ok(Command::Auto(999_999)));
 }
 
+/// Reads each line, and compares its fault with the one beside it.
+fn refuse_each<R: Abort>(rt: &R, lines: &[(&str, LineFault)]) {
+    for (line, fault) in lines {
+        assert_eq!(rt; parse_line(line.as_bytes()), Err(*fault), "{line}");
+    }
+}
+
 #[test]
 fn each_fault(rt: HostRuntime) {
     let lines = [
@@ -65,11 +99,30 @@ fn each_fault(rt: HostRuntime) {
         ("step 1 query 2 3", LineFault::Extra),
         ("redo ", LineFault::Extra),
         ("undo 1", LineFault::Missing),
+    ];
+    refuse_each(&rt, &lines);
+}
+
+#[test]
+fn faults_of_words(rt: HostRuntime) {
+    let lines = [
         ("show r1", LineFault::Word),
         ("break write r10", LineFault::Word),
         // A number and byte 13.
         ("auto 1\r", LineFault::Number),
-        // Losses: the copy has no receiver, a fourth number, neither `lost` nor a number.
+        // A space at the beginning of the line.
+        (" redo", LineFault::Word),
+        // The first of several faults.
+        ("jump 01", LineFault::Word),
+        ("step 01 jump", LineFault::Number),
+    ];
+    refuse_each(&rt, &lines);
+}
+
+// The copy has no receiver, a fourth number, neither `lost` nor a number.
+#[test]
+fn faults_of_losses(rt: HostRuntime) {
+    let lines = [
         ("lose 1 1", LineFault::Missing),
         ("undo lost 1 1 2 3", LineFault::Extra),
         ("undo x 1", LineFault::Number),
@@ -77,13 +130,6 @@ fn each_fault(rt: HostRuntime) {
         ("why x 1", LineFault::Number),
         ("undo lost", LineFault::Missing),
         ("lose lost 1 1 2", LineFault::Number),
-        // A space at the beginning of the line.
-        (" redo", LineFault::Word),
-        // The first of several faults.
-        ("jump 01", LineFault::Word),
-        ("step 01 jump", LineFault::Number),
     ];
-    for (line, fault) in &lines {
-        assert_eq!(rt; parse_line(line.as_bytes()), Err(*fault), "{line}");
-    }
+    refuse_each(&rt, &lines);
 }

@@ -3,12 +3,14 @@
 ghost use Rattle.std.specs.Prelude.{◌≤◌};
 
 use cdb_base::{
-    Cell, CopyName, Event, Kind, MsgName, NoMemory, Payload, Proc, Refusal, Reg, StepId, StepName, Val,
+    Cell, CopyName, Event, Kind, MsgName, NoMemory, Payload, Proc, Refusal, Reg, StepId, StepName,
+    Val,
 };
 use cdb_control::{ProcView, Reply};
 use cdb_text::reply_text;
 use smallvec::SmallVec;
 use std::alloc::Global;
+use std::process::Abort;
 use std::test::Fail;
 
 /// Tells whether the text of the reply is this one.
@@ -272,8 +274,19 @@ fn decisions(rt: HostRuntime) -> Result<(), Fail> {
     Ok(())
 }
 
+/// Compares the text of each refusal with the one beside it.
+fn refused<R: Abort + AllocGlobal>(rt: &R, texts: &[(Refusal, &str)]) -> Result<(), Fail> {
+    for (refusal, text) in texts {
+        assert!(rt;
+            is_text(rt.alloc(), &Reply::Refused(*refusal), text)?,
+            "{text}"
+        );
+    }
+    Ok(())
+}
+
 #[test]
-fn refusals(rt: HostRuntime) -> Result<(), Fail> {
+fn refusals_of_steps(rt: HostRuntime) -> Result<(), Fail> {
     let texts = [
         (Refusal::NoProcess, "refused 1 NoProcess\n"),
         (Refusal::Crashed, "refused 2 Crashed\n"),
@@ -284,12 +297,25 @@ fn refusals(rt: HostRuntime) -> Result<(), Fail> {
         (Refusal::BadLeader, "refused 7 BadLeader\n"),
         (Refusal::NoAnswer, "refused 8 NoAnswer\n"),
         (Refusal::StepLimit, "refused 9 StepLimit\n"),
+    ];
+    refused(&rt, &texts)
+}
+
+#[test]
+fn refusals_with_a_name(rt: HostRuntime) -> Result<(), Fail> {
+    let step = Refusal::NeededBy(name(1, 3));
+    let loss = Refusal::NeededBy(StepId::Lost(copy()));
+    let texts = [
         (Refusal::NoStep, "refused 10 NoStep\n"),
-        (Refusal::NeededBy(name(1, 3)), "refused 11 NeededBy 1.3\n"),
-        (
-            Refusal::NeededBy(StepId::Lost(copy())),
-            "refused 11 NeededBy lost 1#1 to 2\n",
-        ),
+        (step, "refused 11 NeededBy 1.3\n"),
+        (loss, "refused 11 NeededBy lost 1#1 to 2\n"),
+    ];
+    refused(&rt, &texts)
+}
+
+#[test]
+fn refusals_of_sessions(rt: HostRuntime) -> Result<(), Fail> {
+    let texts = [
         (Refusal::Idle, "refused 12 Idle\n"),
         (Refusal::Paused(1), "refused 13 Paused 1\n"),
         (Refusal::NothingToRedo, "refused 14 NothingToRedo\n"),
@@ -299,11 +325,5 @@ fn refusals(rt: HostRuntime) -> Result<(), Fail> {
         (Refusal::Lost, "refused 19 Lost\n"),
         (Refusal::NoLoss, "refused 20 NoLoss\n"),
     ];
-    for (refusal, text) in &texts {
-        assert!(rt;
-            is_text(rt.alloc(), &Reply::Refused(*refusal), text)?,
-            "{text}"
-        );
-    }
-    Ok(())
+    refused(&rt, &texts)
 }

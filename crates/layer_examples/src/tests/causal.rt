@@ -1,13 +1,12 @@
 //! Worked examples: short runs by hand, with what depends on what read off the runs.
 
-ghost use Rattle.std.specs.Prelude.{◌≡◌, ◌≤◌, IsTrue};
+ghost use Rattle.std.specs.Prelude.{◌≡◌, ◌≤◌, IsTrue, false};
 ghost use Rattle.cdb_base.specs.declared.event.Event.TheVariants.{Lost};
 ghost use Rattle.cdb_base.specs.declared.name.CopyName.{CopyName as ACopy};
 ghost use Rattle.cdb_causal.specs.Dependence.{affects as affects_of};
 ghost use Rattle.cdb_causal.specs.Standing.{HasNoLostCopy};
 
 use cdb_base::{CopyName, Event, Kind, MsgName, NoMemory, Proc, Reg, StepId, StepName};
-use cdb_causal::dependence::affects;
 use cdb_causal::{History, consequences, depends, direct_causes, first_dependent, laws};
 use smallvec::SmallVec;
 use std::alloc::Global;
@@ -46,13 +45,26 @@ pub fn register(p: u8) -> Reg
     Reg::R(Proc::new(p))
 }
 
-// Whether the earlier event is the loss of a copy of what the event sends.
+// False where the event is no send.
+fn may_send(event: &Event) -> bool
+    ensures { (copy : ACopy) → result ≡ false → affects_of event.now (Lost copy) ≡ false }
+{
+    match event {
+        Event::Lost(_) => false,
+        Event::Step { kind, .. } => match kind {
+            Kind::Send(_) => true,
+            _ => false,
+        },
+    }
+}
+
+// False where the earlier event is not the loss of a copy of what the event sends.
 fn has_lost(event: &Event, earlier: &Event) -> bool
-    ensures { (copy : ACopy) → earlier.now ≡ Lost copy → result ≡ affects_of event.now (Lost copy) }
+    ensures { (copy : ACopy) → earlier.now ≡ Lost copy → result ≡ false → affects_of event.now (Lost copy) ≡ false }
 {
     match earlier {
         Event::Step { .. } => false,
-        Event::Lost(_) => affects(event, earlier),
+        Event::Lost(_) => may_send(event) && depends(event, earlier),
     }
 }
 

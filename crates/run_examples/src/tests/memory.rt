@@ -112,6 +112,30 @@ fn catch_up<R: AllocGlobal>(
     Ok(take(rt.alloc(), behind, turn)?)
 }
 
+/// Whether two turns were answered the same.
+fn is_same_answer(one: &Result<Event, Refusal>, other: &Result<Event, Refusal>) -> bool {
+    one == other
+}
+
+/// Takes the turn in a run and in the one behind it, and compares the answers and what both show then.
+fn take_in_both<R: Abort + AllocGlobal>(
+    rt: &R,
+    run: &mut AnyRun,
+    behind: &mut AnyRun,
+    turn: &Turn,
+) -> Result<(), Fail>
+    requires run { IsTrueToSetup run.old }
+    requires behind { IsTrueToSetup behind.old }
+    ensures run { IsTrueToSetup run.new }
+    ensures behind { IsTrueToSetup behind.new }
+{
+    let answer = take_at_last(rt, run, behind, turn)?;
+    let expected = catch_up(rt, behind, turn)?;
+    assert!(rt; is_same_answer(&answer, &expected));
+    assert!(rt; look_same(run, behind));
+    Ok(())
+}
+
 /// Takes the turns in two runs, the second always a turn behind the first, and asks again where memory
 /// was wanting.
 fn take_turns<R: Abort + AllocGlobal>(rt: &R, setup: &str, turns: &[Turn]) -> Result<AnyRun, Fail>
@@ -120,10 +144,7 @@ fn take_turns<R: Abort + AllocGlobal>(rt: &R, setup: &str, turns: &[Turn]) -> Re
     let mut run = start_again(rt, setup)?;
     let mut behind = start_again(rt, setup)?;
     for turn in turns {
-        let answer = take_at_last(rt, &mut run, &behind, turn)?;
-        let expected = catch_up(rt, &mut behind, turn)?;
-        assert_eq!(rt; answer, expected);
-        assert!(rt; look_same(&run, &behind));
+        take_in_both(rt, &mut run, &mut behind, turn)?;
     }
     Ok(run)
 }
@@ -160,6 +181,26 @@ fn take_event_at_last<R: Abort + AllocGlobal>(
     take_event(rt, run, event)
 }
 
+/// Takes the event again in a run and in the one behind it, and compares what both show then.
+fn take_event_in_both<R: Abort + AllocGlobal>(
+    rt: &R,
+    run: &mut AnyRun,
+    behind: &mut AnyRun,
+    event: &Event,
+) -> Result<(), NoMemory>
+    requires run { IsTrueToSetup run.old }
+    requires behind { IsTrueToSetup behind.old }
+    ensures run { IsTrueToSetup run.new }
+    ensures behind { IsTrueToSetup behind.new }
+{
+    assert!(rt; take_event_at_last(rt, run, behind, event)?);
+    if take_event(rt, behind, event).is_err() {
+        assert!(rt; take_event(rt, behind, event)?);
+    }
+    assert!(rt; look_same(run, behind));
+    Ok(())
+}
+
 /// Takes the events of a run again in two others, as `take_turns` takes turns.
 fn take_events<R: Abort + AllocGlobal>(rt: &R, setup: &str, ahead: &AnyRun) -> Result<(), Fail>
     requires { IsTrueToSetup ahead.now }
@@ -167,11 +208,7 @@ fn take_events<R: Abort + AllocGlobal>(rt: &R, setup: &str, ahead: &AnyRun) -> R
     let mut run = start_again(rt, setup)?;
     let mut behind = start_again(rt, setup)?;
     for event in ahead.history() {
-        assert!(rt; take_event_at_last(rt, &mut run, &behind, event)?);
-        if take_event(rt, &mut behind, event).is_err() {
-            assert!(rt; take_event(rt, &mut behind, event)?);
-        }
-        assert!(rt; look_same(&run, &behind));
+        take_event_in_both(rt, &mut run, &mut behind, event)?;
     }
     assert!(rt; look_same(&run, ahead));
     Ok(())

@@ -52,5 +52,9 @@ fn sessions_without_memory(rt: HostRuntime) -> Result<(), Fail> {
         let (_, mut more, _) = serve(&shared, &rt, rt.alloc(), b, Before(OPEN), left);
         texts.append(&mut more)?;
     }
-    say(&rt, &texts, "undone 1.8 send 1#3\nredone 1.8 send 1#3 decides 7\ndecisions 1=7\n")
+    say(
+        &rt,
+        &texts,
+        "undone 1.8 send 1#3\nredone 1.8 send 1#3 decides 7\ndecisions 1=7\n",
+    )
 }

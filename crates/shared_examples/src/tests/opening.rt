@@ -20,7 +20,11 @@ pub const ONE_LEADER: &str =
     r#"{"algorithm":"leader","processes":2,"quorum":2,"inputs":[5,6],"oracle":[[1],[1]]}"#;
 
 /// A control of a setup in which nothing has happened.
-pub fn control_of<R: AllocGlobal>(rt: &R, setup: &str, seats: u8) -> Result<Control<RunOfSetup>, Fail> {
+pub fn control_of<R: AllocGlobal>(
+    rt: &R,
+    setup: &str,
+    seats: u8,
+) -> Result<Control<RunOfSetup>, Fail> {
     let setup = Setup::read(rt.alloc(), setup.as_bytes())?;
     Ok(Control::open(rt.alloc(), setup, seats)?)
 }

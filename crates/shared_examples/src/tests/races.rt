@@ -113,7 +113,10 @@ fn a_race_of_one_process(rt: HostRuntime) -> Result<(), Fail> {
     let raced = race(&rt, alloc, setup, 8, &scripts, gates)?;
     assert_eq!(rt; raced.control.journal().len(), 9);
     let decisions = raced.control.run().decisions(alloc)?;
-    assert_eq!(rt; decisions.as_slice(), [(Proc::new(1), Val::new(7))].as_slice());
+    assert_eq!(rt;
+        decisions.as_slice(),
+        [(Proc::new(1), Val::new(7))].as_slice()
+    );
     assert_eq!(rt; raced.replies.len(), 2);
     assert_eq!(rt; (raced.replies[0].len(), raced.replies[1].len()), (0, 1));
     Ok(())
