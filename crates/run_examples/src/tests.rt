@@ -1,6 +1,7 @@
 mod again;
 mod alpha;
 mod back;
+mod example;
 mod generated;
 mod leader;
 mod losses;

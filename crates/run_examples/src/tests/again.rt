@@ -1,13 +1,12 @@
 //! Examples of events of one run that are taken again in another.
 
 ghost use Rattle.std.specs.Prelude.{IsTrue};
-ghost use Rattle.cdb_run.specs.Any.{IsTrueToSetup};
 ghost use Rattle.cdb_run.specs.Refusals.{IsOfRun};
 
+use super::example::Example;
 use super::script::{Turn, drive, repeat, start, told};
 use super::setups::{ALONE, ALPHA_PAIR, NO_MAJORITY};
 use cdb_base::{Act, Event, Kind};
-use cdb_run::AnyRun;
 use cdb_setup::Setup;
 use std::process::Abort;
 use std::test::Fail;
@@ -31,15 +30,11 @@ pub fn is_of_run(setup: &Setup, event: &Event) -> bool
 /// Takes the event again, and compares the answer.
 fn take_again<R: Abort + AllocGlobal>(
     rt: &R,
-    run: &mut AnyRun,
+    run: &mut Example,
     event: &Event,
     expected: &str,
-) -> Result<(), Fail>
-    requires { IsTrueToSetup run.old }
-    ensures { IsTrueToSetup run.new }
-{
-    assert!(rt; is_of_run(run.setup(), event));
-    let answer = run.again(rt.alloc(), event)?;
+) -> Result<(), Fail> {
+    let answer = run.again(rt, event)?;
     let text = told(rt, run, &answer)?;
     assert_eq!(rt; text.as_str(), expected);
     Ok(())
@@ -52,8 +47,8 @@ fn a_step_that_stands_has_moved(rt: HostRuntime) -> Result<(), Fail> {
     repeat(&rt, &mut first, 1, 8, "1.8 send 1#3 decides 7")?;
     let mut run = start(&rt, ALONE)?;
     repeat(&rt, &mut run, 1, 8, "1.8 send 1#3 decides 7")?;
-    assert_eq!(rt; first.history().len(), 8);
-    let last = first.history()[7];
+    assert_eq!(rt; first.any().history().len(), 8);
+    let last = first.any().history()[7];
     take_again(&rt, &mut run, &last, "refused 17 Moved")
 }
 
@@ -71,8 +66,8 @@ fn a_step_comes_back_behind_another(rt: HostRuntime) -> Result<(), Fail> {
         &mut run,
         &[(Turn::Step(2, Act::Query(None)), "2.1 query 2")],
     )?;
-    assert_eq!(rt; first.history().len(), 1);
-    let step = first.history()[0];
+    assert_eq!(rt; first.any().history().len(), 1);
+    let step = first.any().history()[0];
     take_again(&rt, &mut run, &step, "1.1 query 1")
 }
 
@@ -83,7 +78,7 @@ fn a_read_meets_what_stands_now(rt: HostRuntime) -> Result<(), Fail> {
     drive(&rt, &mut first, &[(Turn::Auto(2), "2.1 read dec")])?;
     let mut run = start(&rt, ALPHA_PAIR)?;
     repeat(&rt, &mut run, 1, 12, "1.12 read dec decides 7")?;
-    assert_eq!(rt; first.history().len(), 1);
-    let read = first.history()[0];
+    assert_eq!(rt; first.any().history().len(), 1);
+    let read = first.any().history()[0];
     take_again(&rt, &mut run, &read, "2.1 read dec decides 7")
 }

@@ -1,13 +1,12 @@
 //! Examples of events that are taken back, alone or with their consequences, and of what caused them.
 
 ghost use Rattle.std.specs.Prelude.{IsTrue};
-ghost use Rattle.cdb_run.specs.Any.{IsTrueToSetup};
 
+use super::example::Example;
 use super::leader::{FIRST_VALUE, SECOND_VALUE};
 use super::script::{Turn, decisions_text, drive, process_text, repeat, start, told};
 use super::setups::{ALONE, ALPHA_PAIR, LOSSY, NO_MAJORITY, ONE_LEADER};
 use cdb_base::{Act, Event, NoMemory, Refusal, StepId};
-use cdb_run::AnyRun;
 use std::alloc::Global;
 use std::process::Abort;
 use std::test::Fail;
@@ -34,10 +33,8 @@ fn names_text(alloc: Global, names: &[StepId]) -> Result<String, NoMemory> {
 }
 
 /// The direct causes of a step, in words.
-fn causes_text<R: AllocGlobal>(rt: &R, run: &AnyRun, p: u32, k: u32) -> Result<String, Fail>
-    requires { IsTrueToSetup run.now }
-{
-    let causes = run.causes(rt.alloc(), p, k);
+fn causes_text<R: AllocGlobal>(rt: &R, run: &Example, p: u32, k: u32) -> Result<String, Fail> {
+    let causes = run.any().causes(rt.alloc(), p, k);
     let causes = causes.ok().ok_or("no such step")?;
     Ok(names_text(rt.alloc(), causes.as_slice())?)
 }
@@ -45,11 +42,9 @@ fn causes_text<R: AllocGlobal>(rt: &R, run: &AnyRun, p: u32, k: u32) -> Result<S
 /// What an undo was answered, in words.
 fn undone_text<R: Abort + AllocGlobal>(
     rt: &R,
-    run: &AnyRun,
+    run: &Example,
     answer: &Result<Event, Refusal>,
-) -> Result<String, Fail>
-    requires { IsTrueToSetup run.now }
-{
+) -> Result<String, Fail> {
     match answer {
         Err(Refusal::NeededBy(name)) => {
             let name = name_text(rt.alloc(), name)?;
@@ -62,14 +57,11 @@ fn undone_text<R: Abort + AllocGlobal>(
 /// Undoes a step, and compares the answer.
 fn undo<R: Abort + AllocGlobal>(
     rt: &R,
-    run: &mut AnyRun,
+    run: &mut Example,
     p: u32,
     k: u32,
     expected: &str,
-) -> Result<(), Fail>
-    requires { IsTrueToSetup run.old }
-    ensures { IsTrueToSetup run.new }
-{
+) -> Result<(), Fail> {
     let answer = run.undo(p, k);
     let text = undone_text(rt, run, &answer)?;
     assert_eq!(rt; text.as_str(), expected);
@@ -79,14 +71,11 @@ fn undo<R: Abort + AllocGlobal>(
 /// Rolls a step back, and compares how many events were taken back.
 fn roll_back<R: Abort + AllocGlobal>(
     rt: &R,
-    run: &mut AnyRun,
+    run: &mut Example,
     p: u32,
     k: u32,
     expected: usize,
-) -> Result<(), Fail>
-    requires { IsTrueToSetup run.old }
-    ensures { IsTrueToSetup run.new }
-{
+) -> Result<(), Fail> {
     let mut taken = Vec::new(rt.alloc());
     let answer = run.rollback_onto(rt.alloc(), p, k, &mut taken)?;
     assert_eq!(rt; answer, Ok(expected));
@@ -187,7 +176,7 @@ fn a_loss_is_undone(rt: HostRuntime) -> Result<(), Fail> {
     let mut run = start(&rt, LOSSY)?;
     drive(&rt, &mut run, &LOST)?;
     undo(&rt, &mut run, 1, 2, "needed by lost 1#1 to 2")?;
-    let causes = run.causes_of_loss(rt.alloc(), 1, 1, 2);
+    let causes = run.any().causes_of_loss(rt.alloc(), 1, 1, 2);
     let causes = causes.ok().ok_or("no such loss")?;
     let text = names_text(rt.alloc(), causes.as_slice())?;
     assert_eq!(rt; text.as_str(), "because 1.2");
@@ -204,7 +193,7 @@ fn rollback_with_a_loss(rt: HostRuntime) -> Result<(), Fail> {
     let mut run = start(&rt, LOSSY)?;
     drive(&rt, &mut run, &LOST)?;
     roll_back(&rt, &mut run, 1, 1, 3)?;
-    assert!(&rt; run.history().is_empty());
+    assert!(&rt; run.any().history().is_empty());
     Ok(())
 }
 
@@ -215,6 +204,6 @@ fn rollback_of_a_loss(rt: HostRuntime) -> Result<(), Fail> {
     let mut taken = Vec::new(rt.alloc());
     let answer = run.rollback_lost_onto(rt.alloc(), 1, 1, 2, &mut taken)?;
     assert_eq!(rt; answer, Ok(1));
-    assert_eq!(rt; run.history().len(), 2);
+    assert_eq!(rt; run.any().history().len(), 2);
     Ok(())
 }

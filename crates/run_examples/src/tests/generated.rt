@@ -1,14 +1,11 @@
 //! Runs by many schedules that look like chance: undo and rollback compared with the slow way, and
 //! contention of three processes, in which no two decisions differ.
 
-ghost use Rattle.std.specs.Prelude.{IfOk};
-ghost use Rattle.cdb_run.specs.Any.{IsTrueToSetup};
-
+use super::example::Example;
 use super::script::{Turn, start, take};
 use super::setups::{ALPHA_PAIR, LOSSY, NO_MAJORITY, THREE_LEADERS, THREE_WRITERS};
 use super::twin::{roll_back_as_replayed, undo_as_replayed};
 use cdb_base::Act;
-use cdb_run::AnyRun;
 use std::process::Abort;
 use std::test::Fail;
 
@@ -42,9 +39,12 @@ impl Dice {
 }
 
 /// A run of the setup after that many turns, the refused ones among them.
-fn tumbled<R: AllocGlobal>(rt: &R, setup: &str, dice: &mut Dice, turns: u32) -> Result<AnyRun, Fail>
-    ensures { IfOk result IsTrueToSetup }
-{
+fn tumbled<R: AllocGlobal>(
+    rt: &R,
+    setup: &str,
+    dice: &mut Dice,
+    turns: u32,
+) -> Result<Example, Fail> {
     let mut run = start(rt, setup)?;
     for _ in 0..turns {
         let turn = dice.turn();
@@ -54,10 +54,12 @@ fn tumbled<R: AllocGlobal>(rt: &R, setup: &str, dice: &mut Dice, turns: u32) -> 
 }
 
 /// Takes an event of a run back, alone and with its consequences.
-fn take_one_back<R: Abort + AllocGlobal>(rt: &R, run: &AnyRun, dice: &mut Dice) -> Result<(), Fail>
-    requires { IsTrueToSetup run.now }
-{
-    let length = run.history().len();
+fn take_one_back<R: Abort + AllocGlobal>(
+    rt: &R,
+    run: &Example,
+    dice: &mut Dice,
+) -> Result<(), Fail> {
+    let length = run.any().history().len();
     let Ok(sides) = u32::try_from(length) else {
         return Ok(());
     };
@@ -105,10 +107,8 @@ fn three_writers_taken_back(rt: HostRuntime) -> Result<(), Fail> {
 }
 
 /// Whether there is a decision; no two of them may differ.
-fn has_one_value<R: Abort + AllocGlobal>(rt: &R, run: &AnyRun) -> Result<bool, Fail>
-    requires { IsTrueToSetup run.now }
-{
-    let decisions = run.decisions(rt.alloc())?;
+fn has_one_value<R: Abort + AllocGlobal>(rt: &R, run: &Example) -> Result<bool, Fail> {
+    let decisions = run.any().decisions(rt.alloc())?;
     let mut found: Option<u32> = None;
     for (_, value) in &decisions {
         let number = value.number();

@@ -29,7 +29,7 @@ fn one_process_decides(rt: HostRuntime) -> Result<(), Fail> {
         s: Proc::new(1),
         m: 3,
     };
-    assert_eq!(rt; run.payload(name).copied(), Some(Payload::D { est }));
+    assert_eq!(rt; run.any().payload(name).copied(), Some(Payload::D { est }));
     Ok(())
 }
 

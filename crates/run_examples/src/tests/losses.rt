@@ -29,13 +29,13 @@ fn a_lost_copy_does_not_arrive(rt: HostRuntime) -> Result<(), Fail> {
         s: Proc::new(1),
         m: 1,
     };
-    assert_eq!(rt; run.payload(name).copied(), Some(sent));
+    assert_eq!(rt; run.any().payload(name).copied(), Some(sent));
     let msg = MsgName {
         s: Proc::new(1),
         m: 1,
     };
     assert!(rt;
-        run.lost(CopyName {
+        run.any().lost(CopyName {
             msg,
             to: Proc::new(2)
         })
@@ -45,7 +45,7 @@ fn a_lost_copy_does_not_arrive(rt: HostRuntime) -> Result<(), Fail> {
         m: 1,
     };
     assert!(rt;
-        !run.lost(CopyName {
+        !run.any().lost(CopyName {
             msg,
             to: Proc::new(1)
         })

@@ -1,10 +1,10 @@
 //! Want of memory: a run is as it was, and answers the same when it is asked again. To see it, let each
 //! allocation of these tests fail in turn.
 
-ghost use Rattle.std.specs.Prelude.{◌≤◌, IfOk, IfSome};
+ghost use Rattle.std.specs.Prelude.{◌≤◌};
 ghost use Rattle.cdb_run.specs.Any.{standing_of, IsTrueToSetup};
 
-use super::again::is_of_run;
+use super::example::Example;
 use super::script::{Turn, take};
 use super::setups::{ALPHA_PAIR, LOSSY};
 use cdb_base::{Act, Event, NoMemory, Proc, Refusal, Reg};
@@ -42,10 +42,9 @@ fn is_same_register(one: &AnyRun, other: &AnyRun, register: &Reg) -> bool
 }
 
 /// Whether both runs show the same.
-pub fn look_same(one: &AnyRun, other: &AnyRun) -> bool
-    requires one { IsTrueToSetup one.now }
-    requires other { IsTrueToSetup other.now }
-{
+pub fn look_same(one: &Example, other: &Example) -> bool {
+    let one = one.any();
+    let other = other.any();
     let n = one.setup().n();
     if other.setup().n() != n {
         return false;
@@ -61,17 +60,13 @@ pub fn look_same(one: &AnyRun, other: &AnyRun) -> bool
     is_same_register(one, other, &Reg::Dec) && one.history() == other.history()
 }
 
-fn try_start(alloc: Global, setup: &str) -> Option<AnyRun>
-    ensures { IfSome result IsTrueToSetup }
-{
+fn try_start(alloc: Global, setup: &str) -> Option<Example> {
     let setup = Setup::read(alloc, setup.as_bytes()).ok()?;
-    AnyRun::start(alloc, setup).ok()
+    Example::of(alloc, setup).ok()
 }
 
 /// The run of a setup in which nothing has happened, at the second try if the first wants memory.
-fn start_again<R: AllocGlobal>(rt: &R, setup: &str) -> Result<AnyRun, Fail>
-    ensures { IfOk result IsTrueToSetup }
-{
+fn start_again<R: AllocGlobal>(rt: &R, setup: &str) -> Result<Example, Fail> {
     match try_start(rt.alloc(), setup) {
         Some(run) => Ok(run),
         None => Ok(try_start(rt.alloc(), setup).ok_or("no run")?),
@@ -82,14 +77,10 @@ fn start_again<R: AllocGlobal>(rt: &R, setup: &str) -> Result<AnyRun, Fail>
 /// behind it shows.
 fn take_at_last<R: Abort + AllocGlobal>(
     rt: &R,
-    run: &mut AnyRun,
-    behind: &AnyRun,
+    run: &mut Example,
+    behind: &Example,
     turn: &Turn,
-) -> Result<Result<Event, Refusal>, Fail>
-    requires run { IsTrueToSetup run.old }
-    requires behind { IsTrueToSetup behind.now }
-    ensures { IsTrueToSetup run.new }
-{
+) -> Result<Result<Event, Refusal>, Fail> {
     if let Ok(answer) = take(rt.alloc(), run, turn) {
         return Ok(answer);
     }
@@ -100,12 +91,9 @@ fn take_at_last<R: Abort + AllocGlobal>(
 /// Takes the turn in the run that is behind, and again where memory was wanting.
 fn catch_up<R: AllocGlobal>(
     rt: &R,
-    behind: &mut AnyRun,
+    behind: &mut Example,
     turn: &Turn,
-) -> Result<Result<Event, Refusal>, Fail>
-    requires { IsTrueToSetup behind.old }
-    ensures { IsTrueToSetup behind.new }
-{
+) -> Result<Result<Event, Refusal>, Fail> {
     if let Ok(answer) = take(rt.alloc(), behind, turn) {
         return Ok(answer);
     }
@@ -120,15 +108,10 @@ fn is_same_answer(one: &Result<Event, Refusal>, other: &Result<Event, Refusal>) 
 /// Takes the turn in a run and in the one behind it, and compares the answers and what both show then.
 fn take_in_both<R: Abort + AllocGlobal>(
     rt: &R,
-    run: &mut AnyRun,
-    behind: &mut AnyRun,
+    run: &mut Example,
+    behind: &mut Example,
     turn: &Turn,
-) -> Result<(), Fail>
-    requires run { IsTrueToSetup run.old }
-    requires behind { IsTrueToSetup behind.old }
-    ensures run { IsTrueToSetup run.new }
-    ensures behind { IsTrueToSetup behind.new }
-{
+) -> Result<(), Fail> {
     let answer = take_at_last(rt, run, behind, turn)?;
     let expected = catch_up(rt, behind, turn)?;
     assert!(rt; is_same_answer(&answer, &expected));
@@ -138,9 +121,11 @@ fn take_in_both<R: Abort + AllocGlobal>(
 
 /// Takes the turns in two runs, the second always a turn behind the first, and asks again where memory
 /// was wanting.
-fn take_turns<R: Abort + AllocGlobal>(rt: &R, setup: &str, turns: &[Turn]) -> Result<AnyRun, Fail>
-    ensures { IfOk result IsTrueToSetup }
-{
+fn take_turns<R: Abort + AllocGlobal>(
+    rt: &R,
+    setup: &str,
+    turns: &[Turn],
+) -> Result<Example, Fail> {
     let mut run = start_again(rt, setup)?;
     let mut behind = start_again(rt, setup)?;
     for turn in turns {
@@ -152,28 +137,20 @@ fn take_turns<R: Abort + AllocGlobal>(rt: &R, setup: &str, turns: &[Turn]) -> Re
 /// Takes the event of the run again.
 fn take_event<R: Abort + AllocGlobal>(
     rt: &R,
-    run: &mut AnyRun,
+    run: &mut Example,
     event: &Event,
-) -> Result<bool, NoMemory>
-    requires { IsTrueToSetup run.old }
-    ensures { IsTrueToSetup run.new }
-{
-    assert!(rt; is_of_run(run.setup(), event));
-    Ok(run.again(rt.alloc(), event)?.is_ok())
+) -> Result<bool, NoMemory> {
+    Ok(run.again(rt, event)?.is_ok())
 }
 
 /// Takes the event again, and once more where memory was wanting, after which the run shows what the
 /// one behind it shows.
 fn take_event_at_last<R: Abort + AllocGlobal>(
     rt: &R,
-    run: &mut AnyRun,
-    behind: &AnyRun,
+    run: &mut Example,
+    behind: &Example,
     event: &Event,
-) -> Result<bool, NoMemory>
-    requires run { IsTrueToSetup run.old }
-    requires behind { IsTrueToSetup behind.now }
-    ensures { IsTrueToSetup run.new }
-{
+) -> Result<bool, NoMemory> {
     if let Ok(is_taken) = take_event(rt, run, event) {
         return Ok(is_taken);
     }
@@ -184,15 +161,10 @@ fn take_event_at_last<R: Abort + AllocGlobal>(
 /// Takes the event again in a run and in the one behind it, and compares what both show then.
 fn take_event_in_both<R: Abort + AllocGlobal>(
     rt: &R,
-    run: &mut AnyRun,
-    behind: &mut AnyRun,
+    run: &mut Example,
+    behind: &mut Example,
     event: &Event,
-) -> Result<(), NoMemory>
-    requires run { IsTrueToSetup run.old }
-    requires behind { IsTrueToSetup behind.old }
-    ensures run { IsTrueToSetup run.new }
-    ensures behind { IsTrueToSetup behind.new }
-{
+) -> Result<(), NoMemory> {
     assert!(rt; take_event_at_last(rt, run, behind, event)?);
     if take_event(rt, behind, event).is_err() {
         assert!(rt; take_event(rt, behind, event)?);
@@ -202,12 +174,10 @@ fn take_event_in_both<R: Abort + AllocGlobal>(
 }
 
 /// Takes the events of a run again in two others, as `take_turns` takes turns.
-fn take_events<R: Abort + AllocGlobal>(rt: &R, setup: &str, ahead: &AnyRun) -> Result<(), Fail>
-    requires { IsTrueToSetup ahead.now }
-{
+fn take_events<R: Abort + AllocGlobal>(rt: &R, setup: &str, ahead: &Example) -> Result<(), Fail> {
     let mut run = start_again(rt, setup)?;
     let mut behind = start_again(rt, setup)?;
-    for event in ahead.history() {
+    for event in ahead.any().history() {
         take_event_in_both(rt, &mut run, &mut behind, event)?;
     }
     assert!(rt; look_same(&run, ahead));
@@ -232,13 +202,13 @@ const TWELVE_STEPS: [Turn; 12] = [Turn::Auto(1); 12];
 #[test]
 fn messages_without_memory(rt: HostRuntime) -> Result<(), Fail> {
     let run = take_turns(&rt, LOSSY, &WITH_LOSSES)?;
-    assert_eq!(rt; run.history().len(), 9);
+    assert_eq!(rt; run.any().history().len(), 9);
     take_events(&rt, LOSSY, &run)
 }
 
 #[test]
 fn registers_without_memory(rt: HostRuntime) -> Result<(), Fail> {
     let run = take_turns(&rt, ALPHA_PAIR, &TWELVE_STEPS)?;
-    assert_eq!(rt; run.history().len(), 12);
+    assert_eq!(rt; run.any().history().len(), 12);
     take_events(&rt, ALPHA_PAIR, &run)
 }

@@ -1,25 +1,20 @@
 //! Examples of two runs that are in the same state, and of two that are not.
 
-ghost use Rattle.std.specs.Prelude.{IfOk};
-ghost use Rattle.cdb_run.specs.Any.{IsTrueToSetup};
-
 use super::again::is_of_run;
+use super::example::Example;
 use super::script::{Turn, cell_text, decisions_text, drive, process_text, repeat, start};
 use super::setups::{ALONE, ALPHA_PAIR, LOSSY, NO_MAJORITY};
 use cdb_base::{Act, Proc, Reg};
 use cdb_leader::Leader;
-use cdb_run::{AnyRun, Run};
+use cdb_run::Run;
 use cdb_setup::Setup;
 use std::process::Abort;
 use std::test::Fail;
 
 /// Whether two runs of one setup are in the same state.
-fn are_same<R: Abort>(rt: &R, one: &AnyRun, other: &AnyRun) -> bool
-    requires one { IsTrueToSetup one.now }
-    requires other { IsTrueToSetup other.now }
-{
-    assert!(rt; one.setup() == other.setup());
-    one.same_run(other)
+fn are_same<R: Abort>(rt: &R, one: &Example, other: &Example) -> bool {
+    assert!(rt; one.any().setup() == other.any().setup());
+    one.any().same_run(other.any())
 }
 
 const FIRST_ASKS: (Turn, &str) = (Turn::Step(1, Act::Query(None)), "1.1 query 1");
@@ -52,9 +47,7 @@ fn queries_with_other_answers(rt: HostRuntime) -> Result<(), Fail> {
 
 /// The run of two processes of Alpha in which both have chosen 7 and are about to write it to the
 /// register of the decision.
-fn both_before_the_decision<R: Abort + AllocGlobal>(rt: &R) -> Result<AnyRun, Fail>
-    ensures { IfOk result IsTrueToSetup }
-{
+fn both_before_the_decision<R: Abort + AllocGlobal>(rt: &R) -> Result<Example, Fail> {
     let mut run = start(rt, ALPHA_PAIR)?;
     repeat(rt, &mut run, 1, 10, "1.10 local")?;
     repeat(rt, &mut run, 2, 10, "2.10 local")?;
@@ -68,9 +61,7 @@ const SECOND_WRITES: (Turn, &str) = (Turn::Step(2, Act::Go), "2.11 write dec");
 const FIRST_READS: (Turn, &str) = (Turn::Step(1, Act::Go), "1.12 read dec decides 7");
 
 /// How far both processes have come, what the registers hold, and the decisions that stand, in words.
-fn shown<R: Abort + AllocGlobal>(rt: &R, run: &AnyRun) -> Result<String, Fail>
-    requires { IsTrueToSetup run.now }
-{
+fn shown<R: Abort + AllocGlobal>(rt: &R, run: &Example) -> Result<String, Fail> {
     let one = process_text(rt, run, 1)?;
     let two = process_text(rt, run, 2)?;
     let first = cell_text(rt, run, &Reg::R(Proc::new(1)))?;

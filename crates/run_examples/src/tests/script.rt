@@ -1,10 +1,7 @@
 //! Turns of an example, and what they are answered, in words.
 
-ghost use Rattle.std.specs.Prelude.{◌≡◌, ◌≤◌, IsTrue, IfOk};
-ghost use Rattle.cdb_run.specs.Any.{standing_of, IsTrueToSetup};
-
+use super::example::Example;
 use cdb_base::{Act, Cell, Event, Kind, MsgName, NoMemory, Proc, Refusal, Reg};
-use cdb_run::AnyRun;
 use cdb_setup::Setup;
 use std::alloc::Global;
 use std::process::Abort;
@@ -22,17 +19,14 @@ pub enum Turn {
 }
 
 /// The run of a setup in which nothing has happened.
-pub fn start<R: AllocGlobal>(rt: &R, setup: &str) -> Result<AnyRun, Fail>
-    ensures { IfOk result IsTrueToSetup }
-{
+pub fn start<R: AllocGlobal>(rt: &R, setup: &str) -> Result<Example, Fail> {
     let setup = Setup::read(rt.alloc(), setup.as_bytes())?;
-    Ok(AnyRun::start(rt.alloc(), setup)?)
+    Ok(Example::of(rt.alloc(), setup)?)
 }
 
 /// What process `p` can do, of all that it can do the first.
-fn choose(run: &AnyRun, p: u32) -> Option<Act>
-    requires { IsTrueToSetup run.now }
-{
+fn choose(run: &Example, p: u32) -> Option<Act> {
+    let run = run.any();
     let n = run.setup().n();
     if p < 1 || p > u32::from(n) {
         return None;
@@ -52,12 +46,9 @@ fn choose(run: &AnyRun, p: u32) -> Option<Act>
 /// Takes a turn.
 pub fn take(
     alloc: Global,
-    run: &mut AnyRun,
+    run: &mut Example,
     turn: &Turn,
-) -> Result<Result<Event, Refusal>, NoMemory>
-    requires { IsTrueToSetup run.old }
-    ensures { IsTrueToSetup run.new }
-{
+) -> Result<Result<Event, Refusal>, NoMemory> {
     match *turn {
         Turn::Step(p, act) => run.step(alloc, p, act),
         Turn::Auto(p) => match choose(run, p) {
@@ -98,11 +89,10 @@ fn kind_text(alloc: Global, p: Proc, kind: &Kind) -> Result<String, NoMemory> {
 /// What a turn was answered, in words. A step after which a decision of its process stands gave it.
 pub fn told<R: Abort + AllocGlobal>(
     rt: &R,
-    run: &AnyRun,
+    run: &Example,
     answer: &Result<Event, Refusal>,
-) -> Result<String, Fail>
-    requires { IsTrueToSetup run.now }
-{
+) -> Result<String, Fail> {
+    let run = run.any();
     let text = match *answer {
         Ok(Event::Step { p, k, kind }) => {
             let kind = kind_text(rt.alloc(), p, &kind)?;
@@ -127,12 +117,9 @@ pub fn told<R: Abort + AllocGlobal>(
 /// Takes the turns of an example, and compares each answer with the one beside it.
 pub fn drive<R: Abort + AllocGlobal>(
     rt: &R,
-    run: &mut AnyRun,
+    run: &mut Example,
     example: &[(Turn, &str)],
-) -> Result<(), Fail>
-    requires { IsTrueToSetup run.old }
-    ensures { IsTrueToSetup run.new }
-{
+) -> Result<(), Fail> {
     for (turn, expected) in example {
         let answer = take(rt.alloc(), run, turn)?;
         let text = told(rt, run, &answer)?;
@@ -144,14 +131,11 @@ pub fn drive<R: Abort + AllocGlobal>(
 /// Lets process `p` do that many times what it can, and compares the last answer.
 pub fn repeat<R: Abort + AllocGlobal>(
     rt: &R,
-    run: &mut AnyRun,
+    run: &mut Example,
     p: u32,
     times: u32,
     last: &str,
-) -> Result<(), Fail>
-    requires { IsTrueToSetup run.old }
-    ensures { IsTrueToSetup run.new }
-{
+) -> Result<(), Fail> {
     let mut text = format!(in rt.alloc(); "")?;
     for _ in 0..times {
         let answer = take(rt.alloc(), run, &Turn::Auto(p))?;
@@ -163,9 +147,8 @@ pub fn repeat<R: Abort + AllocGlobal>(
 }
 
 /// The decisions that stand, in words.
-pub fn decisions_text<R: AllocGlobal>(rt: &R, run: &AnyRun) -> Result<String, Fail>
-    requires { IsTrueToSetup run.now }
-{
+pub fn decisions_text<R: AllocGlobal>(rt: &R, run: &Example) -> Result<String, Fail> {
+    let run = run.any();
     let mut text = format!(in rt.alloc(); "decisions")?;
     for (p, value) in run.decisions(rt.alloc())? {
         text = format!(in rt.alloc(); "{text} {}={}", p.number(), value.number())?;
@@ -174,9 +157,8 @@ pub fn decisions_text<R: AllocGlobal>(rt: &R, run: &AnyRun) -> Result<String, Fa
 }
 
 /// How far process `p` has come, in words.
-pub fn process_text<R: Abort + AllocGlobal>(rt: &R, run: &AnyRun, p: u8) -> Result<String, Fail>
-    requires { IsTrueToSetup run.now }
-{
+pub fn process_text<R: Abort + AllocGlobal>(rt: &R, run: &Example, p: u8) -> Result<String, Fail> {
+    let run = run.any();
     assert!(rt; 1 <= p);
     assert!(rt; p <= run.setup().n());
     assert!(rt; p <= 9);
@@ -200,11 +182,10 @@ pub fn process_text<R: Abort + AllocGlobal>(rt: &R, run: &AnyRun, p: u8) -> Resu
 /// What the register holds, in words; without a value `none`.
 pub fn cell_text<R: Abort + AllocGlobal>(
     rt: &R,
-    run: &AnyRun,
+    run: &Example,
     register: &Reg,
-) -> Result<String, Fail>
-    requires { IsTrueToSetup run.now }
-{
+) -> Result<String, Fail> {
+    let run = run.any();
     assert!(rt; run.has(*register));
     let Cell { lre, lrww, val } = run.cell(*register);
     let writes = run.writes(*register);
@@ -221,9 +202,8 @@ pub fn cell_text<R: Abort + AllocGlobal>(
 }
 
 /// The messages of which process `p` has a copy to receive, in words.
-pub fn pending_text<R: Abort + AllocGlobal>(rt: &R, run: &AnyRun, p: u8) -> Result<String, Fail>
-    requires { IsTrueToSetup run.now }
-{
+pub fn pending_text<R: Abort + AllocGlobal>(rt: &R, run: &Example, p: u8) -> Result<String, Fail> {
+    let run = run.any();
     assert!(rt; 1 <= p);
     assert!(rt; p <= 9);
     assert!(rt; p <= run.setup().n());

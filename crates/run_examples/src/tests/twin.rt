@@ -1,26 +1,21 @@
 //! Undo and rollback the slow way. Which events have to go is read off the history, and what remains is
 //! taken again, one event after another, in a new run; the run that took them back has to look like it.
 
-ghost use Rattle.std.specs.Prelude.{◌≡◌, ◌<◌, length, IfOk};
-ghost use Rattle.cdb_run.specs.Any.{IsTrueToSetup};
+ghost use Rattle.std.specs.Prelude.{◌<◌, length};
 
-use super::again::is_of_run;
+use super::example::Example;
 use super::leader::{FIRST_VALUE, SECOND_VALUE};
 use super::memory::look_same;
 use super::script::{Turn, drive, start, take};
 use super::setups::{ALPHA_PAIR, LOSSY, NO_MAJORITY, ONE_LEADER};
 use cdb_base::{Act, Event, Kind, NoMemory, Refusal, Reg, StepId};
 use cdb_causal::depends;
-use cdb_run::AnyRun;
 use std::alloc::Global;
 use std::process::Abort;
 use std::test::Fail;
 
 /// Takes turns, none of which is refused.
-fn play<R: Abort + AllocGlobal>(rt: &R, run: &mut AnyRun, turns: &[Turn]) -> Result<(), Fail>
-    requires { IsTrueToSetup run.old }
-    ensures { IsTrueToSetup run.new }
-{
+fn play<R: Abort + AllocGlobal>(rt: &R, run: &mut Example, turns: &[Turn]) -> Result<(), Fail> {
     for turn in turns {
         let answer = take(rt.alloc(), run, turn)?;
         assert!(rt; answer.is_ok());
@@ -29,16 +24,16 @@ fn play<R: Abort + AllocGlobal>(rt: &R, run: &mut AnyRun, turns: &[Turn]) -> Res
 }
 
 /// A new run in which the events of another stand, save those that are gone.
-fn replayed<R: Abort + AllocGlobal>(rt: &R, run: &AnyRun, gone: &[Event]) -> Result<AnyRun, Fail>
-    requires { IsTrueToSetup run.now }
-    ensures { IfOk result IsTrueToSetup }
-{
-    let setup = run.setup().copy(rt.alloc())?;
-    let mut other = AnyRun::start(rt.alloc(), setup)?;
-    for event in run.history() {
+fn replayed<R: Abort + AllocGlobal>(
+    rt: &R,
+    run: &Example,
+    gone: &[Event],
+) -> Result<Example, Fail> {
+    let setup = run.any().setup().copy(rt.alloc())?;
+    let mut other = Example::of(rt.alloc(), setup)?;
+    for event in run.any().history() {
         if !gone.contains(event) {
-            assert!(rt; is_of_run(other.setup(), event));
-            let answer = other.again(rt.alloc(), event)?;
+            let answer = other.again(rt, event)?;
             assert!(rt; answer.is_ok());
         }
     }
@@ -77,10 +72,7 @@ fn with_consequences(alloc: Global, history: &[Event], i: usize) -> Result<Vec<E
     Ok(found)
 }
 
-fn undo(run: &mut AnyRun, event: &Event) -> Result<Event, Refusal>
-    requires { IsTrueToSetup run.old }
-    ensures { IsTrueToSetup run.new }
-{
+fn undo(run: &mut Example, event: &Event) -> Result<Event, Refusal> {
     match event {
         Event::Step { p, k, .. } => run.undo(u32::from(p.number()), u32::from(*k)),
         Event::Lost(copy) => {
@@ -92,12 +84,9 @@ fn undo(run: &mut AnyRun, event: &Event) -> Result<Event, Refusal>
 
 fn roll_back(
     alloc: Global,
-    run: &mut AnyRun,
+    run: &mut Example,
     event: &Event,
-) -> Result<Result<Vec<Event>, Refusal>, NoMemory>
-    requires { IsTrueToSetup run.old }
-    ensures { IsTrueToSetup run.new }
-{
+) -> Result<Result<Vec<Event>, Refusal>, NoMemory> {
     match event {
         Event::Step { p, k, .. } => run.rollback(alloc, u32::from(p.number()), u32::from(*k)),
         Event::Lost(copy) => {
@@ -110,13 +99,10 @@ fn roll_back(
 /// Compares a run with the one that the replay without some events leads to.
 fn compare_with_replay<R: Abort + AllocGlobal>(
     rt: &R,
-    run: &AnyRun,
-    fast: &AnyRun,
+    run: &Example,
+    fast: &Example,
     gone: &[Event],
-) -> Result<(), Fail>
-    requires run { IsTrueToSetup run.now }
-    requires fast { IsTrueToSetup fast.now }
-{
+) -> Result<(), Fail> {
     let slow = replayed(rt, run, gone)?;
     assert!(rt; look_same(fast, &slow));
     Ok(())
@@ -125,14 +111,11 @@ fn compare_with_replay<R: Abort + AllocGlobal>(
 /// Undoes the event at place `i` in a twin of the run.
 fn undo_in_twin<R: Abort + AllocGlobal>(
     rt: &R,
-    run: &AnyRun,
-    twin: &mut AnyRun,
+    run: &Example,
+    twin: &mut Example,
     i: usize,
-) -> Result<(), Fail>
-    requires run { IsTrueToSetup run.now }
-    requires twin { IsTrueToSetup twin.old }
-{
-    let history = run.history();
+) -> Result<(), Fail> {
+    let history = run.any().history();
     assert!(rt; i < history.len());
     let answer = undo(twin, &history[i]);
     match first_needing(history, i) {
@@ -149,9 +132,11 @@ fn undo_in_twin<R: Abort + AllocGlobal>(
 }
 
 /// Undoes the event at place `i` in a run of its own.
-pub fn undo_as_replayed<R: Abort + AllocGlobal>(rt: &R, run: &AnyRun, i: usize) -> Result<(), Fail>
-    requires { IsTrueToSetup run.now }
-{
+pub fn undo_as_replayed<R: Abort + AllocGlobal>(
+    rt: &R,
+    run: &Example,
+    i: usize,
+) -> Result<(), Fail> {
     let mut twin = replayed(rt, run, &[])?;
     undo_in_twin(rt, run, &mut twin, i)
 }
@@ -159,14 +144,11 @@ pub fn undo_as_replayed<R: Abort + AllocGlobal>(rt: &R, run: &AnyRun, i: usize) 
 /// Rolls the event at place `i` back in a twin of the run.
 fn roll_back_in_twin<R: Abort + AllocGlobal>(
     rt: &R,
-    run: &AnyRun,
-    twin: &mut AnyRun,
+    run: &Example,
+    twin: &mut Example,
     i: usize,
-) -> Result<(), Fail>
-    requires run { IsTrueToSetup run.now }
-    requires twin { IsTrueToSetup twin.old }
-{
-    let history = run.history();
+) -> Result<(), Fail> {
+    let history = run.any().history();
     assert!(rt; i < history.len());
     let answer = roll_back(rt.alloc(), twin, &history[i])?;
     let mut taken = answer.ok().ok_or("a standing event is not rolled back")?;
@@ -179,20 +161,16 @@ fn roll_back_in_twin<R: Abort + AllocGlobal>(
 /// Rolls the event at place `i` back in a run of its own.
 pub fn roll_back_as_replayed<R: Abort + AllocGlobal>(
     rt: &R,
-    run: &AnyRun,
+    run: &Example,
     i: usize,
-) -> Result<(), Fail>
-    requires { IsTrueToSetup run.now }
-{
+) -> Result<(), Fail> {
     let mut twin = replayed(rt, run, &[])?;
     roll_back_in_twin(rt, run, &mut twin, i)
 }
 
 /// Takes each event of a run back in a run of its own, alone and with its consequences.
-fn take_each_back<R: Abort + AllocGlobal>(rt: &R, run: &AnyRun) -> Result<(), Fail>
-    requires { IsTrueToSetup run.now }
-{
-    for i in 0..run.history().len() {
+fn take_each_back<R: Abort + AllocGlobal>(rt: &R, run: &Example) -> Result<(), Fail> {
+    for i in 0..run.any().history().len() {
         undo_as_replayed(rt, run, i)?;
         roll_back_as_replayed(rt, run, i)?;
     }
