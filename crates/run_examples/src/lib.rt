@@ -1,4 +1,4 @@
-//! Worked examples of runs of both algorithms, on the calls of `AnyRun`.
+//! Runs by generated schedules and with want of memory, on the calls of `AnyRun`.
 #![tactic(auto)]
 
 #[cfg(test)]

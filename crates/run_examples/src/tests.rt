@@ -1,12 +1,6 @@
-mod again;
-mod alpha;
-mod back;
 mod example;
 mod generated;
-mod leader;
-mod losses;
 mod memory;
-mod same;
 mod script;
 mod setups;
 mod twin;

@@ -1,14 +1,31 @@
 //! The run of an example, which runs the algorithm that its setup names.
 
+ghost use Rattle.std.specs.Prelude.{IsTrue};
 ghost use Rattle.cdb_run.specs.Any.{standing_of, IsTrueToSetup};
+ghost use Rattle.cdb_run.specs.Refusals.{IsOfRun};
 
-use super::again::is_of_run;
-use cdb_base::{Act, Event, NoMemory, Refusal};
+use cdb_base::{Act, Event, Kind, NoMemory, Refusal};
 use cdb_run::AnyRun;
 use cdb_setup::Setup;
 use std::alloc::Global;
 use std::marker::Model;
 use std::process::Abort;
+
+/// Whether a run of the setup can have the event.
+fn is_of_run(setup: &Setup, event: &Event) -> bool
+    ensures { IsTrue result → IsOfRun setup.now event.now }
+{
+    match event {
+        Event::Step { p, k, kind } => {
+            let names_process = match kind {
+                Kind::Query(leader) => leader.number() <= setup.n(),
+                _ => true,
+            };
+            p.number() <= setup.n() && 1 <= *k && *k <= 9_999 && names_process
+        }
+        Event::Lost(copy) => setup.version() == 2 && copy.to.number() <= setup.n(),
+    }
+}
 
 /// The run of an example. Its calls are those of the run that it holds.
 #[derive(Drop)]
@@ -95,26 +112,5 @@ impl Example {
         p: u32,
     ) -> Result<Result<Vec<Event>, Refusal>, NoMemory> {
         self.run.rollback_lost(alloc, s, m, p)
-    }
-
-    pub fn rollback_onto(
-        &mut self,
-        alloc: Global,
-        p: u32,
-        k: u32,
-        taken: &mut Vec<Event>,
-    ) -> Result<Result<usize, Refusal>, NoMemory> {
-        self.run.rollback_onto(alloc, p, k, taken)
-    }
-
-    pub fn rollback_lost_onto(
-        &mut self,
-        alloc: Global,
-        s: u32,
-        m: u32,
-        p: u32,
-        taken: &mut Vec<Event>,
-    ) -> Result<Result<usize, Refusal>, NoMemory> {
-        self.run.rollback_lost_onto(alloc, s, m, p, taken)
     }
 }

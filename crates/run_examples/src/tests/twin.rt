@@ -4,24 +4,12 @@
 ghost use Rattle.std.specs.Prelude.{◌<◌, length};
 
 use super::example::Example;
-use super::leader::{FIRST_VALUE, SECOND_VALUE};
 use super::memory::look_same;
-use super::script::{Turn, drive, start, take};
-use super::setups::{ALPHA_PAIR, LOSSY, NO_MAJORITY, ONE_LEADER};
-use cdb_base::{Act, Event, Kind, NoMemory, Refusal, Reg, StepId};
+use cdb_base::{Event, Kind, NoMemory, Refusal, Reg, StepId};
 use cdb_causal::depends;
 use std::alloc::Global;
 use std::process::Abort;
 use std::test::Fail;
-
-/// Takes turns, none of which is refused.
-fn play<R: Abort + AllocGlobal>(rt: &R, run: &mut Example, turns: &[Turn]) -> Result<(), Fail> {
-    for turn in turns {
-        let answer = take(rt.alloc(), run, turn)?;
-        assert!(rt; answer.is_ok());
-    }
-    Ok(())
-}
 
 /// A new run in which the events of another stand, save those that are gone.
 fn replayed<R: Abort + AllocGlobal>(
@@ -166,59 +154,4 @@ pub fn roll_back_as_replayed<R: Abort + AllocGlobal>(
 ) -> Result<(), Fail> {
     let mut twin = replayed(rt, run, &[])?;
     roll_back_in_twin(rt, run, &mut twin, i)
-}
-
-/// Takes each event of a run back in a run of its own, alone and with its consequences.
-fn take_each_back<R: Abort + AllocGlobal>(rt: &R, run: &Example) -> Result<(), Fail> {
-    for i in 0..run.any().history().len() {
-        undo_as_replayed(rt, run, i)?;
-        roll_back_as_replayed(rt, run, i)?;
-    }
-    Ok(())
-}
-
-#[test]
-fn two_alone_taken_back(rt: HostRuntime) -> Result<(), Fail> {
-    let mut run = start(&rt, NO_MAJORITY)?;
-    drive(&rt, &mut run, &FIRST_VALUE)?;
-    drive(&rt, &mut run, &SECOND_VALUE)?;
-    take_each_back(&rt, &run)
-}
-
-#[test]
-fn two_with_one_leader_taken_back(rt: HostRuntime) -> Result<(), Fail> {
-    let mut run = start(&rt, ONE_LEADER)?;
-    play(&rt, &mut run, &[Turn::Auto(1); 3])?;
-    play(&rt, &mut run, &[Turn::Auto(2); 7])?;
-    play(&rt, &mut run, &[Turn::Auto(1); 7])?;
-    play(&rt, &mut run, &[Turn::Auto(2); 4])?;
-    take_each_back(&rt, &run)
-}
-
-#[test]
-fn registers_taken_back(rt: HostRuntime) -> Result<(), Fail> {
-    let mut run = start(&rt, ALPHA_PAIR)?;
-    play(&rt, &mut run, &[Turn::Auto(1); 3])?;
-    play(&rt, &mut run, &[Turn::Auto(2); 4])?;
-    play(&rt, &mut run, &[Turn::Auto(1); 3])?;
-    take_each_back(&rt, &run)
-}
-
-const WITH_LOSSES: [Turn; 9] = [
-    Turn::Auto(1),
-    Turn::Auto(1),
-    Turn::Lose(1, 1, 2),
-    Turn::Auto(1),
-    Turn::Auto(2),
-    Turn::Auto(2),
-    Turn::Lose(2, 1, 1),
-    Turn::Auto(2),
-    Turn::Step(1, Act::Crash),
-];
-
-#[test]
-fn losses_taken_back(rt: HostRuntime) -> Result<(), Fail> {
-    let mut run = start(&rt, LOSSY)?;
-    play(&rt, &mut run, &WITH_LOSSES)?;
-    take_each_back(&rt, &run)
 }
