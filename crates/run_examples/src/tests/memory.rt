@@ -174,14 +174,17 @@ fn take_event_in_both<R: Abort + AllocGlobal>(
 }
 
 /// Takes the events of a run again in two others, as `take_turns` takes turns.
-fn take_events<R: Abort + AllocGlobal>(rt: &R, setup: &str, ahead: &Example) -> Result<(), Fail> {
+fn take_events<R: Abort + AllocGlobal>(
+    rt: &R,
+    setup: &str,
+    events: &[Event],
+) -> Result<Example, Fail> {
     let mut run = start_again(rt, setup)?;
     let mut behind = start_again(rt, setup)?;
-    for event in ahead.any().history() {
+    for event in events {
         take_event_in_both(rt, &mut run, &mut behind, event)?;
     }
-    assert!(rt; look_same(&run, ahead));
-    Ok(())
+    Ok(run)
 }
 
 const WITH_LOSSES: [Turn; 10] = [
@@ -203,12 +206,16 @@ const TWELVE_STEPS: [Turn; 12] = [Turn::Auto(1); 12];
 fn messages_without_memory(rt: HostRuntime) -> Result<(), Fail> {
     let run = take_turns(&rt, LOSSY, &WITH_LOSSES)?;
     assert_eq!(rt; run.any().history().len(), 9);
-    take_events(&rt, LOSSY, &run)
+    let again = take_events(&rt, LOSSY, run.any().history())?;
+    assert!(rt; look_same(&again, &run));
+    Ok(())
 }
 
 #[test]
 fn registers_without_memory(rt: HostRuntime) -> Result<(), Fail> {
     let run = take_turns(&rt, ALPHA_PAIR, &TWELVE_STEPS)?;
     assert_eq!(rt; run.any().history().len(), 12);
-    take_events(&rt, ALPHA_PAIR, &run)
+    let again = take_events(&rt, ALPHA_PAIR, run.any().history())?;
+    assert!(rt; look_same(&again, &run));
+    Ok(())
 }
