@@ -2,5 +2,4 @@ mod gates;
 mod limits;
 mod opening;
 mod races;
-mod seats;
 mod sessions;

@@ -1,9 +1,9 @@
-//! A full journal, and want of memory: to see it, let each allocation of these tests fail in turn.
+//! A full journal.
 
 ghost use Rattle.std.specs.Prelude.{◌≡◌, ◌≤◌};
 
 use super::gates::{Before, OPEN};
-use super::opening::{ALONE, control_of, pair, say, share};
+use super::opening::{ALONE, control_of, say, share};
 use cdb_control::{Command, Control, RunOfSetup};
 use cdb_shared::{End, drive, serve};
 use std::test::Fail;
@@ -32,29 +32,4 @@ fn the_journal_is_full_in_the_middle(rt: HostRuntime) -> Result<(), Fail> {
     let (_, count, end) = drive(&shared, &rt, rt.alloc(), seat, Before(OPEN), 1, 8);
     assert_eq!(rt; (count, end), (0, End::JournalFull));
     Ok(())
-}
-
-#[test]
-fn sessions_without_memory(rt: HostRuntime) -> Result<(), Fail> {
-    let (shared, a, b) = pair(&rt, ALONE)?;
-    let (a, mut count, mut end) = drive(&shared, &rt, rt.alloc(), a, Before(OPEN), 1, 8);
-    if end == End::NoMemory {
-        let (_, more, last) = drive(&shared, &rt, rt.alloc(), a, Before(OPEN), 1, 8 - count);
-        count += more;
-        end = last;
-    }
-    assert_eq!(rt; (count, end), (8, End::All));
-    let commands = [Command::Undo(1, 8), Command::Redo, Command::Decisions];
-    let (b, replies, end) = serve(&shared, &rt, rt.alloc(), b, Before(OPEN), &commands);
-    let mut texts = replies;
-    if end == End::NoMemory {
-        let left = &commands[texts.len()..];
-        let (_, mut more, _) = serve(&shared, &rt, rt.alloc(), b, Before(OPEN), left);
-        texts.append(&mut more)?;
-    }
-    say(
-        &rt,
-        &texts,
-        "undone 1.8 send 1#3\nredone 1.8 send 1#3 decides 7\ndecisions 1=7\n",
-    )
 }

@@ -59,13 +59,6 @@ pub fn pair<R: Wait + AllocGlobal>(rt: &R, setup: &str) -> Result<(Shared, Seat,
     Ok((shared, first, second))
 }
 
-/// Compares the text of a reply with what is expected.
-pub fn says<R: Abort + AllocGlobal>(rt: &R, reply: &Reply, expected: &str) -> Result<(), Fail> {
-    let text = reply_text(rt.alloc(), reply)?;
-    assert_eq!(rt; text.as_slice(), expected.as_bytes());
-    Ok(())
-}
-
 /// Compares the texts of replies, one after the other, with what is expected.
 pub fn say<R: Abort + AllocGlobal>(rt: &R, replies: &[Reply], expected: &str) -> Result<(), Fail> {
     let mut texts = Vec::new(rt.alloc());
