@@ -163,7 +163,8 @@ pub struct Raced {
 
 /// Drives each process by so many turns and serves each script, each in a thread of its own, and joins
 /// them all. The seats and the gates of the processes come first, and then those of the scripts; there
-/// are at most 64. Of several faults the one of the least seat is answered, and the race leaves nothing.
+/// are at most 64. Of several faults of sessions the one of the least seat is answered, which `collect` says
+/// and this contract does not; the race leaves nothing then.
 pub fn race<G: Gate + Drop + Send, R: Threads + Wait + Sync>(
     rt: &R,
     alloc: Global,
