@@ -6,6 +6,7 @@ pub mod Cells
 pub mod Nameable
 pub mod Removed
 pub mod Table
+pub mod Room
 pub mod Along
 pub mod Steps
 pub mod Refused

@@ -1,13 +1,16 @@
 -- Commands that share a word of the table.
-use Rattle.std.proofs.Common.{◌≡◌, ℕ, List, ◌++◌, length, Result, Ok, Err, OnErr, refl, sym, ◌∙◌}
+use Rattle.std.proofs.Common.{◌≡◌, ℕ, zero, suc, ◌-◌, List, [], ◌∷◌, ◌++◌, length, set, get_or, Option, Some, Result, Ok, Err, refl, sym, ap, ◌∙◌}
 use Rattle.cdb_base.specs.declared.act.Act.{Act}
 use Rattle.cdb_base.specs.declared.event.Event.{Event}
 use Rattle.cdb_base.specs.declared.refusal.Refusal.{Refusal}
-use Rattle.cdb_control.specs.Commands.{Outcome, step, undo, rollback, why, outcome}
+use Rattle.cdb_base.specs.declared.refusal.Refusal.TheVariants.{NothingToRedo}
+use Rattle.cdb_control.specs.Answer as reply
+use Rattle.cdb_control.specs.Commands.{Outcome, granted, found, taken_back, redone, decides, step, undo, rollback, why, outcome}
 use Rattle.cdb_control.specs.Named.{name_of}
-use Rattle.cdb_control.specs.State.{State}
+use Rattle.cdb_control.specs.State.{State, redo_of, last_of, without_last}
 use Rattle.cdb_control.specs.declared.command.Command.TheVariants as command
 use Rattle.cdb_control.specs.declared.named.Named.TheVariants.{Step, Lost}
+use Rattle.cdb_run.specs.Refusals.{with_taken}
 use Rattle.cdb_run.specs.Rules.{Rules}
 use Rattle.cdb_run.specs.Undo.{answered, left_by, number_removed, with_removed}
 
@@ -41,31 +44,69 @@ as_why_lost rules t seat s m p o h = h
 
 -- ---- what an undo or a rollback answers, together with what it leaves
 
-abbrev pub with_rest : {A : Type 0} → Result A Refusal → List Event → Result (A × List Event) Refusal
-with_rest (Ok removed) rest = Ok (removed, rest)
-with_rest (Err refusal) rest = Err refusal
+ok_ok : {A : Type 0} (a b : A) (r : Result A Refusal) → r ≡ Ok a → r ≡ Ok b → a ≡ b
+ok_ok {A = A} a b r one other = let both : (let x : Result A Refusal = Ok a in x) ≡ Ok b = sym one ∙ other in cc
 
-pub rejoined : {A : Type 0} (x : Result (A × List Event) Refusal) (history : List Event) (r : Result A Refusal) (left : List Event)
-    → r ≡ answered x → left ≡ left_by history x → with_rest r left ≡ x
-rejoined (Ok done) history r left is leaves = rw (is, leaves) refl
-rejoined (Err refusal) history r left is leaves = rw is refl
+ok_err : {A : Type 0} (a : A) (why : Refusal) (r : Result A Refusal) → r ≡ Ok a → r ≡ Err why → ⊥
+ok_err {A = A} a why r one other = let both : (let x : Result A Refusal = Ok a in x) ≡ Err why = sym one ∙ other in cc
 
-pub kept : {A : Type 0} (x : Result (A × List Event) Refusal) (history : List Event) (r : Result A Refusal) (left : List Event)
-    → r ≡ answered x → left ≡ left_by history x → OnErr r (left ≡ history)
-kept (Ok done) history r left is leaves = rw is tt
-kept (Err refusal) history r left is leaves = rw is leaves
+err_err : {A : Type 0} (a b : Refusal) (r : Result A Refusal) → r ≡ Err a → r ≡ Err b → a ≡ b
+err_err {A = A} a b r one other = let both : (let x : Result A Refusal = Err a in x) ≡ Err b = sym one ∙ other in cc
 
--- so many events were counted, and went to the end of a list
-pub went : (x : Result (List Event × List Event) Refusal) (history : List Event) (r : Result ℕ Refusal) (left old new : List Event) (count : ℕ)
-    → r ≡ number_removed (answered x) → left ≡ left_by history x → new ≡ with_removed old (answered x) → r ≡ Ok count
-    → (events : List Event) × (x ≡ Ok (events, left)) × (count ≡ length events) × (new ≡ old ++ events)
-went (Ok done) history r left old new count is leaves goes ok = (done.0, rw leaves refl, let counted : Ok count ≡ number_removed (answered (Ok done)) = sym ok ∙ is in cc, goes)
-went (Err refusal) history r left old new count is leaves goes ok = absurd (let counted : Ok count ≡ Err refusal = sym ok ∙ is in cc)
+set_as_it_was : (lists : List (List Event)) (k : ℕ) → set lists k (get_or lists k []) ≡ lists
+set_as_it_was [] k = refl
+set_as_it_was (x ∷ xs) zero = refl
+set_as_it_was (x ∷ xs) (suc k) = ap (λ (rest : List (List Event)). x ∷ rest) (set_as_it_was xs k)
 
--- at a refusal list and history are as they were
-pub none_went : (x : Result (List Event × List Event) Refusal) (history : List Event) (r : Result ℕ Refusal) (left old new : List Event) (refusal : Refusal)
-    → r ≡ number_removed (answered x) → left ≡ left_by history x → new ≡ with_removed old (answered x) → r ≡ Err refusal
-    → (x ≡ Err refusal) × (left ≡ history) × (new ≡ old)
-none_went (Ok done) history r left old new refusal is leaves goes err = absurd (let counted : Err refusal ≡ Ok (length done.0) = sym err ∙ is in cc)
-none_went (Err other) history r left old new refusal is leaves goes err =
-    let same : other ≡ refusal = (let e : number_removed (answered {A = List Event} (Err other)) ≡ Err refusal = sym is ∙ err in cc) in (rw same refl, leaves, goes)
+-- the state with another history and another redo list of a seat
+abbrev pub with_lists : State → ℕ → List Event → List Event → State
+with_lists t seat history events = record t { history = history; redo = set t.redo (seat - 1) events }
+
+pub unchanged : (t : State) (seat : ℕ) → with_lists t seat t.history (redo_of t seat) ≡ t
+unchanged t seat = ap (λ (lists : List (List Event)). let u : State = record t { redo = lists } in u) (set_as_it_was t.redo (seat - 1))
+
+pub undone-as : (t u : State) (seat : ℕ) (x : Result (Event × List Event) Refusal) (r : Result Event Refusal) (event : Event)
+    → r ≡ answered x → u ≡ with_lists t seat (left_by t.history x) (with_taken (redo_of t seat) r) → r ≡ Ok event
+    → (let o : Outcome = record { reply = reply.Undone event; after = u } in o) ≡ granted x t (λ undone. record { reply = reply.Undone undone.0; after = taken_back t seat (undone.0 ∷ []) undone.1 })
+undone-as t u seat (Ok done) r event is after ok =
+    ap (λ (v : State). let o : Outcome = record { reply = reply.Undone event; after = v } in o) after
+    ∙ ap (λ (z : Result Event Refusal). let o : Outcome = record { reply = reply.Undone event; after = with_lists t seat done.1 (with_taken (redo_of t seat) z) } in o) ok
+    ∙ ap (λ (e : Event). let o : Outcome = record { reply = reply.Undone e; after = with_lists t seat done.1 (redo_of t seat ++ e ∷ []) } in o) (ok_ok event done.0 r ok is)
+undone-as t u seat (Err why) r event is after ok = absurd (ok_err event why r ok is)
+
+pub undo_refused-as : (t u : State) (seat : ℕ) (x : Result (Event × List Event) Refusal) (r : Result Event Refusal) (why : Refusal) (go : Event × List Event → Outcome)
+    → r ≡ answered x → u ≡ with_lists t seat (left_by t.history x) (with_taken (redo_of t seat) r) → r ≡ Err why
+    → (let o : Outcome = record { reply = reply.Refused why; after = u } in o) ≡ granted x t go
+undo_refused-as t u seat (Ok done) r why go is after err = absurd (ok_err done.0 why r is err)
+undo_refused-as t u seat (Err other) r why go is after err =
+    ap (λ (v : State). let o : Outcome = record { reply = reply.Refused why; after = v } in o) after
+    ∙ ap (λ (z : Result Event Refusal). let o : Outcome = record { reply = reply.Refused why; after = with_lists t seat t.history (with_taken (redo_of t seat) z) } in o) err
+    ∙ ap (λ (v : State). let o : Outcome = record { reply = reply.Refused why; after = v } in o) (unchanged t seat)
+    ∙ ap (λ (w : Refusal). let o : Outcome = record { reply = reply.Refused w; after = t } in o) (err_err why other r err is)
+
+pub rolled_back-as : (t u : State) (seat : ℕ) (x : Result (List Event × List Event) Refusal) (r : Result ℕ Refusal) (count : ℕ)
+    → r ≡ number_removed (answered x) → u ≡ with_lists t seat (left_by t.history x) (with_removed (redo_of t seat) (answered x)) → r ≡ Ok count
+    → (let o : Outcome = record { reply = reply.RolledBack count; after = u } in o) ≡ granted x t (λ removed. record { reply = reply.RolledBack (length removed.0); after = taken_back t seat removed.0 removed.1 })
+rolled_back-as t u seat (Ok done) r count is after ok =
+    ap (λ (v : State). let o : Outcome = record { reply = reply.RolledBack count; after = v } in o) after
+    ∙ ap (λ (n : ℕ). let o : Outcome = record { reply = reply.RolledBack n; after = with_lists t seat done.1 (redo_of t seat ++ done.0) } in o) (ok_ok count (length done.0) r ok is)
+rolled_back-as t u seat (Err why) r count is after ok = absurd (ok_err count why r ok is)
+
+pub rollback_refused-as : (t u : State) (seat : ℕ) (x : Result (List Event × List Event) Refusal) (r : Result ℕ Refusal) (why : Refusal) (go : List Event × List Event → Outcome)
+    → r ≡ number_removed (answered x) → u ≡ with_lists t seat (left_by t.history x) (with_removed (redo_of t seat) (answered x)) → r ≡ Err why
+    → (let o : Outcome = record { reply = reply.Refused why; after = u } in o) ≡ granted x t go
+rollback_refused-as t u seat (Ok done) r why go is after err = absurd (ok_err (length done.0) why r is err)
+rollback_refused-as t u seat (Err other) r why go is after err =
+    ap (λ (v : State). let o : Outcome = record { reply = reply.Refused why; after = v } in o) (after ∙ unchanged t seat)
+    ∙ ap (λ (w : Refusal). let o : Outcome = record { reply = reply.Refused w; after = t } in o) (err_err why other r err is)
+
+pub redone-as : (rules : Rules) (t u : State) (seat : ℕ) (undone event : Event) (given : Option ℕ) (r : Result Event Refusal)
+    → Some undone ≡ last_of (redo_of t seat) → r ≡ rules.again t.history undone → u ≡ with_lists t seat (with_taken t.history r) (without_last (redo_of t seat))
+    → given ≡ decides rules (with_taken t.history r) event → r ≡ Ok event
+    → (let o : Outcome = record { reply = reply.Redone event given; after = u } in o) ≡ outcome rules t seat command.Redo
+unfolding outcome
+redone-as rules t u seat undone event given r last is after tells ok =
+    ap (λ (v : State). let o : Outcome = record { reply = reply.Redone event given; after = v } in o) (after ∙ ap (λ (z : Result Event Refusal). with_lists t seat (with_taken t.history z) (without_last (redo_of t seat))) ok)
+    ∙ ap (λ (d : Option ℕ). let o : Outcome = record { reply = reply.Redone event d; after = with_lists t seat (t.history ++ event ∷ []) (without_last (redo_of t seat)) } in o) (tells ∙ ap (λ (z : Result Event Refusal). decides rules (with_taken t.history z) event) ok)
+    ∙ ap (λ (z : Result Event Refusal). granted z t (redone rules t seat)) (sym ok ∙ is)
+    ∙ ap (λ (o : Option Event). found o NothingToRedo t (λ e. granted (rules.again t.history e) t (redone rules t seat))) last

@@ -1,27 +1,26 @@
--- A control as contracts see it: a setup, a number of seats and a journal. The control state is the replay.
-use Rattle.std.specs.Prelude.{◌≡◌, ℕ, ◌+◌, ◌≤◌, ◌==◌, List, [], ◌∷◌, ◌++◌, length, if◌then◌else◌}
+-- A control as contracts see it: a setup, a number of seats, a journal, and the room of each seat. The control state
+-- is the journal's replay.
+use Rattle.std.specs.Prelude.{◌≡◌, ℕ, ◌+◌, ◌≤◌, ◌==◌, List, [], ◌∷◌, ◌++◌, length, replicate, if◌then◌else◌}
 use Rattle.cdb_control.specs.declared.command.Command.{Command}
 use Rattle.cdb_control.specs.declared.control.Entry.{Entry}
 use Rattle.cdb_setup.specs.Parts.{Parts, AreInRange}
 use Rattle.cdb_run.specs.Rules.{Rules}
 use Rattle.cdb_control.specs.State.{State, first_state, held, AreOfRun}
 use Rattle.cdb_control.specs.Commands.{answer, obey}
+use Rattle.cdb_control.specs.Room.{lowered}
 use Rattle.cdb_control.specs.Answer.{Answer}
 
 pub record Journaled : Type 0 where
   pub setup : Parts
   pub seats : ℕ
   pub journal : List Entry
+  pub rooms : List ℕ
 
 abbrev pub entry : ℕ → Command → Entry
 entry seat command = record { seat = seat; command = command }
 
 abbrev pub opened : Parts → ℕ → Journaled
-opened setup seats = record { setup = setup; seats = seats; journal = [] }
-
--- one entry more
-abbrev pub extended : Journaled → ℕ → Command → Journaled
-extended c seat command = record c { journal = c.journal ++ entry seat command ∷ [] }
+opened setup seats = record { setup = setup; seats = seats; journal = []; rooms = replicate seats 0 }
 
 -- the state after these entries
 abbrev pub replay_from : Rules → State → List Entry → State
@@ -33,6 +32,11 @@ replay rules setup seats journal = replay_from rules (first_state setup seats) j
 
 abbrev pub state_of : Rules → Journaled → State
 state_of rules c = replay rules c.setup c.seats c.journal
+
+-- one entry more
+abbrev pub extended : Rules → Journaled → ℕ → Command → Journaled
+extended rules c seat command =
+    record c { journal = c.journal ++ entry seat command ∷ []; rooms = lowered c.rooms seat (answer rules (state_of rules c) seat command) }
 
 -- the commands of a seat
 abbrev pub own : ℕ → List Entry → List Command

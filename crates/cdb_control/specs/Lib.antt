@@ -5,4 +5,5 @@ pub mod Stops
 pub mod Views
 pub mod State
 pub mod Commands
+pub mod Room
 pub mod Journal

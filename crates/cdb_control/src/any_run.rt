@@ -1,6 +1,6 @@
 //! A run of either algorithm, under the control.
 
-ghost use Rattle.std.specs.Prelude.{◌≡◌, ◌≤◌, ◌++◌, OnOk, OnErr, IfOk, Ok, Err, MatchResult, map, option_map, option_to_list};
+ghost use Rattle.std.specs.Prelude.{◌≡◌, ◌≤◌, ◌++◌, OnOk, OnErr, IfOk, Ok, Err, MatchResult, map, option_map, option_to_list, vec_capacity};
 ghost use Rattle.cdb_message.specs.Mail.{payload_of};
 ghost use Rattle.cdb_control.specs.Named.{name_of};
 ghost use Rattle.cdb_control.specs.Views.{open_copies};
@@ -101,6 +101,7 @@ impl RunOfSetup {
         ensures list { IfOk result (λ _. taken.new.items ≡ with_removed taken.old.items (answered (rollback_of self.old.setup.processes self.old.history (name_of name.now)))) }
         ensures err { OnErr result (self.new ≡ self.old) }
         ensures list_err { OnErr result (taken.new.items ≡ taken.old.items) }
+        ensures capacity { vec_capacity taken.old ≤ vec_capacity taken.new }
     {
         match *name {
             Named::Step(p, k) => self.run.rollback_onto(alloc, p, k, taken),

@@ -1,15 +1,16 @@
 //! The control: the control state, and the journal that led to it.
-ghost use Rattle.std.specs.Prelude.{◌≡◌, ◌<◌, ◌≤◌, ◌↔◌, ◌⊎◌, IfOk, OnErr, length, vec_len, vec_capacity, ◌++◌, ◌∷◌, []};
+ghost use Rattle.std.specs.Prelude.{◌≡◌, ◌≢◌, ◌+◌, ◌-◌, ◌<◌, ◌≤◌, ◌↔◌, ◌⊎◌, true, max, IfOk, OnOk, OnErr, length, replicate, vec_len, vec_capacity, ◌++◌, ◌∷◌, []};
 ghost use Rattle.cdb_control.specs.Answer.{told};
 ghost use Rattle.cdb_control.specs.Auto.{choice, chosen_act};
 ghost use Rattle.cdb_control.specs.Commands.{answer};
 ghost use Rattle.cdb_control.specs.Journal.{entry, opened, extended, state_of, AreOfSeats};
+ghost use Rattle.cdb_control.specs.Room.{is_spared, cost, room_of, with_room, raised};
 
 use crate::command::{Command, Stop, View};
 use crate::reply::Reply;
 use crate::runs::Runs;
 use crate::state::ControlState;
-use cdb_base::{Act, Reg};
+use cdb_base::{Act, NoMemory, Reg};
 use cdb_setup::Setup;
 use std::alloc::Global;
 use std::marker::Model;
@@ -37,22 +38,30 @@ pub enum OpenFault {
     NoMemory,
 }
 
-/// To contracts a control is its setup, its number of seats and its journal. All else is the journal's replay.
+/// To contracts a control is its setup, its number of seats, its journal and the room of each seat. All else is the
+/// journal's replay.
 #[derive(Drop)]
 pub struct Control<R: Runs> {
     seats: u8,
     state: ControlState<R>,
     journal: Vec<Entry>,
+    // For each seat the length of the journal up to which the seat has room.
+    marks: Vec<u32>,
 }
 
 impl<R: Runs> Model for Control<R> {
+    ghost use Rattle.std.specs.Prelude.{vec_len, vec_capacity};
     ghost use Rattle.cdb_control.specs.Journal.{Journaled, IsReplayed};
+    ghost use Rattle.cdb_control.specs.Room.{HasRoom, rooms_at};
 
     ghost Value = { Journaled };
 
-    ghost view = { λ c. record { setup = c.state.setup; seats = c.seats; journal = c.journal.items } };
+    ghost view = { λ c. record { setup = c.state.state.setup; seats = c.seats; journal = c.journal.items; rooms = rooms_at (vec_len c.journal) c.marks.items } };
 
-    ghost invariant = { λ c. IsReplayed (R.rules c.state.setup) c.state.setup c.seats c.journal.items c.state };
+    ghost invariant = {
+        λ c. IsReplayed (R.rules c.state.state.setup) c.state.state.setup c.seats c.journal.items c.state.state
+        × HasRoom (vec_len c.journal) (vec_capacity c.journal) (rooms_at (vec_len c.journal) c.marks.items) c.state
+    };
 }
 
 impl<R: Runs> Control<R> {
@@ -69,22 +78,28 @@ impl<R: Runs> Control<R> {
         let Ok(state) = ControlState::open(alloc, setup, seats) else {
             return Err(OpenFault::NoMemory);
         };
+        let Ok(marks) = no_marks(alloc, seats) else {
+            return Err(OpenFault::NoMemory);
+        };
         Ok(Control {
             seats,
             state,
             journal: Vec::new(alloc),
+            marks,
         })
     }
 
-    /// Carries a command out for a seat. A fault changes nothing.
+    /// Carries a command out for a seat. A fault changes nothing. Where the seat has room, an undo, an undo of a loss,
+    /// `forget`, `unbreak` and `resume` want no memory.
     pub fn execute(&mut self, alloc: Global, seat: u8, command: Command) -> Result<Reply, CallFault>
         requires from_one { 1 ≤ seat }
         requires to_last { seat ≤ self.old.seats }
         ensures reply { IfOk result (λ r. told r ≡ answer (R.rules self.old.setup) (state_of (R.rules self.old.setup) self.old) seat command) }
-        ensures journal { IfOk result (λ _. self.new ≡ extended self.old seat command) }
+        ensures journal { IfOk result (λ _. self.new ≡ extended (R.rules self.old.setup) self.old seat command) }
         ensures fault { OnErr result (self.new ≡ self.old) }
         ensures full { (result ≡ Err CallFault.JournalFull) ↔ (length self.old.journal ≡ MOST_ENTRIES) }
         ensures limit { length self.new.journal ≤ MOST_ENTRIES }
+        ensures spared { is_spared command ≡ true → 0 < room_of self.old.rooms seat → result ≢ Err CallFault.NoMemory }
     {
         if self.journal.len() >= MOST_ENTRIES {
             return Err(CallFault::JournalFull);
@@ -96,8 +111,34 @@ impl<R: Runs> Control<R> {
         let Ok(reply) = self.state.perform(alloc, seat, again) else {
             return Err(CallFault::NoMemory);
         };
+        lower(&mut self.marks, seat, &reply);
         push_entry(&mut self.journal, seat, command);
         Ok(reply)
+    }
+
+    /// Makes room for `count` commands, 0 to 999,999, where the seat has less. It is no command and makes no entry.
+    /// After `NoMemory` nothing has changed.
+    pub fn reserve(&mut self, _alloc: Global, seat: u8, count: u32) -> Result<(), NoMemory>
+        requires from_one { 1 ≤ seat }
+        requires to_last { seat ≤ self.old.seats }
+        requires few { count ≤ 999999 }
+        ensures ok { OnOk result (self.new ≡ record self.old { rooms = raised self.old.rooms seat count }) }
+        ensures err { OnErr result (self.new ≡ self.old) }
+    {
+        self.journal.reserve(count as usize)?;
+        self.state.reserve(seat, count as usize)?;
+        raise(&mut self.marks, seat, self.journal.len() as u32 + count);
+        Ok(())
+    }
+
+    /// How many more commands there can be of any seat before one of this seat that is spared can want memory; at
+    /// first 0. A taken rollback of the seat counts as many as it takes back.
+    pub fn room(&self, seat: u8) -> u32
+        requires from_one { 1 ≤ seat }
+        requires to_last { seat ≤ self.now.seats }
+        ensures { result ≡ room_of self.now.rooms seat }
+    {
+        self.marks[seat as usize - 1].saturating_sub(self.journal.len() as u32)
     }
 
     /// What `auto` would do for a process, whether or not a pause stands.
@@ -129,10 +170,41 @@ impl<R: Runs> Control<R> {
     }
 }
 
+// No seat has room.
+fn no_marks(alloc: Global, seats: u8) -> Result<Vec<u32>, NoMemory>
+    ensures { IfOk result (λ marks. marks.items ≡ replicate seats 0) }
+{
+    Ok(Vec::from_elem(alloc, 0, seats as usize)?)
+}
+
+// Lowers the mark of the seat of a command by what the command takes of its room, save the one that its entry takes.
+fn lower(marks: &mut Vec<u32>, seat: u8, reply: &Reply)
+    requires from_one { 1 ≤ seat }
+    requires to_last { seat ≤ length marks.old.items }
+    ensures { marks.new.items ≡ with_room marks.old.items seat (room_of marks.old.items seat - (cost (told reply.now) - 1)) }
+{
+    if let Reply::RolledBack(count) = reply {
+        let mark = &mut marks[seat as usize - 1];
+        *mark = mark.saturating_sub(count.saturating_sub(1));
+    }
+}
+
+// Raises the mark of a seat, where it is lower.
+fn raise(marks: &mut Vec<u32>, seat: u8, mark: u32)
+    requires from_one { 1 ≤ seat }
+    requires to_last { seat ≤ length marks.old.items }
+    ensures { marks.new.items ≡ with_room marks.old.items seat (max mark (room_of marks.old.items seat)) }
+{
+    let old = &mut marks[seat as usize - 1];
+    *old = mark.max(*old);
+}
+
 // Adds an entry where there is room for it.
 fn push_entry(journal: &mut Vec<Entry>, seat: u8, command: Command)
     requires { vec_len journal.old < vec_capacity journal.old }
-    ensures { journal.new.items ≡ journal.old.items ++ entry seat command ∷ [] }
+    ensures items { journal.new.items ≡ journal.old.items ++ entry seat command ∷ [] }
+    ensures len { vec_len journal.new ≡ vec_len journal.old + 1 }
+    ensures capacity { vec_capacity journal.new ≡ vec_capacity journal.old }
 {
     // Names each type inside a command: the checker asks for that where an entry is passed for a type parameter.
     let _parts: (Option<Stop>, Option<Act>, Option<View>, Option<Reg>) = (None, None, None, None);

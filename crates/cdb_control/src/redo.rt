@@ -1,5 +1,5 @@
 //! The redo list of a seat.
-ghost use Rattle.std.specs.Prelude.{◌≡◌, ◌≤◌, [], IfOk, OnErr, length};
+ghost use Rattle.std.specs.Prelude.{◌≡◌, ◌<◌, ◌≤◌, ◌+◌, [], IfOk, OnOk, OnErr, IsOk, length};
 ghost use Rattle.cdb_control.specs.State.{last_of, without_last};
 ghost use Rattle.cdb_control.specs.Named.{name_of};
 ghost use Rattle.cdb_run.specs.Refusals.{with_taken};
@@ -18,17 +18,17 @@ pub struct RedoList {
 }
 
 impl Model for RedoList {
-    ghost use Rattle.std.specs.Prelude.{List};
-    ghost use Rattle.cdb_base.specs.declared.event.Event.{Event};
+    ghost use Rattle.std.specs.Prelude.{vec_capacity};
+    ghost use Rattle.cdb_control.specs.Room.{StoredList};
 
-    ghost Value = { List Event };
+    ghost Value = { StoredList };
 
-    ghost view = { λ r. r.events.items };
+    ghost view = { λ r. record { events = r.events.items; capacity = vec_capacity r.events } };
 }
 
 impl RedoList {
     pub fn new(alloc: Global) -> Self
-        ensures { result ≡ [] }
+        ensures { result.events ≡ [] }
     {
         RedoList {
             events: Vec::new(alloc),
@@ -36,32 +36,42 @@ impl RedoList {
     }
 
     pub fn len(&self) -> usize
-        ensures { result ≡ length self.now }
+        ensures { result ≡ length self.now.events }
     {
         self.events.len()
     }
 
     /// The event that was undone last.
     pub fn last(&self) -> Option<Event>
-        ensures { result ≡ last_of self.now }
+        ensures { result ≡ last_of self.now.events }
     {
         self.events.last().copied()
     }
 
     pub fn drop_last(&mut self)
-        ensures { self.new ≡ without_last self.old }
+        ensures { self.new ≡ record self.old { events = without_last self.old.events } }
     {
         self.events.pop();
     }
 
     pub fn clear(&mut self)
-        ensures { self.new ≡ [] }
+        ensures { self.new ≡ record self.old { events = [] } }
     {
         self.events.clear();
     }
 
+    /// Makes room for so many events more. After `NoMemory` the list is as it was.
+    pub fn reserve(&mut self, additional: usize) -> Result<(), NoMemory>
+        ensures events { self.new.events ≡ self.old.events }
+        ensures ok { OnOk result (length self.old.events + additional ≤ self.new.capacity) }
+        ensures capacity { self.old.capacity ≤ self.new.capacity }
+    {
+        self.events.reserve(additional)?;
+        Ok(())
+    }
+
     /// Takes an event of a run back, and adds it at the end. After a refusal and after `NoMemory` both
-    /// are as they were.
+    /// are as they were. It wants no memory where there is room for the event.
     pub fn undo<R: Runs>(
         &mut self,
         run: &mut R,
@@ -70,9 +80,11 @@ impl RedoList {
         ensures setup { R.setup run.new ≡ R.setup run.old }
         ensures answer { IfOk result (λ r. r ≡ answered (undo_of (R.setup run.old).processes (R.history run.old) (name_of name.now))) }
         ensures history { IfOk result (λ _. R.history run.new ≡ left_by (R.history run.old) (undo_of (R.setup run.old).processes (R.history run.old) (name_of name.now))) }
-        ensures list { IfOk result (λ r. self.new ≡ with_taken self.old r) }
+        ensures list { IfOk result (λ r. self.new.events ≡ with_taken self.old.events r) }
         ensures err { OnErr result (R.history run.new ≡ R.history run.old) }
-        ensures list_err { OnErr result (self.new ≡ self.old) }
+        ensures list_err { OnErr result (self.new.events ≡ self.old.events) }
+        ensures capacity { self.old.capacity ≤ self.new.capacity }
+        ensures spared { length self.old.events < self.old.capacity → IsOk result }
     {
         let _kind: Option<Kind> = None;
         let _register: Option<Reg> = None;
@@ -96,9 +108,10 @@ impl RedoList {
         ensures setup { R.setup run.new ≡ R.setup run.old }
         ensures answer { IfOk result (λ r. r ≡ number_removed (answered (rollback_of (R.setup run.old).processes (R.history run.old) (name_of name.now)))) }
         ensures history { IfOk result (λ _. R.history run.new ≡ left_by (R.history run.old) (rollback_of (R.setup run.old).processes (R.history run.old) (name_of name.now))) }
-        ensures list { IfOk result (λ _. self.new ≡ with_removed self.old (answered (rollback_of (R.setup run.old).processes (R.history run.old) (name_of name.now)))) }
+        ensures list { IfOk result (λ _. self.new.events ≡ with_removed self.old.events (answered (rollback_of (R.setup run.old).processes (R.history run.old) (name_of name.now)))) }
         ensures err { OnErr result (R.history run.new ≡ R.history run.old) }
-        ensures list_err { OnErr result (self.new ≡ self.old) }
+        ensures list_err { OnErr result (self.new.events ≡ self.old.events) }
+        ensures capacity { self.old.capacity ≤ self.new.capacity }
     {
         run.rollback(alloc, name, &mut self.events)
     }

@@ -1,6 +1,6 @@
 //! What the control layer asks of a run.
 
-ghost use Rattle.std.specs.Prelude.{◌≡◌, ◌≤◌, List, [], None, MatchResult, IfOk, OnErr, IsOk, Err, true, length, option_map};
+ghost use Rattle.std.specs.Prelude.{◌≡◌, ◌≤◌, List, [], None, MatchResult, IfOk, OnErr, IsOk, Err, true, length, option_map, vec_capacity};
 ghost use Rattle.cdb_base.specs.declared.event.Event.{Event};
 ghost use Rattle.cdb_run.specs.Lawful.{AreLawful};
 ghost use Rattle.cdb_control.specs.Named.{name_of};
@@ -86,7 +86,8 @@ pub trait Runs: Sized + Drop {
         ensures history { IfOk result (λ _. history self.new ≡ left_by (history self.old) (rollback_of (setup self.old).processes (history self.old) (name_of name.now))) }
         ensures list { IfOk result (λ _. taken.new.items ≡ with_removed taken.old.items (answered (rollback_of (setup self.old).processes (history self.old) (name_of name.now)))) }
         ensures err { OnErr result (history self.new ≡ history self.old) }
-        ensures list_err { OnErr result (taken.new.items ≡ taken.old.items) };
+        ensures list_err { OnErr result (taken.new.items ≡ taken.old.items) }
+        ensures capacity { vec_capacity taken.old ≤ vec_capacity taken.new };
 
     /// What `step` would be refused with, if it would be.
     fn refuses(&self, p: u32, act: Act) -> Option<Refusal>

@@ -1,10 +1,11 @@
 //! The control state: a run, the breakpoints, the pause and the redo lists.
-ghost use Rattle.std.specs.Prelude.{◌≡◌, ℕ, ◌≤◌, [], IfOk, OnErr, replicate, length};
+ghost use Rattle.std.specs.Prelude.{◌≡◌, ℕ, ◌+◌, ◌-◌, ◌<◌, ◌≤◌, [], true, IfOk, OnOk, OnErr, IsOk, replicate, length, map, slice_index_or};
 ghost use Rattle.cdb_control.specs.Answer.{told};
 ghost use Rattle.cdb_control.specs.Auto.{choice};
 ghost use Rattle.cdb_control.specs.Commands.{outcome, step, undo, rollback, why, shown, decides, newly_fired, or_else};
 ghost use Rattle.cdb_control.specs.Named.{name_of};
-ghost use Rattle.cdb_control.specs.State.{first_state, held, AreOfRun};
+ghost use Rattle.cdb_control.specs.Room.{is_spared};
+ghost use Rattle.cdb_control.specs.State.{first_state, held, redo_of, AreOfRun};
 ghost use Rattle.cdb_control.specs.Views.{round_of, decision_of};
 ghost use Rattle.cdb_setup.specs.Parts.{AreInRange};
 
@@ -29,16 +30,22 @@ pub struct ControlState<R: Runs> {
 }
 
 impl<R: Runs> Model for ControlState<R> {
-    ghost use Rattle.cdb_control.specs.State.{State};
+    ghost use Rattle.std.specs.Prelude.{map};
+    ghost use Rattle.cdb_control.specs.Room.{StoredState};
 
-    ghost Value = { State };
+    ghost Value = { StoredState };
 
-    ghost view = { λ t. record { setup = R.setup t.run; history = R.history t.run; stops = t.breakpoints.stops; next = t.breakpoints.next; pause = t.pause; redo = t.redo.items } };
+    ghost view = {
+        λ t. record {
+            state = record { setup = R.setup t.run; history = R.history t.run; stops = t.breakpoints.stops; next = t.breakpoints.next; pause = t.pause; redo = map (λ list. list.events) t.redo.items };
+            capacities = map (λ list. list.capacity) t.redo.items;
+        }
+    };
 }
 
 // An empty redo list for each seat.
 fn empty_lists(alloc: Global, seats: u8) -> Result<Vec<RedoList>, NoMemory>
-    ensures { IfOk result (λ lists. lists.items ≡ replicate seats []) }
+    ensures { IfOk result (λ lists. map (λ list. list.events) lists.items ≡ replicate seats []) }
 {
     let mut lists = Vec::new(alloc);
     for _ in 0..seats {
@@ -50,7 +57,7 @@ fn empty_lists(alloc: Global, seats: u8) -> Result<Vec<RedoList>, NoMemory>
 impl<R: Runs> ControlState<R> {
     /// The state in which nothing has happened.
     pub fn open(alloc: Global, setup: Setup, seats: u8) -> Result<Self, NoMemory>
-        ensures { IfOk result (λ t. t ≡ first_state setup seats) }
+        ensures { IfOk result (λ t. t.state ≡ first_state setup seats) }
     {
         let redo = empty_lists(alloc, seats)?;
         let run = R::start(alloc, setup)?;
@@ -63,8 +70,8 @@ impl<R: Runs> ControlState<R> {
     }
 
     pub fn run(&self) -> &R
-        ensures setup { R.setup result.now ≡ self.now.setup }
-        ensures history { R.history result.now ≡ self.now.history }
+        ensures setup { R.setup result.now ≡ self.now.state.setup }
+        ensures history { R.history result.now ≡ self.now.state.history }
     {
         &self.run
     }
@@ -72,7 +79,8 @@ impl<R: Runs> ControlState<R> {
     /// Ends the pause.
     #[tactic(auto, unfolding(crate::specs::Commands::outcome))]
     pub fn resume(&mut self) -> Reply
-        ensures { (seat : ℕ) → record { reply = told result; after = self.new } ≡ outcome (R.rules self.old.setup) self.old seat Command.Resume }
+        ensures table { (seat : ℕ) → record { reply = told result; after = self.new.state } ≡ outcome (R.rules self.old.state.setup) self.old.state seat Command.Resume }
+        ensures kept { self.new.capacities ≡ self.old.capacities }
     {
         self.pause = None;
         Reply::Resumed
@@ -81,7 +89,8 @@ impl<R: Runs> ControlState<R> {
     /// Takes a breakpoint away.
     #[tactic(auto, unfolding(crate::specs::Commands::outcome))]
     pub fn unbreak(&mut self, number: u32) -> Reply
-        ensures { (seat : ℕ) → record { reply = told result; after = self.new } ≡ outcome (R.rules self.old.setup) self.old seat (Command.Unbreak number) }
+        ensures table { (seat : ℕ) → record { reply = told result; after = self.new.state } ≡ outcome (R.rules self.old.state.setup) self.old.state seat (Command.Unbreak number) }
+        ensures kept { self.new.capacities ≡ self.old.capacities }
     {
         if !self.breakpoints.has(number) {
             return Reply::Refused(Refusal::NoBreak);
@@ -93,9 +102,10 @@ impl<R: Runs> ControlState<R> {
     /// Sets a breakpoint.
     #[tactic(auto, unfolding(crate::specs::Commands::outcome))]
     pub fn set_break(&mut self, stop: Stop) -> Result<Reply, NoMemory>
-        requires { self.old.next ≤ 999999 }
-        ensures ok { IfOk result (λ reply. (seat : ℕ) → record { reply = told reply; after = self.new } ≡ outcome (R.rules self.old.setup) self.old seat (Command.Break stop)) }
-        ensures err { OnErr result (self.new ≡ self.old) }
+        requires { self.old.state.next ≤ 999999 }
+        ensures ok { IfOk result (λ reply. (seat : ℕ) → record { reply = told reply; after = self.new.state } ≡ outcome (R.rules self.old.state.setup) self.old.state seat (Command.Break stop)) }
+        ensures err { OnErr result (self.new.state ≡ self.old.state) }
+        ensures kept { self.new.capacities ≡ self.old.capacities }
     {
         if names_none_of(self.run.processes(), &stop) {
             return Ok(Reply::Refused(Refusal::NoProcess));
@@ -111,9 +121,10 @@ impl<R: Runs> ControlState<R> {
     #[tactic(auto, unfolding(crate::specs::Commands::outcome))]
     pub fn forget(&mut self, seat: u8) -> Reply
         requires from_one { 1 ≤ seat }
-        requires to_last { seat ≤ length self.old.redo }
-        requires few { held self.old ≤ 999999 }
-        ensures { record { reply = told result; after = self.new } ≡ outcome (R.rules self.old.setup) self.old seat Command.Forget }
+        requires to_last { seat ≤ length self.old.state.redo }
+        requires few { held self.old.state ≤ 999999 }
+        ensures table { record { reply = told result; after = self.new.state } ≡ outcome (R.rules self.old.state.setup) self.old.state seat Command.Forget }
+        ensures capacities { (i : ℕ) → slice_index_or self.old.capacities i 0 ≤ slice_index_or self.new.capacities i 0 }
     {
         let list = &mut self.redo[seat as usize - 1];
         let count = list.len();
@@ -121,13 +132,27 @@ impl<R: Runs> ControlState<R> {
         Reply::Forgot(count as u32)
     }
 
+    /// Makes room in a seat's redo list for so many events more. After `NoMemory` there is as much as
+    /// there was.
+    pub fn reserve(&mut self, seat: u8, additional: usize) -> Result<(), NoMemory>
+        requires from_one { 1 ≤ seat }
+        requires to_last { seat ≤ length self.old.state.redo }
+        ensures state { self.new.state ≡ self.old.state }
+        ensures ok { OnOk result (length (redo_of self.old.state seat) + additional ≤ slice_index_or self.new.capacities (seat - 1) 0) }
+        ensures capacities { (i : ℕ) → slice_index_or self.old.capacities i 0 ≤ slice_index_or self.new.capacities i 0 }
+    {
+        self.redo[seat as usize - 1].reserve(additional)
+    }
+
     /// Takes an event back on which no standing event depends, and puts it at the end of the seat's
-    /// redo list.
+    /// redo list. It wants no memory where there is room for the event.
     pub fn undo(&mut self, seat: u8, name: &Named) -> Result<Reply, NoMemory>
         requires from_one { 1 ≤ seat }
-        requires to_last { seat ≤ length self.old.redo }
-        ensures ok { IfOk result (λ reply. record { reply = told reply; after = self.new } ≡ undo self.old seat (name_of name.now)) }
-        ensures err { OnErr result (self.new ≡ self.old) }
+        requires to_last { seat ≤ length self.old.state.redo }
+        ensures ok { IfOk result (λ reply. record { reply = told reply; after = self.new.state } ≡ undo self.old.state seat (name_of name.now)) }
+        ensures err { OnErr result (self.new.state ≡ self.old.state) }
+        ensures capacities { (i : ℕ) → slice_index_or self.old.capacities i 0 ≤ slice_index_or self.new.capacities i 0 }
+        ensures spared { length (redo_of self.old.state seat) < slice_index_or self.old.capacities (seat - 1) 0 → IsOk result }
     {
         let list = &mut self.redo[seat as usize - 1];
         match list.undo(&mut self.run, name)? {
@@ -139,10 +164,11 @@ impl<R: Runs> ControlState<R> {
     /// Takes an event back with its consequences, and puts them on the seat's redo list, the last first.
     pub fn rollback(&mut self, alloc: Global, seat: u8, name: &Named) -> Result<Reply, NoMemory>
         requires from_one { 1 ≤ seat }
-        requires to_last { seat ≤ length self.old.redo }
-        requires few { held self.old ≤ 999999 }
-        ensures ok { IfOk result (λ reply. record { reply = told reply; after = self.new } ≡ rollback self.old seat (name_of name.now)) }
-        ensures err { OnErr result (self.new ≡ self.old) }
+        requires to_last { seat ≤ length self.old.state.redo }
+        requires few { held self.old.state ≤ 999999 }
+        ensures ok { IfOk result (λ reply. record { reply = told reply; after = self.new.state } ≡ rollback self.old.state seat (name_of name.now)) }
+        ensures err { OnErr result (self.new.state ≡ self.old.state) }
+        ensures capacities { (i : ℕ) → slice_index_or self.old.capacities i 0 ≤ slice_index_or self.new.capacities i 0 }
     {
         let list = &mut self.redo[seat as usize - 1];
         match list.rollback(alloc, &mut self.run, name)? {
@@ -155,10 +181,11 @@ impl<R: Runs> ControlState<R> {
     #[tactic(auto, unfolding(crate::specs::Commands::outcome))]
     pub fn redo(&mut self, alloc: Global, seat: u8) -> Result<Reply, NoMemory>
         requires from_one { 1 ≤ seat }
-        requires to_last { seat ≤ length self.old.redo }
-        requires of_run { AreOfRun self.old }
-        ensures ok { IfOk result (λ reply. record { reply = told reply; after = self.new } ≡ outcome (R.rules self.old.setup) self.old seat Command.Redo) }
-        ensures err { OnErr result (self.new ≡ self.old) }
+        requires to_last { seat ≤ length self.old.state.redo }
+        requires of_run { AreOfRun self.old.state }
+        ensures ok { IfOk result (λ reply. record { reply = told reply; after = self.new.state } ≡ outcome (R.rules self.old.state.setup) self.old.state seat Command.Redo) }
+        ensures err { OnErr result (self.new.state ≡ self.old.state) }
+        ensures capacities { (i : ℕ) → slice_index_or self.old.capacities i 0 ≤ slice_index_or self.new.capacities i 0 }
     {
         let list = &mut self.redo[seat as usize - 1];
         let Some(undone) = list.last() else {
@@ -176,7 +203,7 @@ impl<R: Runs> ControlState<R> {
 
     // The round of a process, 0 where there is no such process.
     fn round_of(&self, p: u32) -> u32
-        ensures { result ≡ round_of (R.rules self.now.setup) self.now.history p }
+        ensures { result ≡ round_of (R.rules self.now.state.setup) self.now.state.history p }
     {
         match self.run.view(p) {
             Some(process) => process.round,
@@ -186,7 +213,7 @@ impl<R: Runs> ControlState<R> {
 
     // The decision of a process, if it has one.
     fn decision_of(&self, p: u32) -> Option<Val>
-        ensures { result ≡ decision_of (R.rules self.now.setup) self.now.history p }
+        ensures { result ≡ decision_of (R.rules self.now.state.setup) self.now.state.history p }
     {
         match self.run.view(p) {
             Some(process) => process.decision,
@@ -196,7 +223,7 @@ impl<R: Runs> ControlState<R> {
 
     // The decision that an event which stands last gave its process.
     fn decides(&self, event: &Event) -> Option<Val>
-        ensures { result ≡ decides (R.rules self.now.setup) self.now.history event.now }
+        ensures { result ≡ decides (R.rules self.now.state.setup) self.now.state.history event.now }
     {
         match event {
             Event::Step { p, .. } => self.decision_of(u32::from(p.number())),
@@ -206,8 +233,9 @@ impl<R: Runs> ControlState<R> {
 
     // Sets the pause, where none stands and a breakpoint fires.
     fn fire(&mut self, taken: &Taken) -> Option<u32>
-        ensures fired { result ≡ newly_fired self.old.pause taken.now self.old.stops }
-        ensures after { self.new ≡ record self.old { pause = or_else self.old.pause result } }
+        ensures fired { result ≡ newly_fired self.old.state.pause taken.now self.old.state.stops }
+        ensures after { self.new.state ≡ record self.old.state { pause = or_else self.old.state.pause result } }
+        ensures kept { self.new.capacities ≡ self.old.capacities }
     {
         if self.pause.is_some() {
             return None;
@@ -218,8 +246,9 @@ impl<R: Runs> ControlState<R> {
 
     /// Takes a step.
     pub fn step(&mut self, alloc: Global, p: u32, act: Act) -> Result<Reply, NoMemory>
-        ensures ok { IfOk result (λ reply. record { reply = told reply; after = self.new } ≡ step (R.rules self.old.setup) self.old p act) }
-        ensures err { OnErr result (self.new ≡ self.old) }
+        ensures ok { IfOk result (λ reply. record { reply = told reply; after = self.new.state } ≡ step (R.rules self.old.state.setup) self.old.state p act) }
+        ensures err { OnErr result (self.new.state ≡ self.old.state) }
+        ensures kept { self.new.capacities ≡ self.old.capacities }
     {
         let round_before = self.round_of(p);
         match self.run.step(alloc, p, act)? {
@@ -244,8 +273,9 @@ impl<R: Runs> ControlState<R> {
     /// Loses the copy of the `m`-th message of process `s` for process `p`. No breakpoint looks at it.
     #[tactic(auto, unfolding(crate::specs::Commands::outcome))]
     pub fn lose(&mut self, alloc: Global, s: u32, m: u32, p: u32) -> Result<Reply, NoMemory>
-        ensures ok { IfOk result (λ reply. (seat : ℕ) → record { reply = told reply; after = self.new } ≡ outcome (R.rules self.old.setup) self.old seat (Command.Lose s m p)) }
-        ensures err { OnErr result (self.new ≡ self.old) }
+        ensures ok { IfOk result (λ reply. (seat : ℕ) → record { reply = told reply; after = self.new.state } ≡ outcome (R.rules self.old.state.setup) self.old.state seat (Command.Lose s m p)) }
+        ensures err { OnErr result (self.new.state ≡ self.old.state) }
+        ensures kept { self.new.capacities ≡ self.old.capacities }
     {
         match self.run.lose(alloc, s, m, p)? {
             Ok(event) => Ok(Reply::Stepped {
@@ -259,8 +289,8 @@ impl<R: Runs> ControlState<R> {
 
     /// What `auto` would do for a process.
     pub fn choose(&self, p: u32) -> Result<Act, Refusal>
-        requires { AreInRange self.now.setup }
-        ensures { result ≡ choice (R.rules self.now.setup) self.now.history p }
+        requires { AreInRange self.now.state.setup }
+        ensures { result ≡ choice (R.rules self.now.state.setup) self.now.state.history p }
     {
         if let Some(refusal) = self.run.refuses(p, Act::Crash) {
             return Err(refusal);
@@ -286,9 +316,10 @@ impl<R: Runs> ControlState<R> {
     /// Takes the first step that is possible for a process.
     #[tactic(auto, unfolding(crate::specs::Commands::outcome))]
     pub fn auto(&mut self, alloc: Global, p: u32) -> Result<Reply, NoMemory>
-        requires { AreInRange self.old.setup }
-        ensures ok { IfOk result (λ reply. (seat : ℕ) → record { reply = told reply; after = self.new } ≡ outcome (R.rules self.old.setup) self.old seat (Command.Auto p)) }
-        ensures err { OnErr result (self.new ≡ self.old) }
+        requires { AreInRange self.old.state.setup }
+        ensures ok { IfOk result (λ reply. (seat : ℕ) → record { reply = told reply; after = self.new.state } ≡ outcome (R.rules self.old.state.setup) self.old.state seat (Command.Auto p)) }
+        ensures err { OnErr result (self.new.state ≡ self.old.state) }
+        ensures kept { self.new.capacities ≡ self.old.capacities }
     {
         match self.choose(p) {
             Err(refusal) => Ok(Reply::Refused(refusal)),
@@ -301,7 +332,7 @@ impl<R: Runs> ControlState<R> {
 
     /// Tells the direct causes of an event.
     pub fn why(&self, alloc: Global, name: &Named) -> Reply
-        ensures { record { reply = told result; after = self.now } ≡ why self.now (name_of name.now) }
+        ensures { record { reply = told result; after = self.now.state } ≡ why self.now.state (name_of name.now) }
     {
         match self.run.explain(alloc, name) {
             Ok((event, causes)) => Reply::Because(event, causes),
@@ -310,7 +341,7 @@ impl<R: Runs> ControlState<R> {
     }
 
     fn show_process(&self, p: u32) -> Reply
-        ensures { record { reply = told result; after = self.now } ≡ shown (R.rules self.now.setup) self.now (View.Proc p) }
+        ensures { record { reply = told result; after = self.now.state } ≡ shown (R.rules self.now.state.setup) self.now.state (View.Proc p) }
     {
         match self.run.view(p) {
             Some(process) => Reply::Proc(process),
@@ -321,7 +352,7 @@ impl<R: Runs> ControlState<R> {
     /// Shows a part of the run.
     #[tactic(auto, unfolding(crate::specs::Commands::outcome))]
     pub fn show(&self, alloc: Global, view: View) -> Result<Reply, NoMemory>
-        ensures { IfOk result (λ reply. (seat : ℕ) → record { reply = told reply; after = self.now } ≡ outcome (R.rules self.now.setup) self.now seat (Command.Show view)) }
+        ensures { IfOk result (λ reply. (seat : ℕ) → record { reply = told reply; after = self.now.state } ≡ outcome (R.rules self.now.state.setup) self.now.state seat (Command.Show view)) }
     {
         let reply = match view {
             View::Proc(p) => self.show_process(p),
@@ -335,7 +366,7 @@ impl<R: Runs> ControlState<R> {
     /// Shows who has decided what.
     #[tactic(auto, unfolding(crate::specs::Commands::outcome))]
     pub fn decisions(&self, alloc: Global) -> Result<Reply, NoMemory>
-        ensures { IfOk result (λ reply. (seat : ℕ) → record { reply = told reply; after = self.now } ≡ outcome (R.rules self.now.setup) self.now seat Command.Decisions) }
+        ensures { IfOk result (λ reply. (seat : ℕ) → record { reply = told reply; after = self.now.state } ≡ outcome (R.rules self.now.state.setup) self.now.state seat Command.Decisions) }
     {
         Ok(Reply::Decisions(self.run.decisions(alloc)?))
     }
@@ -344,13 +375,15 @@ impl<R: Runs> ControlState<R> {
     #[tactic(auto, using(crate::proofs::Steps::as_step, crate::proofs::Steps::as_undo, crate::proofs::Steps::as_undo_lost, crate::proofs::Steps::as_rollback, crate::proofs::Steps::as_rollback_lost, crate::proofs::Steps::as_why, crate::proofs::Steps::as_why_lost))]
     pub fn perform(&mut self, alloc: Global, seat: u8, command: Command) -> Result<Reply, NoMemory>
         requires from_one { 1 ≤ seat }
-        requires to_last { seat ≤ length self.old.redo }
-        requires few { held self.old ≤ 999999 }
-        requires numbers { self.old.next ≤ 999999 }
-        requires of_run { AreOfRun self.old }
-        requires in_range { AreInRange self.old.setup }
-        ensures ok { IfOk result (λ reply. record { reply = told reply; after = self.new } ≡ outcome (R.rules self.old.setup) self.old seat command) }
-        ensures err { OnErr result (self.new ≡ self.old) }
+        requires to_last { seat ≤ length self.old.state.redo }
+        requires few { held self.old.state ≤ 999999 }
+        requires numbers { self.old.state.next ≤ 999999 }
+        requires of_run { AreOfRun self.old.state }
+        requires in_range { AreInRange self.old.state.setup }
+        ensures ok { IfOk result (λ reply. record { reply = told reply; after = self.new.state } ≡ outcome (R.rules self.old.state.setup) self.old.state seat command) }
+        ensures err { OnErr result (self.new.state ≡ self.old.state) }
+        ensures capacities { (i : ℕ) → slice_index_or self.old.capacities i 0 ≤ slice_index_or self.new.capacities i 0 }
+        ensures spared { is_spared command ≡ true → length (redo_of self.old.state seat) < slice_index_or self.old.capacities (seat - 1) 0 → IsOk result }
     {
         match command {
             Command::Step(p, act) => self.step(alloc, p, act),

@@ -1,5 +1,5 @@
 -- A transcript grows by the text of one reply after the other.
-use Rattle.std.proofs.Common.{◌≡◌, ℕ, List, [], ◌∷◌, ◌++◌, refl, sym, ap, ◌∙◌, append-nil}
+use Rattle.std.proofs.Common.{◌≡◌, ℕ, ◌-◌, arith, List, [], ◌∷◌, ◌++◌, refl, sym, ap, ◌∙◌, append-nil}
 use Rattle.std.specs.Prelude.{Option}
 use Rattle.std.specs.List.{flat_map}
 use Rattle.std.proofs.lemmas.List.{map-append}
@@ -7,6 +7,8 @@ use Rattle.std.proofs.lemmas.Grind.{flat_map-append}
 use Rattle.cdb_control.specs.declared.command.Command.{Command}
 use Rattle.cdb_control.specs.Commands.{answer, obey}
 use Rattle.cdb_control.specs.Journal.{Journaled, entry, extended, replay, replay_from, replies_from, state_of}
+use Rattle.cdb_control.specs.Answer.{Answer}
+use Rattle.cdb_control.specs.Room.{cost, lowered}
 use Rattle.cdb_control.specs.State.{first_state}
 use Rattle.cdb_control.proofs.Own.{replies_from-append}
 use Rattle.cdb_run.specs.Rules.{Rules}
@@ -18,7 +20,11 @@ use Rattle.cdb_play.proofs.Added.{after_after, beginning_of_all}
 
 -- a control of one seat that has carried these commands out
 abbrev pub so_far : Parts → List Command → Journaled
-so_far setup commands = record { setup = setup; seats = 1; journal = journal_of commands }
+so_far setup commands = record { setup = setup; seats = 1; journal = journal_of commands; rooms = 0 ∷ [] }
+
+-- where there is no room a command leaves none
+still_no_room : (a : Answer) → lowered (0 ∷ []) 1 a ≡ 0 ∷ []
+still_no_room a = let none : 0 - cost a ≡ 0 = omega arith in ap (λ (room : ℕ). let rooms : List ℕ = room ∷ [] in rooms) none
 
 -- the text of the reply to a command
 abbrev pub text_at : (Parts → Rules) → Journaled → Command → List ℕ
@@ -47,8 +53,11 @@ module _ (rules : Parts → Rules) (setup : Parts) (old now new : Option (List �
   same_text : text_at rules control command ≡ text_at rules (so_far setup done) command
   same_text = ap (λ c. text_at rules c command) along
 
-  pub one_command : (left : Journaled) → left ≡ extended control 1 command → left ≡ so_far setup (done ++ command ∷ [])
-  one_command left is = is ∙ ap (λ c. extended c 1 command) along ∙ ap (λ journal. record (so_far setup done) { journal = journal }) (sym (map-append (entry 1) done (command ∷ [])))
+  pub one_command : (left : Journaled) → left ≡ extended (rules control.setup) control 1 command → left ≡ so_far setup (done ++ command ∷ [])
+  one_command left is =
+      is ∙ ap (λ c. extended (rules c.setup) c 1 command) along
+      ∙ ap (λ (rooms : List ℕ). record (so_far setup done) { journal = journal_of done ++ entry 1 command ∷ []; rooms = rooms }) (still_no_room (answer (rules setup) (state_of (rules setup) (so_far setup done)) 1 command))
+      ∙ ap (λ journal. record (so_far setup done) { journal = journal }) (sym (map-append (entry 1) done (command ∷ [])))
 
   pub one_reply : new ≡ after now (text_at rules control command) → new ≡ after old (transcript (rules setup) setup (done ++ command ∷ []))
   one_reply wrote =

@@ -29,7 +29,7 @@ fn perform<T: Runs, W: Sink>(
 ) -> Result<(), PlayFault>
     requires seats { control.old.seats ≡ 1 }
     requires room { length control.old.journal < 999999 }
-    ensures done { OnOk result (control.new ≡ extended control.old 1 command) }
+    ensures done { OnOk result (control.new ≡ extended (T.rules control.old.setup) control.old 1 command) }
     ensures ok { OnOk result (W.contents out.new ≡ after (W.contents out.old) (text_of (answer (T.rules control.old.setup) (state_of (T.rules control.old.setup) control.old) 1 command))) }
     ensures err { OnErr result (AddsBeginning (W.contents out.old) (W.contents out.new) (text_of (answer (T.rules control.old.setup) (state_of (T.rules control.old.setup) control.old) 1 command))) }
     ensures fault { IfErr result IsFaultOfWriting }

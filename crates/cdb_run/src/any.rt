@@ -1,6 +1,6 @@
 //! A run of either algorithm.
 
-ghost use Rattle.std.specs.Prelude.{◌≡◌, ◌≤◌, ◌↔◌, [], false, None, Some, is_some, IsTrue, IsSome, IfNone, IsOk, IfOk, OnErr, Ok, Err, MatchOption, MatchResult, option_map};
+ghost use Rattle.std.specs.Prelude.{◌≡◌, ◌≤◌, ◌↔◌, [], false, None, Some, is_some, IsTrue, IsSome, IfNone, IsOk, IfOk, OnErr, Ok, Err, MatchOption, MatchResult, option_map, vec_capacity};
 ghost use Rattle.std.specs.Option.{option_copied};
 ghost use Rattle.cdb_causal.specs.Dependence.{depends};
 ghost use Rattle.cdb_causal.specs.Exchange.{IsExchanged};
@@ -214,6 +214,7 @@ impl AnyRun {
         ensures list { IfOk result (λ _. taken.new.items ≡ with_removed taken.old.items (answered (rollback_of (standing_of self.old).setup.processes (standing_of self.old).history (StepId.Step (record { p = p; k = k }))))) }
         ensures err { OnErr result (self.new ≡ self.old) }
         ensures list_err { OnErr result (taken.new.items ≡ taken.old.items) }
+        ensures capacity { vec_capacity taken.old ≤ vec_capacity taken.new }
         ensures true_to_setup { IsTrueToSetup self.new }
     {
         match self {
@@ -240,6 +241,7 @@ impl AnyRun {
         ensures list { IfOk result (λ _. taken.new.items ≡ with_removed taken.old.items (answered (rollback_of (standing_of self.old).setup.processes (standing_of self.old).history (StepId.Lost (copy_name (message_name s m) p))))) }
         ensures err { OnErr result (self.new ≡ self.old) }
         ensures list_err { OnErr result (taken.new.items ≡ taken.old.items) }
+        ensures capacity { vec_capacity taken.old ≤ vec_capacity taken.new }
         ensures true_to_setup { IsTrueToSetup self.new }
     {
         match self {

@@ -23,17 +23,17 @@ pub knows_one : (number : ℕ) (v : Knowledge) (c : Journaled) → IsPassFor num
 knows_one number v c one all = (subst (λ (ps : List Place). AllKnow c ps) one.only all).0
 
 -- an executed command, or a refused one, may be given back
-pub may_give : (number : ℕ) (v w : Knowledge) (c after : Journaled) (command : Command) (r : Result Reply CallFault) → IsPassFor number v → Taken v c w → IfOk r (λ _. after ≡ extended c number command) → OnErr r (after ≡ c) → MayGive w after
+pub may_give : (number : ℕ) (v w : Knowledge) (c after : Journaled) (command : Command) (r : Result Reply CallFault) → IsPassFor number v → Taken v c w → IfOk r (λ _. after ≡ extended (rules c.setup) c number command) → OnErr r (after ≡ c) → MayGive w after
 may_give number v w c after command (Ok reply) one taken ok err =
     let is = taken.0 in (
       ap (λ (u : Knowledge). u.stage) is,
-      (c, ap (λ (u : Knowledge). u.held) is, inr (place_of v.places, command, ap (λ (u : Knowledge). u.places) is ∙ one.only, ok ∙ ap (λ n. extended c n command) (sym one.same))),
+      (c, ap (λ (u : Knowledge). u.held) is, inr (place_of v.places, command, ap (λ (u : Knowledge). u.places) is ∙ one.only, ok ∙ ap (λ n. extended (rules c.setup) c n command) (sym one.same))),
     )
 may_give number v w c after command (Err fault) one taken ok err =
     let is = taken.0 in (ap (λ (u : Knowledge). u.stage) is, (c, ap (λ (u : Knowledge). u.held) is, inl err))
 
 -- the journal has grown by no more than one command
-pub begins_after : (c after : Journaled) (number : ℕ) (command : Command) (r : Result Reply CallFault) (seen : List Entry) → IfOk r (λ _. after ≡ extended c number command) → OnErr r (after ≡ c) → Begins seen c.journal → Begins seen after.journal
+pub begins_after : (c after : Journaled) (number : ℕ) (command : Command) (r : Result Reply CallFault) (seen : List Entry) → IfOk r (λ _. after ≡ extended (rules c.setup) c number command) → OnErr r (after ≡ c) → Begins seen c.journal → Begins seen after.journal
 begins_after c after number command (Ok reply) seen ok err begins = subst (λ (y : Journaled). Begins seen y.journal) (sym ok) (Begins-push seen c.journal (entry number command) begins)
 begins_after c after number command (Err fault) seen ok err begins = subst (λ (y : Journaled). Begins seen y.journal) (sym err) begins
 
@@ -167,7 +167,7 @@ met_begins home u v y z c a is known first second =
     )
 
 call_at : (number : ℕ) (home home' : TableId) (v w x : Knowledge) (c after : Journaled) (command : Command) (reply : Answer) → IsPassFor number v → Taken v c w → Given w after x
-    → reply ≡ answer (rules c.setup) (state_of (rules c.setup) c) number command → after ≡ extended c number command → IsCall (seat_of home v) command reply (seat_of home' x)
+    → reply ≡ answer (rules c.setup) (state_of (rules c.setup) c) number command → after ≡ extended (rules c.setup) c number command → IsCall (seat_of home v) command reply (seat_of home' x)
 call_at number home home' v w x c after command reply one taken given answered longer =
     let p = place_of v.places in
     let known = knows_one number v c one taken.1 in
@@ -182,7 +182,7 @@ call_at number home home' v w x c after command reply one taken given answered l
 
 -- a call that was answered
 pub is_call : (number : ℕ) (home home' : TableId) (v w x : Knowledge) (c after : Journaled) (command : Command) (r : Result Reply CallFault) (old : SeatView) → seat_of home v ≡ old → IsPassFor number v → Taken v c w → Given w after x
-    → IfOk r (λ reply. told reply ≡ answer (rules c.setup) (state_of (rules c.setup) c) number command) → IfOk r (λ _. after ≡ extended c number command) → IfOk r (λ reply. IsCall old command (told reply) (seat_of home' x))
+    → IfOk r (λ reply. told reply ≡ answer (rules c.setup) (state_of (rules c.setup) c) number command) → IfOk r (λ _. after ≡ extended (rules c.setup) c number command) → IfOk r (λ reply. IsCall old command (told reply) (seat_of home' x))
 is_call number home home' v w x c after command (Ok reply) old is one taken given answered longer =
     subst (λ (s : SeatView). IsCall s command (told reply) (seat_of home' x)) is (call_at number home home' v w x c after command (told reply) one taken given answered longer)
 is_call number home home' v w x c after command (Err fault) old is one taken given answered longer = tt

@@ -7,6 +7,7 @@ use Rattle.crossbeam_queue.specs.Fifo.{Pushes, Pops, Forks, Merges, Learns}
 use Rattle.crossbeam_queue.proofs.Lists.{at_set, at_snoc, at_longer, set_else}
 use Rattle.cdb_control.specs.declared.command.Command.{Command}
 use Rattle.cdb_control.specs.Journal.{Journaled, entry, extended}
+use Rattle.cdb_run.specs.Algorithms.{rules}
 use Rattle.cdb_control.proofs.Own.{Begins-refl, Begins-push, own-push_other}
 use Rattle.cdb_shared.specs.declared.knowledge.Stage.{Stage}
 use Rattle.cdb_shared.specs.declared.knowledge.Stage.TheVariants.{Opening, Spent, Resting, Holding}
@@ -127,7 +128,7 @@ apart_from number n rest none same = apart_by (number == n) (grind (arith, nat_t
     apart_by false e h = cc
 
 -- a command of a seat that isn't among these
-AllKnow-push : (c : Journaled) (ps : List Place) (seat : ℕ) (command : Command) → count_of seat ps ≡ 0 → AllKnow c ps → AllKnow (extended c seat command) ps
+AllKnow-push : (c : Journaled) (ps : List Place) (seat : ℕ) (command : Command) → count_of seat ps ≡ 0 → AllKnow c ps → AllKnow (extended (rules c.setup) c seat command) ps
 AllKnow-push c [] seat command none a = tt
 AllKnow-push c (p ∷ ps) seat command none a =
     let apart = apart_from p.number seat (count_of seat ps) none in (
@@ -238,7 +239,7 @@ grown before after views pass j v u (inr (p, command, places, longer)) once apar
 seen_one : (c : Journaled) (p : Place) → Knows c p → Knows c (record { number = p.number; setup = p.setup; seats = p.seats; seen = c.journal })
 seen_one c p known = record { setup = known.setup; seats = known.seats; begins = Begins-refl c.journal; calls = refl }
 
-seen_more : (c : Journaled) (seat : ℕ) (command : Command) (p : Place) → Knows c p → Knows (extended c seat command) (record { number = p.number; setup = p.setup; seats = p.seats; seen = c.journal ++ entry seat command ∷ [] })
+seen_more : (c : Journaled) (seat : ℕ) (command : Command) (p : Place) → Knows c p → Knows (extended (rules c.setup) c seat command) (record { number = p.number; setup = p.setup; seats = p.seats; seen = c.journal ++ entry seat command ∷ [] })
 seen_more c seat command p known = record { setup = known.setup; seats = known.seats; begins = Begins-refl (c.journal ++ entry seat command ∷ []); calls = refl }
 
 -- what the seats of the pass know of what it gives back

@@ -5,6 +5,7 @@ use lib.ListN.{get_elem?}
 use Rattle.std.specs.List.{AllByRecursion}
 use Rattle.cdb_control.specs.declared.command.Command.{Command}
 use Rattle.cdb_control.specs.Journal.{Journaled, Begins, extended, own}
+use Rattle.cdb_run.specs.Algorithms.{rules}
 use Rattle.cdb_shared.specs.declared.knowledge.Stage.{Stage}
 use Rattle.cdb_shared.specs.declared.knowledge.Stage.TheVariants.{Opening, Spent, Resting, Holding}
 use Rattle.cdb_shared.specs.declared.knowledge.Place.{Place}
@@ -105,7 +106,7 @@ Given v c w = w ≡ resting (seen_by c v.places)
 -- the control is as it was, or has one command more, of the pass's only seat
 abbrev pub MayGrow : List Place → Journaled → Journaled → Type 0
 MayGrow places before after =
-    (after ≡ before) ⊎ ((p : Place) × (command : Command) × (places ≡ p ∷ []) × (after ≡ extended before p.number command))
+    (after ≡ before) ⊎ ((p : Place) × (command : Command) × (places ≡ p ∷ []) × (after ≡ extended (rules before.setup) before p.number command))
 
 -- what may be given back
 abbrev pub MayGive : Knowledge → Journaled → Type 0

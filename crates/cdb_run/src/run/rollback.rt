@@ -55,6 +55,7 @@ impl<P: Process> Run<P> {
         ensures list { IfOk result (λ _. taken.new.items ≡ taken.old.items ++ reversed (rolled_back depends_of self.old.history (at - 1))) }
         ensures err { OnErr result (self.new ≡ self.old) }
         ensures list_err { OnErr result (taken.new.items ≡ taken.old.items) }
+        ensures capacity { vec_capacity taken.old ≤ vec_capacity taken.new }
     {
         let mut names = consequences(alloc, self.standing(), at)?;
         let number = names.len() + 1;
@@ -126,6 +127,7 @@ impl<P: Process> Run<P> {
         ensures list { IfOk result (λ _. taken.new.items ≡ with_removed taken.old.items (answered (rollback_of self.old.setup.processes self.old.history (StepId.Step (record { p = p; k = k }))))) }
         ensures err { OnErr result (self.new ≡ self.old) }
         ensures list_err { OnErr result (taken.new.items ≡ taken.old.items) }
+        ensures capacity { vec_capacity taken.old ≤ vec_capacity taken.new }
     {
         match self.find_step(p, k) {
             Ok(at) => Ok(Ok(self.roll_back(alloc, at, taken)?)),
@@ -150,6 +152,7 @@ impl<P: Process> Run<P> {
         ensures list { IfOk result (λ _. taken.new.items ≡ with_removed taken.old.items (answered (rollback_of self.old.setup.processes self.old.history (StepId.Lost (copy_name (message_name s m) p))))) }
         ensures err { OnErr result (self.new ≡ self.old) }
         ensures list_err { OnErr result (taken.new.items ≡ taken.old.items) }
+        ensures capacity { vec_capacity taken.old ≤ vec_capacity taken.new }
     {
         match self.find_loss(s, m, p) {
             Ok(at) => Ok(Ok(self.roll_back(alloc, at, taken)?)),

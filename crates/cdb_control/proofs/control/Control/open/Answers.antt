@@ -1,7 +1,22 @@
-use Rattle.std.proofs.Common.{arith}
+use Rattle.std.proofs.Common.{◌≡◌, ℕ, arith, ap, ◌∙◌, List, [], length, replicate}
+use Rattle.std.proofs.lemmas.List.{length-replicate}
+use Rattle.cdb_base.specs.declared.event.Event.{Event}
 use Rattle.cdb_control.proofs.Along.{IsReplayed-first}
+use Rattle.cdb_control.proofs.Room.{HasRoom-first, rooms-none}
+use Rattle.cdb_control.specs.Journal.{Journaled}
+use Rattle.cdb_control.specs.Room.{rooms_at}
+use Rattle.cdb_control.specs.State.{State}
 use Rattle.cdb_control.proofs.control.Control.open.Goals as goal
 
 pub invariant_of-result : goal.invariant_of-result
 invariant_of-result g c =
-    rw (c.new.ensures.items, c.in-Ok.ensures) (IsReplayed-first (g.R.Runs.rules c.args.setup) c.args.setup c.args.seats c.n-processes.ensures.ranges (omega arith) (omega arith))
+    let long = ap (λ (t : State). length t.redo) c.in-Ok.ensures ∙ length-replicate c.args.seats (let none : List Event = [] in none) in
+    (
+      rw (c.new.ensures.items, c.in-Ok.ensures) (IsReplayed-first (g.R.Runs.rules c.args.setup) c.args.setup c.args.seats c.n-processes.ensures.ranges (omega arith) (omega arith)),
+      rw (c.new.ensures.len, c.in-Ok-no_marks.ensures) (HasRoom-first _ c.args.seats c.in-Ok.state long)
+    )
+
+pub returns-clause-opened : goal.returns-clause-opened
+returns-clause-opened g c =
+    let rooms = ap (λ (n : ℕ). rooms_at n c.in-Ok-no_marks.marks.items) c.new.ensures.len ∙ ap (λ (marks : List ℕ). rooms_at 0 marks) c.in-Ok-no_marks.ensures ∙ rooms-none c.args.seats in
+    λ j. let opened : Journaled = record { setup = (c.in-Ok.ensures j).setup; seats = c.args.seats; journal = c.new.ensures.items j; rooms = rooms j } in opened

@@ -1,26 +1,57 @@
-use Rattle.std.proofs.Common.{rules, arith}
+use Rattle.std.proofs.Common.{◌≡◌, rules, arith, ◌-◌, ◌≤◌, ap, ◌∙◌, sym, length, List, set, map, get_or, Result}
 use Rattle.std.proofs.lemmas.Grind.{common_steps}
-use Rattle.cdb_control.proofs.Steps.{went, none_went}
+use Rattle.cdb_base.specs.declared.event.Event.{Event}
+use Rattle.cdb_base.specs.declared.refusal.Refusal.{Refusal}
+use Rattle.cdb_control.proofs.Steps.{with_lists, unchanged, rolled_back-as, rollback_refused-as}
+use Rattle.cdb_control.proofs.Room.{swap}
 use Rattle.cdb_control.specs.Named.{name_of}
-use Rattle.cdb_run.specs.Undo.{rollback_of}
+use Rattle.cdb_control.specs.Room.{StoredState, StoredList}
+use Rattle.cdb_control.specs.State.{State, redo_of}
+use Rattle.cdb_run.specs.Refusals.{with_taken}
+use Rattle.cdb_run.specs.Undo.{rollback_of, answered, left_by, number_removed, with_removed}
 use Rattle.cdb_control.proofs.state.ControlState.rollback.Goals as goal
 use Rattle.cdb_control.proofs.state.ControlState.rollback.Goals.{in-Ok, in-Err}
 
 pub returns-clause-ok : goal.returns-clause-ok
 returns-clause-ok g c =
-    let run = c.self.inside.run in
-    let x = rollback_of (g.R.Runs.setup run).processes (g.R.Runs.history run) (name_of c.args.name.now) in
+    let now = c.args.self.now in
+    let name = name_of c.args.name.now in
+    let w = swap now c.self.inside.redo.items c.args.seat c.index_mut-list.result.now c.rollback.new.self (ap (λ (v : StoredState). v.state.redo) c.self.view_is) (ap (λ (v : StoredState). v.capacities) c.self.view_is) c.requires.from_one c.requires.to_last c.index_mut-list.ensures.value in
+    let x = rollback_of now.state.setup.processes now.state.history name in
+    let x0 = rollback_of (g.R.Runs.setup c.self.inside.run).processes (g.R.Runs.history c.self.inside.run) name in
+    let r = c.in_ok-count.field-0 in
+    let did = c.in_ok-count.ensures in
+    let answer = did.answer ∙ ap (λ (v : StoredState). number_removed (answered (rollback_of v.state.setup.processes v.state.history name))) c.self.view_is in
+    let lists = map (λ (l : StoredList). l.events) (set c.self.inside.redo.items (c.args.seat - 1) c.rollback.new.self) in
+    let list = w.put ∙ ap (λ (l : List Event). set now.state.redo (c.args.seat - 1) l) (did.list ∙ ap (λ (l : List Event). with_removed l (answered x0)) (sym w.at) ∙ ap (λ (v : StoredState). with_removed (redo_of now.state c.args.seat) (answered (rollback_of v.state.setup.processes v.state.history name))) c.self.view_is) in
+    let after =
+        (λ j. let u : State = record { setup = did.setup j; history = did.history j; stops = c.self.inside.breakpoints.stops; next = c.self.inside.breakpoints.next; pause = c.self.inside.pause; redo = list j } in u)
+        ∙ ap (λ (v : StoredState). let u : State = record v.state { history = left_by v.state.history (rollback_of v.state.setup.processes v.state.history name); redo = set now.state.redo (c.args.seat - 1) (with_removed (redo_of now.state c.args.seat) (answered x)) } in u) c.self.view_is in
     elim c.match-branch-2.branch [
-      | in-Ok w ↦
-          let taken = went x (g.R.Runs.history run) c.in_ok-count.field-0 _ _ _ w.in-Ok.count c.in_ok-count.ensures.answer c.in_ok-count.ensures.history c.in_ok-count.ensures.list w.in-Ok.is in
-          let answer = taken.1 in
-          let counted = taken.2 in
-          let goes = taken.3 in
-          first_of (search (rules, answer, counted, goes), grind (arith, common_steps, answer, counted, goes))
-      | in-Err w ↦
-          let refused = none_went x (g.R.Runs.history run) c.in_ok-count.field-0 _ _ _ w.in-Err.refusal c.in_ok-count.ensures.answer c.in_ok-count.ensures.history c.in_ok-count.ensures.list w.in-Err.is in
-          let answer = refused.0 in
-          let same = refused.1 in
-          let goes = refused.2 in
-          first_of (search (rules, answer, same, goes), grind (arith, common_steps, answer, same, goes))
+      | in-Ok w ↦ rw w.result-is (rolled_back-as now.state _ c.args.seat x r w.in-Ok.count answer after w.in-Ok.is)
+      | in-Err w ↦ rw w.result-is (rollback_refused-as now.state _ c.args.seat x r w.in-Err.refusal _ answer after w.in-Err.is)
     ]
+
+pub returns-clause-capacities : goal.returns-clause-capacities
+returns-clause-capacities g c =
+    let now = c.args.self.now in
+    let w = swap now c.self.inside.redo.items c.args.seat c.index_mut-list.result.now c.rollback.new.self (ap (λ (v : StoredState). v.state.redo) c.self.view_is) (ap (λ (v : StoredState). v.capacities) c.self.view_is) c.requires.from_one c.requires.to_last c.index_mut-list.ensures.value in
+    w.grown c.rollback.ensures.capacity
+
+pub returns-in_err-count-clause-err : goal.returns-in_err-count-clause-err
+returns-in_err-count-clause-err g c =
+    let now = c.args.self.now in
+    let w = swap now c.self.inside.redo.items c.args.seat c.index_mut-list.result.now c.rollback.new.self (ap (λ (v : StoredState). v.state.redo) c.self.view_is) (ap (λ (v : StoredState). v.capacities) c.self.view_is) c.requires.from_one c.requires.to_last c.index_mut-list.ensures.value in
+    let did = c.in_err-count.ensures in
+    let list = w.put ∙ ap (λ (l : List Event). set now.state.redo (c.args.seat - 1) l) (did.list_err ∙ sym w.at) in
+    let after =
+        (λ j. let u : State = record { setup = did.setup j; history = did.err j; stops = c.self.inside.breakpoints.stops; next = c.self.inside.breakpoints.next; pause = c.self.inside.pause; redo = list j } in u)
+        ∙ ap (λ (v : StoredState). let u : State = record v.state { redo = set now.state.redo (c.args.seat - 1) (redo_of now.state c.args.seat) } in u) c.self.view_is
+        ∙ unchanged now.state c.args.seat in
+    first_of (search (rules, after), grind (arith, common_steps, after))
+
+pub returns-in_err-count-clause-capacities : goal.returns-in_err-count-clause-capacities
+returns-in_err-count-clause-capacities g c =
+    let now = c.args.self.now in
+    let w = swap now c.self.inside.redo.items c.args.seat c.index_mut-list.result.now c.rollback.new.self (ap (λ (v : StoredState). v.state.redo) c.self.view_is) (ap (λ (v : StoredState). v.capacities) c.self.view_is) c.requires.from_one c.requires.to_last c.index_mut-list.ensures.value in
+    w.grown c.rollback.ensures.capacity

@@ -1,20 +1,71 @@
-use Rattle.std.proofs.Common.{rules, arith}
+use Rattle.std.proofs.Common.{◌≡◌, refl, rules, arith, ◌-◌, ◌≤◌, ap, ◌∙◌, sym, length, List, set, map, get_or, Result}
 use Rattle.std.proofs.lemmas.Grind.{common_steps}
-use Rattle.cdb_control.proofs.Steps.{rejoined, kept}
+use Rattle.cdb_base.specs.declared.event.Event.{Event}
+use Rattle.cdb_base.specs.declared.refusal.Refusal.{Refusal}
+use Rattle.cdb_control.proofs.Steps.{with_lists, unchanged, undone-as, undo_refused-as}
+use Rattle.cdb_control.proofs.Room.{swap}
 use Rattle.cdb_control.specs.Named.{name_of}
-use Rattle.cdb_run.specs.Undo.{undo_of}
+use Rattle.cdb_control.specs.Room.{StoredState, StoredList}
+use Rattle.cdb_control.specs.State.{State, redo_of}
+use Rattle.cdb_run.specs.Refusals.{with_taken}
+use Rattle.cdb_run.specs.Undo.{undo_of, answered, left_by, number_removed, with_removed}
 use Rattle.cdb_control.proofs.state.ControlState.undo.Goals as goal
 use Rattle.cdb_control.proofs.state.ControlState.undo.Goals.{in-Ok, in-Err}
 
 pub returns-clause-ok : goal.returns-clause-ok
 returns-clause-ok g c =
-    let run = c.self.inside.run in
-    let x = undo_of (g.R.Runs.setup run).processes (g.R.Runs.history run) (name_of c.args.name.now) in
-    let answer = c.in_ok-event.ensures.answer in
-    let history = c.in_ok-event.ensures.history in
-    let joined = rejoined x (g.R.Runs.history run) c.in_ok-event.field-0 _ answer history in
-    let same = kept x (g.R.Runs.history run) c.in_ok-event.field-0 _ answer history in
+    let now = c.args.self.now in
+    let name = name_of c.args.name.now in
+    let w = swap now c.self.inside.redo.items c.args.seat c.index_mut-list.result.now c.undo.new.self (ap (λ (v : StoredState). v.state.redo) c.self.view_is) (ap (λ (v : StoredState). v.capacities) c.self.view_is) c.requires.from_one c.requires.to_last c.index_mut-list.ensures.value in
+    let x = undo_of now.state.setup.processes now.state.history name in
+    let r = c.in_ok-event.field-0 in
+    let did = c.in_ok-event.ensures in
+    let answer = did.answer ∙ ap (λ (v : StoredState). answered (undo_of v.state.setup.processes v.state.history name)) c.self.view_is in
+    let lists = map (λ (l : StoredList). l.events) (set c.self.inside.redo.items (c.args.seat - 1) c.undo.new.self) in
+    let list = w.put ∙ ap (λ (l : List Event). set now.state.redo (c.args.seat - 1) l) (did.list ∙ ap (λ (l : List Event). with_taken l r) (sym w.at)) in
+    let after =
+        (λ j. let u : State = record { setup = did.setup j; history = did.history j; stops = c.self.inside.breakpoints.stops; next = c.self.inside.breakpoints.next; pause = c.self.inside.pause; redo = list j } in u)
+        ∙ ap (λ (v : StoredState). let u : State = record v.state { history = left_by v.state.history (undo_of v.state.setup.processes v.state.history name); redo = set now.state.redo (c.args.seat - 1) (with_taken (redo_of now.state c.args.seat) r) } in u) c.self.view_is in
     elim c.match-branch-2.branch [
-      | in-Ok w ↦ first_of (search (rules, joined), grind (arith, common_steps, joined))
-      | in-Err w ↦ first_of (search (rules, joined, same), grind (arith, common_steps, joined, same))
+      | in-Ok w ↦ rw w.result-is (undone-as now.state _ c.args.seat x r w.in-Ok.event answer after w.in-Ok.is)
+      | in-Err w ↦ rw w.result-is (undo_refused-as now.state _ c.args.seat x r w.in-Err.refusal _ answer after w.in-Err.is)
     ]
+
+pub returns-clause-capacities : goal.returns-clause-capacities
+returns-clause-capacities g c =
+    let now = c.args.self.now in
+    let w = swap now c.self.inside.redo.items c.args.seat c.index_mut-list.result.now c.undo.new.self (ap (λ (v : StoredState). v.state.redo) c.self.view_is) (ap (λ (v : StoredState). v.capacities) c.self.view_is) c.requires.from_one c.requires.to_last c.index_mut-list.ensures.value in
+    w.grown c.undo.ensures.capacity
+
+pub returns-clause-spared : goal.returns-clause-spared
+returns-clause-spared g c =
+    elim c.match-branch-2.branch [
+      | in-Ok w ↦ rw w.result-is (λ more. refl)
+      | in-Err w ↦ rw w.result-is (λ more. refl)
+    ]
+
+pub returns-in_err-event-clause-spared : goal.returns-in_err-event-clause-spared
+returns-in_err-event-clause-spared g c = λ more.
+    let now = c.args.self.now in
+    let w = swap now c.self.inside.redo.items c.args.seat c.index_mut-list.result.now c.undo.new.self (ap (λ (v : StoredState). v.state.redo) c.self.view_is) (ap (λ (v : StoredState). v.capacities) c.self.view_is) c.requires.from_one c.requires.to_last c.index_mut-list.ensures.value in
+    let long = ap (λ (l : List Event). length l) w.at in
+    let place = w.place in
+    absurd (let impossible = c.in_err-event.ensures.spared (omega (arith, long, place, more)) in cc)
+
+pub returns-in_err-event-clause-err : goal.returns-in_err-event-clause-err
+returns-in_err-event-clause-err g c =
+    let now = c.args.self.now in
+    let w = swap now c.self.inside.redo.items c.args.seat c.index_mut-list.result.now c.undo.new.self (ap (λ (v : StoredState). v.state.redo) c.self.view_is) (ap (λ (v : StoredState). v.capacities) c.self.view_is) c.requires.from_one c.requires.to_last c.index_mut-list.ensures.value in
+    let did = c.in_err-event.ensures in
+    let list = w.put ∙ ap (λ (l : List Event). set now.state.redo (c.args.seat - 1) l) (did.list_err ∙ sym w.at) in
+    let after =
+        (λ j. let u : State = record { setup = did.setup j; history = did.err j; stops = c.self.inside.breakpoints.stops; next = c.self.inside.breakpoints.next; pause = c.self.inside.pause; redo = list j } in u)
+        ∙ ap (λ (v : StoredState). let u : State = record v.state { redo = set now.state.redo (c.args.seat - 1) (redo_of now.state c.args.seat) } in u) c.self.view_is
+        ∙ unchanged now.state c.args.seat in
+    first_of (search (rules, after), grind (arith, common_steps, after))
+
+pub returns-in_err-event-clause-capacities : goal.returns-in_err-event-clause-capacities
+returns-in_err-event-clause-capacities g c =
+    let now = c.args.self.now in
+    let w = swap now c.self.inside.redo.items c.args.seat c.index_mut-list.result.now c.undo.new.self (ap (λ (v : StoredState). v.state.redo) c.self.view_is) (ap (λ (v : StoredState). v.capacities) c.self.view_is) c.requires.from_one c.requires.to_last c.index_mut-list.ensures.value in
+    w.grown c.undo.ensures.capacity

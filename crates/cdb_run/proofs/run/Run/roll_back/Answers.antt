@@ -28,6 +28,7 @@ loop-name-init g c =
       left =
           subst (λ (names : List StepId). IsLeft history i into history names c.reserve.new.self.items) (sym names_are)
           (subst (λ (taken : List Event). IsLeft history i into history (map event_name (consequences depends history i)) taken) (sym made.items) (left_first history i into stands.0 stands.1));
+      kept = made.capacity;
       room = omega (arith, enough, number, long);
     }
 
@@ -52,11 +53,13 @@ loop-name-preserved g c =
     let same_room = pushed.capacity in
     let fewer = ap (λ (l : List StepId). length l) c.in-Some.ensures.items in
     let room = c.loop-name.invariant.room in
+    let kept = c.loop-name.invariant.kept in
     record {
       setup = ap (λ (s : Standing). s.setup) after ∙ c.loop-name.invariant.setup;
       left =
           subst (λ (h : List Event). IsLeft history i into h names c.push_reserved.new.events.items) (sym (ap (λ (s : Standing). s.history) after))
           (subst (λ (l : List Event). IsLeft history i into (without c.loop-name.self.history next.0) names l) (sym pushed.items) (next.3 c.take_back_named-event.result (taken.event next.0 next.1)));
+      kept = omega (arith, same_room, kept);
       room = omega (arith, longer, same_room, fewer, room, length-append names (c.in-Some.name ∷ []));
     }
 

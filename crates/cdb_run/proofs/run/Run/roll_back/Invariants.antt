@@ -1,4 +1,4 @@
-use Rattle.std.proofs.Common.{◌≡◌, ◌+◌, ◌-◌, ◌<◌, length, vec_len, vec_capacity}
+use Rattle.std.proofs.Common.{◌≡◌, ◌+◌, ◌-◌, ◌<◌, ◌≤◌, length, vec_len, vec_capacity}
 use Rattle.cdb_run.proofs.RollingBack.{IsLeft}
 use Rattle.cdb_run.proofs.run.Run.roll_back.Given as goal
 
@@ -7,6 +7,7 @@ invariant-loop-name g l =
     record {
       setup : l.self.setup ≡ l.fn.self.setup;
       left : IsLeft l.fn.self.history (l.at - 1) l.fn.taken.items l.self.history l.names.items l.taken.items;
+      kept : vec_capacity l.fn.taken ≤ vec_capacity l.taken;
       room : vec_len l.taken + length l.names.items < vec_capacity l.taken;
     }
 

@@ -1,0 +1,339 @@
+-- What commands do to room and to redo lists in memory.
+use Rattle.std.proofs.Common.{◌≡◌, ◌≢◌, ℕ, zero, suc, ◌+◌, ◌-◌, ◌<◌, ◌≤◌, max, Bool, true, false, not, List, [], ◌∷◌, ◌++◌, length, map, set, get_or, replicate, Option, Some, None, Result, Ok, Err, refl, sym, ap, ◌∙◌, subst, arith, length-append, nat_eq, nat_le, is_some}
+use Rattle.std.specs.Map.{lookup}
+use Rattle.std.proofs.lemmas.List.{length-set, length-map, length-take, length-replicate}
+use Rattle.cdb_base.specs.declared.act.Act.{Act}
+use Rattle.cdb_base.specs.declared.event.Event.{Event}
+use Rattle.cdb_base.specs.declared.name.StepId.{StepId}
+use Rattle.cdb_base.specs.declared.refusal.Refusal.{Refusal}
+use Rattle.cdb_base.specs.declared.refusal.Refusal.TheVariants.{NoProcess, NothingToRedo, NoBreak, BreakLimit}
+use Rattle.cdb_control.specs.Answer.{Answer}
+use Rattle.cdb_control.specs.Answer as reply
+use Rattle.cdb_control.specs.Auto.{choice}
+use Rattle.cdb_control.specs.Commands.{Outcome, unless, granted, found, unpaused, stepped, step, lost, taken_back, undo, rollback, why, redone, shown, outcome, answer, obey}
+use Rattle.cdb_control.specs.Named.{name_of}
+use Rattle.cdb_control.specs.Room.{StoredList, StoredState, HasRoom, cost, room_of, with_room, lowered, raised, rooms_at}
+use Rattle.cdb_control.specs.State.{State, redo_of, last_of, without_last}
+use Rattle.cdb_control.specs.Stops.{names_none_of}
+use Rattle.cdb_control.specs.declared.command.Command.{Command}
+use Rattle.cdb_control.specs.declared.command.Command.TheVariants.{Step, Auto, Lose, Undo, UndoLost, Redo, Forget, Rollback, RollbackLost, Why, WhyLost, Break, Unbreak, Resume, Show, Decisions}
+use Rattle.cdb_control.specs.declared.command.View.{View}
+use Rattle.cdb_control.specs.declared.command.View.TheVariants as view
+use Rattle.cdb_control.specs.declared.named.Named.TheVariants as named
+use Rattle.cdb_message.specs.Mail.{message_name}
+use Rattle.cdb_run.specs.Rules.{Rules}
+use Rattle.cdb_run.specs.Undo.{undo_of, rollback_of, causes_of}
+
+-- ---- lists of redo lists
+
+-- the events of one of them
+pub events-at : (lists : List StoredList) (k : ℕ) (one : StoredList) → k < length lists → get_or lists k one ≡ one → get_or (map (λ l. l.events) lists) k [] ≡ one.events
+events-at [] k one low is = absurd (omega (arith, low))
+events-at (x ∷ xs) zero one low is = ap (λ (l : StoredList). l.events) is
+events-at (x ∷ xs) (suc k) one low is = events-at xs k one (omega (arith, low)) is
+
+pub capacity-at : (lists : List StoredList) (k : ℕ) (one : StoredList) → k < length lists → get_or lists k one ≡ one → get_or (map (λ l. l.capacity) lists) k 0 ≡ one.capacity
+capacity-at [] k one low is = absurd (omega (arith, low))
+capacity-at (x ∷ xs) zero one low is = ap (λ (l : StoredList). l.capacity) is
+capacity-at (x ∷ xs) (suc k) one low is = capacity-at xs k one (omega (arith, low)) is
+
+-- one list gives way to another
+pub events-set : (lists : List StoredList) (k : ℕ) (new : StoredList) → map (λ l. l.events) (set lists k new) ≡ set (map (λ l. l.events) lists) k new.events
+events-set [] k new = refl
+events-set (x ∷ xs) zero new = refl
+events-set (x ∷ xs) (suc k) new = ap (λ (rest : List (List Event)). x.events ∷ rest) (events-set xs k new)
+
+-- one list gives way to another that can hold as many
+pub capacities-set : (lists : List StoredList) (k : ℕ) (old new : StoredList) → k < length lists → get_or lists k old ≡ old → old.capacity ≤ new.capacity
+    → (i : ℕ) → get_or (map (λ l. l.capacity) lists) i 0 ≤ get_or (map (λ l. l.capacity) (set lists k new)) i 0
+capacities-set [] k old new low is more i = absurd (omega (arith, low))
+capacities-set (x ∷ xs) zero old new low is more zero = omega (arith, ap (λ (l : StoredList). l.capacity) is, more)
+capacities-set (x ∷ xs) zero old new low is more (suc i) = omega arith
+capacities-set (x ∷ xs) (suc k) old new low is more zero = omega arith
+capacities-set (x ∷ xs) (suc k) old new low is more (suc i) = capacities-set xs k old new (omega (arith, low)) is more i
+
+-- a seat's list gives way to another, in a state whose lists are these
+pub record Swap (t : StoredState) (lists : List StoredList) (seat : ℕ) (old new : StoredList) : Type 0 where
+  pub low : seat - 1 < length t.state.redo
+  pub at : redo_of t.state seat ≡ old.events
+  pub put : map (λ l. l.events) (set lists (seat - 1) new) ≡ set t.state.redo (seat - 1) new.events
+  pub place : get_or t.capacities (seat - 1) 0 ≡ old.capacity
+  pub placed : get_or (map (λ l. l.capacity) (set lists (seat - 1) new)) (seat - 1) 0 ≡ new.capacity
+  pub grown : old.capacity ≤ new.capacity → (i : ℕ) → get_or t.capacities i 0 ≤ get_or (map (λ l. l.capacity) (set lists (seat - 1) new)) i 0
+
+capacity-placed : (lists : List StoredList) (k : ℕ) (new : StoredList) → k < length lists → get_or (map (λ l. l.capacity) (set lists k new)) k 0 ≡ new.capacity
+capacity-placed [] k new low = absurd (omega (arith, low))
+capacity-placed (x ∷ xs) zero new low = refl
+capacity-placed (x ∷ xs) (suc k) new low = capacity-placed xs k new (omega (arith, low))
+
+pub swap : (t : StoredState) (lists : List StoredList) (seat : ℕ) (old new : StoredList)
+    → map (λ l. l.events) lists ≡ t.state.redo → map (λ l. l.capacity) lists ≡ t.capacities → 1 ≤ seat → seat ≤ length t.state.redo → old ≡ get_or lists (seat - 1) old
+    → Swap t lists seat old new
+swap t lists seat old new events capacities from_one to_last is =
+    let many = length-map lists (λ (l : StoredList). l.events) in
+    let same = ap (λ (e : List (List Event)). length e) events in
+    let low : seat - 1 < length lists = omega (arith, many, same, from_one, to_last) in
+    record {
+      low = omega (arith, from_one, to_last);
+      at = ap (λ (e : List (List Event)). get_or e (seat - 1) []) (sym events) ∙ events-at lists (seat - 1) old low (sym is);
+      put = events-set lists (seat - 1) new ∙ ap (λ (e : List (List Event)). set e (seat - 1) new.events) events;
+      place = ap (λ (e : List ℕ). get_or e (seat - 1) 0) (sym capacities) ∙ capacity-at lists (seat - 1) old low (sym is);
+      placed = capacity-placed lists (seat - 1) new low;
+      grown = λ more i. subst (λ (e : List ℕ). get_or e i 0 ≤ get_or (map (λ l. l.capacity) (set lists (seat - 1) new)) i 0) capacities (capacities-set lists (seat - 1) old new low (sym is) more i);
+    }
+
+-- ---- marks and rooms
+
+all-lowered : (marks : List ℕ) (n : ℕ) → map (λ r. r - 1) (map (λ m. m - n) marks) ≡ map (λ m. m - (n + 1)) marks
+all-lowered [] n = refl
+all-lowered (m ∷ ms) n = (let head : m - n - 1 ≡ m - (n + 1) = omega arith in ap (λ (x : ℕ). x ∷ map (λ r. r - 1) (map (λ m. m - n) ms)) head ∙ ap (λ (xs : List ℕ). (m - (n + 1)) ∷ xs) (all-lowered ms n))
+
+-- a mark is lowered by all but one of what a command takes, and the journal gets its entry
+pub rooms-lowered : (marks : List ℕ) (i n c : ℕ) → 1 ≤ c → i < length marks
+    → set (map (λ r. r - 1) (map (λ m. m - n) marks)) i (get_or (map (λ m. m - n) marks) i 0 - c) ≡ map (λ m. m - (n + 1)) (set marks i (get_or marks i 0 - (c - 1)))
+rooms-lowered [] i n c one low = absurd (omega (arith, low))
+rooms-lowered (m ∷ ms) zero n c one low =
+    let head : m - n - c ≡ m - (c - 1) - (n + 1) = omega (arith, one) in
+    ap (λ (x : ℕ). x ∷ map (λ r. r - 1) (map (λ m. m - n) ms)) head ∙ ap (λ (xs : List ℕ). (m - (c - 1) - (n + 1)) ∷ xs) (all-lowered ms n)
+rooms-lowered (m ∷ ms) (suc i) n c one low =
+    let head : m - n - 1 ≡ m - (n + 1) = omega arith in
+    let rest = rooms-lowered ms i n c one (omega (arith, low)) in
+    ap (λ (x : ℕ). x ∷ set (map (λ r. r - 1) (map (λ m. m - n) ms)) i (get_or (map (λ m. m - n) ms) i 0 - c)) head ∙ ap (λ (xs : List ℕ). (m - (n + 1)) ∷ xs) rest
+
+pub rooms-raised : (marks : List ℕ) (i n count : ℕ) → i < length marks
+    → map (λ m. m - n) (set marks i (max (n + count) (get_or marks i 0))) ≡ set (map (λ m. m - n) marks) i (max count (get_or (map (λ m. m - n) marks) i 0))
+rooms-raised [] i n count low = absurd (omega (arith, low))
+rooms-raised (m ∷ ms) zero n count low =
+    let head : max (n + count) m - n ≡ max count (m - n) = omega arith in ap (λ (x : ℕ). x ∷ map (λ m. m - n) ms) head
+rooms-raised (m ∷ ms) (suc i) n count low = ap (λ (xs : List ℕ). (m - n) ∷ xs) (rooms-raised ms i n count (omega (arith, low)))
+
+pub rooms-none : (seats : ℕ) → rooms_at 0 (replicate seats 0) ≡ replicate seats 0
+rooms-none zero = refl
+rooms-none (suc n) = ap (λ (rooms : List ℕ). 0 ∷ rooms) (rooms-none n)
+
+pub no-rooms : (seats i : ℕ) → get_or (rooms_at 0 (replicate seats 0)) i 0 ≡ 0
+no-rooms zero i = refl
+no-rooms (suc n) zero = refl
+no-rooms (suc n) (suc i) = no-rooms n i
+
+pub cost-one : (a : Answer) → 1 ≤ cost a
+cost-one (reply.Stepped event decides paused) = omega arith
+cost-one (reply.Undone event) = omega arith
+cost-one (reply.Redone event decides) = omega arith
+cost-one (reply.RolledBack count) = omega arith
+cost-one (reply.Because name causes) = omega arith
+cost-one (reply.BreakSet number) = omega arith
+cost-one (reply.BreakGone number) = omega arith
+cost-one reply.Resumed = omega arith
+cost-one (reply.Forgot count) = omega arith
+cost-one (reply.Proc shown) = omega arith
+cost-one (reply.Regs cells) = omega arith
+cost-one (reply.Mail copies) = omega arith
+cost-one (reply.History events) = omega arith
+cost-one (reply.Decisions pairs) = omega arith
+cost-one (reply.Refused refusal) = omega arith
+
+-- ---- how much longer a command makes the redo lists
+
+pub record Spends (seat : ℕ) (t : State) (o : Outcome) : Type 0 where
+  pub own : length (redo_of o.after seat) ≤ length (redo_of t seat) + cost o.reply
+  pub others : (i : ℕ) → i ≢ seat - 1 → get_or o.after.redo i [] ≡ get_or t.redo i []
+
+other-set : {A : Type 0} (xs : List A) (k i : ℕ) (x d : A) → i ≢ k → get_or (set xs k x) i d ≡ get_or xs i d
+other-set [] k i x d apart = refl
+other-set (y ∷ ys) zero zero x d apart = absurd (apart refl)
+other-set (y ∷ ys) zero (suc i) x d apart = refl
+other-set (y ∷ ys) (suc k) zero x d apart = refl
+other-set (y ∷ ys) (suc k) (suc i) x d apart = other-set ys k i x d (λ same. apart (ap suc same))
+
+same-set : {A : Type 0} (xs : List A) (k : ℕ) (x d : A) → k < length xs → get_or (set xs k x) k d ≡ x
+same-set [] k x d low = absurd (omega (arith, low))
+same-set (y ∷ ys) zero x d low = refl
+same-set (y ∷ ys) (suc k) x d low = same-set ys k x d (omega (arith, low))
+
+-- the lists are as they were
+kept : (seat : ℕ) (t : State) (o : Outcome) → o.after.redo ≡ t.redo → Spends seat t o
+kept seat t o same =
+    record {
+      own = (let long = ap (λ (lists : List (List Event)). length (get_or lists (seat - 1) [])) same in omega (arith, long));
+      others = λ i apart. ap (λ (lists : List (List Event)). get_or lists i []) same;
+    }
+
+unless-kept : (seat : ℕ) (b : Bool) (r : Refusal) (t : State) (go : Outcome) → Spends seat t go → Spends seat t (unless b r t go)
+unless-kept seat true r t go h = kept seat t _ refl
+unless-kept seat false r t go h = h
+
+granted-kept : (seat : ℕ) {A : Type 0} (x : Result A Refusal) (t : State) (go : A → Outcome) → ((a : A) → Spends seat t (go a)) → Spends seat t (granted x t go)
+granted-kept seat (Ok a) t go h = h a
+granted-kept seat (Err r) t go h = kept seat t _ refl
+
+found-kept : (seat : ℕ) {A : Type 0} (x : Option A) (r : Refusal) (t : State) (go : A → Outcome) → ((a : A) → Spends seat t (go a)) → Spends seat t (found x r t go)
+found-kept seat (Some a) r t go h = h a
+found-kept seat None r t go h = kept seat t _ refl
+
+unpaused-kept : (seat : ℕ) (x : Option ℕ) (t : State) (go : Outcome) → Spends seat t go → Spends seat t (unpaused x t go)
+unpaused-kept seat (Some b) t go h = kept seat t _ refl
+unpaused-kept seat None t go h = h
+
+module _ (rules : Rules) (t : State) (seat : ℕ) (low : seat - 1 < length t.redo) where
+  -- the seat's list is another, no longer than it was by more than what the command takes
+  becomes : (o : Outcome) (events : List Event) → o.after.redo ≡ set t.redo (seat - 1) events → length events ≤ length (redo_of t seat) + cost o.reply → Spends seat t o
+  becomes o events is long =
+      record {
+        own = (let here = ap (λ (lists : List (List Event)). length (get_or lists (seat - 1) [])) is in let there = ap (λ (l : List Event). length l) (same-set t.redo (seat - 1) events [] low) in omega (arith, long, here, there));
+        others = λ i apart. ap (λ (lists : List (List Event)). get_or lists i []) is ∙ other-set t.redo (seat - 1) i events [] apart;
+      }
+
+  undo-spends : (name : StepId) → Spends seat t (undo t seat name)
+  undo-spends name =
+      granted-kept seat (undo_of t.setup.processes t.history name) t _
+      (λ undone. becomes _ (redo_of t seat ++ undone.0 ∷ []) refl (omega (arith, length-append (redo_of t seat) (undone.0 ∷ []))))
+
+  rollback-spends : (name : StepId) → Spends seat t (rollback t seat name)
+  rollback-spends name =
+      granted-kept seat (rollback_of t.setup.processes t.history name) t _
+      (λ removed. becomes _ (redo_of t seat ++ removed.0) refl (omega (arith, length-append (redo_of t seat) removed.0)))
+
+  redo-spends : Spends seat t (outcome rules t seat Redo)
+  unfolding outcome
+  redo-spends =
+      found-kept seat (last_of (redo_of t seat)) NothingToRedo t _
+      (λ e. granted-kept seat (rules.again t.history e) t (redone rules t seat)
+      (λ taken. becomes _ (without_last (redo_of t seat)) refl (omega (arith, length-take (length (redo_of t seat) - 1) (redo_of t seat)))))
+
+  forget-spends : Spends seat t (outcome rules t seat Forget)
+  unfolding outcome
+  forget-spends = becomes _ [] refl (omega arith)
+
+  why-spends : (name : StepId) → Spends seat t (why t name)
+  why-spends name = granted-kept seat (causes_of t.setup.processes t.history name) t _ (λ causes. kept seat t _ refl)
+
+  shown-spends : (v : View) → Spends seat t (shown rules t v)
+  shown-spends (view.Proc p) = found-kept seat (rules.process t.history p) NoProcess t _ (λ process. kept seat t _ refl)
+  shown-spends view.Regs = kept seat t _ refl
+  shown-spends view.Mail = kept seat t _ refl
+  shown-spends view.History = kept seat t _ refl
+
+  step-spends : (p : ℕ) (act : Act) → Spends seat t (step rules t p act)
+  step-spends p act = granted-kept seat (rules.step t.history p act) t (stepped rules t p) (λ e. kept seat t _ refl)
+
+  pub spends : (command : Command) → Spends seat t (outcome rules t seat command)
+  unfolding outcome
+  spends (Step p act) = step-spends p act
+  spends (Auto p) = granted-kept seat (choice rules t.history p) t _ (λ act. unpaused-kept seat t.pause t _ (step-spends p act))
+  spends (Lose s m p) = granted-kept seat (rules.lose t.history (message_name s m) p) t (lost t) (λ e. kept seat t _ refl)
+  spends (Undo p k) = undo-spends (name_of (named.Step p k))
+  spends (UndoLost s m p) = undo-spends (name_of (named.Lost s m p))
+  spends Redo = redo-spends
+  spends Forget = forget-spends
+  spends (Rollback p k) = rollback-spends (name_of (named.Step p k))
+  spends (RollbackLost s m p) = rollback-spends (name_of (named.Lost s m p))
+  spends (Why p k) = why-spends (name_of (named.Step p k))
+  spends (WhyLost s m p) = why-spends (name_of (named.Lost s m p))
+  spends (Break stop) =
+      unless-kept seat (names_none_of t.setup.processes stop) NoProcess t _
+      (unless-kept seat (nat_le 99 (length t.stops)) BreakLimit t _ (kept seat t _ refl))
+  spends (Unbreak number) = unless-kept seat (not (is_some (lookup (nat_eq number) t.stops))) NoBreak t _ (kept seat t _ refl)
+  spends Resume = kept seat t _ refl
+  spends (Show v) = shown-spends v
+  spends Decisions = kept seat t _ refl
+
+-- ---- what is promised stays in memory
+
+apart_or_same : (i k : ℕ) (G : Type 0) → (i ≡ k → G) → (i ≢ k → G) → G
+apart_or_same zero zero G same apart = same refl
+apart_or_same zero (suc k) G same apart = apart (λ e. omega (arith, e))
+apart_or_same (suc i) zero G same apart = apart (λ e. omega (arith, e))
+apart_or_same (suc i) (suc k) G same apart = apart_or_same i k G (λ e. same (ap suc e)) (λ ne. apart (λ e. ne (omega (arith, e))))
+
+less-at : (rooms : List ℕ) (i : ℕ) → get_or (map (λ r. r - 1) rooms) i 0 ≡ get_or rooms i 0 - 1
+less-at [] i = refl
+less-at (r ∷ rs) zero = refl
+less-at (r ∷ rs) (suc i) = less-at rs i
+
+-- after a command there is as much less room as it can have taken
+pub HasRoom-next : (n places places' : ℕ) (rooms : List ℕ) (seat : ℕ) (was next : StoredState) (o : Outcome)
+    → HasRoom n places rooms was → seat - 1 < length was.state.redo → Spends seat was.state o → o.after ≡ next.state → length next.state.redo ≡ length was.state.redo
+    → ((i : ℕ) → get_or was.capacities i 0 ≤ get_or next.capacities i 0) → places ≤ places'
+    → HasRoom (n + 1) places' (lowered rooms seat o.reply) next
+HasRoom-next n places places' rooms seat was next o room low spends after long grown more =
+    let seats = room.seats in
+    let many = length-map rooms (λ r. r - 1) in
+    let one = cost-one o.reply in
+    let own = ap (λ (t : State). length (redo_of t seat)) after in
+    record {
+      seats = length-set (map (λ r. r - 1) rooms) (seat - 1) _ ∙ many ∙ seats ∙ sym long;
+      journal = λ i some. apart_or_same i (seat - 1) _
+          (λ same.
+            let is = ap (λ k. get_or (lowered rooms seat o.reply) k 0) same ∙ same-set (map (λ r. r - 1) rooms) (seat - 1) (room_of rooms seat - cost o.reply) 0 (omega (arith, many, seats, low)) in
+            let promised = room.journal (seat - 1) (omega (arith, is, some)) in
+            omega (arith, is, some, promised, one, more))
+          (λ apart.
+            let is = other-set (map (λ r. r - 1) rooms) (seat - 1) i (room_of rooms seat - cost o.reply) 0 apart ∙ less-at rooms i in
+            let promised = room.journal i (omega (arith, is, some)) in
+            omega (arith, is, some, promised, more));
+      lists = λ i some. apart_or_same i (seat - 1) _
+          (λ same.
+            let is = ap (λ k. get_or (lowered rooms seat o.reply) k 0) same ∙ same-set (map (λ r. r - 1) rooms) (seat - 1) (room_of rooms seat - cost o.reply) 0 (omega (arith, many, seats, low)) in
+            let promised = room.lists (seat - 1) (omega (arith, is, some)) in
+            let here = ap (λ k. length (get_or next.state.redo k [])) same in
+            let there = ap (λ k. get_or next.capacities k 0) same in
+            let taken = spends.own in
+            omega (arith, is, some, promised, here, there, taken, own, grown (seat - 1)))
+          (λ apart.
+            let is = other-set (map (λ r. r - 1) rooms) (seat - 1) i (room_of rooms seat - cost o.reply) 0 apart ∙ less-at rooms i in
+            let promised = room.lists i (omega (arith, is, some)) in
+            let here = ap (λ (t : State). length (get_or t.redo i [])) after in
+            let there = ap (λ (l : List Event). length l) (spends.others i apart) in
+            omega (arith, is, some, promised, here, there, grown i));
+    }
+
+zero_or_some : (r : ℕ) (G : Type 0) → (r ≡ 0 → G) → (0 < r → G) → G
+zero_or_some zero G none some = none refl
+zero_or_some (suc r) G none some = some (omega arith)
+
+-- memory was made for more
+pub HasRoom-raised : (n places places' : ℕ) (rooms : List ℕ) (seat count : ℕ) (was next : StoredState)
+    → HasRoom n places rooms was → seat - 1 < length was.state.redo → next.state ≡ was.state
+    → n + count ≤ places' → places ≤ places' → length (redo_of was.state seat) + count ≤ get_or next.capacities (seat - 1) 0
+    → ((i : ℕ) → get_or was.capacities i 0 ≤ get_or next.capacities i 0)
+    → HasRoom n places' (raised rooms seat count) next
+HasRoom-raised n places places' rooms seat count was next room low same journal more list grown =
+    let seats = room.seats in
+    let long = ap (λ (t : State). length t.redo) same in
+    let raised-there = same-set rooms (seat - 1) (max count (room_of rooms seat)) 0 (omega (arith, seats, low)) in
+    record {
+      seats = length-set rooms (seat - 1) _ ∙ seats ∙ sym long;
+      journal = λ i some. apart_or_same i (seat - 1) _
+          (λ here.
+            let is = ap (λ k. get_or (raised rooms seat count) k 0) here ∙ raised-there in
+            zero_or_some (room_of rooms seat) _
+            (λ none. omega (arith, is, none, journal))
+            (λ positive. let promised = room.journal (seat - 1) positive in omega (arith, is, promised, journal, more)))
+          (λ apart.
+            let is = other-set rooms (seat - 1) i (max count (room_of rooms seat)) 0 apart in
+            let promised = room.journal i (omega (arith, is, some)) in
+            omega (arith, is, promised, more));
+      lists = λ i some. apart_or_same i (seat - 1) _
+          (λ here.
+            let is = ap (λ k. get_or (raised rooms seat count) k 0) here ∙ raised-there in
+            let events = ap (λ k. length (get_or next.state.redo k [])) here ∙ ap (λ (t : State). length (redo_of t seat)) same in
+            let places_there = ap (λ k. get_or next.capacities k 0) here in
+            zero_or_some (room_of rooms seat) _
+            (λ none. omega (arith, is, none, events, places_there, list))
+            (λ positive. let promised = room.lists (seat - 1) positive in omega (arith, is, promised, events, places_there, list, grown (seat - 1))))
+          (λ apart.
+            let is = other-set rooms (seat - 1) i (max count (room_of rooms seat)) 0 apart in
+            let promised = room.lists i (omega (arith, is, some)) in
+            let events = ap (λ (t : State). length (get_or t.redo i [])) same in
+            omega (arith, is, promised, events, grown i));
+    }
+
+-- nobody was promised anything
+pub HasRoom-first : (places seats : ℕ) (stored : StoredState) → length stored.state.redo ≡ seats → HasRoom 0 places (rooms_at 0 (replicate seats 0)) stored
+HasRoom-first places seats stored long =
+    record {
+      seats = length-map (replicate seats 0) (λ mark. mark - 0) ∙ length-replicate seats 0 ∙ sym long;
+      journal = λ i some. absurd (let none = no-rooms seats i in omega (arith, none, some));
+      lists = λ i some. absurd (let none = no-rooms seats i in omega (arith, none, some));
+    }
