@@ -8,7 +8,7 @@ use cdb_base::{
     Act, Cell, CopyName, Event, Kind, MsgName, NoMemory, Payload, Proc, Refusal, Reg, StepId, Val,
 };
 use cdb_run::AnyRun;
-use cdb_setup::{Algorithm, Setup};
+use cdb_setup::{Algorithm, Setup, SetupFault};
 use smallvec::SmallVec;
 use std::alloc::Global;
 use std::marker::Model;
@@ -29,6 +29,10 @@ fn is_of_run(setup: &Setup, event: &Event) -> bool
         }
         Event::Lost(copy) => setup.version() == 2 && copy.to.number() <= setup.n(),
     }
+}
+
+fn read(alloc: Global, setup: &str) -> Result<Setup, SetupFault> {
+    Setup::read(alloc, setup.as_bytes())
 }
 
 /// Whether two setups are equal.
@@ -58,7 +62,10 @@ impl Model for Example {
 impl Example {
     /// The run of a setup in which nothing has happened.
     pub fn start(alloc: Global, setup: &str) -> Result<Example, Fail> {
-        let setup = Setup::read(alloc, setup.as_bytes())?;
+        Ok(Example::of(alloc, read(alloc, setup)?)?)
+    }
+
+    fn of(alloc: Global, setup: Setup) -> Result<Example, NoMemory> {
         let run = AnyRun::start(alloc, setup)?;
         Ok(Example { run })
     }

@@ -44,20 +44,6 @@ pub enum Turn {
     Show(View),
 }
 
-/// A run, and what was taken back of it and not taken again, the last at the end.
-#[derive(Drop)]
-struct Session {
-    run: Example,
-    undone: Vec<Event>,
-}
-
-/// The session of a setup in which nothing has happened.
-fn start<R: AllocGlobal>(rt: &R, setup: &str) -> Result<Session, Fail> {
-    let run = Example::start(rt.alloc(), setup)?;
-    let undone = Vec::new(rt.alloc());
-    Ok(Session { run, undone })
-}
-
 /// The step that process `p` can take, of all that it can take the first; else why it can take none.
 fn choose(run: &Example, p: u32) -> Result<Act, Refusal> {
     let receive = match run.pending(p, None) {
@@ -185,28 +171,30 @@ fn tell_undone(
 /// Takes again what was taken back last, which is kept where that is refused.
 fn again<R: Abort + AllocGlobal>(
     rt: &R,
-    session: &mut Session,
+    run: &mut Example,
+    undone: &mut Vec<Event>,
     text: &mut String,
 ) -> Result<(), Fail> {
-    let event = session.undone.pop().ok_or("nothing was taken back")?;
-    let answer = session.run.again(rt, &event)?;
+    let event = undone.pop().ok_or("nothing was taken back")?;
+    let answer = run.again(rt, &event)?;
     if answer.is_err() {
-        keep(&mut session.undone, event)?;
+        keep(undone, event)?;
     }
     push_answer(text, "redone ", &answer)?;
-    push_decides(text, &session.run, &answer)
+    push_decides(text, run, &answer)
 }
 
 fn again_times<R: Abort + AllocGlobal>(
     rt: &R,
-    session: &mut Session,
+    run: &mut Example,
+    undone: &mut Vec<Event>,
     times: u32,
     text: &mut String,
 ) -> Result<(), Fail> {
     let mut between = "";
     for _ in 0..times {
         text.push_str(between)?;
-        again(rt, session, text)?;
+        again(rt, run, undone, text)?;
         between = " / ";
     }
     Ok(())
@@ -214,38 +202,39 @@ fn again_times<R: Abort + AllocGlobal>(
 
 fn again_until<R: Abort + AllocGlobal>(
     rt: &R,
-    session: &mut Session,
+    run: &mut Example,
+    undone: &mut Vec<Event>,
     times: u32,
     text: &mut String,
 ) -> Result<(), Fail> {
     for _ in 1..times {
         let mut untold = String::new(rt.alloc());
-        again(rt, session, &mut untold)?;
+        again(rt, run, undone, &mut untold)?;
     }
-    again(rt, session, text)
+    again(rt, run, undone, text)
 }
 
 fn rollback<R: AllocGlobal>(
     rt: &R,
-    session: &mut Session,
-    p: u32,
-    k: u32,
+    run: &mut Example,
+    undone: &mut Vec<Event>,
+    step: (u32, u32),
     text: &mut String,
 ) -> Result<(), Fail> {
-    let undone = &mut session.undone;
-    let answer = session.run.rollback_onto(rt.alloc(), p, k, undone)?;
+    let (p, k) = step;
+    let answer = run.rollback_onto(rt.alloc(), p, k, undone)?;
     Ok(push_count(text, &answer)?)
 }
 
 fn rollback_lost<R: AllocGlobal>(
     rt: &R,
-    session: &mut Session,
+    run: &mut Example,
+    undone: &mut Vec<Event>,
     copy: (u32, u32, u32),
     text: &mut String,
 ) -> Result<(), Fail> {
     let (s, m, p) = copy;
-    let undone = &mut session.undone;
-    let answer = session.run.rollback_lost_onto(rt.alloc(), s, m, p, undone)?;
+    let answer = run.rollback_lost_onto(rt.alloc(), s, m, p, undone)?;
     Ok(push_count(text, &answer)?)
 }
 
@@ -286,28 +275,27 @@ fn why_lost<R: AllocGlobal>(
     push_why(text, &StepId::Lost(CopyName { msg, to }), &causes)
 }
 
-/// Takes the turn, and adds to the text what the run answers.
+/// Takes the turn, and adds to the text what the run answers. What was taken back and not taken again is
+/// kept, the last at the end.
 fn tell<R: Abort + AllocGlobal>(
     rt: &R,
-    session: &mut Session,
+    run: &mut Example,
+    undone: &mut Vec<Event>,
     turn: &Turn,
     text: &mut String,
 ) -> Result<(), Fail> {
-    let run = &mut session.run;
     match *turn {
         Turn::Step(p, act) => step(rt, run, p, act, text),
         Turn::Auto(p, times) => auto_times(rt, run, p, times, text),
         Turn::AutoUntil(p, times) => auto_until(rt, run, p, times, text),
         Turn::AskForOther(p, leader, times) => ask_for_other(rt, run, (p, leader, times), text),
         Turn::Lose(s, m, p) => lose(rt, run, (s, m, p), text),
-        Turn::Undo(p, k) => tell_undone(&mut session.undone, &run.undo(p, k), text),
-        Turn::UndoLost(s, m, p) => {
-            tell_undone(&mut session.undone, &run.undo_lost(s, m, p), text)
-        }
-        Turn::Rollback(p, k) => rollback(rt, session, p, k, text),
-        Turn::RollbackLost(s, m, p) => rollback_lost(rt, session, (s, m, p), text),
-        Turn::Again(times) => again_times(rt, session, times, text),
-        Turn::AgainUntil(times) => again_until(rt, session, times, text),
+        Turn::Undo(p, k) => tell_undone(undone, &run.undo(p, k), text),
+        Turn::UndoLost(s, m, p) => tell_undone(undone, &run.undo_lost(s, m, p), text),
+        Turn::Rollback(p, k) => rollback(rt, run, undone, (p, k), text),
+        Turn::RollbackLost(s, m, p) => rollback_lost(rt, run, undone, (s, m, p), text),
+        Turn::Again(times) => again_times(rt, run, undone, times, text),
+        Turn::AgainUntil(times) => again_until(rt, run, undone, times, text),
         Turn::Why(p, k) => why(rt, run, p, k, text),
         Turn::WhyLost(s, m, p) => why_lost(rt, run, (s, m, p), text),
         Turn::Show(view) => push_view(text, rt.alloc(), run, view),
@@ -317,14 +305,15 @@ fn tell<R: Abort + AllocGlobal>(
 /// What the turns are answered, one after the other, parted by ` / `.
 fn answers<R: Abort + AllocGlobal>(
     rt: &R,
-    session: &mut Session,
+    run: &mut Example,
     turns: &[Turn],
 ) -> Result<String, Fail> {
+    let mut undone = Vec::new(rt.alloc());
     let mut text = String::new(rt.alloc());
     let mut between = "";
     for turn in turns {
         text.push_str(between)?;
-        tell(rt, session, turn, &mut text)?;
+        tell(rt, run, &mut undone, turn, &mut text)?;
         between = " / ";
     }
     Ok(text)
@@ -341,28 +330,34 @@ pub fn check<R: Abort + AllocGlobal>(
     turns: &[Turn],
     expected: &str,
 ) -> Result<(), Fail> {
-    let mut session = start(rt, setup)?;
-    let told = answers(rt, &mut session, turns)?;
+    let mut run = Example::start(rt.alloc(), setup)?;
+    let told = answers(rt, &mut run, turns)?;
     compare(rt, told.as_str(), expected);
     Ok(())
 }
 
-/// The session of a setup after some turns.
-fn after<R: Abort + AllocGlobal>(rt: &R, setup: &str, turns: &[Turn]) -> Result<Session, Fail> {
-    let mut session = start(rt, setup)?;
-    let _told = answers(rt, &mut session, turns)?;
-    Ok(session)
+/// Takes the turns.
+fn take<R: Abort + AllocGlobal>(rt: &R, run: &mut Example, turns: &[Turn]) -> Result<(), Fail> {
+    let _told = answers(rt, run, turns)?;
+    Ok(())
+}
+
+/// The run of the setup after some turns.
+fn after<R: Abort + AllocGlobal>(rt: &R, setup: &str, turns: &[Turn]) -> Result<Example, Fail> {
+    let mut run = Example::start(rt.alloc(), setup)?;
+    take(rt, &mut run, turns)?;
+    Ok(run)
 }
 
 /// Whether a run of the setup, after some turns, is in the same state as another run.
 fn is_same_after<R: Abort + AllocGlobal>(
     rt: &R,
-    run: &Example,
+    other: &Example,
     setup: &str,
     turns: &[Turn],
 ) -> Result<bool, Fail> {
-    let session = after(rt, setup, turns)?;
-    Ok(run.is_same(rt, &session.run))
+    let run = after(rt, setup, turns)?;
+    Ok(run.is_same(rt, other))
 }
 
 /// Whether two runs of the setup, each after its turns, are in the same state.
@@ -372,6 +367,6 @@ pub fn are_same<R: Abort + AllocGlobal>(
     turns: &[Turn],
     others: &[Turn],
 ) -> Result<bool, Fail> {
-    let session = after(rt, setup, turns)?;
-    is_same_after(rt, &session.run, setup, others)
+    let run = after(rt, setup, turns)?;
+    is_same_after(rt, &run, setup, others)
 }
