@@ -1,0 +1,10 @@
+mod alpha;
+mod breakpoints;
+mod leader;
+mod losses;
+mod memory;
+mod pair;
+mod rollback;
+mod session;
+mod setups;
+mod undo;
