@@ -1,12 +1,10 @@
 //! Races of processes and scripts in threads.
 
-ghost use Rattle.std.specs.Prelude.{◌≡◌, IfOk, vec_len};
-
 use super::gates::Crossing;
 use super::opening::{ALONE, ONE_LEADER};
-use cdb_base::{Proc, Val};
+use cdb_base::{NoMemory, Proc, Val};
 use cdb_control::{Command, Runs};
-use cdb_race::{Script, race};
+use cdb_race::{Raced, Script, race};
 use cdb_setup::Setup;
 use std::alloc::{AllocError, Global};
 use std::process::Abort;
@@ -14,6 +12,43 @@ use std::sync::Wait;
 use std::sync::atomic::AtomicBool;
 use std::test::Fail;
 use std::thread::Threads;
+
+/// A race of an example, which has ended. Its calls are those of what the race left.
+#[derive(Drop)]
+struct Ended {
+    raced: Raced,
+}
+
+impl Ended {
+    fn of<R: Threads + Wait + Sync + Abort + AllocGlobal>(
+        rt: &R,
+        setup: &str,
+        turns: u32,
+        scripts: &[Script],
+        gates: Vec<Crossing>,
+    ) -> Result<Ended, Fail> {
+        let setup = Setup::read(rt.alloc(), setup.as_bytes())?;
+        assert!(rt; setup.n() <= 9 && scripts.len() <= 9);
+        assert!(rt; gates.len() == usize::from(setup.n()) + scripts.len());
+        let raced = race(rt, rt.alloc(), setup, turns, scripts, gates)?;
+        Ok(Ended { raced })
+    }
+
+    /// How many entries the journal has.
+    fn entries(&self) -> usize {
+        self.raced.control.journal().len()
+    }
+
+    fn decisions(&self, alloc: Global) -> Result<Vec<(Proc, Val)>, NoMemory> {
+        self.raced.control.run().decisions(alloc)
+    }
+
+    /// How many replies the seat of that index got, where there is one.
+    fn replies_to(&self, seat: usize) -> Option<usize> {
+        let replies = self.raced.replies.get(seat)?;
+        Some(replies.len())
+    }
+}
 
 fn script(alloc: Global, commands: &[Command]) -> Result<Script, AllocError> {
     Ok(Script::new(Vec::from_slice(alloc, commands)?))
@@ -25,9 +60,7 @@ fn gates<'a>(
     one: &'a AtomicBool,
     other: &'a AtomicBool,
     first: bool,
-) -> Result<Vec<Crossing<'a>>, AllocError>
-    ensures { IfOk result (λ gates. vec_len gates ≡ 4) }
-{
+) -> Result<Vec<Crossing<'a>>, AllocError> {
     let mut all = Vec::new(alloc);
     let (a, b) = (Some((one, other)), Some((other, one)));
     all.push(Crossing {
@@ -45,6 +78,15 @@ fn gates<'a>(
     Ok(all)
 }
 
+// Gates that always pass.
+fn open_gates(alloc: Global, count: u8) -> Result<Vec<Crossing<'static>>, AllocError> {
+    let mut all = Vec::new(alloc);
+    for _ in 0..count {
+        all.push(Crossing { flags: None })?;
+    }
+    Ok(all)
+}
+
 // Two processes and two scripts, and how many entries the final journal has.
 fn crossed<R: Threads + Wait + Sync + Abort + AllocGlobal>(
     rt: &R,
@@ -58,10 +100,7 @@ fn crossed<R: Threads + Wait + Sync + Abort + AllocGlobal>(
     ];
     let (one, other) = (AtomicBool::new(false), AtomicBool::new(false));
     let gates = gates(alloc, &one, &other, first)?;
-    let setup = Setup::read(alloc, ONE_LEADER.as_bytes())?;
-    assert!(rt; setup.n() == 2);
-    let raced = race(rt, alloc, setup, turns, &scripts, gates)?;
-    Ok(raced.control.journal().len())
+    Ok(Ended::of(rt, ONE_LEADER, turns, &scripts, gates)?.entries())
 }
 
 #[test]
@@ -87,15 +126,8 @@ fn agree(decisions: &[(Proc, Val)]) -> bool {
 fn two_processes_and_a_script_agree(rt: HostRuntime) -> Result<(), Fail> {
     let alloc = rt.alloc();
     let scripts = [script(alloc, &[Command::Undo(2, 1), Command::Redo])?];
-    let mut gates = Vec::new(alloc);
-    for _ in 0..3u8 {
-        gates.push(Crossing { flags: None })?;
-    }
-    let setup = Setup::read(alloc, ONE_LEADER.as_bytes())?;
-    assert!(rt; setup.n() == 2);
-    assert!(rt; gates.len() == 3);
-    let raced = race(&rt, alloc, setup, 50, &scripts, gates)?;
-    let decisions = raced.control.run().decisions(alloc)?;
+    let ended = Ended::of(&rt, ONE_LEADER, 50, &scripts, open_gates(alloc, 3)?)?;
+    let decisions = ended.decisions(alloc)?;
     assert!(rt; agree(&decisions));
     Ok(())
 }
@@ -104,20 +136,13 @@ fn two_processes_and_a_script_agree(rt: HostRuntime) -> Result<(), Fail> {
 fn a_race_of_one_process(rt: HostRuntime) -> Result<(), Fail> {
     let alloc = rt.alloc();
     let scripts = [script(alloc, &[Command::Decisions])?];
-    assert_eq!(rt; scripts[0].commands().len(), 1);
-    let mut gates = Vec::new(alloc);
-    gates.push(Crossing { flags: None })?;
-    gates.push(Crossing { flags: None })?;
-    let setup = Setup::read(alloc, ALONE.as_bytes())?;
-    assert!(rt; setup.n() == 1);
-    let raced = race(&rt, alloc, setup, 8, &scripts, gates)?;
-    assert_eq!(rt; raced.control.journal().len(), 9);
-    let decisions = raced.control.run().decisions(alloc)?;
-    assert_eq!(rt;
-        decisions.as_slice(),
-        [(Proc::new(1), Val::new(7))].as_slice()
-    );
-    assert_eq!(rt; raced.replies.len(), 2);
-    assert_eq!(rt; (raced.replies[0].len(), raced.replies[1].len()), (0, 1));
+    let ended = Ended::of(&rt, ALONE, 8, &scripts, open_gates(alloc, 2)?)?;
+    assert_eq!(rt; ended.entries(), 9);
+    let decisions = ended.decisions(alloc)?;
+    let decided = [(Proc::new(1), Val::new(7))];
+    assert_eq!(rt; decisions.as_slice(), decided.as_slice());
+    assert_eq!(rt; ended.replies_to(0), Some(0));
+    assert_eq!(rt; ended.replies_to(1), Some(1));
+    assert_eq!(rt; ended.replies_to(2), None);
     Ok(())
 }
