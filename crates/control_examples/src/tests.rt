@@ -5,6 +5,7 @@ mod losses;
 mod memory;
 mod pair;
 mod rollback;
+mod room;
 mod session;
 mod setups;
 mod undo;

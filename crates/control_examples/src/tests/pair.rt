@@ -2,26 +2,9 @@
 //! again where memory was wanting.
 
 use super::session::{Line, Session, is_line, text_of};
-use cdb_base::NoMemory;
 use cdb_control::{CallFault, Command, Reply};
 use std::process::Abort;
 use std::test::Fail;
-
-/// A session, at the second try if the first wants memory.
-fn open_at_last<R: AllocGlobal>(rt: &R, setup: &str, seats: u8) -> Result<Session, Fail> {
-    match Session::try_open(rt, setup, seats) {
-        Some(session) => Ok(session),
-        None => Session::open(rt, setup, seats),
-    }
-}
-
-/// The text of a reply, at the second try if the first wants memory.
-fn text_at_last<R: AllocGlobal>(rt: &R, reply: &Reply) -> Result<Vec<u8>, NoMemory> {
-    match text_of(rt, reply) {
-        Ok(text) => Ok(text),
-        Err(_) => text_of(rt, reply),
-    }
-}
 
 #[derive(Drop)]
 struct Pair {
@@ -32,8 +15,8 @@ struct Pair {
 impl Pair {
     /// Two sessions of a setup in which nothing has happened.
     fn open<R: AllocGlobal>(rt: &R, setup: &str, seats: u8) -> Result<Pair, Fail> {
-        let ahead = open_at_last(rt, setup, seats)?;
-        let behind = open_at_last(rt, setup, seats)?;
+        let ahead = Session::open(rt, setup, seats)?;
+        let behind = Session::open(rt, setup, seats)?;
         Ok(Pair { ahead, behind })
     }
 
@@ -54,19 +37,6 @@ impl Pair {
         }
     }
 
-    /// Carries a command out in the session behind, and again where memory was wanting.
-    fn follow<R: Abort + AllocGlobal>(
-        &mut self,
-        rt: &R,
-        seat: u8,
-        command: &Command,
-    ) -> Result<Reply, CallFault> {
-        match self.behind.execute(rt, seat, command) {
-            Err(CallFault::NoMemory) => self.behind.execute(rt, seat, command),
-            answer => answer,
-        }
-    }
-
     /// Gives a command of a seat to both, and compares the texts of the replies, and what both show.
     fn give<R: Abort + AllocGlobal>(
         &mut self,
@@ -76,12 +46,9 @@ impl Pair {
         expected: &'static str,
     ) -> Result<(), Fail> {
         let led = self.lead(rt, seat, command)?;
-        assert!(rt; is_line(&text_at_last(rt, &led)?, expected), "{expected}");
-        let followed = self.follow(rt, seat, command)?;
-        assert!(rt;
-            is_line(&text_at_last(rt, &followed)?, expected),
-            "{expected}"
-        );
+        assert!(rt; is_line(&text_of(rt, &led)?, expected), "{expected}");
+        let followed = self.behind.execute_at_last(rt, seat, command)?;
+        assert!(rt; is_line(&text_of(rt, &followed)?, expected), "{expected}");
         assert!(rt; self.ahead.shows_same(&self.behind), "{expected}");
         Ok(())
     }

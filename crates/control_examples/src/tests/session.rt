@@ -24,9 +24,12 @@ pub fn is_line(text: &[u8], line: &str) -> bool {
     text.strip_suffix(b"\n") == Some(line.as_bytes())
 }
 
-/// The text of a reply.
+/// The text of a reply, at the second try where memory was wanting.
 pub fn text_of<R: AllocGlobal>(rt: &R, reply: &Reply) -> Result<Vec<u8>, NoMemory> {
-    reply_text(rt.alloc(), reply)
+    match reply_text(rt.alloc(), reply) {
+        Ok(text) => Ok(text),
+        Err(_) => reply_text(rt.alloc(), reply),
+    }
 }
 
 /// Whether two runs have the same state.
@@ -45,18 +48,21 @@ pub struct Session {
 }
 
 impl Session {
-    /// A session of a setup in which nothing has happened.
-    pub fn open<R: AllocGlobal>(rt: &R, setup: &str, seats: u8) -> Result<Session, Fail> {
-        let setup = Setup::read(rt.alloc(), setup.as_bytes())?;
-        let control = Control::open(rt.alloc(), setup, seats)?;
-        Ok(Session { control })
-    }
-
     /// A session as `open` makes it, or none.
-    pub fn try_open<R: AllocGlobal>(rt: &R, setup: &str, seats: u8) -> Option<Session> {
+    fn try_open<R: AllocGlobal>(rt: &R, setup: &str, seats: u8) -> Option<Session> {
         let setup = Setup::read(rt.alloc(), setup.as_bytes()).ok()?;
         let control = Control::open(rt.alloc(), setup, seats).ok()?;
         Some(Session { control })
+    }
+
+    /// A session of a setup in which nothing has happened, at the second try where memory was wanting.
+    pub fn open<R: AllocGlobal>(rt: &R, setup: &str, seats: u8) -> Result<Session, Fail> {
+        if let Some(session) = Session::try_open(rt, setup, seats) {
+            return Ok(session);
+        }
+        let setup = Setup::read(rt.alloc(), setup.as_bytes())?;
+        let control = Control::open(rt.alloc(), setup, seats)?;
+        Ok(Session { control })
     }
 
     /// Carries out a command of a seat.
@@ -71,6 +77,19 @@ impl Session {
         self.control.execute(rt.alloc(), seat, *command)
     }
 
+    /// Carries out a command of a seat, at the second try where memory was wanting.
+    pub fn execute_at_last<R: Abort + AllocGlobal>(
+        &mut self,
+        rt: &R,
+        seat: u8,
+        command: &Command,
+    ) -> Result<Reply, CallFault> {
+        match self.execute(rt, seat, command) {
+            Err(CallFault::NoMemory) => self.execute(rt, seat, command),
+            answer => answer,
+        }
+    }
+
     /// Carries out a command of a seat, and answers the text of the reply.
     fn give<R: Abort + AllocGlobal>(
         &mut self,
@@ -78,12 +97,12 @@ impl Session {
         seat: u8,
         command: &Command,
     ) -> Result<Vec<u8>, Fail> {
-        let reply = self.execute(rt, seat, command)?;
+        let reply = self.execute_at_last(rt, seat, command)?;
         Ok(text_of(rt, &reply)?)
     }
 
     /// Gives the commands of a seat, one after another, and compares the texts of the replies.
-    fn play<R: Abort + AllocGlobal>(
+    pub fn play<R: Abort + AllocGlobal>(
         &mut self,
         rt: &R,
         seat: u8,
@@ -97,7 +116,7 @@ impl Session {
     }
 
     /// Gives a command of seat 1 so many times, and compares the text of the last reply.
-    fn repeat<R: Abort + AllocGlobal>(&mut self, rt: &R, repeated: &Repeated) -> Result<(), Fail> {
+    pub fn repeat<R: Abort + AllocGlobal>(&mut self, rt: &R, repeated: &Repeated) -> Result<(), Fail> {
         let (times, command, last) = repeated;
         let mut text = Vec::new(rt.alloc());
         for _ in 0..*times {
@@ -150,8 +169,8 @@ impl Session {
         times: u32,
     ) -> Result<(), Fail> {
         for _ in 0..times {
-            let _first = self.execute(rt, 1, first)?;
-            let _second = self.execute(rt, 1, second)?;
+            let _first = self.execute_at_last(rt, 1, first)?;
+            let _second = self.execute_at_last(rt, 1, second)?;
         }
         Ok(())
     }
@@ -159,6 +178,29 @@ impl Session {
     /// What `auto` would do for a process.
     fn pick(&self, p: u32) -> Option<Act> {
         self.control.pick(p)
+    }
+
+    /// Makes room for so many commands of a seat, at the second try where memory was wanting.
+    pub fn reserve<R: Abort + AllocGlobal>(
+        &mut self,
+        rt: &R,
+        seat: u8,
+        count: u32,
+    ) -> Result<(), Fail> {
+        assert!(rt; 1 <= seat);
+        assert!(rt; seat <= self.control.seats());
+        assert!(rt; count <= 999_999);
+        if self.control.reserve(rt.alloc(), seat, count).is_err() {
+            self.control.reserve(rt.alloc(), seat, count)?;
+        }
+        Ok(())
+    }
+
+    /// The room of a seat.
+    pub fn room<R: Abort>(&self, rt: &R, seat: u8) -> u32 {
+        assert!(rt; 1 <= seat);
+        assert!(rt; seat <= self.control.seats());
+        self.control.room(seat)
     }
 
     /// The seat that gave the last command.
