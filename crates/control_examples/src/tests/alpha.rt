@@ -1,6 +1,9 @@
 //! Commands on runs of Alpha.
 
-use super::session::{Line, Repeated, converse, converse_after, converse_after_turns};
+use super::session::{
+    Line, Repeated, converse_after, converse_after_turns, converse_in_three_parts,
+    converse_in_two_parts, repeat_each,
+};
 use super::setups::{ALPHA_ALONE, ALPHA_PAIR};
 use cdb_base::Reg;
 use cdb_control::{Act, Command, Stop, View};
@@ -24,7 +27,7 @@ const STEPS_TO_THE_DECISION: [Line; 5] = [
 
 #[test]
 fn alpha_alone_decides(rt: HostRuntime) -> Result<(), Fail> {
-    converse(&rt, ALPHA_ALONE, &[&FIRST_STEPS, &STEPS_TO_THE_DECISION])
+    converse_in_two_parts(&rt, ALPHA_ALONE, &FIRST_STEPS, &STEPS_TO_THE_DECISION)
 }
 
 const TWO_ROUNDS_ENTERED: [Line; 7] = [
@@ -56,10 +59,12 @@ const NEEDED_TWICE: [Line; 4] = [
 
 #[test]
 fn a_later_round_is_seen_and_undone(rt: HostRuntime) -> Result<(), Fail> {
-    converse(
+    converse_in_three_parts(
         &rt,
         ALPHA_PAIR,
-        &[&TWO_ROUNDS_ENTERED, &LATER_ROUND_SEEN, &NEEDED_TWICE],
+        &TWO_ROUNDS_ENTERED,
+        &LATER_ROUND_SEEN,
+        &NEEDED_TWICE,
     )
 }
 
@@ -77,7 +82,7 @@ const WRITE_NEEDS_READ: [Line; 4] = [
 
 #[test]
 fn a_write_needs_the_read_before_it(rt: HostRuntime) -> Result<(), Fail> {
-    converse_after(&rt, ALPHA_PAIR, &READ_BEFORE_WRITE, &[&WRITE_NEEDS_READ])
+    converse_after(&rt, ALPHA_PAIR, &READ_BEFORE_WRITE, &WRITE_NEEDS_READ)
 }
 
 const SECOND_ALONE: &str = "r1 lre 0 lrww 0 val none
@@ -97,7 +102,7 @@ const OTHER_DECISION: [Line; 2] = [
 
 #[test]
 fn another_decides_after_a_rollback(rt: HostRuntime) -> Result<(), Fail> {
-    converse_after(&rt, ALPHA_PAIR, &ONE_AND_THEN_THE_OTHER, &[&OTHER_DECISION])
+    converse_after(&rt, ALPHA_PAIR, &ONE_AND_THEN_THE_OTHER, &OTHER_DECISION)
 }
 
 const ONE_VALUE: &str = "r1 lre 1 lrww 1 val 7
@@ -117,7 +122,7 @@ const SAME_DECISION: [Line; 2] = [
 
 #[test]
 fn two_processes_agree(rt: HostRuntime) -> Result<(), Fail> {
-    converse_after(&rt, ALPHA_PAIR, &BOTH_IN_A_RACE, &[&SAME_DECISION])
+    converse_after(&rt, ALPHA_PAIR, &BOTH_IN_A_RACE, &SAME_DECISION)
 }
 
 const WRITE_STOPS: [Repeated; 3] = [
@@ -128,7 +133,7 @@ const WRITE_STOPS: [Repeated; 3] = [
 
 #[test]
 fn a_write_of_the_decision_sets_a_pause(rt: HostRuntime) -> Result<(), Fail> {
-    converse_after(&rt, ALPHA_ALONE, &WRITE_STOPS, &[])
+    repeat_each(&rt, ALPHA_ALONE, &WRITE_STOPS)
 }
 
 const PAST_THE_LIMIT: [Line; 3] = [

@@ -1,6 +1,8 @@
 //! Breakpoints and the pause.
 
-use super::session::{Line, Repeated, converse, converse_after};
+use super::session::{
+    Line, Repeated, converse, converse_after, converse_in_three_parts, converse_in_two_parts,
+};
 use super::setups::{ALONE, LEADER_CHANGES};
 use cdb_base::{Proc, Reg};
 use cdb_control::{Act, Command, Stop};
@@ -33,7 +35,7 @@ const RESUMED: [Line; 3] = [
 
 #[test]
 fn a_round_sets_a_pause(rt: HostRuntime) -> Result<(), Fail> {
-    converse(&rt, LEADER_CHANGES, &[&FIRST_ROUND, &PAUSED, &RESUMED])
+    converse_in_three_parts(&rt, LEADER_CHANGES, &FIRST_ROUND, &PAUSED, &RESUMED)
 }
 
 const NINETY_NINE: [Repeated; 1] = [(99, Command::Break(Stop::Decide(1)), "break 99")];
@@ -46,7 +48,7 @@ const ONE_MORE: [Line; 3] = [
 
 #[test]
 fn ninety_nine_breakpoints_stand(rt: HostRuntime) -> Result<(), Fail> {
-    converse_after(&rt, ALONE, &NINETY_NINE, &[&ONE_MORE])
+    converse_after(&rt, ALONE, &NINETY_NINE, &ONE_MORE)
 }
 
 const NUMBERS: [Line; 4] = [
@@ -58,7 +60,7 @@ const NUMBERS: [Line; 4] = [
 
 #[test]
 fn numbers_are_not_used_again(rt: HostRuntime) -> Result<(), Fail> {
-    converse(&rt, ALONE, &[&NUMBERS])
+    converse(&rt, ALONE, &NUMBERS)
 }
 
 const TWO_STOPS: [Line; 3] = [
@@ -81,12 +83,12 @@ const NOT_RESUMED: [Line; 3] = [
 
 #[test]
 fn the_least_number_that_fires_sets_the_pause(rt: HostRuntime) -> Result<(), Fail> {
-    converse(&rt, ALONE, &[&TWO_STOPS, &RECEIVE_STOPS])
+    converse_in_two_parts(&rt, ALONE, &TWO_STOPS, &RECEIVE_STOPS)
 }
 
 #[test]
 fn a_pause_is_set_where_none_stands(rt: HostRuntime) -> Result<(), Fail> {
-    converse(&rt, ALONE, &[&TWO_STOPS, &NOT_RESUMED])
+    converse_in_two_parts(&rt, ALONE, &TWO_STOPS, &NOT_RESUMED)
 }
 
 #[test]
@@ -98,5 +100,5 @@ fn writes_of_registers_that_are_there(rt: HostRuntime) -> Result<(), Fail> {
         (first, "break 1"),
         (Command::Break(Stop::Write(Reg::Dec)), "break 2"),
     ];
-    converse(&rt, ALONE, &[&lines])
+    converse(&rt, ALONE, &lines)
 }

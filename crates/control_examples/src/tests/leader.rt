@@ -1,6 +1,9 @@
 //! Commands on runs of the leader-based algorithm.
 
-use super::session::{Line, Repeated, converse, converse_after, first_pick};
+use super::session::{
+    Line, Repeated, converse, converse_after, converse_in_three_parts, converse_in_two_parts,
+    first_pick,
+};
 use super::setups::{ALONE, NO_ANSWER, NO_MAJORITY, ONE_LEADER};
 use cdb_control::{Act, Command, View};
 use std::test::Fail;
@@ -24,7 +27,7 @@ const DONE: [Line; 3] = [
 
 #[test]
 fn one_process_decides_and_is_done(rt: HostRuntime) -> Result<(), Fail> {
-    converse(&rt, ALONE, &[&ONE_PROCESS, &DONE])
+    converse_in_two_parts(&rt, ALONE, &ONE_PROCESS, &DONE)
 }
 
 const FIRST_VALUE: [Line; 8] = [
@@ -53,11 +56,7 @@ const TWO_VALUES: [Line; 1] = [(Command::Decisions, "decisions 1=5 2=6")];
 
 #[test]
 fn no_majority_two_values(rt: HostRuntime) -> Result<(), Fail> {
-    converse(
-        &rt,
-        NO_MAJORITY,
-        &[&FIRST_VALUE, &SECOND_VALUE, &TWO_VALUES],
-    )
+    converse_in_three_parts(&rt, NO_MAJORITY, &FIRST_VALUE, &SECOND_VALUE, &TWO_VALUES)
 }
 
 const ONE_OF_TWO: [Line; 3] = [
@@ -71,11 +70,7 @@ const ONE_OF_TWO: [Line; 3] = [
 
 #[test]
 fn rollback_of_one_of_two(rt: HostRuntime) -> Result<(), Fail> {
-    converse(
-        &rt,
-        NO_MAJORITY,
-        &[&SECOND_VALUE, &FIRST_VALUE, &ONE_OF_TWO],
-    )
+    converse_in_three_parts(&rt, NO_MAJORITY, &SECOND_VALUE, &FIRST_VALUE, &ONE_OF_TWO)
 }
 
 const REFUSED_QUERIES: [Line; 5] = [
@@ -96,7 +91,7 @@ const REFUSED_RECEIVES: [Line; 5] = [
 
 #[test]
 fn every_refusal_of_a_step(rt: HostRuntime) -> Result<(), Fail> {
-    converse(&rt, NO_ANSWER, &[&REFUSED_QUERIES, &REFUSED_RECEIVES])
+    converse_in_two_parts(&rt, NO_ANSWER, &REFUSED_QUERIES, &REFUSED_RECEIVES)
 }
 
 const CRASHED: [Line; 5] = [
@@ -119,7 +114,7 @@ const CRASH_UNDONE: [Line; 4] = [
 
 #[test]
 fn a_crash_is_undone(rt: HostRuntime) -> Result<(), Fail> {
-    converse(&rt, NO_MAJORITY, &[&CRASHED, &CRASH_UNDONE])
+    converse_in_two_parts(&rt, NO_MAJORITY, &CRASHED, &CRASH_UNDONE)
 }
 
 const ONE_HAS_DECIDED: [Repeated; 1] = [(8, Command::Auto(1), "1.8 send 1#3 decides 5")];
@@ -139,7 +134,7 @@ const LEARNT: [Line; 7] = [
 
 #[test]
 fn a_decision_is_learnt(rt: HostRuntime) -> Result<(), Fail> {
-    converse_after(&rt, NO_MAJORITY, &ONE_HAS_DECIDED, &[&LEARNT])
+    converse_after(&rt, NO_MAJORITY, &ONE_HAS_DECIDED, &LEARNT)
 }
 
 const VIEWS_AT_FIRST: [Line; 6] = [
@@ -153,7 +148,7 @@ const VIEWS_AT_FIRST: [Line; 6] = [
 
 #[test]
 fn nothing_is_shown_at_first(rt: HostRuntime) -> Result<(), Fail> {
-    converse(&rt, ONE_LEADER, &[&VIEWS_AT_FIRST])?;
+    converse(&rt, ONE_LEADER, &VIEWS_AT_FIRST)?;
     assert!(rt; first_pick(&rt, ONE_LEADER, 1)? == Some(Act::Query(None)));
     assert!(rt; first_pick(&rt, ONE_LEADER, 3)?.is_none());
     Ok(())

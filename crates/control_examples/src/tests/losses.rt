@@ -1,6 +1,6 @@
 //! Copies that are lost.
 
-use super::session::{Line, converse};
+use super::session::{Line, converse, converse_in_three_parts, converse_in_two_parts};
 use super::setups::{LOSSY, ONE_LEADER};
 use cdb_control::{Act, Command, View};
 use std::test::Fail;
@@ -32,7 +32,7 @@ const FOUND: [Line; 7] = [
 
 #[test]
 fn a_lost_copy_is_found_again(rt: HostRuntime) -> Result<(), Fail> {
-    converse(&rt, LOSSY, &[&LOST, &NOT_RECEIVED, &FOUND])
+    converse_in_three_parts(&rt, LOSSY, &LOST, &NOT_RECEIVED, &FOUND)
 }
 
 const ALL_TAKEN_BACK: [Line; 6] = [
@@ -46,7 +46,7 @@ const ALL_TAKEN_BACK: [Line; 6] = [
 
 #[test]
 fn a_loss_is_rolled_back_with_its_send(rt: HostRuntime) -> Result<(), Fail> {
-    converse(&rt, LOSSY, &[&LOST, &ALL_TAKEN_BACK])
+    converse_in_two_parts(&rt, LOSSY, &LOST, &ALL_TAKEN_BACK)
 }
 
 const ALONE_TAKEN_BACK: [Line; 3] = [
@@ -60,7 +60,7 @@ const ALONE_TAKEN_BACK: [Line; 3] = [
 
 #[test]
 fn a_loss_is_rolled_back_alone(rt: HostRuntime) -> Result<(), Fail> {
-    converse(&rt, LOSSY, &[&LOST, &ALONE_TAKEN_BACK])
+    converse_in_two_parts(&rt, LOSSY, &LOST, &ALONE_TAKEN_BACK)
 }
 
 const REFUSED: [Line; 3] = [
@@ -71,12 +71,12 @@ const REFUSED: [Line; 3] = [
 
 #[test]
 fn losses_of_no_copy_are_refused(rt: HostRuntime) -> Result<(), Fail> {
-    converse(&rt, LOSSY, &[&REFUSED])
+    converse(&rt, LOSSY, &REFUSED)
 }
 
 const NO_LOSSES: [Line; 1] = [(Command::Lose(1, 1, 2), "refused 20 NoLoss")];
 
 #[test]
 fn the_first_version_has_no_losses(rt: HostRuntime) -> Result<(), Fail> {
-    converse(&rt, ONE_LEADER, &[&NO_LOSSES])
+    converse(&rt, ONE_LEADER, &NO_LOSSES)
 }

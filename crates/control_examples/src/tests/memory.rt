@@ -8,6 +8,8 @@ use cdb_base::Reg;
 use cdb_control::{Act, Command, Stop, View};
 use std::test::Fail;
 
+const NO_MORE: [Line; 0] = [];
+
 const A_LOSS: [Line; 8] = [
     (Command::Step(1, Act::Query(None)), "1.1 query 1"),
     (Command::Step(1, Act::Go), "1.2 send 1#1"),
@@ -32,7 +34,7 @@ const LOSS_UNDONE: [Line; 8] = [
 
 #[test]
 fn losses_without_memory(rt: HostRuntime) -> Result<(), Fail> {
-    converse_in_pair(&rt, LOSSY, &[&A_LOSS, &LOSS_UNDONE])
+    converse_in_pair(&rt, LOSSY, &A_LOSS, &LOSS_UNDONE, &NO_MORE)
 }
 
 const ALONE_TAKEN_BACK: [Line; 5] = [
@@ -57,7 +59,7 @@ const ALL_TAKEN_BACK: [Line; 6] = [
 
 #[test]
 fn rollbacks_without_memory(rt: HostRuntime) -> Result<(), Fail> {
-    converse_in_pair(&rt, LOSSY, &[&ALONE_TAKEN_BACK, &ALL_TAKEN_BACK])
+    converse_in_pair(&rt, LOSSY, &ALONE_TAKEN_BACK, &ALL_TAKEN_BACK, &NO_MORE)
 }
 
 const TWO_STOPS: [Line; 8] = [
@@ -95,7 +97,7 @@ const DECISION_SHOWN: [Line; 5] = [
 
 #[test]
 fn breakpoints_without_memory(rt: HostRuntime) -> Result<(), Fail> {
-    converse_in_pair(&rt, ALONE, &[&TWO_STOPS, &DECISION_STOPS, &DECISION_SHOWN])
+    converse_in_pair(&rt, ALONE, &TWO_STOPS, &DECISION_STOPS, &DECISION_SHOWN)
 }
 
 const FIRST_STEPS: [Line; 7] = [
@@ -128,7 +130,9 @@ fn registers_without_memory(rt: HostRuntime) -> Result<(), Fail> {
     converse_in_pair(
         &rt,
         ALPHA_ALONE,
-        &[&FIRST_STEPS, &STEPS_TO_THE_DECISION, &REGISTERS_TAKEN_BACK],
+        &FIRST_STEPS,
+        &STEPS_TO_THE_DECISION,
+        &REGISTERS_TAKEN_BACK,
     )
 }
 
@@ -155,5 +159,11 @@ const LEARNT_AND_CRASHED: [Line; 7] = [
 
 #[test]
 fn a_crash_without_memory(rt: HostRuntime) -> Result<(), Fail> {
-    converse_in_pair(&rt, NO_MAJORITY, &[&FIRST_VALUE, &LEARNT_AND_CRASHED])
+    converse_in_pair(
+        &rt,
+        NO_MAJORITY,
+        &FIRST_VALUE,
+        &LEARNT_AND_CRASHED,
+        &NO_MORE,
+    )
 }

@@ -62,15 +62,16 @@ impl Pair {
     }
 }
 
-/// Gives the commands of two sessions, part by part.
+/// Gives the commands of two sessions, in three parts.
 pub fn converse_in_pair<R: Abort + AllocGlobal>(
     rt: &R,
     setup: &str,
-    parts: &[&[Line]],
+    first: &[Line],
+    then: &[Line],
+    last: &[Line],
 ) -> Result<(), Fail> {
     let mut pair = Pair::open(rt, setup, 1)?;
-    for lines in parts {
-        pair.play(rt, lines)?;
-    }
-    Ok(())
+    pair.play(rt, first)?;
+    pair.play(rt, then)?;
+    pair.play(rt, last)
 }

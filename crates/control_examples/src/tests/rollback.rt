@@ -1,6 +1,8 @@
 //! Steps that are rolled back, and taken again one after another.
 
-use super::session::{Line, Repeated, converse, converse_then_repeat, leads_back};
+use super::session::{
+    Line, Repeated, converse_after, converse_between, converse_in_three_parts, leads_back,
+};
 use super::setups::{ALONE, ONE_LEADER};
 use cdb_control::{Command, View};
 use std::test::Fail;
@@ -14,6 +16,7 @@ const ALL_BUT_ONE: [Line; 2] = [
 ];
 
 const SEVEN_REDOS: [Line; 8] = [
+    (Command::Rollback(1, 2), "rolled back 7"),
     (Command::Redo, "redone 1.2 send 1#1"),
     (Command::Redo, "redone 1.3 recv 1#1"),
     (Command::Redo, "redone 1.4 local"),
@@ -21,15 +24,19 @@ const SEVEN_REDOS: [Line; 8] = [
     (Command::Redo, "redone 1.6 recv 1#2"),
     (Command::Redo, "redone 1.7 local"),
     (Command::Redo, "redone 1.8 send 1#3 decides 7"),
-    (Command::Redo, "refused 14 NothingToRedo"),
+];
+
+const NO_EIGHTH_REDO: [Repeated; 2] = [
+    (7, Command::Redo, "redone 1.8 send 1#3 decides 7"),
+    (1, Command::Redo, "refused 14 NothingToRedo"),
 ];
 
 const DECIDED: [Repeated; 1] = [(8, Command::Auto(1), "1.8 send 1#3 decides 7")];
 
 #[test]
 fn a_rollback_and_seven_redos(rt: HostRuntime) -> Result<(), Fail> {
-    assert!(rt; leads_back(&rt, ALONE, &DECIDED, &[&ALL_BUT_ONE, &SEVEN_REDOS])?);
-    Ok(())
+    assert!(rt; leads_back(&rt, ALONE, &DECIDED, &SEVEN_REDOS)?);
+    converse_between(&rt, ALONE, &DECIDED, &ALL_BUT_ONE, &NO_EIGHTH_REDO)
 }
 
 const LEADER_ASKS: [Line; 8] = [
@@ -63,6 +70,18 @@ const BOTH_DECIDE: [Line; 8] = [
     (Command::Auto(2), "2.10 learn"),
     (Command::Auto(2), "2.11 send 2#3 decides 5"),
     (Command::Decisions, "decisions 1=5 2=5"),
+];
+
+#[test]
+fn two_processes_one_leader(rt: HostRuntime) -> Result<(), Fail> {
+    converse_in_three_parts(&rt, ONE_LEADER, &LEADER_ASKS, &OTHER_ANSWERS, &BOTH_DECIDE)
+}
+
+const BOTH_DECIDED: [Repeated; 4] = [
+    (4, Command::Auto(1), "refused 12 Idle"),
+    (8, Command::Auto(2), "refused 12 Idle"),
+    (7, Command::Auto(1), "1.10 send 1#3 decides 5"),
+    (4, Command::Auto(2), "2.11 send 2#3 decides 5"),
 ];
 
 const HISTORY: &str = "1.1 query 1
@@ -101,13 +120,13 @@ const TWENTY_REDOS: [Repeated; 3] = [
 
 #[test]
 fn a_rollback_and_twenty_redos(rt: HostRuntime) -> Result<(), Fail> {
-    let parts = [
-        &LEADER_ASKS[..],
-        &OTHER_ANSWERS,
-        &BOTH_DECIDE,
+    converse_between(
+        &rt,
+        ONE_LEADER,
+        &BOTH_DECIDED,
         &ALL_BUT_THE_QUERY,
-    ];
-    converse_then_repeat(&rt, ONE_LEADER, &parts, &TWENTY_REDOS)
+        &TWENTY_REDOS,
+    )
 }
 
 const IN_CAUSAL_ORDER: [Line; 5] = [
@@ -120,11 +139,5 @@ const IN_CAUSAL_ORDER: [Line; 5] = [
 
 #[test]
 fn undo_in_causal_order(rt: HostRuntime) -> Result<(), Fail> {
-    let parts = [
-        &LEADER_ASKS[..],
-        &OTHER_ANSWERS,
-        &BOTH_DECIDE,
-        &IN_CAUSAL_ORDER,
-    ];
-    converse(&rt, ONE_LEADER, &parts)
+    converse_after(&rt, ONE_LEADER, &BOTH_DECIDED, &IN_CAUSAL_ORDER)
 }

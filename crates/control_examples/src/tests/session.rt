@@ -138,14 +138,6 @@ impl Session {
         Ok(())
     }
 
-    /// Gives the commands of seat 1, part by part.
-    fn play_all<R: Abort + AllocGlobal>(&mut self, rt: &R, parts: &[&[Line]]) -> Result<(), Fail> {
-        for lines in parts {
-            self.play(rt, 1, lines)?;
-        }
-        Ok(())
-    }
-
     /// Gives commands of several seats, each of which is then the last in the journal.
     fn take_turns<R: Abort + AllocGlobal>(
         &mut self,
@@ -222,13 +214,46 @@ impl Session {
     }
 }
 
-/// Gives the commands of a session, part by part.
-pub fn converse<R: Abort + AllocGlobal>(
+/// Gives the commands of a session.
+pub fn converse<R: Abort + AllocGlobal>(rt: &R, setup: &str, lines: &[Line]) -> Result<(), Fail> {
+    let mut session = Session::open(rt, setup, 1)?;
+    session.play(rt, 1, lines)
+}
+
+/// Gives the commands of a session, in two parts.
+pub fn converse_in_two_parts<R: Abort + AllocGlobal>(
     rt: &R,
     setup: &str,
-    parts: &[&[Line]],
+    first: &[Line],
+    then: &[Line],
 ) -> Result<(), Fail> {
-    Session::open(rt, setup, 1)?.play_all(rt, parts)
+    let mut session = Session::open(rt, setup, 1)?;
+    session.play(rt, 1, first)?;
+    session.play(rt, 1, then)
+}
+
+/// Gives the commands of a session, in three parts.
+pub fn converse_in_three_parts<R: Abort + AllocGlobal>(
+    rt: &R,
+    setup: &str,
+    first: &[Line],
+    then: &[Line],
+    last: &[Line],
+) -> Result<(), Fail> {
+    let mut session = Session::open(rt, setup, 1)?;
+    session.play(rt, 1, first)?;
+    session.play(rt, 1, then)?;
+    session.play(rt, 1, last)
+}
+
+/// Gives each command of a session so many times.
+pub fn repeat_each<R: Abort + AllocGlobal>(
+    rt: &R,
+    setup: &str,
+    repeated: &[Repeated],
+) -> Result<(), Fail> {
+    let mut session = Session::open(rt, setup, 1)?;
+    session.repeat_each(rt, repeated)
 }
 
 /// Gives the commands of a session, after others that are repeated.
@@ -236,22 +261,24 @@ pub fn converse_after<R: Abort + AllocGlobal>(
     rt: &R,
     setup: &str,
     before: &[Repeated],
-    parts: &[&[Line]],
+    lines: &[Line],
 ) -> Result<(), Fail> {
     let mut session = Session::open(rt, setup, 1)?;
     session.repeat_each(rt, before)?;
-    session.play_all(rt, parts)
+    session.play(rt, 1, lines)
 }
 
-/// Gives the commands of a session, part by part, and then others that are repeated.
-pub fn converse_then_repeat<R: Abort + AllocGlobal>(
+/// Gives the commands of a session, with others before and after them that are repeated.
+pub fn converse_between<R: Abort + AllocGlobal>(
     rt: &R,
     setup: &str,
-    parts: &[&[Line]],
+    before: &[Repeated],
+    lines: &[Line],
     after: &[Repeated],
 ) -> Result<(), Fail> {
     let mut session = Session::open(rt, setup, 1)?;
-    session.play_all(rt, parts)?;
+    session.repeat_each(rt, before)?;
+    session.play(rt, 1, lines)?;
     session.repeat_each(rt, after)
 }
 
@@ -261,11 +288,11 @@ pub fn leads_back<R: Abort + AllocGlobal>(
     rt: &R,
     setup: &str,
     before: &[Repeated],
-    parts: &[&[Line]],
+    lines: &[Line],
 ) -> Result<bool, Fail> {
     let mut session = Session::open(rt, setup, 1)?;
     session.repeat_each(rt, before)?;
-    session.play_all(rt, parts)?;
+    session.play(rt, 1, lines)?;
     let mut other = Session::open(rt, setup, 1)?;
     other.repeat_each(rt, before)?;
     Ok(session.is_same_run(&other))

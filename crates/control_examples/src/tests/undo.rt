@@ -18,7 +18,7 @@ const DECISION: [Line; 4] = [
 
 #[test]
 fn the_decision_is_undone_and_taken_again(rt: HostRuntime) -> Result<(), Fail> {
-    assert!(rt; leads_back(&rt, ALONE, &DECIDED, &[&DECISION])?);
+    assert!(rt; leads_back(&rt, ALONE, &DECIDED, &DECISION)?);
     Ok(())
 }
 
@@ -30,7 +30,7 @@ const REFUSED: [Line; 3] = [
 
 #[test]
 fn refused_undos(rt: HostRuntime) -> Result<(), Fail> {
-    converse_after(&rt, ALONE, &DECIDED, &[&REFUSED])
+    converse_after(&rt, ALONE, &DECIDED, &REFUSED)
 }
 
 const MESSAGE: [Line; 7] = [
@@ -45,7 +45,7 @@ const MESSAGE: [Line; 7] = [
 
 #[test]
 fn a_send_is_needed_by_its_receive(rt: HostRuntime) -> Result<(), Fail> {
-    converse(&rt, ONE_LEADER, &[&MESSAGE])
+    converse(&rt, ONE_LEADER, &MESSAGE)
 }
 
 const WHY: [Line; 4] = [
@@ -57,7 +57,7 @@ const WHY: [Line; 4] = [
 
 #[test]
 fn why_of_one_process(rt: HostRuntime) -> Result<(), Fail> {
-    converse_after(&rt, ALONE, &DECIDED, &[&WHY])
+    converse_after(&rt, ALONE, &DECIDED, &WHY)
 }
 
 const MOVED: [Line; 5] = [
@@ -70,7 +70,7 @@ const MOVED: [Line; 5] = [
 
 #[test]
 fn a_step_has_moved_and_is_forgotten(rt: HostRuntime) -> Result<(), Fail> {
-    converse_after(&rt, ALONE, &DECIDED, &[&MOVED])
+    converse_after(&rt, ALONE, &DECIDED, &MOVED)
 }
 
 const TWO_SEATS: [SeatLine; 3] = [
@@ -98,5 +98,5 @@ const MIDDLE: [Line; 6] = [
 
 #[test]
 fn a_step_in_the_middle_is_undone(rt: HostRuntime) -> Result<(), Fail> {
-    converse(&rt, NO_MAJORITY, &[&MIDDLE])
+    converse(&rt, NO_MAJORITY, &MIDDLE)
 }
