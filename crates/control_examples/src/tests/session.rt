@@ -116,7 +116,7 @@ impl Session {
     }
 
     /// Gives a command of seat 1 so many times, and compares the text of the last reply.
-    pub fn repeat<R: Abort + AllocGlobal>(&mut self, rt: &R, repeated: &Repeated) -> Result<(), Fail> {
+    fn repeat<R: Abort + AllocGlobal>(&mut self, rt: &R, repeated: &Repeated) -> Result<(), Fail> {
         let (times, command, last) = repeated;
         let mut text = Vec::new(rt.alloc());
         for _ in 0..*times {
@@ -127,7 +127,7 @@ impl Session {
     }
 
     /// Gives each command of seat 1 so many times.
-    fn repeat_each<R: Abort + AllocGlobal>(
+    pub fn repeat_each<R: Abort + AllocGlobal>(
         &mut self,
         rt: &R,
         before: &[Repeated],
