@@ -138,6 +138,52 @@ impl Session {
         Ok(())
     }
 
+    /// Gives the commands of seat 1, in two parts.
+    fn play_two<R: Abort + AllocGlobal>(
+        &mut self,
+        rt: &R,
+        first: &[Line],
+        then: &[Line],
+    ) -> Result<(), Fail> {
+        self.play(rt, 1, first)?;
+        self.play(rt, 1, then)
+    }
+
+    /// Gives the commands of seat 1, in three parts.
+    fn play_three<R: Abort + AllocGlobal>(
+        &mut self,
+        rt: &R,
+        first: &[Line],
+        then: &[Line],
+        last: &[Line],
+    ) -> Result<(), Fail> {
+        self.play_two(rt, first, then)?;
+        self.play(rt, 1, last)
+    }
+
+    /// Gives the commands of seat 1, after others that are repeated.
+    fn play_after<R: Abort + AllocGlobal>(
+        &mut self,
+        rt: &R,
+        before: &[Repeated],
+        lines: &[Line],
+    ) -> Result<(), Fail> {
+        self.repeat_each(rt, before)?;
+        self.play(rt, 1, lines)
+    }
+
+    /// Gives the commands of seat 1, with others before and after them that are repeated.
+    fn play_between<R: Abort + AllocGlobal>(
+        &mut self,
+        rt: &R,
+        before: &[Repeated],
+        lines: &[Line],
+        after: &[Repeated],
+    ) -> Result<(), Fail> {
+        self.play_after(rt, before, lines)?;
+        self.repeat_each(rt, after)
+    }
+
     /// Gives commands of several seats, each of which is then the last in the journal.
     fn take_turns<R: Abort + AllocGlobal>(
         &mut self,
@@ -228,8 +274,7 @@ pub fn converse_in_two_parts<R: Abort + AllocGlobal>(
     then: &[Line],
 ) -> Result<(), Fail> {
     let mut session = Session::open(rt, setup, 1)?;
-    session.play(rt, 1, first)?;
-    session.play(rt, 1, then)
+    session.play_two(rt, first, then)
 }
 
 /// Gives the commands of a session, in three parts.
@@ -241,9 +286,7 @@ pub fn converse_in_three_parts<R: Abort + AllocGlobal>(
     last: &[Line],
 ) -> Result<(), Fail> {
     let mut session = Session::open(rt, setup, 1)?;
-    session.play(rt, 1, first)?;
-    session.play(rt, 1, then)?;
-    session.play(rt, 1, last)
+    session.play_three(rt, first, then, last)
 }
 
 /// Gives each command of a session so many times.
@@ -264,8 +307,7 @@ pub fn converse_after<R: Abort + AllocGlobal>(
     lines: &[Line],
 ) -> Result<(), Fail> {
     let mut session = Session::open(rt, setup, 1)?;
-    session.repeat_each(rt, before)?;
-    session.play(rt, 1, lines)
+    session.play_after(rt, before, lines)
 }
 
 /// Gives the commands of a session, with others before and after them that are repeated.
@@ -277,9 +319,7 @@ pub fn converse_between<R: Abort + AllocGlobal>(
     after: &[Repeated],
 ) -> Result<(), Fail> {
     let mut session = Session::open(rt, setup, 1)?;
-    session.repeat_each(rt, before)?;
-    session.play(rt, 1, lines)?;
-    session.repeat_each(rt, after)
+    session.play_between(rt, before, lines, after)
 }
 
 /// Gives the commands of a session, after others that are repeated, and tells whether they lead back to
