@@ -7,6 +7,7 @@ use cdb_control::{Act, CallFault, Command, Control, Reply, RunOfSetup};
 use cdb_run::AnyRun;
 use cdb_setup::Setup;
 use cdb_text::reply_text;
+use std::marker::Model;
 use std::process::Abort;
 use std::test::Fail;
 
@@ -45,6 +46,14 @@ fn have_same_state(one: &AnyRun, other: &AnyRun) -> bool
 #[derive(Drop)]
 pub struct Session {
     control: Control<RunOfSetup>,
+}
+
+impl Model for Session {
+    ghost use Rattle.std.specs.Prelude.{⊤};
+
+    ghost Value = { ⊤ };
+
+    ghost view = { λ _. tt };
 }
 
 impl Session {

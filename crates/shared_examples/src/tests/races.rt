@@ -2,8 +2,8 @@
 
 use super::gates::Crossing;
 use super::opening::{ALONE, ONE_LEADER};
-use cdb_base::{NoMemory, Proc, Val};
-use cdb_control::{Command, Runs};
+use cdb_base::{Proc, Val};
+use cdb_control::{Command, Reply, Runs};
 use cdb_race::{Raced, Script, race};
 use cdb_setup::Setup;
 use std::alloc::{AllocError, Global};
@@ -13,41 +13,45 @@ use std::sync::atomic::AtomicBool;
 use std::test::Fail;
 use std::thread::Threads;
 
-/// A race of an example, which has ended. Its calls are those of what the race left.
+/// What the race of an example left: how many entries the journal has, the standing decisions, and how
+/// many replies each seat got.
 #[derive(Drop)]
-struct Ended {
-    raced: Raced,
+struct Outcome {
+    entries: usize,
+    decisions: Vec<(Proc, Val)>,
+    replies: Vec<usize>,
 }
 
-impl Ended {
-    fn of<R: Threads + Wait + Sync + Abort + AllocGlobal>(
-        rt: &R,
-        setup: &str,
-        turns: u32,
-        scripts: &[Script],
-        gates: Vec<Crossing>,
-    ) -> Result<Ended, Fail> {
-        let setup = Setup::read(rt.alloc(), setup.as_bytes())?;
-        assert!(rt; setup.n() <= 9 && scripts.len() <= 9);
-        assert!(rt; gates.len() == usize::from(setup.n()) + scripts.len());
-        let raced = race(rt, rt.alloc(), setup, turns, scripts, gates)?;
-        Ok(Ended { raced })
+fn counts(alloc: Global, replies: &[Vec<Reply>]) -> Result<Vec<usize>, AllocError> {
+    let mut counts = Vec::new(alloc);
+    for of_seat in replies {
+        counts.push(of_seat.len())?;
     }
+    Ok(counts)
+}
 
-    /// How many entries the journal has.
-    fn entries(&self) -> usize {
-        self.raced.control.journal().len()
-    }
+fn outcome_of(alloc: Global, raced: &Raced) -> Result<Outcome, Fail> {
+    let decisions = raced.control.run().decisions(alloc)?;
+    let replies = counts(alloc, &raced.replies)?;
+    Ok(Outcome {
+        entries: raced.control.journal().len(),
+        decisions,
+        replies,
+    })
+}
 
-    fn decisions(&self, alloc: Global) -> Result<Vec<(Proc, Val)>, NoMemory> {
-        self.raced.control.run().decisions(alloc)
-    }
-
-    /// How many replies the seat of that index got, where there is one.
-    fn replies_to(&self, seat: usize) -> Option<usize> {
-        let replies = self.raced.replies.get(seat)?;
-        Some(replies.len())
-    }
+fn raced<R: Threads + Wait + Sync + Abort + AllocGlobal>(
+    rt: &R,
+    setup: &str,
+    turns: u32,
+    scripts: &[Script],
+    gates: Vec<Crossing>,
+) -> Result<Outcome, Fail> {
+    let setup = Setup::read(rt.alloc(), setup.as_bytes())?;
+    assert!(rt; setup.n() <= 9 && scripts.len() <= 9);
+    assert!(rt; gates.len() == usize::from(setup.n()) + scripts.len());
+    let raced = race(rt, rt.alloc(), setup, turns, scripts, gates)?;
+    outcome_of(rt.alloc(), &raced)
 }
 
 fn script(alloc: Global, commands: &[Command]) -> Result<Script, AllocError> {
@@ -100,7 +104,7 @@ fn crossed<R: Threads + Wait + Sync + Abort + AllocGlobal>(
     ];
     let (one, other) = (AtomicBool::new(false), AtomicBool::new(false));
     let gates = gates(alloc, &one, &other, first)?;
-    Ok(Ended::of(rt, ONE_LEADER, turns, &scripts, gates)?.entries())
+    Ok(raced(rt, ONE_LEADER, turns, &scripts, gates)?.entries)
 }
 
 #[test]
@@ -126,9 +130,8 @@ fn agree(decisions: &[(Proc, Val)]) -> bool {
 fn two_processes_and_a_script_agree(rt: HostRuntime) -> Result<(), Fail> {
     let alloc = rt.alloc();
     let scripts = [script(alloc, &[Command::Undo(2, 1), Command::Redo])?];
-    let ended = Ended::of(&rt, ONE_LEADER, 50, &scripts, open_gates(alloc, 3)?)?;
-    let decisions = ended.decisions(alloc)?;
-    assert!(rt; agree(&decisions));
+    let outcome = raced(&rt, ONE_LEADER, 50, &scripts, open_gates(alloc, 3)?)?;
+    assert!(rt; agree(&outcome.decisions));
     Ok(())
 }
 
@@ -136,13 +139,10 @@ fn two_processes_and_a_script_agree(rt: HostRuntime) -> Result<(), Fail> {
 fn a_race_of_one_process(rt: HostRuntime) -> Result<(), Fail> {
     let alloc = rt.alloc();
     let scripts = [script(alloc, &[Command::Decisions])?];
-    let ended = Ended::of(&rt, ALONE, 8, &scripts, open_gates(alloc, 2)?)?;
-    assert_eq!(rt; ended.entries(), 9);
-    let decisions = ended.decisions(alloc)?;
+    let outcome = raced(&rt, ALONE, 8, &scripts, open_gates(alloc, 2)?)?;
+    assert_eq!(rt; outcome.entries, 9);
     let decided = [(Proc::new(1), Val::new(7))];
-    assert_eq!(rt; decisions.as_slice(), decided.as_slice());
-    assert_eq!(rt; ended.replies_to(0), Some(0));
-    assert_eq!(rt; ended.replies_to(1), Some(1));
-    assert_eq!(rt; ended.replies_to(2), None);
+    assert_eq!(rt; outcome.decisions.as_slice(), decided.as_slice());
+    assert_eq!(rt; outcome.replies.as_slice(), [0usize, 1].as_slice());
     Ok(())
 }
