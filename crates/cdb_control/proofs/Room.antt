@@ -10,9 +10,9 @@ use Rattle.cdb_base.specs.declared.refusal.Refusal.TheVariants.{NoProcess, Nothi
 use Rattle.cdb_control.specs.Answer.{Answer}
 use Rattle.cdb_control.specs.Answer as reply
 use Rattle.cdb_control.specs.Auto.{choice}
-use Rattle.cdb_control.specs.Commands.{Outcome, unless, granted, found, unpaused, stepped, step, lost, taken_back, undo, rollback, why, redone, shown, outcome, answer, obey}
+use Rattle.cdb_control.specs.Commands.{Outcome, unless, granted, found, unpaused, stepped, step, lost, undo, rollback, why, redone, shown, outcome}
 use Rattle.cdb_control.specs.Named.{name_of}
-use Rattle.cdb_control.specs.Room.{StoredList, StoredState, HasRoom, cost, room_of, with_room, lowered, raised, rooms_at}
+use Rattle.cdb_control.specs.Room.{StoredList, StoredState, HasRoom, cost, room_of, lowered, raised, rooms_at}
 use Rattle.cdb_control.specs.State.{State, redo_of, last_of, without_last}
 use Rattle.cdb_control.specs.Stops.{names_none_of}
 use Rattle.cdb_control.specs.declared.command.Command.{Command}
@@ -265,27 +265,27 @@ HasRoom-next n places places' rooms seat was next o room low spends after long g
       seats = length-set (map (λ r. r - 1) rooms) (seat - 1) _ ∙ many ∙ seats ∙ sym long;
       journal = λ i some. apart_or_same i (seat - 1) _
           (λ same.
-            let is = ap (λ k. get_or (lowered rooms seat o.reply) k 0) same ∙ same-set (map (λ r. r - 1) rooms) (seat - 1) (room_of rooms seat - cost o.reply) 0 (omega (arith, many, seats, low)) in
-            let promised = room.journal (seat - 1) (omega (arith, is, some)) in
-            omega (arith, is, some, promised, one, more))
+          let is = ap (λ k. get_or (lowered rooms seat o.reply) k 0) same ∙ same-set (map (λ r. r - 1) rooms) (seat - 1) (room_of rooms seat - cost o.reply) 0 (omega (arith, many, seats, low)) in
+          let promised = room.journal (seat - 1) (omega (arith, is, some)) in
+          omega (arith, is, some, promised, one, more))
           (λ apart.
-            let is = other-set (map (λ r. r - 1) rooms) (seat - 1) i (room_of rooms seat - cost o.reply) 0 apart ∙ less-at rooms i in
-            let promised = room.journal i (omega (arith, is, some)) in
-            omega (arith, is, some, promised, more));
+          let is = other-set (map (λ r. r - 1) rooms) (seat - 1) i (room_of rooms seat - cost o.reply) 0 apart ∙ less-at rooms i in
+          let promised = room.journal i (omega (arith, is, some)) in
+          omega (arith, is, some, promised, more));
       lists = λ i some. apart_or_same i (seat - 1) _
           (λ same.
-            let is = ap (λ k. get_or (lowered rooms seat o.reply) k 0) same ∙ same-set (map (λ r. r - 1) rooms) (seat - 1) (room_of rooms seat - cost o.reply) 0 (omega (arith, many, seats, low)) in
-            let promised = room.lists (seat - 1) (omega (arith, is, some)) in
-            let here = ap (λ k. length (get_or next.state.redo k [])) same in
-            let there = ap (λ k. get_or next.capacities k 0) same in
-            let taken = spends.own in
-            omega (arith, is, some, promised, here, there, taken, own, grown (seat - 1)))
+          let is = ap (λ k. get_or (lowered rooms seat o.reply) k 0) same ∙ same-set (map (λ r. r - 1) rooms) (seat - 1) (room_of rooms seat - cost o.reply) 0 (omega (arith, many, seats, low)) in
+          let promised = room.lists (seat - 1) (omega (arith, is, some)) in
+          let here = ap (λ k. length (get_or next.state.redo k [])) same in
+          let there = ap (λ k. get_or next.capacities k 0) same in
+          let taken = spends.own in
+          omega (arith, is, some, promised, here, there, taken, own, grown (seat - 1)))
           (λ apart.
-            let is = other-set (map (λ r. r - 1) rooms) (seat - 1) i (room_of rooms seat - cost o.reply) 0 apart ∙ less-at rooms i in
-            let promised = room.lists i (omega (arith, is, some)) in
-            let here = ap (λ (t : State). length (get_or t.redo i [])) after in
-            let there = ap (λ (l : List Event). length l) (spends.others i apart) in
-            omega (arith, is, some, promised, here, there, grown i));
+          let is = other-set (map (λ r. r - 1) rooms) (seat - 1) i (room_of rooms seat - cost o.reply) 0 apart ∙ less-at rooms i in
+          let promised = room.lists i (omega (arith, is, some)) in
+          let here = ap (λ (t : State). length (get_or t.redo i [])) after in
+          let there = ap (λ (l : List Event). length l) (spends.others i apart) in
+          omega (arith, is, some, promised, here, there, grown i));
     }
 
 zero_or_some : (r : ℕ) (G : Type 0) → (r ≡ 0 → G) → (0 < r → G) → G
@@ -306,27 +306,27 @@ HasRoom-raised n places places' rooms seat count was next room low same journal 
       seats = length-set rooms (seat - 1) _ ∙ seats ∙ sym long;
       journal = λ i some. apart_or_same i (seat - 1) _
           (λ here.
-            let is = ap (λ k. get_or (raised rooms seat count) k 0) here ∙ raised-there in
-            zero_or_some (room_of rooms seat) _
-            (λ none. omega (arith, is, none, journal))
-            (λ positive. let promised = room.journal (seat - 1) positive in omega (arith, is, promised, journal, more)))
+          let is = ap (λ k. get_or (raised rooms seat count) k 0) here ∙ raised-there in
+          zero_or_some (room_of rooms seat) _
+          (λ none. omega (arith, is, none, journal))
+          (λ positive. let promised = room.journal (seat - 1) positive in omega (arith, is, promised, journal, more)))
           (λ apart.
-            let is = other-set rooms (seat - 1) i (max count (room_of rooms seat)) 0 apart in
-            let promised = room.journal i (omega (arith, is, some)) in
-            omega (arith, is, promised, more));
+          let is = other-set rooms (seat - 1) i (max count (room_of rooms seat)) 0 apart in
+          let promised = room.journal i (omega (arith, is, some)) in
+          omega (arith, is, promised, more));
       lists = λ i some. apart_or_same i (seat - 1) _
           (λ here.
-            let is = ap (λ k. get_or (raised rooms seat count) k 0) here ∙ raised-there in
-            let events = ap (λ k. length (get_or next.state.redo k [])) here ∙ ap (λ (t : State). length (redo_of t seat)) same in
-            let places_there = ap (λ k. get_or next.capacities k 0) here in
-            zero_or_some (room_of rooms seat) _
-            (λ none. omega (arith, is, none, events, places_there, list))
-            (λ positive. let promised = room.lists (seat - 1) positive in omega (arith, is, promised, events, places_there, list, grown (seat - 1))))
+          let is = ap (λ k. get_or (raised rooms seat count) k 0) here ∙ raised-there in
+          let events = ap (λ k. length (get_or next.state.redo k [])) here ∙ ap (λ (t : State). length (redo_of t seat)) same in
+          let places_there = ap (λ k. get_or next.capacities k 0) here in
+          zero_or_some (room_of rooms seat) _
+          (λ none. omega (arith, is, none, events, places_there, list))
+          (λ positive. let promised = room.lists (seat - 1) positive in omega (arith, is, promised, events, places_there, list, grown (seat - 1))))
           (λ apart.
-            let is = other-set rooms (seat - 1) i (max count (room_of rooms seat)) 0 apart in
-            let promised = room.lists i (omega (arith, is, some)) in
-            let events = ap (λ (t : State). length (get_or t.redo i [])) same in
-            omega (arith, is, promised, events, grown i));
+          let is = other-set rooms (seat - 1) i (max count (room_of rooms seat)) 0 apart in
+          let promised = room.lists i (omega (arith, is, some)) in
+          let events = ap (λ (t : State). length (get_or t.redo i [])) same in
+          omega (arith, is, promised, events, grown i));
     }
 
 -- nobody was promised anything

@@ -58,10 +58,8 @@ impl<R: Runs> Model for Control<R> {
 
     ghost view = { λ c. record { setup = c.state.state.setup; seats = c.seats; journal = c.journal.items; rooms = rooms_at (vec_len c.journal) c.marks.items } };
 
-    ghost invariant = {
-        λ c. IsReplayed (R.rules c.state.state.setup) c.state.state.setup c.seats c.journal.items c.state.state
-        × HasRoom (vec_len c.journal) (vec_capacity c.journal) (rooms_at (vec_len c.journal) c.marks.items) c.state
-    };
+    ghost invariant = { λ c. IsReplayed (R.rules c.state.state.setup) c.state.state.setup c.seats c.journal.items c.state.state
+        × HasRoom (vec_len c.journal) (vec_capacity c.journal) (rooms_at (vec_len c.journal) c.marks.items) c.state };
 }
 
 impl<R: Runs> Control<R> {

@@ -35,12 +35,10 @@ impl<R: Runs> Model for ControlState<R> {
 
     ghost Value = { StoredState };
 
-    ghost view = {
-        λ t. record {
-            state = record { setup = R.setup t.run; history = R.history t.run; stops = t.breakpoints.stops; next = t.breakpoints.next; pause = t.pause; redo = map (λ list. list.events) t.redo.items };
-            capacities = map (λ list. list.capacity) t.redo.items;
-        }
-    };
+    ghost view = { λ t. record {
+      state = record { setup = R.setup t.run; history = R.history t.run; stops = t.breakpoints.stops; next = t.breakpoints.next; pause = t.pause; redo = map (λ list. list.events) t.redo.items };
+      capacities = map (λ list. list.capacity) t.redo.items;
+    } };
 }
 
 // An empty redo list for each seat.

@@ -1,8 +1,5 @@
 mod gates;
 mod limits;
-mod memory;
 mod opening;
-mod pair;
 mod races;
-mod seats;
 mod sessions;

@@ -3,11 +3,10 @@
 ghost use Rattle.std.specs.Prelude.{◌≡◌, ◌≤◌, All, IfOk};
 ghost use Rattle.cdb_shared.specs.Seats.{RestsAt};
 
-use cdb_control::{Control, Entry, Reply, RunOfSetup};
+use cdb_control::{Control, Reply, RunOfSetup};
 use cdb_setup::Setup;
 use cdb_shared::{Seat, Shared};
 use cdb_text::reply_text;
-use std::alloc::Global;
 use std::process::Abort;
 use std::sync::Wait;
 use std::test::Fail;
@@ -20,25 +19,14 @@ pub const ALONE: &str =
 pub const ONE_LEADER: &str =
     r#"{"algorithm":"leader","processes":2,"quorum":2,"inputs":[5,6],"oracle":[[1],[1]]}"#;
 
-fn try_setup(alloc: Global, setup: &str) -> Option<Setup> {
-    Setup::read(alloc, setup.as_bytes()).ok()
-}
-
-fn try_control(alloc: Global, setup: &str, seats: u8) -> Option<Control<RunOfSetup>> {
-    let setup = try_setup(alloc, setup)?;
-    Control::open(alloc, setup, seats).ok()
-}
-
-/// A control of a setup in which nothing has happened, at the second try if the first wants memory.
+/// A control of a setup in which nothing has happened.
 pub fn control_of<R: AllocGlobal>(
     rt: &R,
     setup: &str,
     seats: u8,
 ) -> Result<Control<RunOfSetup>, Fail> {
-    match try_control(rt.alloc(), setup, seats) {
-        Some(control) => Ok(control),
-        None => Ok(try_control(rt.alloc(), setup, seats).ok_or("no control")?),
-    }
+    let setup = Setup::read(rt.alloc(), setup.as_bytes())?;
+    Ok(Control::open(rt.alloc(), setup, seats)?)
 }
 
 /// A shared control, at the second try if the first wants memory.
@@ -71,31 +59,13 @@ pub fn pair<R: Wait + AllocGlobal>(rt: &R, setup: &str) -> Result<(Shared, Seat,
     Ok((shared, first, second))
 }
 
-// The texts of replies, one after the other.
-fn try_texts(alloc: Global, replies: &[Reply]) -> Option<Vec<u8>> {
-    let mut texts = Vec::new(alloc);
-    for reply in replies {
-        let text = reply_text(alloc, reply).ok()?;
-        texts.extend_from_slice(text.as_slice()).ok()?;
-    }
-    Some(texts)
-}
-
 /// Compares the texts of replies, one after the other, with what is expected.
 pub fn say<R: Abort + AllocGlobal>(rt: &R, replies: &[Reply], expected: &str) -> Result<(), Fail> {
-    let texts = match try_texts(rt.alloc(), replies) {
-        Some(texts) => texts,
-        None => try_texts(rt.alloc(), replies).ok_or("no texts")?,
-    };
+    let mut texts = Vec::new(rt.alloc());
+    for reply in replies {
+        let text = reply_text(rt.alloc(), reply)?;
+        texts.extend_from_slice(text.as_slice())?;
+    }
     assert_eq!(rt; texts.as_slice(), expected.as_bytes());
     Ok(())
-}
-
-/// The seat of each entry of a journal.
-pub fn seats_of(alloc: Global, journal: &[Entry]) -> Option<Vec<u8>> {
-    let mut seats = Vec::new(alloc);
-    for entry in journal {
-        seats.push(entry.seat).ok()?;
-    }
-    Some(seats)
 }

@@ -1,10 +1,12 @@
 //! Races of processes and scripts in threads.
 
+ghost use Rattle.std.specs.Prelude.{◌≡◌, IfOk, vec_len};
+
 use super::gates::Crossing;
 use super::opening::{ALONE, ONE_LEADER};
 use cdb_base::{Proc, Val};
-use cdb_control::{Command, Reply, Runs};
-use cdb_race::{Raced, Script, race};
+use cdb_control::{Command, Runs};
+use cdb_race::{Script, race};
 use cdb_setup::Setup;
 use std::alloc::{AllocError, Global};
 use std::process::Abort;
@@ -12,47 +14,6 @@ use std::sync::Wait;
 use std::sync::atomic::AtomicBool;
 use std::test::Fail;
 use std::thread::Threads;
-
-/// What the race of an example left: how many entries the journal has, the standing decisions, and how
-/// many replies each seat got.
-#[derive(Drop)]
-struct Outcome {
-    entries: usize,
-    decisions: Vec<(Proc, Val)>,
-    replies: Vec<usize>,
-}
-
-fn counts(alloc: Global, replies: &[Vec<Reply>]) -> Result<Vec<usize>, AllocError> {
-    let mut counts = Vec::new(alloc);
-    for of_seat in replies {
-        counts.push(of_seat.len())?;
-    }
-    Ok(counts)
-}
-
-fn outcome_of(alloc: Global, raced: &Raced) -> Result<Outcome, Fail> {
-    let decisions = raced.control.run().decisions(alloc)?;
-    let replies = counts(alloc, &raced.replies)?;
-    Ok(Outcome {
-        entries: raced.control.journal().len(),
-        decisions,
-        replies,
-    })
-}
-
-fn raced<R: Threads + Wait + Sync + Abort + AllocGlobal>(
-    rt: &R,
-    setup: &str,
-    turns: u32,
-    scripts: &[Script],
-    gates: Vec<Crossing>,
-) -> Result<Outcome, Fail> {
-    let setup = Setup::read(rt.alloc(), setup.as_bytes())?;
-    assert!(rt; setup.n() <= 9 && scripts.len() <= 9);
-    assert!(rt; gates.len() == usize::from(setup.n()) + scripts.len());
-    let raced = race(rt, rt.alloc(), setup, turns, scripts, gates)?;
-    outcome_of(rt.alloc(), &raced)
-}
 
 fn script(alloc: Global, commands: &[Command]) -> Result<Script, AllocError> {
     Ok(Script::new(Vec::from_slice(alloc, commands)?))
@@ -64,7 +25,9 @@ fn gates<'a>(
     one: &'a AtomicBool,
     other: &'a AtomicBool,
     first: bool,
-) -> Result<Vec<Crossing<'a>>, AllocError> {
+) -> Result<Vec<Crossing<'a>>, AllocError>
+    ensures { IfOk result (λ gates. vec_len gates ≡ 4) }
+{
     let mut all = Vec::new(alloc);
     let (a, b) = (Some((one, other)), Some((other, one)));
     all.push(Crossing {
@@ -82,15 +45,6 @@ fn gates<'a>(
     Ok(all)
 }
 
-// Gates that always pass.
-fn open_gates(alloc: Global, count: u8) -> Result<Vec<Crossing<'static>>, AllocError> {
-    let mut all = Vec::new(alloc);
-    for _ in 0..count {
-        all.push(Crossing { flags: None })?;
-    }
-    Ok(all)
-}
-
 // Two processes and two scripts, and how many entries the final journal has.
 fn crossed<R: Threads + Wait + Sync + Abort + AllocGlobal>(
     rt: &R,
@@ -104,7 +58,10 @@ fn crossed<R: Threads + Wait + Sync + Abort + AllocGlobal>(
     ];
     let (one, other) = (AtomicBool::new(false), AtomicBool::new(false));
     let gates = gates(alloc, &one, &other, first)?;
-    Ok(raced(rt, ONE_LEADER, turns, &scripts, gates)?.entries)
+    let setup = Setup::read(alloc, ONE_LEADER.as_bytes())?;
+    assert!(rt; setup.n() == 2);
+    let raced = race(rt, alloc, setup, turns, &scripts, gates)?;
+    Ok(raced.control.journal().len())
 }
 
 #[test]
@@ -130,8 +87,16 @@ fn agree(decisions: &[(Proc, Val)]) -> bool {
 fn two_processes_and_a_script_agree(rt: HostRuntime) -> Result<(), Fail> {
     let alloc = rt.alloc();
     let scripts = [script(alloc, &[Command::Undo(2, 1), Command::Redo])?];
-    let outcome = raced(&rt, ONE_LEADER, 50, &scripts, open_gates(alloc, 3)?)?;
-    assert!(rt; agree(&outcome.decisions));
+    let mut gates = Vec::new(alloc);
+    for _ in 0..3u8 {
+        gates.push(Crossing { flags: None })?;
+    }
+    let setup = Setup::read(alloc, ONE_LEADER.as_bytes())?;
+    assert!(rt; setup.n() == 2);
+    assert!(rt; gates.len() == 3);
+    let raced = race(&rt, alloc, setup, 50, &scripts, gates)?;
+    let decisions = raced.control.run().decisions(alloc)?;
+    assert!(rt; agree(&decisions));
     Ok(())
 }
 
@@ -139,10 +104,20 @@ fn two_processes_and_a_script_agree(rt: HostRuntime) -> Result<(), Fail> {
 fn a_race_of_one_process(rt: HostRuntime) -> Result<(), Fail> {
     let alloc = rt.alloc();
     let scripts = [script(alloc, &[Command::Decisions])?];
-    let outcome = raced(&rt, ALONE, 8, &scripts, open_gates(alloc, 2)?)?;
-    assert_eq!(rt; outcome.entries, 9);
-    let decided = [(Proc::new(1), Val::new(7))];
-    assert_eq!(rt; outcome.decisions.as_slice(), decided.as_slice());
-    assert_eq!(rt; outcome.replies.as_slice(), [0usize, 1].as_slice());
+    assert_eq!(rt; scripts[0].commands().len(), 1);
+    let mut gates = Vec::new(alloc);
+    gates.push(Crossing { flags: None })?;
+    gates.push(Crossing { flags: None })?;
+    let setup = Setup::read(alloc, ALONE.as_bytes())?;
+    assert!(rt; setup.n() == 1);
+    let raced = race(&rt, alloc, setup, 8, &scripts, gates)?;
+    assert_eq!(rt; raced.control.journal().len(), 9);
+    let decisions = raced.control.run().decisions(alloc)?;
+    assert_eq!(rt;
+        decisions.as_slice(),
+        [(Proc::new(1), Val::new(7))].as_slice()
+    );
+    assert_eq!(rt; raced.replies.len(), 2);
+    assert_eq!(rt; (raced.replies[0].len(), raced.replies[1].len()), (0, 1));
     Ok(())
 }

@@ -1,12 +1,11 @@
-use Rattle.std.proofs.Common.{◌≡◌, ℕ, ◌+◌, ◌-◌, ◌<◌, arith, ap, ◌∙◌, sym, subst, List, [], ◌∷◌, ◌++◌, length, vec_len, vec_capacity}
+use Rattle.std.proofs.Common.{ℕ, ◌+◌, ◌-◌, ◌<◌, arith, ap, ◌∙◌, sym, subst, List, [], ◌∷◌, ◌++◌, length, vec_len, vec_capacity}
 use Rattle.std.proofs.lemmas.List.{length-map}
-use Rattle.cdb_control.specs.Answer.{Answer, told}
+use Rattle.cdb_control.specs.Answer.{told}
 use Rattle.cdb_control.specs.declared.control.Entry.{Entry}
 use Rattle.cdb_control.specs.Commands.{Outcome, answer, outcome}
 use Rattle.cdb_control.specs.Journal.{Journaled, entry, extended}
 use Rattle.cdb_control.specs.Room.{HasRoom, cost, lowered, rooms_at}
 use Rattle.cdb_control.specs.State.{State}
-use Rattle.cdb_setup.specs.Parts.{Parts}
 use Rattle.cdb_control.proofs.Along.{obey-setup, IsReplayed-next}
 use Rattle.cdb_control.proofs.Room.{HasRoom-next, cost-one, rooms-lowered, spends}
 use Rattle.cdb_control.proofs.control.Control.execute.Goals as goal
@@ -24,8 +23,8 @@ invariant_of-self-2 g c =
     let to_last = c.requires.to_last in
     let lists = was.0.lists in
     let replayed =
-        IsReplayed-next g.R.Runs.rules g.met.R.Runs.lawful i.seats i.journal.items i.state.state next.state seat c.args.command _
-        added was.0 c.requires.from_one (omega (arith, high, to_last)) (omega arith) after in
+    IsReplayed-next g.R.Runs.rules g.met.R.Runs.lawful i.seats i.journal.items i.state.state next.state seat c.args.command _
+    added was.0 c.requires.from_one (omega (arith, high, to_last)) (omega arith) after in
     let from_one = c.requires.from_one in
     let low : seat - 1 < length i.state.state.redo = omega (arith, high, to_last, from_one, lists) in
     let marks = i.marks.items in
@@ -34,19 +33,18 @@ invariant_of-self-2 g c =
     let seats = was.1.seats in
     let done = outcome rules i.state.state seat c.args.command in
     let rooms =
-        ap (λ (l : List ℕ). rooms_at (n + 1) l) c.lower.ensures
-        ∙ sym (rooms-lowered marks (seat - 1) n (cost (told c.in-Ok.reply)) (cost-one (told c.in-Ok.reply)) (omega (arith, many, seats, low)))
-        ∙ ap (λ (o : Outcome). lowered (rooms_at n marks) seat o.reply) c.in-Ok.ensures.ok in
+    ap (λ (l : List ℕ). rooms_at (n + 1) l) c.lower.ensures
+    ∙ sym (rooms-lowered marks (seat - 1) n (cost (told c.in-Ok.reply)) (cost-one (told c.in-Ok.reply)) (omega (arith, many, seats, low)))
+    ∙ ap (λ (o : Outcome). lowered (rooms_at n marks) seat o.reply) c.in-Ok.ensures.ok in
     let more = c.reserve.ensures.capacity in
     let room =
-        HasRoom-next n (vec_capacity i.journal) (vec_capacity c.reserve.new.self) (rooms_at n marks) seat i.state next done was.1 low
-        (spends rules i.state.state seat low c.args.command) (sym after) (replayed.lists ∙ sym lists) c.perform.ensures.capacities more in
-    let long = c.push_entry.ensures.len ∙ ap (λ (m : ℕ). m + 1) c.reserve.ensures.len in
-    (
+    HasRoom-next n (vec_capacity i.journal) (vec_capacity c.reserve.new.self) (rooms_at n marks) seat i.state next done was.1 low
+    (spends rules i.state.state seat low c.args.command) (sym after) (replayed.lists ∙ sym lists) c.perform.ensures.capacities more in
+    let long = c.push_entry.ensures.len ∙ ap (λ (m : ℕ). m + 1) c.reserve.ensures.len in (
       replayed,
       subst (λ (m : ℕ). HasRoom m (vec_capacity c.push_entry.new.journal) (rooms_at m c.lower.new.marks.items) next) (sym long)
-      (subst (λ (places : ℕ). HasRoom (n + 1) places (rooms_at (n + 1) c.lower.new.marks.items) next) (sym c.push_entry.ensures.capacity)
-      (subst (λ (l : List ℕ). HasRoom (n + 1) (vec_capacity c.reserve.new.self) l next) (sym rooms) room))
+          (subst (λ (places : ℕ). HasRoom (n + 1) places (rooms_at (n + 1) c.lower.new.marks.items) next) (sym c.push_entry.ensures.capacity)
+          (subst (λ (l : List ℕ). HasRoom (n + 1) (vec_capacity c.reserve.new.self) l next) (sym rooms) room)),
     )
 
 pub returns-clause-journal : goal.returns-clause-journal
@@ -68,11 +66,11 @@ returns-clause-journal g c =
     let seats = was.1.seats in
     let long = c.push_entry.ensures.len ∙ ap (λ (m : ℕ). m + 1) c.reserve.ensures.len in
     let rooms =
-        ap (λ (m : ℕ). rooms_at m c.lower.new.marks.items) long
-        ∙ ap (λ (l : List ℕ). rooms_at (n + 1) l) c.lower.ensures
-        ∙ sym (rooms-lowered marks (seat - 1) n (cost (told c.in-Ok.reply)) (cost-one (told c.in-Ok.reply)) (omega (arith, many, seats, high, to_last, from_one, lists)))
-        ∙ ap (λ (o : Outcome). lowered (rooms_at n marks) seat o.reply) c.in-Ok.ensures.ok
-        ∙ ap (λ (t : State). lowered (rooms_at n marks) seat (answer rules t seat c.args.command)) (sym was.0.replayed) in
+    ap (λ (m : ℕ). rooms_at m c.lower.new.marks.items) long
+    ∙ ap (λ (l : List ℕ). rooms_at (n + 1) l) c.lower.ensures
+    ∙ sym (rooms-lowered marks (seat - 1) n (cost (told c.in-Ok.reply)) (cost-one (told c.in-Ok.reply)) (omega (arith, many, seats, high, to_last, from_one, lists)))
+    ∙ ap (λ (o : Outcome). lowered (rooms_at n marks) seat o.reply) c.in-Ok.ensures.ok
+    ∙ ap (λ (t : State). lowered (rooms_at n marks) seat (answer rules t seat c.args.command)) (sym was.0.replayed) in
     (λ j. let v : Journaled = record { setup = same j; seats = i.seats; journal = added j; rooms = rooms j } in v)
     ∙ ap (λ (v : Journaled). extended (g.R.Runs.rules v.setup) v seat c.args.command) c.self.view_is
 

@@ -1,4 +1,4 @@
-use Rattle.std.proofs.Common.{◌≡◌, ℕ, ◌+◌, ◌-◌, ◌<◌, arith, ap, ◌∙◌, sym, subst, max, length, List, vec_len, vec_capacity}
+use Rattle.std.proofs.Common.{ℕ, ◌+◌, ◌-◌, ◌<◌, arith, ap, ◌∙◌, sym, subst, max, length, List, vec_len, vec_capacity}
 use Rattle.std.proofs.lemmas.List.{length-map}
 use Rattle.cdb_control.proofs.Room.{HasRoom-raised, rooms-raised}
 use Rattle.cdb_control.specs.Journal.{Journaled, IsReplayed}
@@ -27,17 +27,16 @@ invariant_of-self-2 g c =
     let enough = c.in_ok-reserve.ensures.ok in
     let len = c.len.ensures ∙ same_len in
     let rooms =
-        ap (λ (l : List ℕ). rooms_at n l) c.raise.ensures
-        ∙ ap (λ (m : ℕ). rooms_at n (with_room marks seat (max (m + count) (room_of marks seat)))) len
-        ∙ rooms-raised marks (seat - 1) n count (omega (arith, many, seats, low)) in
+    ap (λ (l : List ℕ). rooms_at n l) c.raise.ensures
+    ∙ ap (λ (m : ℕ). rooms_at n (with_room marks seat (max (m + count) (room_of marks seat)))) len
+    ∙ rooms-raised marks (seat - 1) n count (omega (arith, many, seats, low)) in
     let room =
-        HasRoom-raised n (vec_capacity i.journal) (vec_capacity c.reserve.new.self) (rooms_at n marks) seat count i.state next was.1 low
-        c.in_ok-reserve-2.ensures.state (omega (arith, enough, same_len)) c.reserve.ensures.capacity c.in_ok-reserve-2.ensures.ok c.reserve-2.ensures.capacities in
-    (
+    HasRoom-raised n (vec_capacity i.journal) (vec_capacity c.reserve.new.self) (rooms_at n marks) seat count i.state next was.1 low
+    c.in_ok-reserve-2.ensures.state (omega (arith, enough, same_len)) c.reserve.ensures.capacity c.in_ok-reserve-2.ensures.ok c.reserve-2.ensures.capacities in (
       subst (λ (t : State). IsReplayed (g.R.Runs.rules t.setup) t.setup i.seats c.reserve.new.self.items t) (sym c.in_ok-reserve-2.ensures.state)
-      (subst (λ (l : List Entry). IsReplayed (g.R.Runs.rules i.state.state.setup) i.state.state.setup i.seats l i.state.state) (sym c.reserve.ensures.items) was.0),
+          (subst (λ (l : List Entry). IsReplayed (g.R.Runs.rules i.state.state.setup) i.state.state.setup i.seats l i.state.state) (sym c.reserve.ensures.items) was.0),
       subst (λ (m : ℕ). HasRoom m (vec_capacity c.reserve.new.self) (rooms_at m c.raise.new.marks.items) next) (sym same_len)
-      (subst (λ (l : List ℕ). HasRoom n (vec_capacity c.reserve.new.self) l next) (sym rooms) room)
+          (subst (λ (l : List ℕ). HasRoom n (vec_capacity c.reserve.new.self) l next) (sym rooms) room),
     )
 
 pub returns-clause-ok : goal.returns-clause-ok
@@ -57,10 +56,10 @@ returns-clause-ok g c =
     let same_len = c.reserve.ensures.len in
     let len = c.len.ensures ∙ same_len in
     let rooms =
-        ap (λ (m : ℕ). rooms_at m c.raise.new.marks.items) same_len
-        ∙ ap (λ (l : List ℕ). rooms_at n l) c.raise.ensures
-        ∙ ap (λ (m : ℕ). rooms_at n (with_room marks seat (max (m + count) (room_of marks seat)))) len
-        ∙ rooms-raised marks (seat - 1) n count (omega (arith, many, seats, high, to_last, from_one, lists)) in
+    ap (λ (m : ℕ). rooms_at m c.raise.new.marks.items) same_len
+    ∙ ap (λ (l : List ℕ). rooms_at n l) c.raise.ensures
+    ∙ ap (λ (m : ℕ). rooms_at n (with_room marks seat (max (m + count) (room_of marks seat)))) len
+    ∙ rooms-raised marks (seat - 1) n count (omega (arith, many, seats, high, to_last, from_one, lists)) in
     let state = c.in_ok-reserve-2.ensures.state in
     let items = c.reserve.ensures.items in
     (λ j. let v : Journaled = record { setup = (state j).setup; seats = i.seats; journal = items j; rooms = rooms j } in v)

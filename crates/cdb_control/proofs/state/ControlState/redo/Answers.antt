@@ -1,4 +1,4 @@
-use Rattle.std.proofs.Common.{◌≡◌, arith, ◌-◌, ◌≤◌, ap, ◌∙◌, sym, subst, length, [], List, set, map, get_or, Result}
+use Rattle.std.proofs.Common.{arith, ◌-◌, ap, ◌∙◌, sym, subst, [], List, set}
 use Rattle.std.specs.List.{AllByRecursion}
 use Rattle.cdb_base.specs.declared.event.Event.{Event}
 use Rattle.cdb_control.proofs.Alls.{all-get_or, all-slice_get}
@@ -31,12 +31,12 @@ returns-in-Ok-clause-ok g c =
     let answer = did.answer ∙ ap (λ (v : StoredState). (g.R.Runs.rules v.state.setup).again v.state.history c.in-Some.undone) c.self.view_is in
     let list = w.put ∙ ap (λ (l : StoredList). set now.state.redo (c.args.seat - 1) l.events) c.drop_last.ensures ∙ ap (λ (l : List Event). set now.state.redo (c.args.seat - 1) (without_last l)) (sym w.at) in
     let after =
-        (λ j. let u : State = record { setup = did.setup j; history = did.history j; stops = c.self.inside.breakpoints.stops; next = c.self.inside.breakpoints.next; pause = c.self.inside.pause; redo = list j } in u)
-        ∙ ap (λ (v : StoredState). let u : State = record v.state { history = with_taken v.state.history r; redo = set now.state.redo (c.args.seat - 1) (without_last (redo_of now.state c.args.seat)) } in u) c.self.view_is in
+    (λ j. let u : State = record { setup = did.setup j; history = did.history j; stops = c.self.inside.breakpoints.stops; next = c.self.inside.breakpoints.next; pause = c.self.inside.pause; redo = list j } in u)
+    ∙ ap (λ (v : StoredState). let u : State = record v.state { history = with_taken v.state.history r; redo = set now.state.redo (c.args.seat - 1) (without_last (redo_of now.state c.args.seat)) } in u) c.self.view_is in
     let tells =
-        c.decides-decides.ensures
-        ∙ (λ j. decides (g.R.Runs.rules (did.setup j)) (did.history j) event)
-        ∙ ap (λ (v : StoredState). decides (g.R.Runs.rules v.state.setup) (with_taken v.state.history r) event) c.self.view_is in
+    c.decides-decides.ensures
+    ∙ (λ j. decides (g.R.Runs.rules (did.setup j)) (did.history j) event)
+    ∙ ap (λ (v : StoredState). decides (g.R.Runs.rules v.state.setup) (with_taken v.state.history r) event) c.self.view_is in
     redone-as rules now.state _ c.args.seat c.in-Some.undone event c.decides-decides.result r last answer after tells c.in-Ok.is
 
 pub returns-in-Ok-clause-capacities : goal.returns-in-Ok-clause-capacities

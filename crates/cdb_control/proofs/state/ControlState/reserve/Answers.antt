@@ -1,4 +1,4 @@
-use Rattle.std.proofs.Common.{◌≡◌, ◌+◌, ◌-◌, ◌≤◌, ap, ◌∙◌, sym, subst, length, ℕ, List, set, map, get_or, OnOk}
+use Rattle.std.proofs.Common.{◌+◌, ◌-◌, ◌≤◌, ap, ◌∙◌, sym, subst, length, ℕ, List, set, map, OnOk}
 use Rattle.cdb_base.specs.declared.event.Event.{Event}
 use Rattle.cdb_control.proofs.Room.{swap}
 use Rattle.cdb_control.proofs.Steps.{unchanged}

@@ -1,13 +1,11 @@
-use Rattle.std.proofs.Common.{◌≡◌, rules, arith, ◌-◌, ◌≤◌, ap, ◌∙◌, sym, length, List, set, map, get_or, Result}
+use Rattle.std.proofs.Common.{rules, arith, ◌-◌, ap, ◌∙◌, sym, List, set, map}
 use Rattle.std.proofs.lemmas.Grind.{common_steps}
 use Rattle.cdb_base.specs.declared.event.Event.{Event}
-use Rattle.cdb_base.specs.declared.refusal.Refusal.{Refusal}
-use Rattle.cdb_control.proofs.Steps.{with_lists, unchanged, rolled_back-as, rollback_refused-as}
+use Rattle.cdb_control.proofs.Steps.{unchanged, rolled_back-as, rollback_refused-as}
 use Rattle.cdb_control.proofs.Room.{swap}
 use Rattle.cdb_control.specs.Named.{name_of}
 use Rattle.cdb_control.specs.Room.{StoredState, StoredList}
 use Rattle.cdb_control.specs.State.{State, redo_of}
-use Rattle.cdb_run.specs.Refusals.{with_taken}
 use Rattle.cdb_run.specs.Undo.{rollback_of, answered, left_by, number_removed, with_removed}
 use Rattle.cdb_control.proofs.state.ControlState.rollback.Goals as goal
 use Rattle.cdb_control.proofs.state.ControlState.rollback.Goals.{in-Ok, in-Err}
@@ -25,8 +23,8 @@ returns-clause-ok g c =
     let lists = map (λ (l : StoredList). l.events) (set c.self.inside.redo.items (c.args.seat - 1) c.rollback.new.self) in
     let list = w.put ∙ ap (λ (l : List Event). set now.state.redo (c.args.seat - 1) l) (did.list ∙ ap (λ (l : List Event). with_removed l (answered x0)) (sym w.at) ∙ ap (λ (v : StoredState). with_removed (redo_of now.state c.args.seat) (answered (rollback_of v.state.setup.processes v.state.history name))) c.self.view_is) in
     let after =
-        (λ j. let u : State = record { setup = did.setup j; history = did.history j; stops = c.self.inside.breakpoints.stops; next = c.self.inside.breakpoints.next; pause = c.self.inside.pause; redo = list j } in u)
-        ∙ ap (λ (v : StoredState). let u : State = record v.state { history = left_by v.state.history (rollback_of v.state.setup.processes v.state.history name); redo = set now.state.redo (c.args.seat - 1) (with_removed (redo_of now.state c.args.seat) (answered x)) } in u) c.self.view_is in
+    (λ j. let u : State = record { setup = did.setup j; history = did.history j; stops = c.self.inside.breakpoints.stops; next = c.self.inside.breakpoints.next; pause = c.self.inside.pause; redo = list j } in u)
+    ∙ ap (λ (v : StoredState). let u : State = record v.state { history = left_by v.state.history (rollback_of v.state.setup.processes v.state.history name); redo = set now.state.redo (c.args.seat - 1) (with_removed (redo_of now.state c.args.seat) (answered x)) } in u) c.self.view_is in
     elim c.match-branch-2.branch [
       | in-Ok w ↦ rw w.result-is (rolled_back-as now.state _ c.args.seat x r w.in-Ok.count answer after w.in-Ok.is)
       | in-Err w ↦ rw w.result-is (rollback_refused-as now.state _ c.args.seat x r w.in-Err.refusal _ answer after w.in-Err.is)
@@ -45,9 +43,9 @@ returns-in_err-count-clause-err g c =
     let did = c.in_err-count.ensures in
     let list = w.put ∙ ap (λ (l : List Event). set now.state.redo (c.args.seat - 1) l) (did.list_err ∙ sym w.at) in
     let after =
-        (λ j. let u : State = record { setup = did.setup j; history = did.err j; stops = c.self.inside.breakpoints.stops; next = c.self.inside.breakpoints.next; pause = c.self.inside.pause; redo = list j } in u)
-        ∙ ap (λ (v : StoredState). let u : State = record v.state { redo = set now.state.redo (c.args.seat - 1) (redo_of now.state c.args.seat) } in u) c.self.view_is
-        ∙ unchanged now.state c.args.seat in
+    (λ j. let u : State = record { setup = did.setup j; history = did.err j; stops = c.self.inside.breakpoints.stops; next = c.self.inside.breakpoints.next; pause = c.self.inside.pause; redo = list j } in u)
+    ∙ ap (λ (v : StoredState). let u : State = record v.state { redo = set now.state.redo (c.args.seat - 1) (redo_of now.state c.args.seat) } in u) c.self.view_is
+    ∙ unchanged now.state c.args.seat in
     first_of (search (rules, after), grind (arith, common_steps, after))
 
 pub returns-in_err-count-clause-capacities : goal.returns-in_err-count-clause-capacities
