@@ -1,7 +1,7 @@
 -- What commands do to room and to redo lists in memory.
 use Rattle.std.proofs.Common.{◌≡◌, ◌≢◌, ℕ, zero, suc, ◌+◌, ◌-◌, ◌<◌, ◌≤◌, max, Bool, true, false, not, List, [], ◌∷◌, ◌++◌, length, map, set, get_or, replicate, Option, Some, None, Result, Ok, Err, refl, sym, ap, ◌∙◌, subst, arith, length-append, nat_eq, nat_le, is_some}
 use Rattle.std.specs.Map.{lookup}
-use Rattle.std.proofs.lemmas.List.{length-set, length-map, length-take, length-replicate}
+use Rattle.std.proofs.lemmas.List.{length-set, length-map, length-take, length-replicate, get_or-map, map-set, get_or-set_same, get_or-set_other}
 use Rattle.cdb_base.specs.declared.act.Act.{Act}
 use Rattle.cdb_base.specs.declared.event.Event.{Event}
 use Rattle.cdb_base.specs.declared.name.StepId.{StepId}
@@ -26,23 +26,6 @@ use Rattle.cdb_run.specs.Undo.{undo_of, rollback_of, causes_of}
 
 -- ---- lists of redo lists
 
--- the events of one of them
-pub events-at : (lists : List StoredList) (k : ℕ) (one : StoredList) → k < length lists → get_or lists k one ≡ one → get_or (map (λ l. l.events) lists) k [] ≡ one.events
-events-at [] k one low is = absurd (omega (arith, low))
-events-at (x ∷ xs) zero one low is = ap (λ (l : StoredList). l.events) is
-events-at (x ∷ xs) (suc k) one low is = events-at xs k one (omega (arith, low)) is
-
-pub capacity-at : (lists : List StoredList) (k : ℕ) (one : StoredList) → k < length lists → get_or lists k one ≡ one → get_or (map (λ l. l.capacity) lists) k 0 ≡ one.capacity
-capacity-at [] k one low is = absurd (omega (arith, low))
-capacity-at (x ∷ xs) zero one low is = ap (λ (l : StoredList). l.capacity) is
-capacity-at (x ∷ xs) (suc k) one low is = capacity-at xs k one (omega (arith, low)) is
-
--- one list gives way to another
-pub events-set : (lists : List StoredList) (k : ℕ) (new : StoredList) → map (λ l. l.events) (set lists k new) ≡ set (map (λ l. l.events) lists) k new.events
-events-set [] k new = refl
-events-set (x ∷ xs) zero new = refl
-events-set (x ∷ xs) (suc k) new = ap (λ (rest : List (List Event)). x.events ∷ rest) (events-set xs k new)
-
 -- one list gives way to another that can hold as many
 pub capacities-set : (lists : List StoredList) (k : ℕ) (old new : StoredList) → k < length lists → get_or lists k old ≡ old → old.capacity ≤ new.capacity
     → (i : ℕ) → get_or (map (λ l. l.capacity) lists) i 0 ≤ get_or (map (λ l. l.capacity) (set lists k new)) i 0
@@ -61,11 +44,6 @@ pub record Swap (t : StoredState) (lists : List StoredList) (seat : ℕ) (old ne
   pub placed : get_or (map (λ l. l.capacity) (set lists (seat - 1) new)) (seat - 1) 0 ≡ new.capacity
   pub grown : old.capacity ≤ new.capacity → (i : ℕ) → get_or t.capacities i 0 ≤ get_or (map (λ l. l.capacity) (set lists (seat - 1) new)) i 0
 
-capacity-placed : (lists : List StoredList) (k : ℕ) (new : StoredList) → k < length lists → get_or (map (λ l. l.capacity) (set lists k new)) k 0 ≡ new.capacity
-capacity-placed [] k new low = absurd (omega (arith, low))
-capacity-placed (x ∷ xs) zero new low = refl
-capacity-placed (x ∷ xs) (suc k) new low = capacity-placed xs k new (omega (arith, low))
-
 pub swap : (t : StoredState) (lists : List StoredList) (seat : ℕ) (old new : StoredList)
     → map (λ l. l.events) lists ≡ t.state.redo → map (λ l. l.capacity) lists ≡ t.capacities → 1 ≤ seat → seat ≤ length t.state.redo → old ≡ get_or lists (seat - 1) old
     → Swap t lists seat old new
@@ -75,10 +53,10 @@ swap t lists seat old new events capacities from_one to_last is =
     let low : seat - 1 < length lists = omega (arith, many, same, from_one, to_last) in
     record {
       low = omega (arith, from_one, to_last);
-      at = ap (λ (e : List (List Event)). get_or e (seat - 1) []) (sym events) ∙ events-at lists (seat - 1) old low (sym is);
-      put = events-set lists (seat - 1) new ∙ ap (λ (e : List (List Event)). set e (seat - 1) new.events) events;
-      place = ap (λ (e : List ℕ). get_or e (seat - 1) 0) (sym capacities) ∙ capacity-at lists (seat - 1) old low (sym is);
-      placed = capacity-placed lists (seat - 1) new low;
+      at = ap (λ (e : List (List Event)). get_or e (seat - 1) []) (sym events) ∙ get_or-map (λ (l : StoredList). l.events) lists (seat - 1) old [] low ∙ ap (λ (l : StoredList). l.events) (sym is);
+      put = map-set (λ (l : StoredList). l.events) lists (seat - 1) new ∙ ap (λ (e : List (List Event)). set e (seat - 1) new.events) events;
+      place = ap (λ (e : List ℕ). get_or e (seat - 1) 0) (sym capacities) ∙ get_or-map (λ (l : StoredList). l.capacity) lists (seat - 1) old 0 low ∙ ap (λ (l : StoredList). l.capacity) (sym is);
+      placed = ap (λ (e : List ℕ). get_or e (seat - 1) 0) (map-set (λ (l : StoredList). l.capacity) lists (seat - 1) new) ∙ get_or-set_same (map (λ l. l.capacity) lists) (seat - 1) new.capacity 0 (omega (arith, length-map lists (λ (l : StoredList). l.capacity), low));
       grown = λ more i. subst (λ (e : List ℕ). get_or e i 0 ≤ get_or (map (λ l. l.capacity) (set lists (seat - 1) new)) i 0) capacities (capacities-set lists (seat - 1) old new low (sym is) more i);
     }
 
@@ -139,18 +117,6 @@ pub record Spends (seat : ℕ) (t : State) (o : Outcome) : Type 0 where
   pub own : length (redo_of o.after seat) ≤ length (redo_of t seat) + cost o.reply
   pub others : (i : ℕ) → i ≢ seat - 1 → get_or o.after.redo i [] ≡ get_or t.redo i []
 
-other-set : {A : Type 0} (xs : List A) (k i : ℕ) (x d : A) → i ≢ k → get_or (set xs k x) i d ≡ get_or xs i d
-other-set [] k i x d apart = refl
-other-set (y ∷ ys) zero zero x d apart = absurd (apart refl)
-other-set (y ∷ ys) zero (suc i) x d apart = refl
-other-set (y ∷ ys) (suc k) zero x d apart = refl
-other-set (y ∷ ys) (suc k) (suc i) x d apart = other-set ys k i x d (λ same. apart (ap suc same))
-
-same-set : {A : Type 0} (xs : List A) (k : ℕ) (x d : A) → k < length xs → get_or (set xs k x) k d ≡ x
-same-set [] k x d low = absurd (omega (arith, low))
-same-set (y ∷ ys) zero x d low = refl
-same-set (y ∷ ys) (suc k) x d low = same-set ys k x d (omega (arith, low))
-
 -- the lists are as they were
 kept : (seat : ℕ) (t : State) (o : Outcome) → o.after.redo ≡ t.redo → Spends seat t o
 kept seat t o same =
@@ -180,8 +146,8 @@ module _ (rules : Rules) (t : State) (seat : ℕ) (low : seat - 1 < length t.red
   becomes : (o : Outcome) (events : List Event) → o.after.redo ≡ set t.redo (seat - 1) events → length events ≤ length (redo_of t seat) + cost o.reply → Spends seat t o
   becomes o events is long =
       record {
-        own = (let here = ap (λ (lists : List (List Event)). length (get_or lists (seat - 1) [])) is in let there = ap (λ (l : List Event). length l) (same-set t.redo (seat - 1) events [] low) in omega (arith, long, here, there));
-        others = λ i apart. ap (λ (lists : List (List Event)). get_or lists i []) is ∙ other-set t.redo (seat - 1) i events [] apart;
+        own = (let here = ap (λ (lists : List (List Event)). length (get_or lists (seat - 1) [])) is in let there = ap (λ (l : List Event). length l) (get_or-set_same t.redo (seat - 1) events [] low) in omega (arith, long, here, there));
+        others = λ i apart. ap (λ (lists : List (List Event)). get_or lists i []) is ∙ get_or-set_other t.redo (seat - 1) i events [] apart;
       }
 
   undo-spends : (name : StepId) → Spends seat t (undo t seat name)
@@ -265,23 +231,23 @@ HasRoom-next n places places' rooms seat was next o room low spends after long g
       seats = length-set (map (λ r. r - 1) rooms) (seat - 1) _ ∙ many ∙ seats ∙ sym long;
       journal = λ i some. apart_or_same i (seat - 1) _
           (λ same.
-          let is = ap (λ k. get_or (lowered rooms seat o.reply) k 0) same ∙ same-set (map (λ r. r - 1) rooms) (seat - 1) (room_of rooms seat - cost o.reply) 0 (omega (arith, many, seats, low)) in
+          let is = ap (λ k. get_or (lowered rooms seat o.reply) k 0) same ∙ get_or-set_same (map (λ r. r - 1) rooms) (seat - 1) (room_of rooms seat - cost o.reply) 0 (omega (arith, many, seats, low)) in
           let promised = room.journal (seat - 1) (omega (arith, is, some)) in
           omega (arith, is, some, promised, one, more))
           (λ apart.
-          let is = other-set (map (λ r. r - 1) rooms) (seat - 1) i (room_of rooms seat - cost o.reply) 0 apart ∙ less-at rooms i in
+          let is = get_or-set_other (map (λ r. r - 1) rooms) (seat - 1) i (room_of rooms seat - cost o.reply) 0 apart ∙ less-at rooms i in
           let promised = room.journal i (omega (arith, is, some)) in
           omega (arith, is, some, promised, more));
       lists = λ i some. apart_or_same i (seat - 1) _
           (λ same.
-          let is = ap (λ k. get_or (lowered rooms seat o.reply) k 0) same ∙ same-set (map (λ r. r - 1) rooms) (seat - 1) (room_of rooms seat - cost o.reply) 0 (omega (arith, many, seats, low)) in
+          let is = ap (λ k. get_or (lowered rooms seat o.reply) k 0) same ∙ get_or-set_same (map (λ r. r - 1) rooms) (seat - 1) (room_of rooms seat - cost o.reply) 0 (omega (arith, many, seats, low)) in
           let promised = room.lists (seat - 1) (omega (arith, is, some)) in
           let here = ap (λ k. length (get_or next.state.redo k [])) same in
           let there = ap (λ k. get_or next.capacities k 0) same in
           let taken = spends.own in
           omega (arith, is, some, promised, here, there, taken, own, grown (seat - 1)))
           (λ apart.
-          let is = other-set (map (λ r. r - 1) rooms) (seat - 1) i (room_of rooms seat - cost o.reply) 0 apart ∙ less-at rooms i in
+          let is = get_or-set_other (map (λ r. r - 1) rooms) (seat - 1) i (room_of rooms seat - cost o.reply) 0 apart ∙ less-at rooms i in
           let promised = room.lists i (omega (arith, is, some)) in
           let here = ap (λ (t : State). length (get_or t.redo i [])) after in
           let there = ap (λ (l : List Event). length l) (spends.others i apart) in
@@ -301,7 +267,7 @@ pub HasRoom-raised : (n places places' : ℕ) (rooms : List ℕ) (seat count : �
 HasRoom-raised n places places' rooms seat count was next room low same journal more list grown =
     let seats = room.seats in
     let long = ap (λ (t : State). length t.redo) same in
-    let raised-there = same-set rooms (seat - 1) (max count (room_of rooms seat)) 0 (omega (arith, seats, low)) in
+    let raised-there = get_or-set_same rooms (seat - 1) (max count (room_of rooms seat)) 0 (omega (arith, seats, low)) in
     record {
       seats = length-set rooms (seat - 1) _ ∙ seats ∙ sym long;
       journal = λ i some. apart_or_same i (seat - 1) _
@@ -311,7 +277,7 @@ HasRoom-raised n places places' rooms seat count was next room low same journal 
           (λ none. omega (arith, is, none, journal))
           (λ positive. let promised = room.journal (seat - 1) positive in omega (arith, is, promised, journal, more)))
           (λ apart.
-          let is = other-set rooms (seat - 1) i (max count (room_of rooms seat)) 0 apart in
+          let is = get_or-set_other rooms (seat - 1) i (max count (room_of rooms seat)) 0 apart in
           let promised = room.journal i (omega (arith, is, some)) in
           omega (arith, is, promised, more));
       lists = λ i some. apart_or_same i (seat - 1) _
@@ -323,7 +289,7 @@ HasRoom-raised n places places' rooms seat count was next room low same journal 
           (λ none. omega (arith, is, none, events, places_there, list))
           (λ positive. let promised = room.lists (seat - 1) positive in omega (arith, is, promised, events, places_there, list, grown (seat - 1))))
           (λ apart.
-          let is = other-set rooms (seat - 1) i (max count (room_of rooms seat)) 0 apart in
+          let is = get_or-set_other rooms (seat - 1) i (max count (room_of rooms seat)) 0 apart in
           let promised = room.lists i (omega (arith, is, some)) in
           let events = ap (λ (t : State). length (get_or t.redo i [])) same in
           omega (arith, is, promised, events, grown i));

@@ -1,5 +1,6 @@
 -- Commands that share a word of the table.
 use Rattle.std.proofs.Common.{◌≡◌, ℕ, zero, suc, ◌-◌, List, [], ◌∷◌, ◌++◌, length, set, get_or, Option, Some, Result, Ok, Err, refl, sym, ap, ◌∙◌}
+use Rattle.std.proofs.lemmas.List.{set-get_or}
 use Rattle.cdb_base.specs.declared.act.Act.{Act}
 use Rattle.cdb_base.specs.declared.event.Event.{Event}
 use Rattle.cdb_base.specs.declared.refusal.Refusal.{Refusal}
@@ -53,17 +54,12 @@ ok_err {A = A} a why r one other = let both : (let x : Result A Refusal = Ok a i
 err_err : {A : Type 0} (a b : Refusal) (r : Result A Refusal) → r ≡ Err a → r ≡ Err b → a ≡ b
 err_err {A = A} a b r one other = let both : (let x : Result A Refusal = Err a in x) ≡ Err b = sym one ∙ other in cc
 
-set_as_it_was : (lists : List (List Event)) (k : ℕ) → set lists k (get_or lists k []) ≡ lists
-set_as_it_was [] k = refl
-set_as_it_was (x ∷ xs) zero = refl
-set_as_it_was (x ∷ xs) (suc k) = ap (λ (rest : List (List Event)). x ∷ rest) (set_as_it_was xs k)
-
 -- the state with another history and another redo list of a seat
 abbrev pub with_lists : State → ℕ → List Event → List Event → State
 with_lists t seat history events = record t { history = history; redo = set t.redo (seat - 1) events }
 
 pub unchanged : (t : State) (seat : ℕ) → with_lists t seat t.history (redo_of t seat) ≡ t
-unchanged t seat = ap (λ (lists : List (List Event)). let u : State = record t { redo = lists } in u) (set_as_it_was t.redo (seat - 1))
+unchanged t seat = ap (λ (lists : List (List Event)). let u : State = record t { redo = lists } in u) (set-get_or t.redo (seat - 1) [])
 
 pub undone-as : (t u : State) (seat : ℕ) (x : Result (Event × List Event) Refusal) (r : Result Event Refusal) (event : Event)
     → r ≡ answered x → u ≡ with_lists t seat (left_by t.history x) (with_taken (redo_of t seat) r) → r ≡ Ok event

@@ -1,8 +1,14 @@
 mod alpha;
 mod causal;
 mod causal_twins;
+mod entries;
+mod events;
+mod history;
 mod leader;
+mod machine;
 mod mail;
+mod mailbox;
+mod reading;
 mod records;
 mod registers;
 mod setups;

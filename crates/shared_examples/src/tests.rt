@@ -1,5 +1,8 @@
 mod gates;
 mod limits;
+mod memory;
 mod opening;
+mod pair;
 mod races;
+mod seats;
 mod sessions;

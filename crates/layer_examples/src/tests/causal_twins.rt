@@ -2,9 +2,9 @@
 
 ghost use Rattle.std.specs.Prelude.{◌<◌, ◌≤◌};
 
-use super::causal::{add, copy, register, step};
+use super::events::{are_dependent, copy, register, step};
+use super::history::ExampleHistory;
 use cdb_base::{Event, Kind, NoMemory, Proc, Reg, StepId};
-use cdb_causal::{History, consequences, depends, direct_causes, first_dependent};
 use std::alloc::Global;
 use std::process::Abort;
 use std::test::Fail;
@@ -13,7 +13,7 @@ use std::test::Fail;
 // the first.
 fn is_linked(events: &[Event], i: usize, j: usize) -> bool {
     match (events.get(i), events.get(j)) {
-        (Some(cause), Some(effect)) => i < j && depends(cause, effect),
+        (Some(cause), Some(effect)) => i < j && are_dependent(cause, effect),
         _ => false,
     }
 }
@@ -128,10 +128,10 @@ fn draw_event(seed: &mut u64) -> Event {
     }
 }
 
-fn draw_history(alloc: Global, seed: &mut u64) -> Result<History, NoMemory> {
-    let mut history = History::new(alloc);
+fn draw_history(alloc: Global, seed: &mut u64) -> Result<ExampleHistory, NoMemory> {
+    let mut history = ExampleHistory::new(alloc);
     for _ in 0..draw(seed, 13) {
-        add(&mut history, draw_event(seed))?;
+        history.add(draw_event(seed))?;
     }
     Ok(history)
 }
@@ -147,22 +147,21 @@ fn plain_without(alloc: Global, events: &[Event], i: usize) -> Result<Vec<StepId
     Ok(names)
 }
 
-fn compare(rt: &impl Abort, alloc: Global, history: &History) -> Result<(), NoMemory> {
+fn compare(rt: &impl Abort, alloc: Global, history: &ExampleHistory) -> Result<(), NoMemory> {
     let events = history.as_slice();
     for (i, event) in events.iter().enumerate() {
         let at = i + 1;
-        assert!(rt; at <= history.len());
         assert_eq!(rt; history.position(event.name()), Some(at));
         assert_eq!(rt;
-            first_dependent(history, at),
+            history.first_dependent(rt, at),
             plain_first_dependent(events, i)
         );
-        let names = consequences(alloc, history, at)?;
+        let names = history.consequences(rt, alloc, at)?;
         assert_eq!(rt;
             names.as_slice(),
             plain_consequences(alloc, events, i)?.as_slice()
         );
-        let causes = direct_causes(alloc, history, at);
+        let causes = history.direct_causes(rt, alloc, at);
         assert_eq!(rt;
             causes.as_slice(),
             plain_direct_causes(alloc, events, i)?.as_slice()
@@ -175,15 +174,17 @@ fn compare(rt: &impl Abort, alloc: Global, history: &History) -> Result<(), NoMe
 fn compare_removals(
     rt: &impl Abort,
     alloc: Global,
-    history: &mut History,
+    history: &mut ExampleHistory,
     seed: &mut u64,
 ) -> Result<(), NoMemory> {
     for _ in 0..history.len() {
         assert!(rt; !history.is_empty());
-        let i = draw(seed, history.len() as u64) as usize;
+        let len = history.len() as u64;
+        assert!(rt; 0 < len);
+        let i = draw(seed, len) as usize;
         let rest = plain_without(alloc, history.as_slice(), i)?;
-        let gone = history.get(i + 1);
-        assert_eq!(rt; history.remove(i + 1), gone);
+        let gone = history.get(rt, i + 1);
+        assert_eq!(rt; history.remove(rt, i + 1), gone);
         assert_eq!(rt; history.position(gone.name()), None);
         assert_eq!(rt; history.len(), rest.len());
         for (j, name) in rest.iter().enumerate() {

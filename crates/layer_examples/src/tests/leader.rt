@@ -1,15 +1,17 @@
-ghost use Rattle.std.specs.Prelude.{◌≡◌, ◌≤◌};
+//! Machines of the leader-based algorithm, step by step.
 
+ghost use Rattle.std.specs.Prelude.{◌≤◌};
+
+use super::machine::{Machine, Start, Turn};
 use cdb_base::{Payload, Proc, Val};
-use cdb_leader::{Back, Leader};
-use cdb_process::{Input, Process, SameState, Wish, accepts_query, accepts_receive};
-use std::process::Abort;
+use cdb_leader::Leader;
+use cdb_process::{Input, Wish};
 use std::test::Fail;
 
-/// Takes an input that the machine is to accept, and says what it left for going back.
-fn took<R: Abort + AllocGlobal>(rt: &R, leader: &mut Leader, i: Input) -> Result<Back, Fail> {
-    assert!(rt; leader.accepts(&i));
-    Ok(leader.take(rt.alloc(), i)?)
+fn value(number: u32) -> Option<Val>
+    requires { number ≤ 999999 }
+{
+    Some(Val::new(number))
 }
 
 fn first_phase(round: u32, est: u32, lead: u8) -> Payload
@@ -22,122 +24,154 @@ fn first_phase(round: u32, est: u32, lead: u8) -> Payload
     }
 }
 
+fn second_phase(round: u32, aux: Option<Val>) -> Payload {
+    Payload::P2 { round, aux }
+}
+
+fn decision(est: u32) -> Payload
+    requires { est ≤ 999999 }
+{
+    Payload::D { est: Val::new(est) }
+}
+
+fn queries(leader: u8) -> Turn
+    requires { (1 ≤ leader) × (leader ≤ 9) }
+{
+    Turn::Takes(Input::Query(Proc::new(leader)))
+}
+
+fn sends() -> Turn {
+    Turn::Takes(Input::Send)
+}
+
+fn receive(sender: u8, payload: Payload) -> Input
+    requires { (1 ≤ sender) × (sender ≤ 9) }
+{
+    Input::Recv(Proc::new(sender), payload)
+}
+
+fn receives(sender: u8, payload: Payload) -> Turn
+    requires { (1 ≤ sender) × (sender ≤ 9) }
+{
+    Turn::Takes(receive(sender, payload))
+}
+
+fn goes_on() -> Turn {
+    Turn::Takes(Input::Local)
+}
+
+fn wishes_to_send(payload: Payload) -> Turn {
+    Turn::Wishes(Some(Wish::Send(payload)))
+}
+
 #[test]
 fn one_process_decides_and_goes_back(rt: HostRuntime) -> Result<(), Fail> {
-    let one = Proc::new(1);
-    let mut leader = Leader::first(rt.alloc(), one, 1, 1, Val::new(7))?;
-    let sent = first_phase(1, 7, 1);
-    let proposed = Payload::P2 {
-        round: 1,
-        aux: Some(Val::new(7)),
+    let start = Start {
+        me: 1,
+        n: 1,
+        quorum: 1,
+        input: 7,
     };
-    let inputs = [
-        Input::Query(one),
-        Input::Send,
-        Input::Recv(one, sent),
-        Input::Local,
-        Input::Send,
-        Input::Recv(one, proposed),
-        Input::Local,
-        Input::Send,
+    let decides = [
+        queries(1),
+        sends(),
+        receives(1, first_phase(1, 7, 1)),
+        goes_on(),
+        sends(),
+        receives(1, second_phase(1, value(7))),
+        goes_on(),
+        sends(),
     ];
-    let mut backs = Vec::new(rt.alloc());
-    for i in inputs {
-        let back = took(&rt, &mut leader, i)?;
-        backs.push(back)?;
-    }
-    assert_eq!(rt; leader.decision(), Some(Val::new(7)));
-    assert_eq!(rt; leader.place(), 6);
-    assert!(rt; !leader.accepts(&Input::Recv(one, first_phase(1, 7, 1))));
-    for _ in 0..8 {
-        if let Some(back) = backs.pop() {
-            leader.put_back(back);
-        }
-    }
-    assert_eq!(rt; leader.place(), 0);
-    assert_eq!(rt; leader.round(), 0);
-    assert_eq!(rt; leader.wish(), None);
-    let fresh = Leader::first(rt.alloc(), one, 1, 1, Val::new(7))?;
-    assert!(rt; leader.has_same_state(&fresh));
-    Ok(())
+    let goes_back = [
+        Turn::HasDecided(value(7)),
+        Turn::IsAtPlace(6),
+        Turn::Refuses(receive(1, first_phase(1, 7, 1))),
+        Turn::GoesBack,
+        Turn::IsAtPlace(0),
+        Turn::IsInRound(0),
+        Turn::Wishes(None),
+        Turn::IsAsAtFirst(true),
+    ];
+    Machine::<Leader>::check(&rt, &start, &decides, &goes_back)
 }
 
 #[test]
 fn a_quorum_is_of_different_senders(rt: HostRuntime) -> Result<(), Fail> {
-    let one = Proc::new(1);
-    let mut leader = Leader::first(rt.alloc(), one, 3, 2, Val::new(7))?;
-    took(&rt, &mut leader, Input::Query(one))?;
-    took(&rt, &mut leader, Input::Send)?;
-    took(&rt, &mut leader, Input::Recv(one, first_phase(1, 7, 1)))?;
-    took(&rt, &mut leader, Input::Recv(one, first_phase(1, 7, 1)))?;
-    assert_eq!(rt; leader.wish(), None);
-    took(
-        &rt,
-        &mut leader,
-        Input::Recv(Proc::new(2), first_phase(2, 8, 1)),
-    )?;
-    assert_eq!(rt; leader.wish(), None);
-    took(
-        &rt,
-        &mut leader,
-        Input::Recv(Proc::new(3), first_phase(1, 9, 1)),
-    )?;
-    assert_eq!(rt; leader.wish(), Some(Wish::Local));
-    took(&rt, &mut leader, Input::Local)?;
-    let aux = Some(Val::new(7));
-    assert_eq!(rt;
-        leader.wish(),
-        Some(Wish::Send(Payload::P2 { round: 1, aux }))
-    );
-    Ok(())
+    let start = Start {
+        me: 1,
+        n: 3,
+        quorum: 2,
+        input: 7,
+    };
+    let itself_twice = [
+        queries(1),
+        sends(),
+        receives(1, first_phase(1, 7, 1)),
+        receives(1, first_phase(1, 7, 1)),
+        Turn::Wishes(None),
+    ];
+    let others = [
+        receives(2, first_phase(2, 8, 1)),
+        Turn::Wishes(None),
+        receives(3, first_phase(1, 9, 1)),
+        Turn::Wishes(Some(Wish::Local)),
+        goes_on(),
+        wishes_to_send(second_phase(1, value(7))),
+    ];
+    Machine::<Leader>::check(&rt, &start, &itself_twice, &others)
 }
 
 #[test]
 fn a_query_that_names_another_leader_ends_the_first_phase(rt: HostRuntime) -> Result<(), Fail> {
-    let one = Proc::new(1);
-    let mut leader = Leader::first(rt.alloc(), one, 2, 1, Val::new(5))?;
-    took(&rt, &mut leader, Input::Query(Proc::new(2)))?;
-    assert!(rt; !accepts_query(&leader));
-    took(&rt, &mut leader, Input::Send)?;
-    took(&rt, &mut leader, Input::Recv(one, first_phase(1, 5, 2)))?;
-    assert_eq!(rt; leader.wish(), None);
-    assert!(rt; accepts_query(&leader));
-    took(&rt, &mut leader, Input::Query(one))?;
-    let nothing = Payload::P2 {
-        round: 1,
-        aux: None,
+    let start = Start {
+        me: 1,
+        n: 2,
+        quorum: 1,
+        input: 5,
     };
-    let sent = nothing;
-    assert_eq!(rt; leader.wish(), Some(Wish::Send(sent)));
-    took(&rt, &mut leader, Input::Send)?;
-    took(&rt, &mut leader, Input::Recv(one, nothing))?;
-    took(&rt, &mut leader, Input::Local)?;
-    assert_eq!(rt; leader.place(), 0);
-    assert_eq!(rt; leader.round(), 1);
-    took(&rt, &mut leader, Input::Query(one))?;
-    assert_eq!(rt; leader.round(), 2);
-    Ok(())
+    let first_phase = [
+        queries(2),
+        Turn::AcceptsQuery(false),
+        sends(),
+        receives(1, first_phase(1, 5, 2)),
+        Turn::Wishes(None),
+        Turn::AcceptsQuery(true),
+        queries(1),
+    ];
+    let next_round = [
+        wishes_to_send(second_phase(1, None)),
+        sends(),
+        receives(1, second_phase(1, None)),
+        goes_on(),
+        Turn::IsAtPlace(0),
+        Turn::IsInRound(1),
+        queries(1),
+        Turn::IsInRound(2),
+    ];
+    Machine::<Leader>::check(&rt, &start, &first_phase, &next_round)
 }
 
 #[test]
 fn a_received_decision_is_learnt(rt: HostRuntime) -> Result<(), Fail> {
-    let two = Proc::new(2);
-    let mut leader = Leader::first(rt.alloc(), two, 2, 1, Val::new(6))?;
-    let before = Leader::first(rt.alloc(), two, 2, 1, Val::new(6))?;
-    assert!(rt; !leader.accepts(&Input::Learn));
-    let est = Val::new(5);
-    took(
-        &rt,
-        &mut leader,
-        Input::Recv(Proc::new(1), Payload::D { est }),
-    )?;
-    assert!(rt; !leader.has_same_state(&before));
-    took(&rt, &mut leader, Input::Learn)?;
-    assert_eq!(rt; leader.place(), 5);
-    assert!(rt; !leader.accepts(&Input::Learn));
-    assert_eq!(rt; leader.wish(), Some(Wish::Send(Payload::D { est })));
-    took(&rt, &mut leader, Input::Send)?;
-    assert_eq!(rt; leader.decision(), Some(Val::new(5)));
-    assert!(rt; !accepts_receive(&leader));
-    Ok(())
+    let start = Start {
+        me: 2,
+        n: 2,
+        quorum: 1,
+        input: 6,
+    };
+    let learns = [
+        Turn::Refuses(Input::Learn),
+        receives(1, decision(5)),
+        Turn::IsAsAtFirst(false),
+        Turn::Takes(Input::Learn),
+        Turn::IsAtPlace(5),
+    ];
+    let decides = [
+        Turn::Refuses(Input::Learn),
+        wishes_to_send(decision(5)),
+        sends(),
+        Turn::HasDecided(value(5)),
+        Turn::AcceptsReceive(false),
+    ];
+    Machine::<Leader>::check(&rt, &start, &learns, &decides)
 }

@@ -1,106 +1,81 @@
-use cdb_base::{MsgName, Payload, Proc, Val};
-use cdb_message::Mail;
+//! Which copies are pending, and what takes a send, a receive or a loss back.
+
+use super::mailbox::{Turn, check, check_after_taken_back};
 use std::test::Fail;
+
+/// The least pending copy is that of the least sender, whoever sent first.
+const TWO_SENDERS: [Turn; 10] = [
+    Turn::Awaits(1, None),
+    Turn::Sends(2, 1),
+    Turn::Awaits(1, Some((2, 1))),
+    Turn::Sends(1, 1),
+    Turn::Awaits(1, Some((1, 1))),
+    Turn::AwaitsAbove(1, (1, 1), Some((2, 1))),
+    Turn::AwaitsAbove(1, (2, 1), None),
+    Turn::HasSent(1, 1, true),
+    Turn::HasSent(1, 2, false),
+    Turn::HasSent(1, 0, false),
+];
 
 #[test]
 fn copies_are_pending_by_sender_and_number(rt: HostRuntime) -> Result<(), Fail> {
-    let one = Proc::new(1);
-    let two = Proc::new(2);
-    let mut mail = Mail::new(rt.alloc(), 2)?;
-    let est = Val::new(5);
-    assert_eq!(rt; mail.pending(one, None), None);
-    let late = mail.send(rt.alloc(), two, Payload::D { est })?;
-    assert_eq!(rt; late, MsgName { s: two, m: 1 });
-    assert_eq!(rt; mail.pending(one, None), Some(MsgName { s: two, m: 1 }));
-    let early = mail.send(rt.alloc(), one, Payload::D { est })?;
-    assert_eq!(rt; early, MsgName { s: one, m: 1 });
-    assert_eq!(rt; mail.pending(one, None), Some(MsgName { s: one, m: 1 }));
-    let above = Some(MsgName { s: one, m: 1 });
-    assert_eq!(rt; mail.pending(one, above), Some(MsgName { s: two, m: 1 }));
-    let above = Some(MsgName { s: two, m: 1 });
-    assert_eq!(rt; mail.pending(one, above), None);
-    assert!(rt; mail.payload(MsgName { s: one, m: 1 }).is_some());
-    assert!(rt; mail.payload(MsgName { s: one, m: 2 }).is_none());
-    assert!(rt; mail.payload(MsgName { s: one, m: 0 }).is_none());
-    Ok(())
+    check(&rt, &TWO_SENDERS)
 }
+
+const RECEIVE: [Turn; 8] = [
+    Turn::Sends(1, 1),
+    Turn::HasReceived(1, (1, 1), false),
+    Turn::HasLost(1, (1, 1), false),
+    Turn::Receives(1, (1, 1)),
+    Turn::Awaits(1, None),
+    Turn::HasReceived(1, (1, 1), true),
+    Turn::TakesBackReceive(1, (1, 1)),
+    Turn::Awaits(1, Some((1, 1))),
+];
 
 #[test]
 fn a_receive_is_taken_back(rt: HostRuntime) -> Result<(), Fail> {
-    let one = Proc::new(1);
-    let mut mail = Mail::new(rt.alloc(), 1)?;
-    let est = Val::new(5);
-    mail.send(rt.alloc(), one, Payload::D { est })?;
-    assert!(rt; !mail.has_received(one, MsgName { s: one, m: 1 }));
-    assert!(rt; !mail.lost(one, MsgName { s: one, m: 1 }));
-    mail.recv(rt.alloc(), one, MsgName { s: one, m: 1 })?;
-    assert_eq!(rt; mail.pending(one, None), None);
-    assert!(rt; mail.has_received(one, MsgName { s: one, m: 1 }));
-    mail.take_back_recv(one, MsgName { s: one, m: 1 });
-    assert_eq!(rt; mail.pending(one, None), Some(MsgName { s: one, m: 1 }));
-    Ok(())
+    check(&rt, &RECEIVE)
 }
+
+const SECOND_FIRST: [Turn; 8] = [
+    Turn::Sends(1, 1),
+    Turn::Sends(1, 2),
+    Turn::Sends(1, 3),
+    Turn::Receives(1, (1, 2)),
+    Turn::Awaits(1, Some((1, 1))),
+    Turn::AwaitsAbove(1, (1, 2), Some((1, 3))),
+    Turn::TakesBackReceive(1, (1, 2)),
+    Turn::AwaitsAbove(1, (1, 1), Some((1, 2))),
+];
 
 #[test]
 fn copies_are_received_in_any_order(rt: HostRuntime) -> Result<(), Fail> {
-    let one = Proc::new(1);
-    let mut mail = Mail::new(rt.alloc(), 1)?;
-    let est = Val::new(5);
-    mail.send(rt.alloc(), one, Payload::D { est })?;
-    mail.send(rt.alloc(), one, Payload::D { est })?;
-    mail.send(rt.alloc(), one, Payload::D { est })?;
-    let second = MsgName { s: one, m: 2 };
-    let name = second;
-    assert!(rt; mail.payload(name).is_some());
-    let name = second;
-    assert!(rt; !mail.has_received(one, name));
-    let name = second;
-    assert!(rt; !mail.lost(one, name));
-    let name = second;
-    mail.recv(rt.alloc(), one, name)?;
-    assert_eq!(rt; mail.pending(one, None), Some(MsgName { s: one, m: 1 }));
-    let name = second;
-    assert_eq!(rt;
-        mail.pending(one, Some(name)),
-        Some(MsgName { s: one, m: 3 })
-    );
-    let name = second;
-    assert!(rt; mail.has_received(one, name));
-    let name = second;
-    mail.take_back_recv(one, name);
-    let above = Some(MsgName { s: one, m: 1 });
-    assert_eq!(rt; mail.pending(one, above), Some(second));
-    Ok(())
+    check(&rt, &SECOND_FIRST)
 }
+
+const LOSS: [Turn; 7] = [
+    Turn::Sends(1, 1),
+    Turn::Loses(2, (1, 1)),
+    Turn::Awaits(2, None),
+    Turn::Awaits(1, Some((1, 1))),
+    Turn::HasLost(2, (1, 1), true),
+    Turn::TakesBackLoss(2, (1, 1)),
+    Turn::Awaits(2, Some((1, 1))),
+];
 
 #[test]
 fn a_loss_is_of_one_copy_and_is_taken_back(rt: HostRuntime) -> Result<(), Fail> {
-    let one = Proc::new(1);
-    let two = Proc::new(2);
-    let mut mail = Mail::new(rt.alloc(), 2)?;
-    let est = Val::new(5);
-    mail.send(rt.alloc(), one, Payload::D { est })?;
-    assert!(rt; !mail.has_received(two, MsgName { s: one, m: 1 }));
-    assert!(rt; !mail.lost(two, MsgName { s: one, m: 1 }));
-    mail.lose(rt.alloc(), two, MsgName { s: one, m: 1 })?;
-    assert_eq!(rt; mail.pending(two, None), None);
-    assert_eq!(rt; mail.pending(one, None), Some(MsgName { s: one, m: 1 }));
-    assert!(rt; mail.lost(two, MsgName { s: one, m: 1 }));
-    mail.take_back_lose(two, MsgName { s: one, m: 1 });
-    assert_eq!(rt; mail.pending(two, None), Some(MsgName { s: one, m: 1 }));
-    Ok(())
+    check(&rt, &LOSS)
 }
+
+const NOTHING_SENT: [Turn; 3] = [
+    Turn::HasSent(1, 1, false),
+    Turn::Awaits(1, None),
+    Turn::Sends(1, 1),
+];
 
 #[test]
 fn a_send_is_taken_back(rt: HostRuntime) -> Result<(), Fail> {
-    let one = Proc::new(1);
-    let mut mail = Mail::new(rt.alloc(), 1)?;
-    let est = Val::new(5);
-    mail.send(rt.alloc(), one, Payload::D { est })?;
-    mail.take_back_send(one);
-    assert!(rt; mail.payload(MsgName { s: one, m: 1 }).is_none());
-    assert_eq!(rt; mail.pending(one, None), None);
-    let again = mail.send(rt.alloc(), one, Payload::D { est })?;
-    assert_eq!(rt; again, MsgName { s: one, m: 1 });
-    Ok(())
+    check_after_taken_back(&rt, &NOTHING_SENT)
 }

@@ -1,6 +1,10 @@
-use cdb_base::{NoMemory, Proc, Val};
-use cdb_setup::{Algorithm, Key, Setup, SetupFault};
+//! Texts of setups, and their faults.
+
+use super::reading::{ExampleSetup, fault_of, stand_for_one};
+use cdb_base::NoMemory;
+use cdb_setup::{Algorithm, Key, SetupFault};
 use std::alloc::Global;
+use std::process::Abort;
 use std::test::Fail;
 
 /// The setup that the tests change in one place.
@@ -25,43 +29,45 @@ const TWO: &str = r#"
 const THREE: &str =
     r#"{"algorithm":"leader","processes":3,"quorum":2,"inputs":[1,2,3],"oracle":[[],[1],[3,1,2]]}"#;
 
-fn fault_of(rt: &impl Alloc<A = Global>, text: &str) -> Option<SetupFault> {
-    Setup::read(rt.alloc(), text.as_bytes()).err()
-}
-
-#[test]
-fn parts_of_a_setup(rt: HostRuntime) -> Result<(), Fail> {
-    let setup = Setup::read(rt.alloc(), THREE.as_bytes())?;
+fn compare_parts<R: Abort>(rt: &R, setup: &ExampleSetup) {
     assert_eq!(rt; setup.version(), 1);
     assert_eq!(rt; setup.algorithm(), Algorithm::Leader);
     assert_eq!(rt; setup.n(), 3);
     assert_eq!(rt; setup.q(), 2);
-    assert!(rt; setup.n() >= 3);
-    assert_eq!(rt; setup.input(Proc::new(1)).number(), 1);
-    assert_eq!(rt; setup.input(Proc::new(3)).number(), 3);
-    assert_eq!(rt; setup.answer(Proc::new(1), 1), None);
-    assert_eq!(rt; setup.answer(Proc::new(2), 1), Some(Proc::new(1)));
-    assert_eq!(rt; setup.answer(Proc::new(2), 2), None);
-    assert_eq!(rt; setup.answer(Proc::new(3), 0), None);
-    assert_eq!(rt; setup.answer(Proc::new(3), 1), Some(Proc::new(3)));
-    assert_eq!(rt; setup.answer(Proc::new(3), 3), Some(Proc::new(2)));
-    assert_eq!(rt; setup.answer(Proc::new(3), 4), None);
-    assert_eq!(rt; setup.answer(Proc::new(3), 4_294_967_295), None);
-    assert_eq!(rt; setup.answer(Proc::new(4), 1), None);
+    assert_eq!(rt; setup.input(rt, 1), 1);
+    assert_eq!(rt; setup.input(rt, 3), 3);
+}
+
+fn compare_answers<R: Abort>(rt: &R, setup: &ExampleSetup) {
+    assert_eq!(rt; setup.answer(1, 1), None);
+    assert_eq!(rt; setup.answer(2, 1), Some(1));
+    assert_eq!(rt; setup.answer(2, 2), None);
+    assert_eq!(rt; setup.answer(3, 0), None);
+    assert_eq!(rt; setup.answer(3, 1), Some(3));
+    assert_eq!(rt; setup.answer(3, 3), Some(2));
+    assert_eq!(rt; setup.answer(3, 4), None);
+    assert_eq!(rt; setup.answer(3, 4_294_967_295), None);
+    assert_eq!(rt; setup.answer(4, 1), None);
+}
+
+#[test]
+fn parts_of_a_setup(rt: HostRuntime) -> Result<(), Fail> {
+    let setup = ExampleSetup::read(rt.alloc(), THREE.as_bytes())?;
+    compare_parts(&rt, &setup);
+    compare_answers(&rt, &setup);
     Ok(())
+}
+
+fn is_equal_to_its_copy(alloc: Global, setup: &ExampleSetup) -> Result<bool, NoMemory> {
+    let copy = setup.copy(alloc)?;
+    Ok(setup.is_equal(&copy))
 }
 
 #[test]
 fn the_same_setup_in_three_ways(rt: HostRuntime) -> Result<(), Fail> {
-    let read = Setup::read(rt.alloc(), THREE.as_bytes())?;
-    let copy = read.copy(rt.alloc())?;
-    let inputs = [Val::new(1), Val::new(2), Val::new(3)];
-    let second = [Proc::new(1)];
-    let third = [Proc::new(3), Proc::new(1), Proc::new(2)];
-    let answers: [&[Proc]; 3] = [&[], &second, &third];
-    let made = Setup::from_parts(rt.alloc(), 1, Algorithm::Leader, 2, &inputs, &answers)?;
-    assert_eq!(rt; read, copy);
-    assert_eq!(rt; read, made);
+    let made = ExampleSetup::of_three_processes(rt.alloc())?;
+    assert!(rt; is_equal_to_its_copy(rt.alloc(), &made)?);
+    assert!(rt; made.is_of(rt.alloc(), THREE.as_bytes())?);
     Ok(())
 }
 
@@ -78,14 +84,25 @@ const ACCEPTED: [&str; 9] = [
     r#"{"algorithm":"leader","processes":1,"quorum":1,"inputs":[7],"oracle":[[]]}"#,
 ];
 
+/// Compares a setup of that place with each text.
+fn compare_with_all<R: Abort>(
+    rt: &R,
+    alloc: Global,
+    setup: &ExampleSetup,
+    i: usize,
+) -> Result<(), SetupFault> {
+    for (j, other) in ACCEPTED.iter().enumerate() {
+        let is_of_other = setup.is_of(alloc, other.as_bytes())?;
+        assert_eq!(rt; is_of_other, i == j, "{i} and {j}");
+    }
+    Ok(())
+}
+
 #[test]
 fn equal_only_to_itself(rt: HostRuntime) -> Result<(), Fail> {
     for (i, text) in ACCEPTED.iter().enumerate() {
-        let setup = Setup::read(rt.alloc(), text.as_bytes())?;
-        for (j, other) in ACCEPTED.iter().enumerate() {
-            let other = Setup::read(rt.alloc(), other.as_bytes())?;
-            assert_eq!(rt; setup == other, i == j, "{i} and {j}");
-        }
+        let setup = ExampleSetup::read(rt.alloc(), text.as_bytes())?;
+        compare_with_all(&rt, rt.alloc(), &setup, i)?;
     }
     Ok(())
 }
@@ -114,11 +131,8 @@ const SAME: [(&str, &str); 4] = [
 #[test]
 fn one_setup_in_two_texts(rt: HostRuntime) -> Result<(), Fail> {
     for (left, right) in &SAME {
-        let setup = Setup::read(rt.alloc(), left.as_bytes())?;
-        assert!(rt;
-            setup == Setup::read(rt.alloc(), right.as_bytes())?,
-            "{right}"
-        );
+        let is_one = stand_for_one(rt.alloc(), left.as_bytes(), right.as_bytes())?;
+        assert!(rt; is_one, "{right}");
     }
     Ok(())
 }
@@ -339,14 +353,15 @@ const SMALLEST: [(&str, SetupFault); 16] = [
 #[test]
 fn first_faults(rt: HostRuntime) {
     for (text, fault) in FAULTS.iter().chain(&SMALLEST) {
-        assert_eq!(rt; fault_of(&rt, text), Some(*fault), "{text}");
+        let found = fault_of(rt.alloc(), text.as_bytes());
+        assert_eq!(rt; found, Some(*fault), "{text}");
     }
 }
 
 #[test]
 fn each_beginning_is_no_json(rt: HostRuntime) {
     for end in 0..ONE.len() {
-        let fault = Setup::read(rt.alloc(), &ONE.as_bytes()[..end]).err();
+        let fault = fault_of(rt.alloc(), &ONE.as_bytes()[..end]);
         assert_eq!(rt; fault, Some(SetupFault::NotJson), "{end} bytes");
     }
 }
@@ -355,16 +370,10 @@ fn each_beginning_is_no_json(rt: HostRuntime) {
 fn bytes_that_are_no_text(rt: HostRuntime) -> Result<(), Fail> {
     let mut bytes = ONE.as_bytes().to_vec(rt.alloc())?;
     bytes.push(255)?;
-    assert_eq!(rt;
-        Setup::read(rt.alloc(), &bytes).err(),
-        Some(SetupFault::NotJson)
-    );
+    assert_eq!(rt; fault_of(rt.alloc(), &bytes), Some(SetupFault::NotJson));
     // The key `"\xff"`, which is no UTF-8, in an object that is JSON otherwise.
     let key = [b'{', b'"', 255, b'"', b':', b'1', b'}'];
-    assert_eq!(rt;
-        Setup::read(rt.alloc(), &key).err(),
-        Some(SetupFault::NotJson)
-    );
+    assert_eq!(rt; fault_of(rt.alloc(), &key), Some(SetupFault::NotJson));
     Ok(())
 }
 
@@ -375,46 +384,98 @@ const NESTED: [(usize, SetupFault); 3] = [
     (200, SetupFault::NotJson),
 ];
 
-#[test]
-fn nested_brackets(rt: HostRuntime) -> Result<(), Fail> {
-    for (depth, fault) in &NESTED {
-        let mut bytes = Vec::new(rt.alloc());
-        for _ in 0..*depth {
-            bytes.push(b'[')?;
-        }
-        for _ in 0..*depth {
-            bytes.push(b']')?;
-        }
-        assert_eq!(rt;
-            Setup::read(rt.alloc(), &bytes).err(),
-            Some(*fault),
-            "{depth} deep"
-        );
+fn push_times(bytes: &mut Vec<u8>, byte: u8, times: usize) -> Result<(), NoMemory> {
+    for _ in 0..times {
+        bytes.push(byte)?;
     }
     Ok(())
 }
 
+fn nested(alloc: Global, depth: usize) -> Result<Vec<u8>, NoMemory> {
+    let mut bytes = Vec::new(alloc);
+    push_times(&mut bytes, b'[', depth)?;
+    push_times(&mut bytes, b']', depth)?;
+    Ok(bytes)
+}
+
+#[test]
+fn nested_brackets(rt: HostRuntime) -> Result<(), Fail> {
+    for (depth, fault) in &NESTED {
+        let bytes = nested(rt.alloc(), *depth)?;
+        let found = fault_of(rt.alloc(), &bytes);
+        assert_eq!(rt; found, Some(*fault), "{depth} deep");
+    }
+    Ok(())
+}
+
+/// As many bytes of white space.
+fn spaces(alloc: Global, len: usize) -> Result<Vec<u8>, NoMemory> {
+    let mut bytes = Vec::new(alloc);
+    push_times(&mut bytes, b' ', len)?;
+    Ok(bytes)
+}
+
+/// The text with white space behind it, so that it has as many bytes, or one of its own.
+fn padded(alloc: Global, text: &str, len: usize) -> Result<Vec<u8>, NoMemory> {
+    let mut bytes = text.as_bytes().to_vec(alloc)?;
+    push_times(&mut bytes, b' ', len.saturating_sub(text.len()))?;
+    Ok(bytes)
+}
+
+/// How many bytes a text may have.
+const LONGEST: usize = 1_048_576;
+
 #[test]
 fn longest_text(rt: HostRuntime) -> Result<(), Fail> {
-    let mut bytes = ONE.as_bytes().to_vec(rt.alloc())?;
-    for _ in bytes.len()..1_048_576 {
-        bytes.push(b' ')?;
+    let longest = padded(rt.alloc(), ONE, LONGEST)?;
+    assert!(rt; stand_for_one(rt.alloc(), &longest, ONE.as_bytes())?);
+    Ok(())
+}
+
+// Whatever it says.
+#[test]
+fn too_long_a_text(rt: HostRuntime) -> Result<(), Fail> {
+    let setup = padded(rt.alloc(), ONE, LONGEST + 1)?;
+    assert_eq!(rt; fault_of(rt.alloc(), &setup), Some(SetupFault::TooLong));
+    let nothing = spaces(rt.alloc(), LONGEST + 1)?;
+    assert_eq!(rt; fault_of(rt.alloc(), &nothing), Some(SetupFault::TooLong));
+    Ok(())
+}
+
+fn read_again<R: Abort>(rt: &R, alloc: Global) -> Result<ExampleSetup, SetupFault> {
+    match ExampleSetup::read(alloc, THREE.as_bytes()) {
+        Ok(setup) => Ok(setup),
+        Err(fault) => {
+            assert_eq!(rt; fault, SetupFault::NoMemory);
+            ExampleSetup::read(alloc, THREE.as_bytes())
+        }
     }
-    let setup = Setup::read(rt.alloc(), &bytes)?;
-    assert_eq!(rt; setup, Setup::read(rt.alloc(), ONE.as_bytes())?);
-    bytes.push(b' ')?;
-    assert_eq!(rt;
-        Setup::read(rt.alloc(), &bytes).err(),
-        Some(SetupFault::TooLong)
-    );
-    // Whatever it says.
-    for byte in bytes.iter_mut() {
-        *byte = b' ';
+}
+
+fn copy_again(alloc: Global, setup: &ExampleSetup) -> Result<ExampleSetup, NoMemory> {
+    match setup.copy(alloc) {
+        Ok(copy) => Ok(copy),
+        Err(NoMemory) => setup.copy(alloc),
     }
-    assert_eq!(rt;
-        Setup::read(rt.alloc(), &bytes).err(),
-        Some(SetupFault::TooLong)
-    );
+}
+
+fn make_again(alloc: Global) -> Result<ExampleSetup, NoMemory> {
+    match ExampleSetup::of_one_process(alloc) {
+        Ok(made) => Ok(made),
+        Err(NoMemory) => ExampleSetup::of_one_process(alloc),
+    }
+}
+
+fn compare_copy<R: Abort>(rt: &R, alloc: Global, setup: &ExampleSetup) -> Result<(), NoMemory> {
+    let copy = copy_again(alloc, setup)?;
+    assert!(rt; copy.is_equal(setup));
+    Ok(())
+}
+
+fn compare_made<R: Abort>(rt: &R, alloc: Global, setup: &ExampleSetup) -> Result<(), NoMemory> {
+    let made = make_again(alloc)?;
+    assert!(rt; !made.is_equal(setup));
+    assert_eq!(rt; made.version(), 2);
     Ok(())
 }
 
@@ -422,29 +483,9 @@ fn longest_text(rt: HostRuntime) -> Result<(), Fail> {
 /// it with each request refused in turn.
 #[test]
 fn want_of_memory(rt: HostRuntime) -> Result<(), Fail> {
-    let setup = match Setup::read(rt.alloc(), THREE.as_bytes()) {
-        Ok(setup) => setup,
-        Err(fault) => {
-            assert_eq!(rt; fault, SetupFault::NoMemory);
-            Setup::read(rt.alloc(), THREE.as_bytes())?
-        }
-    };
-    let copy = match setup.copy(rt.alloc()) {
-        Ok(copy) => copy,
-        Err(cdb_base::NoMemory) => setup.copy(rt.alloc())?,
-    };
-    assert_eq!(rt; copy, setup);
-    let inputs = [Val::new(7)];
-    let first = [Proc::new(1)];
-    let answers: [&[Proc]; 1] = [&first];
-    let made = match Setup::from_parts(rt.alloc(), 2, Algorithm::Leader, 1, &inputs, &answers) {
-        Ok(made) => made,
-        Err(cdb_base::NoMemory) => {
-            Setup::from_parts(rt.alloc(), 2, Algorithm::Leader, 1, &inputs, &answers)?
-        }
-    };
-    assert_ne!(rt; made, setup);
-    assert_eq!(rt; made.version(), 2);
+    let setup = read_again(&rt, rt.alloc())?;
+    compare_copy(&rt, rt.alloc(), &setup)?;
+    compare_made(&rt, rt.alloc(), &setup)?;
     Ok(())
 }
 

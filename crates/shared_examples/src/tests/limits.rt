@@ -2,34 +2,38 @@
 
 ghost use Rattle.std.specs.Prelude.{◌≡◌, ◌≤◌};
 
-use super::gates::{Before, OPEN};
-use super::opening::{ALONE, control_of, say, share};
-use cdb_control::{Command, Control, RunOfSetup};
-use cdb_shared::{End, drive, serve};
+use super::gates::OPEN;
+use super::opening::{ALONE, control_of, say};
+use super::pair::Pair;
+use cdb_control::{CallFault, Command, Control, RunOfSetup};
+use cdb_shared::End;
+use std::alloc::Global;
 use std::test::Fail;
 
 // Gives so many commands that change nothing.
-fn fill<R: AllocGlobal>(rt: &R, control: &mut Control<RunOfSetup>, count: u32) -> Result<(), Fail> {
+fn fill(alloc: Global, control: &mut Control<RunOfSetup>, count: u32) -> Result<(), CallFault> {
     for _ in 0..count {
         control.seats();
-        let _forgot = control.execute(rt.alloc(), 1, Command::Forget)?;
+        let _forgot = control.execute(alloc, 1, Command::Forget)?;
     }
     Ok(())
 }
 
+// A control in which so many commands have changed nothing.
+fn filled<R: AllocGlobal>(rt: &R, setup: &str, count: u32) -> Result<Control<RunOfSetup>, Fail> {
+    let mut control = control_of(rt, setup)?;
+    fill(rt.alloc(), &mut control, count)?;
+    Ok(control)
+}
+
 #[test]
 fn the_journal_is_full_in_the_middle(rt: HostRuntime) -> Result<(), Fail> {
-    let mut control = control_of(&rt, ALONE, 1)?;
-    fill(&rt, &mut control, 999_998)?;
-    let (shared, mut seats) = share(&rt, control)?;
-    let Some(seat) = seats.pop() else {
-        return Err(Fail::from("no seat"));
-    };
+    let pair = Pair::over(&rt, filled(&rt, ALONE, 999_998)?)?;
     let commands = [Command::Auto(1), Command::Auto(1), Command::Decisions];
-    let (seat, replies, end) = serve(&shared, &rt, rt.alloc(), seat, Before(OPEN), &commands);
+    let (pair, replies, end) = pair.serve(&rt, OPEN, &commands);
     say(&rt, &replies, "1.1 query 1\n")?;
     assert_eq!(rt; end, End::JournalFull);
-    let (_, count, end) = drive(&shared, &rt, rt.alloc(), seat, Before(OPEN), 1, 8);
+    let (_, count, end) = pair.drive(&rt, OPEN, 8);
     assert_eq!(rt; (count, end), (0, End::JournalFull));
     Ok(())
 }

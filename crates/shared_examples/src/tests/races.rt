@@ -1,12 +1,10 @@
 //! Races of processes and scripts in threads.
 
-ghost use Rattle.std.specs.Prelude.{◌≡◌, IfOk, vec_len};
-
 use super::gates::Crossing;
-use super::opening::{ALONE, ONE_LEADER};
+use super::opening::{ALONE, ONE_LEADER, try_setup};
 use cdb_base::{Proc, Val};
-use cdb_control::{Command, Runs};
-use cdb_race::{Script, race};
+use cdb_control::{Command, Reply, Runs};
+use cdb_race::{RaceFault, Raced, Script, race};
 use cdb_setup::Setup;
 use std::alloc::{AllocError, Global};
 use std::process::Abort;
@@ -15,8 +13,65 @@ use std::sync::atomic::AtomicBool;
 use std::test::Fail;
 use std::thread::Threads;
 
-fn script(alloc: Global, commands: &[Command]) -> Result<Script, AllocError> {
-    Ok(Script::new(Vec::from_slice(alloc, commands)?))
+/// What the race of an example left: how many entries the journal has, the standing decisions, and how
+/// many replies each seat got.
+#[derive(Drop)]
+struct Outcome {
+    entries: usize,
+    decisions: Vec<(Proc, Val)>,
+    replies: Vec<usize>,
+}
+
+fn counts(alloc: Global, replies: &[Vec<Reply>]) -> Result<Vec<usize>, AllocError> {
+    let mut counts = Vec::new(alloc);
+    for of_seat in replies {
+        counts.push(of_seat.len())?;
+    }
+    Ok(counts)
+}
+
+fn outcome_of(alloc: Global, raced: &Raced) -> Result<Outcome, Fail> {
+    let decisions = raced.control.run().decisions(alloc)?;
+    let replies = counts(alloc, &raced.replies)?;
+    Ok(Outcome {
+        entries: raced.control.journal().len(),
+        decisions,
+        replies,
+    })
+}
+
+// The race of a setup, which leaves nothing where the gates are not as many as its seats.
+fn run<R: Threads + Wait + Sync + Abort + AllocGlobal>(
+    rt: &R,
+    setup: Setup,
+    turns: u32,
+    scripts: &[Script],
+    gates: Vec<Crossing>,
+) -> Result<Raced, RaceFault> {
+    assert!(rt; setup.n() <= 9 && scripts.len() <= 9);
+    assert!(rt; gates.len() == usize::from(setup.n()) + scripts.len());
+    race(rt, rt.alloc(), setup, turns, scripts, gates)
+}
+
+fn raced<R: Threads + Wait + Sync + Abort + AllocGlobal>(
+    rt: &R,
+    setup: &str,
+    turns: u32,
+    scripts: &[Script],
+    gates: Vec<Crossing>,
+) -> Result<Outcome, Fail> {
+    let setup = try_setup(rt.alloc(), setup).ok_or("no setup")?;
+    let raced = run(rt, setup, turns, scripts, gates)?;
+    outcome_of(rt.alloc(), &raced)
+}
+
+// So many scripts of these commands.
+fn scripts(alloc: Global, commands: &[Command], count: u32) -> Result<Vec<Script>, AllocError> {
+    let mut scripts = Vec::new(alloc);
+    for _ in 0..count {
+        scripts.push(Script::new(Vec::from_slice(alloc, commands)?))?;
+    }
+    Ok(scripts)
 }
 
 // Four gates, of which two hold each other up: those of the first two seats or those of the last two.
@@ -25,23 +80,26 @@ fn gates<'a>(
     one: &'a AtomicBool,
     other: &'a AtomicBool,
     first: bool,
-) -> Result<Vec<Crossing<'a>>, AllocError>
-    ensures { IfOk result (λ gates. vec_len gates ≡ 4) }
-{
+) -> Result<Vec<Crossing<'a>>, AllocError> {
+    let (here, there) = (Some((one, other)), Some((other, one)));
+    let flags = if first {
+        [here, there, None, None]
+    } else {
+        [None, None, here, there]
+    };
+    let mut gates = Vec::new(alloc);
+    for flags in flags {
+        gates.push(Crossing { flags })?;
+    }
+    Ok(gates)
+}
+
+// Gates that always pass.
+fn open_gates(alloc: Global, count: u8) -> Result<Vec<Crossing<'static>>, AllocError> {
     let mut all = Vec::new(alloc);
-    let (a, b) = (Some((one, other)), Some((other, one)));
-    all.push(Crossing {
-        flags: if first { a } else { None },
-    })?;
-    all.push(Crossing {
-        flags: if first { b } else { None },
-    })?;
-    all.push(Crossing {
-        flags: if first { None } else { a },
-    })?;
-    all.push(Crossing {
-        flags: if first { None } else { b },
-    })?;
+    for _ in 0..count {
+        all.push(Crossing { flags: None })?;
+    }
     Ok(all)
 }
 
@@ -52,16 +110,10 @@ fn crossed<R: Threads + Wait + Sync + Abort + AllocGlobal>(
     first: bool,
 ) -> Result<usize, Fail> {
     let alloc = rt.alloc();
-    let scripts = [
-        script(alloc, &[Command::Decisions, Command::Decisions])?,
-        script(alloc, &[Command::Decisions, Command::Decisions])?,
-    ];
+    let scripts = scripts(alloc, &[Command::Decisions, Command::Decisions], 2)?;
     let (one, other) = (AtomicBool::new(false), AtomicBool::new(false));
     let gates = gates(alloc, &one, &other, first)?;
-    let setup = Setup::read(alloc, ONE_LEADER.as_bytes())?;
-    assert!(rt; setup.n() == 2);
-    let raced = race(rt, alloc, setup, turns, &scripts, gates)?;
-    Ok(raced.control.journal().len())
+    Ok(raced(rt, ONE_LEADER, turns, &scripts, gates)?.entries)
 }
 
 #[test]
@@ -86,38 +138,20 @@ fn agree(decisions: &[(Proc, Val)]) -> bool {
 #[test]
 fn two_processes_and_a_script_agree(rt: HostRuntime) -> Result<(), Fail> {
     let alloc = rt.alloc();
-    let scripts = [script(alloc, &[Command::Undo(2, 1), Command::Redo])?];
-    let mut gates = Vec::new(alloc);
-    for _ in 0..3u8 {
-        gates.push(Crossing { flags: None })?;
-    }
-    let setup = Setup::read(alloc, ONE_LEADER.as_bytes())?;
-    assert!(rt; setup.n() == 2);
-    assert!(rt; gates.len() == 3);
-    let raced = race(&rt, alloc, setup, 50, &scripts, gates)?;
-    let decisions = raced.control.run().decisions(alloc)?;
-    assert!(rt; agree(&decisions));
+    let scripts = scripts(alloc, &[Command::Undo(2, 1), Command::Redo], 1)?;
+    let outcome = raced(&rt, ONE_LEADER, 50, &scripts, open_gates(alloc, 3)?)?;
+    assert!(rt; agree(&outcome.decisions));
     Ok(())
 }
 
 #[test]
 fn a_race_of_one_process(rt: HostRuntime) -> Result<(), Fail> {
     let alloc = rt.alloc();
-    let scripts = [script(alloc, &[Command::Decisions])?];
-    assert_eq!(rt; scripts[0].commands().len(), 1);
-    let mut gates = Vec::new(alloc);
-    gates.push(Crossing { flags: None })?;
-    gates.push(Crossing { flags: None })?;
-    let setup = Setup::read(alloc, ALONE.as_bytes())?;
-    assert!(rt; setup.n() == 1);
-    let raced = race(&rt, alloc, setup, 8, &scripts, gates)?;
-    assert_eq!(rt; raced.control.journal().len(), 9);
-    let decisions = raced.control.run().decisions(alloc)?;
-    assert_eq!(rt;
-        decisions.as_slice(),
-        [(Proc::new(1), Val::new(7))].as_slice()
-    );
-    assert_eq!(rt; raced.replies.len(), 2);
-    assert_eq!(rt; (raced.replies[0].len(), raced.replies[1].len()), (0, 1));
+    let scripts = scripts(alloc, &[Command::Decisions], 1)?;
+    let outcome = raced(&rt, ALONE, 8, &scripts, open_gates(alloc, 2)?)?;
+    assert_eq!(rt; outcome.entries, 9);
+    let decided = [(Proc::new(1), Val::new(7))];
+    assert_eq!(rt; outcome.decisions.as_slice(), decided.as_slice());
+    assert_eq!(rt; outcome.replies.as_slice(), [0usize, 1].as_slice());
     Ok(())
 }

@@ -13,9 +13,15 @@ use std::alloc::Global;
 use std::process::Abort;
 use std::test::Fail;
 
-/// Tells whether the text of the reply is this one.
+/// Whether the text of the reply is this one.
 fn is_text(alloc: Global, reply: &Reply, text: &str) -> Result<bool, NoMemory> {
     Ok(reply_text(alloc, reply)?.as_slice() == text.as_bytes())
+}
+
+/// Compares the text of the reply with the one beside it.
+fn compare<R: Abort + AllocGlobal>(rt: &R, reply: Reply, text: &str) -> Result<(), NoMemory> {
+    assert!(rt; is_text(rt.alloc(), &reply, text)?, "{text}");
+    Ok(())
 }
 
 fn step(p: u8, k: u16, kind: Kind) -> Event
@@ -78,23 +84,23 @@ fn leader(place: u8, round: u32, steps: u32) -> ProcView {
 fn each_kind_of_step(rt: HostRuntime) -> Result<(), Fail> {
     let one = Proc::new(1);
     let query = plain(step(1, 1, Kind::Query(one)));
-    assert!(rt; is_text(rt.alloc(), &query, "1.1 query 1\n")?);
+    compare(&rt, query, "1.1 query 1\n")?;
     let send = plain(step(1, 2, Kind::Send(1)));
-    assert!(rt; is_text(rt.alloc(), &send, "1.2 send 1#1\n")?);
+    compare(&rt, send, "1.2 send 1#1\n")?;
     let recv = plain(step(2, 9, Kind::Recv(Proc::new(1), 3)));
-    assert!(rt; is_text(rt.alloc(), &recv, "2.9 recv 1#3\n")?);
+    compare(&rt, recv, "2.9 recv 1#3\n")?;
     let read = plain(step(2, 4, Kind::Read(Reg::R(Proc::new(1)))));
-    assert!(rt; is_text(rt.alloc(), &read, "2.4 read r1\n")?);
+    compare(&rt, read, "2.4 read r1\n")?;
     let write = plain(step(1, 9, Kind::Write(Reg::Dec)));
-    assert!(rt; is_text(rt.alloc(), &write, "1.9 write dec\n")?);
+    compare(&rt, write, "1.9 write dec\n")?;
     let local = plain(step(1, 4, Kind::Local));
-    assert!(rt; is_text(rt.alloc(), &local, "1.4 local\n")?);
+    compare(&rt, local, "1.4 local\n")?;
     let learn = plain(step(2, 10, Kind::Learn));
-    assert!(rt; is_text(rt.alloc(), &learn, "2.10 learn\n")?);
+    compare(&rt, learn, "2.10 learn\n")?;
     let crash = plain(step(2, 4, Kind::Crash));
-    assert!(rt; is_text(rt.alloc(), &crash, "2.4 crash\n")?);
+    compare(&rt, crash, "2.4 crash\n")?;
     let loss = plain(Event::Lost(copy()));
-    assert!(rt; is_text(rt.alloc(), &loss, "lost 1#1 to 2\n")?);
+    compare(&rt, loss, "lost 1#1 to 2\n")?;
     Ok(())
 }
 
@@ -105,69 +111,69 @@ fn a_step_that_decides_or_pauses(rt: HostRuntime) -> Result<(), Fail> {
         decides: Some(Val::new(7)),
         paused: None,
     };
-    assert!(rt; is_text(rt.alloc(), &decides, "1.8 send 1#3 decides 7\n")?);
+    compare(&rt, decides, "1.8 send 1#3 decides 7\n")?;
     let pauses = Reply::Stepped {
         event: step(1, 8, Kind::Query(Proc::new(1))),
         decides: None,
         paused: Some(1),
     };
-    assert!(rt; is_text(rt.alloc(), &pauses, "1.8 query 1 break 1\n")?);
+    compare(&rt, pauses, "1.8 query 1 break 1\n")?;
     let both = Reply::Stepped {
         event: step(1, 8, Kind::Send(3)),
         decides: Some(Val::new(7)),
         paused: Some(2),
     };
-    assert!(rt; is_text(rt.alloc(), &both, "1.8 send 1#3 decides 7 break 2\n")?);
+    compare(&rt, both, "1.8 send 1#3 decides 7 break 2\n")?;
     Ok(())
 }
 
 #[test]
 fn undone_redone_and_rolled_back(rt: HostRuntime) -> Result<(), Fail> {
     let undone = Reply::Undone(step(2, 1, Kind::Recv(Proc::new(1), 1)));
-    assert!(rt; is_text(rt.alloc(), &undone, "undone 2.1 recv 1#1\n")?);
+    compare(&rt, undone, "undone 2.1 recv 1#1\n")?;
     let found = Reply::Undone(Event::Lost(copy()));
-    assert!(rt; is_text(rt.alloc(), &found, "undone lost 1#1 to 2\n")?);
+    compare(&rt, found, "undone lost 1#1 to 2\n")?;
     let redone = Reply::Redone {
         event: step(1, 1, Kind::Query(Proc::new(1))),
         decides: None,
     };
-    assert!(rt; is_text(rt.alloc(), &redone, "redone 1.1 query 1\n")?);
+    compare(&rt, redone, "redone 1.1 query 1\n")?;
     let decides = Reply::Redone {
         event: step(1, 8, Kind::Send(3)),
         decides: Some(Val::new(7)),
     };
-    assert!(rt; is_text(rt.alloc(), &decides, "redone 1.8 send 1#3 decides 7\n")?);
+    compare(&rt, decides, "redone 1.8 send 1#3 decides 7\n")?;
     let lost_again = Reply::Redone {
         event: Event::Lost(copy()),
         decides: None,
     };
-    assert!(rt; is_text(rt.alloc(), &lost_again, "redone lost 1#1 to 2\n")?);
-    assert!(rt; is_text(rt.alloc(), &Reply::RolledBack(20), "rolled back 20\n")?);
+    compare(&rt, lost_again, "redone lost 1#1 to 2\n")?;
+    compare(&rt, Reply::RolledBack(20), "rolled back 20\n")?;
     Ok(())
 }
 
 #[test]
 fn causes(rt: HostRuntime) -> Result<(), Fail> {
     let none = Reply::Because(name(1, 1), SmallVec::new(rt.alloc()));
-    assert!(rt; is_text(rt.alloc(), &none, "1.1 because none\n")?);
+    compare(&rt, none, "1.1 because none\n")?;
     let two = SmallVec::from_slice(rt.alloc(), &[name(1, 4), name(2, 3)])?;
     let several = Reply::Because(name(1, 5), two);
-    assert!(rt; is_text(rt.alloc(), &several, "1.5 because 1.4 2.3\n")?);
+    compare(&rt, several, "1.5 because 1.4 2.3\n")?;
     let send = SmallVec::from_slice(rt.alloc(), &[name(1, 2)])?;
     let loss = Reply::Because(StepId::Lost(copy()), send);
-    assert!(rt; is_text(rt.alloc(), &loss, "lost 1#1 to 2 because 1.2\n")?);
+    compare(&rt, loss, "lost 1#1 to 2 because 1.2\n")?;
     let lost = SmallVec::from_slice(rt.alloc(), &[name(1, 1), StepId::Lost(copy())])?;
     let named = Reply::Because(name(1, 2), lost);
-    assert!(rt; is_text(rt.alloc(), &named, "1.2 because 1.1 lost 1#1 to 2\n")?);
+    compare(&rt, named, "1.2 because 1.1 lost 1#1 to 2\n")?;
     Ok(())
 }
 
 #[test]
 fn breakpoints_and_the_redo_list(rt: HostRuntime) -> Result<(), Fail> {
-    assert!(rt; is_text(rt.alloc(), &Reply::BreakSet(3), "break 3\n")?);
-    assert!(rt; is_text(rt.alloc(), &Reply::BreakGone(1), "unbreak 1\n")?);
-    assert!(rt; is_text(rt.alloc(), &Reply::Resumed, "resumed\n")?);
-    assert!(rt; is_text(rt.alloc(), &Reply::Forgot(0), "forgot 0\n")?);
+    compare(&rt, Reply::BreakSet(3), "break 3\n")?;
+    compare(&rt, Reply::BreakGone(1), "unbreak 1\n")?;
+    compare(&rt, Reply::Resumed, "resumed\n")?;
+    compare(&rt, Reply::Forgot(0), "forgot 0\n")?;
     Ok(())
 }
 
@@ -175,33 +181,33 @@ fn breakpoints_and_the_redo_list(rt: HostRuntime) -> Result<(), Fail> {
 fn processes(rt: HostRuntime) -> Result<(), Fail> {
     let alive = Reply::Proc(leader(1, 1, 1));
     let text = "process 1 L1 round 1 alive steps 1 queries 1 decision none\n";
-    assert!(rt; is_text(rt.alloc(), &alive, text)?);
+    compare(&rt, alive, text)?;
     let decided = Reply::Proc(ProcView {
         decision: Some(Val::new(5)),
         ..leader(6, 1, 8)
     });
     let text = "process 1 L6 round 1 alive steps 8 queries 1 decision 5\n";
-    assert!(rt; is_text(rt.alloc(), &decided, text)?);
+    compare(&rt, decided, text)?;
     let crashed = Reply::Proc(ProcView {
         p: Proc::new(2),
         alive: false,
         ..leader(2, 1, 4)
     });
     let text = "process 2 L2 round 1 crashed steps 4 queries 1 decision none\n";
-    assert!(rt; is_text(rt.alloc(), &crashed, text)?);
+    compare(&rt, crashed, text)?;
     let alpha = Reply::Proc(ProcView {
         alpha: true,
         ..leader(0, 3, 6)
     });
     let text = "process 1 A0 round 3 alive steps 6 queries 1 decision none\n";
-    assert!(rt; is_text(rt.alloc(), &alpha, text)?);
+    compare(&rt, alpha, text)?;
     Ok(())
 }
 
 #[test]
 fn registers(rt: HostRuntime) -> Result<(), Fail> {
     let none = Reply::Regs(Vec::new(rt.alloc()));
-    assert!(rt; is_text(rt.alloc(), &none, "no registers\n")?);
+    compare(&rt, none, "no registers\n")?;
     let mut cells = Vec::new(rt.alloc());
     cells.push(Cell {
         lre: 0,
@@ -219,14 +225,14 @@ fn registers(rt: HostRuntime) -> Result<(), Fail> {
         val: Some(Val::new(8)),
     })?;
     let text = "r1 lre 0 lrww 0 val none\nr2 lre 2 lrww 2 val 8\ndec 8\n";
-    assert!(rt; is_text(rt.alloc(), &Reply::Regs(cells), text)?);
+    compare(&rt, Reply::Regs(cells), text)?;
     Ok(())
 }
 
 #[test]
 fn mail(rt: HostRuntime) -> Result<(), Fail> {
     let none = Reply::Mail(Vec::new(rt.alloc()));
-    assert!(rt; is_text(rt.alloc(), &none, "no mail\n")?);
+    compare(&rt, none, "no mail\n")?;
     let mut copies = Vec::new(rt.alloc());
     let first = Payload::P1 {
         round: 1,
@@ -246,41 +252,38 @@ fn mail(rt: HostRuntime) -> Result<(), Fail> {
     copies.push((Proc::new(1), message(2, 10), without))?;
     copies.push((Proc::new(2), message(2, 1), Payload::D { est: Val::new(5) }))?;
     let text = "to 1 1#1 p1 1 7 1\nto 1 1#2 p2 1 5\nto 1 2#10 p2 12 none\nto 2 2#1 d 5\n";
-    assert!(rt; is_text(rt.alloc(), &Reply::Mail(copies), text)?);
+    compare(&rt, Reply::Mail(copies), text)?;
     Ok(())
 }
 
 #[test]
 fn histories(rt: HostRuntime) -> Result<(), Fail> {
     let none = Reply::History(Vec::new(rt.alloc()));
-    assert!(rt; is_text(rt.alloc(), &none, "no steps\n")?);
+    compare(&rt, none, "no steps\n")?;
     let mut events = Vec::new(rt.alloc());
     events.push(step(1, 1, Kind::Query(Proc::new(1))))?;
     events.push(step(1, 2, Kind::Send(1)))?;
     events.push(Event::Lost(copy()))?;
     let text = "1.1 query 1\n1.2 send 1#1\nlost 1#1 to 2\n";
-    assert!(rt; is_text(rt.alloc(), &Reply::History(events), text)?);
+    compare(&rt, Reply::History(events), text)?;
     Ok(())
 }
 
 #[test]
 fn decisions(rt: HostRuntime) -> Result<(), Fail> {
     let none = Reply::Decisions(Vec::new(rt.alloc()));
-    assert!(rt; is_text(rt.alloc(), &none, "decisions none\n")?);
+    compare(&rt, none, "decisions none\n")?;
     let mut pairs = Vec::new(rt.alloc());
     pairs.push((Proc::new(1), Val::new(5)))?;
     pairs.push((Proc::new(2), Val::new(6)))?;
-    assert!(rt; is_text(rt.alloc(), &Reply::Decisions(pairs), "decisions 1=5 2=6\n")?);
+    compare(&rt, Reply::Decisions(pairs), "decisions 1=5 2=6\n")?;
     Ok(())
 }
 
 /// Compares the text of each refusal with the one beside it.
 fn refused<R: Abort + AllocGlobal>(rt: &R, texts: &[(Refusal, &str)]) -> Result<(), Fail> {
     for (refusal, text) in texts {
-        assert!(rt;
-            is_text(rt.alloc(), &Reply::Refused(*refusal), text)?,
-            "{text}"
-        );
+        compare(rt, Reply::Refused(*refusal), text)?;
     }
     Ok(())
 }

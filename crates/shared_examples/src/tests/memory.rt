@@ -1,0 +1,68 @@
+//! Want of memory in a session: it ends there, with what came before, and its next calls are answered as
+//! if nothing had happened. To see it, let each allocation of these tests fail in turn.
+
+use super::gates::OPEN;
+use super::opening::{ALONE, say};
+use super::pair::Pair;
+use cdb_control::{Command, Reply};
+use cdb_shared::End;
+use std::alloc::AllocError;
+use std::sync::Wait;
+use std::test::Fail;
+
+// Drives process 1 for eight turns, and for what is left of them if memory was wanting.
+fn drive_at_last<R: Wait + AllocGlobal>(rt: &R, pair: Pair) -> (Pair, u32, End) {
+    let (pair, count, end) = pair.drive(rt, OPEN, 8);
+    if end != End::NoMemory {
+        return (pair, count, end);
+    }
+    let (pair, more, end) = pair.drive(rt, OPEN, 8u32.saturating_sub(count));
+    (pair, count.saturating_add(more), end)
+}
+
+// The commands behind the first that were answered.
+fn left(commands: &[Command], answered: usize) -> &[Command] {
+    commands.get(answered..).unwrap_or(&[])
+}
+
+// Serves the commands, and those that are left if memory was wanting.
+fn serve_at_last<R: Wait + AllocGlobal>(
+    rt: &R,
+    pair: Pair,
+    commands: &[Command],
+) -> Result<(Pair, Vec<Reply>, End), AllocError> {
+    let (pair, mut replies, end) = pair.serve(rt, OPEN, commands);
+    if end != End::NoMemory {
+        return Ok((pair, replies, end));
+    }
+    let (pair, more, end) = pair.serve(rt, OPEN, left(commands, replies.len()));
+    append(&mut replies, more)?;
+    Ok((pair, replies, end))
+}
+
+fn append(replies: &mut Vec<Reply>, more: Vec<Reply>) -> Result<(), AllocError> {
+    for reply in more {
+        replies.push(reply)?;
+    }
+    Ok(())
+}
+
+#[test]
+fn sessions_without_memory(rt: HostRuntime) -> Result<(), Fail> {
+    let (pair, count, end) = drive_at_last(&rt, Pair::of(&rt, ALONE)?);
+    assert_eq!(rt; (count, end), (8, End::All));
+    let commands = [Command::Undo(1, 8), Command::Redo, Command::Decisions];
+    let (pair, replies, end) = serve_at_last(&rt, pair.exchanged(), &commands)?;
+    assert_eq!(rt; end, End::All);
+    say(
+        &rt,
+        &replies,
+        "undone 1.8 send 1#3\nredone 1.8 send 1#3 decides 7\ndecisions 1=7\n",
+    )?;
+    let seats = pair.finish(&rt)?;
+    assert_eq!(rt;
+        seats.as_slice(),
+        [1u8, 1, 1, 1, 1, 1, 1, 1, 2, 2, 2].as_slice()
+    );
+    Ok(())
+}
