@@ -1,4 +1,4 @@
-//! Runs by generated schedules and with want of memory, on the calls of `AnyRun`.
+//! Worked examples of both algorithms on the calls of `AnyRun`.
 #![tactic(auto)]
 
 #[cfg(test)]

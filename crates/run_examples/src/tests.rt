@@ -1,6 +1,19 @@
+//! What the calls of a run answer and show.
+
+mod alpha;
+mod causes;
 mod example;
 mod generated;
+mod leader;
+mod losses;
 mod memory;
+mod moves;
+mod rollback;
+mod same;
 mod script;
 mod setups;
 mod twin;
+mod undo;
+mod views;
+mod words;
+mod worked;

@@ -1,15 +1,19 @@
-//! The run of an example, which runs the algorithm that its setup names.
+//! The run of an example. A contract sees nothing of it, so that what a test proves does not grow with
+//! what the run holds.
 
-ghost use Rattle.std.specs.Prelude.{IsTrue};
-ghost use Rattle.cdb_run.specs.Any.{standing_of, IsTrueToSetup};
+ghost use Rattle.std.specs.Prelude.{◌≡◌, IsTrue};
 ghost use Rattle.cdb_run.specs.Refusals.{IsOfRun};
 
-use cdb_base::{Act, Event, Kind, NoMemory, Refusal};
+use cdb_base::{
+    Act, Cell, CopyName, Event, Kind, MsgName, NoMemory, Payload, Proc, Refusal, Reg, StepId, Val,
+};
 use cdb_run::AnyRun;
-use cdb_setup::Setup;
+use cdb_setup::{Algorithm, Setup, SetupFault};
+use smallvec::SmallVec;
 use std::alloc::Global;
 use std::marker::Model;
 use std::process::Abort;
+use std::test::Fail;
 
 /// Whether a run of the setup can have the event.
 fn is_of_run(setup: &Setup, event: &Event) -> bool
@@ -27,35 +31,55 @@ fn is_of_run(setup: &Setup, event: &Event) -> bool
     }
 }
 
-/// The run of an example. Its calls are those of the run that it holds.
+fn read(alloc: Global, setup: &str) -> Result<Setup, SetupFault> {
+    Setup::read(alloc, setup.as_bytes())
+}
+
+/// Whether two setups are equal.
+fn is_equal(setup: &Setup, other: &Setup) -> bool
+    ensures { IsTrue result → setup.now ≡ other.now }
+{
+    setup.eq(other)
+}
+
+/// The run of an example. Its calls are those of the run that it holds, with plain numbers for processes.
 #[derive(Drop)]
 pub struct Example {
     run: AnyRun,
 }
 
 impl Model for Example {
-    ghost use Rattle.cdb_run.specs.Any.{standing_of, IsTrueToSetup};
-    ghost use Rattle.cdb_run.specs.Current.{Standing};
+    ghost use Rattle.std.specs.Prelude.{⊤};
+    ghost use Rattle.cdb_run.specs.Any.{IsTrueToSetup};
 
-    ghost Value = { Standing };
+    ghost Value = { ⊤ };
 
-    ghost view = { λ fields. standing_of fields.run };
+    ghost view = { λ _. tt };
 
     ghost invariant = { λ fields. IsTrueToSetup fields.run };
 }
 
 impl Example {
     /// The run of a setup in which nothing has happened.
-    pub fn of(alloc: Global, setup: Setup) -> Result<Example, NoMemory> {
+    pub fn start(alloc: Global, setup: &str) -> Result<Example, Fail> {
+        Ok(Example::of(alloc, read(alloc, setup)?)?)
+    }
+
+    /// The same, or none where it is no setup or memory was wanting.
+    pub fn try_start(alloc: Global, setup: &str) -> Option<Example> {
+        let setup = read(alloc, setup).ok()?;
+        Example::of(alloc, setup).ok()
+    }
+
+    fn of(alloc: Global, setup: Setup) -> Result<Example, NoMemory> {
         let run = AnyRun::start(alloc, setup)?;
         Ok(Example { run })
     }
 
-    /// The run, whose calls show more of it.
-    pub fn any(&self) -> &AnyRun
-        ensures { IsTrueToSetup result.now }
-    {
-        &self.run
+    /// A run of the same setup in which nothing has happened.
+    pub fn anew(&self, alloc: Global) -> Result<Example, NoMemory> {
+        let setup = self.run.setup().copy(alloc)?;
+        Example::of(alloc, setup)
     }
 
     pub fn step(
@@ -65,6 +89,10 @@ impl Example {
         act: Act,
     ) -> Result<Result<Event, Refusal>, NoMemory> {
         self.run.step(alloc, p, act)
+    }
+
+    pub fn refuses(&self, p: u32, act: Act) -> Option<Refusal> {
+        self.run.refuses(p, act)
     }
 
     pub fn lose(
@@ -112,5 +140,120 @@ impl Example {
         p: u32,
     ) -> Result<Result<Vec<Event>, Refusal>, NoMemory> {
         self.run.rollback_lost(alloc, s, m, p)
+    }
+
+    pub fn rollback_onto(
+        &mut self,
+        alloc: Global,
+        p: u32,
+        k: u32,
+        taken: &mut Vec<Event>,
+    ) -> Result<Result<usize, Refusal>, NoMemory> {
+        self.run.rollback_onto(alloc, p, k, taken)
+    }
+
+    pub fn rollback_lost_onto(
+        &mut self,
+        alloc: Global,
+        s: u32,
+        m: u32,
+        p: u32,
+        taken: &mut Vec<Event>,
+    ) -> Result<Result<usize, Refusal>, NoMemory> {
+        self.run.rollback_lost_onto(alloc, s, m, p, taken)
+    }
+
+    pub fn causes(&self, alloc: Global, p: u32, k: u32) -> Result<SmallVec<StepId, 9>, Refusal> {
+        self.run.causes(alloc, p, k)
+    }
+
+    pub fn causes_of_loss(
+        &self,
+        alloc: Global,
+        s: u32,
+        m: u32,
+        p: u32,
+    ) -> Result<SmallVec<StepId, 9>, Refusal> {
+        self.run.causes_of_loss(alloc, s, m, p)
+    }
+
+    /// Whether the processes follow Alpha.
+    pub fn is_alpha(&self) -> bool {
+        self.run.setup().algorithm() == Algorithm::Alpha
+    }
+
+    pub fn history(&self) -> &[Event] {
+        self.run.history()
+    }
+
+    pub fn place(&self, p: u32) -> Option<u8> {
+        let process = self.run.process(p)?;
+        Some(self.run.place(process))
+    }
+
+    pub fn round(&self, p: u32) -> Option<u32> {
+        let process = self.run.process(p)?;
+        Some(self.run.round(process))
+    }
+
+    pub fn alive(&self, p: u32) -> Option<bool> {
+        let process = self.run.process(p)?;
+        Some(self.run.alive(process))
+    }
+
+    pub fn steps(&self, p: u32) -> Option<u32> {
+        let process = self.run.process(p)?;
+        Some(self.run.steps(process))
+    }
+
+    pub fn queries(&self, p: u32) -> Option<u32> {
+        let process = self.run.process(p)?;
+        Some(self.run.queries(process))
+    }
+
+    pub fn decision(&self, p: u32) -> Option<Val> {
+        let process = self.run.process(p)?;
+        self.run.decision(process)
+    }
+
+    pub fn decisions(&self, alloc: Global) -> Result<Vec<(Proc, Val)>, NoMemory> {
+        self.run.decisions(alloc)
+    }
+
+    /// What the register holds, where the run has it.
+    pub fn cell(&self, register: Reg) -> Option<Cell> {
+        let again = register;
+        if !self.run.has(again) {
+            return None;
+        }
+        Some(self.run.cell(register))
+    }
+
+    /// How many writes of the register stand, where the run has it.
+    pub fn writes(&self, register: Reg) -> Option<u32> {
+        let again = register;
+        if !self.run.has(again) {
+            return None;
+        }
+        Some(self.run.writes(register))
+    }
+
+    pub fn pending(&self, p: u32, after: Option<MsgName>) -> Option<MsgName> {
+        let process = self.run.process(p)?;
+        self.run.pending(process, after)
+    }
+
+    pub fn payload(&self, name: &MsgName) -> Option<Payload> {
+        self.run.payload(*name).copied()
+    }
+
+    pub fn lost(&self, copy: &CopyName) -> bool {
+        self.run.lost(*copy)
+    }
+
+    /// Whether two runs of one setup are in the same state.
+    pub fn is_same<R: Abort>(&self, rt: &R, other: &Example) -> bool {
+        assert!(rt; is_equal(self.run.setup(), other.run.setup()));
+        self.run.same_run(&other.run)
     }
 }

@@ -2,10 +2,10 @@
 //! contention of three processes, in which no two decisions differ.
 
 use super::example::Example;
-use super::script::{Turn, start, take};
+use super::moves::{Move, make};
 use super::setups::{ALPHA_PAIR, LOSSY, NO_MAJORITY, THREE_LEADERS, THREE_WRITERS};
 use super::twin::{roll_back_as_replayed, undo_as_replayed};
-use cdb_base::Act;
+use cdb_base::{Act, NoMemory};
 use std::process::Abort;
 use std::test::Fail;
 
@@ -25,31 +25,42 @@ impl Dice {
         (self.state >> 16).checked_rem(sides).unwrap_or(0)
     }
 
-    /// A turn of one of three processes, mostly of what it can do.
-    fn turn(&mut self) -> Turn {
+    /// A move of one of three processes, mostly of what it can do.
+    fn next_move(&mut self) -> Move {
         let p = self.roll(3).wrapping_add(1);
         match self.roll(24) {
-            0 => Turn::Step(p, Act::Crash),
-            1 => Turn::Lose(self.roll(3), self.roll(4), p),
-            2 => Turn::Step(p, Act::Query(None)),
-            3 => Turn::Step(p, Act::Recv(self.roll(3), self.roll(4))),
-            _ => Turn::Auto(p),
+            0 => Move::Step(p, Act::Crash),
+            1 => Move::Lose(self.roll(3), self.roll(4), p),
+            2 => Move::Step(p, Act::Query(None)),
+            3 => Move::Step(p, Act::Recv(self.roll(3), self.roll(4))),
+            _ => Move::Auto(p),
         }
     }
 }
 
-/// A run of the setup after that many turns, the refused ones among them.
+/// Makes that many moves in a run, refused ones among them.
+fn tumble<R: AllocGlobal>(
+    rt: &R,
+    run: &mut Example,
+    dice: &mut Dice,
+    moves: u32,
+) -> Result<(), NoMemory> {
+    for _ in 0..moves {
+        let asked = dice.next_move();
+        let _answer = make(rt.alloc(), run, &asked)?;
+    }
+    Ok(())
+}
+
+/// A run of the setup after that many moves, refused ones among them.
 fn tumbled<R: AllocGlobal>(
     rt: &R,
     setup: &str,
     dice: &mut Dice,
-    turns: u32,
+    moves: u32,
 ) -> Result<Example, Fail> {
-    let mut run = start(rt, setup)?;
-    for _ in 0..turns {
-        let turn = dice.turn();
-        let _answer = take(rt.alloc(), &mut run, &turn)?;
-    }
+    let mut run = Example::start(rt.alloc(), setup)?;
+    tumble(rt, &mut run, dice, moves)?;
     Ok(run)
 }
 
@@ -59,7 +70,7 @@ fn take_one_back<R: Abort + AllocGlobal>(
     run: &Example,
     dice: &mut Dice,
 ) -> Result<(), Fail> {
-    let length = run.any().history().len();
+    let length = run.history().len();
     let Ok(sides) = u32::try_from(length) else {
         return Ok(());
     };
@@ -74,8 +85,8 @@ fn take_one_back<R: Abort + AllocGlobal>(
 fn take_back_in_many_runs<R: Abort + AllocGlobal>(rt: &R, setup: &str) -> Result<(), Fail> {
     for seed in 0..250 {
         let mut dice = Dice { state: seed };
-        let turns = dice.roll(40);
-        let run = tumbled(rt, setup, &mut dice, turns)?;
+        let moves = dice.roll(40);
+        let run = tumbled(rt, setup, &mut dice, moves)?;
         take_one_back(rt, &run, &mut dice)?;
     }
     Ok(())
@@ -107,8 +118,8 @@ fn three_writers_taken_back(rt: HostRuntime) -> Result<(), Fail> {
 }
 
 /// Whether there is a decision; no two of them may differ.
-fn has_one_value<R: Abort + AllocGlobal>(rt: &R, run: &Example) -> Result<bool, Fail> {
-    let decisions = run.any().decisions(rt.alloc())?;
+fn has_one_value<R: Abort + AllocGlobal>(rt: &R, run: &Example) -> Result<bool, NoMemory> {
+    let decisions = run.decisions(rt.alloc())?;
     let mut found: Option<u32> = None;
     for (_, value) in &decisions {
         let number = value.number();

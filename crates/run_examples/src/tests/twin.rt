@@ -4,27 +4,36 @@
 ghost use Rattle.std.specs.Prelude.{◌<◌, length};
 
 use super::example::Example;
-use super::memory::look_same;
+use super::moves::look_same;
 use cdb_base::{Event, Kind, NoMemory, Refusal, Reg, StepId};
 use cdb_causal::depends;
 use std::alloc::Global;
 use std::process::Abort;
 use std::test::Fail;
 
+/// Takes the events again in a run, save those that are gone.
+fn replay<R: Abort + AllocGlobal>(
+    rt: &R,
+    run: &mut Example,
+    events: &[Event],
+    gone: &[Event],
+) -> Result<(), NoMemory> {
+    for event in events {
+        if !gone.contains(event) {
+            assert!(rt; run.again(rt, event)?.is_ok());
+        }
+    }
+    Ok(())
+}
+
 /// A new run in which the events of another stand, save those that are gone.
 fn replayed<R: Abort + AllocGlobal>(
     rt: &R,
     run: &Example,
     gone: &[Event],
-) -> Result<Example, Fail> {
-    let setup = run.any().setup().copy(rt.alloc())?;
-    let mut other = Example::of(rt.alloc(), setup)?;
-    for event in run.any().history() {
-        if !gone.contains(event) {
-            let answer = other.again(rt, event)?;
-            assert!(rt; answer.is_ok());
-        }
-    }
+) -> Result<Example, NoMemory> {
+    let mut other = run.anew(rt.alloc())?;
+    replay(rt, &mut other, run.history(), gone)?;
     Ok(other)
 }
 
@@ -84,13 +93,13 @@ fn roll_back(
     }
 }
 
-/// Compares a run with the one that the replay without some events leads to.
+/// Compares a run with the one that the replay of another without some events leads to.
 fn compare_with_replay<R: Abort + AllocGlobal>(
     rt: &R,
     run: &Example,
     fast: &Example,
     gone: &[Event],
-) -> Result<(), Fail> {
+) -> Result<(), NoMemory> {
     let slow = replayed(rt, run, gone)?;
     assert!(rt; look_same(fast, &slow));
     Ok(())
@@ -102,8 +111,8 @@ fn undo_in_twin<R: Abort + AllocGlobal>(
     run: &Example,
     twin: &mut Example,
     i: usize,
-) -> Result<(), Fail> {
-    let history = run.any().history();
+) -> Result<(), NoMemory> {
+    let history = run.history();
     assert!(rt; i < history.len());
     let answer = undo(twin, &history[i]);
     match first_needing(history, i) {
@@ -124,7 +133,7 @@ pub fn undo_as_replayed<R: Abort + AllocGlobal>(
     rt: &R,
     run: &Example,
     i: usize,
-) -> Result<(), Fail> {
+) -> Result<(), NoMemory> {
     let mut twin = replayed(rt, run, &[])?;
     undo_in_twin(rt, run, &mut twin, i)
 }
@@ -136,14 +145,14 @@ fn roll_back_in_twin<R: Abort + AllocGlobal>(
     twin: &mut Example,
     i: usize,
 ) -> Result<(), Fail> {
-    let history = run.any().history();
+    let history = run.history();
     assert!(rt; i < history.len());
     let answer = roll_back(rt.alloc(), twin, &history[i])?;
     let mut taken = answer.ok().ok_or("a standing event is not rolled back")?;
     taken.reverse();
     let gone = with_consequences(rt.alloc(), history, i)?;
     assert!(rt; taken.as_slice() == gone.as_slice());
-    compare_with_replay(rt, run, twin, gone.as_slice())
+    Ok(compare_with_replay(rt, run, twin, gone.as_slice())?)
 }
 
 /// Rolls the event at place `i` back in a run of its own.

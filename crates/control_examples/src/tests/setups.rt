@@ -27,3 +27,7 @@ pub const ALPHA_ALONE: &str =
 /// Two processes of Alpha, each its own leader.
 pub const ALPHA_PAIR: &str =
     r#"{"algorithm":"alpha","processes":2,"quorum":2,"inputs":[7,8],"oracle":[[1],[2]]}"#;
+
+/// Two processes with a quorum of one, where the oracle names the other to the first at first.
+pub const LEADER_CHANGES: &str =
+    r#"{"algorithm":"leader","processes":2,"quorum":1,"inputs":[5,6],"oracle":[[2,1,1],[2]]}"#;

@@ -1,0 +1,11 @@
+mod alpha;
+mod breakpoints;
+mod leader;
+mod losses;
+mod memory;
+mod pair;
+mod rollback;
+mod room;
+mod session;
+mod setups;
+mod undo;

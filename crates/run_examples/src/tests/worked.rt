@@ -1,0 +1,130 @@
+//! Each event of the worked examples taken back, alone and with its consequences, as a replay does it.
+
+use super::example::Example;
+use super::moves::{Move, make};
+use super::setups::{ALONE, ALPHA_ALONE, ALPHA_PAIR, LOSSY, NO_MAJORITY, ONE_LEADER};
+use super::twin::{roll_back_as_replayed, undo_as_replayed};
+use cdb_base::{Act, NoMemory};
+use std::process::Abort;
+use std::test::Fail;
+
+/// How often a move is made, and the move.
+type Repeated = (u32, Move);
+
+/// Makes the moves, each so many times.
+fn make_each<R: AllocGlobal>(
+    rt: &R,
+    run: &mut Example,
+    moves: &[Repeated],
+) -> Result<(), NoMemory> {
+    for (times, asked) in moves {
+        for _ in 0..*times {
+            let _answer = make(rt.alloc(), run, asked)?;
+        }
+    }
+    Ok(())
+}
+
+/// Takes each event of a run back.
+fn take_each_back<R: Abort + AllocGlobal>(rt: &R, run: &Example) -> Result<(), Fail> {
+    for at in 0..run.history().len() {
+        undo_as_replayed(rt, run, at)?;
+        roll_back_as_replayed(rt, run, at)?;
+    }
+    Ok(())
+}
+
+/// Takes each event back of the run of a setup after some moves, in which so many events stand.
+fn check<R: Abort + AllocGlobal>(
+    rt: &R,
+    setup: &str,
+    moves: &[Repeated],
+    standing: usize,
+) -> Result<(), Fail> {
+    let mut run = Example::start(rt.alloc(), setup)?;
+    make_each(rt, &mut run, moves)?;
+    assert_eq!(rt; run.history().len(), standing);
+    take_each_back(rt, &run)
+}
+
+#[test]
+fn of_one_process(rt: HostRuntime) -> Result<(), Fail> {
+    check(&rt, ALONE, &[(8, Move::Auto(1))], 8)
+}
+
+#[test]
+fn of_two_values(rt: HostRuntime) -> Result<(), Fail> {
+    let moves = [
+        (8, Move::Auto(1)),
+        (1, Move::Step(2, Act::Query(None))),
+        (1, Move::Step(2, Act::Go)),
+        (1, Move::Step(2, Act::Recv(2, 1))),
+        (2, Move::Step(2, Act::Go)),
+        (1, Move::Step(2, Act::Recv(2, 2))),
+        (2, Move::Step(2, Act::Go)),
+    ];
+    check(&rt, NO_MAJORITY, &moves, 16)
+}
+
+#[test]
+fn of_one_leader(rt: HostRuntime) -> Result<(), Fail> {
+    let moves = [
+        (4, Move::Auto(1)),
+        (8, Move::Auto(2)),
+        (7, Move::Auto(1)),
+        (4, Move::Auto(2)),
+    ];
+    check(&rt, ONE_LEADER, &moves, 21)
+}
+
+#[test]
+fn of_a_crash(rt: HostRuntime) -> Result<(), Fail> {
+    let moves = [
+        (3, Move::Auto(2)),
+        (1, Move::Step(2, Act::Crash)),
+        (1, Move::Step(1, Act::Recv(2, 1))),
+        (4, Move::Auto(1)),
+    ];
+    check(&rt, NO_MAJORITY, &moves, 9)
+}
+
+#[test]
+fn of_a_decision_learnt(rt: HostRuntime) -> Result<(), Fail> {
+    let moves = [
+        (8, Move::Auto(1)),
+        (1, Move::Step(2, Act::Recv(1, 3))),
+        (4, Move::Auto(2)),
+    ];
+    check(&rt, NO_MAJORITY, &moves, 13)
+}
+
+#[test]
+fn of_lost_copies(rt: HostRuntime) -> Result<(), Fail> {
+    let moves = [
+        (2, Move::Auto(1)),
+        (1, Move::Lose(1, 1, 2)),
+        (1, Move::Auto(1)),
+        (2, Move::Auto(2)),
+        (1, Move::Lose(2, 1, 1)),
+        (1, Move::Auto(2)),
+        (1, Move::Step(1, Act::Crash)),
+    ];
+    check(&rt, LOSSY, &moves, 9)
+}
+
+#[test]
+fn of_alpha_alone(rt: HostRuntime) -> Result<(), Fail> {
+    check(&rt, ALPHA_ALONE, &[(10, Move::Auto(1))], 10)
+}
+
+#[test]
+fn of_contention(rt: HostRuntime) -> Result<(), Fail> {
+    let moves = [(3, Move::Auto(1)), (4, Move::Auto(2)), (3, Move::Auto(1))];
+    check(&rt, ALPHA_PAIR, &moves, 10)
+}
+
+#[test]
+fn of_a_race_of_writers(rt: HostRuntime) -> Result<(), Fail> {
+    let moves = [(7, Move::Auto(1)), (12, Move::Auto(2)), (4, Move::Auto(1))];
+    check(&rt, ALPHA_PAIR, &moves, 23)
+}
