@@ -60,13 +60,16 @@ impl Model for Example {
 }
 
 impl Example {
-    /// The run of a setup in which nothing has happened.
-    pub fn start(alloc: Global, setup: &str) -> Result<Example, Fail> {
-        Ok(Example::of(alloc, read(alloc, setup)?)?)
+    /// The run of a setup in which nothing has happened, at the second try where memory was wanting.
+    pub fn start<R: Abort + AllocGlobal>(rt: &R, setup: &str) -> Example {
+        match Example::try_start(rt.alloc(), setup) {
+            Some(run) => run,
+            None => Example::try_start(rt.alloc(), setup).expect(rt, "a run"),
+        }
     }
 
     /// The same, or none where it is no setup or memory was wanting.
-    pub fn try_start(alloc: Global, setup: &str) -> Option<Example> {
+    fn try_start(alloc: Global, setup: &str) -> Option<Example> {
         let setup = read(alloc, setup).ok()?;
         Example::of(alloc, setup).ok()
     }
@@ -77,9 +80,9 @@ impl Example {
     }
 
     /// A run of the same setup in which nothing has happened.
-    pub fn anew(&self, alloc: Global) -> Result<Example, NoMemory> {
-        let setup = self.run.setup().copy(alloc)?;
-        Example::of(alloc, setup)
+    pub fn anew<R: Abort + AllocGlobal>(&self, rt: &R) -> Example {
+        let setup = self.run.setup().copy(rt.alloc());
+        Example::of(rt.alloc(), setup.expect(rt, "a setup")).expect(rt, "a run")
     }
 
     pub fn step(

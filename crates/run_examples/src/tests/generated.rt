@@ -5,9 +5,8 @@ use super::example::Example;
 use super::moves::{Move, make};
 use super::setups::{ALPHA_PAIR, LOSSY, NO_MAJORITY, THREE_LEADERS, THREE_WRITERS};
 use super::twin::{roll_back_as_replayed, undo_as_replayed};
-use cdb_base::{Act, NoMemory};
+use cdb_base::Act;
 use std::process::Abort;
-use std::test::Fail;
 
 /// Numbers that look like chance, the same in each run of the test.
 #[derive(Drop)]
@@ -39,116 +38,98 @@ impl Dice {
 }
 
 /// Makes that many moves in a run, refused ones among them.
-fn tumble<R: AllocGlobal>(
-    rt: &R,
-    run: &mut Example,
-    dice: &mut Dice,
-    moves: u32,
-) -> Result<(), NoMemory> {
+fn tumble<R: Abort + AllocGlobal>(rt: &R, run: &mut Example, dice: &mut Dice, moves: u32) {
     for _ in 0..moves {
         let asked = dice.next_move();
-        let _answer = make(rt.alloc(), run, &asked)?;
+        assert!(rt; make(rt.alloc(), run, &asked).is_ok());
     }
-    Ok(())
 }
 
 /// A run of the setup after that many moves, refused ones among them.
-fn tumbled<R: AllocGlobal>(
-    rt: &R,
-    setup: &str,
-    dice: &mut Dice,
-    moves: u32,
-) -> Result<Example, Fail> {
-    let mut run = Example::start(rt.alloc(), setup)?;
-    tumble(rt, &mut run, dice, moves)?;
-    Ok(run)
+fn tumbled<R: Abort + AllocGlobal>(rt: &R, setup: &str, dice: &mut Dice, moves: u32) -> Example {
+    let mut run = Example::start(rt, setup);
+    tumble(rt, &mut run, dice, moves);
+    run
 }
 
 /// Takes an event of a run back, alone and with its consequences.
-fn take_one_back<R: Abort + AllocGlobal>(
-    rt: &R,
-    run: &Example,
-    dice: &mut Dice,
-) -> Result<(), Fail> {
+fn take_one_back<R: Abort + AllocGlobal>(rt: &R, run: &Example, dice: &mut Dice) {
     let length = run.history().len();
     let Ok(sides) = u32::try_from(length) else {
-        return Ok(());
+        return;
     };
     if sides > 0 {
         let at = dice.roll(sides) as usize;
-        undo_as_replayed(rt, run, at)?;
-        roll_back_as_replayed(rt, run, at)?;
+        undo_as_replayed(rt, run, at);
+        roll_back_as_replayed(rt, run, at);
     }
-    Ok(())
 }
 
-fn take_back_in_many_runs<R: Abort + AllocGlobal>(rt: &R, setup: &str) -> Result<(), Fail> {
+fn take_back_in_many_runs<R: Abort + AllocGlobal>(rt: &R, setup: &str) {
     for seed in 0..250 {
         let mut dice = Dice { state: seed };
         let moves = dice.roll(40);
-        let run = tumbled(rt, setup, &mut dice, moves)?;
-        take_one_back(rt, &run, &mut dice)?;
+        let run = tumbled(rt, setup, &mut dice, moves);
+        take_one_back(rt, &run, &mut dice);
     }
-    Ok(())
 }
 
 #[test]
-fn two_leaders_taken_back(rt: HostRuntime) -> Result<(), Fail> {
-    take_back_in_many_runs(&rt, NO_MAJORITY)
+fn two_leaders_taken_back(rt: HostRuntime) {
+    take_back_in_many_runs(&rt, NO_MAJORITY);
 }
 
 #[test]
-fn lost_copies_taken_back(rt: HostRuntime) -> Result<(), Fail> {
-    take_back_in_many_runs(&rt, LOSSY)
+fn lost_copies_taken_back(rt: HostRuntime) {
+    take_back_in_many_runs(&rt, LOSSY);
 }
 
 #[test]
-fn three_leaders_taken_back(rt: HostRuntime) -> Result<(), Fail> {
-    take_back_in_many_runs(&rt, THREE_LEADERS)
+fn three_leaders_taken_back(rt: HostRuntime) {
+    take_back_in_many_runs(&rt, THREE_LEADERS);
 }
 
 #[test]
-fn two_writers_taken_back(rt: HostRuntime) -> Result<(), Fail> {
-    take_back_in_many_runs(&rt, ALPHA_PAIR)
+fn two_writers_taken_back(rt: HostRuntime) {
+    take_back_in_many_runs(&rt, ALPHA_PAIR);
 }
 
 #[test]
-fn three_writers_taken_back(rt: HostRuntime) -> Result<(), Fail> {
-    take_back_in_many_runs(&rt, THREE_WRITERS)
+fn three_writers_taken_back(rt: HostRuntime) {
+    take_back_in_many_runs(&rt, THREE_WRITERS);
 }
 
 /// Whether there is a decision; no two of them may differ.
-fn has_one_value<R: Abort + AllocGlobal>(rt: &R, run: &Example) -> Result<bool, NoMemory> {
-    let decisions = run.decisions(rt.alloc())?;
+fn has_one_value<R: Abort + AllocGlobal>(rt: &R, run: &Example) -> bool {
+    let decisions = run.decisions(rt.alloc()).expect(rt, "a list");
     let mut found: Option<u32> = None;
     for (_, value) in &decisions {
         let number = value.number();
         assert!(rt; found.is_none() || found == Some(number));
         found = Some(number);
     }
-    Ok(found.is_some())
+    found.is_some()
 }
 
 /// Many schedules of one setup; some of them have to come to a decision.
-fn contend<R: Abort + AllocGlobal>(rt: &R, setup: &str) -> Result<(), Fail> {
+fn contend<R: Abort + AllocGlobal>(rt: &R, setup: &str) {
     let mut is_decided = false;
     for seed in 0..300 {
         let mut dice = Dice { state: seed };
-        let run = tumbled(rt, setup, &mut dice, 150)?;
-        if has_one_value(rt, &run)? {
+        let run = tumbled(rt, setup, &mut dice, 150);
+        if has_one_value(rt, &run) {
             is_decided = true;
         }
     }
     assert!(rt; is_decided);
-    Ok(())
 }
 
 #[test]
-fn three_contending_writers_decide_one_value(rt: HostRuntime) -> Result<(), Fail> {
-    contend(&rt, THREE_WRITERS)
+fn three_contending_writers_decide_one_value(rt: HostRuntime) {
+    contend(&rt, THREE_WRITERS);
 }
 
 #[test]
-fn three_contending_leaders_decide_one_value(rt: HostRuntime) -> Result<(), Fail> {
-    contend(&rt, THREE_LEADERS)
+fn three_contending_leaders_decide_one_value(rt: HostRuntime) {
+    contend(&rt, THREE_LEADERS);
 }

@@ -6,15 +6,6 @@ use super::moves::{Move, look_same, make};
 use super::setups::{ALPHA_PAIR, LOSSY};
 use cdb_base::{Act, Event, NoMemory, Refusal};
 use std::process::Abort;
-use std::test::Fail;
-
-/// The run of a setup in which nothing has happened, at the second try if the first wants memory.
-fn start_again<R: AllocGlobal>(rt: &R, setup: &str) -> Result<Example, Fail> {
-    match Example::try_start(rt.alloc(), setup) {
-        Some(run) => Ok(run),
-        None => Example::start(rt.alloc(), setup),
-    }
-}
 
 /// Makes the move, and makes it again where memory was wanting, after which the run shows what the one
 /// behind it shows.
@@ -23,24 +14,24 @@ fn make_at_last<R: Abort + AllocGlobal>(
     run: &mut Example,
     behind: &Example,
     asked: &Move,
-) -> Result<Result<Event, Refusal>, Fail> {
+) -> Result<Event, Refusal> {
     if let Ok(answer) = make(rt.alloc(), run, asked) {
-        return Ok(answer);
+        return answer;
     }
     assert!(rt; look_same(run, behind));
-    Ok(make(rt.alloc(), run, asked)?)
+    make(rt.alloc(), run, asked).expect(rt, "an answer")
 }
 
 /// Makes the move in the run that is behind, and again where memory was wanting.
-fn catch_up<R: AllocGlobal>(
+fn catch_up<R: Abort + AllocGlobal>(
     rt: &R,
     behind: &mut Example,
     asked: &Move,
-) -> Result<Result<Event, Refusal>, Fail> {
+) -> Result<Event, Refusal> {
     if let Ok(answer) = make(rt.alloc(), behind, asked) {
-        return Ok(answer);
+        return answer;
     }
-    Ok(make(rt.alloc(), behind, asked)?)
+    make(rt.alloc(), behind, asked).expect(rt, "an answer")
 }
 
 /// Whether two moves were answered the same.
@@ -54,30 +45,23 @@ fn make_in_both<R: Abort + AllocGlobal>(
     run: &mut Example,
     behind: &mut Example,
     asked: &Move,
-) -> Result<(), Fail> {
-    let answer = make_at_last(rt, run, behind, asked)?;
-    let expected = catch_up(rt, behind, asked)?;
+) {
+    let answer = make_at_last(rt, run, behind, asked);
+    let expected = catch_up(rt, behind, asked);
     assert!(rt; is_same_answer(&answer, &expected));
     assert!(rt; look_same(run, behind));
-    Ok(())
 }
 
 /// Makes the moves in a run, and in another that is always a move behind it, and asks again where memory
 /// was wanting.
-fn make_moves<R: Abort + AllocGlobal>(
-    rt: &R,
-    run: &mut Example,
-    setup: &str,
-    moves: &[Move],
-) -> Result<(), Fail> {
-    let mut behind = start_again(rt, setup)?;
+fn make_moves<R: Abort + AllocGlobal>(rt: &R, run: &mut Example, setup: &str, moves: &[Move]) {
+    let mut behind = Example::start(rt, setup);
     for asked in moves {
-        make_in_both(rt, run, &mut behind, asked)?;
+        make_in_both(rt, run, &mut behind, asked);
     }
-    Ok(())
 }
 
-/// Takes the event of the run again.
+/// Takes the event again, and says whether it was not refused.
 fn take_event<R: Abort + AllocGlobal>(
     rt: &R,
     run: &mut Example,
@@ -93,12 +77,12 @@ fn take_event_at_last<R: Abort + AllocGlobal>(
     run: &mut Example,
     behind: &Example,
     event: &Event,
-) -> Result<bool, NoMemory> {
+) -> bool {
     if let Ok(is_taken) = take_event(rt, run, event) {
-        return Ok(is_taken);
+        return is_taken;
     }
     assert!(rt; look_same(run, behind));
-    take_event(rt, run, event)
+    take_event(rt, run, event).expect(rt, "an answer")
 }
 
 /// Takes the event again in a run and in the one behind it, and compares what both show then.
@@ -107,50 +91,37 @@ fn take_event_in_both<R: Abort + AllocGlobal>(
     run: &mut Example,
     behind: &mut Example,
     event: &Event,
-) -> Result<(), NoMemory> {
-    assert!(rt; take_event_at_last(rt, run, behind, event)?);
+) {
+    assert!(rt; take_event_at_last(rt, run, behind, event));
     if take_event(rt, behind, event).is_err() {
-        assert!(rt; take_event(rt, behind, event)?);
+        assert!(rt; take_event(rt, behind, event).is_ok());
     }
     assert!(rt; look_same(run, behind));
-    Ok(())
 }
 
 /// Takes the events again in a run, and in another that is always an event behind it, as `make_moves` makes
 /// moves.
-fn take_events<R: Abort + AllocGlobal>(
-    rt: &R,
-    run: &mut Example,
-    setup: &str,
-    events: &[Event],
-) -> Result<(), Fail> {
-    let mut behind = start_again(rt, setup)?;
+fn take_events<R: Abort + AllocGlobal>(rt: &R, run: &mut Example, setup: &str, events: &[Event]) {
+    let mut behind = Example::start(rt, setup);
     for event in events {
-        take_event_in_both(rt, run, &mut behind, event)?;
+        take_event_in_both(rt, run, &mut behind, event);
     }
-    Ok(())
 }
 
 /// Takes the events of a run again in another.
-fn repeat<R: Abort + AllocGlobal>(rt: &R, run: &Example, setup: &str) -> Result<(), Fail> {
-    let mut again = start_again(rt, setup)?;
-    take_events(rt, &mut again, setup, run.history())?;
+fn repeat<R: Abort + AllocGlobal>(rt: &R, run: &Example, setup: &str) {
+    let mut again = Example::start(rt, setup);
+    take_events(rt, &mut again, setup, run.history());
     assert!(rt; look_same(&again, run));
-    Ok(())
 }
 
 /// Makes the moves in a run of the setup, of which so many events then stand, and takes these again in
 /// another; asks again where memory was wanting.
-fn check<R: Abort + AllocGlobal>(
-    rt: &R,
-    setup: &str,
-    moves: &[Move],
-    standing: usize,
-) -> Result<(), Fail> {
-    let mut run = start_again(rt, setup)?;
-    make_moves(rt, &mut run, setup, moves)?;
+fn check<R: Abort + AllocGlobal>(rt: &R, setup: &str, moves: &[Move], standing: usize) {
+    let mut run = Example::start(rt, setup);
+    make_moves(rt, &mut run, setup, moves);
     assert_eq!(rt; run.history().len(), standing);
-    repeat(rt, &run, setup)
+    repeat(rt, &run, setup);
 }
 
 const WITH_LOSSES: [Move; 10] = [
@@ -169,11 +140,11 @@ const WITH_LOSSES: [Move; 10] = [
 const TWELVE_STEPS: [Move; 12] = [Move::Auto(1); 12];
 
 #[test]
-fn messages_without_memory(rt: HostRuntime) -> Result<(), Fail> {
-    check(&rt, LOSSY, &WITH_LOSSES, 9)
+fn messages_without_memory(rt: HostRuntime) {
+    check(&rt, LOSSY, &WITH_LOSSES, 9);
 }
 
 #[test]
-fn registers_without_memory(rt: HostRuntime) -> Result<(), Fail> {
-    check(&rt, ALPHA_PAIR, &TWELVE_STEPS, 12)
+fn registers_without_memory(rt: HostRuntime) {
+    check(&rt, ALPHA_PAIR, &TWELVE_STEPS, 12);
 }

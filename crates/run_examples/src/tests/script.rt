@@ -323,17 +323,27 @@ fn compare<R: Abort>(rt: &R, told: &str, expected: &str) {
     assert_eq!(rt; told, expected);
 }
 
-/// Takes the turns in a run of the setup, and compares what they are answered.
+/// Takes the turns in a run, and compares what they are answered.
+fn take_and_compare<R: Abort + AllocGlobal>(
+    rt: &R,
+    run: &mut Example,
+    turns: &[Turn],
+    expected: &str,
+) -> Result<(), Fail> {
+    let told = answers(rt, run, turns)?;
+    compare(rt, told.as_str(), expected);
+    Ok(())
+}
+
+/// The same in a run of the setup.
 pub fn check<R: Abort + AllocGlobal>(
     rt: &R,
     setup: &str,
     turns: &[Turn],
     expected: &str,
 ) -> Result<(), Fail> {
-    let mut run = Example::start(rt.alloc(), setup)?;
-    let told = answers(rt, &mut run, turns)?;
-    compare(rt, told.as_str(), expected);
-    Ok(())
+    let mut run = Example::start(rt, setup);
+    take_and_compare(rt, &mut run, turns, expected)
 }
 
 /// Takes the turns.
@@ -342,21 +352,16 @@ fn take<R: Abort + AllocGlobal>(rt: &R, run: &mut Example, turns: &[Turn]) -> Re
     Ok(())
 }
 
-/// The run of the setup after some turns.
-fn after<R: Abort + AllocGlobal>(rt: &R, setup: &str, turns: &[Turn]) -> Result<Example, Fail> {
-    let mut run = Example::start(rt.alloc(), setup)?;
-    take(rt, &mut run, turns)?;
-    Ok(run)
-}
-
-/// Whether a run of the setup, after some turns, is in the same state as another run.
-fn is_same_after<R: Abort + AllocGlobal>(
+/// Whether two runs come to the same state, each by its turns.
+fn lead_to_same<R: Abort + AllocGlobal>(
     rt: &R,
-    other: &Example,
-    setup: &str,
+    run: &mut Example,
     turns: &[Turn],
+    other: &mut Example,
+    others: &[Turn],
 ) -> Result<bool, Fail> {
-    let run = after(rt, setup, turns)?;
+    take(rt, run, turns)?;
+    take(rt, other, others)?;
     Ok(run.is_same(rt, other))
 }
 
@@ -367,6 +372,7 @@ pub fn are_same<R: Abort + AllocGlobal>(
     turns: &[Turn],
     others: &[Turn],
 ) -> Result<bool, Fail> {
-    let run = after(rt, setup, turns)?;
-    is_same_after(rt, &run, setup, others)
+    let mut run = Example::start(rt, setup);
+    let mut other = Example::start(rt, setup);
+    lead_to_same(rt, &mut run, turns, &mut other, others)
 }

@@ -9,32 +9,22 @@ use cdb_base::{Event, Kind, NoMemory, Refusal, Reg, StepId};
 use cdb_causal::depends;
 use std::alloc::Global;
 use std::process::Abort;
-use std::test::Fail;
 
 /// Takes the events again in a run, save those that are gone.
-fn replay<R: Abort + AllocGlobal>(
-    rt: &R,
-    run: &mut Example,
-    events: &[Event],
-    gone: &[Event],
-) -> Result<(), NoMemory> {
+fn replay<R: Abort + AllocGlobal>(rt: &R, run: &mut Example, events: &[Event], gone: &[Event]) {
     for event in events {
         if !gone.contains(event) {
-            assert!(rt; run.again(rt, event)?.is_ok());
+            let answer = run.again(rt, event).expect(rt, "an answer");
+            assert!(rt; answer.is_ok());
         }
     }
-    Ok(())
 }
 
 /// A new run in which the events of another stand, save those that are gone.
-fn replayed<R: Abort + AllocGlobal>(
-    rt: &R,
-    run: &Example,
-    gone: &[Event],
-) -> Result<Example, NoMemory> {
-    let mut other = run.anew(rt.alloc())?;
-    replay(rt, &mut other, run.history(), gone)?;
-    Ok(other)
+fn replayed<R: Abort + AllocGlobal>(rt: &R, run: &Example, gone: &[Event]) -> Example {
+    let mut other = run.anew(rt);
+    replay(rt, &mut other, run.history(), gone);
+    other
 }
 
 /// The first later event that depends on the one at place `i`, from 0.
@@ -99,19 +89,13 @@ fn compare_with_replay<R: Abort + AllocGlobal>(
     run: &Example,
     fast: &Example,
     gone: &[Event],
-) -> Result<(), NoMemory> {
-    let slow = replayed(rt, run, gone)?;
+) {
+    let slow = replayed(rt, run, gone);
     assert!(rt; look_same(fast, &slow));
-    Ok(())
 }
 
 /// Undoes the event at place `i` in a twin of the run.
-fn undo_in_twin<R: Abort + AllocGlobal>(
-    rt: &R,
-    run: &Example,
-    twin: &mut Example,
-    i: usize,
-) -> Result<(), NoMemory> {
+fn undo_in_twin<R: Abort + AllocGlobal>(rt: &R, run: &Example, twin: &mut Example, i: usize) {
     let history = run.history();
     assert!(rt; i < history.len());
     let answer = undo(twin, &history[i]);
@@ -119,48 +103,34 @@ fn undo_in_twin<R: Abort + AllocGlobal>(
         Some(name) => {
             assert!(rt; answer == Err(Refusal::NeededBy(name)));
             assert!(rt; look_same(twin, run));
-            Ok(())
         }
         None => {
             assert!(rt; answer.is_ok());
-            compare_with_replay(rt, run, twin, &history[i..i + 1])
+            compare_with_replay(rt, run, twin, &history[i..i + 1]);
         }
     }
 }
 
 /// Undoes the event at place `i` in a run of its own.
-pub fn undo_as_replayed<R: Abort + AllocGlobal>(
-    rt: &R,
-    run: &Example,
-    i: usize,
-) -> Result<(), NoMemory> {
-    let mut twin = replayed(rt, run, &[])?;
-    undo_in_twin(rt, run, &mut twin, i)
+pub fn undo_as_replayed<R: Abort + AllocGlobal>(rt: &R, run: &Example, i: usize) {
+    let mut twin = replayed(rt, run, &[]);
+    undo_in_twin(rt, run, &mut twin, i);
 }
 
 /// Rolls the event at place `i` back in a twin of the run.
-fn roll_back_in_twin<R: Abort + AllocGlobal>(
-    rt: &R,
-    run: &Example,
-    twin: &mut Example,
-    i: usize,
-) -> Result<(), Fail> {
+fn roll_back_in_twin<R: Abort + AllocGlobal>(rt: &R, run: &Example, twin: &mut Example, i: usize) {
     let history = run.history();
     assert!(rt; i < history.len());
-    let answer = roll_back(rt.alloc(), twin, &history[i])?;
-    let mut taken = answer.ok().ok_or("a standing event is not rolled back")?;
+    let answer = roll_back(rt.alloc(), twin, &history[i]).expect(rt, "an answer");
+    let mut taken = answer.ok().expect(rt, "a standing event is rolled back");
     taken.reverse();
-    let gone = with_consequences(rt.alloc(), history, i)?;
+    let gone = with_consequences(rt.alloc(), history, i).expect(rt, "a list");
     assert!(rt; taken.as_slice() == gone.as_slice());
-    Ok(compare_with_replay(rt, run, twin, gone.as_slice())?)
+    compare_with_replay(rt, run, twin, gone.as_slice());
 }
 
 /// Rolls the event at place `i` back in a run of its own.
-pub fn roll_back_as_replayed<R: Abort + AllocGlobal>(
-    rt: &R,
-    run: &Example,
-    i: usize,
-) -> Result<(), Fail> {
-    let mut twin = replayed(rt, run, &[])?;
-    roll_back_in_twin(rt, run, &mut twin, i)
+pub fn roll_back_as_replayed<R: Abort + AllocGlobal>(rt: &R, run: &Example, i: usize) {
+    let mut twin = replayed(rt, run, &[]);
+    roll_back_in_twin(rt, run, &mut twin, i);
 }
