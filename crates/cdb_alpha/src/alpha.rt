@@ -4,6 +4,7 @@ ghost use Rattle.cdb_process.specs.declared.Input.{Input};
 use crate::back::{Back, SeenBefore};
 use crate::place::Place;
 use crate::seen::{are_same, find_value, shows_later_round};
+use cdb_base::limits::MAX_ROUND;
 use cdb_base::{Cell, NoMemory, Proc, Reg, Val};
 use cdb_process::{Input, Process, SameState, Wish};
 use std::alloc::Global;
@@ -102,7 +103,7 @@ impl Alpha {
     fn has_next_round(&self) -> bool
         ensures { result ≡ is_some (next_round self.now) }
     {
-        u64::from(self.round) + u64::from(self.processes) <= 999_999
+        u64::from(self.round) + u64::from(self.processes) <= u64::from(MAX_ROUND)
     }
 
     /// Whether another process entered a later round.

@@ -1,5 +1,6 @@
 ghost use Rattle.std.specs.Prelude.{◌≡◌, ℕ, ◌≤◌, ◌↔◌, IsSome, IfSome};
 
+use crate::limits::MAX_VALUE;
 use std::marker::Model;
 
 /// A value that processes propose and decide, from 0 to 999,999. A contract sees the number.
@@ -30,7 +31,7 @@ impl Val {
         ensures valid { IsSome result ↔ (number ≤ 999999) }
         ensures value { IfSome result (λ v. v ≡ number) }
     {
-        if number <= 999_999 {
+        if number <= u64::from(MAX_VALUE) {
             Some(Val(number as u32))
         } else {
             None

@@ -1,15 +1,9 @@
 //! Which events depend on each other.
 
 ghost use Rattle.std.specs.Prelude.{◌≡◌, ◌&&◌, nat_eq};
-ghost use Rattle.cdb_causal.specs.Dependence.{same_register as same_register_of, sends as sends_of, receives as receives_of, kind_affects as kind_affects_of, affects as affects_of, same_process as same_process_of, depends as depends_of};
+ghost use Rattle.cdb_causal.specs.Dependence.{sends as sends_of, receives as receives_of, kind_affects as kind_affects_of, affects as affects_of, same_process as same_process_of, depends as depends_of};
 
-use cdb_base::{CopyName, Event, Kind, Proc, Reg};
-
-fn same_register(register: Reg, other: Reg) -> bool
-    ensures { result ≡ same_register_of register other }
-{
-    register == other
-}
+use cdb_base::{CopyName, Event, Kind, Proc};
 
 // Whether a step of that process and kind sends what one of the other kind receives, or writes a
 // register that it reads or writes.
@@ -18,8 +12,8 @@ fn kind_affects(p: Proc, kind: Kind, other: Kind) -> bool
 {
     match (kind, other) {
         (Kind::Send(m), Kind::Recv(s, k)) => p == s && m == k,
-        (Kind::Write(x), Kind::Read(y)) => same_register(x, y),
-        (Kind::Write(x), Kind::Write(y)) => same_register(x, y),
+        (Kind::Write(x), Kind::Read(y)) => x == y,
+        (Kind::Write(x), Kind::Write(y)) => x == y,
         _ => false,
     }
 }

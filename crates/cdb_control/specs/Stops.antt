@@ -6,6 +6,7 @@ use Rattle.cdb_base.specs.declared.event.Event.TheVariants.{Step}
 use Rattle.cdb_base.specs.declared.event.Kind.TheVariants as kind
 use Rattle.cdb_base.specs.declared.register.Reg.{Reg}
 use Rattle.cdb_base.specs.declared.register.Reg.TheVariants.{R, Dec}
+use Rattle.cdb_causal.specs.Dependence.{same_register}
 use Rattle.cdb_control.specs.declared.command.Stop.{Stop}
 use Rattle.cdb_control.specs.declared.command.Stop.TheVariants as stop
 use Rattle.cdb_control.specs.declared.stops.Taken.{Taken}
@@ -15,17 +16,12 @@ use Rattle.cdb_run.specs.Undo.{is_step_of}
 abbrev pub Stops : Type 0
 Stops = List (ℕ × Stop)
 
-abbrev pub is_same_register : Reg → Reg → Bool
-is_same_register (R p) (R q) = p == q
-is_same_register Dec Dec = true
-is_same_register _ _ = false
-
 abbrev pub is_receive : Event → Bool
 is_receive (Step p k (kind.Recv s m)) = true
 is_receive _ = false
 
 abbrev pub is_write_of : Reg → Event → Bool
-is_write_of x (Step p k (kind.Write y)) = is_same_register x y
+is_write_of x (Step p k (kind.Write y)) = same_register x y
 is_write_of x _ = false
 
 -- whether a step that was taken fires a stop

@@ -10,13 +10,11 @@ use crate::command::{Command, Stop, View};
 use crate::reply::Reply;
 use crate::runs::Runs;
 use crate::state::ControlState;
+use cdb_base::limits::{MAX_ENTRIES, MAX_SEATS};
 use cdb_base::{Act, NoMemory, Reg};
 use cdb_setup::Setup;
 use std::alloc::Global;
 use std::marker::Model;
-
-/// The most entries that a journal takes.
-pub const MOST_ENTRIES: usize = 999_999;
 
 /// One entry of a journal.
 #[derive(Clone, Copy, Debug, PartialEq)]
@@ -25,15 +23,18 @@ pub struct Entry {
     pub command: Command,
 }
 
-/// Why a command was not carried out.
+/// Why a command was not carried out. Nothing has changed then.
 #[derive(Debug, Clone, Copy, PartialEq)]
 pub enum CallFault {
+    /// The journal has as many entries as it may have.
     JournalFull,
     NoMemory,
 }
 
+/// Why a control was not opened.
 #[derive(Debug, Clone, Copy, PartialEq)]
 pub enum OpenFault {
+    /// The number of seats is not one of 1 to 64.
     Seats,
     NoMemory,
 }
@@ -63,12 +64,13 @@ impl<R: Runs> Model for Control<R> {
 }
 
 impl<R: Runs> Control<R> {
-    /// A control of a setup in which nothing has happened.
+    /// A control of a setup in which nothing has happened, with 1 to 64 seats, none of which has room. After a
+    /// fault the setup is given up.
     pub fn open(alloc: Global, setup: Setup, seats: u8) -> Result<Self, OpenFault>
         ensures opened { IfOk result (λ c. c ≡ opened setup seats) }
         ensures seats { (result ≡ Err OpenFault.Seats) ↔ ((seats ≡ 0) ⊎ (64 < seats)) }
     {
-        if seats == 0 || seats > 64 {
+        if seats == 0 || seats > MAX_SEATS {
             return Err(OpenFault::Seats);
         }
         // Its clause says that the parts of the setup are in range.
@@ -87,19 +89,20 @@ impl<R: Runs> Control<R> {
         })
     }
 
-    /// Carries a command out for a seat. A fault changes nothing. Where the seat has room, an undo, an undo of a loss,
-    /// `forget`, `unbreak` and `resume` want no memory.
+    /// Carries a command out for a seat, from 1, and adds it to the journal, a refused one too. `JournalFull` comes
+    /// before `NoMemory`, and either changes nothing. Where the seat has room, an undo, an undo of a loss, `forget`,
+    /// `unbreak` and `resume` want no memory.
     pub fn execute(&mut self, alloc: Global, seat: u8, command: Command) -> Result<Reply, CallFault>
         requires from_one { 1 ≤ seat }
         requires to_last { seat ≤ self.old.seats }
         ensures reply { IfOk result (λ r. told r ≡ answer (R.rules self.old.setup) (state_of (R.rules self.old.setup) self.old) seat command) }
         ensures journal { IfOk result (λ _. self.new ≡ extended (R.rules self.old.setup) self.old seat command) }
         ensures fault { OnErr result (self.new ≡ self.old) }
-        ensures full { (result ≡ Err CallFault.JournalFull) ↔ (length self.old.journal ≡ MOST_ENTRIES) }
-        ensures limit { length self.new.journal ≤ MOST_ENTRIES }
+        ensures full { (result ≡ Err CallFault.JournalFull) ↔ (length self.old.journal ≡ MAX_ENTRIES) }
+        ensures limit { length self.new.journal ≤ MAX_ENTRIES }
         ensures spared { is_spared command ≡ true → 0 < room_of self.old.rooms seat → result ≢ Err CallFault.NoMemory }
     {
-        if self.journal.len() >= MOST_ENTRIES {
+        if self.journal.len() >= MAX_ENTRIES as usize {
             return Err(CallFault::JournalFull);
         }
         if self.journal.reserve(1).is_err() {
@@ -139,13 +142,14 @@ impl<R: Runs> Control<R> {
         self.marks[seat as usize - 1].saturating_sub(self.journal.len() as u32)
     }
 
-    /// What `auto` would do for a process, whether or not a pause stands.
+    /// What `auto` would do for a process, whether or not a pause stands; nothing where it would be refused.
     pub fn pick(&self, p: u32) -> Option<Act>
         ensures { result ≡ chosen_act (choice (R.rules self.now.setup) (state_of (R.rules self.now.setup) self.now).history p) }
     {
         self.state.choose(p).ok()
     }
 
+    /// The run that the journal leads to.
     pub fn run(&self) -> &R
         ensures setup { R.setup result.now ≡ self.now.setup }
         ensures history { R.history result.now ≡ (state_of (R.rules self.now.setup) self.now).history }
@@ -153,16 +157,18 @@ impl<R: Runs> Control<R> {
         self.state.run()
     }
 
+    /// How many seats there are, from 1 to 64.
     pub fn seats(&self) -> u8
         ensures { (result ≡ self.now.seats) × (1 ≤ result) × (result ≤ 64) }
     {
         self.seats
     }
 
+    /// The executed commands with their seats, in order.
     pub fn journal(&self) -> &[Entry]
         ensures entries { result.now ≡ self.now.journal }
         ensures seats { AreOfSeats self.now.seats self.now.journal }
-        ensures limit { length self.now.journal ≤ MOST_ENTRIES }
+        ensures limit { length self.now.journal ≤ MAX_ENTRIES }
     {
         self.journal.as_slice()
     }

@@ -16,7 +16,7 @@ mod stops;
 pub use any_run::RunOfSetup;
 pub use cdb_base::Act;
 pub use command::{Command, Stop, View};
-pub use control::{CallFault, Control, Entry, MOST_ENTRIES, OpenFault};
+pub use control::{CallFault, Control, Entry, OpenFault};
 pub use named::Named;
 pub use reply::{ProcView, Reply};
 pub use runs::Runs;

@@ -27,6 +27,7 @@ impl Model for RedoList {
 }
 
 impl RedoList {
+    /// A list of no events.
     pub fn new(alloc: Global) -> Self
         ensures { result.events ≡ [] }
     {
@@ -35,6 +36,7 @@ impl RedoList {
         }
     }
 
+    /// How many events it holds.
     pub fn len(&self) -> usize
         ensures { result ≡ length self.now.events }
     {
@@ -48,12 +50,14 @@ impl RedoList {
         self.events.last().copied()
     }
 
+    /// Takes the last event off, if there is one.
     pub fn drop_last(&mut self)
         ensures { self.new ≡ record self.old { events = without_last self.old.events } }
     {
         self.events.pop();
     }
 
+    /// Takes all events off.
     pub fn clear(&mut self)
         ensures { self.new ≡ record self.old { events = [] } }
     {

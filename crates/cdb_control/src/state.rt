@@ -15,6 +15,7 @@ use crate::redo::RedoList;
 use crate::reply::Reply;
 use crate::runs::Runs;
 use crate::stops::{Breakpoints, Taken, names_none_of};
+use cdb_base::limits::MAX_BREAKPOINTS;
 use cdb_base::{Act, Event, NoMemory, Refusal, Val};
 use cdb_setup::Setup;
 use std::alloc::Global;
@@ -67,6 +68,7 @@ impl<R: Runs> ControlState<R> {
         })
     }
 
+    /// The run.
     pub fn run(&self) -> &R
         ensures setup { R.setup result.now ≡ self.now.state.setup }
         ensures history { R.history result.now ≡ self.now.state.history }
@@ -108,7 +110,7 @@ impl<R: Runs> ControlState<R> {
         if names_none_of(self.run.processes(), &stop) {
             return Ok(Reply::Refused(Refusal::NoProcess));
         }
-        if self.breakpoints.len() >= 99 {
+        if self.breakpoints.len() >= usize::from(MAX_BREAKPOINTS) {
             return Ok(Reply::Refused(Refusal::BreakLimit));
         }
         let number = self.breakpoints.set(stop)?;

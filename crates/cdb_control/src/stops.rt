@@ -1,7 +1,7 @@
 //! Breakpoints.
 ghost use Rattle.std.specs.Prelude.{◌≡◌, ◌≤◌, ◌==◌, ◌&&◌, [], IfOk, OnOk, OnErr, length, nat_eq, not, is_some};
 ghost use Rattle.std.specs.Map.{lookup};
-ghost use Rattle.cdb_control.specs.Stops.{fires, first_fired, is_receive, is_write_of, is_same_register, names_none_of, with_stop, without_stop};
+ghost use Rattle.cdb_control.specs.Stops.{fires, first_fired, is_receive, is_write_of, names_none_of, with_stop, without_stop};
 ghost use Rattle.cdb_run.specs.Step.{is_among};
 ghost use Rattle.cdb_run.specs.Undo.{is_step_of};
 
@@ -64,16 +64,10 @@ impl Taken {
             Event::Step {
                 kind: Kind::Write(written),
                 ..
-            } => is_same_register(register, written),
+            } => register == written,
             _ => false,
         }
     }
-}
-
-fn is_same_register(one: &Reg, other: &Reg) -> bool
-    ensures { result ≡ is_same_register one.now other.now }
-{
-    *one == *other
 }
 
 /// The standing breakpoints, and the number of the next one.
@@ -94,6 +88,7 @@ impl Model for Breakpoints {
 }
 
 impl Breakpoints {
+    /// None; the first one that is set gets number 1.
     pub fn new(alloc: Global) -> Self
         ensures { result ≡ record { stops = []; next = 1 } }
     {
@@ -103,13 +98,14 @@ impl Breakpoints {
         }
     }
 
+    /// How many breakpoints stand.
     pub fn len(&self) -> usize
         ensures { result ≡ length self.now.stops }
     {
         self.standing.len()
     }
 
-    /// Sets a breakpoint, and gives its number.
+    /// Sets a breakpoint, and gives its number. After `NoMemory` nothing has changed.
     pub fn set(&mut self, stop: Stop) -> Result<u32, NoMemory>
         requires { self.old.next ≤ 999999 }
         ensures number { IfOk result (λ number. number ≡ self.old.next) }
@@ -130,7 +126,7 @@ impl Breakpoints {
         self.standing.contains_key(&number)
     }
 
-    /// Takes a breakpoint away.
+    /// Takes the breakpoint of that number away, if it stands.
     pub fn remove(&mut self, number: u32)
         ensures { self.new ≡ without_stop self.old number }
     {

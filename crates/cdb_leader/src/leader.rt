@@ -6,6 +6,7 @@ use crate::inbox::{
     find_first_phase, find_learnt, find_proposal,
 };
 use crate::place::Place;
+use cdb_base::limits::MAX_ROUND;
 use cdb_base::{NoMemory, Payload, Proc, Val};
 use cdb_process::{Input, Process, SameState, Wish};
 use std::alloc::Global;
@@ -123,7 +124,7 @@ impl Leader {
         ensures { (l : ℕ) → result ≡ is_some (query_at self.now.place self.now l) }
     {
         match self.place {
-            Place::L0 => self.round < 999_999,
+            Place::L0 => self.round < MAX_ROUND,
             Place::L2 => true,
             _ => false,
         }

@@ -4,7 +4,8 @@ use Rattle.std.specs.Prelude.{◌↔◌, Option, IfSome}
 use Rattle.cdb_text.specs.declared.fault.LineFault.{LineFault}
 use Rattle.cdb_play.specs.Faults.{of_script, IsFaultOfScript}
 use Rattle.cdb_play.specs.Lines.{lines_of}
-use Rattle.cdb_play.specs.Scripts.{longest, IsFirstBadLine}
+use Rattle.cdb_play.specs.Scripts.{IsFirstBadLine}
+use Rattle.cdb_setup.specs.Format.{longest}
 use Rattle.cdb_play.specs.Streams.{before}
 use Rattle.cdb_play.specs.declared.script.ScriptFault.{ScriptFault}
 use Rattle.cdb_play.specs.declared.script.ScriptFault.TheVariants.{Line, TooLong, NoMemory}

@@ -6,7 +6,8 @@ use Rattle.cdb_control.specs.declared.command.Command.{Command}
 use Rattle.cdb_text.specs.declared.fault.LineFault.{LineFault}
 use Rattle.cdb_play.specs.Lines.{lines_of}
 use Rattle.cdb_play.specs.Races.{race_fault_of_script, IsScript, AreScripts, IsFaultOfScripts, bytes_of}
-use Rattle.cdb_play.specs.Scripts.{longest, IsFirstBadLine}
+use Rattle.cdb_play.specs.Scripts.{IsFirstBadLine}
+use Rattle.cdb_setup.specs.Format.{longest}
 use Rattle.cdb_play.specs.declared.script.ScriptFault.{ScriptFault}
 use Rattle.cdb_play.specs.declared.script.ScriptFault.TheVariants.{Line, TooLong, NoMemory}
 use Rattle.cdb_play.proofs.Added.{parted}

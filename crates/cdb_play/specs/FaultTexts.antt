@@ -26,12 +26,12 @@ abbrev pub numbered_text : Option ℕ → SetupFault → List ℕ
 numbered_text (Some n) fault = codes "setup fault " ++ decimal n ++ codes " " ++ fault_name fault ++ setup_detail fault ++ codes "\n"
 numbered_text None fault = no_memory_text
 
-abbrev pub setup_text : SetupFault → List ℕ
-setup_text fault = numbered_text (fault_number fault) fault
+abbrev pub setup_fault_text : SetupFault → List ℕ
+setup_fault_text fault = numbered_text (fault_number fault) fault
 
 -- the script, the line, and the fault of the line
-abbrev pub line_text : ℕ → ℕ → LineFault → List ℕ
-line_text script line fault = codes "script " ++ decimal script ++ codes " line " ++ decimal line ++ codes " fault " ++ decimal (line_fault_number fault) ++ codes " " ++ line_fault_name fault ++ codes "\n"
+abbrev pub line_fault_text : ℕ → ℕ → LineFault → List ℕ
+line_fault_text script line fault = codes "script " ++ decimal script ++ codes " line " ++ decimal line ++ codes " fault " ++ decimal (line_fault_number fault) ++ codes " " ++ line_fault_name fault ++ codes "\n"
 
 abbrev pub too_long_text : ℕ → List ℕ
 too_long_text script = codes "script " ++ decimal script ++ codes " too long\n"
@@ -40,20 +40,20 @@ abbrev pub output_text : List ℕ
 output_text = codes "output failed\n"
 
 -- the name is that of what could not be read
-abbrev pub play_text : PlayFault → List ℕ → List ℕ
-play_text (play.Setup fault) name = setup_text fault
-play_text (play.Line script line fault) name = line_text script line fault
-play_text (play.ScriptTooLong script) name = too_long_text script
-play_text play.Read name = codes "cannot read " ++ name ++ codes "\n"
-play_text play.Write name = output_text
-play_text play.NoMemory name = no_memory_text
+abbrev pub play_fault_text : PlayFault → List ℕ → List ℕ
+play_fault_text (play.Setup fault) name = setup_fault_text fault
+play_fault_text (play.Line script line fault) name = line_fault_text script line fault
+play_fault_text (play.ScriptTooLong script) name = too_long_text script
+play_fault_text play.Read name = codes "cannot read " ++ name ++ codes "\n"
+play_fault_text play.Write name = output_text
+play_fault_text play.NoMemory name = no_memory_text
 
-abbrev pub race_text : RaceFault → List ℕ
-race_text (race.Setup fault) = setup_text fault
-race_text (race.Line script line fault) = line_text script line fault
-race_text (race.ScriptTooLong script) = too_long_text script
-race_text race.Write = output_text
-race_text race.NoMemory = no_memory_text
-race_text race.JournalFull = codes "journal full\n"
-race_text race.Spawn = codes "no thread\n"
-race_text (race.Stopped seat) = codes "no thread\n"
+abbrev pub race_fault_text : RaceFault → List ℕ
+race_fault_text (race.Setup fault) = setup_fault_text fault
+race_fault_text (race.Line script line fault) = line_fault_text script line fault
+race_fault_text (race.ScriptTooLong script) = too_long_text script
+race_fault_text race.Write = output_text
+race_fault_text race.NoMemory = no_memory_text
+race_fault_text race.JournalFull = codes "journal full\n"
+race_fault_text race.Spawn = codes "no thread\n"
+race_fault_text (race.Stopped seat) = codes "no thread\n"

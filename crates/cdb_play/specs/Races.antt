@@ -7,7 +7,7 @@ use Rattle.cdb_control.specs.Journal.{Journaled, state_of}
 use Rattle.cdb_control.specs.declared.command.Command.{Command}
 use Rattle.cdb_race.specs.Races.{IsRaced, answers_to}
 use Rattle.cdb_run.specs.Algorithms.{rules}
-use Rattle.cdb_setup.specs.Format.{StandsFor}
+use Rattle.cdb_setup.specs.Format.{StandsFor, longest}
 use Rattle.cdb_setup.specs.Order.{IsFirstFault}
 use Rattle.cdb_setup.specs.Parts.{Parts}
 use Rattle.cdb_setup.specs.declared.fault.SetupFault.{SetupFault}
@@ -16,7 +16,7 @@ use Rattle.cdb_text.specs.Reports.{decisions_text}
 use Rattle.cdb_text.specs.Texts.{text_of}
 use Rattle.cdb_play.specs.Faults.{IsSetup}
 use Rattle.cdb_play.specs.Lines.{lines_of}
-use Rattle.cdb_play.specs.Scripts.{longest, AreCommandsOf, IsFirstBadLine}
+use Rattle.cdb_play.specs.Scripts.{AreCommandsOf, IsFirstBadLine}
 use Rattle.cdb_play.specs.declared.fault.RaceFault.{RaceFault}
 use Rattle.cdb_play.specs.declared.fault.RaceFault.TheVariants.{Setup, Line, ScriptTooLong, Write, NoMemory}
 use Rattle.cdb_play.specs.declared.script.ScriptFault.{ScriptFault}

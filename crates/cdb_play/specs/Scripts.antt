@@ -5,10 +5,6 @@ use Rattle.cdb_text.specs.declared.fault.LineFault.{LineFault}
 use Rattle.cdb_text.specs.Grammar.{IsLineOf}
 use Rattle.cdb_text.specs.Faults.{IsFaultOf}
 
--- the most bytes that a script may have
-abbrev pub longest : ℕ
-longest = 1048576
-
 -- each line is that of its command
 abbrev pub AreCommandsOf : List Command → List (List ℕ) → Type 0
 AreCommandsOf [] [] = Unit {0}

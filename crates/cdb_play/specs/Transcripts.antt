@@ -6,10 +6,10 @@ use Rattle.cdb_control.specs.declared.control.Entry.{Entry}
 use Rattle.cdb_control.specs.Journal.{entry, replies_of}
 use Rattle.cdb_run.specs.Rules.{Rules}
 use Rattle.cdb_setup.specs.Parts.{Parts}
-use Rattle.cdb_setup.specs.Format.{StandsFor}
+use Rattle.cdb_setup.specs.Format.{StandsFor, longest}
 use Rattle.cdb_text.specs.Texts.{text_of}
 use Rattle.cdb_play.specs.Lines.{lines_of}
-use Rattle.cdb_play.specs.Scripts.{longest, AreCommandsOf}
+use Rattle.cdb_play.specs.Scripts.{AreCommandsOf}
 use Rattle.cdb_play.specs.Streams.{IsReadToEnd}
 
 -- the commands as the journal of the only seat

@@ -48,6 +48,7 @@ pub struct Bytes<'a> {
 }
 
 impl<'a> Bytes<'a> {
+    /// The bytes, all of them still to be read.
     pub fn new(bytes: &'a [u8]) -> Self
         ensures { result.rest ≡ bytes.entry }
     {

@@ -14,13 +14,13 @@ mod sink;
 mod source;
 mod status;
 
+pub use cdb_base::limits::MAX_BYTES;
 pub use fault::{PlayFault, RaceFault};
 pub use fault_text::{write_fault, write_race_fault};
 pub use input::{Bytes, Input};
 pub use output::Output;
 pub use plays::play;
 pub use races::{race, race_with};
-pub use script::LONGEST;
 pub use sink::{Failed, Sink};
 pub use source::{ReadFault, Source, read_up_to};
 pub use status::{fits, race_status_of, status_of};

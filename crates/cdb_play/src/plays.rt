@@ -7,14 +7,16 @@ ghost use Rattle.cdb_run.specs.Algorithms.{rules};
 ghost use Rattle.cdb_text.specs.Texts.{text_of};
 ghost use Rattle.cdb_play.specs.Faults.{IsFaultOfScript, IsFaultOfPlay, IsFaultOfWriting};
 ghost use Rattle.cdb_play.specs.Lines.{lines_of};
-ghost use Rattle.cdb_play.specs.Scripts.{longest, AreCommandsOf};
+ghost use Rattle.cdb_play.specs.Scripts.{AreCommandsOf};
+ghost use Rattle.cdb_setup.specs.Format.{longest};
 ghost use Rattle.cdb_play.specs.Streams.{after, AddsBeginning, IsReadToEnd, one_more};
 ghost use Rattle.cdb_play.specs.Transcripts.{transcript, Plays};
 
 use crate::fault::PlayFault;
-use crate::script::{LONGEST, commands_of};
+use crate::script::commands_of;
 use crate::sink::{Sink, write_all};
 use crate::source::{Source, read_up_to};
+use cdb_base::limits::MAX_BYTES;
 use cdb_control::{CallFault, Command, Control, RunOfSetup, Runs};
 use cdb_setup::Setup;
 use cdb_text::reply_text;
@@ -78,7 +80,7 @@ fn read_script<R: Source>(alloc: Global, script: &mut R) -> Result<Vec<Command>,
     ensures read { result ≡ Err PlayFault.Read → R.failures script.new ≡ one_more (R.failures script.old) }
     ensures unfailed { result ≢ Err PlayFault.Read → R.failures script.new ≡ R.failures script.old }
 {
-    let bytes = read_up_to(alloc, script, LONGEST + 1)?;
+    let bytes = read_up_to(alloc, script, MAX_BYTES + 1)?;
     let commands = commands_of(alloc, bytes.as_slice())?;
     Ok(commands)
 }

@@ -3,16 +3,15 @@
 ghost use Rattle.std.specs.Prelude.{◌≡◌, ◌↔◌, ℕ, ◌+◌, ◌*◌, ◌<◌, ◌≤◌, [], ◌∷◌, ◌++◌, length, Err, IfOk, OnOk};
 ghost use Rattle.cdb_text.specs.declared.fault.LineFault.{LineFault as LineFaultName};
 ghost use Rattle.cdb_play.specs.Lines.{lines_of};
-ghost use Rattle.cdb_play.specs.Scripts.{longest, AreCommandsOf, IsFirstBadLine};
+ghost use Rattle.cdb_setup.specs.Format.{longest};
+ghost use Rattle.cdb_play.specs.Scripts.{AreCommandsOf, IsFirstBadLine};
 
 use crate::lines::first_line;
+use cdb_base::limits::MAX_BYTES;
 use cdb_base::{Act, Reg};
 use cdb_control::{Command, Stop, View};
 use cdb_text::{LineFault, parse_line};
 use std::alloc::{AllocError, AllocFailed, Global};
-
-/// The most bytes that a script may have.
-pub const LONGEST: usize = 1_048_576;
 
 /// Why a script can't be played.
 #[derive(Clone, Copy, Debug, PartialEq, Eq)]
@@ -56,7 +55,7 @@ pub fn commands_of(alloc: Global, script: &[u8]) -> Result<Vec<Command>, ScriptF
     ensures line { (place : ℕ) → (fault : LineFaultName) → result ≡ Err (ScriptFault.Line place fault) → IsFirstBadLine place fault (lines_of script.now) }
     ensures too_long { (result ≡ Err ScriptFault.TooLong) ↔ (longest < length script.now) }
 {
-    if script.len() > LONGEST {
+    if script.len() > MAX_BYTES {
         return Err(ScriptFault::TooLong);
     }
     let mut commands = Vec::new(alloc);

@@ -4,10 +4,8 @@ ghost use Rattle.std.specs.Prelude.{◌≡◌, ◌↔◌, ◌+◌, ◌≤◌, Is
 ghost use Rattle.cdb_play.specs.Statuses.{play_status, race_status};
 
 use crate::fault::{PlayFault, RaceFault};
+use cdb_base::limits::MAX_SEATS;
 use cdb_setup::Setup;
-
-/// The most seats that a race has.
-const MOST_SEATS: usize = 64;
 
 /// The status after this fault of a play: 3 to 7.
 pub fn status_of(fault: &PlayFault) -> u8
@@ -40,5 +38,5 @@ pub fn race_status_of(fault: &RaceFault) -> u8
 pub fn fits(setup: &Setup, scripts: usize) -> bool
     ensures { IsTrue result ↔ (setup.now.processes + scripts ≤ 64) }
 {
-    scripts <= MOST_SEATS - usize::from(setup.n())
+    scripts <= usize::from(MAX_SEATS - setup.n())
 }

@@ -280,6 +280,7 @@ impl AnyRun {
         }
     }
 
+    /// The setup of the run.
     pub fn setup(&self) -> &Setup
         ensures { result.now ≡ (standing_of self.now).setup }
     {

@@ -7,6 +7,7 @@ ghost use Rattle.cdb_run.specs.Machines.{machine_of};
 
 use crate::among::process_among;
 use crate::progress::Progress;
+use cdb_base::limits::MAX_STEPS;
 use cdb_base::{Act, CopyName, Event, Kind, MsgName, Proc, Refusal};
 use cdb_message::mail::Mail;
 use cdb_process::{Input, Process, Wish, accepts_query, accepts_receive};
@@ -48,11 +49,11 @@ fn does_accept<P: Process>(local: &P, sends: u16, registers: &Registers, kind: &
     }
 }
 
-/// The next step of process `p`, where it has fewer than 9,999.
+/// The next step of process `p`, where it has fewer than it may have.
 fn next_step<P: Process>(progress: &Progress<P>, p: Proc, kind: Kind) -> Result<Event, Refusal>
     ensures { result ≡ (if nat_le 9999 progress.now.steps then Err Refusal.StepLimit else Ok (Event.Step p (progress.now.steps + 1) kind)) }
 {
-    if progress.steps >= 9_999 {
+    if progress.steps >= u32::from(MAX_STEPS) {
         return Err(Refusal::StepLimit);
     }
     let k = progress.steps as u16 + 1;

@@ -60,7 +60,7 @@ pub record IsSetupOf (json : Data) (parts : Parts) : Type 0 where
   pub answers : HasAt key.Oracle (array_of (map array_of_whole parts.answers)) json
   pub ranges : AreInRange parts
 
--- the most bytes that a setup may have
+-- the most bytes that a setup may have, and a script
 abbrev pub longest : ℕ
 longest = 1048576
 

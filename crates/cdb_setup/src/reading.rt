@@ -11,11 +11,9 @@ use crate::fault::SetupFault;
 use crate::keys::check_keys;
 use crate::parts::{algorithm_of, count_of, inputs_of, quorum_of, version_of};
 use crate::setup::Setup;
+use cdb_base::limits::MAX_BYTES;
 use serde_json::Value;
 use std::alloc::Global;
-
-/// The most bytes that a setup may have.
-const LONGEST: usize = 1_048_576;
 
 /// The setup that the JSON value stands for.
 fn setup_of(alloc: Global, value: &Value) -> Result<Setup, SetupFault>
@@ -52,7 +50,7 @@ pub(crate) fn read(alloc: Global, bytes: &[u8]) -> Result<Setup, SetupFault>
     ensures found { IfOk result (λ setup. StandsFor bytes.now setup) }
     ensures fault { IfErr result (λ fault. fault ≢ SetupFault.NoMemory → IsFirstFault fault bytes.now) }
 {
-    if bytes.len() > LONGEST {
+    if bytes.len() > MAX_BYTES {
         return Err(SetupFault::TooLong);
     }
     match Value::from_slice(alloc, bytes) {

@@ -7,7 +7,8 @@ ghost use Rattle.cdb_shared.specs.Sessions.{calls_of, replies_to, end_at, IsDriv
 use crate::seat::Seat;
 use crate::shared::Shared;
 use cdb_base::Refusal;
-use cdb_control::{CallFault, Command, MOST_ENTRIES, Reply};
+use cdb_base::limits::MAX_ENTRIES;
+use cdb_control::{CallFault, Command, Reply};
 use std::alloc::Global;
 use std::sync::Wait;
 
@@ -71,8 +72,8 @@ pub fn serve<G: Gate + Drop, R: Wait>(
     ensures fewer { vec_len result.1 ≤ length commands.now }
     ensures all { (result.2 ≡ End.All) ↔ (vec_len result.1 ≡ length commands.now) }
     ensures done { result.2 ≢ End.Done }
-    ensures full { result.2 ≡ End.JournalFull → length result.0.seen ≡ MOST_ENTRIES }
-    ensures short { result.2 ≡ End.NoMemory → (vec_len result.1 ≡ 0) ⊎ (length result.0.seen < MOST_ENTRIES) }
+    ensures full { result.2 ≡ End.JournalFull → length result.0.seen ≡ MAX_ENTRIES }
+    ensures short { result.2 ≡ End.NoMemory → (vec_len result.1 ≡ 0) ⊎ (length result.0.seen < MAX_ENTRIES) }
 {
     let mut replies = Vec::new(alloc);
     let mut number = 0u32;
@@ -110,8 +111,8 @@ pub fn drive<G: Gate + Drop, R: Wait>(
     ensures calls { calls_of result.0 ≡ calls_of seat ++ replicate result.1 (Command.Auto process) }
     ensures turns { result.1 ≤ turns }
     ensures replies { (replies : List Answer) × (replies_to result.0 ≡ replies_to seat ++ replies) × IsDriven result.2 result.1 turns replies }
-    ensures full { result.2 ≡ End.JournalFull → length result.0.seen ≡ MOST_ENTRIES }
-    ensures short { result.2 ≡ End.NoMemory → length result.0.seen < MOST_ENTRIES }
+    ensures full { result.2 ≡ End.JournalFull → length result.0.seen ≡ MAX_ENTRIES }
+    ensures short { result.2 ≡ End.NoMemory → length result.0.seen < MAX_ENTRIES }
 {
     for turn in 0..turns {
         if !gate.before(turn + 1, &seat) {

@@ -10,7 +10,8 @@ use crate::knowledge::{AllPlaces, FirstPlace, Stage};
 use crate::seat::Seat;
 use crate::turn::{Turn, TurnPass, give, put, take};
 use cdb_base::NoMemory;
-use cdb_control::{CallFault, Command, Control, MOST_ENTRIES, Reply, RunOfSetup};
+use cdb_base::limits::MAX_ENTRIES;
+use cdb_control::{CallFault, Command, Control, Reply, RunOfSetup};
 use std::alloc::Global;
 use std::marker::Model;
 use std::sync::Wait;
@@ -51,8 +52,8 @@ impl Shared {
         ensures seat { IsLater seat.old seat.new }
         ensures call { IfOk result (λ reply. IsCall seat.old command (told reply) seat.new) }
         ensures fault { OnErr result (SameCalls seat.old seat.new.seen) }
-        ensures full { IfErr result (λ f. (f ≡ CallFault.JournalFull) ↔ (length seat.new.seen ≡ MOST_ENTRIES)) }
-        ensures limit { length seat.new.seen ≤ MOST_ENTRIES }
+        ensures full { IfErr result (λ f. (f ≡ CallFault.JournalFull) ↔ (length seat.new.seen ≡ MAX_ENTRIES)) }
+        ensures limit { length seat.new.seen ≤ MAX_ENTRIES }
     {
         let mut control = take(rt, &self.turn, &mut seat.pass);
         let reply = control.execute(alloc, seat.number, command);

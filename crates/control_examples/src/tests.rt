@@ -1,9 +1,11 @@
 mod alpha;
 mod breakpoints;
 mod leader;
+mod lines;
 mod losses;
 mod memory;
 mod pair;
+mod replies;
 mod rollback;
 mod room;
 mod session;

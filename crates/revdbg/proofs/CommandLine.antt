@@ -5,7 +5,7 @@ use Rattle.std.specs.List.{AllByRecursion}
 use Rattle.std.proofs.lemmas.Bool.{cases_Bool}
 use Rattle.clap.specs.Simple.{entered, label_of, names_of, rows_at, argument_words, built}
 use Rattle.clap.specs.Walk.{answers_to, stop_after}
-use Rattle.clap.specs.Words.{App, Shape, Text, is_simple, subcommand_of}
+use Rattle.clap.specs.Words.{App, Shape, Text, is_simple, is_simple_and_free, subcommand_of}
 use Rattle.revdbg.specs.Asking.{NamesOne}
 use Rattle.clap.proofs.OnLiterals.{clap_on_literals}
 use Rattle.revdbg.specs.CommandLine.{program}
@@ -13,6 +13,10 @@ use Rattle.revdbg.specs.CommandLine.{program}
 pub program_is_simple : is_simple program ≡ true
 unfolding clap_on_literals program
 program_is_simple = refl
+
+pub program_is_free : is_simple_and_free program ≡ true
+unfolding clap_on_literals program
+program_is_free = refl
 
 abbrev IsOne : Shape → Type 0
 IsOne shape = (shape.name ≡ codes "play") ⊎ (shape.name ≡ codes "race")

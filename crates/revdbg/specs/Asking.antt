@@ -1,6 +1,6 @@
 -- What the words ask for.
 use Rattle.std.specs.Prelude.{◌≡◌, ◌⊎◌, ℕ, ◌≤◌, List, [], codes, map, Option, Some, None, decimal, unwrap_or}
-use Rattle.clap.specs.Words.{Row, Text, first_of, all_of, kind_of}
+use Rattle.clap.specs.Words.{Kinds, IsAmong, Row, Text, first_of, all_of, kind_of}
 use Rattle.clap.specs.declared.error.kind.ErrorKind.{ErrorKind}
 use Rattle.clap.specs.declared.error.kind.ErrorKind.TheVariants.{DisplayHelp}
 use Rattle.revdbg.specs.declared.request.AskFault.{AskFault}
@@ -32,6 +32,11 @@ Asks found (Play setup script) = (rows : List Row) × (found ≡ Some (codes "pl
 Asks found (Race setup turns scripts) =
     (rows : List Row) × (found ≡ Some (codes "race", rows)) × (setup.now ≡ text_at (codes "SETUP") rows) × IsTurns (text_at (codes "TURNS") rows) turns
     × (map (λ script. script.now) scripts.items ≡ texts_at (codes "SCRIPT") rows)
+
+-- want of memory, or an error of one of the kinds
+abbrev pub IsOfKinds : Kinds → AskFault → Type 0
+IsOfKinds kinds (Words error) = IsAmong (kind_of error) kinds
+IsOfKinds kinds NoMemory = Unit {0}
 
 -- help is no mistake; other words are
 abbrev pub words_status : ErrorKind → ℕ

@@ -7,7 +7,7 @@ mod request;
 mod words;
 
 use cdb_play::{
-    Bytes, Input, LONGEST, Output, PlayFault, RaceFault, fits, play, race, race_status_of,
+    Bytes, Input, MAX_BYTES, Output, PlayFault, RaceFault, fits, play, race, race_status_of,
     read_up_to, status_of, write_fault, write_race_fault,
 };
 use cdb_setup::Setup;
@@ -57,7 +57,7 @@ fn read_file(rt: &HostRuntime, name: &str) -> Result<Vec<u8>, PlayFault> {
         Err(error) if error.kind() == ErrorKind::OutOfMemory => return Err(PlayFault::NoMemory),
         Err(_) => return Err(PlayFault::Read),
     };
-    let bytes = read_up_to(rt.alloc(), &mut Input::new(file), LONGEST + 1)?;
+    let bytes = read_up_to(rt.alloc(), &mut Input::new(file), MAX_BYTES + 1)?;
     Ok(bytes)
 }
 

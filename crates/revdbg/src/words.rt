@@ -1,10 +1,10 @@
 //! Reading the words of the command line.
 
-ghost use Rattle.std.specs.Prelude.{◌≡◌, IfOk, IfErr, false, true, map, codes};
-ghost use Rattle.clap.specs.Words.{app_of, rule_of, found_of, kind_of, rows_of, subcommand_of, subcommand_rows_of, takes};
+ghost use Rattle.std.specs.Prelude.{◌≡◌, IfOk, OnOk, IfErr, [], false, true, map, codes};
+ghost use Rattle.clap.specs.Words.{Kinds, HasKind, app_of, rule_of, fault_of, found_of, kind_of, rows_of, subcommand_of, subcommand_rows_of, takes};
 ghost use Rattle.clap.specs.declared.builder.command.Command.TheViews.{out-Command};
 ghost use Rattle.revdbg.specs.CommandLine.{required_rule, turns_rule, scripts_rule, play_app, race_app, program};
-ghost use Rattle.revdbg.specs.Asking.{NamesOne, IsTurns, text_at, texts_at, Asks, ask_status_of, words_status};
+ghost use Rattle.revdbg.specs.Asking.{NamesOne, IsTurns, text_at, texts_at, Asks, IsOfKinds, ask_status_of, words_status};
 
 use crate::request::{AskFault, Asked};
 use clap::error::ErrorKind;
@@ -141,6 +141,8 @@ fn program<'a>(alloc: Global) -> Result<Command<'a>, AllocError>
 fn matches_of<'a>(alloc: Global, words: &'a [&'a str]) -> Result<ArgMatches<'a>, AskFault>
     ensures ok { IfOk result (λ m. subcommand_rows_of m ≡ subcommand_of program (map (λ word. word.now) words.entry.now)) }
     ensures taken { takes program (map (λ word. word.now) words.entry.now) ≡ true → IfErr result (λ fault. fault ≡ AskFault.NoMemory) }
+    ensures right { OnOk result (fault_of program (map (λ word. word.now) words.entry.now) ≡ []) }
+    ensures refused { IfErr result (λ fault. IsOfKinds (fault_of program (map (λ word. word.now) words.entry.now)) fault) }
 {
     let program = match program(alloc) {
         Ok(program) => program,
@@ -148,13 +150,14 @@ fn matches_of<'a>(alloc: Global, words: &'a [&'a str]) -> Result<ArgMatches<'a>,
     };
     match program.try_get_matches_from(words) {
         Ok(matches) => Ok(matches),
-        Err(error) => Err(fault_of(error)),
+        Err(error) => Err(ask_fault(error)),
     }
 }
 
-/// Want of memory apart from the other errors.
-fn fault_of(error: Error) -> AskFault
-    ensures { kind_of error ≡ ErrorKind.OutOfMemory → result ≡ AskFault.NoMemory }
+/// What an error of `clap` is here: want of memory apart from the other errors.
+fn ask_fault(error: Error) -> AskFault
+    ensures memory { kind_of error ≡ ErrorKind.OutOfMemory → result ≡ AskFault.NoMemory }
+    ensures words { (kinds : Kinds) → HasKind kinds error → IsOfKinds kinds result }
 {
     if error.kind() == ErrorKind::OutOfMemory {
         AskFault::NoMemory
@@ -238,10 +241,12 @@ fn status_of_words(error: &Error) -> u8
 }
 
 /// What the words of the command line ask for; the first is the program's name. Words that the command
-/// line does not take have `clap`'s error, which is help where help was asked for.
+/// line does not take, and those alone, have `clap`'s error, which is help where help was asked for.
 pub fn asked<'a>(alloc: Global, words: &'a [&'a str]) -> Result<Asked<'a>, AskFault>
     ensures ok { IfOk result (λ asked. Asks (subcommand_of program (map (λ word. word.now) words.entry.now)) asked) }
     ensures taken { takes program (map (λ word. word.now) words.entry.now) ≡ true → IfErr result (λ fault. fault ≡ AskFault.NoMemory) }
+    ensures right { OnOk result (fault_of program (map (λ word. word.now) words.entry.now) ≡ []) }
+    ensures refused { IfErr result (λ fault. IsOfKinds (fault_of program (map (λ word. word.now) words.entry.now)) fault) }
 {
     let matches = matches_of(alloc, words)?;
     match asked_by(alloc, &matches) {

@@ -2,7 +2,7 @@
 
 use super::setups::{ALPHA, ONE_PROCESS};
 use super::{check_fault, writer};
-use cdb_play::{Bytes, LONGEST, PlayFault, play};
+use cdb_play::{Bytes, MAX_BYTES, PlayFault, play};
 use std::alloc::{AllocError, Global};
 use std::test::Fail;
 
@@ -19,7 +19,7 @@ fn repeated(alloc: Global, text: &str, count: usize) -> Result<String, AllocErro
 fn the_greatest_script(rt: HostRuntime) -> Result<(), Fail> {
     let mut script = repeated(rt.alloc(), "forget\n", 149_796)?;
     script.push_str("redo")?;
-    assert_eq!(rt; script.len(), LONGEST);
+    assert_eq!(rt; script.len(), MAX_BYTES);
     let mut transcript = repeated(rt.alloc(), "forgot 0\n", 149_796)?;
     transcript.push_str("refused 14 NothingToRedo\n")?;
     let mut out = writer(&rt, 1_000);

@@ -13,6 +13,7 @@ use std::test::Fail;
 // Gives so many commands that change nothing.
 fn fill(alloc: Global, control: &mut Control<RunOfSetup>, count: u32) -> Result<(), CallFault> {
     for _ in 0..count {
+        // For its clause: there is a first seat.
         control.seats();
         let _forgot = control.execute(alloc, 1, Command::Forget)?;
     }
