@@ -19,7 +19,7 @@ use Rattle.cdb_alpha.specs.Place.{place_number}
 use Rattle.cdb_alpha.specs.LocalState.{LocalState}
 use Rattle.cdb_alpha.specs.Seen.{chosen_value, is_overtaken}
 use Rattle.cdb_alpha.specs.Choice.{IsLatest}
-use Rattle.cdb_alpha.specs.Table.{row_at, wish_by, wish_of, next_state, next_round, next_register, see_decision, entered, with_value, begin_pass, decided}
+use Rattle.cdb_alpha.specs.Table.{row_at, wish_by, wish_of, next_state, next_round, next_register, see_decision, entered, with_value, begin_pass, decision_cell}
 use Rattle.cdb_alpha.proofs.Leads.{Leads, leads}
 use Rattle.cdb_alpha.proofs.Choice.{chooses_the_latest_write}
 use Rattle.cdb_process.proofs.Members.{IsIn}
@@ -258,11 +258,11 @@ module _ (own : ℕ → Cell) (dec : Option ℕ) (s : LocalState) (written : Lis
         same_me = refl;
         same_processes = refl;
         step = record { row = publish (ap place_number here); is = refl; same = refl };
-        leaves = (refl, decided s, wishes, refl);
+        leaves = (refl, decision_cell s, wishes, refl);
       }))
     where
-      wishes : wished_cell (wish_of s) ≡ Some (decided s)
-      wishes = ap (λ p. wished_cell (wish_by (row_at p s))) here ∙ ap (λ (o : Option LocalState). wished_cell (option_map (λ (u : LocalState). wished.Write Dec (decided s)) o)) h.1
+      wishes : wished_cell (wish_of s) ≡ Some (decision_cell s)
+      wishes = ap (λ p. wished_cell (wish_by (row_at p s))) here ∙ ap (λ (o : Option LocalState). wished_cell (option_map (λ (u : LocalState). wished.Write Dec (decision_cell s)) o)) h.1
   row_taken A9 i t here passed holds h = absurd h
 
 pub each_input_is_a_step : EachInputIsAStep

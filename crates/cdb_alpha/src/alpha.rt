@@ -1,4 +1,4 @@
-ghost use Rattle.std.specs.Prelude.{◌≡◌, ℕ, ◌+◌, ◌<◌, ◌≤◌, ◌↔◌, Option, Some, None, IsTrue, IsSome, IfOk, OnErr, is_some, length, false};
+ghost use Rattle.std.specs.Prelude.{◌≡◌, ◌+◌, ◌<◌, ◌≤◌, ◌↔◌, Option, Some, None, IsTrue, IsSome, IfOk, OnErr, is_some, length, false};
 ghost use Rattle.cdb_process.specs.declared.Input.{Input};
 
 use crate::back::{Back, SeenBefore};
@@ -50,7 +50,7 @@ impl Model for Alpha {
 impl Alpha {
     ghost use Rattle.cdb_alpha.specs.LocalState.{LocalState};
     ghost use Rattle.cdb_alpha.specs.Place.{is_last};
-    ghost use Rattle.cdb_alpha.specs.Table.{see_decision, entered, with_value, decided, begin_pass, next_register, see, next_round, judge, next_state};
+    ghost use Rattle.cdb_alpha.specs.Table.{see_decision, entered, with_value, decision_cell, begin_pass, next_register, see, next_round, judge, next_state};
     ghost use Rattle.cdb_alpha.specs.Seen.{is_overtaken};
     ghost use Rattle.cdb_alpha.specs.Back.{state_before, seen_before};
 
@@ -76,9 +76,9 @@ impl Alpha {
         }
     }
 
-    /// The cell with the decision of the process.
-    fn decided(&self) -> Cell
-        ensures { result ≡ decided self.now }
+    /// The cell that the process writes to the register of the decision: its value.
+    fn decision_cell(&self) -> Cell
+        ensures { result ≡ decision_cell self.now }
     {
         Cell {
             lre: 0,
@@ -357,7 +357,7 @@ impl Process for Alpha {
             Place::A4 | Place::A7 if !self.is_overtaken() => Some(Wish::Local),
             Place::A4 | Place::A7 if self.has_next_round() => Some(Wish::Local),
             Place::A5 => Some(Wish::Write(Reg::R(self.me), self.with_value())),
-            Place::A8 if self.has_next_round() => Some(Wish::Write(Reg::Dec, self.decided())),
+            Place::A8 if self.has_next_round() => Some(Wish::Write(Reg::Dec, self.decision_cell())),
             _ => None,
         }
     }

@@ -1,5 +1,5 @@
 -- Lists whose places count from 1, as processes and messages do: at place 0 there is nothing.
-use Rattle.std.specs.Prelude.{ℕ, zero, suc, List, [], ◌∷◌, Option, None, slice_get, slice_set}
+use Rattle.std.specs.Prelude.{ℕ, zero, suc, ◌-◌, List, [], ◌∷◌, length, take, Option, None, slice_get, slice_set}
 
 abbrev pub nth : {A : Type 0} → List A → ℕ → Option A
 nth xs zero = None
@@ -18,3 +18,7 @@ update change (x ∷ xs) (suc i) = x ∷ update change xs i
 abbrev pub update_nth : {A : Type 0} → (A → A) → List A → ℕ → List A
 update_nth change xs zero = xs
 update_nth change xs (suc i) = update change xs i
+
+-- the list without its last element
+abbrev pub without_last : {A : Type 0} → List A → List A
+without_last xs = take (length xs - 1) xs

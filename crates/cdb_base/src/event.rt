@@ -21,7 +21,7 @@ pub enum Kind {
 /// What stands in a history: a step of a process, or the loss of a copy by the network.
 #[derive(Clone, Copy, Debug, PartialEq, Eq)]
 pub enum Event {
-    /// The `k`-th standing step of process `p`, from 1 to 9,999, and what it does.
+    /// The `k`-th standing step of process `p`, and what it does; in a run `k` is from 1 to 9,999.
     Step { p: Proc, k: u16, kind: Kind },
     Lost(CopyName),
 }

@@ -1,6 +1,7 @@
 ghost use Rattle.std.specs.Prelude.{◌≡◌, ℕ, ◌+◌, ◌≤◌, ◌↔◌, IsSome, IfSome};
 ghost use Rattle.cdb_base.specs.Processes.{all_processes};
 
+use crate::limits::MAX_PROCESSES;
 use std::marker::Model;
 
 /// A process, by its number from 1 to 9. A contract sees the number.
@@ -32,7 +33,7 @@ impl Proc {
         ensures valid { IsSome result ↔ ((1 ≤ number) × (number ≤ 9)) }
         ensures value { IfSome result (λ p. p ≡ number) }
     {
-        if 1 <= number && number <= 9 {
+        if 1 <= number && number <= u32::from(MAX_PROCESSES) {
             Some(Proc(number as u8))
         } else {
             None

@@ -15,10 +15,6 @@ use Rattle.cdb_causal.specs.LastCauses.{IsSlot, IsNoCause, IsLastCause, NamesDir
 use Rattle.cdb_causal.specs.Standing.{IsStanding}
 use Rattle.cdb_causal.proofs.Walks.{link_at}
 
-slot_is : (event : Event) (slot other : ℕ) → IsSlot event slot → IsSlot event other → slot ≡ other
-slot_is (Step p k kind) slot other a b = let e = a.0 in let f = b.0 in omega arith
-slot_is (Lost copy) slot other a b = a ∙ sym b
-
 pub slot_within : (event : Event) (slot : ℕ) → IsSlot event slot → slot < 10
 slot_within (Step p k kind) slot a = let e = a.1 in omega arith
 slot_within (Lost copy) slot a = omega arith

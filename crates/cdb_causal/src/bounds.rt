@@ -11,6 +11,7 @@ ghost use Rattle.cdb_base.specs.declared.event.Event.TheVariants.{Step, Lost};
 ghost use Rattle.cdb_base.specs.declared.name.CopyName.{CopyName as ACopy};
 ghost use Rattle.cdb_causal.specs.Cells.{row, cell as cell_of};
 
+use crate::places::raise;
 use cdb_base::{CopyName, Event, Kind, Proc, Reg};
 
 const CELLS: usize = 90;
@@ -25,6 +26,7 @@ pub struct Bounds {
     lost: usize,
 }
 
+// The row of a register in a table.
 fn register_row(register: Reg) -> usize
     ensures value { result ≡ row register }
     ensures within { result ≤ 9 }
@@ -35,21 +37,13 @@ fn register_row(register: Reg) -> usize
     }
 }
 
+// The cell of a register and a slot in a table.
 fn cell(register: Reg, slot: usize) -> usize
     requires { slot < 9 }
     ensures value { result ≡ cell_of register slot }
     ensures within { result < 90 }
 {
     register_row(register) * 9 + slot
-}
-
-// Raises one bound of a table.
-fn raise(table: &mut [usize; CELLS], cell: usize, bound: usize)
-    requires { cell < 90 }
-    ensures others { IsRaised table.old table.new }
-    ensures raised { bound ≤ slice_index table.new cell }
-{
-    table[cell] = table[cell].max(bound);
 }
 
 // Raises the number heard of one sender.

@@ -58,6 +58,7 @@ fn rolled_back_events(alloc: Global, events: &[Event], i: usize) -> Result<Vec<E
     Ok(causes)
 }
 
+// The names of the events, in order.
 fn names(alloc: Global, events: &[Event]) -> Result<Vec<StepId>, NoMemory>
     ensures { IfOk result (λ names. names.items ≡ map event_name events.now) }
 {

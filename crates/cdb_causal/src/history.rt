@@ -50,6 +50,7 @@ pub(crate) fn append(events: &mut Vec<Event>, event: Event) -> Result<(), NoMemo
     Ok(())
 }
 
+// Whether the event has the name.
 fn is_named(event: &Event, name: &StepId) -> bool
     ensures { IsTrue result ↔ (event_name event.now ≡ name.now) }
 {

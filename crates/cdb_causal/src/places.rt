@@ -30,8 +30,8 @@ fn grow(table: &mut Vec<usize>, cell: usize) -> Result<(), NoMemory>
     Ok(())
 }
 
-// Raises one bound.
-fn raise(table: &mut [usize], cell: usize, bound: usize)
+/// Raises one bound.
+pub(crate) fn raise(table: &mut [usize], cell: usize, bound: usize)
     requires { cell < length table.old }
     ensures others { IsRaised table.old table.new }
     ensures raised { bound ≤ slice_index table.new cell }

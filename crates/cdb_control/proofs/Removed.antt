@@ -1,6 +1,7 @@
 -- What undo and rollback take out of a history is missing from it.
-use Rattle.std.proofs.Common.{◌≡◌, ℕ, zero, suc, ◌+◌, ◌≤◌, Bool, true, false, cond, List, [], ◌∷◌, ◌++◌, length, Option, Some, None, Result, Ok, Err, slice_get, find, refl, subst, arith, length-append}
+use Rattle.std.proofs.Common.{◌≡◌, ℕ, zero, suc, ◌+◌, ◌≤◌, Bool, true, false, cond, List, [], ◌∷◌, ◌++◌, length, Option, Some, None, Result, Ok, Err, reverse, slice_get, find, refl, sym, subst, arith}
 use Rattle.std.specs.List.{AllByRecursion, position}
+use Rattle.std.proofs.lemmas.List.{length-reverse, reverse-append}
 use Rattle.std.proofs.lemmas.Option.{none-some, same_Some}
 use Rattle.cdb_base.specs.declared.event.Event.{Event}
 use Rattle.cdb_base.specs.declared.name.StepId.{StepId}
@@ -8,7 +9,7 @@ use Rattle.cdb_base.specs.declared.refusal.Refusal.{Refusal}
 use Rattle.cdb_causal.specs.Dependence.{depends}
 use Rattle.cdb_causal.specs.Rollback.{without, depends_on_one, caught, spared, rolled_back, remaining}
 use Rattle.cdb_control.proofs.Alls.{all-append}
-use Rattle.cdb_run.specs.Undo.{Found, has_name, names_processes, found_at, event_named, undo_of, rollback_of, reversed, answered, number_removed}
+use Rattle.cdb_run.specs.Undo.{Found, has_name, names_processes, found_at, event_named, undo_of, rollback_of, answered, number_removed}
 
 option_cases : {A : Type 0} (G : Type 0) (o : Option A) → (o ≡ None → G) → ((a : A) → o ≡ Some a → G) → G
 option_cases G None none some = none refl
@@ -73,13 +74,9 @@ module _ (P : Event → Type 0) where
   rolled-parted (x ∷ xs) zero = let rest = caught-parted (x ∷ []) xs in record { count = omega (arith, rest.count); gone = λ all. (all.0, rest.gone all.1); left = λ all. rest.left all.1 }
   rolled-parted (x ∷ xs) (suc i) = let rest = rolled-parted xs i in record { count = omega (arith, rest.count); gone = λ all. rest.gone all.1; left = λ all. (all.0, rest.left all.1) }
 
-  length-reversed : (events : List Event) → length (reversed events) ≡ length events
-  length-reversed [] = refl
-  length-reversed (x ∷ xs) = omega (arith, length-append (reversed xs) (x ∷ []), length-reversed xs)
-
-  all-reversed : (events : List Event) → AllByRecursion P events → AllByRecursion P (reversed events)
-  all-reversed [] all = tt
-  all-reversed (x ∷ xs) all = all-append P (reversed xs) (x ∷ []) (all-reversed xs all.1) (all.0, tt)
+  all-reverse : (events : List Event) → AllByRecursion P events → AllByRecursion P (reverse events)
+  all-reverse [] all = tt
+  all-reverse (x ∷ xs) all = subst (AllByRecursion P) (sym (reverse-append (x ∷ []) xs)) (all-append P (reverse xs) (x ∷ []) (all-reverse xs all.1) (all.0, tt))
 
   pub undone-parted : (n : ℕ) (history : List Event) (name : StepId) (undone : Event × List Event) → undo_of n history name ≡ Ok undone → Parted history (undone.0 ∷ []) undone.1
   undone-parted n history name undone h =
@@ -100,12 +97,12 @@ module _ (P : Event → Type 0) where
       f h)
       (λ why is. let f : rollback_of n history name ≡ Ok removed → Parted history removed.0 removed.1 = rw is (λ k. absurd (cc)) in f h)
     where
-      turned : (history : List Event) (i : ℕ) → Parted history (reversed (rolled_back depends history i)) (remaining depends history i)
+      turned : (history : List Event) (i : ℕ) → Parted history (reverse (rolled_back depends history i)) (remaining depends history i)
       turned history i =
           let parted = rolled-parted history i in
           record {
-            count = omega (arith, parted.count, length-reversed (rolled_back depends history i));
-            gone = λ all. all-reversed (rolled_back depends history i) (parted.gone all);
+            count = omega (arith, parted.count, length-reverse (rolled_back depends history i));
+            gone = λ all. all-reverse (rolled_back depends history i) (parted.gone all);
             left = parted.left;
           }
 

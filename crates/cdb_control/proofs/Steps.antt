@@ -1,6 +1,7 @@
 -- Commands that share a word of the table.
-use Rattle.std.proofs.Common.{◌≡◌, ℕ, zero, suc, ◌-◌, List, [], ◌∷◌, ◌++◌, length, set, get_or, Option, Some, Result, Ok, Err, refl, sym, ap, ◌∙◌}
+use Rattle.std.proofs.Common.{◌≡◌, ℕ, ◌-◌, List, [], ◌∷◌, ◌++◌, length, set, Option, Some, Result, Ok, Err, sym, ap, ◌∙◌}
 use Rattle.std.proofs.lemmas.List.{set-get_or}
+use Rattle.cdb_base.specs.Places.{without_last}
 use Rattle.cdb_base.specs.declared.act.Act.{Act}
 use Rattle.cdb_base.specs.declared.event.Event.{Event}
 use Rattle.cdb_base.specs.declared.refusal.Refusal.{Refusal}
@@ -8,7 +9,7 @@ use Rattle.cdb_base.specs.declared.refusal.Refusal.TheVariants.{NothingToRedo}
 use Rattle.cdb_control.specs.Answer as reply
 use Rattle.cdb_control.specs.Commands.{Outcome, granted, found, taken_back, redone, decides, step, undo, rollback, why, outcome}
 use Rattle.cdb_control.specs.Named.{name_of}
-use Rattle.cdb_control.specs.State.{State, redo_of, last_of, without_last}
+use Rattle.cdb_control.specs.State.{State, redo_of, last_of}
 use Rattle.cdb_control.specs.declared.command.Command.TheVariants as command
 use Rattle.cdb_control.specs.declared.named.Named.TheVariants.{Step, Lost}
 use Rattle.cdb_run.specs.Refusals.{with_taken}

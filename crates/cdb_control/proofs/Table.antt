@@ -4,6 +4,7 @@ use Rattle.std.proofs.Common.{◌≡◌, ℕ, ◌+◌, ◌-◌, ◌<◌, ◌≤�
 use Rattle.std.specs.List.{AllByRecursion}
 use Rattle.std.specs.Map.{lookup}
 use Rattle.std.proofs.lemmas.List.{length-set, length-take}
+use Rattle.cdb_base.specs.Places.{without_last}
 use Rattle.cdb_base.specs.declared.act.Act.{Act}
 use Rattle.cdb_base.specs.declared.event.Event.{Event}
 use Rattle.cdb_base.specs.declared.name.StepId.{StepId}
@@ -13,7 +14,7 @@ use Rattle.cdb_control.specs.Auto.{choice}
 use Rattle.cdb_control.specs.Commands.{Outcome, unless, granted, found, unpaused, stepped, step, lost, taken_back, undo, rollback, why, redone, shown, outcome, obey}
 use Rattle.cdb_run.specs.Lawful.{AreLawful}
 use Rattle.cdb_control.specs.Named.{name_of}
-use Rattle.cdb_control.specs.State.{State, held, redo_of, last_of, without_last, AreOfRun}
+use Rattle.cdb_control.specs.State.{State, held, redo_of, last_of, AreOfRun}
 use Rattle.cdb_control.specs.Stops.{names_none_of}
 use Rattle.cdb_control.specs.declared.command.Command.{Command}
 use Rattle.cdb_control.specs.declared.command.Command.TheVariants.{Step, Auto, Lose, Undo, UndoLost, Redo, Forget, Rollback, RollbackLost, Why, WhyLost, Break, Unbreak, Resume, Show, Decisions}

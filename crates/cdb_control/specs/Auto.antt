@@ -1,5 +1,6 @@
 -- What `auto` does, by the rules of a run.
 use Rattle.std.specs.Prelude.{ℕ, List, [], ◌∷◌, Option, Some, None, Result, Ok, Err, is_none, if◌then◌else◌}
+use Rattle.std.specs.Result.{result_err}
 use Rattle.cdb_base.specs.declared.act.Act.{Act}
 use Rattle.cdb_base.specs.declared.act.Act.TheVariants as act
 use Rattle.cdb_base.specs.declared.event.Event.{Event}
@@ -7,7 +8,6 @@ use Rattle.cdb_base.specs.declared.name.MsgName.{MsgName}
 use Rattle.cdb_base.specs.declared.refusal.Refusal.{Refusal}
 use Rattle.cdb_base.specs.declared.refusal.Refusal.TheVariants as refusal
 use Rattle.cdb_message.specs.Mail.{next_pending}
-use Rattle.cdb_run.specs.Refusals.{refusal_of}
 use Rattle.cdb_run.specs.Rules.{Rules}
 
 -- what is tried in turn: a learn, a receive of the least pending copy, what the machine wishes, a query
@@ -30,10 +30,5 @@ chosen None possible = possible
 
 abbrev pub choice : Rules → List Event → ℕ → Result Act Refusal
 choice rules history p =
-    chosen (refusal_of (rules.step history p act.Crash))
-    (first_possible (λ a. refusal_of (rules.step history p a)) (acts_of_auto (next_pending (rules.mail history) p None)))
-
--- the act that was chosen, if one was
-abbrev pub chosen_act : Result Act Refusal → Option Act
-chosen_act (Ok a) = Some a
-chosen_act (Err why) = None
+    chosen (result_err (rules.step history p act.Crash))
+    (first_possible (λ a. result_err (rules.step history p a)) (acts_of_auto (next_pending (rules.mail history) p None)))

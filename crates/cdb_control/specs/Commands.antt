@@ -1,6 +1,8 @@
 -- What each command does and what it is answered.
 use Rattle.std.specs.Prelude.{ℕ, ◌+◌, nat_le, nat_eq, Bool, true, false, not, List, [], ◌∷◌, ◌++◌, length, Option, Some, None, Result, Ok, Err, is_some}
 use Rattle.std.specs.Map.{lookup, remove_entry}
+use Rattle.std.specs.Option.{option_or}
+use Rattle.cdb_base.specs.Places.{without_last}
 use Rattle.cdb_base.specs.declared.act.Act.{Act}
 use Rattle.cdb_base.specs.declared.event.Event.{Event}
 use Rattle.cdb_base.specs.declared.event.Event.TheVariants as event
@@ -11,7 +13,7 @@ use Rattle.cdb_control.specs.Answer.{Answer}
 use Rattle.cdb_control.specs.Answer as reply
 use Rattle.cdb_control.specs.Auto.{choice}
 use Rattle.cdb_control.specs.Named.{name_of}
-use Rattle.cdb_control.specs.State.{State, redo_of, with_redo, last_of, without_last}
+use Rattle.cdb_control.specs.State.{State, redo_of, with_redo, last_of}
 use Rattle.cdb_control.specs.Stops.{Stops, first_fired, names_none_of}
 use Rattle.cdb_control.specs.Views.{seen_as, round_of, decision_of, cells_of, all_open_copies}
 use Rattle.cdb_control.specs.declared.command.Command.{Command}
@@ -74,15 +76,11 @@ abbrev pub newly_fired : Option ℕ → Taken → Stops → Option ℕ
 newly_fired (Some b) taken stops = None
 newly_fired None taken stops = first_fired taken stops
 
-abbrev pub or_else : Option ℕ → Option ℕ → Option ℕ
-or_else (Some b) other = Some b
-or_else None other = other
-
 abbrev pub stepped : Rules → State → ℕ → Event → Outcome
 stepped rules t p e =
     let taken = taken_by rules t.history p e in
     let paused = newly_fired t.pause taken t.stops in
-    record { reply = reply.Stepped e taken.decides paused; after = record t { history = t.history ++ e ∷ []; pause = or_else t.pause paused } }
+    record { reply = reply.Stepped e taken.decides paused; after = record t { history = t.history ++ e ∷ []; pause = option_or t.pause paused } }
 
 abbrev pub step : Rules → State → ℕ → Act → Outcome
 step rules t p act = granted (rules.step t.history p act) t (stepped rules t p)

@@ -1,5 +1,5 @@
 -- The control state.
-use Rattle.std.specs.Prelude.{ℕ, ◌+◌, ◌-◌, List, [], ◌∷◌, length, take, replicate, Option, None, slice_get, slice_index_or, slice_set}
+use Rattle.std.specs.Prelude.{ℕ, ◌+◌, ◌-◌, List, [], ◌∷◌, length, replicate, Option, None, slice_get, slice_index_or, slice_set}
 use Rattle.std.specs.List.{AllByRecursion}
 use Rattle.cdb_base.specs.declared.event.Event.{Event}
 use Rattle.cdb_control.specs.Stops.{Stops}
@@ -30,9 +30,6 @@ with_redo t seat events = record t { redo = slice_set t.redo (seat - 1) events }
 -- the event that a redo takes again
 abbrev pub last_of : List Event → Option Event
 last_of events = slice_get events (length events - 1)
-
-abbrev pub without_last : List Event → List Event
-without_last events = take (length events - 1) events
 
 -- how many events wait in these lists
 abbrev pub waiting : List (List Event) → ℕ

@@ -1,7 +1,8 @@
 //! The control: the control state, and the journal that led to it.
 ghost use Rattle.std.specs.Prelude.{◌≡◌, ◌≢◌, ◌+◌, ◌-◌, ◌<◌, ◌≤◌, ◌↔◌, ◌⊎◌, true, max, IfOk, OnOk, OnErr, length, replicate, vec_len, vec_capacity, ◌++◌, ◌∷◌, []};
+ghost use Rattle.std.specs.Result.{result_ok};
 ghost use Rattle.cdb_control.specs.Answer.{told};
-ghost use Rattle.cdb_control.specs.Auto.{choice, chosen_act};
+ghost use Rattle.cdb_control.specs.Auto.{choice};
 ghost use Rattle.cdb_control.specs.Commands.{answer};
 ghost use Rattle.cdb_control.specs.Journal.{entry, opened, extended, state_of, AreOfSeats};
 ghost use Rattle.cdb_control.specs.Room.{is_spared, cost, room_of, with_room, raised};
@@ -144,7 +145,7 @@ impl<R: Runs> Control<R> {
 
     /// What `auto` would do for a process, whether or not a pause stands; nothing where it would be refused.
     pub fn pick(&self, p: u32) -> Option<Act>
-        ensures { result ≡ chosen_act (choice (R.rules self.now.setup) (state_of (R.rules self.now.setup) self.now).history p) }
+        ensures { result ≡ result_ok (choice (R.rules self.now.setup) (state_of (R.rules self.now.setup) self.now).history p) }
     {
         self.state.choose(p).ok()
     }

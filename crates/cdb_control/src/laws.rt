@@ -5,12 +5,10 @@ ghost use Rattle.cdb_control.specs.declared.command.Command.{Command};
 ghost use Rattle.cdb_control.specs.declared.control.Entry.{Entry};
 ghost use Rattle.cdb_control.specs.Answer.{Refused};
 ghost use Rattle.cdb_control.specs.Commands.{answer, obey};
-ghost use Rattle.cdb_run.specs.Lawful.{AreLawful};
 ghost use Rattle.cdb_control.specs.Journal.{entry, replay, own, replies_of, Begins};
 ghost use Rattle.cdb_control.specs.State.{State, redo_of};
 ghost use Rattle.cdb_run.specs.Rules.{Rules};
-ghost use Rattle.cdb_run.specs.Algorithms.{rules as rules_of_setup};
-ghost use Rattle.cdb_setup.specs.Parts.{Parts, AreInRange};
+ghost use Rattle.cdb_setup.specs.Parts.{Parts};
 
 /// A refused command changes nothing.
 #[tactic(auto, using(crate::proofs::Refused::refused_changes_nothing))]
@@ -40,10 +38,4 @@ pub fn own_command_adds_its_reply()
 #[tactic(auto)]
 pub fn others_add_no_reply()
     ensures { (rules : Rules) (setup : Parts) (seats seat : ℕ) (seen journal : List Entry) → Begins seen journal → own seat journal ≡ own seat seen → replies_of rules setup seats seat journal ≡ replies_of rules setup seats seat seen }
-{}
-
-/// The rules of every run keep what the control layer needs of them.
-#[tactic(auto, using(cdb_run::proofs::Lawful::rules_are_lawful))]
-pub fn rules_are_lawful()
-    ensures { (setup : Parts) → AreInRange setup → AreLawful (rules_of_setup setup) setup }
 {}

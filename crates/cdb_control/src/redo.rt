@@ -1,6 +1,7 @@
 //! The redo list of a seat.
 ghost use Rattle.std.specs.Prelude.{◌≡◌, ◌<◌, ◌≤◌, ◌+◌, [], IfOk, OnOk, OnErr, IsOk, length};
-ghost use Rattle.cdb_control.specs.State.{last_of, without_last};
+ghost use Rattle.cdb_base.specs.Places.{without_last};
+ghost use Rattle.cdb_control.specs.State.{last_of};
 ghost use Rattle.cdb_control.specs.Named.{name_of};
 ghost use Rattle.cdb_run.specs.Refusals.{with_taken};
 ghost use Rattle.cdb_run.specs.Undo.{undo_of, rollback_of, answered, left_by, number_removed, with_removed};

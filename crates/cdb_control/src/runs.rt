@@ -1,12 +1,13 @@
 //! What the control layer asks of a run.
 
 ghost use Rattle.std.specs.Prelude.{◌≡◌, ◌≤◌, List, [], None, MatchResult, IfOk, OnErr, IsOk, Err, true, length, option_map, vec_capacity};
+ghost use Rattle.std.specs.Result.{result_err};
 ghost use Rattle.cdb_base.specs.declared.event.Event.{Event};
 ghost use Rattle.cdb_run.specs.Lawful.{AreLawful};
 ghost use Rattle.cdb_control.specs.Named.{name_of};
 ghost use Rattle.cdb_control.specs.Views.{seen_as, cells_of, all_open_copies};
 ghost use Rattle.cdb_message.specs.Mail.{message_name, next_pending};
-ghost use Rattle.cdb_run.specs.Refusals.{IsOfRun, refusal_of, with_taken};
+ghost use Rattle.cdb_run.specs.Refusals.{IsOfRun, with_taken};
 ghost use Rattle.cdb_run.specs.Rules.{Rules};
 ghost use Rattle.cdb_run.specs.Step.{is_among};
 ghost use Rattle.cdb_run.specs.Undo.{undo_of, rollback_of, causes_of, answered, left_by, number_removed, with_removed};
@@ -91,7 +92,7 @@ pub trait Runs: Sized + Drop {
 
     /// What `step` would be refused with, if it would be.
     fn refuses(&self, p: u32, act: Act) -> Option<Refusal>
-        ensures { result ≡ refusal_of ((rules (setup self.now)).step (history self.now) p act) };
+        ensures { result ≡ result_err ((rules (setup self.now)).step (history self.now) p act) };
 
     /// How many processes there are.
     fn processes(&self) -> u8

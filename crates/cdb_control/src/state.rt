@@ -1,8 +1,9 @@
 //! The control state: a run, the breakpoints, the pause and the redo lists.
 ghost use Rattle.std.specs.Prelude.{◌≡◌, ℕ, ◌+◌, ◌-◌, ◌<◌, ◌≤◌, [], true, IfOk, OnOk, OnErr, IsOk, replicate, length, map, slice_index_or};
+ghost use Rattle.std.specs.Option.{option_or};
 ghost use Rattle.cdb_control.specs.Answer.{told};
 ghost use Rattle.cdb_control.specs.Auto.{choice};
-ghost use Rattle.cdb_control.specs.Commands.{outcome, step, undo, rollback, why, shown, decides, newly_fired, or_else};
+ghost use Rattle.cdb_control.specs.Commands.{outcome, step, undo, rollback, why, shown, decides, newly_fired};
 ghost use Rattle.cdb_control.specs.Named.{name_of};
 ghost use Rattle.cdb_control.specs.Room.{is_spared};
 ghost use Rattle.cdb_control.specs.State.{first_state, held, redo_of, AreOfRun};
@@ -234,7 +235,7 @@ impl<R: Runs> ControlState<R> {
     // Sets the pause, where none stands and a breakpoint fires.
     fn fire(&mut self, taken: &Taken) -> Option<u32>
         ensures fired { result ≡ newly_fired self.old.state.pause taken.now self.old.state.stops }
-        ensures after { self.new.state ≡ record self.old.state { pause = or_else self.old.state.pause result } }
+        ensures after { self.new.state ≡ record self.old.state { pause = option_or self.old.state.pause result } }
         ensures kept { self.new.capacities ≡ self.old.capacities }
     {
         if self.pause.is_some() {

@@ -9,9 +9,9 @@ use Rattle.cdb_base.specs.declared.payload.Payload.TheVariants.{P1, P2, D}
 use Rattle.cdb_leader.specs.declared.inbox.Entry.{Entry}
 use Rattle.cdb_leader.specs.declared.inbox.FirstPhase.{FirstPhase}
 use Rattle.cdb_leader.specs.Inbox.{first_given, first_phase, second_phase, decision_in, if_from, first_from, first_phase_from, second_phase_from, decision_from, names, backers, is_agreed, agreed_leader, agreed_estimate, second_phase_senders, proposal, carries, is_only_proposal, learnt}
-use Rattle.cdb_leader.proofs.Quorum.{count_processes, IsQuorum}
+use Rattle.cdb_leader.specs.Quorum.{count_processes, IsQuorum}
 use Rattle.cdb_process.proofs.Members.{IsIn}
-use Rattle.cdb_leader.proofs.Bases.{AuxBasis, Carried, Answered, AnsweredAlike}
+use Rattle.cdb_leader.specs.Bases.{AuxBasis, Carried, Answered, AnsweredAlike}
 use Rattle.cdb_leader.proofs.Steps.{Inbox, entry, Heard}
 
 -- ---- lists

@@ -4,9 +4,10 @@ use Rattle.std.proofs.Common.{inl, inr, arith, sym, ap, subst}
 use Rattle.cdb_base.specs.declared.payload.Payload.{Payload}
 use Rattle.cdb_base.specs.declared.payload.Payload.TheVariants.{P1, P2, D}
 use Rattle.cdb_leader.specs.declared.inbox.Entry.{Entry}
-use Rattle.cdb_leader.proofs.Quorum.{IsQuorum, quorum_follows}
+use Rattle.cdb_leader.specs.Bases.{AuxBasis, Carried, LeaveBasis, Answered, AnsweredAlike, DecisionBasis}
+use Rattle.cdb_leader.specs.Quorum.{IsQuorum}
+use Rattle.cdb_leader.proofs.Quorum.{quorum_follows}
 use Rattle.cdb_process.proofs.Members.{IsIn, Grows, same_grows, push_grows, in_push, in_push_new, in_push_other}
-use Rattle.cdb_leader.proofs.Bases.{AuxBasis, Carried, LeaveBasis, Answered, AnsweredAlike}
 
 abbrev pub Inbox : Type 0
 Inbox = List Entry
@@ -33,10 +34,6 @@ Heard inbox s x = IsIn (entry s x) inbox
 -- x is among the payloads sent
 abbrev pub SentIn : List Payload → Payload → Type 0
 SentIn sent x = IsIn x sent
-
--- a decision message with v, or a quorum that answered v in the second phase of one round
-abbrev pub DecisionBasis : ℕ → (ℕ → Payload → Type 0) → ℕ → Type 0
-DecisionBasis q heard v = ((s : ℕ) × heard s (D v)) ⊎ ((r : ℕ) × AnsweredAlike q heard r v)
 
 -- one row of the table, with what it rests on. `mail` is what each process has sent before
 pub data Row (q : ℕ) (mail : ℕ → List Payload) (l : Local) : Type 0 where
@@ -94,47 +91,59 @@ pub record LocalLaws (q : ℕ) (l : Local) (sent : List Payload) : Type 0 where
   pub decided : (v : ℕ) → IsIn (D v) sent → DecisionBasis q (Heard l.inbox) v
   pub announced : (v : ℕ) → l.decision ≡ Some v → IsIn (D v) sent
 
--- what rests on an inbox or on what was sent rests on more of it
+-- what rests on what was heard and sent rests on more of it
+
+module _ (q : ℕ) (sent posted : Payload → Type 0) (heard more : ℕ → Payload → Type 0) (more_sent : (x : Payload) → sent x → posted x) (more_heard : (s : ℕ) (x : Payload) → heard s x → more s x) where
+  pub aux_follows : (r v : ℕ) → AuxBasis q heard r v → AuxBasis q more r v
+  aux_follows r v basis = record {
+    leader = basis.leader;
+    named = basis.named;
+    quorum = quorum_follows q (λ s. (e : ℕ) × heard s (P1 r e basis.leader)) (λ s. (e : ℕ) × more s (P1 r e basis.leader))
+        (λ s it. (it.0, more_heard s (P1 r it.0 basis.leader) it.1)) basis.quorum;
+    estimate = more_heard basis.leader (P1 r v basis.named) basis.estimate;
+  }
+
+  carried_follows : (r e : ℕ) → Carried heard r e → Carried more r e
+  carried_follows r e it = (it.0, more_heard it.0 (P2 r (Some e)) it.1)
+
+  answered_follows : (r e s : ℕ) → Answered heard r e s → Answered more r e s
+  answered_follows r e s it = (it.0, more_heard s (P2 r it.0) it.1, go it.2)
+    where
+      go : (it.0 ≡ None) ⊎ Carried heard r e → (it.0 ≡ None) ⊎ Carried more r e
+      go (inl none) = inl none
+      go (inr carried) = inr (carried_follows r e carried)
+
+  pub leave_follows : (r e : ℕ) → LeaveBasis q sent heard r e → LeaveBasis q posted more r e
+  leave_follows r e basis = record {
+    quorum = quorum_follows q (Answered heard r e) (Answered more r e) (λ s it. answered_follows r e s it) basis.quorum;
+    value = go basis.value;
+  }
+    where
+      go : Carried heard r e ⊎ ((k : ℕ) × sent (P1 r e k)) → Carried more r e ⊎ ((k : ℕ) × posted (P1 r e k))
+      go (inl carried) = inl (carried_follows r e carried)
+      go (inr own) = inr (own.0, more_sent (P1 r e own.0) own.1)
+
+  pub first_or_leave_follows : (r e : ℕ) → (r ≡ 0) ⊎ LeaveBasis q sent heard r e → (r ≡ 0) ⊎ LeaveBasis q posted more r e
+  first_or_leave_follows r e (inl first) = inl first
+  first_or_leave_follows r e (inr basis) = inr (leave_follows r e basis)
+
+  pub decision_follows : (v : ℕ) → DecisionBasis q heard v → DecisionBasis q more v
+  decision_follows v (inl learnt) = inl (learnt.0, more_heard learnt.0 (D v) learnt.1)
+  decision_follows v (inr alike) =
+      inr (alike.0, quorum_follows q (λ s. heard s (P2 alike.0 (Some v))) (λ s. more s (P2 alike.0 (Some v))) (λ s it. more_heard s (P2 alike.0 (Some v)) it) alike.1)
+
+-- the same of lists that grow
 
 pub aux_grows : (q : ℕ) (inbox more : Inbox) (r v : ℕ) → Grows inbox more → AuxBasis q (Heard inbox) r v → AuxBasis q (Heard more) r v
-aux_grows q inbox more r v grows basis = record {
-  leader = basis.leader;
-  named = basis.named;
-  quorum = quorum_follows q (λ s. (e : ℕ) × Heard inbox s (P1 r e basis.leader)) (λ s. (e : ℕ) × Heard more s (P1 r e basis.leader))
-      (λ s it. (it.0, grows (entry s (P1 r it.0 basis.leader)) it.1)) basis.quorum;
-  estimate = grows (entry basis.leader (P1 r v basis.named)) basis.estimate;
-}
-
-carried_grows : (inbox more : Inbox) (r e : ℕ) → Grows inbox more → Carried (Heard inbox) r e → Carried (Heard more) r e
-carried_grows inbox more r e grows it = (it.0, grows (entry it.0 (P2 r (Some e))) it.1)
-
-answered_grows : (inbox more : Inbox) (r e s : ℕ) → Grows inbox more → Answered (Heard inbox) r e s → Answered (Heard more) r e s
-answered_grows inbox more r e s grows it = (it.0, grows (entry s (P2 r it.0)) it.1, go it.2)
-  where
-    go : (it.0 ≡ None) ⊎ Carried (Heard inbox) r e → (it.0 ≡ None) ⊎ Carried (Heard more) r e
-    go (inl none) = inl none
-    go (inr carried) = inr (carried_grows inbox more r e grows carried)
-
-pub leave_grows : (q : ℕ) (sent posted : List Payload) (inbox more : Inbox) (r e : ℕ) → Grows sent posted → Grows inbox more
-    → LeaveBasis q (SentIn sent) (Heard inbox) r e → LeaveBasis q (SentIn posted) (Heard more) r e
-leave_grows q sent posted inbox more r e grows_sent grows basis = record {
-  quorum = quorum_follows q (Answered (Heard inbox) r e) (Answered (Heard more) r e) (λ s it. answered_grows inbox more r e s grows it) basis.quorum;
-  value = go basis.value;
-}
-  where
-    go : Carried (Heard inbox) r e ⊎ ((k : ℕ) × IsIn (P1 r e k) sent) → Carried (Heard more) r e ⊎ ((k : ℕ) × IsIn (P1 r e k) posted)
-    go (inl carried) = inl (carried_grows inbox more r e grows carried)
-    go (inr own) = inr (own.0, grows_sent (P1 r e own.0) own.1)
+aux_grows q inbox more r v grows = aux_follows q (SentIn []) (SentIn []) (Heard inbox) (Heard more) (λ x it. it) (λ s x it. grows (entry s x) it) r v
 
 pub decision_grows : (q : ℕ) (inbox more : Inbox) (v : ℕ) → Grows inbox more → DecisionBasis q (Heard inbox) v → DecisionBasis q (Heard more) v
-decision_grows q inbox more v grows (inl learnt) = inl (learnt.0, grows (entry learnt.0 (D v)) learnt.1)
-decision_grows q inbox more v grows (inr alike) =
-    inr (alike.0, quorum_follows q (λ s. Heard inbox s (P2 alike.0 (Some v))) (λ s. Heard more s (P2 alike.0 (Some v))) (λ s it. grows (entry s (P2 alike.0 (Some v))) it) alike.1)
+decision_grows q inbox more v grows = decision_follows q (SentIn []) (SentIn []) (Heard inbox) (Heard more) (λ x it. it) (λ s x it. grows (entry s x) it) v
 
 first_or_leave_grows : (q : ℕ) (sent posted : List Payload) (inbox more : Inbox) (r e : ℕ) → Grows sent posted → Grows inbox more
     → (r ≡ 0) ⊎ LeaveBasis q (SentIn sent) (Heard inbox) r e → (r ≡ 0) ⊎ LeaveBasis q (SentIn posted) (Heard more) r e
-first_or_leave_grows q sent posted inbox more r e grows_sent grows (inl first) = inl first
-first_or_leave_grows q sent posted inbox more r e grows_sent grows (inr basis) = inr (leave_grows q sent posted inbox more r e grows_sent grows basis)
+first_or_leave_grows q sent posted inbox more r e grows_sent grows =
+    first_or_leave_follows q (SentIn sent) (SentIn posted) (Heard inbox) (Heard more) grows_sent (λ s x it. grows (entry s x) it) r e
 
 -- the first local state keeps the laws
 

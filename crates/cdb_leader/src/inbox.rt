@@ -1,4 +1,4 @@
-ghost use Rattle.std.specs.Prelude.{◌≡◌, ◌↔◌, IsTrue, ℕ, ◌+◌, ◌<◌, ◌≤◌, length};
+ghost use Rattle.std.specs.Prelude.{◌≡◌, ◌↔◌, IsTrue, ◌<◌};
 ghost use Rattle.cdb_leader.specs.Inbox.{first_phase_from, second_phase_from, decision_from, first_phase_senders, backers, is_agreed, agreed_leader, agreed_estimate, second_phase_senders, proposal, is_only_proposal, learnt};
 
 use cdb_base::{Payload, Proc, Val};

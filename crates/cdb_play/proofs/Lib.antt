@@ -8,3 +8,4 @@ pub mod ScriptsRead
 pub mod RaceTexts
 pub mod RaceGrowth
 pub mod SeatsFit
+pub mod RunningFaults

@@ -4,6 +4,7 @@ use Rattle.std.specs.Prelude.{Option}
 use Rattle.std.specs.List.{flat_map}
 use Rattle.std.proofs.lemmas.List.{map-append}
 use Rattle.std.proofs.lemmas.Grind.{flat_map-append}
+use Rattle.std.specs.Io.KnownBytes.{append_known}
 use Rattle.cdb_control.specs.declared.command.Command.{Command}
 use Rattle.cdb_control.specs.Commands.{answer, obey}
 use Rattle.cdb_control.specs.Journal.{Journaled, entry, extended, replay, replay_from, replies_from, state_of}
@@ -14,9 +15,9 @@ use Rattle.cdb_control.proofs.Own.{replies_from-append}
 use Rattle.cdb_run.specs.Rules.{Rules}
 use Rattle.cdb_setup.specs.Parts.{Parts}
 use Rattle.cdb_text.specs.Texts.{text_of}
-use Rattle.cdb_play.specs.Streams.{after, AddsBeginning}
+use Rattle.cdb_play.specs.Streams.{AddsBeginning}
 use Rattle.cdb_play.specs.Transcripts.{journal_of, transcript}
-use Rattle.cdb_play.proofs.Added.{after_after, beginning_of_all}
+use Rattle.cdb_play.proofs.Added.{append_twice, beginning_of_all}
 
 -- a control of one seat that has carried these commands out
 abbrev pub so_far : Parts → List Command → Journaled
@@ -49,7 +50,7 @@ one_text rules setup done command rest =
     ∙ flat_map-append text_of (replies_from r first 1 (journal_of done)) (replies_from r (replay_from r first (journal_of done)) 1 (journal_of (command ∷ rest)))
 
 module _ (rules : Parts → Rules) (setup : Parts) (old now new : Option (List ℕ)) (done : List Command) (command : Command) (control : Journaled) (along : control ≡ so_far setup done)
-    (written : now ≡ after old (transcript (rules setup) setup done)) where
+    (written : now ≡ append_known old (transcript (rules setup) setup done)) where
   same_text : text_at rules control command ≡ text_at rules (so_far setup done) command
   same_text = ap (λ c. text_at rules c command) along
 
@@ -59,11 +60,11 @@ module _ (rules : Parts → Rules) (setup : Parts) (old now new : Option (List �
       ∙ ap (λ (rooms : List ℕ). record (so_far setup done) { journal = journal_of done ++ entry 1 command ∷ []; rooms = rooms }) (still_no_room (answer (rules setup) (state_of (rules setup) (so_far setup done)) 1 command))
       ∙ ap (λ journal. record (so_far setup done) { journal = journal }) (sym (map-append (entry 1) done (command ∷ [])))
 
-  pub one_reply : new ≡ after now (text_at rules control command) → new ≡ after old (transcript (rules setup) setup (done ++ command ∷ []))
+  pub one_reply : new ≡ append_known now (text_at rules control command) → new ≡ append_known old (transcript (rules setup) setup (done ++ command ∷ []))
   one_reply wrote =
-      wrote ∙ ap (λ (h : Option (List ℕ)). after h (text_at rules control command)) written ∙ after_after old (transcript (rules setup) setup done) (text_at rules control command)
-      ∙ ap (λ text. after old (transcript (rules setup) setup done ++ text)) (same_text ∙ sym (append-nil (text_at rules (so_far setup done) command)))
-      ∙ ap (after old) (sym (one_text rules setup done command []))
+      wrote ∙ ap (λ (h : Option (List ℕ)). append_known h (text_at rules control command)) written ∙ append_twice old (transcript (rules setup) setup done) (text_at rules control command)
+      ∙ ap (λ text. append_known old (transcript (rules setup) setup done ++ text)) (same_text ∙ sym (append-nil (text_at rules (so_far setup done) command)))
+      ∙ ap (append_known old) (sym (one_text rules setup done command []))
 
   pub cut_short : (rest : List Command) → AddsBeginning now new (text_at rules control command) → AddsBeginning old new (transcript (rules setup) setup (done ++ command ∷ rest))
   cut_short rest added =

@@ -1,5 +1,6 @@
 -- What the faults of a play say.
 use Rattle.std.specs.Prelude.{◌≡◌, ℕ, ◌<◌, ◌≤◌, List, length, Option}
+use Rattle.std.specs.Io.KnownBytes.{prepend_known}
 use Rattle.cdb_setup.specs.Format.{StandsFor, longest}
 use Rattle.cdb_setup.specs.Order.{IsFirstFault}
 use Rattle.cdb_setup.specs.Parts.{Parts}
@@ -7,7 +8,7 @@ use Rattle.cdb_setup.specs.declared.fault.SetupFault.{SetupFault}
 use Rattle.cdb_setup.specs.declared.fault.SetupFault.TheVariants as setup
 use Rattle.cdb_play.specs.Lines.{lines_of}
 use Rattle.cdb_play.specs.Scripts.{IsFirstBadLine}
-use Rattle.cdb_play.specs.Streams.{before, IsReadToEnd}
+use Rattle.cdb_play.specs.Streams.{IsReadToEnd}
 use Rattle.cdb_play.specs.declared.fault.PlayFault.{PlayFault}
 use Rattle.cdb_play.specs.declared.fault.PlayFault.TheVariants.{Setup, Line, ScriptTooLong, Read, Write, NoMemory}
 use Rattle.cdb_play.specs.declared.script.ScriptFault.{ScriptFault}
@@ -34,7 +35,7 @@ of_reading reading.NoMemory = NoMemory
 -- fault is one of reading it.
 abbrev pub IsFaultOfScript : PlayFault → Option (List ℕ) → Option (List ℕ) → Type 0
 IsFaultOfScript (Line number line fault) old new = (number ≡ 1) × ((script : List ℕ) × IsReadToEnd old script new × (length script ≤ longest) × IsFirstBadLine line fault (lines_of script))
-IsFaultOfScript (ScriptTooLong number) old new = (number ≡ 1) × ((script : List ℕ) × (old ≡ before script new) × (longest < length script))
+IsFaultOfScript (ScriptTooLong number) old new = (number ≡ 1) × ((script : List ℕ) × (old ≡ prepend_known script new) × (longest < length script))
 IsFaultOfScript Read old new = Unit {0}
 IsFaultOfScript NoMemory old new = Unit {0}
 IsFaultOfScript (Setup fault) old new = ⊥

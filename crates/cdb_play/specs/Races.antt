@@ -6,10 +6,12 @@ use Rattle.cdb_control.specs.Answer.{Answer}
 use Rattle.cdb_control.specs.Journal.{Journaled, state_of}
 use Rattle.cdb_control.specs.declared.command.Command.{Command}
 use Rattle.cdb_race.specs.Races.{IsRaced, answers_to}
+use Rattle.cdb_race.specs.declared.threads.RaceFault.{RaceFault as ThreadFault}
+use Rattle.cdb_race.specs.declared.threads.RaceFault.TheVariants as threads
 use Rattle.cdb_run.specs.Algorithms.{rules}
 use Rattle.cdb_setup.specs.Format.{StandsFor, longest}
 use Rattle.cdb_setup.specs.Order.{IsFirstFault}
-use Rattle.cdb_setup.specs.Parts.{Parts}
+use Rattle.cdb_setup.specs.Parts.{Parts, IsWithin}
 use Rattle.cdb_setup.specs.declared.fault.SetupFault.{SetupFault}
 use Rattle.cdb_setup.specs.declared.fault.SetupFault.TheVariants as setup
 use Rattle.cdb_text.specs.Reports.{decisions_text}
@@ -18,7 +20,7 @@ use Rattle.cdb_play.specs.Faults.{IsSetup}
 use Rattle.cdb_play.specs.Lines.{lines_of}
 use Rattle.cdb_play.specs.Scripts.{AreCommandsOf, IsFirstBadLine}
 use Rattle.cdb_play.specs.declared.fault.RaceFault.{RaceFault}
-use Rattle.cdb_play.specs.declared.fault.RaceFault.TheVariants.{Setup, Line, ScriptTooLong, Write, NoMemory}
+use Rattle.cdb_play.specs.declared.fault.RaceFault.TheVariants.{Setup, Line, ScriptTooLong, Write, NoMemory, JournalFull, Spawn, Stopped}
 use Rattle.cdb_play.specs.declared.script.ScriptFault.{ScriptFault}
 use Rattle.cdb_play.specs.declared.script.ScriptFault.TheVariants as script
 
@@ -103,6 +105,13 @@ race_fault_of_script place (script.Line line fault) = Line place line fault
 race_fault_of_script place script.TooLong = ScriptTooLong place
 race_fault_of_script place script.NoMemory = NoMemory
 
+-- a fault of the threads
+abbrev pub race_fault_of_threads : ThreadFault → RaceFault
+race_fault_of_threads threads.NoMemory = NoMemory
+race_fault_of_threads threads.JournalFull = JournalFull
+race_fault_of_threads threads.Spawn = Spawn
+race_fault_of_threads (threads.Stopped seat) = Stopped seat
+
 -- what a fault of reading says of the scripts
 abbrev pub IsFaultOfScripts : RaceFault → List (List ℕ) → Type 0
 IsFaultOfScripts (Line place line fault) scripts = IsFirstBad (λ bad. (length bad ≤ longest) × IsFirstBadLine line fault (lines_of bad)) place scripts
@@ -122,12 +131,17 @@ IsFaultOfOutput Write = Unit {0}
 IsFaultOfOutput NoMemory = Unit {0}
 IsFaultOfOutput fault = ⊥
 
--- the faults of what was read well
-abbrev pub IsFaultOfRunning : RaceFault → Type 0
-IsFaultOfRunning (Setup fault) = ⊥
-IsFaultOfRunning (Line place line fault) = ⊥
-IsFaultOfRunning (ScriptTooLong place) = ⊥
-IsFaultOfRunning fault = Unit {0}
+-- the faults of what was read well. A stopped seat is one of so many
+abbrev pub IsFaultOfRunning : ℕ → RaceFault → Type 0
+IsFaultOfRunning seats (Setup fault) = ⊥
+IsFaultOfRunning seats (Line place line fault) = ⊥
+IsFaultOfRunning seats (ScriptTooLong place) = ⊥
+IsFaultOfRunning seats (Stopped seat) = IsWithin 1 seats seat
+IsFaultOfRunning seats fault = Unit {0}
+
+-- a seat of the race: one of a process of the setup, or one of a script
+abbrev pub IsSeatOfRace : ℕ → List ℕ → List (List ℕ) → Type 0
+IsSeatOfRace seat json scripts = (setup : Parts) × StandsFor json setup × IsWithin 1 (setup.processes + length scripts) seat
 
 -- What a fault of a race says: one of the setup comes before those of the scripts, and the others come where
 -- all was read.
@@ -136,4 +150,5 @@ IsFaultOfRace (Setup fault) json scripts = IsFirstFault fault json
 IsFaultOfRace NoMemory json scripts = Unit {0}
 IsFaultOfRace (Line place line fault) json scripts = IsSetup json × IsFaultOfScripts (Line place line fault) scripts
 IsFaultOfRace (ScriptTooLong place) json scripts = IsSetup json × IsFaultOfScripts (ScriptTooLong place) scripts
+IsFaultOfRace (Stopped seat) json scripts = IsSeatOfRace seat json scripts × (read : List (List Command)) × AreScripts read scripts
 IsFaultOfRace fault json scripts = IsSetup json × (read : List (List Command)) × AreScripts read scripts

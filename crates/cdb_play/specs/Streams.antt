@@ -1,21 +1,14 @@
 -- What readers and writers do to the bytes that are known of them.
-use Rattle.std.specs.Prelude.{◌≡◌, ℕ, ◌+◌, ◌%◌, ◌^◌, Bool, true, not, ◌&&◌, ◌==◌, List, [], ◌++◌, length, Option, option_map, IfSome, Result, Ok, Err, if◌then◌else◌}
-
--- what is held once the text was added
-abbrev pub after : Option (List ℕ) → List ℕ → Option (List ℕ)
-after held text = option_map (λ bytes. bytes ++ text) held
-
--- what was left before the text was taken
-abbrev pub before : List ℕ → Option (List ℕ) → Option (List ℕ)
-before text left = option_map (λ bytes. text ++ bytes) left
+use Rattle.std.specs.Prelude.{◌≡◌, ℕ, ◌+◌, ◌%◌, ◌^◌, Bool, true, not, ◌&&◌, ◌==◌, List, ◌++◌, length, Option, Result, Ok, Err, if◌then◌else◌}
+use Rattle.std.specs.Io.KnownBytes.{append_known, prepend_known, IsAtEnd}
 
 -- the bytes were all that was left
 abbrev pub IsReadToEnd : Option (List ℕ) → List ℕ → Option (List ℕ) → Type 0
-IsReadToEnd old bytes new = (old ≡ before bytes new) × IfSome new (λ left. left ≡ [])
+IsReadToEnd old bytes new = (old ≡ prepend_known bytes new) × IsAtEnd new
 
 -- a beginning of the text was added
 abbrev pub AddsBeginning : Option (List ℕ) → Option (List ℕ) → List ℕ → Type 0
-AddsBeginning old new text = (written rest : List ℕ) × (text ≡ written ++ rest) × (new ≡ after old written)
+AddsBeginning old new text = (written rest : List ℕ) × (text ≡ written ++ rest) × (new ≡ append_known old written)
 
 -- the call failed: it answered an error, or took none of a piece that is not empty
 abbrev pub is_failure : {E : Type 0} → Result ℕ E → List ℕ → Bool

@@ -1,4 +1,4 @@
-//! Standard output as a sink.
+//! Writers of the system as sinks.
 
 ghost use Rattle.std.specs.Prelude.{◌≡◌};
 

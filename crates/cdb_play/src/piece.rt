@@ -1,8 +1,9 @@
 //! Texts that are written piece by piece, without memory.
 
 ghost use Rattle.std.specs.Prelude.{◌≡◌, OnOk, OnErr};
+ghost use Rattle.std.specs.Io.KnownBytes.{append_known};
 ghost use Rattle.cdb_play.specs.Pieces.{piece_text, pieces_text};
-ghost use Rattle.cdb_play.specs.Streams.{after, AddsBeginning, one_more};
+ghost use Rattle.cdb_play.specs.Streams.{AddsBeginning, one_more};
 
 use crate::sink::{Failed, Sink, write_all};
 use itoa::Buffer;
@@ -17,7 +18,7 @@ pub enum Piece<'a> {
 
 /// Writes a piece. Where the writer fails, what was written is a beginning of it.
 pub fn write_piece<W: Sink>(out: &mut W, piece: Piece<'_>) -> Result<(), Failed>
-    ensures ok { OnOk result (W.contents out.new ≡ after (W.contents out.old) (piece_text piece.entry)) }
+    ensures ok { OnOk result (W.contents out.new ≡ append_known (W.contents out.old) (piece_text piece.entry)) }
     ensures err { OnErr result (AddsBeginning (W.contents out.old) (W.contents out.new) (piece_text piece.entry)) }
     ensures no_failure { OnOk result (W.failures out.new ≡ W.failures out.old) }
     ensures one_failure { OnErr result (W.failures out.new ≡ one_more (W.failures out.old)) }
@@ -34,7 +35,7 @@ pub fn write_piece<W: Sink>(out: &mut W, piece: Piece<'_>) -> Result<(), Failed>
 /// Writes the pieces, one after the other. Where the writer fails, what was written is a beginning of their
 /// text. It takes no memory.
 pub fn write_each<W: Sink>(out: &mut W, pieces: &[Piece<'_>]) -> Result<(), Failed>
-    ensures ok { OnOk result (W.contents out.new ≡ after (W.contents out.old) (pieces_text pieces.now)) }
+    ensures ok { OnOk result (W.contents out.new ≡ append_known (W.contents out.old) (pieces_text pieces.now)) }
     ensures err { OnErr result (AddsBeginning (W.contents out.old) (W.contents out.new) (pieces_text pieces.now)) }
     ensures no_failure { OnOk result (W.failures out.new ≡ W.failures out.old) }
     ensures one_failure { OnErr result (W.failures out.new ≡ one_more (W.failures out.old)) }

@@ -1,6 +1,7 @@
 //! A script is played: its commands are carried out one after the other, and each reply is written.
 
 ghost use Rattle.std.specs.Prelude.{◌≡◌, ◌≢◌, ◌⊎◌, ℕ, ◌<◌, ◌≤◌, List, length, Err, IfOk, IfErr, OnOk, OnErr};
+ghost use Rattle.std.specs.Io.KnownBytes.{append_known};
 ghost use Rattle.cdb_control.specs.Commands.{answer};
 ghost use Rattle.cdb_control.specs.Journal.{extended, state_of};
 ghost use Rattle.cdb_run.specs.Algorithms.{rules};
@@ -9,7 +10,7 @@ ghost use Rattle.cdb_play.specs.Faults.{IsFaultOfScript, IsFaultOfPlay, IsFaultO
 ghost use Rattle.cdb_play.specs.Lines.{lines_of};
 ghost use Rattle.cdb_play.specs.Scripts.{AreCommandsOf};
 ghost use Rattle.cdb_setup.specs.Format.{longest};
-ghost use Rattle.cdb_play.specs.Streams.{after, AddsBeginning, IsReadToEnd, one_more};
+ghost use Rattle.cdb_play.specs.Streams.{AddsBeginning, IsReadToEnd, one_more};
 ghost use Rattle.cdb_play.specs.Transcripts.{transcript, Plays};
 
 use crate::fault::PlayFault;
@@ -32,7 +33,7 @@ fn perform<T: Runs, W: Sink>(
     requires seats { control.old.seats ≡ 1 }
     requires room { length control.old.journal < 999999 }
     ensures done { OnOk result (control.new ≡ extended (T.rules control.old.setup) control.old 1 command) }
-    ensures ok { OnOk result (W.contents out.new ≡ after (W.contents out.old) (text_of (answer (T.rules control.old.setup) (state_of (T.rules control.old.setup) control.old) 1 command))) }
+    ensures ok { OnOk result (W.contents out.new ≡ append_known (W.contents out.old) (text_of (answer (T.rules control.old.setup) (state_of (T.rules control.old.setup) control.old) 1 command))) }
     ensures err { OnErr result (AddsBeginning (W.contents out.old) (W.contents out.new) (text_of (answer (T.rules control.old.setup) (state_of (T.rules control.old.setup) control.old) 1 command))) }
     ensures fault { IfErr result IsFaultOfWriting }
     ensures write { result ≡ Err PlayFault.Write → W.failures out.new ≡ one_more (W.failures out.old) }
@@ -57,7 +58,7 @@ fn perform_all<T: Runs, W: Sink>(
     out: &mut W,
 ) -> Result<(), PlayFault>
     requires { length commands.now < 999999 }
-    ensures ok { OnOk result (W.contents out.new ≡ after (W.contents out.old) (transcript (T.rules setup) setup commands.now)) }
+    ensures ok { OnOk result (W.contents out.new ≡ append_known (W.contents out.old) (transcript (T.rules setup) setup commands.now)) }
     ensures err { OnErr result (AddsBeginning (W.contents out.old) (W.contents out.new) (transcript (T.rules setup) setup commands.now)) }
     ensures fault { IfErr result IsFaultOfWriting }
     ensures write { result ≡ Err PlayFault.Write → W.failures out.new ≡ one_more (W.failures out.old) }
@@ -92,7 +93,7 @@ fn play_by<T: Runs, R: Source, W: Sink>(
     script: &mut R,
     out: &mut W,
 ) -> Result<(), PlayFault>
-    ensures ok { OnOk result ((text : List ℕ) × Plays T.rules setup.now (R.remaining script.old) (R.remaining script.new) text × (W.contents out.new ≡ after (W.contents out.old) text)) }
+    ensures ok { OnOk result ((text : List ℕ) × Plays T.rules setup.now (R.remaining script.old) (R.remaining script.new) text × (W.contents out.new ≡ append_known (W.contents out.old) text)) }
     ensures beginning { OnErr result ((out.new ≡ out.old) ⊎ ((text : List ℕ) × Plays T.rules setup.now (R.remaining script.old) (R.remaining script.new) text × AddsBeginning (W.contents out.old) (W.contents out.new) text)) }
     ensures unwritten { IfErr result (λ fault. (fault ≢ PlayFault.Write) → (fault ≢ PlayFault.NoMemory) → out.new ≡ out.old) }
     ensures fault { IfErr result (λ fault. IsFaultOfPlay fault setup.now (R.remaining script.old) (R.remaining script.new)) }
@@ -117,7 +118,7 @@ pub fn play<R: Source, W: Sink>(
     script: &mut R,
     out: &mut W,
 ) -> Result<(), PlayFault>
-    ensures ok { OnOk result ((text : List ℕ) × Plays rules setup.now (R.remaining script.old) (R.remaining script.new) text × (W.contents out.new ≡ after (W.contents out.old) text)) }
+    ensures ok { OnOk result ((text : List ℕ) × Plays rules setup.now (R.remaining script.old) (R.remaining script.new) text × (W.contents out.new ≡ append_known (W.contents out.old) text)) }
     ensures beginning { OnErr result ((out.new ≡ out.old) ⊎ ((text : List ℕ) × Plays rules setup.now (R.remaining script.old) (R.remaining script.new) text × AddsBeginning (W.contents out.old) (W.contents out.new) text)) }
     ensures unwritten { IfErr result (λ fault. (fault ≢ PlayFault.Write) → (fault ≢ PlayFault.NoMemory) → out.new ≡ out.old) }
     ensures fault { IfErr result (λ fault. IsFaultOfPlay fault setup.now (R.remaining script.old) (R.remaining script.new)) }

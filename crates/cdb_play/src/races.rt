@@ -1,13 +1,14 @@
 //! A race: one thread for each process and one for each script, over one shared run, and its text.
 
 ghost use Rattle.std.specs.Prelude.{◌≡◌, ◌≢◌, ◌⊎◌, ℕ, ◌+◌, ◌≤◌, List, length, vec_len, Err, IfOk, IfErr, OnOk, OnErr};
+ghost use Rattle.std.specs.Io.KnownBytes.{append_known};
 ghost use Rattle.cdb_control.specs.Answer.{Answer};
 ghost use Rattle.cdb_control.specs.Journal.{Journaled};
 ghost use Rattle.cdb_race.specs.Races.{IsRaced};
 ghost use Rattle.cdb_setup.specs.Format.{StandsFor};
 ghost use Rattle.cdb_setup.specs.Parts.{Parts};
 ghost use Rattle.cdb_play.specs.Races.{race_text, race_fault_of_script, bytes_of, AreScripts, IsTextOfRace, IsFaultOfScripts, IsFaultOfReading, IsFaultOfRunning, IsFaultOfRace};
-ghost use Rattle.cdb_play.specs.Streams.{after, AddsBeginning, one_more};
+ghost use Rattle.cdb_play.specs.Streams.{AddsBeginning, one_more};
 
 mod text;
 
@@ -72,11 +73,10 @@ impl From<AllocError> for RaceFault {
 
 /// A fault of the threads. Nothing was written then.
 impl From<ThreadFault> for RaceFault {
-    ghost use Rattle.std.specs.Prelude.{◌≢◌};
-    ghost use Rattle.cdb_play.specs.Races.{IsFaultOfRunning};
-    ghost use Rattle.cdb_play.specs.declared.fault.RaceFault.TheVariants.{Write as write};
+    ghost use Rattle.std.specs.Prelude.{◌≡◌};
+    ghost use Rattle.cdb_play.specs.Races.{race_fault_of_threads};
 
-    ghost from_gives = { λ _ made. IsFaultOfRunning made × (made ≢ write) };
+    ghost from_gives = { λ fault made. made ≡ race_fault_of_threads fault };
 
     fn from(fault: ThreadFault) -> Self {
         match fault {
@@ -163,10 +163,10 @@ fn run_race<G: Gate + Drop + Send, R: Threads + Wait + Sync, W: Sink>(
 ) -> Result<(), RaceFault>
     requires fits { setup.processes + length scripts.now ≤ 64 }
     requires gates { vec_len gates ≡ setup.processes + length scripts.now }
-    ensures ok { OnOk result ((c : Journaled) × (answers : List (List Answer)) × IsRaced setup turns scripts.now c answers × (W.contents out.new ≡ after (W.contents out.old) (race_text c))) }
+    ensures ok { OnOk result ((c : Journaled) × (answers : List (List Answer)) × IsRaced setup turns scripts.now c answers × (W.contents out.new ≡ append_known (W.contents out.old) (race_text c))) }
     ensures beginning { OnErr result ((out.new ≡ out.old) ⊎ ((c : Journaled) × (answers : List (List Answer)) × IsRaced setup turns scripts.now c answers × AddsBeginning (W.contents out.old) (W.contents out.new) (race_text c))) }
     ensures unwritten { IfErr result (λ fault. (fault ≢ RaceFault.Write) → (fault ≢ RaceFault.NoMemory) → out.new ≡ out.old) }
-    ensures fault { IfErr result IsFaultOfRunning }
+    ensures fault { IfErr result (IsFaultOfRunning (setup.processes + length scripts.now)) }
     ensures write { result ≡ Err RaceFault.Write → W.failures out.new ≡ one_more (W.failures out.old) }
     ensures writable { result ≢ Err RaceFault.Write → W.failures out.new ≡ W.failures out.old }
 {
@@ -195,7 +195,7 @@ pub fn race_with<G: Gate + Drop + Send, R: Threads + Wait + Sync, W: Sink>(
     requires turns { turns ≤ 99999 }
     requires fits { (parts : Parts) → StandsFor setup.now parts → parts.processes + length scripts.now ≤ 64 }
     requires gates { (parts : Parts) → StandsFor setup.now parts → vec_len gates ≡ parts.processes + length scripts.now }
-    ensures ok { OnOk result ((text : List ℕ) × IsTextOfRace setup.now turns (bytes_of scripts.now) text × (W.contents out.new ≡ after (W.contents out.old) text)) }
+    ensures ok { OnOk result ((text : List ℕ) × IsTextOfRace setup.now turns (bytes_of scripts.now) text × (W.contents out.new ≡ append_known (W.contents out.old) text)) }
     ensures beginning { OnErr result ((out.new ≡ out.old) ⊎ ((text : List ℕ) × IsTextOfRace setup.now turns (bytes_of scripts.now) text × AddsBeginning (W.contents out.old) (W.contents out.new) text)) }
     ensures unwritten { IfErr result (λ fault. (fault ≢ RaceFault.Write) → (fault ≢ RaceFault.NoMemory) → out.new ≡ out.old) }
     ensures fault { IfErr result (λ fault. IsFaultOfRace fault setup.now (bytes_of scripts.now)) }
@@ -217,7 +217,7 @@ pub fn race<R: Threads + Wait + Sync, W: Sink>(
 ) -> Result<(), RaceFault>
     requires turns { turns ≤ 99999 }
     requires fits { (parts : Parts) → StandsFor setup.now parts → parts.processes + length scripts.now ≤ 64 }
-    ensures ok { OnOk result ((text : List ℕ) × IsTextOfRace setup.now turns (bytes_of scripts.now) text × (W.contents out.new ≡ after (W.contents out.old) text)) }
+    ensures ok { OnOk result ((text : List ℕ) × IsTextOfRace setup.now turns (bytes_of scripts.now) text × (W.contents out.new ≡ append_known (W.contents out.old) text)) }
     ensures beginning { OnErr result ((out.new ≡ out.old) ⊎ ((text : List ℕ) × IsTextOfRace setup.now turns (bytes_of scripts.now) text × AddsBeginning (W.contents out.old) (W.contents out.new) text)) }
     ensures unwritten { IfErr result (λ fault. (fault ≢ RaceFault.Write) → (fault ≢ RaceFault.NoMemory) → out.new ≡ out.old) }
     ensures fault { IfErr result (λ fault. IsFaultOfRace fault setup.now (bytes_of scripts.now)) }

@@ -11,7 +11,7 @@ use cdb_base::limits::MAX_BYTES;
 use cdb_base::{Act, Reg};
 use cdb_control::{Command, Stop, View};
 use cdb_text::{LineFault, parse_line};
-use std::alloc::{AllocError, AllocFailed, Global};
+use std::alloc::{AllocError, Global};
 
 /// Why a script can't be played.
 #[derive(Clone, Copy, Debug, PartialEq, Eq)]

@@ -1,7 +1,8 @@
 //! Writers.
 
 ghost use Rattle.std.specs.Prelude.{◌≡◌, ℕ, ◌≤◌, List, take, length, Option, IfOk, OnOk, OnErr};
-ghost use Rattle.cdb_play.specs.Streams.{after, AddsBeginning, is_failure, one_more, counted};
+ghost use Rattle.std.specs.Io.KnownBytes.{append_known};
+ghost use Rattle.cdb_play.specs.Streams.{AddsBeginning, is_failure, one_more, counted};
 
 /// A call on a reader or a writer failed.
 #[derive(Clone, Copy, Debug, PartialEq, Eq)]
@@ -18,14 +19,14 @@ pub trait Sink {
     /// Takes a beginning of the piece, and answers its length.
     fn write(&mut self, piece: &[u8]) -> Result<usize, Failed>
         ensures within { IfOk result (λ count. count ≤ length piece.now) }
-        ensures ok { IfOk result (λ count. contents self.new ≡ after (contents self.old) (take count piece.now)) }
+        ensures ok { IfOk result (λ count. contents self.new ≡ append_known (contents self.old) (take count piece.now)) }
         ensures err { OnErr result (contents self.new ≡ contents self.old) }
         ensures failures { failures self.new ≡ counted (is_failure result piece.now) (failures self.old) };
 }
 
 /// Writes all the bytes. A write that takes none of them is a failure, and none is tried again.
 pub fn write_all<W: Sink>(out: &mut W, bytes: &[u8]) -> Result<(), Failed>
-    ensures ok { OnOk result (W.contents out.new ≡ after (W.contents out.old) bytes.now) }
+    ensures ok { OnOk result (W.contents out.new ≡ append_known (W.contents out.old) bytes.now) }
     ensures err { OnErr result (AddsBeginning (W.contents out.old) (W.contents out.new) bytes.now) }
     ensures no_failure { OnOk result (W.failures out.new ≡ W.failures out.old) }
     ensures one_failure { OnErr result (W.failures out.new ≡ one_more (W.failures out.old)) }

@@ -1,7 +1,8 @@
 //! Readers.
 
-ghost use Rattle.std.specs.Prelude.{◌≡◌, ◌≢◌, ℕ, ◌<◌, ◌≤◌, List, [], take, length, Option, Err, IfOk, IfSome, is_err};
-ghost use Rattle.cdb_play.specs.Streams.{before, counted, one_more};
+ghost use Rattle.std.specs.Prelude.{◌≡◌, ◌≢◌, ℕ, ◌<◌, ◌≤◌, List, take, length, Option, Err, IfOk, is_err};
+ghost use Rattle.std.specs.Io.KnownBytes.{prepend_known, IsAtEnd};
+ghost use Rattle.cdb_play.specs.Streams.{counted, one_more};
 
 use crate::sink::Failed;
 use std::alloc::{AllocError, Global};
@@ -18,8 +19,8 @@ pub trait Source {
     /// and where the buffer is empty.
     fn read(&mut self, buffer: &mut [u8]) -> Result<usize, Failed>
         ensures within { IfOk result (λ count. count ≤ length buffer.old) }
-        ensures taken { IfOk result (λ count. remaining self.old ≡ before (take count buffer.new) (remaining self.new)) }
-        ensures end { IfOk result (λ count. count ≡ 0 → 0 < length buffer.old → IfSome (remaining self.new) (λ left. left ≡ [])) }
+        ensures taken { IfOk result (λ count. remaining self.old ≡ prepend_known (take count buffer.new) (remaining self.new)) }
+        ensures end { IfOk result (λ count. count ≡ 0 → 0 < length buffer.old → IsAtEnd (remaining self.new)) }
         ensures failures { failures self.new ≡ counted (is_err result) (failures self.old) };
 }
 
@@ -63,9 +64,9 @@ pub fn read_up_to<R: Source>(
     source: &mut R,
     most: usize,
 ) -> Result<Vec<u8>, ReadFault>
-    ensures taken { IfOk result (λ bytes. R.remaining source.old ≡ before bytes.items (R.remaining source.new)) }
+    ensures taken { IfOk result (λ bytes. R.remaining source.old ≡ prepend_known bytes.items (R.remaining source.new)) }
     ensures most { IfOk result (λ bytes. length bytes.items ≤ most) }
-    ensures end { IfOk result (λ bytes. length bytes.items < most → IfSome (R.remaining source.new) (λ left. left ≡ [])) }
+    ensures end { IfOk result (λ bytes. length bytes.items < most → IsAtEnd (R.remaining source.new)) }
     ensures failed { result ≡ Err ReadFault.Failed → R.failures source.new ≡ one_more (R.failures source.old) }
     ensures unfailed { result ≢ Err ReadFault.Failed → R.failures source.new ≡ R.failures source.old }
 {

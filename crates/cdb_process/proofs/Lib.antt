@@ -1,2 +1,1 @@
-pub mod SameLists
 pub mod Members

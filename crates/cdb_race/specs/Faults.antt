@@ -4,6 +4,7 @@ use Rattle.std.specs.List.{AllByRecursion}
 use Rattle.cdb_race.specs.declared.threads.RaceFault.{RaceFault}
 use Rattle.cdb_race.specs.declared.threads.RaceFault.TheVariants as fault
 use Rattle.cdb_race.specs.declared.worker.Ran.{Ran}
+use Rattle.cdb_setup.specs.Parts.{IsWithin}
 use Rattle.cdb_shared.specs.declared.session.End.{End}
 use Rattle.cdb_shared.specs.declared.session.End.TheVariants.{All, Done, Stopped, NoMemory, JournalFull}
 
@@ -27,3 +28,14 @@ pub record IsOfLeastSeat (fault : RaceFault) (rans : List Ran) : Type 0 where
   pub all : rans ≡ greater ++ its ∷ less
   pub has : fault_in its ≡ Some fault
   pub none : AllByRecursion (λ ran. fault_in ran ≡ None) less
+
+-- a stopped seat is one of so many
+abbrev pub IsAmongSeats : ℕ → RaceFault → Type 0
+IsAmongSeats seats (fault.Stopped seat) = IsWithin 1 seats seat
+IsAmongSeats seats other = Unit {0}
+
+-- the faults of starting the threads and of joining them
+abbrev pub IsFaultOfThreads : RaceFault → Type 0
+IsFaultOfThreads fault.NoMemory = Unit {0}
+IsFaultOfThreads fault.Spawn = Unit {0}
+IsFaultOfThreads other = ⊥

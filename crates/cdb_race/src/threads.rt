@@ -1,7 +1,7 @@
 //! Starting and joining the threads of a race.
-ghost use Rattle.std.specs.Prelude.{◌≡◌, ℕ, ◌+◌, ◌-◌, ◌<◌, ◌≤◌, List, length, map, vec_len, All, IfOk, IfErr, ◌⊎◌, slice_index_or};
-ghost use Rattle.cdb_race.specs.Faults.{fault_at, IsOfLeastSeat};
-ghost use Rattle.cdb_race.specs.Plans.{IsReady, seats_of};
+ghost use Rattle.std.specs.Prelude.{◌≡◌, ℕ, ◌+◌, ◌-◌, ◌<◌, ◌≤◌, List, length, vec_len, All, IfOk, IfErr, ◌⊎◌, slice_index_or};
+ghost use Rattle.cdb_race.specs.Faults.{fault_at, IsAmongSeats, IsFaultOfThreads, IsOfLeastSeat};
+ghost use Rattle.cdb_race.specs.Plans.{IsReady};
 ghost use Rattle.cdb_race.specs.Promises.{IsPromise, HasRan};
 ghost use Rattle.cdb_race.specs.Races.{all_told, AllRan, AllFinished, IsRaced};
 ghost use Rattle.cdb_race.specs.declared.plan.Plan.{Plan as Planned};
@@ -40,7 +40,8 @@ fn start_one<'s, E, G: Gate + Drop + Send + 's, R: Threads + Wait + Sync>(
     gate: G,
 ) -> Result<PromisedHandle<Ran, Runs<'s>>, RaceFault>
     requires { IsReady shared.now plan seat }
-    ensures { IfOk result (λ handle. IsPromise plan.entry seat handle.promise) }
+    ensures promise { IfOk result (λ handle. IsPromise plan.entry seat handle.promise) }
+    ensures fault { IfErr result IsFaultOfThreads }
 {
     let promise = Runs {
         plan,
@@ -73,6 +74,7 @@ fn start_all<'s, E, G: Gate + Drop + Send + 's, R: Threads + Wait + Sync>(
     requires gates { vec_len gates ≡ vec_len seats }
     ensures count { IfOk result (λ handles. vec_len handles ≡ vec_len seats) }
     ensures each { IfOk result (λ handles. (k : ℕ) (before : SeatView) (handle : _) → k < vec_len seats → IsPromise plan.entry (slice_index_or seats.items (vec_len seats - 1 - k) before) (slice_index_or handles.items k handle).promise) }
+    ensures fault { IfErr result IsFaultOfThreads }
 {
     let Ok(mut handles) = Vec::with_capacity(alloc, seats.len()) else {
         return Err(RaceFault::NoMemory);
@@ -100,6 +102,7 @@ fn run_all<G: Gate + Drop + Send, R: Threads + Wait + Sync>(
     requires gates { vec_len gates ≡ vec_len seats }
     ensures count { IfOk result (λ rans. vec_len rans ≡ vec_len seats) }
     ensures each { IfOk result (λ rans. AllRan plan.entry seats.items rans.items) }
+    ensures fault { IfErr result IsFaultOfThreads }
 {
     thread::scope(
         thread::scope_env(),
@@ -109,6 +112,7 @@ fn run_all<G: Gate + Drop + Send, R: Threads + Wait + Sync>(
             requires gates { vec_len gates ≡ vec_len seats }
             ensures count { IfOk result (λ rans. vec_len rans ≡ vec_len seats) }
             ensures each { IfOk result (λ rans. AllRan plan.entry seats.items rans.items) }
+            ensures fault { IfErr result IsFaultOfThreads }
         {
             let handles = start_all(scope, rt, alloc, shared, plan, seats, gates)?;
             match thread::join_promised(rt, handles) {
@@ -175,7 +179,8 @@ pub fn race<G: Gate + Drop + Send, R: Threads + Wait + Sync>(
 ) -> Result<Raced, RaceFault>
     requires fits { setup.processes + length scripts.now ≤ 64 }
     requires gates { vec_len gates ≡ setup.processes + length scripts.now }
-    ensures { IfOk result (λ r. IsRaced setup turns scripts.now r.control (all_told r.replies.items)) }
+    ensures raced { IfOk result (λ r. IsRaced setup turns scripts.now r.control (all_told r.replies.items)) }
+    ensures fault { IfErr result (IsAmongSeats (setup.processes + length scripts.now)) }
 {
     let processes = setup.n();
     let plan = Plan {

@@ -1,3 +1,5 @@
+//! What is kept of a standing event for taking it back.
+
 use cdb_base::{Cell, Event};
 
 /// A standing event with what it takes to take it back. `B` is what an input leaves of its machine.

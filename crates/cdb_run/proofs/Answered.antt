@@ -1,5 +1,6 @@
 -- What the answer of an undo says.
-use Rattle.std.proofs.Common.{◌≡◌, ℕ, zero, suc, ◌+◌, ◌-◌, Bool, true, false, List, [], ◌∷◌, ◌++◌, Option, Some, None, Result, Ok, Err, cond, find, drop, take, slice_get, if◌then◌else◌, refl, sym, ap, ap₂, ◌∙◌, subst, true≢false, arith}
+use Rattle.std.proofs.Common.{◌≡◌, ℕ, zero, suc, ◌+◌, ◌-◌, Bool, true, false, List, [], ◌∷◌, ◌++◌, Option, Some, None, Result, Ok, Err, cond, find, drop, reverse, take, slice_get, if◌then◌else◌, refl, sym, ap, ap₂, ◌∙◌, subst, true≢false, arith}
+use Rattle.std.proofs.lemmas.List.{reverse-reverse}
 use Rattle.std.proofs.lemmas.Option.{none-some, same_Some, get_or_from_slice_get}
 use Rattle.std.proofs.lemmas.List.Quantifiers.{position-Some}
 use Rattle.std.specs.List.{position}
@@ -12,7 +13,7 @@ use Rattle.cdb_base.specs.declared.refusal.Refusal.TheVariants as refusal
 use Rattle.cdb_causal.specs.Causality.{IsFree}
 use Rattle.cdb_causal.specs.Dependence.{depends}
 use Rattle.cdb_causal.specs.Rollback.{without, remaining, rolled_back}
-use Rattle.cdb_run.specs.Undo.{Found, found_at, event_named, for_standing, undo_found, undo_of, rollback_of, reversed, names_processes, has_name}
+use Rattle.cdb_run.specs.Undo.{Found, found_at, event_named, for_standing, undo_found, undo_of, rollback_of, names_processes, has_name}
 use Rattle.cdb_run.specs.State.{Machine}
 use Rattle.cdb_run.specs.Step.{IsValid, after, fold, state_of}
 use Rattle.cdb_run.proofs.Answering.{get-drop}
@@ -97,26 +98,18 @@ undone_back machine n history name event left answer valid =
     (undo_valid machine history u.0 event u.2 u.3 valid, undo_again machine history u.0 event u.2 u.3 valid)
 
 pub rolled_back_answered : (n : ℕ) (history : List Event) (name : StepId) (taken left : List Event) → rollback_of n history name ≡ Ok (taken, left)
-    → (i : ℕ) × (event : Event) × (has_name name event ≡ true) × (slice_get history i ≡ Some event) × (taken ≡ reversed (rolled_back depends history i)) × (left ≡ remaining depends history i)
+    → (i : ℕ) × (event : Event) × (has_name name event ≡ true) × (slice_get history i ≡ Some event) × (taken ≡ reverse (rolled_back depends history i)) × (left ≡ remaining depends history i)
 rolled_back_answered n history name taken left answer =
     let done : List Event × List Event = (taken, left) in
-    let s = stands_answered history name (λ standing. Ok (reversed (rolled_back depends history standing.place), remaining depends history standing.place)) done n answer in
-    let same : ◌≡◌ {A = List Event × List Event} (reversed (rolled_back depends history s.0), remaining depends history s.0) done =
-    same_Ok (reversed (rolled_back depends history s.0), remaining depends history s.0) done s.4 in
+    let s = stands_answered history name (λ standing. Ok (reverse (rolled_back depends history standing.place), remaining depends history standing.place)) done n answer in
+    let same : ◌≡◌ {A = List Event × List Event} (reverse (rolled_back depends history s.0), remaining depends history s.0) done =
+    same_Ok (reverse (rolled_back depends history s.0), remaining depends history s.0) done s.4 in
     (s.0, s.1, s.2, s.3, sym (ap (λ d. d.0) same), sym (ap (λ d. d.1) same))
 
-pub reversed_push : (events : List Event) (event : Event) → reversed (events ++ event ∷ []) ≡ event ∷ reversed events
-reversed_push [] event = refl
-reversed_push (x ∷ xs) event = ap (λ l. l ++ x ∷ []) (reversed_push xs event)
-
-reversed_twice : (events : List Event) → reversed (reversed events) ≡ events
-reversed_twice [] = refl
-reversed_twice (x ∷ xs) = reversed_push (reversed xs) x ∙ ap (λ l. x ∷ l) (reversed_twice xs)
-
 pub rolled_back_back : {L : Type 0} (machine : Machine L) (n : ℕ) (history : List Event) (name : StepId) (taken left : List Event) → rollback_of n history name ≡ Ok (taken, left) → IsValid machine history
-    → IsValid machine left × (fold machine (left ++ reversed taken) ≡ fold machine history)
+    → IsValid machine left × (fold machine (left ++ reverse taken) ≡ fold machine history)
 rolled_back_back machine n history name taken left answer valid =
     let u = rolled_back_answered n history name taken left answer in (
       subst (IsValid machine) (sym u.5) (rollback_valid machine history u.0 valid),
-      ap₂ (λ l t. fold machine (l ++ t)) u.5 (ap reversed u.4 ∙ reversed_twice (rolled_back depends history u.0)) ∙ rollback_redo machine history u.0,
+      ap₂ (λ l t. fold machine (l ++ t)) u.5 (ap reverse u.4 ∙ reverse-reverse (rolled_back depends history u.0)) ∙ rollback_redo machine history u.0,
     )

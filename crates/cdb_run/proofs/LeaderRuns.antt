@@ -7,7 +7,8 @@ use Rattle.cdb_base.specs.declared.payload.Payload.TheVariants.{P2, D}
 use Rattle.cdb_leader.proofs.Quorum.{quorum_follows}
 use Rattle.cdb_process.proofs.Members.{IsIn, Grows, same_grows}
 use Rattle.cdb_run.proofs.LeaderLaws.{Chosen, JointLaws, decisions_agree}
-use Rattle.cdb_leader.proofs.Steps.{Local, Heard, SentIn, DecisionBasis, Step, LocalLaws, step_keeps, step_posts, step_delivers}
+use Rattle.cdb_leader.specs.Bases.{DecisionBasis}
+use Rattle.cdb_leader.proofs.Steps.{Local, Heard, SentIn, Step, LocalLaws, step_keeps, step_posts, step_delivers}
 
 -- the local state of each process, and what each has sent
 pub record Run : Type 0 where

@@ -25,6 +25,7 @@ pub mod Restoring
 pub mod Answering
 pub mod Forwarding
 pub mod Answered
+pub mod Standing
 pub mod ListMembers
 pub mod Causes
 pub mod RollingBack

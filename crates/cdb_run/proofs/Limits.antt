@@ -19,7 +19,7 @@ use Rattle.cdb_run.proofs.Taken.{taken_from, parts, some_of}
 abbrev IsNumberedWithin : ℕ → Kind → Type 0
 IsNumberedWithin k kind = (k ≤ 9999) × ((m : ℕ) → kind ≡ Send m → m ≤ 9999)
 
-in_front : (first second : Event) (events : List Event) → IsBefore first second events → IsIn first events
+pub in_front : (first second : Event) (events : List Event) → IsBefore first second events → IsIn first events
 in_front first second [] before = elim before [ ]
 in_front first second (x ∷ xs) (here later) = here
 in_front first second (x ∷ xs) (there before) = there (in_front first second xs before)

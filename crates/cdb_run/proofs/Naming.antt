@@ -126,16 +126,15 @@ module _ {L : Type 0} (machine : Machine L) where
         is_false (sends copy.msg.s copy.msg.m p kind) (λ s. (in_order (Lost copy) (Step p k kind) before).0 (sends_it copy.msg.s copy.msg.m p kind s))
     not_sent_later copy (Lost other) before = refl
 
-    of_processes : (i p k : ℕ) (kind : Kind) → slice_get history i ≡ Some (Step p k kind) → (1 ≤ p) × (p ≤ length machine.firsts)
-    of_processes i p k kind at =
-        of_process history (start machine) reaches.0 reaches.1 (length-map fresh_process machine.firsts) p k kind (in_place history i (Step p k kind) at)
+    pub of_processes : (p k : ℕ) (kind : Kind) → IsIn (Step p k kind) history → (1 ≤ p) × (p ≤ length machine.firsts)
+    of_processes p k kind i = of_process history (start machine) reaches.0 reaches.1 (length-map fresh_process machine.firsts) p k kind i
 
     -- what every history keeps
     pub valid_standing : length machine.firsts ≤ 9 → IsStanding history
     valid_standing few =
         record {
           names_differ = names_differ;
-          processes = λ i p k kind at. let within = of_processes i p k kind at in (within.0, let last = within.1 in omega (arith, last, few));
+          processes = λ i p k kind at. let within = of_processes p k kind (in_place history i (Step p k kind) at) in (within.0, let last = within.1 in omega (arith, last, few));
           lost_after_sent = λ i j copy event less at_i at_j. not_sent_later copy event (before_places history i j (Lost copy) event less at_i at_j);
         }
 

@@ -35,7 +35,7 @@ use Rattle.cdb_run.specs.State.{Machine, ProcessState, RunState, start}
 use Rattle.cdb_run.specs.Step.{sight, sight_in, meets, is_due, wished_payload, wished_cell, queries_after, sent_after, registers_after, after}
 use Rattle.cdb_run.specs.declared.progress.Progress.{Progress}
 use Rattle.cdb_run.proofs.Commutes.{lost_from}
-use Rattle.cdb_run.proofs.Held.{valid, length-map}
+use Rattle.cdb_run.proofs.Held.{valid}
 use Rattle.cdb_run.proofs.Kept.{is_false, left, at_left, lost_kept, received_kept, with_loss}
 use Rattle.cdb_run.proofs.Mails.{sent_is, mail_left}
 use Rattle.cdb_run.proofs.Members.{now_lost, losable}
@@ -238,13 +238,6 @@ module _ {L : Type 0} (machine : Machine L) (last to : RunState L) (p k : ℕ) (
         ∙ set_nth-set_nth_same (map progress last.processes) p left_process.progress (progress_before before left_process.progress kind back)
         ∙ ap (set_nth (map progress last.processes) p) progress_restored
         ∙ set_nth_same (map progress last.processes) p t.process.progress (nth-map progress last.processes p ∙ ap (option_map progress) t.at_process)
-
--- the entry that is read at a place of the history
-pub entry_there : {L B : Type 0} {machine : Machine L} {before : L → B → L} {processes : List (Progress L)} {mail : MailState} {registers : RegisterStates} {history : List Event} {entries : List (Entry B)} (current : IsCurrent machine before processes mail registers history entries) (i : ℕ) (entry : Entry B)
-    → i < length history → entry ≡ get_or entries i entry → slice_get entries i ≡ Some entry
-entry_there {B = B} {entries = entries} current i entry below read =
-    let same = ap length current.history_is ∙ length-map (λ (x : Entry B). x.event) entries in
-    slice_get_read entries (length entries) i entry refl (omega (arith, below, same)) read
 
 module _ {L B : Type 0} {machine : Machine L} {before : L → B → L} {processes : List (Progress L)} {mail : MailState} {registers : RegisterStates} {history : List Event} {entries : List (Entry B)} (current : IsCurrent machine before processes mail registers history entries) (i : ℕ) (entry : Entry B) (at : slice_get entries i ≡ Some entry) (free : IsFree depends history i) where
   -- the state before the free event, which the others reach

@@ -1,6 +1,6 @@
 -- A rollback, event by event, from the last consequence back.
-use Rattle.std.proofs.Common.{◌≡◌, ℕ, zero, suc, ◌+◌, ◌-◌, ◌<◌, ◌≤◌, Bool, true, false, cond, List, [], ◌∷◌, ◌++◌, length, map, filter, Some, Ok, slice_get, append_assoc, length-append, refl, sym, ap, ap₂, ◌∙◌, arith}
-use Rattle.std.proofs.lemmas.List.{length-map}
+use Rattle.std.proofs.Common.{◌≡◌, ℕ, zero, suc, ◌+◌, ◌-◌, ◌<◌, ◌≤◌, List, [], ◌∷◌, ◌++◌, length, map, filter, reverse, Some, Ok, slice_get, append_assoc, refl, sym, ap, ap₂, ◌∙◌, arith}
+use Rattle.std.proofs.lemmas.List.{length-map, length-reverse, reverse-append}
 use Rattle.std.proofs.lemmas.Option.{same_Some}
 use Rattle.std.specs.List.{flat_map}
 use Rattle.cdb_base.specs.Event.{event_name}
@@ -11,28 +11,14 @@ use Rattle.cdb_causal.specs.Causality.{IsFree}
 use Rattle.cdb_causal.specs.Dependence.{depends}
 use Rattle.cdb_causal.specs.DirectCauses.{AreDirectCauses}
 use Rattle.cdb_causal.specs.Names.{IsNamedAt}
-use Rattle.cdb_causal.specs.Rollback.{without, depends_on_one, caught, consequences, rolled_back, remaining}
+use Rattle.cdb_causal.specs.Rollback.{without, consequences, rolled_back, remaining}
 use Rattle.cdb_causal.proofs.Undone.{rolled_back_alone, rolled_back_last}
 use Rattle.cdb_causal.proofs.Walks.{rolled_back_split}
 use Rattle.cdb_run.specs.State.{Machine}
 use Rattle.cdb_run.specs.Step.{IsValid}
-use Rattle.cdb_run.specs.Undo.{event_named, found_at, for_standing, rollback_of, causes_of, answered, left_by, number_removed, with_removed, reversed, direct_among, is_step_of}
-use Rattle.cdb_run.proofs.Answered.{reversed_push}
+use Rattle.cdb_run.specs.Undo.{event_named, found_at, for_standing, rollback_of, causes_of, answered, left_by, number_removed, with_removed, direct_among, is_step_of}
 use Rattle.cdb_run.proofs.Answering.{found_is}
 use Rattle.cdb_run.proofs.Causes.{causes_are}
-
-module _ {E : Type 0} (depends : E → E → Bool) where
-  caught_few : (causes events : List E) → length (caught depends causes events) ≤ length events
-  caught_few causes [] = omega arith
-  caught_few causes (x ∷ xs) =
-      let more = caught_few (causes ++ x ∷ []) xs in
-      let less = caught_few causes xs in
-      elim (depends_on_one depends causes x) as (λ b. length (cond b (x ∷ caught depends (causes ++ x ∷ []) xs) (caught depends causes xs)) ≤ length (x ∷ xs)) [ true ↦ omega (arith, more) | false ↦ omega (arith, less) ]
-
-  pub rolled_back_few : (history : List E) (i : ℕ) → length (rolled_back depends history i) ≤ length history
-  rolled_back_few [] i = omega arith
-  rolled_back_few (x ∷ xs) zero = let few = caught_few (x ∷ []) xs in omega (arith, few)
-  rolled_back_few (x ∷ xs) (suc i) = let few = rolled_back_few xs i in omega (arith, few)
 
 -- the last of the names is that of the last of the events
 record IsSplit (left : List Event) (rest : List StepId) (name : StepId) : Type 0 where
@@ -67,7 +53,7 @@ pub record IsLeft (before : List Event) (i : ℕ) (into : List Event) (history :
   pub rolled : rolled_back depends history i ≡ event ∷ left
   pub names_are : names ≡ map event_name left
   pub remains : remaining depends history i ≡ remaining depends before i
-  pub went : taken ++ reversed (event ∷ left) ≡ into ++ reversed (rolled_back depends before i)
+  pub went : taken ++ reverse (event ∷ left) ≡ into ++ reverse (rolled_back depends before i)
 
 -- only the event itself is left
 pub record IsAlone (before : List Event) (i : ℕ) (into history taken : List Event) : Type 0 where
@@ -75,7 +61,7 @@ pub record IsAlone (before : List Event) (i : ℕ) (into history taken : List Ev
   pub at : slice_get history i ≡ Some event
   pub free : IsFree depends history i
   pub remains : without history i ≡ remaining depends before i
-  pub went : taken ++ event ∷ [] ≡ into ++ reversed (rolled_back depends before i)
+  pub went : taken ++ event ∷ [] ≡ into ++ reverse (rolled_back depends before i)
 
 module _ (before : List Event) (i : ℕ) (into : List Event) where
   pub left_first : (event : Event) → slice_get before i ≡ Some event → IsLeft before i into before (map event_name (consequences depends before i)) into
@@ -87,7 +73,7 @@ module _ (before : List Event) (i : ℕ) (into : List Event) where
         rolled = rolled;
         names_are = refl;
         remains = refl;
-        went = ap (λ l. into ++ reversed l) (sym rolled);
+        went = ap (λ l. into ++ reverse l) (sym rolled);
       }
 
   pub number_left : (event : Event) → slice_get before i ≡ Some event → length (map event_name (consequences depends before i)) + 1 ≡ length (rolled_back depends before i)
@@ -113,10 +99,10 @@ module _ (before : List Event) (i : ℕ) (into : List Event) where
                 names_are = s.rest_is;
                 remains = q.4 ∙ h.remains;
                 went =
-                    append_assoc taken (event ∷ []) (reversed (h.event ∷ s.more))
-                    ∙ ap (λ e. taken ++ e ∷ reversed (h.event ∷ s.more)) (same_Some event s.last (sym at ∙ q.1))
-                    ∙ ap (λ l. taken ++ (l ++ h.event ∷ [])) (sym (reversed_push s.more s.last))
-                    ∙ ap (λ l. taken ++ (reversed l ++ h.event ∷ [])) (sym s.left_is)
+                    append_assoc taken (event ∷ []) (reverse (h.event ∷ s.more))
+                    ∙ ap (λ e. taken ++ e ∷ reverse (h.event ∷ s.more)) (same_Some event s.last (sym at ∙ q.1))
+                    ∙ ap (λ l. taken ++ l) (sym (reverse-append (h.event ∷ s.more) (s.last ∷ [])))
+                    ∙ ap (λ l. taken ++ reverse (h.event ∷ l)) (sym s.left_is)
                     ∙ h.went;
               },
         )
@@ -130,7 +116,7 @@ module _ (before : List Event) (i : ℕ) (into : List Event) where
           at = q.0;
           free = q.1;
           remains = q.2 ∙ h.remains;
-          went = ap (λ l. taken ++ reversed (h.event ∷ l)) (sym no_more) ∙ h.went;
+          went = ap (λ l. taken ++ reverse (h.event ∷ l)) (sym no_more) ∙ h.went;
         }
       where
         empty : (left : List Event) → length left ≡ 0 → left ≡ []
@@ -138,10 +124,6 @@ module _ (before : List Event) (i : ℕ) (into : List Event) where
         empty (x ∷ xs) is = absurd (omega (arith, is))
 
 -- What a rollback is answered, by what is found.
-
-length-reversed : (events : List Event) → length (reversed events) ≡ length events
-length-reversed [] = refl
-length-reversed (x ∷ xs) = omega (arith, length-append (reversed xs) (x ∷ []), length-reversed xs)
 
 pub stands_at : {E : Type 0} (xs : List E) (i : ℕ) → i < length xs → (x : E) × (slice_get xs i ≡ Some x)
 stands_at [] i below = absurd (omega (arith, below))
@@ -152,18 +134,18 @@ module _ (n : ℕ) (history : List Event) (name : StepId) (at : ℕ) (found : ev
   pub found_event : (event : Event) × (slice_get history (at - 1) ≡ Some event)
   found_event = let first = within.0 in let last = within.1 in stands_at history (at - 1) (omega (arith, first, last))
 
-  pub rolled_answer : rollback_of n history name ≡ Ok (reversed (rolled_back depends history (at - 1)), remaining depends history (at - 1))
+  pub rolled_answer : rollback_of n history name ≡ Ok (reverse (rolled_back depends history (at - 1)), remaining depends history (at - 1))
   rolled_answer =
-      ap (λ f. for_standing f (λ stands. Ok (reversed (rolled_back depends history stands.place), remaining depends history stands.place)))
+      ap (λ f. for_standing f (λ stands. Ok (reverse (rolled_back depends history stands.place), remaining depends history stands.place)))
       (found ∙ found_is history (at - 1) found_event.0 found_event.1)
 
   pub number_answer : (number : ℕ) → number ≡ length (rolled_back depends history (at - 1)) → Ok number ≡ number_removed (answered (rollback_of n history name))
-  number_answer number is = ap Ok (is ∙ sym (length-reversed (rolled_back depends history (at - 1)))) ∙ sym (ap (λ a. number_removed (answered a)) rolled_answer)
+  number_answer number is = ap Ok (is ∙ sym (length-reverse (rolled_back depends history (at - 1)))) ∙ sym (ap (λ a. number_removed (answered a)) rolled_answer)
 
   pub history_answer : (left : List Event) → left ≡ remaining depends history (at - 1) → left ≡ left_by history (rollback_of n history name)
   history_answer left is = is ∙ sym (ap (left_by history) rolled_answer)
 
-  pub list_answer : (old new : List Event) → new ≡ old ++ reversed (rolled_back depends history (at - 1)) → new ≡ with_removed old (answered (rollback_of n history name))
+  pub list_answer : (old new : List Event) → new ≡ old ++ reverse (rolled_back depends history (at - 1)) → new ≡ with_removed old (answered (rollback_of n history name))
   list_answer old new is = is ∙ sym (ap (λ a. with_removed old (answered a)) rolled_answer)
 
   -- Why, by the direct causes that are looked for.

@@ -43,7 +43,7 @@ own_steps p history = filter (λ own. is_step_of p own.event) (noted no_writes h
 abbrev pub own_of : {L : Type 0} → RunState L → ℕ → List OwnEvent
 own_of state p = unwrap_or (option_map (λ process. process.own) (nth state.processes p)) []
 
--- the event is no loss of a copy that the mail has not lost
+-- a loss is one of a copy that is lost in the mail too; any step passes
 abbrev pub is_lost_too : MailState → Event → Bool
 is_lost_too mail (Step p k kind) = true
 is_lost_too mail (Lost copy) = is_lost mail copy

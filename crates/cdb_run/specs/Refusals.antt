@@ -116,11 +116,6 @@ step_answer machine setup state p do_act =
     option_map_or (λ process. planned machine setup (mail_of state) state.registers process.progress p do_act)
     (nth state.processes p) (Err refusal.NoProcess)
 
--- the refusal of an answer, if it is one
-abbrev pub refusal_of : {A : Type 0} → Result A Refusal → Option Refusal
-refusal_of (Ok taken) = None
-refusal_of (Err why) = Some why
-
 -- Why a step that was undone is not taken again.
 
 -- a step of that kind receives a message of which the test holds

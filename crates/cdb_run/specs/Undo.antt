@@ -1,5 +1,5 @@
 -- What is taken back, and why it is not.
-use Rattle.std.specs.Prelude.{ℕ, suc, Bool, false, ◌&&◌, ◌==◌, List, [], ◌∷◌, ◌++◌, Result, Ok, Err, find, drop, take, filter, map, flat_map, slice_get, length, if◌then◌else◌}
+use Rattle.std.specs.Prelude.{◌≡◌, ℕ, suc, Bool, true, false, ◌&&◌, ◌==◌, List, [], ◌∷◌, ◌++◌, Some, Result, Ok, Err, find, drop, take, filter, map, reverse, flat_map, slice_get, length, if◌then◌else◌}
 use Rattle.std.specs.List.{position}
 use Rattle.std.specs.Option.{option_map_or}
 use Rattle.cdb_base.specs.Event.{event_name}
@@ -27,6 +27,13 @@ has_name name event = false
 abbrev pub names_processes : ℕ → StepId → Bool
 names_processes n (named.Step name) = is_among n name.p
 names_processes n (named.Lost copy) = is_among n copy.msg.s && is_among n copy.to
+
+-- Among n processes the name is that of the event at place i, from 0, and of no other in the history.
+pub record StandsAt (n : ℕ) (history : List Event) (name : StepId) (i : ℕ) (event : Event) : Type 0 where
+  pub among : names_processes n name ≡ true
+  pub at : slice_get history i ≡ Some event
+  pub named : event_name event ≡ name
+  pub only : (j : ℕ) → IsNamedAt history j name → j ≡ i
 
 -- A standing event, where it stands, and what stood before and came later.
 pub record Found : Type 0 where
@@ -74,10 +81,6 @@ abbrev pub left_by : {A : Type 0} → List Event → Result (A × List Event) Re
 left_by history (Ok done) = done.1
 left_by history (Err why) = history
 
-abbrev pub reversed : List Event → List Event
-reversed [] = []
-reversed (event ∷ events) = reversed events ++ event ∷ []
-
 -- how many events were removed, or the refusal
 abbrev pub number_removed : Result (List Event) Refusal → Result ℕ Refusal
 number_removed (Ok events) = Ok (length events)
@@ -91,7 +94,7 @@ with_removed list (Err why) = list
 -- Rollback: the event and its consequences, the last first, and the history without them.
 abbrev pub rollback_of : ℕ → List Event → StepId → Result (List Event × List Event) Refusal
 rollback_of n history name =
-    for_standing (event_named n history name) (λ found. Ok (reversed (rolled_back depends history found.place), remaining depends history found.place))
+    for_standing (event_named n history name) (λ found. Ok (reverse (rolled_back depends history found.place), remaining depends history found.place))
 
 -- of the events, in their order, those on which the effect depends directly
 abbrev pub direct_among : List Event → Event → List Event

@@ -2,6 +2,7 @@
 
 ghost use Rattle.std.specs.Prelude.{◌≡◌, ◌≤◌, ◌↔◌, [], false, None, Some, is_some, IsTrue, IsSome, IfNone, IsOk, IfOk, OnErr, Ok, Err, MatchOption, MatchResult, option_map, vec_capacity};
 ghost use Rattle.std.specs.Option.{option_copied};
+ghost use Rattle.std.specs.Result.{result_err};
 ghost use Rattle.cdb_causal.specs.Dependence.{depends};
 ghost use Rattle.cdb_causal.specs.Exchange.{IsExchanged};
 ghost use Rattle.cdb_message.specs.Mail.{message_name, copy_name, next_pending, payload_of, is_lost};
@@ -9,7 +10,7 @@ ghost use Rattle.cdb_register.specs.Registers.{register_of};
 ghost use Rattle.cdb_run.specs.Agreement.{AllAgree, HasMajorityIfNeeded};
 ghost use Rattle.cdb_run.specs.Algorithms.{rules};
 ghost use Rattle.cdb_run.specs.Any.{standing_of, IsTrueToSetup};
-ghost use Rattle.cdb_run.specs.Refusals.{refusal_of, IsOfRun, with_taken};
+ghost use Rattle.cdb_run.specs.Refusals.{IsOfRun, with_taken};
 ghost use Rattle.cdb_run.specs.SameState.{ReachSameState};
 ghost use Rattle.cdb_run.specs.Step.{is_among};
 ghost use Rattle.cdb_run.specs.Undo.{undo_of, rollback_of, causes_of, answered, left_by, number_removed, with_removed};
@@ -70,7 +71,7 @@ impl AnyRun {
     /// What a step of process `p` would be refused with, if it would be.
     pub fn refuses(&self, p: u32, act: Act) -> Option<Refusal>
         requires { IsTrueToSetup self.now }
-        ensures { result ≡ refusal_of ((rules (standing_of self.now).setup).step (standing_of self.now).history p act) }
+        ensures { result ≡ result_err ((rules (standing_of self.now).setup).step (standing_of self.now).history p act) }
     {
         match self {
             AnyRun::Leader(run) => run.refuses(p, act),
@@ -305,7 +306,7 @@ impl AnyRun {
     /// The process of that number, where the run has it.
     pub fn process(&self, p: u32) -> Option<Proc>
         requires { IsTrueToSetup self.now }
-        ensures number { MatchOption result (is_among (standing_of self.now).setup.processes p ≡ false) (λ q. (q ≡ p) × (p ≤ (standing_of self.now).setup.processes)) }
+        ensures number { MatchOption result (is_among (standing_of self.now).setup.processes p ≡ false) (λ q. (q ≡ p) × (p ≤ (standing_of self.now).setup.processes) × (1 ≤ p)) }
         ensures none { IfNone result ((rules (standing_of self.now).setup).process (standing_of self.now).history p ≡ None) }
     {
         match self {
@@ -326,7 +327,7 @@ impl AnyRun {
         }
     }
 
-    /// How many steps of the process stand: at most 9,999.
+    /// How many steps of the process stand.
     pub fn steps(&self, p: Proc) -> u32
         requires true_to_setup { IsTrueToSetup self.now }
         requires among { p ≤ (standing_of self.now).setup.processes }

@@ -1,8 +1,6 @@
 //! What one step changes: its process, the mail and the registers.
 
-ghost use Rattle.std.specs.Prelude.{◌≡◌, ◌<◌, ◌≤◌, Some, length, IsTrue, IsSome, IfOk, OnOk, OnErr, option_and_then};
-ghost use Rattle.std.specs.Option.{ForSome};
-ghost use Rattle.cdb_message.specs.Mail.{sent_by};
+ghost use Rattle.std.specs.Prelude.{◌≡◌, ◌<◌, ◌≤◌, Some, IsSome, IfOk, OnOk, OnErr};
 ghost use Rattle.cdb_run.specs.Back.{put_back, overwritten_cell};
 ghost use Rattle.cdb_run.specs.Mail.{mail_after, IsPostable};
 ghost use Rattle.cdb_run.specs.Step.{sight, arriving, input_of, wished_payload, wished_cell, taken_local, progress_after, registers_after};

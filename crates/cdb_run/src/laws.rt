@@ -1,10 +1,11 @@
 //! What holds of the histories of any machine. Each function does nothing: its contract is the law.
 
-ghost use Rattle.std.specs.Prelude.{◌≡◌, ℕ, ◌<◌, ◌≤◌, true, false, List, [], ◌∷◌, ◌++◌, length, Some, Ok, slice_get};
+ghost use Rattle.std.specs.Prelude.{◌≡◌, ℕ, ◌<◌, ◌≤◌, true, false, List, [], ◌∷◌, ◌++◌, length, reverse, Some, Ok, Err, slice_get};
+ghost use Rattle.cdb_base.specs.Event.{event_name};
 ghost use Rattle.cdb_causal.specs.Causality.{IsFree};
 ghost use Rattle.cdb_causal.specs.Dependence.{depends};
 ghost use Rattle.cdb_causal.specs.Exchange.{IsExchanged, IsIn, IsBefore, IsEachOnce};
-ghost use Rattle.cdb_causal.specs.Names.{IsNamedAt};
+ghost use Rattle.cdb_causal.specs.Names.{IsNamedAt, IsNewName, IsFirstDependent};
 ghost use Rattle.cdb_causal.specs.Paths.{IsPath};
 ghost use Rattle.cdb_causal.specs.Reach.{IsCommuting};
 ghost use Rattle.cdb_causal.specs.Rollback.{without, remaining, rolled_back};
@@ -13,10 +14,10 @@ ghost use Rattle.cdb_record.specs.Entries.{events_of};
 ghost use Rattle.cdb_run.specs.OwnSteps.{own_of, own_steps};
 ghost use Rattle.cdb_run.specs.Recorded.{IsRecorded};
 ghost use Rattle.cdb_run.specs.State.{Machine, RunState};
-ghost use Rattle.cdb_run.specs.Undo.{has_name, undo_of, rollback_of, reversed};
+ghost use Rattle.cdb_run.specs.Undo.{StandsAt, has_name, names_processes, undo_of, rollback_of};
 ghost use Rattle.cdb_run.specs.Step.{after, fold, IsEnabled, IsValid, state_of};
 
-use cdb_base::{CopyName, Event, Kind, StepId};
+use cdb_base::{CopyName, Event, Kind, Refusal, StepId};
 use cdb_record::Entry;
 
 /// Two events that do not depend on each other may be taken in either order, from every state: both
@@ -48,10 +49,16 @@ pub fn undo<L>()
     ensures again { (machine : Machine L) (history : List Event) (i : ℕ) (event : Event) → slice_get history i ≡ Some event → IsFree depends history i → IsValid machine history → after machine (state_of machine (without history i)) event ≡ Some (state_of machine history) }
 {}
 
-/// An undo that is answered took the event of that name back, on which no later event depended. What
-/// it leaves is valid, and the event, taken again, leads back to the state that the history reached.
+/// A standing event is taken back exactly where no standing event depends on it; else the first that
+/// does is named. A name that does not stand is refused, and so is one with a process that is not
+/// there. What an answered undo leaves is valid, and the event, taken again, leads back to the state
+/// that the history reached.
 #[tactic(auto, using(crate::proofs::Answered::undone_free))]
 pub fn answered_undo<L>()
+    ensures taken { (n : ℕ) (history : List Event) (name : StepId) (i : ℕ) (event : Event) → StandsAt n history name i event → IsFree depends history i → undo_of n history name ≡ Ok (event, without history i) }
+    ensures needed { (n : ℕ) (history : List Event) (name : StepId) (i : ℕ) (event : Event) → StandsAt n history name i event → (dependent : StepId) → IsFirstDependent history i dependent → undo_of n history name ≡ Err (Refusal.NeededBy dependent) }
+    ensures no_step { (n : ℕ) (history : List Event) (name : StepId) → names_processes n name ≡ true → IsNewName history name → undo_of n history name ≡ Err Refusal.NoStep }
+    ensures no_process { (n : ℕ) (history : List Event) (name : StepId) → names_processes n name ≡ false → undo_of n history name ≡ Err Refusal.NoProcess }
     ensures free { (n : ℕ) (history : List Event) (name : StepId) (event : Event) (left : List Event) → undo_of n history name ≡ Ok (event, left) → (i : ℕ) × (has_name name event ≡ true) × (slice_get history i ≡ Some event) × IsFree depends history i × (left ≡ without history i) }
     ensures back { (machine : Machine L) (n : ℕ) (history : List Event) (name : StepId) (event : Event) (left : List Event) → undo_of n history name ≡ Ok (event, left) → IsValid machine history → IsValid machine left × (after machine (state_of machine left) event ≡ Some (state_of machine history)) }
 {}
@@ -64,28 +71,34 @@ pub fn rollback<L>()
     ensures again { (machine : Machine L) (history : List Event) (i : ℕ) → fold machine (remaining depends history i ++ rolled_back depends history i) ≡ fold machine history }
 {}
 
-/// A rollback that is answered took the event of that name back with its consequences, the last
-/// first. What it leaves is valid, and what it took, taken again in order, leads back to the state
-/// that the history reached.
+/// A rollback takes the event that stands under the name back with its consequences, the last first,
+/// and is refused where none does. What it leaves is valid, and what it took, taken again in order,
+/// leads back to the state that the history reached.
 pub fn answered_rollback<L>()
-    ensures exact { (n : ℕ) (history : List Event) (name : StepId) (taken left : List Event) → rollback_of n history name ≡ Ok (taken, left) → (i : ℕ) × (event : Event) × (has_name name event ≡ true) × (slice_get history i ≡ Some event) × (taken ≡ reversed (rolled_back depends history i)) × (left ≡ remaining depends history i) }
-    ensures back { (machine : Machine L) (n : ℕ) (history : List Event) (name : StepId) (taken left : List Event) → rollback_of n history name ≡ Ok (taken, left) → IsValid machine history → IsValid machine left × (fold machine (left ++ reversed taken) ≡ fold machine history) }
+    ensures answered { (n : ℕ) (history : List Event) (name : StepId) (i : ℕ) (event : Event) → StandsAt n history name i event → rollback_of n history name ≡ Ok (reverse (rolled_back depends history i), remaining depends history i) }
+    ensures no_step { (n : ℕ) (history : List Event) (name : StepId) → names_processes n name ≡ true → IsNewName history name → rollback_of n history name ≡ Err Refusal.NoStep }
+    ensures no_process { (n : ℕ) (history : List Event) (name : StepId) → names_processes n name ≡ false → rollback_of n history name ≡ Err Refusal.NoProcess }
+    ensures exact { (n : ℕ) (history : List Event) (name : StepId) (taken left : List Event) → rollback_of n history name ≡ Ok (taken, left) → (i : ℕ) × (event : Event) × (has_name name event ≡ true) × (slice_get history i ≡ Some event) × (taken ≡ reverse (rolled_back depends history i)) × (left ≡ remaining depends history i) }
+    ensures back { (machine : Machine L) (n : ℕ) (history : List Event) (name : StepId) (taken left : List Event) → rollback_of n history name ≡ Ok (taken, left) → IsValid machine history → IsValid machine left × (fold machine (left ++ reverse taken) ≡ fold machine history) }
 {}
 
-/// An event that was just taken is free, and the history without it is the one before it.
+/// An event that was just taken is free, and the history without it is the one before it: where its
+/// name is new, its undo is answered with just that.
 #[tactic(auto, using(cdb_causal::proofs::Dependents::last_free, cdb_causal::proofs::Dependents::without_push_back))]
 pub fn step_then_undo()
     ensures free { (history : List Event) (event : Event) → IsFree depends (history ++ event ∷ []) (length history) }
     ensures history { (history : List Event) (event : Event) → without (history ++ event ∷ []) (length history) ≡ history }
+    ensures undone { (n : ℕ) (history : List Event) (event : Event) → names_processes n (event_name event) ≡ true → IsNewName history (event_name event) → undo_of n (history ++ event ∷ []) (event_name event) ≡ Ok (event, history) }
 {}
 
 /// In a valid history each event stands once, the steps of one process stand in the order of their
-/// numbers, and a name names one event.
+/// numbers, and a name names one event: each event stands under its name.
 #[tactic(auto, using(crate::proofs::Naming::valid_once, crate::proofs::Naming::numbers_rise))]
 pub fn names<L>()
     ensures once { (machine : Machine L) (history : List Event) → IsValid machine history → IsEachOnce history }
     ensures rising { (machine : Machine L) (history : List Event) → IsValid machine history → (p k l : ℕ) (kind other : Kind) → IsBefore (Event.Step p k kind) (Event.Step p l other) history → k < l }
     ensures apart { (machine : Machine L) (history : List Event) → IsValid machine history → (i j : ℕ) (name : StepId) → IsNamedAt history i name → IsNamedAt history j name → i ≡ j }
+    ensures standing { (machine : Machine L) (history : List Event) → IsValid machine history → (i : ℕ) (event : Event) → slice_get history i ≡ Some event → StandsAt (length machine.firsts) history (event_name event) i event }
 {}
 
 /// A valid history of nine processes at most is one that the look-ups over histories ask for.

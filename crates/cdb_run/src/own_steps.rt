@@ -1,7 +1,7 @@
 //! The steps of one process as a history alone tells them, each access with the number of writes
 //! before it.
 
-ghost use Rattle.std.specs.Prelude.{◌≡◌, ℕ, ◌+◌, ◌<◌, ◌^◌, ◌↔◌, length, IsTrue};
+ghost use Rattle.std.specs.Prelude.{◌≡◌, ◌+◌, ◌<◌, ◌^◌, ◌↔◌, length, IsTrue};
 ghost use Rattle.cdb_base.specs.declared.register.Reg.{Reg as ARegister};
 ghost use Rattle.std.specs.Iterator.{YieldsFirst, item_count};
 ghost use Rattle.cdb_run.specs.OwnSteps.{no_writes, with_write, writes_with, writes_met, noted, own_steps};

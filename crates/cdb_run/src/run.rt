@@ -1,9 +1,10 @@
 //! A run, with one current state and a record of each standing event.
 
-ghost use Rattle.std.specs.Prelude.{◌≡◌, List, ◌<◌, ◌≤◌, ◌↔◌, [], ◌∷◌, ◌++◌, length, false, None, Some, is_some, IsSome, IsOk, IfOk, OnOk, OnErr, IfNone, MatchOption, option_map};
+ghost use Rattle.std.specs.Prelude.{◌≡◌, ◌<◌, ◌≤◌, ◌↔◌, [], ◌∷◌, ◌++◌, length, false, None, Some, is_some, IsSome, IsOk, IfOk, OnOk, OnErr, IfNone, MatchOption, option_map};
 ghost use Rattle.cdb_base.specs.Places.{nth};
 ghost use Rattle.cdb_causal.specs.Standing.{IsStanding};
 ghost use Rattle.std.specs.Option.{option_copied};
+ghost use Rattle.std.specs.Result.{result_err};
 ghost use Rattle.cdb_base.specs.declared.event.Event.{Event};
 ghost use Rattle.cdb_message.specs.Mail.{message_name, next_pending, payload_of, is_lost};
 ghost use Rattle.cdb_record.specs.Entries.{events_of};
@@ -11,7 +12,7 @@ ghost use Rattle.cdb_register.specs.Registers.{register_of};
 ghost use Rattle.cdb_run.specs.Decisions.{decisions_of};
 ghost use Rattle.cdb_run.specs.Mail.{mail_of};
 ghost use Rattle.cdb_run.specs.Machines.{machine_of};
-ghost use Rattle.cdb_run.specs.Refusals.{refusal_of, step_answer, again_answer, lose_answer, IsOfRun, with_taken};
+ghost use Rattle.cdb_run.specs.Refusals.{step_answer, again_answer, lose_answer, IsOfRun, with_taken};
 ghost use Rattle.cdb_run.specs.Step.{IsEnabled, IsValid, is_among, state_of};
 
 use crate::among::process_among;
@@ -188,7 +189,7 @@ impl<P: Process> Run<P> {
 
     /// What a step of process `p` would be refused with, if it would be.
     pub fn refuses(&self, p: u32, act: Act) -> Option<Refusal>
-        ensures { result ≡ refusal_of (step_answer (machine_of P.first P.next P.wish P.place P.last_place self.now.setup) self.now.setup (state_of (machine_of P.first P.next P.wish P.place P.last_place self.now.setup) self.now.history) p act) }
+        ensures { result ≡ result_err (step_answer (machine_of P.first P.next P.wish P.place P.last_place self.now.setup) self.now.setup (state_of (machine_of P.first P.next P.wish P.place P.last_place self.now.setup) self.now.history) p act) }
     {
         match self.plan(p, act) {
             Ok(_) => None,
@@ -327,7 +328,7 @@ impl<P: Process> Run<P> {
         self.progress(p).alive
     }
 
-    /// How many steps of the process stand: at most 9,999.
+    /// How many steps of the process stand.
     pub fn steps(&self, p: Proc) -> u32
         requires { p ≤ self.now.setup.processes }
         ensures { option_map (λ process. process.progress.steps) (nth (state_of (machine_of P.first P.next P.wish P.place P.last_place self.now.setup) self.now.history).processes p) ≡ Some result }

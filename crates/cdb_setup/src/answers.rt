@@ -18,7 +18,7 @@ use serde_json::Value;
 use std::alloc::Global;
 
 /// The process that the value names, where there are this many.
-fn answer_of(value: &Value, count: u8) -> Option<Proc>
+fn process_of(value: &Value, count: u8) -> Option<Proc>
     requires { count ≤ 9 }
     ensures { MatchOption result (¬ IsWholeWithin 1 count (view value.now))
         (λ answer. (view value.now ≡ whole answer) × IsWithin 1 count answer) }
@@ -42,7 +42,7 @@ fn all_answers(
 {
     let mut answers = Vec::new(alloc);
     for (i, value) in values.iter().enumerate() {
-        match answer_of(value, count) {
+        match process_of(value, count) {
             Some(answer) => answers.push(answer)?,
             None => return Err(SetupFault::BadOracle(place + 1, i + 1)),
         }

@@ -33,7 +33,7 @@ fn is_key_name(name: &str) -> bool
     )
 }
 
-/// Tells whether only keys of a setup stand there.
+/// Tells whether only keys of a setup stand there, as the fault says it.
 fn has_known_keys(members: &Map<String, Value>) -> bool
     ensures { MatchBool result (HasKnownKeys (object (members_view members.now.entries)))
         (Holds SetupFault.UnknownKey (object (members_view members.now.entries))) }
@@ -58,7 +58,7 @@ fn missing_key(value: &Value) -> Option<Key>
         .find(|key| is_missing(value, *key))
 }
 
-/// The first needed key that is absent.
+/// The same, told as the fault that it is.
 fn first_missing(value: &Value) -> Option<Key>
     ensures { MatchOption result ((k : KeyName) → ¬ Holds (SetupFault.Missing k) (view value.now))
         (λ k. IsFirstOfTurn 4 (SetupFault.Missing k) (view value.now)) }

@@ -175,7 +175,7 @@ impl Setup {
 
 /// Two setups are equal where their parts are.
 impl PartialEq for Setup {
-    ghost use Rattle.std.specs.Prelude.{Decides};
+    ghost use Rattle.std.specs.Prelude.{IsTrue, ◌↔◌};
     ghost use Rattle.std.specs.Cmp.{partial_equiv_from_equiv};
     ghost use Rattle.cdb_setup.specs.Equal.{are_equal, are_equal_equiv};
 
@@ -185,7 +185,7 @@ impl PartialEq for Setup {
 
     fn eq(&self, other: &Setup) -> bool
         ensures eq { result ≡ are_equal self.now other.now }
-        ensures parts { Decides result (self.now ≡ other.now) }
+        ensures parts { IsTrue result ↔ (self.now ≡ other.now) }
     {
         self.version == other.version
             && self.algorithm == other.algorithm

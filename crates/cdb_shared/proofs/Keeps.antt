@@ -13,7 +13,7 @@ use Rattle.cdb_shared.specs.declared.knowledge.Stage.{Stage}
 use Rattle.cdb_shared.specs.declared.knowledge.Stage.TheVariants.{Opening, Spent, Resting, Holding}
 use Rattle.cdb_shared.specs.declared.knowledge.Place.{Place}
 use Rattle.cdb_shared.specs.declared.knowledge.Knowledge.{Knowledge}
-use Rattle.cdb_shared.specs.Turn.{opening, spent, resting, holding, Knows, AllKnow, FitsAt, in_place, IsHeld, count_of, total_of, Stands, places_from, seen_by, Opened, Taken, Given, MayGrow, MayGive, NoneStands, first_place, other_places, without_first, first_alone, joined}
+use Rattle.cdb_shared.specs.Turn.{opening, spent, resting, holding, Knows, AllKnow, FitsAt, queued, IsHeld, count_of, total_of, Stands, places_from, seen_by, Opened, Taken, Given, MayGrow, MayGive, NoneStands, first_place, other_places, without_first, first_alone, joined}
 
 -- at the start there is one pass, and nothing in the queue
 pub begins : Stands [] (opening ∷ [])
@@ -190,7 +190,7 @@ opens n pass v c is items views room (inl start) at =
     )
 opens n pass v c is items views room (inr t) at = absurd (fits_as Opening t.control t.holder pass v (ap (λ (u : Knowledge). u.stage) is) (t.each pass v at))
 
-stood : (holder : Option ℕ) (c x : Journaled) (items : List Journaled) → x ∷ items ≡ in_place holder c → (holder ≡ None) × (x ≡ c) × (items ≡ [])
+stood : (holder : Option ℕ) (c x : Journaled) (items : List Journaled) → x ∷ items ≡ queued holder c → (holder ≡ None) × (x ≡ c) × (items ≡ [])
 stood None c x items e = (refl, (cc), (cc))
 stood (Some h) c x items e = absurd (cc)
 
@@ -266,7 +266,7 @@ gives n pass v c may items views room (inr t) at =
       inr (record {
         control = c;
         holder = None;
-        stands = ap (λ l. l ++ c ∷ []) (t.stands ∙ ap (λ h. in_place h old) fits.1);
+        stands = ap (λ l. l ++ c ∷ []) (t.stands ∙ ap (λ h. queued h old) fits.1);
         held = tt;
         each = each_set F views pass w (AllKnow-given v.places old c grow fits.0)
             (λ j u apart e. give_other u.stage old c t.holder pass j u fits.1 apart (grown old c views pass j v u grow t.once apart at e) (t.each j u e));
@@ -278,7 +278,7 @@ gives n pass v c may items views room (inr t) at =
 -- while a pass holds the control, none stands in the queue
 pub none_stands : (pass : ℕ) (v : Knowledge) → v.stage ≡ Holding → Learns Stands pass v (λ items. NoneStands v items)
 none_stands pass v holds items views (inl start) at = start.0
-none_stands pass v holds items views (inr t) at = let fits = fits_as Holding t.control t.holder pass v holds (t.each pass v at) in t.stands ∙ ap (λ h. in_place h t.control) fits.1
+none_stands pass v holds items views (inr t) at = let fits = fits_as Holding t.control t.holder pass v holds (t.each pass v at) in t.stands ∙ ap (λ h. queued h t.control) fits.1
 
 -- nor before the opening
 pub none_stands_yet : (pass : ℕ) (v : Knowledge) → v ≡ opening → Learns Stands pass v (λ items. NoneStands v items)

@@ -2,7 +2,7 @@
 use Rattle.std.proofs.Common.{◌≡◌, ◌≢◌, ℕ, length-append, suc, ◌+◌, ◌<◌, ◌≤◌, ◌==◌, Bool, true, false, cond, List, [], ◌∷◌, ◌++◌, length, get_or, take, replicate, refl, sym, ap, ◌∙◌, subst, arith, append_assoc}
 use Rattle.std.proofs.lemmas.List.{replicate-append-replicate, take_more}
 use Rattle.cdb_control.specs.declared.command.Command.{Command}
-use Rattle.cdb_base.specs.declared.refusal.Refusal.TheVariants.{Done as is_done}
+use Rattle.cdb_base.specs.declared.refusal.Refusal.TheVariants as refusal
 use Rattle.cdb_control.specs.Answer.{Answer, Refused}
 use Rattle.cdb_control.specs.declared.control.Entry.{Entry}
 use Rattle.cdb_control.specs.declared.control.CallFault.{CallFault}
@@ -55,7 +55,7 @@ pub length-own : (seat : ℕ) (es : List Entry) → length (own seat es) ≤ len
 length-own seat [] = omega arith
 length-own seat (e ∷ es) = shorter_if (e.seat == seat) e.command (own seat es) (length es) (length-own seat es)
 
-pub NoneDone-push : (rs : List Answer) (r : Answer) → NoneDone rs → r ≢ Refused is_done → NoneDone (rs ++ r ∷ [])
+pub NoneDone-push : (rs : List Answer) (r : Answer) → NoneDone rs → r ≢ Refused refusal.Done → NoneDone (rs ++ r ∷ [])
 NoneDone-push [] r none apart = (apart, tt)
 NoneDone-push (x ∷ rs) r none apart = (none.0, NoneDone-push rs r none.1 apart)
 

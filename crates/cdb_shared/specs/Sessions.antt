@@ -1,7 +1,7 @@
 -- What sessions do: a seat's own calls, the replies to them, and how a driven seat ends.
 use Rattle.std.specs.Prelude.{◌≡◌, ◌≢◌, ℕ, ◌<◌, List, [], ◌∷◌, ◌++◌}
 use Rattle.std.specs.List.{AllByRecursion}
-use Rattle.cdb_base.specs.declared.refusal.Refusal.TheVariants.{Done as is_done}
+use Rattle.cdb_base.specs.declared.refusal.Refusal.TheVariants as refusal
 use Rattle.cdb_control.specs.declared.command.Command.{Command}
 use Rattle.cdb_control.specs.Answer.{Answer, Refused}
 use Rattle.cdb_control.specs.declared.control.CallFault.{CallFault}
@@ -27,11 +27,11 @@ end_at NoMemory = Short
 
 -- none of these is the refusal of a process that is done
 abbrev pub NoneDone : List Answer → Type 0
-NoneDone replies = AllByRecursion (λ r. r ≢ Refused is_done) replies
+NoneDone replies = AllByRecursion (λ r. r ≢ Refused refusal.Done) replies
 
 -- how a driven seat ended, after so many turns of those allowed, by its replies
 abbrev pub IsDriven : End → ℕ → ℕ → List Answer → Type 0
-IsDriven Done count turns replies = (front : List Answer) × (replies ≡ front ++ Refused is_done ∷ []) × NoneDone front
+IsDriven Done count turns replies = (front : List Answer) × (replies ≡ front ++ Refused refusal.Done ∷ []) × NoneDone front
 IsDriven All count turns replies = (count ≡ turns) × NoneDone replies
 IsDriven Stopped count turns replies = (count < turns) × NoneDone replies
 IsDriven Short count turns replies = (count < turns) × NoneDone replies

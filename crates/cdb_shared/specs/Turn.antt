@@ -45,9 +45,9 @@ FitsAt Resting c holder pass v = AllKnow c v.places
 FitsAt Holding c holder pass v = AllKnow c v.places × (holder ≡ Some pass) × (v.held ≡ Some c)
 
 -- what the queue holds
-abbrev pub in_place : Option ℕ → Journaled → List Journaled
-in_place None c = c ∷ []
-in_place (Some pass) c = []
+abbrev pub queued : Option ℕ → Journaled → List Journaled
+queued None c = c ∷ []
+queued (Some pass) c = []
 
 -- where there is a holder, that pass holds
 abbrev pub IsHeld : Option ℕ → List Knowledge → Type 0
@@ -68,7 +68,7 @@ total_of number (v ∷ vs) = count_of number v.places + total_of number vs
 pub record Turns (items : List Journaled) (views : List Knowledge) : Type 0 where
   pub control : Journaled
   pub holder : Option ℕ
-  pub stands : items ≡ in_place holder control
+  pub stands : items ≡ queued holder control
   pub held : IsHeld holder views
   pub each : (pass : ℕ) (v : Knowledge) → get_elem? views pass ≡ some v → FitsAt v.stage control holder pass v
   pub once : (number : ℕ) → total_of number views ≤ 1

@@ -1,6 +1,6 @@
 -- What is read from the left is the command of all the words, or their first fault.
 use Rattle.std.proofs.Common.{◌≡◌, ℕ, List, [], ◌∷◌, ◌++◌, map, Option, Some, None, refl, sym, ap, subst, ◌∙◌, append_assoc}
-use Rattle.std.specs.Prelude.{Result, Ok, Err, codes, decimal}
+use Rattle.std.specs.Prelude.{ok_or, Result, Ok, Err, codes, decimal}
 use Rattle.std.specs.List.{AllByRecursion}
 use Rattle.std.proofs.lemmas.List.{map-append}
 use Rattle.cdb_control.specs.declared.command.Command.{Command}
@@ -14,7 +14,7 @@ use Rattle.cdb_text.specs.Commands.{Part, fixed, number}
 use Rattle.cdb_text.specs.Faults.{IsFirstFault}
 use Rattle.cdb_text.specs.Grammar.{AreWordsOf, IsInRange, written}
 use Rattle.cdb_text.specs.Keywords.{keyword_name}
-use Rattle.cdb_text.specs.Reading.{◌>>=◌, IsRead, keyword_of, number_at, number_of, some_or, word_at}
+use Rattle.cdb_text.specs.Reading.{◌>>=◌, IsRead, keyword_of, number_at, number_of, word_at}
 use Rattle.cdb_text.specs.Verbs.{verb_name}
 use Rattle.cdb_text.proofs.Keys.{keyword_again, keyword_says}
 use Rattle.cdb_text.proofs.Numbers.{number_again, number_says}
@@ -118,7 +118,7 @@ behind_word before words word rest k read next is then =
     subst (λ (ws : List (List ℕ)). IsRead before ws read) same (longer before rest (keyword_name k) read then)
 
 some_says : (word : List ℕ) (ws : List (List ℕ)) (found : Option ℕ) (n : ℕ) (rest : List (List ℕ)) → number_of word ≡ found
-    → ◌>>=◌ {B = ℕ × List (List ℕ)} (some_or found Number) (λ m. Ok (m, ws)) ≡ Ok (n, rest) → word ∷ ws ≡ decimal n ∷ rest
+    → ◌>>=◌ {B = ℕ × List (List ℕ)} (ok_or found Number) (λ m. Ok (m, ws)) ≡ Ok (n, rest) → word ∷ ws ≡ decimal n ∷ rest
 some_says word ws None n rest is e = absurd cc
 some_says word ws (Some m) n rest is e =
     let both : (m, ws) ≡ (n, rest) = cc in

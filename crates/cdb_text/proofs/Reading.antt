@@ -1,6 +1,6 @@
 -- Reading the words of a line from the left, as the private functions do.
 use Rattle.std.proofs.Common.{ℕ, List, [], ◌∷◌, Option, Some, None}
-use Rattle.std.specs.Prelude.{Result, Ok, Err}
+use Rattle.std.specs.Prelude.{ok_or, Result, Ok, Err}
 use Rattle.cdb_base.specs.declared.act.Act.TheVariants as act
 use Rattle.cdb_control.specs.declared.command.Command.{Command}
 use Rattle.cdb_control.specs.declared.command.Command.TheVariants.{Step, Auto, Lose, Redo, Forget, Break, Unbreak, Resume, Show, Decisions}
@@ -12,7 +12,7 @@ use Rattle.cdb_text.specs.declared.keyword.Keyword.{Keyword}
 use Rattle.cdb_text.specs.declared.keyword.Keyword.TheVariants as key
 use Rattle.cdb_text.specs.declared.verb.Verb.{Verb}
 use Rattle.cdb_text.specs.declared.verb.Verb.TheVariants as verb
-use Rattle.cdb_text.specs.Reading.{◌>>=◌, ended, keyword_of, number_at, number_of, register_at, some_or, word_at}
+use Rattle.cdb_text.specs.Reading.{◌>>=◌, ended, keyword_of, number_at, number_of, register_at, word_at}
 use Rattle.cdb_text.specs.Verbs.{on_step, on_loss}
 
 -- ---- a command that ends with one number, with two or with three
@@ -78,7 +78,7 @@ view_of word (Some key.Regs) words = ended (Show view.Regs) words
 view_of word (Some key.Mail) words = ended (Show view.Mail) words
 view_of word (Some key.History) words = ended (Show view.History) words
 view_of word other words = do
-  p ← some_or (number_of word) Word
+  p ← ok_or (number_of word) Word
   ended (Show (view.Proc p)) words
 
 unfoldable pub show_at : List (List ℕ) → Result Command LineFault
@@ -91,7 +91,7 @@ show_at words = do
 abbrev pub event_of : Verb → List ℕ → Option Keyword → List (List ℕ) → Result Command LineFault
 event_of verb word (Some key.Lost) words = three_at (on_loss verb) words
 event_of verb word other words = do
-  p ← some_or (number_of word) Number
+  p ← ok_or (number_of word) Number
   one_at (on_step verb p) words
 
 unfoldable pub event_at : Verb → List (List ℕ) → Result Command LineFault

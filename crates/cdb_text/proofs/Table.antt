@@ -1,6 +1,6 @@
 -- The states of the grammar, from the last word of a command to the first.
 use Rattle.std.proofs.Common.{◌≡◌, ℕ, List, [], ◌∷◌, ◌++◌, false, map, bytes_eq, Option, Some, None, refl, ◌∙◌, inl, inr}
-use Rattle.std.specs.Prelude.{codes, decimal}
+use Rattle.std.specs.Prelude.{codes, decimal, ok_or}
 use Prim.Native.String.{String}
 use Rattle.cdb_base.specs.declared.act.Act.TheVariants as act
 use Rattle.cdb_base.specs.declared.register.Reg.{Reg}
@@ -18,7 +18,7 @@ use Rattle.cdb_text.specs.Commands.{Part, fixed, number, register, parts_of}
 use Rattle.cdb_text.specs.Faults.{GoesOn}
 use Rattle.cdb_text.specs.Grammar.{IsInRange, written}
 use Rattle.cdb_text.specs.Keywords.{keyword_name}
-use Rattle.cdb_text.specs.Reading.{◌>>=◌, word_at, number_of, register_of, keyword_of, some_or, ended}
+use Rattle.cdb_text.specs.Reading.{◌>>=◌, word_at, number_of, register_of, keyword_of, ended}
 use Rattle.cdb_text.specs.Verbs.{on_step, on_loss}
 use Rattle.cdb_text.proofs.Reading.{command_at, step_at, act_of, query_at, break_at, stop_of, show_at, event_at, one_at, two_at, three_at}
 use Rattle.cdb_text.proofs.Keys.{keyword_says, number_is_no_keyword, number_is_no_register, register_says}
@@ -114,7 +114,7 @@ break_state reads =
 abbrev shows : List Part
 shows = fixed "show" ∷ []
 
-number_view : Reads shows show_at → (word : List ℕ) → ((rest : List (List ℕ)) → show_at (word ∷ rest) ≡ (some_or (number_of word) Word >>= λ p. ended (Show (view.Proc p)) rest)) → Choice shows show_at Word word
+number_view : Reads shows show_at → (word : List ℕ) → ((rest : List (List ℕ)) → show_at (word ∷ rest) ≡ (ok_or (number_of word) Word >>= λ p. ended (Show (view.Proc p)) rest)) → Choice shows show_at Word word
 number_view reads word on =
     number_choice shows show_at (λ p. ended (Show (view.Proc p))) Word word (number_of word) reads refl (λ rest none. on rest ∙ rw none refl) (λ p rest some. on rest ∙ rw some refl)
     (λ p range. end_state (Show (view.Proc p)) (shows ++ number p ∷ []) refl (tt, (range, tt)))
@@ -143,7 +143,7 @@ show_state reads =
 module _ (v : Verb) (name : String) (differs : bytes_eq (codes name) (codes "show") ≡ false) (on_steps : (p k : ℕ) → parts_of (on_step v p k) ≡ fixed name ∷ number p ∷ number k ∷ [])
     (on_losses : (s m p : ℕ) → parts_of (on_loss v s m p) ≡ fixed name ∷ fixed "lost" ∷ number s ∷ number m ∷ number p ∷ []) where
   number_event : Reads (fixed name ∷ []) (event_at v) → (word : List ℕ)
-      → ((rest : List (List ℕ)) → event_at v (word ∷ rest) ≡ (some_or (number_of word) Number >>= λ p. one_at (on_step v p) rest)) → Choice (fixed name ∷ []) (event_at v) Number word
+      → ((rest : List (List ℕ)) → event_at v (word ∷ rest) ≡ (ok_or (number_of word) Number >>= λ p. one_at (on_step v p) rest)) → Choice (fixed name ∷ []) (event_at v) Number word
   number_event reads word on =
       number_choice (fixed name ∷ []) (event_at v) (λ p. one_at (on_step v p)) Number word (number_of word) reads refl (λ rest none. on rest ∙ rw none refl) (λ p rest some. on rest ∙ rw some refl)
       (λ p range. one_state name differs (number p ∷ []) (on_step v p) (on_steps p) (range, tt))

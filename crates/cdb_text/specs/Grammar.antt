@@ -1,9 +1,10 @@
 -- The script grammar: which line is which command.
-use Rattle.std.specs.Prelude.{◌≡◌, ℕ, ◌≤◌, List, ◌++◌, map, codes, decimal, nat_eq}
+use Rattle.std.specs.Prelude.{◌≡◌, ℕ, ◌≤◌, List, map, codes, decimal, nat_eq}
 use Rattle.std.specs.List.{AllByRecursion, join_with_byte, slice_split}
 use Rattle.cdb_base.specs.declared.register.Reg.TheVariants.{R, Dec}
 use Rattle.cdb_control.specs.declared.command.Command.{Command}
 use Rattle.cdb_text.specs.Commands.{Part, fixed, number, register, parts_of}
+use Rattle.cdb_text.specs.Names.{register_text}
 
 -- a line is cut at every space
 abbrev pub words_of : List ℕ → List (List ℕ)
@@ -13,8 +14,7 @@ words_of line = slice_split (λ byte. nat_eq byte 32) line
 abbrev pub written : Part → List ℕ
 written (fixed text) = codes text
 written (number n) = decimal n
-written (register (R p)) = codes "r" ++ decimal p
-written (register Dec) = codes "dec"
+written (register x) = register_text x
 
 -- a number has one to six digits, the first not 0
 abbrev pub IsInRange : Part → Type 0

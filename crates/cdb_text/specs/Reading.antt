@@ -1,5 +1,5 @@
 -- What the private functions find in the words of a line.
-use Rattle.std.specs.Prelude.{◌≡◌, ◌≢◌, ℕ, ◌<◌, ◌&&◌, ◌==◌, ◌-◌, ◌++◌, Bool, not, nat_lt, nat_le, List, [], ◌∷◌, length, slice_index, codes, find, Option, Some, None, Result, Ok, Err, if◌then◌else◌}
+use Rattle.std.specs.Prelude.{◌≡◌, ◌≢◌, ℕ, ◌<◌, ◌&&◌, ◌==◌, ◌-◌, ◌++◌, Bool, not, nat_lt, nat_le, List, [], ◌∷◌, length, slice_index, codes, find, Option, Some, None, ok_or, Result, Ok, Err, if◌then◌else◌}
 use Rattle.std.specs.Str.{bytes_eq, all_ascii_digits}
 use Rattle.std.specs.Str.Parse.{digits_value}
 use Rattle.cdb_base.specs.declared.register.Reg.{Reg}
@@ -29,10 +29,6 @@ is_number word = all_ascii_digits word && nat_lt 0 (length word) && nat_le (leng
 unfoldable pub number_of : List ℕ → Option ℕ
 number_of word = if is_number word then Some (digits_value 10 word) else None
 
-abbrev pub some_or : {A : Type 0} → Option A → LineFault → Result A LineFault
-some_or (Some x) fault = Ok x
-some_or None fault = Err fault
-
 -- the next word, and those after it
 abbrev pub word_at : List (List ℕ) → Result (List ℕ × List (List ℕ)) LineFault
 word_at [] = Err Missing
@@ -41,7 +37,7 @@ word_at (word ∷ words) = Ok (word, words)
 abbrev pub number_at : List (List ℕ) → Result (ℕ × List (List ℕ)) LineFault
 number_at words = do
   word ← word_at words
-  n ← some_or (number_of word.0) Number
+  n ← ok_or (number_of word.0) Number
   Ok (n, word.1)
 
 -- the command, where no word is left
@@ -60,7 +56,7 @@ register_of word = if bytes_eq word (codes "dec") then Some Dec else (if length 
 abbrev pub register_at : List (List ℕ) → Result (Reg × List (List ℕ)) LineFault
 register_at words = do
   word ← word_at words
-  x ← some_or (register_of word.0) Word
+  x ← ok_or (register_of word.0) Word
   Ok (x, word.1)
 
 -- what a function returned, seen by view, is what reading gives

@@ -71,7 +71,7 @@ mail_text (copy ∷ copies) = flat_map copy_line (copy ∷ copies)
 abbrev pub decision_text : ℕ × ℕ → List ℕ
 decision_text pair = codes " " ++ decimal pair.0 ++ codes "=" ++ decimal pair.1
 
--- each decision after a space, or ` none`
+-- `decisions` and then each decision after a space, or `decisions none`
 abbrev pub decisions_text : List (ℕ × ℕ) → List ℕ
 decisions_text [] = codes "decisions none\n"
 decisions_text (pair ∷ pairs) = codes "decisions" ++ flat_map decision_text (pair ∷ pairs) ++ codes "\n"

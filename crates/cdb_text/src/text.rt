@@ -41,7 +41,7 @@ fn push_break(text: &mut String, paused: Option<u32>) -> Result<(), AllocError>
     }
 }
 
-/// An event that was taken, the decision that it gave, and the end of the line.
+/// An event that was taken, and the decision that it gave.
 fn push_taken(text: &mut String, event: &Event, decides: Option<Val>) -> Result<(), AllocError>
     ensures { OnOk result (string_bytes text.new ≡ string_bytes text.old ++ event_text event.now ++ decides_text decides) }
 {

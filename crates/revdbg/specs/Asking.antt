@@ -1,5 +1,6 @@
 -- What the words ask for.
-use Rattle.std.specs.Prelude.{◌≡◌, ◌⊎◌, ℕ, ◌≤◌, List, [], codes, map, Option, Some, None, decimal, unwrap_or}
+use Rattle.std.specs.Prelude.{◌≡◌, ◌⊎◌, ℕ, ◌≤◌, List, [], codes, map, Option, Some, None, unwrap_or}
+use Rattle.std.specs.Str.Parse.{IsNumeral, digits_value, without_leading_plus}
 use Rattle.clap.specs.Words.{Kinds, IsAmong, Row, Text, first_of, all_of, kind_of}
 use Rattle.clap.specs.declared.error.kind.ErrorKind.{ErrorKind}
 use Rattle.clap.specs.declared.error.kind.ErrorKind.TheVariants.{DisplayHelp}
@@ -21,9 +22,11 @@ text_at id rows = unwrap_or (first_of id rows) []
 abbrev pub texts_at : Text → List Row → List Text
 texts_at id rows = unwrap_or (all_of id rows) []
 
--- a number of 0 to 99,999, and the one that the text is in decimal
+-- a number of 0 to 99,999, and the one that the text's digits write, behind a plus or not
 abbrev pub IsTurns : Text → ℕ → Type 0
-IsTurns text turns = (turns ≤ 99999) × ((n : ℕ) → n ≤ 99999 → text ≡ decimal n → turns ≡ n)
+IsTurns text turns =
+    (turns ≤ 99999)
+    × (IsNumeral 10 (without_leading_plus text) → digits_value 10 (without_leading_plus text) ≤ 99999 → turns ≡ digits_value 10 (without_leading_plus text))
 
 -- the subcommand that the matches name, with its texts in their order
 abbrev pub Asks : Option (Text × List Row) → Asked → Type 0

@@ -1,7 +1,12 @@
 //! revdbg: a causal reversible debugger for indulgent consensus.
 #![tactic(auto)]
 
-ghost use Rattle.std.specs.Prelude.{◌≤◌};
+ghost use Rattle.std.specs.Prelude.{◌≡◌, ◌≢◌, ◌⊎◌, ◌≤◌, [], length, map, MatchResult};
+ghost use Rattle.cdb_play.specs.Statuses.{play_status, race_status};
+ghost use Rattle.clap.specs.Words.{fault_of};
+ghost use Rattle.revdbg.specs.Asking.{IsOfKinds, ask_status_of};
+ghost use Rattle.revdbg.specs.CommandLine.{program};
+ghost use Rattle.revdbg.specs.Racing.{IsStatusOfRace, NeedsTooManySeats};
 
 mod request;
 mod words;
@@ -29,7 +34,9 @@ const ONE_PROCESS: &[u8] =
 const USAGE: u8 = 2;
 
 /// Says how a play ended, and answers the status. The name is that of what it could not read.
-fn ended(rt: &HostRuntime, outcome: Result<(), PlayFault>, name: &str) -> u8 {
+fn ended(rt: &HostRuntime, outcome: Result<(), PlayFault>, name: &str) -> u8
+    ensures { MatchResult outcome (λ _. result ≡ 0) (λ fault. result ≡ play_status fault) }
+{
     match outcome {
         Ok(()) => 0,
         Err(fault) => {
@@ -40,7 +47,9 @@ fn ended(rt: &HostRuntime, outcome: Result<(), PlayFault>, name: &str) -> u8 {
 }
 
 /// Says how a race ended, and answers the status.
-fn race_ended(rt: &HostRuntime, outcome: Result<(), RaceFault>) -> u8 {
+fn race_ended(rt: &HostRuntime, outcome: Result<(), RaceFault>) -> u8
+    ensures { MatchResult outcome (λ _. result ≡ 0) (λ fault. result ≡ race_status fault) }
+{
     match outcome {
         Ok(()) => 0,
         Err(fault) => {
@@ -98,6 +107,8 @@ fn race_scripts<R: Threads + Wait + Sync>(
     scripts: &[Vec<u8>],
 ) -> u8
     requires { turns ≤ 99999 }
+    ensures says { IsStatusOfRace result setup.now turns scripts.now }
+    ensures seats { NeedsTooManySeats setup.now (length scripts.now) → (result ≡ 2) ⊎ (result ≡ 6) }
 {
     let parts = match Setup::read(rt.alloc(), setup) {
         Ok(parts) => parts,
@@ -141,7 +152,10 @@ fn race_files<R: Threads + Wait + Sync>(
 }
 
 /// Does what the words ask for, and answers the status.
-fn run<R: Threads + Wait + Sync>(rt: &HostRuntime, threads: &R, words: &[&str]) -> u8 {
+fn run<R: Threads + Wait + Sync>(rt: &HostRuntime, threads: &R, words: &[&str]) -> u8
+    ensures { fault_of program (map (λ word. word.now) words.entry.now) ≢ []
+        → (fault : AskFault) × IsOfKinds (fault_of program (map (λ word. word.now) words.entry.now)) fault × (result ≡ ask_status_of fault) }
+{
     match asked(rt.alloc(), words) {
         Ok(Asked::Script) => play_input(rt),
         Ok(Asked::Play { setup, script }) => play_files(rt, setup, script),

@@ -2,11 +2,12 @@
 
 ghost use Rattle.std.specs.Prelude.{◌≡◌, ◌≢◌, ◌+◌, ◌≤◌, ◌++◌, length, map, Err, IfErr, OnOk, OnErr};
 ghost use Rattle.std.specs.List.{flat_map};
+ghost use Rattle.std.specs.Io.KnownBytes.{append_known};
 ghost use Rattle.cdb_control.specs.Answer.{told};
 ghost use Rattle.cdb_race.specs.Races.{all_told};
 ghost use Rattle.cdb_text.specs.Texts.{text_of};
 ghost use Rattle.cdb_play.specs.Races.{seat_text, seats_text, end_text, verdict_text, have_one_value, last_decisions, IsFaultOfOutput};
-ghost use Rattle.cdb_play.specs.Streams.{after, AddsBeginning, one_more};
+ghost use Rattle.cdb_play.specs.Streams.{AddsBeginning, one_more};
 
 use crate::fault::RaceFault;
 use crate::piece::Piece::{Number, Text};
@@ -19,7 +20,7 @@ use std::alloc::Global;
 
 /// Writes the text of a reply.
 fn write_reply<W: Sink>(alloc: Global, reply: &Reply, out: &mut W) -> Result<(), RaceFault>
-    ensures ok { OnOk result (W.contents out.new ≡ after (W.contents out.old) (text_of (told reply.now))) }
+    ensures ok { OnOk result (W.contents out.new ≡ append_known (W.contents out.old) (text_of (told reply.now))) }
     ensures err { OnErr result (AddsBeginning (W.contents out.old) (W.contents out.new) (text_of (told reply.now))) }
     ensures fault { IfErr result IsFaultOfOutput }
     ensures write { result ≡ Err RaceFault.Write → W.failures out.new ≡ one_more (W.failures out.old) }
@@ -32,7 +33,7 @@ fn write_reply<W: Sink>(alloc: Global, reply: &Reply, out: &mut W) -> Result<(),
 
 /// Writes the texts of the replies, one after the other.
 fn write_replies<W: Sink>(alloc: Global, replies: &[Reply], out: &mut W) -> Result<(), RaceFault>
-    ensures ok { OnOk result (W.contents out.new ≡ after (W.contents out.old) (flat_map text_of (map told replies.now))) }
+    ensures ok { OnOk result (W.contents out.new ≡ append_known (W.contents out.old) (flat_map text_of (map told replies.now))) }
     ensures err { OnErr result (AddsBeginning (W.contents out.old) (W.contents out.new) (flat_map text_of (map told replies.now))) }
     ensures fault { IfErr result IsFaultOfOutput }
     ensures write { result ≡ Err RaceFault.Write → W.failures out.new ≡ one_more (W.failures out.old) }
@@ -51,7 +52,7 @@ fn write_seat<W: Sink>(
     replies: &[Reply],
     out: &mut W,
 ) -> Result<(), RaceFault>
-    ensures ok { OnOk result (W.contents out.new ≡ after (W.contents out.old) (seat_text seat (map told replies.now))) }
+    ensures ok { OnOk result (W.contents out.new ≡ append_known (W.contents out.old) (seat_text seat (map told replies.now))) }
     ensures err { OnErr result (AddsBeginning (W.contents out.old) (W.contents out.new) (seat_text seat (map told replies.now))) }
     ensures fault { IfErr result IsFaultOfOutput }
     ensures write { result ≡ Err RaceFault.Write → W.failures out.new ≡ one_more (W.failures out.old) }
@@ -69,7 +70,7 @@ fn write_seats<W: Sink>(
     out: &mut W,
 ) -> Result<(), RaceFault>
     requires { first + length seats.now ≤ 65 }
-    ensures ok { OnOk result (W.contents out.new ≡ after (W.contents out.old) (seats_text first (all_told seats.now))) }
+    ensures ok { OnOk result (W.contents out.new ≡ append_known (W.contents out.old) (seats_text first (all_told seats.now))) }
     ensures err { OnErr result (AddsBeginning (W.contents out.old) (W.contents out.new) (seats_text first (all_told seats.now))) }
     ensures fault { IfErr result IsFaultOfOutput }
     ensures write { result ≡ Err RaceFault.Write → W.failures out.new ≡ one_more (W.failures out.old) }
@@ -110,7 +111,7 @@ fn write_end<W: Sink>(
     decisions: Vec<(Proc, Val)>,
     out: &mut W,
 ) -> Result<(), RaceFault>
-    ensures ok { OnOk result (W.contents out.new ≡ after (W.contents out.old) (end_text decisions.items)) }
+    ensures ok { OnOk result (W.contents out.new ≡ append_known (W.contents out.old) (end_text decisions.items)) }
     ensures err { OnErr result (AddsBeginning (W.contents out.old) (W.contents out.new) (end_text decisions.items)) }
     ensures fault { IfErr result IsFaultOfOutput }
     ensures write { result ≡ Err RaceFault.Write → W.failures out.new ≡ one_more (W.failures out.old) }
@@ -130,7 +131,7 @@ pub(super) fn write_race<W: Sink>(
     out: &mut W,
 ) -> Result<(), RaceFault>
     requires { control.now.setup.processes + length replies.now ≤ 64 }
-    ensures ok { OnOk result (W.contents out.new ≡ after (W.contents out.old) (seats_text (control.now.setup.processes + 1) (all_told replies.now) ++ end_text (last_decisions control.now))) }
+    ensures ok { OnOk result (W.contents out.new ≡ append_known (W.contents out.old) (seats_text (control.now.setup.processes + 1) (all_told replies.now) ++ end_text (last_decisions control.now))) }
     ensures err { OnErr result (AddsBeginning (W.contents out.old) (W.contents out.new) (seats_text (control.now.setup.processes + 1) (all_told replies.now) ++ end_text (last_decisions control.now))) }
     ensures fault { IfErr result IsFaultOfOutput }
     ensures write { result ≡ Err RaceFault.Write → W.failures out.new ≡ one_more (W.failures out.old) }

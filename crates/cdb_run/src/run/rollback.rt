@@ -1,12 +1,12 @@
 //! Steps and losses of a run, taken back with their consequences, and why they cannot be taken back
 //! alone.
 
-ghost use Rattle.std.specs.Prelude.{◌≡◌, ℕ, ◌+◌, ◌-◌, ◌<◌, ◌≤◌, [], ◌∷◌, ◌++◌, length, Some, slice_get, vec_len, vec_capacity, IfOk, OnErr, MatchResult, Ok, Err};
+ghost use Rattle.std.specs.Prelude.{◌≡◌, ℕ, ◌+◌, ◌-◌, ◌<◌, ◌≤◌, [], ◌∷◌, ◌++◌, length, reverse, Some, slice_get, vec_len, vec_capacity, IfOk, OnErr, MatchResult, Ok, Err};
 ghost use Rattle.cdb_causal.specs.Dependence.{depends as depends_of};
 ghost use Rattle.cdb_causal.specs.Names.{IsNamedAt};
 ghost use Rattle.cdb_causal.specs.Rollback.{without, rolled_back, remaining};
 ghost use Rattle.cdb_message.specs.Mail.{message_name, copy_name};
-ghost use Rattle.cdb_run.specs.Undo.{IsFreeName, rollback_of, causes_of, answered, left_by, number_removed, with_removed, reversed};
+ghost use Rattle.cdb_run.specs.Undo.{IsFreeName, rollback_of, causes_of, answered, left_by, number_removed, with_removed};
 
 use crate::run::Run;
 use cdb_base::{Event, Kind, NoMemory, Refusal, Reg, StepId};
@@ -52,7 +52,7 @@ impl<P: Process> Run<P> {
         requires to_len { at ≤ length self.old.history }
         ensures number { IfOk result (λ number. number ≡ length (rolled_back depends_of self.old.history (at - 1))) }
         ensures after { IfOk result (λ _. self.new ≡ record self.old { history = remaining depends_of self.old.history (at - 1) }) }
-        ensures list { IfOk result (λ _. taken.new.items ≡ taken.old.items ++ reversed (rolled_back depends_of self.old.history (at - 1))) }
+        ensures list { IfOk result (λ _. taken.new.items ≡ taken.old.items ++ reverse (rolled_back depends_of self.old.history (at - 1))) }
         ensures err { OnErr result (self.new ≡ self.old) }
         ensures list_err { OnErr result (taken.new.items ≡ taken.old.items) }
         ensures capacity { vec_capacity taken.old ≤ vec_capacity taken.new }

@@ -1,7 +1,7 @@
 //! Two sessions that are given the same commands, one always a command behind the other, and are asked
 //! again where memory was wanting.
 
-use super::session::{Session, compare, text_of};
+use super::session::{Session, compare_line, text_of};
 use cdb_control::{Command, Reply};
 use std::process::Abort;
 
@@ -40,7 +40,7 @@ impl Pair {
     /// Gives a command to both, and compares the texts of the replies, and what both show.
     fn give<R: Abort + AllocGlobal>(&mut self, rt: &R, command: &Command, expected: &str) {
         let reply = self.lead(rt, command);
-        compare(rt, &text_of(rt, &reply), expected);
+        compare_line(rt, &text_of(rt, &reply), expected);
         self.behind.give(rt, 1, command, expected);
         assert!(rt; self.ahead.shows_same(&self.behind), "{expected}");
     }

@@ -32,7 +32,7 @@ fn is_line(text: &[u8], line: &str) -> bool {
 }
 
 /// Compares the text of a reply.
-pub fn compare<R: Abort>(rt: &R, text: &[u8], expected: &str) {
+pub fn compare_line<R: Abort>(rt: &R, text: &[u8], expected: &str) {
     assert!(rt; is_line(text, expected), "{expected}");
 }
 
@@ -120,7 +120,7 @@ impl Session {
         expected: &str,
     ) {
         let reply = self.execute(rt, seat, command);
-        compare(rt, &text_of(rt, &reply), expected);
+        compare_line(rt, &text_of(rt, &reply), expected);
         assert!(rt; self.last_seat() == Some(seat));
     }
 

@@ -1,9 +1,9 @@
 use Rattle.std.proofs.Common.{◌≡◌, sym, ap, ◌∙◌, refl, ◌∷◌, [], ◌++◌, take, drop, ◌+◌}
 use Rattle.std.proofs.lemmas.List.{take_more}
 use Rattle.std.proofs.lemmas.Result.{err_from_is_err_and}
-use Rattle.cdb_play.specs.Streams.{after}
+use Rattle.std.specs.Io.KnownBytes.{append_known}
 use Rattle.cdb_play.specs.Transcripts.{transcript}
-use Rattle.cdb_play.proofs.Added.{parted, after_nothing}
+use Rattle.cdb_play.proofs.Added.{parted, append_nothing}
 use Rattle.cdb_play.proofs.Transcribing.{so_far, no_texts, one_command, one_reply, cut_short}
 use Rattle.cdb_play.proofs.plays.perform_all.Goals as goal
 
@@ -11,7 +11,7 @@ pub loop-command-init : goal.loop-command-init
 loop-command-init g c =
     record {
       control = c.in-Ok.ensures.opened;
-      written = sym (ap (after (g.W.Sink.contents c.args.out.now)) (no_texts (g.T.Runs.rules c.args.setup) c.args.setup) ∙ after_nothing (g.W.Sink.contents c.args.out.now));
+      written = sym (ap (append_known (g.W.Sink.contents c.args.out.now)) (no_texts (g.T.Runs.rules c.args.setup) c.args.setup) ∙ append_nothing (g.W.Sink.contents c.args.out.now));
       failures = refl;
     }
 
@@ -42,6 +42,6 @@ loop-command-preserved g c =
     ap (λ other. take i commands ++ other ∷ []) c.command-item.is ∙ sym (take_more commands i command c.loop-command-test.true) in
     record {
       control = one_command rules_of setup old now new (take i commands) command c.loop-command.control so.control so.written c.perform.new.control c.in_ok-perform.ensures.done ∙ ap (so_far setup) more;
-      written = one_reply rules_of setup old now new (take i commands) command c.loop-command.control so.control so.written c.in_ok-perform.ensures.ok ∙ ap (λ done. after old (transcript (rules_of setup) setup done)) more;
+      written = one_reply rules_of setup old now new (take i commands) command c.loop-command.control so.control so.written c.in_ok-perform.ensures.ok ∙ ap (λ done. append_known old (transcript (rules_of setup) setup done)) more;
       failures = c.in_ok-perform.ensures.unfailed (λ wrong. absurd cc) ∙ so.failures;
     }

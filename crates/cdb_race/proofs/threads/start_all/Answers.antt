@@ -29,7 +29,7 @@ loop-seat-preserved g c =
       room = omega arith;
       each = λ k before handle low.
           let here : seat ≡ get_or all (vec_len c.args.seats - 1 - length c.loop-seat.handles.items) before = sym (get_or-middle front was.left.0 all seat before _ whole place) in
-          let one = subst (λ (s : SeatView). IsPromise plan s c.in_ok-handle.handle.promise) here c.in_ok-handle.ensures in
+          let one = subst (λ (s : SeatView). IsPromise plan s c.in_ok-handle.handle.promise) here c.in_ok-handle.ensures.promise in
           each_push (λ (i : ℕ) (h : PromisedHandle Ran Runs). IsPromise plan (get_or all (vec_len c.args.seats - 1 - i) before) h.promise) c.loop-seat.handles.items c.push_reserved.new.self.items c.in_ok-handle.handle c.push_reserved.ensures.items
           (λ i h below. was.each i before h (omega (arith, handles))) one k handle (omega (arith, c.push_reserved.new.self.ok.0));
     }

@@ -1,12 +1,13 @@
 use Rattle.std.proofs.Common.{arith, ◌-◌, ap, ◌∙◌, sym, subst, [], List, set}
 use Rattle.std.specs.List.{AllByRecursion}
+use Rattle.cdb_base.specs.Places.{without_last}
 use Rattle.cdb_base.specs.declared.event.Event.{Event}
 use Rattle.cdb_control.proofs.Alls.{all-get_or, all-slice_get}
 use Rattle.cdb_control.proofs.Room.{swap}
 use Rattle.cdb_control.proofs.Steps.{redone-as}
 use Rattle.cdb_control.specs.Commands.{decides}
 use Rattle.cdb_control.specs.Room.{StoredState, StoredList}
-use Rattle.cdb_control.specs.State.{State, redo_of, last_of, without_last}
+use Rattle.cdb_control.specs.State.{State, redo_of, last_of}
 use Rattle.cdb_run.specs.Refusals.{IsOfRun, with_taken}
 use Rattle.cdb_control.proofs.state.ControlState.redo.Goals as goal
 

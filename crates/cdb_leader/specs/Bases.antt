@@ -4,8 +4,8 @@
 -- matters here, and nothing of how the two are kept.
 use Rattle.std.specs.Prelude.{◌≡◌, ℕ, Option, Some, None, ◌⊎◌}
 use Rattle.cdb_base.specs.declared.payload.Payload.{Payload}
-use Rattle.cdb_base.specs.declared.payload.Payload.TheVariants.{P1, P2}
-use Rattle.cdb_leader.proofs.Quorum.{IsQuorum}
+use Rattle.cdb_base.specs.declared.payload.Payload.TheVariants.{P1, P2, D}
+use Rattle.cdb_leader.specs.Quorum.{IsQuorum}
 
 -- a quorum named one leader in the first phase of round r, and that leader's own estimate there was v
 pub record AuxBasis (q : ℕ) (heard : ℕ → Payload → Type 0) (r v : ℕ) : Type 0 where
@@ -31,3 +31,7 @@ pub record LeaveBasis (q : ℕ) (sent : Payload → Type 0) (heard : ℕ → Pay
 -- a quorum answered v in the second phase of round r
 abbrev pub AnsweredAlike : ℕ → (ℕ → Payload → Type 0) → ℕ → ℕ → Type 0
 AnsweredAlike q heard r v = IsQuorum q (λ s. heard s (P2 r (Some v)))
+
+-- a decision message with v, or a quorum that answered v in the second phase of one round
+abbrev pub DecisionBasis : ℕ → (ℕ → Payload → Type 0) → ℕ → Type 0
+DecisionBasis q heard v = ((s : ℕ) × heard s (D v)) ⊎ ((r : ℕ) × AnsweredAlike q heard r v)

@@ -1,0 +1,95 @@
+-- What a process sends, for the inputs that it takes in turn, keeps the laws.
+use Rattle.std.proofs.Common.{◌≡◌, ℕ, zero, suc, ◌<◌, List, [], ◌∷◌, ◌++◌, length, slice_index_or, Contains, Option, Some, None, ◌⊎◌, inl, inr, refl, sym, ◌∙◌, subst, append_assoc, append-nil, arith}
+use Rattle.std.specs.Option.{option_map_or, option_to_list}
+use Rattle.cdb_base.specs.declared.payload.Payload.{Payload}
+use Rattle.cdb_base.specs.declared.payload.Payload.TheVariants.{P1, P2, D}
+use Rattle.cdb_process.specs.declared.Input.{Input}
+use Rattle.cdb_process.specs.declared.Input.TheVariants as input
+use Rattle.cdb_process.proofs.Members.{IsIn}
+use Rattle.cdb_leader.specs.LocalState.{LocalState, first_state}
+use Rattle.cdb_leader.specs.Table.{sent_at, next_state}
+use Rattle.cdb_leader.specs.Trace.{state_along, sent_of, sent_along, IsHeard, IsFounded, SentMessagesAreFounded}
+use Rattle.cdb_leader.proofs.Steps.{Heard, SentIn, Step, LocalLaws, entry, first_laws, step_keeps, aux_follows, decision_follows, first_or_leave_follows}
+use Rattle.cdb_leader.proofs.TableSteps.{local_of, posted_by, WasSent, table_step}
+
+-- ---- two ways to say that something is in a list
+
+contained_in : {X : Type 0} (xs : List X) (x : X) → Contains xs x → IsIn x xs
+contained_in [] x (k, low, is) = absurd (omega arith)
+contained_in (y ∷ ys) x (zero, low, is) = inl (sym is)
+contained_in (y ∷ ys) x (suc k, low, is) = inr (contained_in ys x (k, omega arith, is))
+
+in_contained : {X : Type 0} (xs : List X) (x : X) → IsIn x xs → Contains xs x
+in_contained [] x none = elim none [ ]
+in_contained (y ∷ ys) x (inl same) = (0, omega arith, sym same)
+in_contained (y ∷ ys) x (inr later) = let rest = in_contained ys x later in let low = rest.1 in (suc rest.0, omega arith, rest.2)
+
+-- ---- one input after another
+
+-- what was sent to the process by the others, as far as the input tells
+abbrev mail_of : Input → ℕ → List Payload
+mail_of (input.Recv p x) o = x ∷ []
+mail_of i o = []
+
+known : (i : Input) → WasSent (mail_of i) i
+known (input.Recv p x) = inl refl
+known (input.Query l) = tt
+known input.Send = tt
+known (input.Read r c) = tt
+known (input.Write r) = tt
+known input.Local = tt
+known input.Learn = tt
+
+posted_is : (s : LocalState) (i : Input) (sent : List Payload) → posted_by s i sent ≡ sent ++ sent_of s i
+posted_is s input.Send sent = refl
+posted_is s (input.Recv p x) sent = sym (append-nil sent)
+posted_is s (input.Query l) sent = sym (append-nil sent)
+posted_is s (input.Read r c) sent = sym (append-nil sent)
+posted_is s (input.Write r) sent = sym (append-nil sent)
+posted_is s input.Local sent = sym (append-nil sent)
+posted_is s input.Learn sent = sym (append-nil sent)
+
+module _ (q : ℕ) where
+  -- the laws hold after an input that is taken
+  taken_keeps : (s t : LocalState) (sent : List Payload) (i : Input) → s.quorum ≡ q → LocalLaws q (local_of s) sent → next_state s i ≡ Some t
+      → (t.quorum ≡ q) × LocalLaws q (local_of t) (sent ++ sent_of s i)
+  taken_keeps s t sent i same laws taken =
+      let step = table_step (mail_of i) s t sent i (known i) taken in
+      let by_q : Step q (mail_of i) (local_of s) sent (local_of t) (posted_by s i sent) =
+      subst (λ n. Step n (mail_of i) (local_of s) sent (local_of t) (posted_by s i sent)) same step.0 in (
+        step.1 ∙ same,
+        subst (λ posted. LocalLaws q (local_of t) posted) (posted_is s i sent) (step_keeps q (mail_of i) (local_of s) sent (local_of t) (posted_by s i sent) laws by_q),
+      )
+
+  keeps_along : (s : LocalState) (sent : List Payload) → s.quorum ≡ q → LocalLaws q (local_of s) sent → (is : List Input)
+      → LocalLaws q (local_of (state_along s is)) (sent ++ sent_along s is)
+  keeps_along s sent same laws [] = subst (λ xs. LocalLaws q (local_of s) xs) (sym (append-nil sent)) laws
+  keeps_along s sent same laws (i ∷ is) = go (next_state s i) refl (λ t more kept. keeps_along t (sent ++ sent_of s i) more kept is)
+    where
+      go : (o : Option LocalState) → next_state s i ≡ o
+          → ((t : LocalState) → t.quorum ≡ q → LocalLaws q (local_of t) (sent ++ sent_of s i) → LocalLaws q (local_of (state_along t is)) ((sent ++ sent_of s i) ++ sent_along t is))
+          → LocalLaws q (local_of (option_map_or (λ t. state_along t is) o s)) (sent ++ option_map_or (λ t. sent_of s i ++ sent_along t is) o [])
+      go None none rest = subst (λ xs. LocalLaws q (local_of s) xs) (sym (append-nil sent)) laws
+      go (Some t) taken rest =
+          let kept = taken_keeps s t sent i same laws taken in
+          subst (λ xs. LocalLaws q (local_of (state_along t is)) xs) (append_assoc sent (sent_of s i) (sent_along t is)) (rest t kept.0 kept.1)
+
+  founded : (s : LocalState) (sent : List Payload) → LocalLaws q (local_of s) sent → IsFounded q s sent
+  founded s sent laws = record {
+    one_proposal = λ r e f k l a b. laws.one_proposal r e k f l (contained_in sent (P1 r e k) a) (contained_in sent (P1 r f l) b);
+    one_answer = λ r a b x y. laws.one_answer r a b (contained_in sent (P2 r a) x) (contained_in sent (P2 r b) y);
+    estimate = λ r e k it.
+        first_or_leave_follows q (SentIn sent) (Contains sent) (Heard s.inbox) (IsHeard s.inbox) (in_contained sent) (λ o x h. in_contained s.inbox (entry o x) h) r e
+        (laws.entered r e k (contained_in sent (P1 (suc r) e k) it));
+    answer = λ r v it.
+        aux_follows q (SentIn sent) (Contains sent) (Heard s.inbox) (IsHeard s.inbox) (in_contained sent) (λ o x h. in_contained s.inbox (entry o x) h) r v
+        (laws.aux_rests r v (contained_in sent (P2 r (Some v)) it));
+    decision = λ v it.
+        decision_follows q (SentIn sent) (Contains sent) (Heard s.inbox) (IsHeard s.inbox) (in_contained sent) (λ o x h. in_contained s.inbox (entry o x) h) v
+        (laws.decided v (contained_in sent (D v) it));
+    announced = λ v is. in_contained sent (D v) (laws.announced v is);
+  }
+
+pub sent_messages_are_founded : SentMessagesAreFounded
+sent_messages_are_founded q input is =
+    founded q (state_along (first_state q input) is) (sent_along (first_state q input) is) (keeps_along q (first_state q input) [] refl (first_laws q input) is)

@@ -1,0 +1,11 @@
+-- Quorums of processes.
+use Rattle.std.specs.Prelude.{◌≡◌, ℕ, zero, suc, ◌+◌, ◌≤◌, Bool, true, cond}
+
+-- how many of the processes 1 to n pass the test
+abbrev pub count_processes : ℕ → (ℕ → Bool) → ℕ
+count_processes zero test = 0
+count_processes (suc n) test = count_processes n test + cond (test (suc n)) 1 0
+
+-- at least q processes of 1 to 9, picked by a test, have the property
+abbrev pub IsQuorum : ℕ → (ℕ → Type 0) → Type 0
+IsQuorum q P = (test : ℕ → Bool) × (q ≤ count_processes 9 test) × ((s : ℕ) → 1 ≤ s → s ≤ 9 → test s ≡ true → P s)

@@ -1,0 +1,48 @@
+-- What one process of the leader machine sends and adopts, for the inputs that it takes in turn, up to the first that
+-- it does not accept.
+use Rattle.std.specs.Prelude.{◌≡◌, ℕ, suc, List, [], ◌∷◌, ◌++◌, Contains, Option, Some, ◌⊎◌}
+use Rattle.std.specs.Option.{option_map_or, option_to_list}
+use Rattle.cdb_base.specs.declared.payload.Payload.{Payload}
+use Rattle.cdb_base.specs.declared.payload.Payload.TheVariants.{P1, P2, D}
+use Rattle.cdb_process.specs.declared.Input.{Input}
+use Rattle.cdb_process.specs.declared.Input.TheVariants.{Send}
+use Rattle.cdb_leader.specs.declared.inbox.Entry.{Entry}
+use Rattle.cdb_leader.specs.Bases.{AuxBasis, LeaveBasis, DecisionBasis}
+use Rattle.cdb_leader.specs.LocalState.{LocalState, first_state}
+use Rattle.cdb_leader.specs.Table.{sent_at, next_state}
+
+-- the state that the inputs lead to
+abbrev pub state_along : LocalState → List Input → LocalState
+state_along s [] = s
+state_along s (i ∷ is) = option_map_or (λ t. state_along t is) (next_state s i) s
+
+-- the payload that is sent by an input, if one is
+abbrev pub sent_of : LocalState → Input → List Payload
+sent_of s Send = option_to_list (sent_at s.place s)
+sent_of s i = []
+
+-- the payloads that are sent
+abbrev pub sent_along : LocalState → List Input → List Payload
+sent_along s [] = []
+sent_along s (i ∷ is) = option_map_or (λ t. sent_of s i ++ sent_along t is) (next_state s i) []
+
+-- the payload came from that process
+abbrev pub IsHeard : List Entry → ℕ → Payload → Type 0
+IsHeard inbox from payload = Contains inbox (record { from = from; payload = payload })
+
+-- what a process with quorum q has sent, and on what of its inbox that rests
+pub record IsFounded (q : ℕ) (s : LocalState) (sent : List Payload) : Type 0 where
+  -- one first-phase and one second-phase message a round
+  pub one_proposal : (r e f k l : ℕ) → Contains sent (P1 r e k) → Contains sent (P1 r f l) → (e ≡ f) × (k ≡ l)
+  pub one_answer : (r : ℕ) (a b : Option ℕ) → Contains sent (P2 r a) → Contains sent (P2 r b) → a ≡ b
+  -- an estimate rests on the answers of the round before, an answer with a value on a quorum for one leader, a
+  -- decision on answers that were alike, or on a decision that was received
+  pub estimate : (r e k : ℕ) → Contains sent (P1 (suc r) e k) → (r ≡ 0) ⊎ LeaveBasis q (Contains sent) (IsHeard s.inbox) r e
+  pub answer : (r v : ℕ) → Contains sent (P2 r (Some v)) → AuxBasis q (IsHeard s.inbox) r v
+  pub decision : (v : ℕ) → Contains sent (D v) → DecisionBasis q (IsHeard s.inbox) v
+  -- what the process has decided it has sent
+  pub announced : (v : ℕ) → s.decision ≡ Some v → Contains sent (D v)
+
+-- whatever inputs a process takes in turn
+abbrev pub SentMessagesAreFounded : Type 0
+SentMessagesAreFounded = (q input : ℕ) (is : List Input) → IsFounded q (state_along (first_state q input) is) (sent_along (first_state q input) is)
