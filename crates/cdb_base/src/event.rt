@@ -1,5 +1,5 @@
 ghost use Rattle.std.specs.Prelude.{◌≡◌};
-ghost use Rattle.cdb_base.specs.Event.{event_name};
+ghost use Rattle.cdb_base.specs.Event.{event_name, is_step_of};
 
 use crate::name::{CopyName, Proc, StepId, StepName};
 use crate::register::Reg;
@@ -34,6 +34,16 @@ impl Event {
         match *self {
             Event::Step { p, k, .. } => StepId::Step(StepName { p, k }),
             Event::Lost(copy) => StepId::Lost(copy),
+        }
+    }
+
+    /// Whether the event is a step of process `p`.
+    pub fn is_step_of(&self, p: Proc) -> bool
+        ensures { result ≡ is_step_of p self.now }
+    {
+        match self {
+            Event::Step { p: q, .. } => *q == p,
+            Event::Lost(_) => false,
         }
     }
 }

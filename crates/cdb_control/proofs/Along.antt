@@ -1,5 +1,6 @@
 -- What one entry more does to a replay.
 use Rattle.std.proofs.Common.{◌≡◌, ℕ, zero, suc, ◌<◌, ◌≤◌, List, [], ◌∷◌, ◌++◌, length, replicate, refl, sym, ap, ◌∙◌, subst, arith, length-append}
+use Rattle.std.proofs.lemmas.List.Sums.{fold-append}
 use Rattle.cdb_base.specs.declared.event.Event.{Event}
 use Rattle.cdb_control.specs.declared.command.Command.{Command}
 use Rattle.cdb_control.specs.declared.control.Entry.{Entry}
@@ -8,23 +9,15 @@ use Rattle.cdb_run.specs.Rules.{Rules}
 use Rattle.cdb_run.specs.Lawful.{AreLawful}
 use Rattle.cdb_control.specs.State.{State, first_state, waiting}
 use Rattle.cdb_control.specs.Commands.{obey}
-use Rattle.cdb_control.specs.Journal.{entry, replay_from, replay, AreOfSeats, IsReplayed}
-use Rattle.cdb_control.proofs.Alls.{all-replicate}
+use Rattle.cdb_control.specs.Journal.{entry, replay, IsReplayed}
+use Rattle.cdb_control.proofs.Alls.{all-push, all-replicate}
 use Rattle.cdb_control.proofs.Table.{Adds, obey-adds}
 use Rattle.cdb_run.specs.Refusals.{IsOfRun}
 use Rattle.std.specs.List.{AllByRecursion}
 
-replay_from-push : (rules : Rules) (t : State) (es : List Entry) (e : Entry) → replay_from rules t (es ++ e ∷ []) ≡ obey rules (replay_from rules t es) e.seat e.command
-replay_from-push rules t [] e = refl
-replay_from-push rules t (x ∷ es) e = replay_from-push rules (obey rules t x.seat x.command) es e
-
 pub replay-push : (rules : Rules) (setup : Parts) (seats : ℕ) (es : List Entry) (e : Entry) → replay rules setup seats (es ++ e ∷ []) ≡ obey rules (replay rules setup seats es) e.seat e.command
 unfolding replay
-replay-push rules setup seats es e = replay_from-push rules (first_state setup seats) es e
-
-pub AreOfSeats-push : (seats : ℕ) (es : List Entry) (e : Entry) → AreOfSeats seats es → 1 ≤ e.seat → e.seat ≤ seats → AreOfSeats seats (es ++ e ∷ [])
-AreOfSeats-push seats [] e all low high = (low, high, tt)
-AreOfSeats-push seats (x ∷ es) e all low high = (all.0, all.1, AreOfSeats-push seats es e all.2 low high)
+replay-push rules setup seats es e = fold-append (λ state x. obey rules state x.seat x.command) (first_state setup seats) es (e ∷ [])
 
 waiting-none : (n : ℕ) → waiting (replicate n []) ≡ 0
 waiting-none zero = refl
@@ -63,7 +56,7 @@ IsReplayed-push rules seats es t u e longer lawful is was low high room after =
       replayed = replay-push rules t.setup seats es e ∙ ap (λ (v : State). obey rules v e.seat e.command) was.replayed ∙ sym after;
       some_seat = was.some_seat;
       few_seats = was.few_seats;
-      of_seats = AreOfSeats-push seats es e was.of_seats low high;
+      of_seats = all-push _ es e was.of_seats (low, high);
       few_entries = omega (arith, more, room);
       lists = adds.lists ∙ was.lists;
       numbers = omega (arith, more, adds.numbers, was.numbers);

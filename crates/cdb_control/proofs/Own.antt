@@ -40,10 +40,6 @@ own-push_other seat other es command apart =
     other_seat : (n m : ℕ) → n ≢ m → (n == m) ≡ false
     other_seat n m ne = grind arith
 
-pub replay_from-append : (rules : Rules) (t : State) (es fs : List Entry) → replay_from rules t (es ++ fs) ≡ replay_from rules (replay_from rules t es) fs
-replay_from-append rules t [] fs = refl
-replay_from-append rules t (e ∷ es) fs = replay_from-append rules (obey rules t e.seat e.command) es fs
-
 replies_if : (b : Bool) (r : Answer) (xs ys zs : List Answer) → zs ≡ xs ++ ys → cond b (r ∷ zs) zs ≡ cond b (r ∷ xs) xs ++ ys
 replies_if true r xs ys zs e = ap (λ l. r ∷ l) e
 replies_if false r xs ys zs e = e

@@ -1,5 +1,5 @@
 -- What `auto` does, by the rules of a run.
-use Rattle.std.specs.Prelude.{ℕ, List, [], ◌∷◌, Option, Some, None, Result, Ok, Err, is_none, if◌then◌else◌}
+use Rattle.std.specs.Prelude.{ℕ, List, [], ◌∷◌, Option, Some, None, Result, Err, is_none, find, ok_or}
 use Rattle.std.specs.Result.{result_err}
 use Rattle.cdb_base.specs.declared.act.Act.{Act}
 use Rattle.cdb_base.specs.declared.act.Act.TheVariants as act
@@ -20,8 +20,7 @@ acts_of_auto pending = act.Learn ∷ acts_after_learn pending
 
 -- the first of the acts that is not refused
 abbrev pub first_possible : (Act → Option Refusal) → List Act → Result Act Refusal
-first_possible refuses [] = Err refusal.Idle
-first_possible refuses (a ∷ more) = if is_none (refuses a) then Ok a else first_possible refuses more
+first_possible refuses acts = ok_or (find (λ a. is_none (refuses a)) acts) refusal.Idle
 
 -- where no step at all is possible, a crash is refused, and so is `auto`
 abbrev pub chosen : Option Refusal → Result Act Refusal → Result Act Refusal

@@ -1,6 +1,7 @@
 -- A control as contracts see it: a setup, a number of seats, a journal, and the room of each seat. The control state
 -- is the journal's replay.
-use Rattle.std.specs.Prelude.{◌≡◌, ℕ, ◌+◌, ◌≤◌, ◌==◌, List, [], ◌∷◌, ◌++◌, length, replicate, if◌then◌else◌}
+use Rattle.std.specs.Prelude.{◌≡◌, ℕ, ◌+◌, ◌≤◌, ◌==◌, List, [], ◌∷◌, ◌++◌, length, replicate, fold, if◌then◌else◌}
+use Rattle.std.specs.List.{AllByRecursion}
 use Rattle.cdb_control.specs.declared.command.Command.{Command}
 use Rattle.cdb_control.specs.declared.control.Entry.{Entry}
 use Rattle.cdb_setup.specs.Parts.{Parts, AreInRange}
@@ -24,8 +25,7 @@ opened setup seats = record { setup = setup; seats = seats; journal = []; rooms 
 
 -- the state after these entries
 abbrev pub replay_from : Rules → State → List Entry → State
-replay_from rules t [] = t
-replay_from rules t (e ∷ es) = replay_from rules (obey rules t e.seat e.command) es
+replay_from rules t journal = fold (λ state e. obey rules state e.seat e.command) t journal
 
 unfoldable pub replay : Rules → Parts → ℕ → List Entry → State
 replay rules setup seats journal = replay_from rules (first_state setup seats) journal
@@ -59,8 +59,7 @@ Begins seen journal = (rest : List Entry) × (journal ≡ seen ++ rest)
 
 -- each entry is of a seat from 1 to this number
 abbrev pub AreOfSeats : ℕ → List Entry → Type 0
-AreOfSeats seats [] = Unit {0}
-AreOfSeats seats (e ∷ es) = (1 ≤ e.seat) × (e.seat ≤ seats) × AreOfSeats seats es
+AreOfSeats seats journal = AllByRecursion (λ e. (1 ≤ e.seat) × (e.seat ≤ seats)) journal
 
 -- the state is the journal's replay, and numbers stay within what a journal can reach
 pub record IsReplayed (rules : Rules) (setup : Parts) (seats : ℕ) (journal : List Entry) (state : State) : Type 0 where

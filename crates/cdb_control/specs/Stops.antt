@@ -1,6 +1,8 @@
 -- Breakpoints: a list of numbered stops in order of setting.
-use Rattle.std.specs.Prelude.{ℕ, ◌+◌, ◌++◌, nat_eq, ◌==◌, ◌<◌, Bool, true, false, not, ◌&&◌, List, [], ◌∷◌, Option, Some, None, is_some, if◌then◌else◌}
+use Rattle.std.specs.Prelude.{ℕ, ◌+◌, ◌++◌, nat_eq, ◌==◌, ◌<◌, Bool, true, false, not, ◌&&◌, List, [], ◌∷◌, Option, is_some, option_map, find}
+use Rattle.std.specs.List.{AllByRecursion}
 use Rattle.std.specs.Map.{remove_entry}
+use Rattle.cdb_base.specs.Event.{is_step_of}
 use Rattle.cdb_base.specs.declared.event.Event.{Event}
 use Rattle.cdb_base.specs.declared.event.Event.TheVariants.{Step}
 use Rattle.cdb_base.specs.declared.event.Kind.TheVariants as kind
@@ -11,7 +13,6 @@ use Rattle.cdb_control.specs.declared.command.Stop.{Stop}
 use Rattle.cdb_control.specs.declared.command.Stop.TheVariants as stop
 use Rattle.cdb_control.specs.declared.stops.Taken.{Taken}
 use Rattle.cdb_run.specs.Step.{is_among}
-use Rattle.cdb_run.specs.Undo.{is_step_of}
 
 abbrev pub Stops : Type 0
 Stops = List (ℕ × Stop)
@@ -33,8 +34,7 @@ fires taken (stop.Write register) = is_write_of register taken.event
 
 -- the number of the first breakpoint that a step fires. Numbers rise in order of setting, so it is the least
 abbrev pub first_fired : Taken → Stops → Option ℕ
-first_fired taken [] = None
-first_fired taken (b ∷ more) = if fires taken b.1 then Some b.0 else first_fired taken more
+first_fired taken stops = option_map (λ b. b.0) (find (λ b. fires taken b.1) stops)
 
 -- whether a stop names a process or a register of a process that is not among 1 to n
 abbrev pub names_none_of : ℕ → Stop → Bool
@@ -51,8 +51,7 @@ pub record Numbered : Type 0 where
 
 -- each number is below this one
 abbrev pub AreBelow : ℕ → Stops → Type 0
-AreBelow next [] = Unit {0}
-AreBelow next (b ∷ more) = (b.0 < next) × AreBelow next more
+AreBelow next stops = AllByRecursion (λ b. b.0 < next) stops
 
 abbrev pub with_stop : Numbered → Stop → Numbered
 with_stop b stop = record { stops = b.stops ++ (b.next, stop) ∷ []; next = b.next + 1 }

@@ -7,8 +7,8 @@ ghost use Rattle.cdb_control.specs.Views.{open_copies};
 ghost use Rattle.cdb_register.specs.Registers.{register_of};
 ghost use Rattle.cdb_run.proofs.Lawful.{rules_are_lawful};
 ghost use Rattle.cdb_run.specs.Algorithms.{rules as rules_of_setup};
-ghost use Rattle.cdb_run.specs.Any.{standing_of, IsTrueToSetup};
-ghost use Rattle.cdb_run.specs.Current.{Standing};
+ghost use Rattle.cdb_run.specs.Any.{run_view, IsTrueToSetup};
+ghost use Rattle.cdb_run.specs.Current.{RunView};
 ghost use Rattle.cdb_run.specs.Undo.{rollback_of, causes_of, answered, left_by, number_removed, with_removed};
 
 use crate::named::Named;
@@ -28,12 +28,12 @@ pub struct RunOfSetup {
 }
 
 impl Model for RunOfSetup {
-    ghost use Rattle.cdb_run.specs.Any.{standing_of, IsTrueToSetup};
-    ghost use Rattle.cdb_run.specs.Current.{Standing};
+    ghost use Rattle.cdb_run.specs.Any.{run_view, IsTrueToSetup};
+    ghost use Rattle.cdb_run.specs.Current.{RunView};
 
-    ghost Value = { Standing };
+    ghost Value = { RunView };
 
-    ghost view = { λ fields. standing_of fields.run };
+    ghost view = { λ fields. run_view fields.run };
 
     ghost invariant = { λ fields. IsTrueToSetup fields.run };
 }
@@ -41,7 +41,7 @@ impl Model for RunOfSetup {
 /// The copy of a message for a process, where the message was sent.
 fn copy_of(run: &AnyRun, p: &Proc, name: &MsgName) -> Option<(Proc, MsgName, Payload)>
     requires { IsTrueToSetup run.now }
-    ensures { option_to_list result ≡ map (λ payload. (p.now, name.now, payload)) (option_to_list (payload_of ((rules_of_setup (standing_of run.now).setup).mail (standing_of run.now).history) name.now)) }
+    ensures { option_to_list result ≡ map (λ payload. (p.now, name.now, payload)) (option_to_list (payload_of ((rules_of_setup (run_view run.now).setup).mail (run_view run.now).history) name.now)) }
 {
     let payload = run.payload(*name).copied()?;
     Some((*p, *name, payload))
@@ -54,8 +54,8 @@ fn push_open_copies(
     copies: &mut Vec<(Proc, MsgName, Payload)>,
 ) -> Result<(), NoMemory>
     requires true_to_setup { IsTrueToSetup run.now }
-    requires among { p.now ≤ (standing_of run.now).setup.processes }
-    ensures { OnOk result (copies.new.items ≡ copies.old.items ++ open_copies ((rules_of_setup (standing_of run.now).setup).mail (standing_of run.now).history) p.now) }
+    requires among { p.now ≤ (run_view run.now).setup.processes }
+    ensures { OnOk result (copies.new.items ≡ copies.old.items ++ open_copies ((rules_of_setup (run_view run.now).setup).mail (run_view run.now).history) p.now) }
 {
     // Names the type inside a payload, which the check finds in no other part of the function.
     let _value: Option<Val> = None;
@@ -72,7 +72,7 @@ fn push_open_copies(
 impl RunOfSetup {
     /// The run, whose calls show more of it.
     pub fn any(&self) -> &AnyRun
-        ensures run { standing_of result.now ≡ self.now }
+        ensures run { run_view result.now ≡ self.now }
         ensures true_to_setup { IsTrueToSetup result.now }
     {
         &self.run

@@ -1,9 +1,9 @@
 //! Breakpoints.
 ghost use Rattle.std.specs.Prelude.{◌≡◌, ◌≤◌, ◌==◌, ◌&&◌, [], IfOk, OnOk, OnErr, length, nat_eq, not, is_some};
 ghost use Rattle.std.specs.Map.{lookup};
+ghost use Rattle.cdb_base.specs.Event.{is_step_of};
 ghost use Rattle.cdb_control.specs.Stops.{fires, first_fired, is_receive, is_write_of, names_none_of, with_stop, without_stop};
 ghost use Rattle.cdb_run.specs.Step.{is_among};
-ghost use Rattle.cdb_run.specs.Undo.{is_step_of};
 
 use crate::Stop;
 use cdb_base::{Event, Kind, NoMemory, Reg, Val};

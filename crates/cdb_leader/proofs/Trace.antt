@@ -6,9 +6,10 @@ use Rattle.cdb_base.specs.declared.payload.Payload.TheVariants.{P1, P2, D}
 use Rattle.cdb_process.specs.declared.Input.{Input}
 use Rattle.cdb_process.specs.declared.Input.TheVariants as input
 use Rattle.cdb_process.proofs.Members.{IsIn}
+use Rattle.cdb_process.specs.Walk.{state_along}
 use Rattle.cdb_leader.specs.LocalState.{LocalState, first_state}
 use Rattle.cdb_leader.specs.Table.{sent_at, next_state}
-use Rattle.cdb_leader.specs.Trace.{state_along, sent_of, sent_along, IsHeard, IsFounded, SentMessagesAreFounded}
+use Rattle.cdb_leader.specs.Trace.{sent_of, sent_along, IsHeard, IsFounded, SentMessagesAreFounded}
 use Rattle.cdb_leader.proofs.Steps.{Heard, SentIn, Step, LocalLaws, entry, first_laws, step_keeps, aux_follows, decision_follows, first_or_leave_follows}
 use Rattle.cdb_leader.proofs.TableSteps.{local_of, posted_by, WasSent, table_step}
 
@@ -62,17 +63,17 @@ module _ (q : ℕ) where
       )
 
   keeps_along : (s : LocalState) (sent : List Payload) → s.quorum ≡ q → LocalLaws q (local_of s) sent → (is : List Input)
-      → LocalLaws q (local_of (state_along s is)) (sent ++ sent_along s is)
+      → LocalLaws q (local_of (state_along next_state s is)) (sent ++ sent_along s is)
   keeps_along s sent same laws [] = subst (λ xs. LocalLaws q (local_of s) xs) (sym (append-nil sent)) laws
   keeps_along s sent same laws (i ∷ is) = go (next_state s i) refl (λ t more kept. keeps_along t (sent ++ sent_of s i) more kept is)
     where
       go : (o : Option LocalState) → next_state s i ≡ o
-          → ((t : LocalState) → t.quorum ≡ q → LocalLaws q (local_of t) (sent ++ sent_of s i) → LocalLaws q (local_of (state_along t is)) ((sent ++ sent_of s i) ++ sent_along t is))
-          → LocalLaws q (local_of (option_map_or (λ t. state_along t is) o s)) (sent ++ option_map_or (λ t. sent_of s i ++ sent_along t is) o [])
+          → ((t : LocalState) → t.quorum ≡ q → LocalLaws q (local_of t) (sent ++ sent_of s i) → LocalLaws q (local_of (state_along next_state t is)) ((sent ++ sent_of s i) ++ sent_along t is))
+          → LocalLaws q (local_of (option_map_or (λ t. state_along next_state t is) o s)) (sent ++ option_map_or (λ t. sent_of s i ++ sent_along t is) o [])
       go None none rest = subst (λ xs. LocalLaws q (local_of s) xs) (sym (append-nil sent)) laws
       go (Some t) taken rest =
           let kept = taken_keeps s t sent i same laws taken in
-          subst (λ xs. LocalLaws q (local_of (state_along t is)) xs) (append_assoc sent (sent_of s i) (sent_along t is)) (rest t kept.0 kept.1)
+          subst (λ xs. LocalLaws q (local_of (state_along next_state t is)) xs) (append_assoc sent (sent_of s i) (sent_along t is)) (rest t kept.0 kept.1)
 
   founded : (s : LocalState) (sent : List Payload) → LocalLaws q (local_of s) sent → IsFounded q s sent
   founded s sent laws = record {
@@ -92,4 +93,4 @@ module _ (q : ℕ) where
 
 pub sent_messages_are_founded : SentMessagesAreFounded
 sent_messages_are_founded q input is =
-    founded q (state_along (first_state q input) is) (sent_along (first_state q input) is) (keeps_along q (first_state q input) [] refl (first_laws q input) is)
+    founded q (state_along next_state (first_state q input) is) (sent_along (first_state q input) is) (keeps_along q (first_state q input) [] refl (first_laws q input) is)

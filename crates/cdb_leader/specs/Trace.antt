@@ -1,20 +1,16 @@
 -- What one process of the leader machine sends and adopts, for the inputs that it takes in turn, up to the first that
 -- it does not accept.
-use Rattle.std.specs.Prelude.{◌≡◌, ℕ, suc, List, [], ◌∷◌, ◌++◌, Contains, Option, Some, ◌⊎◌}
-use Rattle.std.specs.Option.{option_map_or, option_to_list}
+use Rattle.std.specs.Prelude.{◌≡◌, ℕ, suc, List, [], Contains, Option, Some, ◌⊎◌}
+use Rattle.std.specs.Option.{option_to_list}
 use Rattle.cdb_base.specs.declared.payload.Payload.{Payload}
 use Rattle.cdb_base.specs.declared.payload.Payload.TheVariants.{P1, P2, D}
 use Rattle.cdb_process.specs.declared.Input.{Input}
 use Rattle.cdb_process.specs.declared.Input.TheVariants.{Send}
+use Rattle.cdb_process.specs.Walk.{state_along, along}
 use Rattle.cdb_leader.specs.declared.inbox.Entry.{Entry}
 use Rattle.cdb_leader.specs.Bases.{AuxBasis, LeaveBasis, DecisionBasis}
 use Rattle.cdb_leader.specs.LocalState.{LocalState, first_state}
 use Rattle.cdb_leader.specs.Table.{sent_at, next_state}
-
--- the state that the inputs lead to
-abbrev pub state_along : LocalState → List Input → LocalState
-state_along s [] = s
-state_along s (i ∷ is) = option_map_or (λ t. state_along t is) (next_state s i) s
 
 -- the payload that is sent by an input, if one is
 abbrev pub sent_of : LocalState → Input → List Payload
@@ -23,8 +19,7 @@ sent_of s i = []
 
 -- the payloads that are sent
 abbrev pub sent_along : LocalState → List Input → List Payload
-sent_along s [] = []
-sent_along s (i ∷ is) = option_map_or (λ t. sent_of s i ++ sent_along t is) (next_state s i) []
+sent_along s is = along next_state sent_of s is
 
 -- the payload came from that process
 abbrev pub IsHeard : List Entry → ℕ → Payload → Type 0
@@ -45,4 +40,4 @@ pub record IsFounded (q : ℕ) (s : LocalState) (sent : List Payload) : Type 0 w
 
 -- whatever inputs a process takes in turn
 abbrev pub SentMessagesAreFounded : Type 0
-SentMessagesAreFounded = (q input : ℕ) (is : List Input) → IsFounded q (state_along (first_state q input) is) (sent_along (first_state q input) is)
+SentMessagesAreFounded = (q input : ℕ) (is : List Input) → IsFounded q (state_along next_state (first_state q input) is) (sent_along (first_state q input) is)

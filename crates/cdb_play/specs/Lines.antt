@@ -1,5 +1,5 @@
 -- The lines of a script.
-use Rattle.std.specs.Prelude.{◌≢◌, ℕ, ◌<◌, List, [], ◌∷◌, slice_index, nat_eq}
+use Rattle.std.specs.Prelude.{ℕ, List, [], ◌∷◌, nat_eq}
 use Rattle.std.specs.List.{slice_split}
 
 -- an empty last part is no line
@@ -11,7 +11,3 @@ without_empty_end (part ∷ parts) = part ∷ without_empty_end parts
 -- each line ends with byte 10, which the last may lack; an empty script has none
 unfoldable pub lines_of : List ℕ → List (List ℕ)
 lines_of script = without_empty_end (slice_split (λ byte. nat_eq byte 10) script)
-
--- none of the first n bytes is byte 10
-abbrev pub HasNoNewline : ℕ → List ℕ → Type 0
-HasNoNewline n script = (k : ℕ) → k < n → slice_index script k ≢ 10

@@ -1,6 +1,6 @@
 -- What a race reads and writes.
 use Rattle.std.specs.Prelude.{◌≡◌, ℕ, ◌+◌, ◌-◌, ◌<◌, ◌≤◌, ◌==◌, Bool, true, List, [], ◌∷◌, ◌++◌, length, map, codes, decimal, if◌then◌else◌}
-use Rattle.std.specs.List.{flat_map, list_all, range_with_len}
+use Rattle.std.specs.List.{AllZip, flat_map, list_all, range_with_len}
 use Rattle.std.proofs.Common.{Vec, Global}
 use Rattle.cdb_control.specs.Answer.{Answer}
 use Rattle.cdb_control.specs.Journal.{Journaled, state_of}
@@ -72,9 +72,7 @@ IsScript commands script = (length script ≤ longest) × AreCommandsOf commands
 
 -- each with its commands
 abbrev pub AreScripts : List (List Command) → List (List ℕ) → Type 0
-AreScripts [] [] = Unit {0}
-AreScripts (commands ∷ read) (script ∷ scripts) = IsScript commands script × AreScripts read scripts
-AreScripts read scripts = ⊥
+AreScripts read scripts = AllZip IsScript read scripts
 
 -- the script at this place, counted from 1, is bad in this way, and each before it has its commands
 abbrev pub IsFirstBad : (List ℕ → Type 0) → ℕ → List (List ℕ) → Type 0

@@ -1,27 +1,20 @@
 -- What the final journal has of the seats of a race.
-use Rattle.std.proofs.Common.{◌≡◌, ℕ, zero, suc, ◌+◌, ◌-◌, ◌<◌, ◌≤◌, List, [], All, length, get_or, refl, sym, ap, ◌∙◌, subst, arith}
+use Rattle.std.proofs.Common.{◌≡◌, ℕ, ◌+◌, ◌-◌, ◌<◌, ◌≤◌, List, [], ◌∷◌, All, length, get_or, refl, sym, ap, ◌∙◌, subst, arith}
+use Rattle.std.proofs.lemmas.List.FromFn.{length-map-range_with_len, get_or-map-range_with_len}
 use Rattle.atomic_table.specs.Seated.{TableId}
 use Rattle.cdb_control.proofs.Own.{replies_of-same}
 use Rattle.cdb_control.specs.Answer.{Answer}
 use Rattle.cdb_control.specs.Journal.{Journaled, opened, own, replies_of, AreOfSeats}
 use Rattle.cdb_control.specs.declared.command.Command.{Command}
 use Rattle.cdb_race.specs.Plans.{IsReady, seats_of}
-use Rattle.cdb_race.specs.Races.{AllFinished, IsRaced, answers_to}
+use Rattle.cdb_race.specs.Races.{AllFinished, AllRan, AreSeatsOf, IsRaced, answers_to}
 use Rattle.cdb_race.specs.Runs.{IsDrivenOut, HasFinished}
 use Rattle.cdb_race.specs.declared.plan.Plan.{Plan}
+use Rattle.cdb_race.specs.declared.worker.Ran.{Ran}
 use Rattle.cdb_run.specs.Algorithms.{rules}
 use Rattle.cdb_setup.specs.Parts.{Parts}
 use Rattle.cdb_shared.specs.Seats.{SeatView, RestsAt, IsKnownBy, fresh_seat, fresh_seats}
 use Rattle.cdb_shared.specs.Sessions.{calls_of, replies_to}
-
-length-fresh_seats : (shared : TableId) (c : Journaled) (first n : ℕ) → length (fresh_seats shared c first n) ≡ n
-length-fresh_seats shared c first zero = refl
-length-fresh_seats shared c first (suc n) = ap suc (length-fresh_seats shared c (first + 1) n)
-
-get_or-fresh_seats : (shared : TableId) (c : Journaled) (first n k : ℕ) (d : SeatView) → k < n → get_or (fresh_seats shared c first n) k d ≡ fresh_seat shared c (first + k)
-get_or-fresh_seats shared c first zero k d low = absurd (omega arith)
-get_or-fresh_seats shared c first (suc n) zero d low = ap (fresh_seat shared c) (omega arith)
-get_or-fresh_seats shared c first (suc n) (suc k) d low = get_or-fresh_seats shared c (first + 1) n k d (omega arith) ∙ ap (fresh_seat shared c) (omega arith)
 
 -- the seats of a control in which nothing has happened
 pub record AreFresh (shared : TableId) (setup : Parts) (count : ℕ) (seats : List SeatView) : Type 0 where
@@ -31,10 +24,11 @@ pub record AreFresh (shared : TableId) (setup : Parts) (count : ℕ) (seats : Li
 pub fresh : (shared : TableId) (setup : Parts) (plan : Plan) (count : ℕ) (c : Journaled) (seats : List SeatView) → c ≡ opened setup count → count ≡ seats_of plan → seats ≡ fresh_seats shared c 1 c.seats → AreFresh shared setup (seats_of plan) seats
 fresh shared setup plan count c seats is planned dealt =
     let many = seats_of plan in
+    let seat = fresh_seat shared (opened setup many) in
     let all : seats ≡ fresh_seats shared (opened setup many) 1 many = dealt ∙ ap (λ (x : Journaled). fresh_seats shared x 1 x.seats) (is ∙ ap (opened setup) planned) in
     record {
-      many = ap length all ∙ length-fresh_seats shared (opened setup many) 1 many;
-      each = λ k d low. ap (λ l. get_or l k d) all ∙ get_or-fresh_seats shared (opened setup many) 1 many k d low;
+      many = ap length all ∙ length-map-range_with_len seat 1 many;
+      each = λ k d low. ap (λ l. get_or l k d) all ∙ get_or-map-range_with_len seat 1 many k (1 + k) d low refl;
     }
 
 pub all_ready : (shared : TableId) (plan : Plan) (setup : Parts) (seats : List SeatView) → AreFresh shared setup (seats_of plan) seats → All (λ seat. IsReady shared plan seat) seats
@@ -42,13 +36,22 @@ all_ready shared plan setup seats new k d low =
     let below : k < seats_of plan = omega (arith, new.many) in
     subst (λ (s : SeatView). IsReady shared plan s) (sym (new.each k d below)) (record { rests = (refl, refl); new = refl; planned = omega arith })
 
-pub all_rest : (shared : TableId) (plan : Plan) (setup : Parts) (before seats : List SeatView) (answers : List (List Answer)) → AreFresh shared setup (seats_of plan) before → length seats ≡ seats_of plan → AllFinished plan before seats answers → All (λ seat. RestsAt shared seat) seats
-all_rest shared plan setup before seats answers new many finished k d low =
-    let f = finished k d [] low d in
-    (f.later.home ∙ ap (λ (b : SeatView). b.home) (new.each k d (omega arith)), f.later.rests)
+some_of : (rans : List Ran) → 0 < length rans → Ran
+some_of [] low = absurd (omega arith)
+some_of (ran ∷ rans) low = ran
+
+pub all_rest : (shared : TableId) (plan : Plan) (setup : Parts) (before seats : List SeatView) (rans : List Ran) → AreFresh shared setup (seats_of plan) before → length rans ≡ seats_of plan → length seats ≡ length rans
+    → AllRan plan before rans → AreSeatsOf seats rans → All (λ seat. RestsAt shared seat) seats
+all_rest shared plan setup before seats rans new many long all gathered k d low =
+    let nobody = some_of rans (omega (arith, long, low)) in
+    let none = fresh_seat shared (opened setup 0) 0 in
+    let place = length rans - 1 - k in
+    let ran = all place nobody (omega (arith, long, low)) none in
+    let first = new.each (length before - 1 - place) none (omega (arith, new.many, many, long, low)) in
+    subst (RestsAt shared) (sym (gathered k d nobody (omega (arith, long, low)))) (ran.later.home ∙ ap (λ (b : SeatView). b.home) first, ran.later.rests)
 
 -- the commands and the answers of a seat whose journal is known
-own_known : (c : Journaled) (seat : SeatView) (n : ℕ) → seat.number ≡ n → IsKnownBy c seat → own n c.journal ≡ calls_of seat
+pub own_known : (c : Journaled) (seat : SeatView) (n : ℕ) → seat.number ≡ n → IsKnownBy c seat → own n c.journal ≡ calls_of seat
 own_known c seat n is known = ap (λ m. own m c.journal) (sym is) ∙ known.calls
 
 answers_known : (c : Journaled) (seat : SeatView) (n : ℕ) → seat.number ≡ n → IsKnownBy c seat → answers_to n c ≡ replies_to seat

@@ -1,5 +1,5 @@
 -- A race's fault names one of its seats, where it names a seat.
-use Rattle.std.proofs.Common.{◌≡◌, ◌⊎◌, inl, inr, ℕ, ◌+◌, ◌-◌, ◌<◌, List, ◌∷◌, Some, length, get_or, refl, sym, ap, ◌∙◌, subst, arith, length-append}
+use Rattle.std.proofs.Common.{◌≡◌, ℕ, ◌+◌, ◌-◌, List, Some, length, sym, ap, ◌∙◌, subst, arith}
 use Rattle.atomic_table.specs.Seated.{TableId}
 use Rattle.cdb_control.specs.Journal.{opened}
 use Rattle.cdb_race.specs.Faults.{fault_at, IsAmongSeats, IsOfLeastSeat}
@@ -13,7 +13,6 @@ use Rattle.cdb_setup.specs.Parts.{Parts, IsWithin}
 use Rattle.cdb_shared.specs.Seats.{SeatView, fresh_seat}
 use Rattle.cdb_shared.specs.declared.session.End.{End}
 use Rattle.cdb_shared.specs.declared.session.End.TheVariants.{All, Done, Stopped, NoMemory, JournalFull}
-use Rattle.cdb_race.proofs.Ends.{get_or-middle}
 use Rattle.cdb_race.proofs.Outcomes.{AreFresh}
 
 -- the fault of a session names its seat
@@ -26,16 +25,13 @@ of_end n seat JournalFull why has within = let same : fault.JournalFull ≡ why 
 
 -- and so does that of the least seat
 pub of_least : (shared : TableId) (plan : Plan) (setup : Parts) (before : List SeatView) (rans : List Ran) (why : RaceFault) → AreFresh shared setup (seats_of plan) before → length rans ≡ seats_of plan
-    → AllRan plan before rans → (why ≡ fault.NoMemory) ⊎ IsOfLeastSeat why rans → IsAmongSeats (seats_of plan) why
-of_least shared plan setup before rans why new many all (inl is) = subst (IsAmongSeats (seats_of plan)) (sym is) tt
-of_least shared plan setup before rans why new many all (inr least) =
+    → AllRan plan before rans → IsOfLeastSeat why rans → IsAmongSeats (seats_of plan) why
+of_least shared plan setup before rans why new many all least =
     let its = least.its in
-    let k = length least.greater in
-    let low : k < length rans = omega (arith, ap length least.all, length-append least.greater (its ∷ least.less)) in
+    let k = least.place in
     let nobody = fresh_seat shared (opened setup 0) 0 in
     let place = length before - 1 - k in
-    let is : get_or rans k its ≡ its = get_or-middle least.greater least.less rans its its k least.all refl in
-    let later = (all k its low nobody).later.number in
-    let first = ap (λ (s : SeatView). s.number) (new.each place nobody (omega (arith, new.many))) in
-    let number : its.seat.number ≡ 1 + place = ap (λ (r : Ran). r.seat.number) (sym is) ∙ later ∙ first in
+    let later = (all k its least.within nobody).later.number in
+    let first = ap (λ (s : SeatView). s.number) (new.each place nobody (omega (arith, new.many, least.within))) in
+    let number : its.seat.number ≡ 1 + place = ap (λ (r : Ran). r.seat.number) (sym least.at) ∙ later ∙ first in
     of_end (seats_of plan) its.seat.number its.end why least.has (omega (arith, number), omega (arith, number, new.many))

@@ -1,6 +1,5 @@
 -- Which fault a race answers.
-use Rattle.std.specs.Prelude.{◌≡◌, ℕ, List, ◌∷◌, ◌++◌, Option, Some, None}
-use Rattle.std.specs.List.{AllByRecursion}
+use Rattle.std.specs.Prelude.{◌≡◌, ℕ, ◌<◌, List, length, slice_index_or, Option, Some, None}
 use Rattle.cdb_race.specs.declared.threads.RaceFault.{RaceFault}
 use Rattle.cdb_race.specs.declared.threads.RaceFault.TheVariants as fault
 use Rattle.cdb_race.specs.declared.worker.Ran.{Ran}
@@ -22,12 +21,12 @@ fault_in ran = fault_at ran.seat.number ran.end
 
 -- of the seats that have a fault the least has this one. The last seat's outcome comes first
 pub record IsOfLeastSeat (fault : RaceFault) (rans : List Ran) : Type 0 where
-  pub greater : List Ran
   pub its : Ran
-  pub less : List Ran
-  pub all : rans ≡ greater ++ its ∷ less
+  pub place : ℕ
+  pub within : place < length rans
+  pub at : slice_index_or rans place its ≡ its
   pub has : fault_in its ≡ Some fault
-  pub none : AllByRecursion (λ ran. fault_in ran ≡ None) less
+  pub least : (k : ℕ) (ran : Ran) → place < k → k < length rans → fault_in (slice_index_or rans k ran) ≡ None
 
 -- a stopped seat is one of so many
 abbrev pub IsAmongSeats : ℕ → RaceFault → Type 0

@@ -1,9 +1,10 @@
 -- What a race has done.
-use Rattle.std.specs.Prelude.{◌≡◌, ℕ, ◌+◌, ◌-◌, ◌<◌, ◌≤◌, List, [], length, map, slice_index_or}
-use Rattle.std.proofs.Common.{Vec, Global}
+use Rattle.std.specs.Prelude.{◌≡◌, ℕ, ◌+◌, ◌-◌, ◌<◌, ◌≤◌, List, [], length, map, replicate, take, slice_index_or, Vec}
+use Rattle.std.specs.Global.{Global}
 use Rattle.cdb_control.specs.Answer.{Answer, told}
 use Rattle.cdb_control.specs.Journal.{Journaled, own, replies_of, AreOfSeats}
 use Rattle.cdb_control.specs.declared.command.Command.{Command}
+use Rattle.cdb_control.specs.declared.command.Command.TheVariants.{Auto}
 use Rattle.cdb_control.specs.declared.reply.Reply.{Reply}
 use Rattle.cdb_race.specs.Promises.{HasRan}
 use Rattle.cdb_race.specs.Runs.{HasFinished, IsDrivenOut}
@@ -21,6 +22,10 @@ all_told replies = map (λ list. map told list.items) replies
 abbrev pub AllRan : Plan → List SeatView → List Ran → Type 0
 AllRan plan seats rans =
     (k : ℕ) (ran : Ran) → k < length rans → (before : SeatView) → HasRan plan (slice_index_or seats (length seats - 1 - k) before) (slice_index_or rans k ran)
+
+-- these are the seats of the outcomes, the first seat first
+abbrev pub AreSeatsOf : List SeatView → List Ran → Type 0
+AreSeatsOf seats rans = (k : ℕ) (seat : SeatView) (ran : Ran) → k < length rans → slice_index_or seats k seat ≡ (slice_index_or rans (length rans - 1 - k) ran).seat
 
 -- each of these seats has finished, and each has its answers
 abbrev pub AllFinished : Plan → List SeatView → List SeatView → List (List Answer) → Type 0
@@ -42,3 +47,12 @@ pub record IsRaced (setup : Parts) (turns : ℕ) (scripts : List (List Command))
   pub many : length answers ≡ c.seats
   pub none : (k : ℕ) → k < setup.processes → slice_index_or answers k [] ≡ []
   pub answered : (k : ℕ) → k < length scripts → slice_index_or answers (setup.processes + k) [] ≡ answers_to (setup.processes + k + 1) c
+
+-- A race that is not at its end: each process was driven by its seat for no more than its turns, of each script its seat served
+-- a beginning, and the journal has no other entries.
+pub record IsUnderWay (setup : Parts) (turns : ℕ) (scripts : List (List Command)) (c : Journaled) : Type 0 where
+  pub setup_is : c.setup ≡ setup
+  pub seats_are : c.seats ≡ setup.processes + length scripts
+  pub entries : AreOfSeats c.seats c.journal
+  pub driven : (p : ℕ) → 1 ≤ p → p ≤ setup.processes → (count : ℕ) × (count ≤ turns) × (own p c.journal ≡ replicate count (Auto p))
+  pub served : (k : ℕ) → k < length scripts → (count : ℕ) × (own (setup.processes + k + 1) c.journal ≡ take count (slice_index_or scripts k []))

@@ -8,7 +8,7 @@ use Rattle.cdb_race.specs.declared.plan.Plan.{Plan}
 use Rattle.cdb_shared.specs.Seats.{SeatView, IsLater}
 use Rattle.cdb_shared.specs.Sessions.{calls_of, replies_to, IsDriven}
 use Rattle.cdb_shared.specs.declared.session.End.{End}
-use Rattle.cdb_shared.specs.declared.session.End.TheVariants.{All, Done}
+use Rattle.cdb_shared.specs.declared.session.End.TheVariants.{All, Done, JournalFull}
 
 -- the calls of the seat are steps of its process by `auto`, as many as the turns, or fewer where the session ended before
 pub record HasDriven (turns : ℕ) (seat : SeatView) (end : End) : Type 0 where
@@ -29,6 +29,7 @@ pub record HasRun (plan : Plan) (before seat : SeatView) (answered : List Answer
   pub later : IsLater before seat
   pub driven : before.number ≤ plan.processes → HasDriven plan.turns seat end × (answered ≡ [])
   pub served : plan.processes < before.number → HasServed (script_of plan before.number) seat answered end
+  pub full : end ≡ JournalFull → length seat.seen ≡ 999999
 
 -- the session ended well: its script was served to the end, or its process was done or had its turns
 abbrev pub EndsWell : End → Type 0

@@ -1,14 +1,16 @@
 //! Starting and joining the threads of a race.
-ghost use Rattle.std.specs.Prelude.{◌≡◌, ℕ, ◌+◌, ◌-◌, ◌<◌, ◌≤◌, List, length, vec_len, All, IfOk, IfErr, ◌⊎◌, slice_index_or};
-ghost use Rattle.cdb_race.specs.Faults.{fault_at, IsAmongSeats, IsFaultOfThreads, IsOfLeastSeat};
+ghost use Rattle.std.specs.Prelude.{◌≡◌, ℕ, ◌+◌, ◌-◌, ◌<◌, ◌≤◌, List, length, vec_len, All, IfOk, IfErr, MatchOption, None, Err, slice_index_or};
+ghost use Rattle.cdb_control.specs.Journal.{Journaled};
+ghost use Rattle.cdb_race.specs.Faults.{fault_at, fault_in, IsAmongSeats, IsFaultOfThreads, IsOfLeastSeat};
 ghost use Rattle.cdb_race.specs.Plans.{IsReady};
 ghost use Rattle.cdb_race.specs.Promises.{IsPromise, HasRan};
-ghost use Rattle.cdb_race.specs.Races.{all_told, AllRan, AllFinished, IsRaced};
+ghost use Rattle.cdb_race.specs.Races.{all_told, AllRan, AllFinished, AreSeatsOf, IsRaced, IsUnderWay};
 ghost use Rattle.cdb_race.specs.declared.plan.Plan.{Plan as Planned};
 ghost use Rattle.cdb_shared.specs.Seats.{SeatView};
 
 use crate::plan::{Plan, Script};
-use crate::worker::{Ran, Runs, run};
+use crate::worker::{Ran, SeatPromise, run};
+use cdb_base::limits::MAX_ENTRIES;
 use cdb_control::{Control, Reply, RunOfSetup};
 use cdb_setup::Setup;
 use cdb_shared::{End, Gate, Seat, Shared};
@@ -38,12 +40,12 @@ fn start_one<'s, E, G: Gate + Drop + Send + 's, R: Threads + Wait + Sync>(
     plan: Plan<'s>,
     seat: Seat,
     gate: G,
-) -> Result<PromisedHandle<Ran, Runs<'s>>, RaceFault>
+) -> Result<PromisedHandle<Ran, SeatPromise<'s>>, RaceFault>
     requires { IsReady shared.now plan seat }
     ensures promise { IfOk result (λ handle. IsPromise plan.entry seat handle.promise) }
     ensures fault { IfErr result IsFaultOfThreads }
 {
-    let promise = Runs {
+    let promise = SeatPromise {
         plan,
         seat: Snapshot::of(&seat),
     };
@@ -69,7 +71,7 @@ fn start_all<'s, E, G: Gate + Drop + Send + 's, R: Threads + Wait + Sync>(
     plan: Plan<'s>,
     mut seats: Vec<Seat>,
     mut gates: Vec<G>,
-) -> Result<Vec<PromisedHandle<Ran, Runs<'s>>>, RaceFault>
+) -> Result<Vec<PromisedHandle<Ran, SeatPromise<'s>>>, RaceFault>
     requires ready { All (λ seat. IsReady shared.now plan seat) seats.items }
     requires gates { vec_len gates ≡ vec_len seats }
     ensures count { IfOk result (λ handles. vec_len handles ≡ vec_len seats) }
@@ -135,11 +137,27 @@ fn fault_of(seat: u8, end: End) -> Option<RaceFault>
     }
 }
 
-// The seats and their replies, the first seat's first, or the fault of the least seat.
+// The fault of the least seat that has one. The last seat's outcome comes first.
+fn first_fault(rans: &[Ran]) -> Option<RaceFault>
+    ensures { MatchOption result (All (λ ran. fault_in ran ≡ None) rans.now) (λ fault. IsOfLeastSeat fault rans.now) }
+{
+    let mut left = rans.len();
+    while left > 0 {
+        left -= 1;
+        let ran = &rans[left];
+        if let Some(fault) = fault_of(ran.seat.number(), ran.end) {
+            return Some(fault);
+        }
+    }
+    None
+}
+
+// The seats and their replies, the first seat's first.
 fn collect(alloc: Global, mut rans: Vec<Ran>) -> Result<(Vec<Seat>, Vec<Vec<Reply>>), RaceFault>
-    ensures least { IfErr result (λ fault. (fault ≡ RaceFault.NoMemory) ⊎ IsOfLeastSeat fault rans.items) }
+    ensures fault { IfErr result (λ fault. fault ≡ RaceFault.NoMemory) }
     ensures count { IfOk result (λ r. (vec_len r.0 ≡ vec_len rans) × (vec_len r.1 ≡ vec_len rans)) }
-    ensures each { IfOk result (λ r. (plan : Planned) (seats : List SeatView) → length seats ≡ vec_len rans → AllRan plan seats rans.items → AllFinished plan seats r.0.items (all_told r.1.items)) }
+    ensures seats { IfOk result (λ r. AreSeatsOf r.0.items rans.items) }
+    ensures each { IfOk result (λ r. (plan : Planned) (seats : List SeatView) → length seats ≡ vec_len rans → AllRan plan seats rans.items → All (λ ran. fault_in ran ≡ None) rans.items → AllFinished plan seats r.0.items (all_told r.1.items)) }
 {
     let Ok(mut seats) = Vec::with_capacity(alloc, rans.len()) else {
         return Err(RaceFault::NoMemory);
@@ -148,10 +166,11 @@ fn collect(alloc: Global, mut rans: Vec<Ran>) -> Result<(Vec<Seat>, Vec<Vec<Repl
         return Err(RaceFault::NoMemory);
     };
     while let Some(ran) = rans.pop() {
-        let Ran { seat, replies, end } = ran;
-        if let Some(fault) = fault_of(seat.number(), end) {
-            return Err(fault);
-        }
+        let Ran {
+            seat,
+            replies,
+            end: _,
+        } = ran;
         seats.push_reserved(seat);
         answered.push_reserved(replies);
     }
@@ -167,8 +186,9 @@ pub struct Raced {
 
 /// Drives each process by so many turns and serves each script, each in a thread of its own, and joins
 /// them all. The seats and the gates of the processes come first, and then those of the scripts; there
-/// are at most 64. Of several faults of sessions the one of the least seat is answered, which `collect` says
-/// and this contract does not; the race leaves nothing then.
+/// are at most 64. Of several faults of sessions the one of the least seat is answered, which `first_fault` says
+/// and this contract does not; the race leaves nothing then. `JournalFull` comes only where a journal of these
+/// processes and scripts has as many entries as it can.
 pub fn race<G: Gate + Drop + Send, R: Threads + Wait + Sync>(
     rt: &R,
     alloc: Global,
@@ -181,6 +201,7 @@ pub fn race<G: Gate + Drop + Send, R: Threads + Wait + Sync>(
     requires gates { vec_len gates ≡ setup.processes + length scripts.now }
     ensures raced { IfOk result (λ r. IsRaced setup turns scripts.now r.control (all_told r.replies.items)) }
     ensures fault { IfErr result (IsAmongSeats (setup.processes + length scripts.now)) }
+    ensures full { result ≡ Err RaceFault.JournalFull → (c : Journaled) × IsUnderWay setup turns scripts.now c × (length c.journal ≡ MAX_ENTRIES) }
 {
     let processes = setup.n();
     let plan = Plan {
@@ -196,9 +217,13 @@ pub fn race<G: Gate + Drop + Send, R: Threads + Wait + Sync>(
         return Err(RaceFault::NoMemory);
     };
     let rans = run_all(rt, alloc, &shared, plan, seats, gates)?;
+    let fault = first_fault(rans.as_slice());
     let (seats, replies) = collect(alloc, rans)?;
     let control = shared.finish(rt, seats);
-    // Its clause says that each entry is of a seat.
+    // Its clauses say that each entry is of a seat, and how many there are at most.
     control.journal();
-    Ok(Raced { control, replies })
+    match fault {
+        None => Ok(Raced { control, replies }),
+        Some(fault) => Err(fault),
+    }
 }

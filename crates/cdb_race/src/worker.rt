@@ -22,12 +22,12 @@ pub(crate) struct Ran {
 
 /// What the thread of a seat promises.
 #[derive(Drop)]
-pub(crate) struct Runs<'a> {
+pub(crate) struct SeatPromise<'a> {
     pub(crate) plan: Plan<'a>,
     pub(crate) seat: Snapshot<Seat>,
 }
 
-impl<'a> Promise<Ran> for Runs<'a> {
+impl<'a> Promise<Ran> for SeatPromise<'a> {
     ghost use Rattle.std.specs.Prelude.{map};
     ghost use Rattle.cdb_control.specs.Answer.{told};
     ghost use Rattle.cdb_race.specs.Runs.{HasRun};

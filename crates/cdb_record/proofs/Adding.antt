@@ -16,8 +16,9 @@ use Rattle.cdb_causal.proofs.Dependents.{get_append_front, dependents_added, dep
 use Rattle.cdb_causal.proofs.DirectByList.{direct_between}
 use Rattle.cdb_causal.proofs.Lists.{push_cases}
 use Rattle.cdb_record.specs.Accounts.{AreAccounts, dependents_at}
-use Rattle.cdb_record.specs.Changes.{IsNamedByOne, AreDifferent, AreChanged}
+use Rattle.cdb_record.specs.Changes.{IsNamedByOne, AreDifferent, AreChanged, changed_by}
 use Rattle.cdb_record.specs.declared.accounts.Account.{Account}
+use Rattle.cdb_record.specs.declared.accounts.Change.TheVariants.{Raise}
 use Rattle.cdb_record.proofs.Prefixes.{are_longer}
 
 not_itself : (name : StepId) → ComesBefore name name → ⊥
@@ -58,7 +59,7 @@ count_few history accounts are i account at =
 pub as_before : (old : List Account) (i : ℕ) (other : Account) → i < length old → (account : Account) × (slice_get old i ≡ Some account)
 as_before old i other less = (get_or old i other, slice_get-get_or old i other less)
 
-module _ (history : List Event) (event : Event) (old raised : List Account) (account : Account) (standing : IsStanding (history ++ event ∷ [])) (few : length history < 4294967295) (causes : AreDirectCauses (history ++ event ∷ []) (length history) account.causes.items) (changed : AreChanged (λ count. count + 1) (history ++ event ∷ []) account.causes.items (length account.causes.items) old raised) (zeros : account.count ≡ 0) (are : AreAccounts history old) where
+module _ (history : List Event) (event : Event) (old raised : List Account) (account : Account) (standing : IsStanding (history ++ event ∷ [])) (few : length history < 4294967295) (causes : AreDirectCauses (history ++ event ∷ []) (length history) account.causes.items) (changed : AreChanged (changed_by Raise) (history ++ event ∷ []) account.causes.items (length account.causes.items) old raised) (zeros : account.count ≡ 0) (are : AreAccounts history old) where
   abbrev longer : List Event
   longer = history ++ event ∷ []
 

@@ -1,5 +1,5 @@
 -- What a call says of lists, carried over to lists that are equal to them.
-use Rattle.std.proofs.Common.{◌≡◌, ℕ, zero, suc, ◌+◌, ◌-◌, ◌≤◌, List, [], ◌∷◌, ◌++◌, length, map, take, Option, None, Some, MatchOption, slice_get, slice_set, refl, sym, ap, ◌∙◌, subst, arith}
+use Rattle.std.proofs.Common.{◌≡◌, ℕ, zero, suc, ◌+◌, ◌-◌, ◌≤◌, List, [], ◌∷◌, ◌++◌, length, take, Option, None, Some, MatchOption, slice_get, slice_set, refl, sym, ap, ◌∙◌, subst, arith}
 use Rattle.std.proofs.lemmas.List.{length_push}
 use Rattle.std.proofs.lemmas.Option.{same_Some}
 use Rattle.std.proofs.Math.Seq.{take-append_seam}
@@ -25,10 +25,6 @@ written_back items rest n same = subst (λ m. take m (items ++ rest) ≡ items) 
 
 pub last_place : {A : Type 0} (xs longer seen : List A) (x : A) → longer ≡ xs ++ x ∷ [] → seen ≡ longer → length seen - 1 ≡ length xs
 last_place xs longer seen x is same = let l = ap length (same ∙ is) in let p = length_push xs x in omega (arith, l, p)
-
-pub length-map : {A B : Type 0} (f : A → B) (xs : List A) → length (map f xs) ≡ length xs
-length-map f [] = refl
-length-map f (x ∷ xs) = ap suc (length-map f xs)
 
 pub events_push : {B : Type 0} (entries : List (Entry B)) (event : Event) (back : Option B) (overwritten : Option Cell) → events_of (entries ++ record { event = event; back = back; overwritten = overwritten } ∷ []) ≡ events_of entries ++ event ∷ []
 events_push [] event back overwritten = refl

@@ -14,10 +14,11 @@ use Rattle.cdb_causal.proofs.Counting.{slice_get-without, direct_kept}
 use Rattle.cdb_causal.proofs.Dependents.{dependents_taken_out, behind_free, free_behind}
 use Rattle.cdb_causal.proofs.Keeping.{standing_without}
 use Rattle.cdb_record.specs.Accounts.{AreAccounts, dependents_at}
-use Rattle.cdb_record.specs.Changes.{IsNamedByOne, AreChanged}
+use Rattle.cdb_record.specs.Changes.{IsNamedByOne, AreChanged, changed_by}
 use Rattle.cdb_record.specs.Entries.{events_of}
 use Rattle.cdb_record.specs.declared.entry.Entry.{Entry}
 use Rattle.cdb_record.specs.declared.accounts.Account.{Account}
+use Rattle.cdb_record.specs.declared.accounts.Change.TheVariants.{Lower}
 use Rattle.cdb_record.proofs.Adding.{there_too, as_before}
 use Rattle.cdb_record.proofs.Prefixes.{direct_by_between, are_same}
 
@@ -197,7 +198,7 @@ module _ (history : List Event) (accounts : List Account) (i : ℕ) (gone : Even
       let within = slice_get_within rest k one.1.0 one.1.1 in
       omega (arith, same, within)
 
-  module _ (lowered : List Account) (changed : AreChanged (λ count. count - 1) (without history i) account.causes.items (length account.causes.items) (without accounts i) lowered) where
+  module _ (lowered : List Account) (changed : AreChanged (changed_by Lower) (without history i) account.causes.items (length account.causes.items) (without accounts i) lowered) where
     first_at : (k : ℕ) (now : Account) → slice_get lowered k ≡ Some now → (first : Account) × (slice_get (without accounts i) k ≡ Some first)
     first_at k now at_now = as_before (without accounts i) k now (subst (λ n. k < n) changed.same_length (slice_get_within lowered k now at_now))
 

@@ -1,9 +1,21 @@
 -- Counts of accounts, changed for the events of some names.
-use Rattle.std.specs.Prelude.{◌≡◌, ℕ, ◌<◌, List, Some, length, slice_get}
+use Rattle.std.specs.Prelude.{◌≡◌, ℕ, ◌+◌, ◌-◌, ◌<◌, ◌≤◌, List, Some, length, slice_get}
 use Rattle.cdb_base.specs.declared.event.Event.{Event}
 use Rattle.cdb_base.specs.declared.name.StepId.{StepId}
 use Rattle.cdb_causal.specs.Names.{IsNamedAt}
 use Rattle.cdb_record.specs.declared.accounts.Account.{Account}
+use Rattle.cdb_record.specs.declared.accounts.Change.{Change}
+use Rattle.cdb_record.specs.declared.accounts.Change.TheVariants.{Raise, Lower}
+
+-- the count after the change
+abbrev pub changed_by : Change → ℕ → ℕ
+changed_by Raise = λ count. count + 1
+changed_by Lower = λ count. count - 1
+
+-- a count can be changed so: it is not the greatest, or not zero
+abbrev pub HasRoomFor : Change → ℕ → Type 0
+HasRoomFor Raise count = count < 4294967295
+HasRoomFor Lower count = 1 ≤ count
 
 -- the name is one of the first n names
 abbrev pub IsAmong : List StepId → ℕ → StepId → Type 0

@@ -1,8 +1,7 @@
 -- What is taken out of a list of entries.
-use Rattle.std.specs.Prelude.{◌≡◌, ℕ, ◌≤◌, List, Some, slice_get}
+use Rattle.std.specs.Prelude.{◌≡◌, ℕ, ◌≤◌, IsTrue, List, Some, slice_get}
+use Rattle.cdb_base.specs.Event.{is_step_of}
 use Rattle.cdb_base.specs.declared.event.Event.{Event}
-use Rattle.cdb_base.specs.declared.event.Event.TheVariants.{Step}
-use Rattle.cdb_base.specs.declared.event.Kind.{Kind}
 use Rattle.cdb_causal.specs.Rollback.{without}
 use Rattle.cdb_record.specs.declared.entry.Entry.{Entry}
 
@@ -12,7 +11,7 @@ IsTakenOut entries i entry left = (slice_get entries i ≡ Some entry) × (left 
 
 -- a step of process p stands at place i
 abbrev pub IsStepOf : List Event → ℕ → ℕ → Type 0
-IsStepOf history p i = (k : ℕ) × (kind : Kind) × (slice_get history i ≡ Some (Step p k kind))
+IsStepOf history p i = (event : Event) × (slice_get history i ≡ Some event) × IsTrue (is_step_of p event)
 
 -- of the steps of process p, the one at place i is the last
 abbrev pub IsLastStepOf : List Event → ℕ → ℕ → Type 0

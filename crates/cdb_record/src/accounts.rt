@@ -1,8 +1,8 @@
 //! What is kept of each standing event beside its entry.
 
-ghost use Rattle.std.specs.Prelude.{◌≡◌, ℕ, ◌+◌, ◌-◌, ◌<◌, ◌≤◌, length, slice_get, Some};
+ghost use Rattle.std.specs.Prelude.{◌≡◌, ℕ, ◌<◌, ◌≤◌, length, slice_get, Some};
 ghost use Rattle.cdb_record.specs.declared.accounts.Account.{Account as AnAccount};
-ghost use Rattle.cdb_record.specs.Changes.{IsNamedByOne, AreDifferent, AreChanged};
+ghost use Rattle.cdb_record.specs.Changes.{IsNamedByOne, AreDifferent, AreChanged, HasRoomFor, changed_by};
 
 use cdb_base::StepId;
 use cdb_causal::History;
@@ -15,34 +15,38 @@ pub struct Account {
     pub count: u32,
 }
 
-/// Counts one direct dependent more of each of the events named.
-pub fn raise(history: &History, accounts: &mut [Account], names: &[StepId])
-    requires few { length accounts.old ≤ 4294967295 }
-    requires within { (i : ℕ) → IsNamedByOne history.now i names.now (length names.now) → i < length accounts.old }
-    requires different { AreDifferent names.now }
-    requires room { (i : ℕ) (account : AnAccount) → slice_get accounts.old i ≡ Some account → account.count < 4294967295 }
-    ensures { AreChanged (λ count. count + 1) history.now names.now (length names.now) accounts.old accounts.new }
-{
-    for name in names {
-        if let Some(at) = history.position(*name) {
-            let account = &mut accounts[at - 1];
-            account.count += 1;
+/// What becomes of the count of a direct cause where an event is added, or taken out.
+#[derive(Clone, Copy, Debug, PartialEq, Eq)]
+pub enum Change {
+    Raise,
+    Lower,
+}
+
+impl Change {
+    // The count after the change.
+    fn of(self, count: u32) -> u32
+        requires { HasRoomFor self count }
+        ensures { result ≡ changed_by self count }
+    {
+        match self {
+            Change::Raise => count + 1,
+            Change::Lower => count - 1,
         }
     }
 }
 
-/// Counts one direct dependent less of each of the events named.
-pub fn lower(history: &History, accounts: &mut [Account], names: &[StepId])
+/// Changes how many direct dependents are counted of each of the events named.
+pub fn change_counts(history: &History, accounts: &mut [Account], names: &[StepId], change: Change)
     requires few { length accounts.old ≤ 4294967295 }
     requires within { (i : ℕ) → IsNamedByOne history.now i names.now (length names.now) → i < length accounts.old }
     requires different { AreDifferent names.now }
-    requires counted { (i : ℕ) (account : AnAccount) → slice_get accounts.old i ≡ Some account → IsNamedByOne history.now i names.now (length names.now) → 1 ≤ account.count }
-    ensures { AreChanged (λ count. count - 1) history.now names.now (length names.now) accounts.old accounts.new }
+    requires room { (i : ℕ) (account : AnAccount) → slice_get accounts.old i ≡ Some account → IsNamedByOne history.now i names.now (length names.now) → HasRoomFor change account.count }
+    ensures { AreChanged (changed_by change) history.now names.now (length names.now) accounts.old accounts.new }
 {
     for name in names {
         if let Some(at) = history.position(*name) {
             let account = &mut accounts[at - 1];
-            account.count -= 1;
+            account.count = change.of(account.count);
         }
     }
 }

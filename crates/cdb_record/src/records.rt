@@ -1,11 +1,9 @@
 //! The records of all standing events.
 
-ghost use Rattle.std.specs.Prelude.{◌≡◌, ℕ, ◌-◌, ◌≤◌, ◌↔◌, List, [], ◌∷◌, ◌++◌, Some, None, length, slice_get, OnOk, OnErr, MatchOption, IsTrue};
+ghost use Rattle.std.specs.Prelude.{◌≡◌, ℕ, ◌-◌, ◌≤◌, ◌↔◌, List, [], ◌∷◌, ◌++◌, Some, None, length, slice_get, OnOk, OnErr, MatchOption};
 ghost use Rattle.cdb_base.specs.Event.{event_name};
 ghost use Rattle.cdb_base.specs.Places.{nth};
 ghost use Rattle.cdb_base.specs.declared.event.Event.{Event as AnEvent};
-ghost use Rattle.cdb_base.specs.declared.event.Event.TheVariants.{Step};
-ghost use Rattle.cdb_base.specs.declared.event.Kind.{Kind as AKind};
 ghost use Rattle.cdb_base.specs.declared.name.StepId.TheVariants as named;
 ghost use Rattle.cdb_causal.specs.Causality.{IsFree};
 ghost use Rattle.cdb_causal.specs.Dependence.{depends as depends_of};
@@ -17,7 +15,7 @@ ghost use Rattle.cdb_record.specs.Entries.{events_of};
 ghost use Rattle.cdb_record.specs.Taken.{IsTakenOut, IsStepOf, IsLastStepOf};
 ghost use Rattle.cdb_record.specs.declared.entry.Entry.{Entry as AnEntry};
 
-use crate::accounts::{Account, lower, raise};
+use crate::accounts::{Account, Change, change_counts};
 use crate::entry::Entry;
 use cdb_base::{Cell, CopyName, Event, NoMemory, Proc, StepId};
 use cdb_causal::{History, direct_causes};
@@ -97,7 +95,7 @@ impl<B: Drop> Records<B> {
         let added = event;
         self.history.push(added)?;
         let causes = direct_causes(alloc, &self.history, self.history.as_slice().len());
-        raise(&self.history, &mut self.accounts, &causes);
+        change_counts(&self.history, &mut self.accounts, &causes, Change::Raise);
         self.accounts.push_reserved(Account { causes, count: 0 });
         self.entries.push_reserved(Entry {
             event,
@@ -132,7 +130,12 @@ impl<B: Drop> Records<B> {
     {
         self.history.remove(at);
         let account = self.accounts.remove(at - 1);
-        lower(&self.history, &mut self.accounts, &account.causes);
+        change_counts(
+            &self.history,
+            &mut self.accounts,
+            &account.causes,
+            Change::Lower,
+        );
         self.entries.remove(at - 1)
     }
 
@@ -176,23 +179,13 @@ impl<B: Drop> Records<B> {
     }
 }
 
-// Whether the event is a step of the process.
-fn is_step_of(event: &Event, p: Proc) -> bool
-    ensures { IsTrue result ↔ ((k : ℕ) × (kind : AKind) × (event.now ≡ Step p k kind)) }
-{
-    match event {
-        Event::Step { p: q, .. } => *q == p,
-        Event::Lost(_) => false,
-    }
-}
-
 // The place, from 1, of the last step of a process.
 fn last_of(history: &History, p: Proc) -> Option<usize>
     ensures { MatchOption result ((i : ℕ) → IsStepOf history.now p i → ⊥) (λ at. (1 ≤ at) × IsLastStepOf history.now p (at - 1)) }
 {
     let events = history.as_slice();
     for i in (0..events.len()).rev() {
-        if is_step_of(&events[i], p) {
+        if events[i].is_step_of(p) {
             return Some(i + 1);
         }
     }

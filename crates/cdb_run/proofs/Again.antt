@@ -1,5 +1,5 @@
 -- An event that was undone is taken again exactly where it is enabled.
-use Rattle.std.proofs.Common.{◌≡◌, ℕ, ◌+◌, ◌≤◌, Bool, true, false, not, ◌&&◌, ◌==◌, ◌↔◌, nat_le, List, [], ◌∷◌, length, Option, Some, None, Result, Ok, Err, IsOk, IfOk, is_ok, IsSome, if◌then◌else◌, refl, sym, ap, ap₂, ◌∙◌, subst, true≢false, arith}
+use Rattle.std.proofs.Common.{◌≡◌, ℕ, ◌+◌, ◌≤◌, Bool, true, false, not, ◌&&◌, ◌==◌, ◌↔◌, nat_le, List, [], ◌∷◌, length, Option, Some, None, Result, Ok, Err, IsOk, IfOk, is_ok, IsSome, option_map, if◌then◌else◌, find, refl, sym, ap, ap₂, ◌∙◌, subst, true≢false, arith}
 use Rattle.std.specs.Option.{option_map_or}
 use Rattle.std.proofs.lemmas.Option.{none-some, same_Some}
 use Rattle.std.proofs.lemmas.Bool.Decides.{nat_tests}
@@ -28,7 +28,7 @@ use Rattle.cdb_setup.specs.Parts.{Parts}
 -- a row of checks of which none holds refuses nothing
 none_refuses : (checks : List (Bool × Refusal)) → AllPass checks → first_refusal checks ≡ None
 none_refuses [] pass = refl
-none_refuses (check ∷ checks) pass = ap (λ b. if b then Some check.1 else first_refusal checks) pass.0 ∙ none_refuses checks pass.1
+none_refuses (check ∷ checks) pass = ap (λ b. option_map (λ (c : Bool × Refusal). c.1) (if b then Some check else find (λ (c : Bool × Refusal). c.0) checks)) pass.0 ∙ none_refuses checks pass.1
 
 unless_ok : (why : Option Refusal) (event : Event) → why ≡ None → unless_refused why (Some event) ≡ Ok event
 unless_ok why event none = ap (λ w. unless_refused w (Some event)) none

@@ -1,5 +1,6 @@
 -- How far the numbers of a run can rise.
 use Rattle.std.proofs.Common.{◌≡◌, ℕ, zero, suc, ◌+◌, ◌*◌, ◌<◌, ◌≤◌, ◌≢◌, ◌==◌, slice_get, slice_set, true, false, List, [], ◌∷◌, length, map, replicate, Option, Some, None, option_map, option_to_list, if◌then◌else◌, refl, sym, ap, ◌∙◌, subst, length-append, arith}
+use Rattle.std.proofs.lemmas.List.{length-map}
 use Rattle.std.proofs.lemmas.Option.{none-some, same_Some}
 use Rattle.std.proofs.lemmas.Bool.Decides.{nat_tests}
 use Rattle.cdb_base.specs.Places.{nth, set_nth, update_nth}
@@ -162,10 +163,6 @@ module _ {L : Type 0} where
     path_sound before state to (entry ∷ entries) p sound =
         path_sound before p.0 to entries p.2 (event_sound state p.0 entry.event p.1.leads sound)
 
-    length-map : {A C : Type 0} (f : A → C) (xs : List A) → length (map f xs) ≡ length xs
-    length-map f [] = refl
-    length-map f (x ∷ xs) = ap suc (length-map f xs)
-
     fresh_at : (firsts : List L) (i : ℕ) (process : ProcessState L) → slice_get (map fresh_process firsts) i ≡ Some process → IsBounded process
     fresh_at [] i process at = absurd (none-some process at)
     fresh_at (x ∷ xs) zero process at = subst IsBounded (same_Some (fresh_process x) process at) (record { steps = omega arith; queries = omega arith; sends = omega arith })
@@ -187,7 +184,7 @@ module _ {L : Type 0} where
     pub start_sound : IsSound machine (start machine)
     start_sound =
         record {
-          count = length-map fresh_process machine.firsts;
+          count = length-map machine.firsts fresh_process;
           bounded = λ p process at. fresh_bounded p process at;
           few_writes = λ register stands at. let none = unwritten (if machine.has_registers then length machine.firsts else 0) register stands at in omega (arith, none);
         }

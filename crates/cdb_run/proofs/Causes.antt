@@ -3,7 +3,7 @@ use Rattle.std.proofs.Common.{◌≡◌, ℕ, zero, suc, ◌<◌, ◌≤◌, tru
 use Rattle.std.proofs.lemmas.Bool.Decides.{nat_tests}
 use Rattle.std.proofs.lemmas.Option.{none-some, same_Some, slice_get_within}
 use Rattle.std.specs.List.{list_any, flat_map}
-use Rattle.cdb_base.specs.Event.{event_name}
+use Rattle.cdb_base.specs.Event.{event_name, is_step_of}
 use Rattle.cdb_base.specs.Processes.{all_processes}
 use Rattle.cdb_base.specs.declared.event.Event.{Event}
 use Rattle.cdb_base.specs.declared.event.Event.TheVariants.{Step, Lost}
@@ -20,7 +20,7 @@ use Rattle.cdb_causal.proofs.DirectByList.{direct_between}
 use Rattle.cdb_causal.proofs.SlotsOfCauses.{lost_received}
 use Rattle.cdb_run.specs.State.{Machine}
 use Rattle.cdb_run.specs.Step.{IsValid}
-use Rattle.cdb_run.specs.Undo.{direct_among, is_step_of}
+use Rattle.cdb_run.specs.Undo.{direct_among}
 use Rattle.cdb_run.proofs.Kept.{is_false}
 use Rattle.cdb_run.proofs.ListMembers.{nothing_in, place_in, in_filter, from_filter, filter_none, any_none, get-take, get_up_to, length_up_to, in_map, from_map, in_flat, from_flat}
 use Rattle.cdb_run.proofs.Mails.{not_true}

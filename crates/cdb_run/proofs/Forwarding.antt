@@ -6,37 +6,37 @@ use Rattle.cdb_base.specs.declared.event.Event.{Event}
 use Rattle.cdb_leader.specs.LocalState.{LocalState as LeaderState}
 use Rattle.cdb_leader.specs.Place.{place_number as leader_place}
 use Rattle.cdb_run.specs.Algorithms.{rules, rules_by}
-use Rattle.cdb_run.specs.Any.{standing_of, IsTrueToSetup}
-use Rattle.cdb_run.specs.Current.{Standing}
+use Rattle.cdb_run.specs.Any.{run_view, IsTrueToSetup}
+use Rattle.cdb_run.specs.Current.{RunView}
 use Rattle.cdb_run.specs.Rules.{Rules, Shown, shown_of}
 use Rattle.cdb_run.specs.State.{ProcessState}
 use Rattle.cdb_run.specs.declared.any.AnyRun.{AnyRun}
 use Rattle.cdb_run.specs.declared.any.AnyRun.TheVariants as run_of
 use Rattle.cdb_setup.specs.declared.setup.Algorithm.TheVariants.{Leader, Alpha}
 
-pub in_leader : {run : AnyRun} {stands : Standing} (Holds : Rules → List Event → Type 0) → IsTrueToSetup run → run ≡ run_of.Leader stands
-    → Holds (rules_by Leader stands.setup) stands.history → Holds (rules (standing_of run).setup) (standing_of run).history
+pub in_leader : {run : AnyRun} {stands : RunView} (Holds : Rules → List Event → Type 0) → IsTrueToSetup run → run ≡ run_of.Leader stands
+    → Holds (rules_by Leader stands.setup) stands.history → Holds (rules (run_view run).setup) (run_view run).history
 in_leader {run = _} {stands = stands} Holds true_to is given =
-    subst (λ (r : AnyRun). IsTrueToSetup r → Holds (rules (standing_of r).setup) (standing_of r).history) (sym is)
+    subst (λ (r : AnyRun). IsTrueToSetup r → Holds (rules (run_view r).setup) (run_view r).history) (sym is)
     (λ names_leader. subst (λ algorithm. Holds (rules_by algorithm stands.setup) stands.history) (sym names_leader) given) true_to
 
-pub in_alpha : {run : AnyRun} {stands : Standing} (Holds : Rules → List Event → Type 0) → IsTrueToSetup run → run ≡ run_of.Alpha stands
-    → Holds (rules_by Alpha stands.setup) stands.history → Holds (rules (standing_of run).setup) (standing_of run).history
+pub in_alpha : {run : AnyRun} {stands : RunView} (Holds : Rules → List Event → Type 0) → IsTrueToSetup run → run ≡ run_of.Alpha stands
+    → Holds (rules_by Alpha stands.setup) stands.history → Holds (rules (run_view run).setup) (run_view run).history
 in_alpha {run = _} {stands = stands} Holds true_to is given =
-    subst (λ (r : AnyRun). IsTrueToSetup r → Holds (rules (standing_of r).setup) (standing_of r).history) (sym is)
+    subst (λ (r : AnyRun). IsTrueToSetup r → Holds (rules (run_view r).setup) (run_view r).history) (sym is)
     (λ names_alpha. subst (λ algorithm. Holds (rules_by algorithm stands.setup) stands.history) (sym names_alpha) given) true_to
 
 -- the other way round
-pub of_leader : {run : AnyRun} {stands : Standing} (Holds : Rules → List Event → Type 0) → IsTrueToSetup run → run ≡ run_of.Leader stands
-    → Holds (rules (standing_of run).setup) (standing_of run).history → Holds (rules_by Leader stands.setup) stands.history
+pub of_leader : {run : AnyRun} {stands : RunView} (Holds : Rules → List Event → Type 0) → IsTrueToSetup run → run ≡ run_of.Leader stands
+    → Holds (rules (run_view run).setup) (run_view run).history → Holds (rules_by Leader stands.setup) stands.history
 of_leader {run = _} {stands = stands} Holds true_to is =
-    subst (λ (r : AnyRun). IsTrueToSetup r → Holds (rules (standing_of r).setup) (standing_of r).history → Holds (rules_by Leader stands.setup) stands.history) (sym is)
+    subst (λ (r : AnyRun). IsTrueToSetup r → Holds (rules (run_view r).setup) (run_view r).history → Holds (rules_by Leader stands.setup) stands.history) (sym is)
     (λ names_leader given. subst (λ algorithm. Holds (rules_by algorithm stands.setup) stands.history) names_leader given) true_to
 
-pub of_alpha : {run : AnyRun} {stands : Standing} (Holds : Rules → List Event → Type 0) → IsTrueToSetup run → run ≡ run_of.Alpha stands
-    → Holds (rules (standing_of run).setup) (standing_of run).history → Holds (rules_by Alpha stands.setup) stands.history
+pub of_alpha : {run : AnyRun} {stands : RunView} (Holds : Rules → List Event → Type 0) → IsTrueToSetup run → run ≡ run_of.Alpha stands
+    → Holds (rules (run_view run).setup) (run_view run).history → Holds (rules_by Alpha stands.setup) stands.history
 of_alpha {run = _} {stands = stands} Holds true_to is =
-    subst (λ (r : AnyRun). IsTrueToSetup r → Holds (rules (standing_of r).setup) (standing_of r).history → Holds (rules_by Alpha stands.setup) stands.history) (sym is)
+    subst (λ (r : AnyRun). IsTrueToSetup r → Holds (rules (run_view r).setup) (run_view r).history → Holds (rules_by Alpha stands.setup) stands.history) (sym is)
     (λ names_alpha given. subst (λ algorithm. Holds (rules_by algorithm stands.setup) stands.history) names_alpha given) true_to
 
 -- a process as it is shown, by algorithm

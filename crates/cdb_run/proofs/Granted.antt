@@ -1,5 +1,5 @@
 -- A step that nothing refuses is enabled, and an enabled one is refused by nothing.
-use Rattle.std.proofs.Common.{◌≡◌, ℕ, ◌+◌, Bool, true, false, not, ◌&&◌, ◌==◌, nat_le, List, [], ◌∷◌, length, Option, Some, None, IsSome, is_some, option_and_then, option_map, if◌then◌else◌, refl, sym, ap, ap₂, ◌∙◌, subst, true≢false}
+use Rattle.std.proofs.Common.{◌≡◌, ℕ, ◌+◌, Bool, true, false, not, ◌&&◌, ◌==◌, nat_le, List, [], ◌∷◌, length, Option, Some, None, IsSome, is_some, option_and_then, option_map, if◌then◌else◌, find, refl, sym, ap, ap₂, ◌∙◌, subst, true≢false}
 use Rattle.std.specs.Option.{option_map_or}
 use Rattle.std.proofs.lemmas.Option.{none-some}
 use Rattle.std.specs.FinSet as set
@@ -38,7 +38,7 @@ pub all_pass : (checks : List (Bool × Refusal)) → first_refusal checks ≡ No
 all_pass [] h = tt
 all_pass (check ∷ checks) h = go (λ k. all_pass checks k) check.0 refl h
   where
-    go : (first_refusal checks ≡ None → AllPass checks) → (b : Bool) → check.0 ≡ b → (if b then Some check.1 else first_refusal checks) ≡ None → (check.0 ≡ false) × (AllPass checks)
+    go : (first_refusal checks ≡ None → AllPass checks) → (b : Bool) → check.0 ≡ b → option_map (λ (c : Bool × Refusal). c.1) (if b then Some check else find (λ (c : Bool × Refusal). c.0) checks) ≡ None → (check.0 ≡ false) × (AllPass checks)
     go others true e h = absurd (none-some check.1 (sym h))
     go others false e h = (e, others h)
 

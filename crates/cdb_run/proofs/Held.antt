@@ -1,5 +1,6 @@
 -- What is held of a run, before and after an event.
 use Rattle.std.proofs.Common.{◌≡◌, ℕ, zero, suc, ◌+◌, ◌<◌, ◌≤◌, true, false, not, ◌&&◌, if◌then◌else◌, List, [], ◌∷◌, ◌++◌, length, map, Option, Some, None, IsSome, option_and_then, option_map, unwrap_or, slice_set, get_or, refl, sym, ap, ap₂, ◌∙◌, subst, true≢false, arith}
+use Rattle.std.proofs.lemmas.List.{length-map}
 use Rattle.std.proofs.lemmas.Option.{same_Some, slice_get_read}
 use Rattle.std.proofs.lemmas.List.{map-append}
 use Rattle.std.specs.Option.{ForSome}
@@ -40,10 +41,6 @@ writable_by machine process mail registers p (Write register) due met few = (met
     limit : (o : Option RegisterState) → ((stands : RegisterState) → o ≡ Some stands → stands.writes < 999999) → ForSome o (λ stands. stands.writes < 999999)
     limit o few = λ stands at. few stands at
 writable_by machine process mail registers p _ due met few = tt
-
-pub length-map : {A C : Type 0} (f : A → C) (xs : List A) → length (map f xs) ≡ length xs
-length-map f [] = refl
-length-map f (x ∷ xs) = ap suc (length-map f xs)
 
 there : {A : Type 0} (xs : List A) (p : ℕ) → 1 ≤ p → p ≤ length xs → (x : A) × (nth xs p ≡ Some x)
 there xs zero first last = absurd (omega (arith, first))
@@ -89,7 +86,7 @@ module _ {L B : Type 0} {machine : Machine L} {before : L → B → L} where
 
     -- each process is there, and no other
     pub count_is : length processes ≡ length machine.firsts
-    count_is = ap length current.processes_are ∙ length-map (λ (x : ProcessState L). x.progress) current.state.processes ∙ sound.count
+    count_is = ap length current.processes_are ∙ length-map current.state.processes (λ (x : ProcessState L). x.progress) ∙ sound.count
 
     pub process_there : (p : ℕ) → 1 ≤ p → p ≤ length machine.firsts → (process : ProcessState L) × (nth current.state.processes p ≡ Some process)
     process_there p first last = there current.state.processes p first (subst (λ n. p ≤ n) (sym sound.count) last)
@@ -260,7 +257,7 @@ module _ {L B : Type 0} {machine : Machine L} {before : L → B → L} where
       pub receiver_within : copy.to ≤ length mail.received
       receiver_within =
           let last = is_at_most (length machine.firsts) copy.to on_its_way.among in
-          let count = ap (λ (m : MailState). length m.received) current.mail_is ∙ length-map (λ (x : ProcessState L). x.received) current.state.processes ∙ sound.count in
+          let count = ap (λ (m : MailState). length m.received) current.mail_is ∙ length-map current.state.processes (λ (x : ProcessState L). x.received) ∙ sound.count in
           omega (arith, last, count)
 
       -- what is held after the loss

@@ -1,5 +1,6 @@
 -- In a valid history names name one event each, and losses stand where they may.
 use Rattle.std.proofs.Common.{◌≡◌, ℕ, zero, suc, ◌<◌, ◌≤◌, length, Bool, true, false, ◌⊎◌, inl, inr, ⊎_elim, List, [], ◌∷◌, Option, Some, None, slice_get, is_some, option_map, unwrap_or, refl, sym, ap, ◌∙◌, subst, true≢false, arith}
+use Rattle.std.proofs.lemmas.List.{length-map}
 use Rattle.std.proofs.lemmas.Option.{same_Some, none-some}
 use Rattle.cdb_base.specs.Event.{event_name}
 use Rattle.cdb_base.specs.Places.{nth}
@@ -22,7 +23,6 @@ use Rattle.cdb_run.specs.State.{Machine, ProcessState, RunState, fresh_process, 
 use Rattle.cdb_run.specs.Step.{fold, after, IsValid}
 use Rattle.cdb_run.proofs.Bounds.{length-set_nth}
 use Rattle.cdb_run.proofs.Commutes.{lost_from}
-use Rattle.cdb_run.proofs.Held.{length-map}
 use Rattle.cdb_run.proofs.Kept.{is_false, left, payload_kept}
 use Rattle.cdb_run.proofs.Members.{Reaches, IsOrdered, first_step, losable, ordered, start_counted, nth-fresh}
 use Rattle.cdb_run.proofs.Places.{nth-map, nth_within}
@@ -127,7 +127,7 @@ module _ {L : Type 0} (machine : Machine L) where
     not_sent_later copy (Lost other) before = refl
 
     pub of_processes : (p k : ℕ) (kind : Kind) → IsIn (Step p k kind) history → (1 ≤ p) × (p ≤ length machine.firsts)
-    of_processes p k kind i = of_process history (start machine) reaches.0 reaches.1 (length-map fresh_process machine.firsts) p k kind i
+    of_processes p k kind i = of_process history (start machine) reaches.0 reaches.1 (length-map machine.firsts fresh_process) p k kind i
 
     -- what every history keeps
     pub valid_standing : length machine.firsts ≤ 9 → IsStanding history

@@ -1,6 +1,7 @@
 -- The own events of a process, as the state has them, are its steps as the history alone tells them.
 use Rattle.std.proofs.Common.{◌≡◌, ℕ, zero, suc, ◌+◌, length, replicate, slice_get, true, false, cond, List, [], ◌∷◌, ◌++◌, Option, Some, None, filter, option_map, unwrap_or, ◌==◌, if◌then◌else◌, refl, sym, ap, ap₂, ◌∙◌, subst, append-nil, append_assoc}
 use Rattle.std.proofs.lemmas.Option.{same_Some}
+use Rattle.cdb_base.specs.Event.{is_step_of}
 use Rattle.cdb_base.specs.Places.{nth}
 use Rattle.cdb_base.specs.declared.event.Event.{Event}
 use Rattle.cdb_base.specs.declared.event.Event.TheVariants.{Step, Lost}
@@ -13,7 +14,6 @@ use Rattle.cdb_register.specs.Registers.{register_of, fresh_register, fresh_regi
 use Rattle.cdb_run.specs.OwnSteps.{no_writes, writes_with, writes_met, noted, own_steps, own_of}
 use Rattle.cdb_run.specs.State.{Machine, OwnEvent, ProcessState, RunState, start}
 use Rattle.cdb_run.specs.Step.{after, fold, own_event, sight_in}
-use Rattle.cdb_run.specs.Undo.{is_step_of}
 use Rattle.cdb_run.proofs.Commutes.{lost_from}
 use Rattle.cdb_run.proofs.Kept.{at_left, process_kept, register_kept, nat_eq-is, nat_eq-ne}
 use Rattle.cdb_run.proofs.Members.{Reaches, first_step, nth-fresh}

@@ -3,7 +3,7 @@ use Rattle.std.proofs.Common.{◌≡◌, ℕ, zero, suc, ◌+◌, ◌-◌, ◌<�
 use Rattle.std.proofs.lemmas.List.{length-map, length-reverse, reverse-append}
 use Rattle.std.proofs.lemmas.Option.{same_Some}
 use Rattle.std.specs.List.{flat_map}
-use Rattle.cdb_base.specs.Event.{event_name}
+use Rattle.cdb_base.specs.Event.{event_name, is_step_of}
 use Rattle.cdb_base.specs.Processes.{all_processes}
 use Rattle.cdb_base.specs.declared.event.Event.{Event}
 use Rattle.cdb_base.specs.declared.name.StepId.{StepId}
@@ -16,7 +16,7 @@ use Rattle.cdb_causal.proofs.Undone.{rolled_back_alone, rolled_back_last}
 use Rattle.cdb_causal.proofs.Walks.{rolled_back_split}
 use Rattle.cdb_run.specs.State.{Machine}
 use Rattle.cdb_run.specs.Step.{IsValid}
-use Rattle.cdb_run.specs.Undo.{event_named, found_at, for_standing, rollback_of, causes_of, answered, left_by, number_removed, with_removed, direct_among, is_step_of}
+use Rattle.cdb_run.specs.Undo.{event_named, found_at, for_standing, rollback_of, causes_of, answered, left_by, number_removed, with_removed, direct_among}
 use Rattle.cdb_run.proofs.Answering.{found_is}
 use Rattle.cdb_run.proofs.Causes.{causes_are}
 

@@ -1,5 +1,6 @@
 -- Two runs are in the same state where their histories tell the same of each process and of what is lost.
 use Rattle.std.proofs.Common.{◌≡◌, ℕ, zero, suc, ◌-◌, ◌<◌, ◌≤◌, ◌↔◌, ◌&&◌, Bool, true, false, List, [], ◌∷◌, length, Option, Some, None, IsTrue, option_and_then, option_map, unwrap_or, slice_index_or, refl, sym, ap, ◌∙◌, subst, ◌⊎◌, ⊎_elim, arith}
+use Rattle.std.proofs.lemmas.List.{length-map}
 use Rattle.std.proofs.lemmas.Option.{same_Some}
 use Rattle.std.specs.List.{list_all}
 use Rattle.cdb_base.specs.Places.{nth}
@@ -15,7 +16,6 @@ use Rattle.cdb_run.specs.OwnSteps.{own_steps, own_of, is_lost_too, AreAlike}
 use Rattle.cdb_run.specs.State.{Machine, ProcessState, RunState, fresh_process, start}
 use Rattle.cdb_run.specs.Step.{after, fold, IsValid, state_of}
 use Rattle.cdb_run.proofs.FoldKeeps.{reached_keeps}
-use Rattle.cdb_run.proofs.Held.{length-map}
 use Rattle.cdb_run.proofs.Histories.{fold_exchanged}
 use Rattle.cdb_run.proofs.Members.{member, lost_comes, start_counted, start_unlost}
 use Rattle.cdb_run.proofs.Naming.{count_kept}
@@ -81,7 +81,7 @@ module _ {L : Type 0} (machine : Machine L) where
   count_is : (history : List Event) (to : RunState L) → fold machine history ≡ Some to → length to.processes ≡ length machine.firsts
   count_is history to h =
       reached_keeps (after machine) (λ (state : RunState L). length state.processes ≡ length machine.firsts) (λ state event next is one. count_kept machine state next event one ∙ is) (start machine) history to
-      (length-map fresh_process machine.firsts) h
+      (length-map machine.firsts fresh_process) h
 
   module _ (few : length machine.firsts ≤ 9) (history others : List Event) (to other : RunState L) (h : fold machine history ≡ Some to) (g : fold machine others ≡ Some other) where
     -- beyond the processes nobody has own events

@@ -1,5 +1,6 @@
 -- What the state that is held shows.
 use Rattle.std.proofs.Common.{◌≡◌, ℕ, ◌+◌, ◌<◌, ◌≤◌, true, false, List, [], ◌∷◌, length, map, Option, Some, None, Result, Ok, Err, option_map, IsSome, get_or, refl, sym, ap, ap₂, ◌∙◌, subst, arith}
+use Rattle.std.proofs.lemmas.List.{length-map}
 use Rattle.std.specs.Option.{option_map_or}
 use Rattle.std.specs.Prelude.{IfSome}
 use Rattle.std.proofs.lemmas.Option.{none-some, same_Some, slice_get_read}
@@ -22,7 +23,7 @@ use Rattle.cdb_run.specs.State.{Machine, ProcessState, RunState}
 use Rattle.cdb_run.specs.Step.{is_among, after, fold, state_of}
 use Rattle.cdb_run.specs.declared.progress.Progress.{Progress}
 use Rattle.cdb_run.proofs.Bounds.{IsBounded}
-use Rattle.cdb_run.proofs.Held.{length-map, valid, state_is, sound, count_is, process_there, process_absent, progress_at}
+use Rattle.cdb_run.proofs.Held.{valid, state_is, sound, count_is, process_there, process_absent, progress_at}
 use Rattle.cdb_run.proofs.Places.{get_at}
 use Rattle.cdb_run.proofs.Granted.{IsLawful}
 use Rattle.cdb_run.proofs.Planned.{planned_enabled}
@@ -60,7 +61,7 @@ module _ {L B : Type 0} {machine : Machine L} {before : L → B → L} {processe
 
     pub receives_shown : p ≤ length mail.received
     receives_shown =
-        let count = ap (λ (m : MailState). length m.received) current.mail_is ∙ length-map (λ (x : ProcessState L). x.received) current.state.processes ∙ (sound current).count in
+        let count = ap (λ (m : MailState). length m.received) current.mail_is ∙ length-map current.state.processes (λ (x : ProcessState L). x.received) ∙ (sound current).count in
         omega (arith, count, number, last)
 
     pub plan_shown : (setup : Parts) (act : Act) (answer : Result Event Refusal) → answer ≡ planned machine setup mail registers progress p act → answer ≡ step_answer machine setup (state_of machine history) p act
@@ -123,7 +124,7 @@ module _ {L B : Type 0} {machine : Machine L} {before : L → B → L} {processe
       ∙ ap (λ (state : RunState L). map (λ (process : ProcessState L). process.progress.local) state.processes) (sym (state_is current))
 
   pub receivers_shown : length mail.received ≡ length machine.firsts
-  receivers_shown = ap (λ (m : MailState). length m.received) current.mail_is ∙ length-map (λ (x : ProcessState L). x.received) current.state.processes ∙ (sound current).count
+  receivers_shown = ap (λ (m : MailState). length m.received) current.mail_is ∙ length-map current.state.processes (λ (x : ProcessState L). x.received) ∙ (sound current).count
 
 module _ {L B : Type 0} {machine : Machine L} {before : L → B → L} {processes : List (Progress L)} {mail : MailState} {registers : RegisterStates} {history : List Event} {entries : List (Entry B)} (current : IsCurrent machine before processes mail registers history entries) (setup : Parts) (number : length machine.firsts ≡ setup.processes) (ranges : AreInRange setup) (lawful : IsLawful machine) where
   -- a step that is not refused is enabled

@@ -1,14 +1,14 @@
 -- What a contract sees of a run of either algorithm.
 use Rattle.std.specs.Prelude.{◌≡◌}
-use Rattle.cdb_run.specs.Current.{Standing}
+use Rattle.cdb_run.specs.Current.{RunView}
 use Rattle.cdb_run.specs.declared.any.AnyRun.{AnyRun}
 use Rattle.cdb_run.specs.declared.any.AnyRun.TheVariants as run_of
 use Rattle.cdb_setup.specs.declared.setup.Algorithm.TheVariants.{Leader, Alpha}
 
 -- its setup and its standing events
-abbrev pub standing_of : AnyRun → Standing
-standing_of (run_of.Leader run) = run
-standing_of (run_of.Alpha run) = run
+abbrev pub run_view : AnyRun → RunView
+run_view (run_of.Leader run) = run
+run_view (run_of.Alpha run) = run
 
 -- it runs the algorithm that its setup names
 abbrev pub IsTrueToSetup : AnyRun → Type 0

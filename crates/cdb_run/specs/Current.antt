@@ -13,7 +13,7 @@ use Rattle.cdb_run.specs.declared.progress.Progress.{Progress}
 use Rattle.cdb_setup.specs.Parts.{Parts}
 
 -- what a contract sees of a run: its setup, and its standing events in the order in which they were taken
-pub record Standing : Type 0 where
+pub record RunView : Type 0 where
   pub setup : Parts
   pub history : List Event
 

@@ -1,6 +1,7 @@
 -- The events of a history, each with the number of writes that it meets.
 use Rattle.std.specs.Prelude.{◌≡◌, All, IsTrue, ℕ, ◌+◌, Bool, true, List, [], ◌∷◌, Option, Some, None, option_map, unwrap_or, filter, if◌then◌else◌}
 use Rattle.std.specs.List.{list_all}
+use Rattle.cdb_base.specs.Event.{is_step_of}
 use Rattle.cdb_base.specs.Places.{nth}
 use Rattle.cdb_base.specs.Processes.{all_processes}
 use Rattle.cdb_base.specs.declared.event.Event.{Event}
@@ -10,7 +11,6 @@ use Rattle.cdb_base.specs.declared.register.Reg.{Reg}
 use Rattle.cdb_causal.specs.Dependence.{same_register}
 use Rattle.cdb_message.specs.Mail.{MailState, is_lost}
 use Rattle.cdb_run.specs.State.{OwnEvent, RunState}
-use Rattle.cdb_run.specs.Undo.{is_step_of}
 
 abbrev pub no_writes : Reg → ℕ
 no_writes register = 0

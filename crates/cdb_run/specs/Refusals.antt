@@ -1,5 +1,5 @@
 -- Why a step is refused, and the event that is taken where it is not.
-use Rattle.std.specs.Prelude.{◌≡◌, ℕ, ◌+◌, ◌≤◌, Bool, true, false, not, ◌&&◌, ◌==◌, nat_le, List, [], ◌∷◌, ◌++◌, length, Option, Some, None, is_some, is_none, option_map, Result, Ok, Err, if◌then◌else◌}
+use Rattle.std.specs.Prelude.{◌≡◌, ℕ, ◌+◌, ◌≤◌, Bool, true, false, not, ◌&&◌, ◌==◌, nat_le, List, [], ◌∷◌, ◌++◌, length, Option, Some, None, is_some, is_none, option_map, Result, Ok, Err, find}
 use Rattle.std.specs.Option.{option_map_or}
 use Rattle.cdb_base.specs.Places.{nth}
 use Rattle.cdb_base.specs.declared.act.Act.{Act}
@@ -26,8 +26,7 @@ use Rattle.cdb_setup.specs.Parts.{Parts, IsWithin, answer_of}
 
 -- of a row of checks the first that holds
 abbrev pub first_refusal : List (Bool × Refusal) → Option Refusal
-first_refusal [] = None
-first_refusal (check ∷ checks) = if check.0 then Some check.1 else first_refusal checks
+first_refusal checks = option_map (λ check. check.1) (find (λ check. check.0) checks)
 
 -- What a process is asked to do.
 

@@ -2,7 +2,7 @@
 use Rattle.std.specs.Prelude.{◌≡◌, ℕ, suc, Bool, true, false, ◌&&◌, ◌==◌, List, [], ◌∷◌, ◌++◌, Some, Result, Ok, Err, find, drop, take, filter, map, reverse, flat_map, slice_get, length, if◌then◌else◌}
 use Rattle.std.specs.List.{position}
 use Rattle.std.specs.Option.{option_map_or}
-use Rattle.cdb_base.specs.Event.{event_name}
+use Rattle.cdb_base.specs.Event.{event_name, is_step_of}
 use Rattle.cdb_base.specs.Processes.{all_processes}
 use Rattle.cdb_base.specs.declared.event.Event.{Event}
 use Rattle.cdb_base.specs.declared.event.Event.TheVariants.{Step, Lost}
@@ -13,7 +13,7 @@ use Rattle.cdb_base.specs.declared.refusal.Refusal.TheVariants as refusal
 use Rattle.cdb_causal.specs.Causality.{IsFree}
 use Rattle.cdb_causal.specs.Dependence.{depends}
 use Rattle.cdb_causal.specs.DirectDependents.{is_direct}
-use Rattle.cdb_causal.specs.Names.{IsNamedAt}
+use Rattle.cdb_causal.specs.Names.{IsNamedAt, IsPlaceOf}
 use Rattle.cdb_causal.specs.Rollback.{without, rolled_back, remaining}
 use Rattle.cdb_run.specs.Step.{is_among}
 
@@ -28,12 +28,11 @@ abbrev pub names_processes : ℕ → StepId → Bool
 names_processes n (named.Step name) = is_among n name.p
 names_processes n (named.Lost copy) = is_among n copy.msg.s && is_among n copy.to
 
--- Among n processes the name is that of the event at place i, from 0, and of no other in the history.
-pub record StandsAt (n : ℕ) (history : List Event) (name : StepId) (i : ℕ) (event : Event) : Type 0 where
+-- Among n processes this event, at place i from 0, is the one of the name.
+pub record IsEventNamed (n : ℕ) (history : List Event) (name : StepId) (i : ℕ) (event : Event) : Type 0 where
   pub among : names_processes n name ≡ true
   pub at : slice_get history i ≡ Some event
-  pub named : event_name event ≡ name
-  pub only : (j : ℕ) → IsNamedAt history j name → j ≡ i
+  pub place : IsPlaceOf history name (suc i)
 
 -- A standing event, where it stands, and what stood before and came later.
 pub record Found : Type 0 where
@@ -100,10 +99,6 @@ rollback_of n history name =
 abbrev pub direct_among : List Event → Event → List Event
 direct_among [] effect = []
 direct_among (cause ∷ between) effect = if is_direct depends cause between effect then cause ∷ direct_among between effect else direct_among between effect
-
-abbrev pub is_step_of : ℕ → Event → Bool
-is_step_of p (Step q k kind) = q == p
-is_step_of p (Lost copy) = false
 
 -- Why: the names of the direct causes, in order of process. A loss causes nothing.
 abbrev pub causes_of : ℕ → List Event → StepId → Result (List StepId) Refusal

@@ -10,9 +10,5 @@ pub(crate) fn process_among(n: u8, number: u32) -> Option<Proc>
     requires { n ≤ 9 }
     ensures { result ≡ (if is_among n number then Some number else None) }
 {
-    if 1 <= number && number <= u32::from(n) {
-        Some(Proc::new(number as u8))
-    } else {
-        None
-    }
+    Proc::from_number(number).filter(|p| p.number() <= n)
 }

@@ -9,7 +9,7 @@ ghost use Rattle.cdb_message.specs.Mail.{message_name, copy_name, next_pending, 
 ghost use Rattle.cdb_register.specs.Registers.{register_of};
 ghost use Rattle.cdb_run.specs.Agreement.{AllAgree, HasMajorityIfNeeded};
 ghost use Rattle.cdb_run.specs.Algorithms.{rules};
-ghost use Rattle.cdb_run.specs.Any.{standing_of, IsTrueToSetup};
+ghost use Rattle.cdb_run.specs.Any.{run_view, IsTrueToSetup};
 ghost use Rattle.cdb_run.specs.Refusals.{IsOfRun, with_taken};
 ghost use Rattle.cdb_run.specs.SameState.{ReachSameState};
 ghost use Rattle.cdb_run.specs.Step.{is_among};
@@ -38,7 +38,7 @@ pub enum AnyRun {
 impl AnyRun {
     /// The run of a setup in which nothing has happened. After `NoMemory` the setup is given up.
     pub fn start(alloc: Global, setup: Setup) -> Result<AnyRun, NoMemory>
-        ensures fresh { IfOk result (λ run. standing_of run ≡ record { setup = setup; history = [] }) }
+        ensures fresh { IfOk result (λ run. run_view run ≡ record { setup = setup; history = [] }) }
         ensures true_to_setup { IfOk result IsTrueToSetup }
     {
         match setup.algorithm() {
@@ -57,8 +57,8 @@ impl AnyRun {
         act: Act,
     ) -> Result<Result<Event, Refusal>, NoMemory>
         requires { IsTrueToSetup self.old }
-        ensures answer { IfOk result (λ answer. answer ≡ (rules (standing_of self.old).setup).step (standing_of self.old).history p act) }
-        ensures after { IfOk result (λ answer. standing_of self.new ≡ record (standing_of self.old) { history = with_taken (standing_of self.old).history answer }) }
+        ensures answer { IfOk result (λ answer. answer ≡ (rules (run_view self.old).setup).step (run_view self.old).history p act) }
+        ensures after { IfOk result (λ answer. run_view self.new ≡ record (run_view self.old) { history = with_taken (run_view self.old).history answer }) }
         ensures err { OnErr result (self.new ≡ self.old) }
         ensures true_to_setup { IsTrueToSetup self.new }
     {
@@ -71,7 +71,7 @@ impl AnyRun {
     /// What a step of process `p` would be refused with, if it would be.
     pub fn refuses(&self, p: u32, act: Act) -> Option<Refusal>
         requires { IsTrueToSetup self.now }
-        ensures { result ≡ result_err ((rules (standing_of self.now).setup).step (standing_of self.now).history p act) }
+        ensures { result ≡ result_err ((rules (run_view self.now).setup).step (run_view self.now).history p act) }
     {
         match self {
             AnyRun::Leader(run) => run.refuses(p, act),
@@ -89,10 +89,10 @@ impl AnyRun {
         event: &Event,
     ) -> Result<Result<Event, Refusal>, NoMemory>
         requires true_to_setup { IsTrueToSetup self.old }
-        requires of_run { IsOfRun (standing_of self.old).setup event.now }
-        ensures answer { IfOk result (λ answer. answer ≡ (rules (standing_of self.old).setup).again (standing_of self.old).history event.now) }
-        ensures taken { IfOk result (λ answer. IsOk answer ↔ IsTrue ((rules (standing_of self.old).setup).enabled (standing_of self.old).history event.now)) }
-        ensures after { IfOk result (λ answer. standing_of self.new ≡ record (standing_of self.old) { history = with_taken (standing_of self.old).history answer }) }
+        requires of_run { IsOfRun (run_view self.old).setup event.now }
+        ensures answer { IfOk result (λ answer. answer ≡ (rules (run_view self.old).setup).again (run_view self.old).history event.now) }
+        ensures taken { IfOk result (λ answer. IsOk answer ↔ IsTrue ((rules (run_view self.old).setup).enabled (run_view self.old).history event.now)) }
+        ensures after { IfOk result (λ answer. run_view self.new ≡ record (run_view self.old) { history = with_taken (run_view self.old).history answer }) }
         ensures err { OnErr result (self.new ≡ self.old) }
         ensures true_to_setup { IsTrueToSetup self.new }
     {
@@ -113,8 +113,8 @@ impl AnyRun {
         p: u32,
     ) -> Result<Result<Event, Refusal>, NoMemory>
         requires { IsTrueToSetup self.old }
-        ensures answer { IfOk result (λ answer. answer ≡ (rules (standing_of self.old).setup).lose (standing_of self.old).history (message_name s m) p) }
-        ensures after { IfOk result (λ answer. standing_of self.new ≡ record (standing_of self.old) { history = with_taken (standing_of self.old).history answer }) }
+        ensures answer { IfOk result (λ answer. answer ≡ (rules (run_view self.old).setup).lose (run_view self.old).history (message_name s m) p) }
+        ensures after { IfOk result (λ answer. run_view self.new ≡ record (run_view self.old) { history = with_taken (run_view self.old).history answer }) }
         ensures err { OnErr result (self.new ≡ self.old) }
         ensures true_to_setup { IsTrueToSetup self.new }
     {
@@ -129,8 +129,8 @@ impl AnyRun {
     /// on it. After a refusal the run is as it was. It takes no memory.
     pub fn undo(&mut self, p: u32, k: u32) -> Result<Event, Refusal>
         requires { IsTrueToSetup self.old }
-        ensures answer { result ≡ answered (undo_of (standing_of self.old).setup.processes (standing_of self.old).history (StepId.Step (record { p = p; k = k }))) }
-        ensures after { standing_of self.new ≡ record (standing_of self.old) { history = left_by (standing_of self.old).history (undo_of (standing_of self.old).setup.processes (standing_of self.old).history (StepId.Step (record { p = p; k = k }))) } }
+        ensures answer { result ≡ answered (undo_of (run_view self.old).setup.processes (run_view self.old).history (StepId.Step (record { p = p; k = k }))) }
+        ensures after { run_view self.new ≡ record (run_view self.old) { history = left_by (run_view self.old).history (undo_of (run_view self.old).setup.processes (run_view self.old).history (StepId.Step (record { p = p; k = k }))) } }
         ensures true_to_setup { IsTrueToSetup self.new }
     {
         match self {
@@ -144,8 +144,8 @@ impl AnyRun {
     /// refusal the run is as it was. It takes no memory.
     pub fn undo_lost(&mut self, s: u32, m: u32, p: u32) -> Result<Event, Refusal>
         requires { IsTrueToSetup self.old }
-        ensures answer { result ≡ answered (undo_of (standing_of self.old).setup.processes (standing_of self.old).history (StepId.Lost (copy_name (message_name s m) p))) }
-        ensures after { standing_of self.new ≡ record (standing_of self.old) { history = left_by (standing_of self.old).history (undo_of (standing_of self.old).setup.processes (standing_of self.old).history (StepId.Lost (copy_name (message_name s m) p))) } }
+        ensures answer { result ≡ answered (undo_of (run_view self.old).setup.processes (run_view self.old).history (StepId.Lost (copy_name (message_name s m) p))) }
+        ensures after { run_view self.new ≡ record (run_view self.old) { history = left_by (run_view self.old).history (undo_of (run_view self.old).setup.processes (run_view self.old).history (StepId.Lost (copy_name (message_name s m) p))) } }
         ensures true_to_setup { IsTrueToSetup self.new }
     {
         match self {
@@ -164,8 +164,8 @@ impl AnyRun {
         k: u32,
     ) -> Result<Result<Vec<Event>, Refusal>, NoMemory>
         requires { IsTrueToSetup self.old }
-        ensures answer { IfOk result (λ answer. MatchResult answer (λ taken. answered (rollback_of (standing_of self.old).setup.processes (standing_of self.old).history (StepId.Step (record { p = p; k = k }))) ≡ Ok taken.items) (λ why. answered (rollback_of (standing_of self.old).setup.processes (standing_of self.old).history (StepId.Step (record { p = p; k = k }))) ≡ Err why)) }
-        ensures after { IfOk result (λ _. standing_of self.new ≡ record (standing_of self.old) { history = left_by (standing_of self.old).history (rollback_of (standing_of self.old).setup.processes (standing_of self.old).history (StepId.Step (record { p = p; k = k }))) }) }
+        ensures answer { IfOk result (λ answer. MatchResult answer (λ taken. answered (rollback_of (run_view self.old).setup.processes (run_view self.old).history (StepId.Step (record { p = p; k = k }))) ≡ Ok taken.items) (λ why. answered (rollback_of (run_view self.old).setup.processes (run_view self.old).history (StepId.Step (record { p = p; k = k }))) ≡ Err why)) }
+        ensures after { IfOk result (λ _. run_view self.new ≡ record (run_view self.old) { history = left_by (run_view self.old).history (rollback_of (run_view self.old).setup.processes (run_view self.old).history (StepId.Step (record { p = p; k = k }))) }) }
         ensures err { OnErr result (self.new ≡ self.old) }
         ensures true_to_setup { IsTrueToSetup self.new }
     {
@@ -187,8 +187,8 @@ impl AnyRun {
         p: u32,
     ) -> Result<Result<Vec<Event>, Refusal>, NoMemory>
         requires { IsTrueToSetup self.old }
-        ensures answer { IfOk result (λ answer. MatchResult answer (λ taken. answered (rollback_of (standing_of self.old).setup.processes (standing_of self.old).history (StepId.Lost (copy_name (message_name s m) p))) ≡ Ok taken.items) (λ why. answered (rollback_of (standing_of self.old).setup.processes (standing_of self.old).history (StepId.Lost (copy_name (message_name s m) p))) ≡ Err why)) }
-        ensures after { IfOk result (λ _. standing_of self.new ≡ record (standing_of self.old) { history = left_by (standing_of self.old).history (rollback_of (standing_of self.old).setup.processes (standing_of self.old).history (StepId.Lost (copy_name (message_name s m) p))) }) }
+        ensures answer { IfOk result (λ answer. MatchResult answer (λ taken. answered (rollback_of (run_view self.old).setup.processes (run_view self.old).history (StepId.Lost (copy_name (message_name s m) p))) ≡ Ok taken.items) (λ why. answered (rollback_of (run_view self.old).setup.processes (run_view self.old).history (StepId.Lost (copy_name (message_name s m) p))) ≡ Err why)) }
+        ensures after { IfOk result (λ _. run_view self.new ≡ record (run_view self.old) { history = left_by (run_view self.old).history (rollback_of (run_view self.old).setup.processes (run_view self.old).history (StepId.Lost (copy_name (message_name s m) p))) }) }
         ensures err { OnErr result (self.new ≡ self.old) }
         ensures true_to_setup { IsTrueToSetup self.new }
     {
@@ -210,9 +210,9 @@ impl AnyRun {
         taken: &mut Vec<Event>,
     ) -> Result<Result<usize, Refusal>, NoMemory>
         requires { IsTrueToSetup self.old }
-        ensures answer { IfOk result (λ answer. answer ≡ number_removed (answered (rollback_of (standing_of self.old).setup.processes (standing_of self.old).history (StepId.Step (record { p = p; k = k }))))) }
-        ensures after { IfOk result (λ _. standing_of self.new ≡ record (standing_of self.old) { history = left_by (standing_of self.old).history (rollback_of (standing_of self.old).setup.processes (standing_of self.old).history (StepId.Step (record { p = p; k = k }))) }) }
-        ensures list { IfOk result (λ _. taken.new.items ≡ with_removed taken.old.items (answered (rollback_of (standing_of self.old).setup.processes (standing_of self.old).history (StepId.Step (record { p = p; k = k }))))) }
+        ensures answer { IfOk result (λ answer. answer ≡ number_removed (answered (rollback_of (run_view self.old).setup.processes (run_view self.old).history (StepId.Step (record { p = p; k = k }))))) }
+        ensures after { IfOk result (λ _. run_view self.new ≡ record (run_view self.old) { history = left_by (run_view self.old).history (rollback_of (run_view self.old).setup.processes (run_view self.old).history (StepId.Step (record { p = p; k = k }))) }) }
+        ensures list { IfOk result (λ _. taken.new.items ≡ with_removed taken.old.items (answered (rollback_of (run_view self.old).setup.processes (run_view self.old).history (StepId.Step (record { p = p; k = k }))))) }
         ensures err { OnErr result (self.new ≡ self.old) }
         ensures list_err { OnErr result (taken.new.items ≡ taken.old.items) }
         ensures capacity { vec_capacity taken.old ≤ vec_capacity taken.new }
@@ -237,9 +237,9 @@ impl AnyRun {
         taken: &mut Vec<Event>,
     ) -> Result<Result<usize, Refusal>, NoMemory>
         requires { IsTrueToSetup self.old }
-        ensures answer { IfOk result (λ answer. answer ≡ number_removed (answered (rollback_of (standing_of self.old).setup.processes (standing_of self.old).history (StepId.Lost (copy_name (message_name s m) p))))) }
-        ensures after { IfOk result (λ _. standing_of self.new ≡ record (standing_of self.old) { history = left_by (standing_of self.old).history (rollback_of (standing_of self.old).setup.processes (standing_of self.old).history (StepId.Lost (copy_name (message_name s m) p))) }) }
-        ensures list { IfOk result (λ _. taken.new.items ≡ with_removed taken.old.items (answered (rollback_of (standing_of self.old).setup.processes (standing_of self.old).history (StepId.Lost (copy_name (message_name s m) p))))) }
+        ensures answer { IfOk result (λ answer. answer ≡ number_removed (answered (rollback_of (run_view self.old).setup.processes (run_view self.old).history (StepId.Lost (copy_name (message_name s m) p))))) }
+        ensures after { IfOk result (λ _. run_view self.new ≡ record (run_view self.old) { history = left_by (run_view self.old).history (rollback_of (run_view self.old).setup.processes (run_view self.old).history (StepId.Lost (copy_name (message_name s m) p))) }) }
+        ensures list { IfOk result (λ _. taken.new.items ≡ with_removed taken.old.items (answered (rollback_of (run_view self.old).setup.processes (run_view self.old).history (StepId.Lost (copy_name (message_name s m) p))))) }
         ensures err { OnErr result (self.new ≡ self.old) }
         ensures list_err { OnErr result (taken.new.items ≡ taken.old.items) }
         ensures capacity { vec_capacity taken.old ≤ vec_capacity taken.new }
@@ -255,7 +255,7 @@ impl AnyRun {
     /// or the first refusal that holds: `NoProcess` or `NoStep`. It takes no memory.
     pub fn causes(&self, alloc: Global, p: u32, k: u32) -> Result<SmallVec<StepId, 9>, Refusal>
         requires { IsTrueToSetup self.now }
-        ensures { MatchResult result (λ causes. causes_of (standing_of self.now).setup.processes (standing_of self.now).history (StepId.Step (record { p = p; k = k })) ≡ Ok causes.items) (λ why. causes_of (standing_of self.now).setup.processes (standing_of self.now).history (StepId.Step (record { p = p; k = k })) ≡ Err why) }
+        ensures { MatchResult result (λ causes. causes_of (run_view self.now).setup.processes (run_view self.now).history (StepId.Step (record { p = p; k = k })) ≡ Ok causes.items) (λ why. causes_of (run_view self.now).setup.processes (run_view self.now).history (StepId.Step (record { p = p; k = k })) ≡ Err why) }
     {
         match self {
             AnyRun::Leader(run) => run.causes(alloc, p, k),
@@ -273,7 +273,7 @@ impl AnyRun {
         p: u32,
     ) -> Result<SmallVec<StepId, 9>, Refusal>
         requires { IsTrueToSetup self.now }
-        ensures { MatchResult result (λ causes. causes_of (standing_of self.now).setup.processes (standing_of self.now).history (StepId.Lost (copy_name (message_name s m) p)) ≡ Ok causes.items) (λ why. causes_of (standing_of self.now).setup.processes (standing_of self.now).history (StepId.Lost (copy_name (message_name s m) p)) ≡ Err why) }
+        ensures { MatchResult result (λ causes. causes_of (run_view self.now).setup.processes (run_view self.now).history (StepId.Lost (copy_name (message_name s m) p)) ≡ Ok causes.items) (λ why. causes_of (run_view self.now).setup.processes (run_view self.now).history (StepId.Lost (copy_name (message_name s m) p)) ≡ Err why) }
     {
         match self {
             AnyRun::Leader(run) => run.causes_of_loss(alloc, s, m, p),
@@ -283,7 +283,7 @@ impl AnyRun {
 
     /// The setup of the run.
     pub fn setup(&self) -> &Setup
-        ensures { result.now ≡ (standing_of self.now).setup }
+        ensures { result.now ≡ (run_view self.now).setup }
     {
         match self {
             AnyRun::Leader(run) => run.setup(),
@@ -294,8 +294,8 @@ impl AnyRun {
     /// The standing events, in the order in which they were taken: each was enabled in its turn.
     pub fn history(&self) -> &[Event]
         requires { IsTrueToSetup self.now }
-        ensures events { result.now ≡ (standing_of self.now).history }
-        ensures valid { IsTrue ((rules (standing_of self.now).setup).valid (standing_of self.now).history) }
+        ensures events { result.now ≡ (run_view self.now).history }
+        ensures valid { IsTrue ((rules (run_view self.now).setup).valid (run_view self.now).history) }
     {
         match self {
             AnyRun::Leader(run) => run.history(),
@@ -306,8 +306,8 @@ impl AnyRun {
     /// The process of that number, where the run has it.
     pub fn process(&self, p: u32) -> Option<Proc>
         requires { IsTrueToSetup self.now }
-        ensures number { MatchOption result (is_among (standing_of self.now).setup.processes p ≡ false) (λ q. (q ≡ p) × (p ≤ (standing_of self.now).setup.processes) × (1 ≤ p)) }
-        ensures none { IfNone result ((rules (standing_of self.now).setup).process (standing_of self.now).history p ≡ None) }
+        ensures number { MatchOption result (is_among (run_view self.now).setup.processes p ≡ false) (λ q. (q ≡ p) × (p ≤ (run_view self.now).setup.processes) × (1 ≤ p)) }
+        ensures none { IfNone result ((rules (run_view self.now).setup).process (run_view self.now).history p ≡ None) }
     {
         match self {
             AnyRun::Leader(run) => run.process(p),
@@ -318,8 +318,8 @@ impl AnyRun {
     /// Whether no crash of the process stands.
     pub fn alive(&self, p: Proc) -> bool
         requires true_to_setup { IsTrueToSetup self.now }
-        requires among { p ≤ (standing_of self.now).setup.processes }
-        ensures { option_map (λ shown. shown.alive) ((rules (standing_of self.now).setup).process (standing_of self.now).history p) ≡ Some result }
+        requires among { p ≤ (run_view self.now).setup.processes }
+        ensures { option_map (λ shown. shown.alive) ((rules (run_view self.now).setup).process (run_view self.now).history p) ≡ Some result }
     {
         match self {
             AnyRun::Leader(run) => run.alive(p),
@@ -330,8 +330,8 @@ impl AnyRun {
     /// How many steps of the process stand.
     pub fn steps(&self, p: Proc) -> u32
         requires true_to_setup { IsTrueToSetup self.now }
-        requires among { p ≤ (standing_of self.now).setup.processes }
-        ensures { option_map (λ shown. shown.steps) ((rules (standing_of self.now).setup).process (standing_of self.now).history p) ≡ Some result }
+        requires among { p ≤ (run_view self.now).setup.processes }
+        ensures { option_map (λ shown. shown.steps) ((rules (run_view self.now).setup).process (run_view self.now).history p) ≡ Some result }
     {
         match self {
             AnyRun::Leader(run) => run.steps(p),
@@ -342,8 +342,8 @@ impl AnyRun {
     /// How many queries of the process stand.
     pub fn queries(&self, p: Proc) -> u32
         requires true_to_setup { IsTrueToSetup self.now }
-        requires among { p ≤ (standing_of self.now).setup.processes }
-        ensures { option_map (λ shown. shown.queries) ((rules (standing_of self.now).setup).process (standing_of self.now).history p) ≡ Some result }
+        requires among { p ≤ (run_view self.now).setup.processes }
+        ensures { option_map (λ shown. shown.queries) ((rules (run_view self.now).setup).process (run_view self.now).history p) ≡ Some result }
     {
         match self {
             AnyRun::Leader(run) => run.queries(p),
@@ -355,8 +355,8 @@ impl AnyRun {
     /// 6, of the Alpha machine 0 to 9.
     pub fn place(&self, p: Proc) -> u8
         requires true_to_setup { IsTrueToSetup self.now }
-        requires among { p ≤ (standing_of self.now).setup.processes }
-        ensures { option_map (λ shown. shown.place) ((rules (standing_of self.now).setup).process (standing_of self.now).history p) ≡ Some result }
+        requires among { p ≤ (run_view self.now).setup.processes }
+        ensures { option_map (λ shown. shown.place) ((rules (run_view self.now).setup).process (run_view self.now).history p) ≡ Some result }
     {
         match self {
             AnyRun::Leader(run) => run.local(p).place(),
@@ -367,8 +367,8 @@ impl AnyRun {
     /// The round that the process is in.
     pub fn round(&self, p: Proc) -> u32
         requires true_to_setup { IsTrueToSetup self.now }
-        requires among { p ≤ (standing_of self.now).setup.processes }
-        ensures { option_map (λ shown. shown.round) ((rules (standing_of self.now).setup).process (standing_of self.now).history p) ≡ Some result }
+        requires among { p ≤ (run_view self.now).setup.processes }
+        ensures { option_map (λ shown. shown.round) ((rules (run_view self.now).setup).process (run_view self.now).history p) ≡ Some result }
     {
         match self {
             AnyRun::Leader(run) => run.local(p).round(),
@@ -379,8 +379,8 @@ impl AnyRun {
     /// The value that the process has decided, if it has.
     pub fn decision(&self, p: Proc) -> Option<Val>
         requires true_to_setup { IsTrueToSetup self.now }
-        requires among { p ≤ (standing_of self.now).setup.processes }
-        ensures { option_map (λ shown. shown.decision) ((rules (standing_of self.now).setup).process (standing_of self.now).history p) ≡ Some result }
+        requires among { p ≤ (run_view self.now).setup.processes }
+        ensures { option_map (λ shown. shown.decision) ((rules (run_view self.now).setup).process (run_view self.now).history p) ≡ Some result }
     {
         match self {
             AnyRun::Leader(run) => run.local(p).decision(),
@@ -391,7 +391,7 @@ impl AnyRun {
     /// Whether the run has the register: Alpha alone has some.
     pub fn has(&self, register: Reg) -> bool
         requires { IsTrueToSetup self.now }
-        ensures { result ≡ is_some (register_of ((rules (standing_of self.now).setup).registers (standing_of self.now).history) register) }
+        ensures { result ≡ is_some (register_of ((rules (run_view self.now).setup).registers (run_view self.now).history) register) }
     {
         match self {
             AnyRun::Leader(run) => run.has(register),
@@ -402,8 +402,8 @@ impl AnyRun {
     /// What the register holds.
     pub fn cell(&self, register: Reg) -> Cell
         requires true_to_setup { IsTrueToSetup self.now }
-        requires has { IsSome (register_of ((rules (standing_of self.now).setup).registers (standing_of self.now).history) register) }
-        ensures { option_map (λ stands. stands.cell) (register_of ((rules (standing_of self.now).setup).registers (standing_of self.now).history) register) ≡ Some result }
+        requires has { IsSome (register_of ((rules (run_view self.now).setup).registers (run_view self.now).history) register) }
+        ensures { option_map (λ stands. stands.cell) (register_of ((rules (run_view self.now).setup).registers (run_view self.now).history) register) ≡ Some result }
     {
         match self {
             AnyRun::Leader(run) => run.cell(register),
@@ -414,8 +414,8 @@ impl AnyRun {
     /// How many writes of the register stand.
     pub fn writes(&self, register: Reg) -> u32
         requires true_to_setup { IsTrueToSetup self.now }
-        requires has { IsSome (register_of ((rules (standing_of self.now).setup).registers (standing_of self.now).history) register) }
-        ensures { option_map (λ stands. stands.writes) (register_of ((rules (standing_of self.now).setup).registers (standing_of self.now).history) register) ≡ Some result }
+        requires has { IsSome (register_of ((rules (run_view self.now).setup).registers (run_view self.now).history) register) }
+        ensures { option_map (λ stands. stands.writes) (register_of ((rules (run_view self.now).setup).registers (run_view self.now).history) register) ≡ Some result }
     {
         match self {
             AnyRun::Leader(run) => run.writes(register),
@@ -427,8 +427,8 @@ impl AnyRun {
     /// for process `p` was neither received nor lost.
     pub fn pending(&self, p: Proc, after: Option<MsgName>) -> Option<MsgName>
         requires true_to_setup { IsTrueToSetup self.now }
-        requires among { p ≤ (standing_of self.now).setup.processes }
-        ensures { result ≡ next_pending ((rules (standing_of self.now).setup).mail (standing_of self.now).history) p after }
+        requires among { p ≤ (run_view self.now).setup.processes }
+        ensures { result ≡ next_pending ((rules (run_view self.now).setup).mail (run_view self.now).history) p after }
     {
         match self {
             AnyRun::Leader(run) => run.pending(p, after),
@@ -439,7 +439,7 @@ impl AnyRun {
     /// The payload of the message of that name, if it was sent.
     pub fn payload(&self, name: MsgName) -> Option<&Payload>
         requires { IsTrueToSetup self.now }
-        ensures { option_copied result ≡ payload_of ((rules (standing_of self.now).setup).mail (standing_of self.now).history) name }
+        ensures { option_copied result ≡ payload_of ((rules (run_view self.now).setup).mail (run_view self.now).history) name }
     {
         match self {
             AnyRun::Leader(run) => run.payload(name),
@@ -450,7 +450,7 @@ impl AnyRun {
     /// Whether the copy is lost.
     pub fn lost(&self, copy: CopyName) -> bool
         requires { IsTrueToSetup self.now }
-        ensures { result ≡ is_lost ((rules (standing_of self.now).setup).mail (standing_of self.now).history) copy }
+        ensures { result ≡ is_lost ((rules (run_view self.now).setup).mail (run_view self.now).history) copy }
     {
         match self {
             AnyRun::Leader(run) => run.lost(copy),
@@ -463,9 +463,9 @@ impl AnyRun {
     pub fn same_run(&self, other: &AnyRun) -> bool
         requires true_to_setup { IsTrueToSetup self.now }
         requires other_true_to_setup { IsTrueToSetup other.now }
-        requires equal_setups { (standing_of self.now).setup ≡ (standing_of other.now).setup }
-        ensures state { IsTrue result ↔ ReachSameState (standing_of self.now).setup (standing_of self.now).history (standing_of other.now).history }
-        ensures exchange { IsTrue result ↔ IsExchanged depends (standing_of self.now).history (standing_of other.now).history }
+        requires equal_setups { (run_view self.now).setup ≡ (run_view other.now).setup }
+        ensures state { IsTrue result ↔ ReachSameState (run_view self.now).setup (run_view self.now).history (run_view other.now).history }
+        ensures exchange { IsTrue result ↔ IsExchanged depends (run_view self.now).history (run_view other.now).history }
     {
         match (self, other) {
             (AnyRun::Leader(run), AnyRun::Leader(other)) => run.same_run(other),
@@ -479,8 +479,8 @@ impl AnyRun {
     /// `NoMemory` if a growth is refused.
     pub fn decisions(&self, alloc: Global) -> Result<Vec<(Proc, Val)>, NoMemory>
         requires { IsTrueToSetup self.now }
-        ensures value { IfOk result (λ found. found.items ≡ (rules (standing_of self.now).setup).decisions (standing_of self.now).history) }
-        ensures agreement { IfOk result (λ found. HasMajorityIfNeeded (standing_of self.now).setup → AllAgree found.items) }
+        ensures value { IfOk result (λ found. found.items ≡ (rules (run_view self.now).setup).decisions (run_view self.now).history) }
+        ensures agreement { IfOk result (λ found. HasMajorityIfNeeded (run_view self.now).setup → AllAgree found.items) }
     {
         let _ranges = self.setup().n();
         let _valid = self.history();

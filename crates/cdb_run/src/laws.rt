@@ -14,7 +14,7 @@ ghost use Rattle.cdb_record.specs.Entries.{events_of};
 ghost use Rattle.cdb_run.specs.OwnSteps.{own_of, own_steps};
 ghost use Rattle.cdb_run.specs.Recorded.{IsRecorded};
 ghost use Rattle.cdb_run.specs.State.{Machine, RunState};
-ghost use Rattle.cdb_run.specs.Undo.{StandsAt, has_name, names_processes, undo_of, rollback_of};
+ghost use Rattle.cdb_run.specs.Undo.{IsEventNamed, has_name, names_processes, undo_of, rollback_of};
 ghost use Rattle.cdb_run.specs.Step.{after, fold, IsEnabled, IsValid, state_of};
 
 use cdb_base::{CopyName, Event, Kind, Refusal, StepId};
@@ -55,8 +55,8 @@ pub fn undo<L>()
 /// that the history reached.
 #[tactic(auto, using(crate::proofs::Answered::undone_free))]
 pub fn answered_undo<L>()
-    ensures taken { (n : ℕ) (history : List Event) (name : StepId) (i : ℕ) (event : Event) → StandsAt n history name i event → IsFree depends history i → undo_of n history name ≡ Ok (event, without history i) }
-    ensures needed { (n : ℕ) (history : List Event) (name : StepId) (i : ℕ) (event : Event) → StandsAt n history name i event → (dependent : StepId) → IsFirstDependent history i dependent → undo_of n history name ≡ Err (Refusal.NeededBy dependent) }
+    ensures taken { (n : ℕ) (history : List Event) (name : StepId) (i : ℕ) (event : Event) → IsEventNamed n history name i event → IsFree depends history i → undo_of n history name ≡ Ok (event, without history i) }
+    ensures needed { (n : ℕ) (history : List Event) (name : StepId) (i : ℕ) (event : Event) → IsEventNamed n history name i event → (dependent : StepId) → IsFirstDependent history i dependent → undo_of n history name ≡ Err (Refusal.NeededBy dependent) }
     ensures no_step { (n : ℕ) (history : List Event) (name : StepId) → names_processes n name ≡ true → IsNewName history name → undo_of n history name ≡ Err Refusal.NoStep }
     ensures no_process { (n : ℕ) (history : List Event) (name : StepId) → names_processes n name ≡ false → undo_of n history name ≡ Err Refusal.NoProcess }
     ensures free { (n : ℕ) (history : List Event) (name : StepId) (event : Event) (left : List Event) → undo_of n history name ≡ Ok (event, left) → (i : ℕ) × (has_name name event ≡ true) × (slice_get history i ≡ Some event) × IsFree depends history i × (left ≡ without history i) }
@@ -71,11 +71,11 @@ pub fn rollback<L>()
     ensures again { (machine : Machine L) (history : List Event) (i : ℕ) → fold machine (remaining depends history i ++ rolled_back depends history i) ≡ fold machine history }
 {}
 
-/// A rollback takes the event that stands under the name back with its consequences, the last first,
-/// and is refused where none does. What it leaves is valid, and what it took, taken again in order,
+/// A rollback takes the event of the name back with its consequences, the last first,
+/// and is refused where none has it. What it leaves is valid, and what it took, taken again in order,
 /// leads back to the state that the history reached.
 pub fn answered_rollback<L>()
-    ensures answered { (n : ℕ) (history : List Event) (name : StepId) (i : ℕ) (event : Event) → StandsAt n history name i event → rollback_of n history name ≡ Ok (reverse (rolled_back depends history i), remaining depends history i) }
+    ensures answered { (n : ℕ) (history : List Event) (name : StepId) (i : ℕ) (event : Event) → IsEventNamed n history name i event → rollback_of n history name ≡ Ok (reverse (rolled_back depends history i), remaining depends history i) }
     ensures no_step { (n : ℕ) (history : List Event) (name : StepId) → names_processes n name ≡ true → IsNewName history name → rollback_of n history name ≡ Err Refusal.NoStep }
     ensures no_process { (n : ℕ) (history : List Event) (name : StepId) → names_processes n name ≡ false → rollback_of n history name ≡ Err Refusal.NoProcess }
     ensures exact { (n : ℕ) (history : List Event) (name : StepId) (taken left : List Event) → rollback_of n history name ≡ Ok (taken, left) → (i : ℕ) × (event : Event) × (has_name name event ≡ true) × (slice_get history i ≡ Some event) × (taken ≡ reverse (rolled_back depends history i)) × (left ≡ remaining depends history i) }
@@ -92,13 +92,13 @@ pub fn step_then_undo()
 {}
 
 /// In a valid history each event stands once, the steps of one process stand in the order of their
-/// numbers, and a name names one event: each event stands under its name.
+/// numbers, and a name names one event: each event is the one of its name.
 #[tactic(auto, using(crate::proofs::Naming::valid_once, crate::proofs::Naming::numbers_rise))]
 pub fn names<L>()
     ensures once { (machine : Machine L) (history : List Event) → IsValid machine history → IsEachOnce history }
     ensures rising { (machine : Machine L) (history : List Event) → IsValid machine history → (p k l : ℕ) (kind other : Kind) → IsBefore (Event.Step p k kind) (Event.Step p l other) history → k < l }
     ensures apart { (machine : Machine L) (history : List Event) → IsValid machine history → (i j : ℕ) (name : StepId) → IsNamedAt history i name → IsNamedAt history j name → i ≡ j }
-    ensures standing { (machine : Machine L) (history : List Event) → IsValid machine history → (i : ℕ) (event : Event) → slice_get history i ≡ Some event → StandsAt (length machine.firsts) history (event_name event) i event }
+    ensures named { (machine : Machine L) (history : List Event) → IsValid machine history → (i : ℕ) (event : Event) → slice_get history i ≡ Some event → IsEventNamed (length machine.firsts) history (event_name event) i event }
 {}
 
 /// A valid history of nine processes at most is one that the look-ups over histories ask for.

@@ -5,7 +5,6 @@ ghost use Rattle.std.specs.Prelude.{◌≡◌, ◌+◌, ◌<◌, ◌^◌, ◌↔
 ghost use Rattle.cdb_base.specs.declared.register.Reg.{Reg as ARegister};
 ghost use Rattle.std.specs.Iterator.{YieldsFirst, item_count};
 ghost use Rattle.cdb_run.specs.OwnSteps.{no_writes, with_write, writes_with, writes_met, noted, own_steps};
-ghost use Rattle.cdb_run.specs.Undo.{is_step_of};
 
 use cdb_base::{Event, Kind, Proc, Reg};
 use std::marker::Model;
@@ -140,22 +139,12 @@ impl<'a> Iterator for Noted<'a> {
     }
 }
 
-/// Whether the event is a step of the process.
-fn is_step_of(p: Proc, event: &Event) -> bool
-    ensures { result ≡ is_step_of p event.now }
-{
-    match event {
-        Event::Step { p: q, .. } => *q == p,
-        Event::Lost(_) => false,
-    }
-}
-
 /// Whether process `p` takes the same steps in both histories, each access behind as many writes.
 pub(crate) fn same_steps(p: Proc, history: &[Event], other: &[Event]) -> bool
     ensures { IsTrue result ↔ (own_steps p history.now ≡ own_steps p other.now) }
 {
-    let theirs = Noted::new(other).filter(|own| is_step_of(p, &own.event));
+    let theirs = Noted::new(other).filter(|own| own.event.is_step_of(p));
     Noted::new(history)
-        .filter(|own| is_step_of(p, &own.event))
+        .filter(|own| own.event.is_step_of(p))
         .eq(theirs)
 }

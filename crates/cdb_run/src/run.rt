@@ -50,9 +50,9 @@ pub struct Run<P: Process> {
 impl<P: Process> Model for Run<P> {
     ghost use Rattle.cdb_record.specs.Entries.{events_of};
     ghost use Rattle.cdb_run.specs.Machines.{machine_of};
-    ghost use Rattle.cdb_run.specs.Current.{Standing, IsCurrent};
+    ghost use Rattle.cdb_run.specs.Current.{RunView, IsCurrent};
 
-    ghost Value = { Standing };
+    ghost Value = { RunView };
 
     ghost view = { λ run. record { setup = run.setup; history = events_of run.records } };
 

@@ -1,7 +1,7 @@
 -- The keys of an object, and the first needed key that is not there.
-use Rattle.std.proofs.Common.{◌≡◌, ◌≢◌, ◌⊎◌, ℕ, ◌<◌, ◌+◌, Bool, true, false, ◌||◌, ◌&&◌, cond, List, [], ◌∷◌, Option, Some, None, String, Global, string_bytes, bytes_eq, refl, sym, subst, ◌∙◌, arith, inl, inr}
+use Rattle.std.proofs.Common.{◌≡◌, ◌≢◌, ℕ, ◌<◌, ◌+◌, Bool, true, false, ◌&&◌, cond, List, [], ◌∷◌, Option, Some, None, String, Global, string_bytes, bytes_eq, refl, sym, subst, ◌∙◌, arith, inl, inr}
 use Rattle.std.specs.Prelude.{MatchOption, MatchBool, is_none, find}
-use Rattle.std.specs.List.{list_all}
+use Rattle.std.specs.List.{list_all, list_any}
 use Rattle.std.specs.Map.{keys_of}
 use Rattle.std.proofs.lemmas.Bool.{cases_Bool, cases_eq}
 use Rattle.std.proofs.lemmas.Slice.Eq.{bytes_eq-Decides}
@@ -13,38 +13,28 @@ use Rattle.cdb_setup.specs.declared.key.Key.{Key}
 use Rattle.cdb_setup.specs.declared.key.Key.TheVariants.{Algorithm, Processes, Quorum, Inputs, Oracle, Version}
 use Rattle.cdb_setup.specs.declared.fault.SetupFault.{SetupFault}
 use Rattle.cdb_setup.specs.declared.fault.SetupFault.TheVariants as faults
+use Rattle.cdb_setup.specs.declared.key.TheConstants as constants
 use Rattle.cdb_setup.specs.Format.{name_of, HasKnownKeys}
 use Rattle.cdb_setup.specs.Names.{is_key_name}
 use Rattle.cdb_setup.specs.Faults.{Holds}
 use Rattle.cdb_setup.specs.Order.{IsBefore, turn, key_place}
 use Rattle.cdb_setup.specs.Turns.{IsFirstOfTurn}
 
--- one of two tests
-either : (a b : Bool) → (a || b) ≡ true → (a ≡ true) ⊎ (b ≡ true)
-either true b e = inl refl
-either false b e = inr e
-
-same_or : (name : List ℕ) (k : Key) → bytes_eq name (name_of k) ≡ true → (key : Key) × (name ≡ name_of key)
-same_or name k e = (k, (bytes_eq-Decides name (name_of k)).0 e)
+-- one of the keys has the name
+some_key : (name : List ℕ) (keys : List Key) → list_any (λ k. bytes_eq name (name_of k)) keys ≡ true → (key : Key) × (name ≡ name_of key)
+some_key name [] e = absurd cc
+some_key name (key ∷ keys) e =
+    elim (cases_Bool (bytes_eq name (name_of key))) [
+      | inl h ↦ (key, (bytes_eq-Decides name (name_of key)).0 h)
+      | inr h ↦ some_key name keys (let rest : list_any (λ k. bytes_eq name (name_of k)) (key ∷ keys) ≡ list_any (λ k. bytes_eq name (name_of k)) keys = rw h refl in sym rest ∙ e)
+    ]
 
 -- what the test on a name says
 is_name : (name : List ℕ) → is_key_name name ≡ true → (key : Key) × (name ≡ name_of key)
 is_name name e =
-    elim (either (bytes_eq name (name_of Algorithm) || bytes_eq name (name_of Processes) || bytes_eq name (name_of Quorum) || bytes_eq name (name_of Inputs) || bytes_eq name (name_of Oracle)) _ e) [
-      | inr h ↦ same_or name Version h
-      | inl a ↦ elim (either (bytes_eq name (name_of Algorithm) || bytes_eq name (name_of Processes) || bytes_eq name (name_of Quorum) || bytes_eq name (name_of Inputs)) _ a) [
-        | inr h ↦ same_or name Oracle h
-        | inl b ↦ elim (either (bytes_eq name (name_of Algorithm) || bytes_eq name (name_of Processes) || bytes_eq name (name_of Quorum)) _ b) [
-          | inr h ↦ same_or name Inputs h
-          | inl d ↦ elim (either (bytes_eq name (name_of Algorithm) || bytes_eq name (name_of Processes)) _ d) [
-            | inr h ↦ same_or name Quorum h
-            | inl f ↦ elim (either (bytes_eq name (name_of Algorithm)) _ f) [
-              | inr h ↦ same_or name Processes h
-              | inl h ↦ same_or name Algorithm h
-            ]
-          ]
-        ]
-      ]
+    elim (cases_Bool (list_any (λ k. bytes_eq name (name_of k)) constants.Key.NEEDED)) [
+      | inl h ↦ some_key name constants.Key.NEEDED h
+      | inr h ↦ (Version, (bytes_eq-Decides name (name_of Version)).0 (let rest : is_key_name name ≡ bytes_eq name (name_of Version) = rw h refl in sym rest ∙ e))
     ]
 
 name_is : (key : Key) → is_key_name (name_of key) ≡ true

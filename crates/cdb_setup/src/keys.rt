@@ -2,7 +2,8 @@
 
 ghost use Rattle.std.specs.Prelude.{◌≡◌, MatchOption, MatchBool, IfErr, OnOk, string_bytes, is_none, find};
 ghost use Rattle.std.specs.BTreeMap.{keys};
-ghost use Rattle.std.specs.List.{list_all};
+ghost use Rattle.std.specs.List.{list_all, list_any};
+ghost use Rattle.std.specs.Str.{bytes_eq};
 ghost use Rattle.serde_json.specs.Data.{object};
 ghost use Rattle.serde_json.specs.Find.{get};
 ghost use Rattle.serde_json.specs.View.{view, members_view};
@@ -23,14 +24,18 @@ fn are_key_names(members: &Map<String, Value>) -> bool
     members.keys().all(|name| is_key_name(name.as_str()))
 }
 
+/// Tells whether the name is that of a key that each setup has.
+fn is_needed(name: &str) -> bool
+    ensures { result ≡ list_any (λ key. bytes_eq name.now (name_of key)) Key.NEEDED }
+{
+    Key::NEEDED.iter().any(|key| name == key.name())
+}
+
 /// Tells whether the name is that of a key.
 fn is_key_name(name: &str) -> bool
     ensures { result ≡ is_key_name name.now }
 {
-    matches!(
-        name,
-        "algorithm" | "processes" | "quorum" | "inputs" | "oracle" | "version"
-    )
+    is_needed(name) || name == Key::Version.name()
 }
 
 /// Tells whether only keys of a setup stand there, as the fault says it.

@@ -15,7 +15,7 @@ use crate::fault::SetupFault;
 use crate::key::Key;
 use crate::setup::Algorithm;
 use cdb_base::Val;
-use cdb_base::limits::{MAX_PROCESSES, MAX_VALUE};
+use cdb_base::limits::MAX_PROCESSES;
 use serde_json::Value;
 use std::alloc::Global;
 
@@ -112,7 +112,7 @@ fn input_of(value: &Value) -> Option<Val>
     ensures { MatchOption result (¬ IsWholeWithin 0 999999 (view value.now))
         (λ input. (view value.now ≡ whole input) × IsWithin 0 999999 input) }
 {
-    Some(Val::new(whole_within(value, 0, MAX_VALUE as u64)?))
+    Val::from_number(value.as_u64()?)
 }
 
 /// The inputs, where there are this many processes.

@@ -1,6 +1,7 @@
 -- What a seat knows after it had the turn.
-use Rattle.std.proofs.Common.{◌≡◌, inl, inr, ℕ, zero, suc, ◌+◌, ◌-◌, ◌<◌, ◌≤◌, add-zero, arith, true, List, [], ◌∷◌, ◌++◌, Ok, Err, Result, IfOk, OnErr, All, length, get_or, length-append, refl, sym, ap, ◌∙◌, subst}
+use Rattle.std.proofs.Common.{◌≡◌, inl, inr, ℕ, zero, suc, ◌+◌, ◌-◌, ◌<◌, ◌≤◌, arith, true, List, [], ◌∷◌, ◌++◌, Ok, Err, Result, IfOk, OnErr, All, length, get_or, length-append, refl, sym, ap, ◌∙◌, subst}
 use Rattle.std.proofs.lemmas.List.Elements.{All-push}
+use Rattle.std.proofs.lemmas.List.FromFn.{map-range_with_len_more}
 use Rattle.atomic_table.specs.Seated.{TableId}
 use Rattle.cdb_control.specs.declared.command.Command.{Command}
 use Rattle.cdb_control.specs.declared.control.Entry.{Entry}
@@ -15,7 +16,7 @@ use Rattle.cdb_shared.specs.declared.knowledge.Stage.{Stage}
 use Rattle.cdb_shared.specs.declared.knowledge.Stage.TheVariants.{Opening, Spent, Resting, Holding}
 use Rattle.cdb_shared.specs.declared.knowledge.Place.{Place}
 use Rattle.cdb_shared.specs.declared.knowledge.Knowledge.{Knowledge}
-use Rattle.cdb_shared.specs.Turn.{resting, Knows, AllKnow, seen_by, Taken, Given, MayGive, place_at, places_from, first_alone, without_first, joined}
+use Rattle.cdb_shared.specs.Turn.{resting, Knows, AllKnow, seen_at, seen_by, Taken, Given, MayGive, place_at, places_from, first_alone, without_first, joined}
 use Rattle.cdb_shared.specs.Seats.{SeatView, is_resting, place_of, seat_of, IsPassFor, IsLater, IsCall, SameCalls, RestsAt, IsKnownBy, fresh_seat, fresh_seats}
 
 -- what one seat knows of the control that it took
@@ -88,11 +89,7 @@ dealt_seat home home' c dealt count v alone low is cut same =
     (λ i. seat_of (same i) (next i)) ∙ ap (fresh_seat home' c) one
 
 pub fresh_seats-push : (shared : TableId) (c : Journaled) (first n : ℕ) → fresh_seats shared c first (n + 1) ≡ fresh_seats shared c first n ++ fresh_seat shared c (first + n) ∷ []
-fresh_seats-push shared c first zero = ap (λ k. fresh_seat shared c k ∷ []) (sym (add-zero first))
-fresh_seats-push shared c first (suc n) =
-    let e : suc n + 1 ≡ suc (n + 1) = omega arith in
-    let f : first + 1 + n ≡ first + suc n = omega arith in
-    ap (fresh_seats shared c first) e ∙ ap (λ l. fresh_seat shared c first ∷ l) (fresh_seats-push shared c (first + 1) n) ∙ ap (λ k. fresh_seat shared c first ∷ (fresh_seats shared c (first + 1) n ++ fresh_seat shared c k ∷ [])) f
+fresh_seats-push shared c first n = map-range_with_len_more (fresh_seat shared c) first n (first + n) refl
 
 AllKnow-parts : (c : Journaled) (ps qs : List Place) → AllKnow c (ps ++ qs) → AllKnow c ps × AllKnow c qs
 AllKnow-parts c [] qs all = (tt, all)
@@ -132,10 +129,6 @@ rest_fresh shared c first (suc n) = rest_cons (fresh_seats shared c (first + 1) 
 
 pub rest_dealt : (shared : TableId) (c : Journaled) (n : ℕ) (seats : List SeatView) → seats ≡ fresh_seats shared c 1 n → All (λ seat. RestsAt shared seat) seats
 rest_dealt shared c n seats is = subst (λ (l : List SeatView). All (λ seat. RestsAt shared seat) l) (sym is) (rest_fresh shared c 1 n)
-
--- a seat that has seen the journal of this control
-abbrev pub seen_at : Journaled → Place → Place
-seen_at c p = record { number = p.number; setup = p.setup; seats = p.seats; seen = c.journal }
 
 -- the pass that took another in, after it had the turn
 pub met_pass : (n m : ℕ) (u v j w x : Knowledge) (c : Journaled) → IsPassFor n u → IsPassFor m v → j ≡ joined v u → Taken j c w → Given w c x → x ≡ resting (seen_at c (place_of u.places) ∷ seen_at c (place_of v.places) ∷ [])

@@ -1,5 +1,5 @@
 -- Each step on the queue of the turn keeps the rule.
-use Rattle.std.proofs.Common.{◌≡◌, ◌≢◌, inl, inr, ℕ, zero, suc, ◌+◌, ◌<◌, ◌≤◌, ◌==◌, cond, Bool, true, false, List, [], ◌∷◌, ◌++◌, set, Option, Some, None, refl, sym, ap, ◌∙◌, subst, ⊎_elim, arith}
+use Rattle.std.proofs.Common.{◌≡◌, ◌≢◌, inl, inr, ℕ, zero, suc, ◌+◌, ◌<◌, ◌≤◌, ◌==◌, cond, Bool, true, false, List, [], ◌∷◌, ◌++◌, set, take, drop, Option, Some, None, refl, sym, ap, ◌∙◌, subst, ⊎_elim, arith}
 use Rattle.std.proofs.lemmas.Bool.Decides.{nat_tests}
 use mathlib.Core.Option.{some, some-ne-none, some-injective}
 use lib.ListN.{get_elem?}
@@ -13,7 +13,7 @@ use Rattle.cdb_shared.specs.declared.knowledge.Stage.{Stage}
 use Rattle.cdb_shared.specs.declared.knowledge.Stage.TheVariants.{Opening, Spent, Resting, Holding}
 use Rattle.cdb_shared.specs.declared.knowledge.Place.{Place}
 use Rattle.cdb_shared.specs.declared.knowledge.Knowledge.{Knowledge}
-use Rattle.cdb_shared.specs.Turn.{opening, spent, resting, holding, Knows, AllKnow, FitsAt, queued, IsHeld, count_of, total_of, Stands, places_from, seen_by, Opened, Taken, Given, MayGrow, MayGive, NoneStands, first_place, other_places, without_first, first_alone, joined}
+use Rattle.cdb_shared.specs.Turn.{opening, spent, resting, holding, Knows, AllKnow, FitsAt, queued, IsHeld, count_of, total_of, Stands, places_from, seen_at, seen_by, Opened, Taken, Given, MayGrow, MayGive, NoneStands, without_first, first_alone, joined}
 
 -- at the start there is one pass, and nothing in the queue
 pub begins : Stands [] (opening ∷ [])
@@ -73,7 +73,7 @@ count_seen : (n : ℕ) (c : Journaled) (ps : List Place) → count_of n (seen_by
 count_seen n c [] = refl
 count_seen n c (p ∷ ps) = let rest = count_seen n c ps in omega arith
 
-count_parts : (n : ℕ) (ps : List Place) → count_of n (other_places ps) + count_of n (first_place ps) ≡ count_of n ps
+count_parts : (n : ℕ) (ps : List Place) → count_of n (drop 1 ps) + count_of n (take 1 ps) ≡ count_of n ps
 count_parts n [] = refl
 count_parts n (p ∷ ps) = omega arith
 
@@ -104,7 +104,7 @@ AllKnow-from : (first many : ℕ) (c : Journaled) → AllKnow c (places_from c f
 AllKnow-from first zero c = tt
 AllKnow-from first (suc many) c = (record { setup = refl; seats = refl; begins = Begins-refl c.journal; calls = refl }, AllKnow-from (first + 1) many c)
 
-pub AllKnow-seen : (c : Journaled) (ps : List Place) → ((p : Place) → Knows c p → Knows c (record { number = p.number; setup = p.setup; seats = p.seats; seen = c.journal })) → AllKnow c ps → AllKnow c (seen_by c ps)
+pub AllKnow-seen : (c : Journaled) (ps : List Place) → ((p : Place) → Knows c p → Knows c (seen_at c p)) → AllKnow c ps → AllKnow c (seen_by c ps)
 AllKnow-seen c [] one all = tt
 AllKnow-seen c (p ∷ ps) one all = (one p all.0, AllKnow-seen c ps one all.1)
 
@@ -112,11 +112,11 @@ AllKnow-append : (c : Journaled) (ps qs : List Place) → AllKnow c ps → AllKn
 AllKnow-append c [] qs a b = b
 AllKnow-append c (p ∷ ps) qs a b = (a.0, AllKnow-append c ps qs a.1 b)
 
-AllKnow-first : (c : Journaled) (ps : List Place) → AllKnow c ps → AllKnow c (first_place ps)
+AllKnow-first : (c : Journaled) (ps : List Place) → AllKnow c ps → AllKnow c (take 1 ps)
 AllKnow-first c [] a = tt
 AllKnow-first c (p ∷ ps) a = (a.0, tt)
 
-AllKnow-others : (c : Journaled) (ps : List Place) → AllKnow c ps → AllKnow c (other_places ps)
+AllKnow-others : (c : Journaled) (ps : List Place) → AllKnow c ps → AllKnow c (drop 1 ps)
 AllKnow-others c [] a = tt
 AllKnow-others c (p ∷ ps) a = a.1
 
@@ -236,7 +236,7 @@ grown before after views pass j v u (inr (p, command, places, longer)) once apar
     let few = once p.number in
     subst (λ (c : Journaled). AllKnow c u.places) (sym longer) (AllKnow-push before u.places p.number command (omega arith) all)
 
-seen_one : (c : Journaled) (p : Place) → Knows c p → Knows c (record { number = p.number; setup = p.setup; seats = p.seats; seen = c.journal })
+seen_one : (c : Journaled) (p : Place) → Knows c p → Knows c (seen_at c p)
 seen_one c p known = record { setup = known.setup; seats = known.seats; begins = Begins-refl c.journal; calls = refl }
 
 seen_more : (c : Journaled) (seat : ℕ) (command : Command) (p : Place) → Knows c p → Knows (extended (rules c.setup) c seat command) (record { number = p.number; setup = p.setup; seats = p.seats; seen = c.journal ++ entry seat command ∷ [] })

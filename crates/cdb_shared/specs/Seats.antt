@@ -1,5 +1,6 @@
 -- What contracts see of a seat, and what the calls on a shared control do to it.
-use Rattle.std.specs.Prelude.{◌≡◌, ℕ, ◌+◌, ◌≤◌, zero, suc, Bool, true, false, List, [], ◌∷◌, ◌++◌}
+use Rattle.std.specs.Prelude.{◌≡◌, ℕ, ◌≤◌, Bool, true, false, List, [], ◌∷◌, ◌++◌, map, slice_index_or}
+use Rattle.std.specs.List.{range_with_len}
 use Rattle.atomic_table.specs.Seated.{TableId}
 use Rattle.cdb_control.specs.declared.command.Command.{Command}
 use Rattle.cdb_control.specs.declared.control.Entry.{Entry}
@@ -39,8 +40,7 @@ abbrev pub no_place : Place
 no_place = record { number = 0; setup = no_setup; seats = 0; seen = [] }
 
 abbrev pub place_of : List Place → Place
-place_of [] = no_place
-place_of (p ∷ ps) = p
+place_of places = slice_index_or places 0 no_place
 
 -- the seat whose pass knows this
 abbrev pub seat_of : TableId → Knowledge → SeatView
@@ -65,8 +65,7 @@ fresh_seat shared c number = record { home = shared; setup = c.setup; seats = c.
 
 -- so many of them, with the numbers from this one on
 abbrev pub fresh_seats : TableId → Journaled → ℕ → ℕ → List SeatView
-fresh_seats shared c first zero = []
-fresh_seats shared c first (suc n) = fresh_seat shared c first ∷ fresh_seats shared c (first + 1) n
+fresh_seats shared c first n = map (fresh_seat shared c) (range_with_len first n)
 
 -- the same seat, at rest, which has seen no less
 pub record IsLater (old new : SeatView) : Type 0 where

@@ -1,8 +1,8 @@
 -- The rule of the turn. One control stands in the queue, or one pass holds it.
-use Rattle.std.specs.Prelude.{◌≡◌, ℕ, ◌+◌, ◌≤◌, ◌==◌, ◌⊎◌, if◌then◌else◌, zero, suc, List, [], ◌∷◌, ◌++◌, Option, Some, None}
+use Rattle.std.specs.Prelude.{◌≡◌, ℕ, ◌+◌, ◌≤◌, ◌==◌, ◌⊎◌, if◌then◌else◌, List, [], ◌∷◌, ◌++◌, map, take, drop, Option, Some, None}
 use mathlib.Core.Option.{some}
 use lib.ListN.{get_elem?}
-use Rattle.std.specs.List.{AllByRecursion}
+use Rattle.std.specs.List.{AllByRecursion, range_with_len}
 use Rattle.cdb_control.specs.declared.command.Command.{Command}
 use Rattle.cdb_control.specs.Journal.{Journaled, Begins, extended, own}
 use Rattle.cdb_run.specs.Algorithms.{rules}
@@ -83,13 +83,15 @@ place_at c number = record { number = number; setup = c.setup; seats = c.seats; 
 
 -- so many seats, with the numbers from this one on
 abbrev pub places_from : Journaled → ℕ → ℕ → List Place
-places_from c first zero = []
-places_from c first (suc n) = place_at c first ∷ places_from c (first + 1) n
+places_from c first n = map (place_at c) (range_with_len first n)
 
--- the same seats, which have seen the journal of this control
+-- the same seat, which has seen the journal of this control
+abbrev pub seen_at : Journaled → Place → Place
+seen_at c p = record { number = p.number; setup = p.setup; seats = p.seats; seen = c.journal }
+
+-- the same seats, which have seen it
 abbrev pub seen_by : Journaled → List Place → List Place
-seen_by c [] = []
-seen_by c (p ∷ ps) = record { number = p.number; setup = p.setup; seats = p.seats; seen = c.journal } ∷ seen_by c ps
+seen_by c places = map (seen_at c) places
 
 -- what the first give back tells: all seats, which have seen the journal of the control handed in
 abbrev pub Opened : Knowledge → Journaled → Knowledge → Type 0
@@ -116,19 +118,11 @@ MayGive v c = (v.stage ≡ Holding) × ((before : Journaled) × (v.held ≡ Some
 abbrev pub NoneStands : Knowledge → List Journaled → Type 0
 NoneStands v items = items ≡ []
 
-abbrev pub first_place : List Place → List Place
-first_place [] = []
-first_place (p ∷ ps) = p ∷ []
-
-abbrev pub other_places : List Place → List Place
-other_places [] = []
-other_places (p ∷ ps) = ps
-
 abbrev pub without_first : Knowledge → Knowledge
-without_first v = resting (other_places v.places)
+without_first v = resting (drop 1 v.places)
 
 abbrev pub first_alone : Knowledge → Knowledge
-first_alone v = resting (first_place v.places)
+first_alone v = resting (take 1 v.places)
 
 abbrev pub joined : Knowledge → Knowledge → Knowledge
 joined v u = resting (u.places ++ v.places)

@@ -1,12 +1,13 @@
 -- The printed words of a command are its words again.
-use Rattle.std.proofs.Common.{◌≡◌, ◌≢◌, ℕ, ◌<◌, ◌≤◌, Bool, true, false, not, List, [], ◌∷◌, ◌++◌, map, eqb, refl, sym, ap, subst, ◌∙◌, arith}
+use Rattle.std.proofs.Common.{◌≡◌, ◌≢◌, ℕ, ◌<◌, ◌≤◌, Bool, true, false, not, List, [], ◌∷◌, map, refl, sym, ap, subst, ◌∙◌, arith}
 use Rattle.std.specs.Prelude.{codes, decimal, Some, None}
 use Rattle.std.specs.Char.{digit_value}
-use Rattle.std.specs.List.{AllByRecursion, join_with_byte, list_all}
+use Rattle.std.specs.List.{All, AllByRecursion, join_with_byte, list_all}
 use Rattle.std.specs.Str.Parse.{AllDigits}
 use Rattle.std.proofs.lemmas.Bool.{and_parts, not-true, false_from_ne_true, eqb-true}
 use Rattle.std.proofs.lemmas.Fmt.{digits_decimal}
-use Rattle.std.proofs.lemmas.List.Splits.{join_with_byte-slice_split}
+use Rattle.std.proofs.lemmas.List.Elements.{All-from_recursion}
+use Rattle.std.proofs.lemmas.List.Splits.{slice_split_none, slice_split_at, join_with_byte-slice_split}
 use Rattle.std.proofs.lemmas.Str.Parse.{numerals_by_value, tells_digits}
 use Rattle.cdb_base.specs.declared.act.Act.TheVariants as act
 use Rattle.cdb_base.specs.declared.register.Reg.TheVariants.{R, Dec}
@@ -17,28 +18,25 @@ use Rattle.cdb_control.specs.declared.command.View.TheVariants as view
 use Rattle.cdb_text.specs.Commands.{Part, fixed, number, register, parts_of}
 use Rattle.cdb_text.specs.Grammar.{IsInRange, HasNumbersInRange, IsLineOf, printed, words_of, written}
 use Rattle.cdb_text.specs.Laws.{EachCommandHasOneLine}
+use Rattle.cdb_text.proofs.Cut.{is_space}
 
 abbrev IsSpaceless : List ℕ → Type 0
-IsSpaceless word = AllByRecursion (λ byte. eqb byte 32 ≡ false) word
+IsSpaceless word = AllByRecursion (λ byte. is_space byte ≡ false) word
 
-last_word : (word : List ℕ) → IsSpaceless word → words_of word ≡ word ∷ []
-last_word [] is = refl
-last_word (byte ∷ word) is = rw (is.0, last_word word is.1) refl
-
-first_word : (word line : List ℕ) → IsSpaceless word → words_of (word ++ 32 ∷ line) ≡ word ∷ words_of line
-first_word [] line is = refl
-first_word (byte ∷ word) line is = rw (is.0, first_word word line is.1) refl
+none_is_space : (word : List ℕ) → IsSpaceless word → All (λ byte. is_space byte ≡ false) word
+none_is_space word is = All-from_recursion (λ byte. is_space byte ≡ false) word is
 
 -- words without a space, joined by spaces, are cut into these words
 joined : (word : List ℕ) (words : List (List ℕ)) → IsSpaceless word → AllByRecursion IsSpaceless words → words_of (join_with_byte 32 (word ∷ words)) ≡ word ∷ words
-joined word [] is all = last_word word is
-joined word (next ∷ words) is all = first_word word (join_with_byte 32 (next ∷ words)) is ∙ ap (λ (ws : List (List ℕ)). word ∷ ws) (joined next words all.0 all.1)
+joined word [] is all = slice_split_none is_space word (none_is_space word is)
+joined word (next ∷ words) is all =
+    slice_split_at is_space word 32 (join_with_byte 32 (next ∷ words)) (none_is_space word is) refl ∙ ap (λ (ws : List (List ℕ)). word ∷ ws) (joined next words all.0 all.1)
 
 -- ---- the words of a command
 
-digit_is_no_space : (byte : ℕ) → digit_value byte < 10 → eqb byte 32 ≡ false
+digit_is_no_space : (byte : ℕ) → digit_value byte < 10 → is_space byte ≡ false
 digit_is_no_space byte is =
-    false_from_ne_true (eqb byte 32) (λ e. let space : digit_value 32 < 10 = subst (λ (b : ℕ). digit_value b < 10) (eqb-true byte 32 e) is in omega (arith, space))
+    false_from_ne_true (is_space byte) (λ e. let space : digit_value 32 < 10 = subst (λ (b : ℕ). digit_value b < 10) (eqb-true byte 32 e) is in omega (arith, space))
 
 digits_are_spaceless : (word : List ℕ) → AllDigits 10 word → IsSpaceless word
 digits_are_spaceless [] all = tt
@@ -48,7 +46,7 @@ number_is_spaceless : (n : ℕ) → n ≤ 999999 → IsSpaceless (decimal n)
 number_is_spaceless n high = digits_are_spaceless (decimal n) (digits_decimal (numerals_by_value (AllDigits 10) tells_digits) n (omega arith))
 
 abbrev no_space : Part → Bool
-no_space (fixed text) = list_all (λ byte. not (eqb byte 32)) (codes text)
+no_space (fixed text) = list_all (λ byte. not (is_space byte)) (codes text)
 no_space other = true
 
 -- no fixed word has a space
@@ -69,9 +67,9 @@ no_spaces (Show view.Mail) = refl
 no_spaces (Show view.History) = refl
 no_spaces other = refl
 
-tested : (word : List ℕ) → list_all (λ byte. not (eqb byte 32)) word ≡ true → IsSpaceless word
+tested : (word : List ℕ) → list_all (λ byte. not (is_space byte)) word ≡ true → IsSpaceless word
 tested [] e = tt
-tested (byte ∷ word) e = let parts = and_parts _ _ e in (not-true (eqb byte 32) parts.0, tested word parts.1)
+tested (byte ∷ word) e = let parts = and_parts _ _ e in (not-true (is_space byte) parts.0, tested word parts.1)
 
 part_is_spaceless : (part : Part) → no_space part ≡ true → IsInRange part → IsSpaceless (written part)
 part_is_spaceless (fixed text) e is = tested (codes text) e

@@ -1,5 +1,5 @@
 -- What the private functions find in the words of a line.
-use Rattle.std.specs.Prelude.{◌≡◌, ◌≢◌, ℕ, ◌<◌, ◌&&◌, ◌==◌, ◌-◌, ◌++◌, Bool, not, nat_lt, nat_le, List, [], ◌∷◌, length, slice_index, codes, find, Option, Some, None, ok_or, Result, Ok, Err, if◌then◌else◌}
+use Rattle.std.specs.Prelude.{◌≡◌, ℕ, ◌&&◌, ◌==◌, ◌-◌, ◌++◌, Bool, not, nat_lt, nat_le, List, [], ◌∷◌, length, slice_index, codes, find, Option, Some, None, ok_or, Result, Ok, Err, if◌then◌else◌}
 use Rattle.std.specs.Str.{bytes_eq, all_ascii_digits}
 use Rattle.std.specs.Str.Parse.{digits_value}
 use Rattle.cdb_base.specs.declared.register.Reg.{Reg}
@@ -17,10 +17,6 @@ infixl 10 ◌>>=◌
 abbrev pub ◌>>=◌ : {A B : Type 0} → Result A LineFault → (A → Result B LineFault) → Result B LineFault
 (Ok x) >>= f = f x
 (Err e) >>= f = Err e
-
--- no space stands among the first n bytes
-abbrev pub HasNoSpace : ℕ → List ℕ → Type 0
-HasNoSpace n line = (k : ℕ) → k < n → slice_index line k ≢ 32
 
 -- a number of one to six digits, the first not 0
 unfoldable pub is_number : List ℕ → Bool

@@ -1,11 +1,11 @@
 //! The words of a line, taken one after the other.
 
-ghost use Rattle.std.specs.Prelude.{◌≡◌, ◌≢◌, ◌<◌, ◌≤◌, ◌∷◌, [], length, slice_index, MatchOption, MatchBool, IfOk};
+ghost use Rattle.std.specs.Prelude.{◌≡◌, ◌≢◌, ◌≤◌, ◌∷◌, [], length, MatchOption, MatchBool, IfOk};
 ghost use Rattle.std.specs.Str.Parse.{AllDigits, digits_value};
 ghost use Rattle.cdb_text.specs.Commands.{number};
 ghost use Rattle.cdb_text.specs.Grammar.{IsInRange, words_of};
 ghost use Rattle.cdb_text.specs.Words.{words_left};
-ghost use Rattle.cdb_text.specs.Reading.{Gives, HasNoSpace, number_of, register_of, word_at, number_at, register_at, ended};
+ghost use Rattle.cdb_text.specs.Reading.{Gives, number_of, register_of, word_at, number_at, register_at, ended};
 
 use crate::fault::LineFault;
 use cdb_base::{Proc, Reg};
@@ -89,19 +89,11 @@ impl<'a> Words<'a> {
     }
 }
 
-/// The place of the first space.
-fn space_in(line: &[u8]) -> Option<usize>
-    ensures { MatchOption result (HasNoSpace (length line.now) line.now)
-        (λ end. (end < length line.now) × (slice_index line.now end ≡ 32) × HasNoSpace end line.now) }
-{
-    line.iter().position(|byte| *byte == b' ')
-}
-
 /// The first word of a line, and what is left behind the space after it.
 fn first_word(line: &[u8]) -> (&[u8], Option<&[u8]>)
     ensures { words_of line.now ≡ result.0.now ∷ words_left result.1 }
 {
-    match space_in(line) {
+    match line.iter().position(|byte| *byte == b' ') {
         Some(end) => (&line[..end], Some(&line[end + 1..])),
         None => (line, None),
     }

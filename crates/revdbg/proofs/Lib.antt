@@ -1,2 +1,4 @@
 pub mod CommandLine
 pub mod Given
+pub mod Played
+pub mod Told

@@ -1,3 +1,5 @@
 pub mod CommandLine
 pub mod Asking
+pub mod Telling
+pub mod Playing
 pub mod Racing

@@ -1,6 +1,6 @@
 -- What the status after a race says.
-use Rattle.std.specs.Prelude.{◌≡◌, ◌⊎◌, ℕ, ◌+◌, ◌<◌, List, length}
-use Rattle.std.proofs.Common.{Vec, Global}
+use Rattle.std.specs.Prelude.{◌≡◌, ◌⊎◌, ℕ, ◌+◌, ◌<◌, List, length, Vec}
+use Rattle.std.specs.Global.{Global}
 use Rattle.cdb_play.specs.Races.{bytes_of, IsFaultOfRace, IsTextOfRace}
 use Rattle.cdb_play.specs.Statuses.{race_status}
 use Rattle.cdb_play.specs.declared.fault.RaceFault.{RaceFault}

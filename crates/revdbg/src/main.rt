@@ -1,23 +1,28 @@
 //! revdbg: a causal reversible debugger for indulgent consensus.
 #![tactic(auto)]
 
-ghost use Rattle.std.specs.Prelude.{◌≡◌, ◌≢◌, ◌⊎◌, ◌≤◌, [], length, map, MatchResult};
-ghost use Rattle.cdb_play.specs.Statuses.{play_status, race_status};
+ghost use Rattle.std.specs.Prelude.{◌≡◌, ◌≢◌, ◌⊎◌, ℕ, ◌+◌, ◌≤◌, List, [], length, vec_len, map, codes, None, IfOk, IfErr, OnOk};
+ghost use Rattle.std.specs.Io.KnownBytes.{prepend_known, IsAtEnd};
+ghost use Rattle.cdb_play.specs.Faults.{IsFaultOfPlay};
+ghost use Rattle.cdb_play.specs.Transcripts.{IsTranscriptOf};
+ghost use Rattle.cdb_run.specs.Algorithms.{rules};
 ghost use Rattle.clap.specs.Words.{fault_of};
 ghost use Rattle.revdbg.specs.Asking.{IsOfKinds, ask_status_of};
 ghost use Rattle.revdbg.specs.CommandLine.{program};
+ghost use Rattle.revdbg.specs.Playing.{IsUnread, IsUnreadAs, IsFaultOfBytes};
 ghost use Rattle.revdbg.specs.Racing.{IsStatusOfRace, NeedsTooManySeats};
 
+mod ends;
 mod request;
 mod words;
 
 use cdb_play::{
-    Bytes, Input, MAX_BYTES, Output, PlayFault, RaceFault, fits, play, race, race_status_of,
-    read_up_to, status_of, write_fault, write_race_fault,
+    Bytes, Input, MAX_BYTES, Output, PlayFault, RaceFault, Source, fits, play, race, read_up_to,
 };
 use cdb_setup::Setup;
+use ends::{NamedFault, ended, race_ended};
 use request::{AskFault, Asked};
-use std::alloc::AllocError;
+use std::alloc::{AllocError, Global};
 use std::fs::File;
 use std::io::{ErrorKind, Input as _};
 use std::process::ExitCode;
@@ -33,69 +38,98 @@ const ONE_PROCESS: &[u8] =
 /// The status after words that can't be read.
 const USAGE: u8 = 2;
 
-/// Says how a play ended, and answers the status. The name is that of what it could not read.
-fn ended(rt: &HostRuntime, outcome: Result<(), PlayFault>, name: &str) -> u8
-    ensures { MatchResult outcome (λ _. result ≡ 0) (λ fault. result ≡ play_status fault) }
+/// All that a reader has left, and no more than one byte too many.
+fn read_all<S: Source>(alloc: Global, source: &mut S) -> Result<Vec<u8>, PlayFault>
+    ensures taken { IfOk result (λ bytes. S.remaining source.old ≡ prepend_known bytes.items (S.remaining source.new)) }
+    ensures most { IfOk result (λ bytes. length bytes.items ≤ MAX_BYTES + 1) }
+    ensures end { IfOk result (λ bytes. length bytes.items ≤ MAX_BYTES → IsAtEnd (S.remaining source.new)) }
+    ensures fault { IfErr result IsUnread }
 {
-    match outcome {
-        Ok(()) => 0,
-        Err(fault) => {
-            let _ = write_fault(&fault, name, &mut Output::new(rt.stderr()));
-            status_of(&fault)
-        }
-    }
-}
-
-/// Says how a race ended, and answers the status.
-fn race_ended(rt: &HostRuntime, outcome: Result<(), RaceFault>) -> u8
-    ensures { MatchResult outcome (λ _. result ≡ 0) (λ fault. result ≡ race_status fault) }
-{
-    match outcome {
-        Ok(()) => 0,
-        Err(fault) => {
-            let _ = write_race_fault(&fault, &mut Output::new(rt.stderr()));
-            race_status_of(&fault)
-        }
-    }
-}
-
-/// The bytes of a file, and no more than one byte too many.
-fn read_file(rt: &HostRuntime, name: &str) -> Result<Vec<u8>, PlayFault> {
-    let file = match File::open(rt, name) {
-        Ok(file) => file,
-        Err(error) if error.kind() == ErrorKind::OutOfMemory => return Err(PlayFault::NoMemory),
-        Err(_) => return Err(PlayFault::Read),
-    };
-    let bytes = read_up_to(rt.alloc(), &mut Input::new(file), MAX_BYTES + 1)?;
+    let bytes = read_up_to(alloc, source, MAX_BYTES + 1)?;
     Ok(bytes)
 }
 
-/// Plays the script on standard input.
-fn play_input(rt: &HostRuntime) -> u8 {
-    let mut script = Input::new(rt.reader());
-    let mut out = Output::new(io::writer(rt));
-    let outcome = play(rt.alloc(), ONE_PROCESS, &mut script, &mut out);
-    ended(rt, outcome, "standard input")
+/// The bytes of a file, and no more than one byte too many.
+fn bytes_of(rt: &HostRuntime, name: &str) -> Result<Vec<u8>, PlayFault>
+    ensures most { IfOk result (λ bytes. length bytes.items ≤ MAX_BYTES + 1) }
+    ensures fault { IfErr result IsUnread }
+{
+    match File::open(rt, name) {
+        Ok(file) => read_all(rt.alloc(), &mut Input::new(file)),
+        Err(error) if error.kind() == ErrorKind::OutOfMemory => Err(PlayFault::NoMemory),
+        Err(_) => Err(PlayFault::Read),
+    }
 }
 
-/// Plays a script file on a run of a setup file.
-fn play_files(rt: &HostRuntime, setup: &str, script: &str) -> u8 {
-    let setup = match read_file(rt, setup) {
-        Ok(bytes) => bytes,
-        Err(fault) => return ended(rt, Err(fault), setup),
-    };
-    let bytes = match read_file(rt, script) {
-        Ok(bytes) => bytes,
-        Err(fault) => return ended(rt, Err(fault), script),
-    };
+/// The bytes of a file as `bytes_of` gives them. A fault has the file's name.
+fn read_file<'a>(rt: &HostRuntime, name: &'a str) -> Result<Vec<u8>, NamedFault<'a>>
+    ensures most { IfOk result (λ bytes. length bytes.items ≤ MAX_BYTES + 1) }
+    ensures fault { IfErr result (IsUnreadAs name.entry.now) }
+{
+    match bytes_of(rt, name) {
+        Ok(bytes) => Ok(bytes),
+        Err(fault) => Err(NamedFault { fault, name }),
+    }
+}
+
+/// The bytes of files, in order. A fault has the name of its file.
+fn read_files<'a>(rt: &HostRuntime, names: &[&'a str]) -> Result<Vec<Vec<u8>>, NamedFault<'a>>
+    ensures count { IfOk result (λ files. vec_len files ≡ length names.now) }
+    ensures fault { IfErr result (λ named. IsUnread named.fault) }
+{
+    let mut files = Vec::new(rt.alloc());
+    for name in names {
+        let bytes = read_file(rt, name)?;
+        if files.push(bytes).is_err() {
+            return Err(NamedFault {
+                fault: PlayFault::NoMemory,
+                name,
+            });
+        }
+    }
+    Ok(files)
+}
+
+/// Plays the script on standard input.
+fn play_input(rt: &HostRuntime) -> Result<(), NamedFault<'static>>
+    ensures ok { OnOk result ((script : List ℕ) × (text : List ℕ) × IsTranscriptOf rules ONE_PROCESS.now script text) }
+    ensures fault { IfErr result (λ named. IsFaultOfPlay named.fault ONE_PROCESS.now None None) }
+    ensures name { IfErr result (λ named. named.name.now ≡ codes "standard input") }
+{
+    let mut script = Input::new(rt.reader());
     let mut out = Output::new(io::writer(rt));
-    let outcome = play(
-        rt.alloc(),
-        setup.as_slice(),
-        &mut Bytes::new(bytes.as_slice()),
-        &mut out,
-    );
-    ended(rt, outcome, script)
+    match play(rt.alloc(), ONE_PROCESS, &mut script, &mut out) {
+        Ok(()) => Ok(()),
+        Err(fault) => Err(NamedFault {
+            fault,
+            name: "standard input",
+        }),
+    }
+}
+
+/// Plays a script on a run of a setup, of both of which the bytes are here.
+fn play_bytes(rt: &HostRuntime, setup: &[u8], script: &[u8]) -> Result<(), PlayFault>
+    ensures ok { OnOk result ((text : List ℕ) × IsTranscriptOf rules setup.now script.now text) }
+    ensures fault { IfErr result (λ fault. IsFaultOfBytes fault setup.now script.now) }
+{
+    let mut out = Output::new(io::writer(rt));
+    play(rt.alloc(), setup, &mut Bytes::new(script), &mut out)
+}
+
+/// Plays a script file on a run of a setup file. Where one of them can't be read, the fault has its name.
+fn play_files<'a>(rt: &HostRuntime, setup: &'a str, script: &'a str) -> Result<(), NamedFault<'a>>
+    ensures ok { OnOk result ((json : List ℕ) × (bytes : List ℕ) × (text : List ℕ) × IsTranscriptOf rules json bytes text) }
+    ensures fault { IfErr result (λ named. IsUnreadAs setup.entry.now named ⊎ (IsUnreadAs script.entry.now named ⊎ ((json : List ℕ) × (bytes : List ℕ) × IsFaultOfBytes named.fault json bytes))) }
+{
+    let json = read_file(rt, setup)?;
+    let bytes = read_file(rt, script)?;
+    match play_bytes(rt, json.as_slice(), bytes.as_slice()) {
+        Ok(()) => Ok(()),
+        Err(fault) => Err(NamedFault {
+            fault,
+            name: script,
+        }),
+    }
 }
 
 /// Runs a race of scripts, where it has seats enough.
@@ -110,9 +144,10 @@ fn race_scripts<R: Threads + Wait + Sync>(
     ensures says { IsStatusOfRace result setup.now turns scripts.now }
     ensures seats { NeedsTooManySeats setup.now (length scripts.now) → (result ≡ 2) ⊎ (result ≡ 6) }
 {
+    let mut err = Output::new(rt.stderr());
     let parts = match Setup::read(rt.alloc(), setup) {
         Ok(parts) => parts,
-        Err(fault) => return race_ended(rt, Err(RaceFault::from(fault))),
+        Err(fault) => return race_ended(Err(RaceFault::from(fault)), &mut err),
     };
     if !fits(&parts, scripts.len()) {
         let _ = eprintln!(rt; "too many seats");
@@ -120,35 +155,36 @@ fn race_scripts<R: Threads + Wait + Sync>(
     }
     let mut out = Output::new(io::writer(rt));
     let outcome = race(threads, rt.alloc(), setup, turns, scripts, &mut out);
-    race_ended(rt, outcome)
+    race_ended(outcome, &mut err)
 }
 
-/// Runs a race of script files on a run of a setup file.
-fn race_files<R: Threads + Wait + Sync>(
+/// Runs a race of script files on a run of a setup file, and answers the status. A file that can't be read
+/// has its name in the fault.
+fn race_files<'a, R: Threads + Wait + Sync>(
     rt: &HostRuntime,
     threads: &R,
-    setup: &str,
+    setup: &'a str,
     turns: u32,
-    names: &[&str],
-) -> u8
+    names: &[&'a str],
+) -> Result<u8, NamedFault<'a>>
     requires { turns ≤ 99999 }
+    ensures says { IfOk result (λ status. (json : List ℕ) × (scripts : _) × (length scripts ≡ length names.now) × IsStatusOfRace status json turns scripts) }
+    ensures fault { IfErr result (λ named. IsUnread named.fault) }
 {
-    let setup = match read_file(rt, setup) {
-        Ok(bytes) => bytes,
-        Err(fault) => return ended(rt, Err(fault), setup),
+    let json = read_file(rt, setup)?;
+    let scripts = read_files(rt, names)?;
+    Ok(race_scripts(rt, threads, json.as_slice(), turns, scripts.as_slice()))
+}
+
+/// Tells that memory is wanting, and answers the status.
+fn no_memory(rt: &HostRuntime) -> u8
+    ensures { result ≡ 6 }
+{
+    let named = NamedFault {
+        fault: PlayFault::NoMemory,
+        name: "",
     };
-    let mut scripts = Vec::new(rt.alloc());
-    for name in names {
-        match read_file(rt, name) {
-            Ok(bytes) => {
-                if scripts.push(bytes).is_err() {
-                    return ended(rt, Err(PlayFault::NoMemory), name);
-                }
-            }
-            Err(fault) => return ended(rt, Err(fault), name),
-        }
-    }
-    race_scripts(rt, threads, setup.as_slice(), turns, scripts.as_slice())
+    ended(Err(named), &mut Output::new(rt.stderr()))
 }
 
 /// Does what the words ask for, and answers the status.
@@ -156,21 +192,25 @@ fn run<R: Threads + Wait + Sync>(rt: &HostRuntime, threads: &R, words: &[&str]) 
     ensures { fault_of program (map (λ word. word.now) words.entry.now) ≢ []
         → (fault : AskFault) × IsOfKinds (fault_of program (map (λ word. word.now) words.entry.now)) fault × (result ≡ ask_status_of fault) }
 {
+    let mut err = Output::new(rt.stderr());
     match asked(rt.alloc(), words) {
-        Ok(Asked::Script) => play_input(rt),
-        Ok(Asked::Play { setup, script }) => play_files(rt, setup, script),
+        Ok(Asked::Script) => ended(play_input(rt), &mut err),
+        Ok(Asked::Play { setup, script }) => ended(play_files(rt, setup, script), &mut err),
         Ok(
             Asked::Race {
                 setup,
                 turns,
                 scripts,
             },
-        ) => race_files(rt, threads, setup, turns, scripts.as_slice()),
+        ) => match race_files(rt, threads, setup, turns, scripts.as_slice()) {
+            Ok(status) => status,
+            Err(named) => ended(Err(named), &mut err),
+        },
         Err(fault) => {
             if let AskFault::Words(error) = &fault {
                 let _ = error.print(rt);
             } else {
-                let _ = write_fault(&PlayFault::NoMemory, "", &mut Output::new(rt.stderr()));
+                let _ = no_memory(rt);
             }
             ask_status(&fault)
         }
@@ -192,7 +232,7 @@ fn main(rt: HostRuntime) -> ExitCode {
     let words = match words_of(&rt) {
         Ok(words) => words,
         Err(error) if error.kind() == ErrorKind::OutOfMemory => {
-            return ExitCode::from(ended(&rt, Err(PlayFault::NoMemory), ""));
+            return ExitCode::from(no_memory(&rt));
         }
         Err(_) => {
             let _ = eprintln!(rt; "a word is no text");
@@ -201,7 +241,7 @@ fn main(rt: HostRuntime) -> ExitCode {
     };
     match texts_of(&rt, words.as_slice()) {
         Ok(texts) => ExitCode::from(run(&rt, &rt, texts.as_slice())),
-        Err(_) => ExitCode::from(ended(&rt, Err(PlayFault::NoMemory), "")),
+        Err(_) => ExitCode::from(no_memory(&rt)),
     }
 }
 

@@ -18,4 +18,4 @@ race-outcome-requires-clause-fits g c κs within = λ parts stands. still_fits c
 pub returns-in-Err-clause-seats : goal.returns-in-Err-clause-seats
 returns-in-Err-clause-seats g c = λ many.
     let same : c.in-Err.fault ≡ NoMemory = memory_alone c.read.result c.in-Err.fault many.0 c.in-Err.is (c.read.ensures.only many.0 many.1) in
-    inr (c.race_ended.ensures ∙ ap race_status (c.from.ensures ∙ ap race_fault_of_setup same))
+    inr (c.race_ended.ensures.status ∙ ap race_status (c.from.ensures ∙ ap race_fault_of_setup same))

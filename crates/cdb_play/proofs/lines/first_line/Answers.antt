@@ -1,14 +1,15 @@
-use Rattle.std.proofs.Common.{◌≡◌, ◌-◌, ◌+◌, ◌∷◌, ap, ◌∙◌, length, take, drop, add-one, sym}
+use Rattle.std.proofs.Common.{◌≡◌, sym, rules, tests}
+use Rattle.std.specs.List.{position_or_len}
 use Rattle.std.proofs.lemmas.List.{take_rest}
-use Rattle.cdb_play.proofs.Cutting.{no_lines, cut_none, cut_first}
+use Rattle.std.proofs.lemmas.List.Sums.{position_or_len_is}
+use Rattle.cdb_play.proofs.Cutting.{is_newline, no_lines, cut_none, cut_first}
 use Rattle.cdb_play.proofs.lines.first_line.Goals as goal
 
 pub returns-in-Some-clause-lines : goal.returns-in-Some-clause-lines
 returns-in-Some-clause-lines c =
     let script = c.args.script.now in
-    let end = c.in-Some.end in
-    let rest : take (length script - (end + 1)) (drop (end + 1) script) ≡ drop (end + 1) script = take_rest script (end + 1) in
-    rw (rest, add-one) (cut_first script end c.in-Some.ensures.0 c.in-Some.ensures.1 c.in-Some.ensures.2)
+    let first : position_or_len is_newline script ≡ c.in-Some.end = search (rules, tests, position_or_len_is) in
+    rw (take_rest, sym first) (cut_first script (search (rules, tests)))
 
 pub returns-in-None-clause-lines : goal.returns-in-None-clause-lines
-returns-in-None-clause-lines c = cut_none c.args.script.now c.requires c.in-None.ensures ∙ ap (λ lines. c.args.script.now ∷ lines) (sym no_lines)
+returns-in-None-clause-lines c = rw no_lines (cut_none c.args.script.now c.requires (search (rules, tests)))

@@ -1,30 +1,33 @@
-use Rattle.std.proofs.Common.{◌≡◌, inr, ℕ, ◌-◌, ◌∙◌, sym, ap, subst, arith, List, [], ◌∷◌, ◌++◌, append-nil, append_assoc, None, map, get_or, vec_len, length, Vec, Global}
+use Rattle.std.proofs.Common.{◌≡◌, ℕ, ◌-◌, ◌∙◌, sym, ap, subst, arith, List, [], ◌∷◌, ◌++◌, append-nil, append_assoc, None, map, get_or, vec_len, length, Vec, Global}
 use Rattle.std.proofs.lemmas.List.{length-map, map-append}
 use Rattle.cdb_control.specs.Answer.{Answer, told}
 use Rattle.cdb_control.specs.declared.reply.Reply.{Reply}
-use Rattle.cdb_race.specs.Faults.{fault_at, fault_in}
+use Rattle.cdb_race.specs.Faults.{fault_in}
 use Rattle.cdb_race.specs.Promises.{HasRan}
 use Rattle.cdb_race.specs.Races.{all_told}
 use Rattle.cdb_race.specs.Runs.{HasFinished}
 use Rattle.cdb_race.specs.declared.worker.Ran.{Ran}
 use Rattle.cdb_shared.specs.Seats.{SeatView}
-use Rattle.cdb_race.proofs.Ends.{each_front, pair_push}
+use Rattle.cdb_race.proofs.Ends.{each_front, each_push, get_or-middle, pair_push}
 use Rattle.cdb_race.proofs.Finishes.{ends_well, finished}
 use Rattle.cdb_race.proofs.threads.collect.Goals as goal
 
 pub loop-ran-init : goal.loop-ran-init
 loop-ran-init c = record {
   rans = λ plan seats same all. all;
-  left = ([], sym (append-nil c.args.rans.items), tt);
+  clean = λ none. none;
+  left = ([], sym (append-nil c.args.rans.items));
   count = omega (arith, c.in-Ok.ensures.len);
   answered = omega (arith, c.in-Ok.ensures.len, c.in-Ok-with_capacity.ensures.len);
   room = (omega (arith, c.in-Ok.ensures.capacity, c.len.ensures), omega (arith, c.in-Ok-with_capacity.ensures.capacity, c.len-2.ensures));
-  each = λ plan seats same all k seat list low. absurd (omega (arith, c.in-Ok.ensures.len, c.in-Ok.seats.ok.0));
+  gathered = λ k seat ran low. absurd (omega (arith, c.in-Ok.ensures.len, c.in-Ok.seats.ok.0));
+  each = λ plan seats same all none k seat list low. absurd (omega (arith, c.in-Ok.ensures.len, c.in-Ok.seats.ok.0));
 }
 
 pub loop-ran-preserved : goal.loop-ran-preserved
 loop-ran-preserved c =
     let was = c.loop-ran.invariant in
+    let all = c.args.rans.items in
     let many = vec_len c.args.rans in
     let popped = c.in-Some.ensures.items in
     let left = c.in-Some.ensures.cases in
@@ -36,30 +39,23 @@ loop-ran-preserved c =
     let answered_now = c.loop-ran.answered.ok.0 in
     let tells : List Answer = map told ran.replies.items in
     let told_more = ap all_told answered.items ∙ map-append (λ (list : Vec Reply Global). map told list.items) c.loop-ran.answered.items (ran.replies ∷ []) in
-    let clean : fault_in ran ≡ None = ap (λ n. fault_at n ran.end) (sym c.number.ensures.number) ∙ sym c.fault_of.ensures ∙ c.in_default-fault_of.is in
+    let whole : all ≡ c.pop.new.self.items ++ (ran ∷ was.left.0) = was.left.1 ∙ ap (λ l. l ++ was.left.0) popped ∙ append_assoc c.pop.new.self.items (ran ∷ []) was.left.0 in
+    let at : length all - 1 - length c.loop-ran.seats.items ≡ length c.pop.new.self.items = omega (arith, c.args.rans.ok.0, was.count, left, front, seats_now) in
     record {
-      left = (ran ∷ was.left.0, was.left.1 ∙ ap (λ l. l ++ was.left.0) popped ∙ append_assoc c.pop.new.self.items (ran ∷ []) was.left.0, (clean, was.left.2));
-      rans = λ plan all same outcomes. (each_front (λ (k : ℕ) (r : Ran). (b : SeatView) → HasRan plan (get_or all (length all - 1 - k) b) r) _ _ _ popped (was.rans plan all same outcomes)).0;
+      left = (ran ∷ was.left.0, whole);
+      clean = λ none. (each_front (λ (k : ℕ) (r : Ran). fault_in r ≡ None) _ _ _ popped (was.clean none)).0;
+      rans = λ plan before same outcomes. (each_front (λ (k : ℕ) (r : Ran). (b : SeatView) → HasRan plan (get_or before (length before - 1 - k) b) r) _ _ _ popped (was.rans plan before same outcomes)).0;
       count = omega (arith, left, seats.len, was.count);
       answered = omega (arith, seats.len, answered.len, was.answered);
       room = (omega (arith, seats.capacity, was.room.0), omega (arith, answered.capacity, was.room.1));
-      each = λ plan all same outcomes.
-          let one = (each_front (λ (k : ℕ) (r : Ran). (b : SeatView) → HasRan plan (get_or all (length all - 1 - k) b) r) _ _ _ popped (was.rans plan all same outcomes)).1 in
-          let place : length all - 1 - length c.pop.new.self.items ≡ length c.loop-ran.seats.items = omega (arith, same, was.count, left, front, seats_now) in
+      gathered = λ k seat other low.
+          each_push (λ (i : ℕ) (s : SeatView). s ≡ (get_or all (length all - 1 - i) other).seat) c.loop-ran.seats.items _ ran.seat seats.items (λ i s below. was.gathered i s other below)
+          (ap (λ (r : Ran). r.seat) (sym (get_or-middle c.pop.new.self.items was.left.0 all ran other _ whole at))) k seat low;
+      each = λ plan before same outcomes none.
+          let clean = (each_front (λ (k : ℕ) (r : Ran). fault_in r ≡ None) _ _ _ popped (was.clean none)).1 in
+          let one = (each_front (λ (k : ℕ) (r : Ran). (b : SeatView) → HasRan plan (get_or before (length before - 1 - k) b) r) _ _ _ popped (was.rans plan before same outcomes)).1 in
+          let place : length before - 1 - length c.pop.new.self.items ≡ length c.loop-ran.seats.items = omega (arith, same, was.count, left, front, seats_now) in
           let long : length (all_told c.loop-ran.answered.items) ≡ length c.loop-ran.seats.items = length-map c.loop-ran.answered.items _ ∙ omega (arith, was.answered, seats_now, answered_now) in
-          pair_push (λ (k : ℕ) (s : SeatView) (a : List Answer). (b : SeatView) → HasFinished plan (get_or all k b) s a) c.loop-ran.seats.items _ (all_told c.loop-ran.answered.items) _ ran.seat tells seats.items told_more long (was.each plan all same outcomes)
-          (λ b. subst (λ n. HasFinished plan (get_or all n b) ran.seat tells) place (finished plan _ ran.seat tells ran.end (ends_well _ _ clean) (one b)));
+          pair_push (λ (k : ℕ) (s : SeatView) (a : List Answer). (b : SeatView) → HasFinished plan (get_or before k b) s a) c.loop-ran.seats.items _ (all_told c.loop-ran.answered.items) _ ran.seat tells seats.items told_more long (was.each plan before same outcomes none)
+          (λ b. subst (λ n. HasFinished plan (get_or before n b) ran.seat tells) place (finished plan _ ran.seat tells ran.end (ends_well _ _ clean) (one b)));
     }
-
-pub returns-in-Some-fault_of-clause-least : goal.returns-in-Some-fault_of-clause-least
-returns-in-Some-fault_of-clause-least c =
-    let was = c.loop-ran.invariant in
-    let ran = c.in-Some.ran in
-    inr (record {
-      greater = c.pop.new.self.items;
-      its = ran;
-      less = was.left.0;
-      all = was.left.1 ∙ ap (λ l. l ++ was.left.0) c.in-Some.ensures.items ∙ append_assoc c.pop.new.self.items (ran ∷ []) was.left.0;
-      has = ap (λ n. fault_at n ran.end) (sym c.number.ensures.number) ∙ sym c.fault_of.ensures ∙ c.in-Some-fault_of.is;
-      none = was.left.2;
-    })

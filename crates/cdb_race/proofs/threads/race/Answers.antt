@@ -1,11 +1,15 @@
-use Rattle.std.proofs.Common.{◌≡◌, ◌+◌, ◌∙◌, subst, arith, length}
+use Rattle.std.proofs.Common.{◌≡◌, ◌+◌, ◌∙◌, ap, subst, arith, List, All, Some, None, Err, refl, length}
 use Rattle.std.proofs.lemmas.List.{length-map}
-use Rattle.std.proofs.lemmas.Result.{err_from_is_err_and}
-use Rattle.cdb_race.specs.Faults.{IsAmongSeats}
+use Rattle.cdb_race.specs.Faults.{fault_in, IsAmongSeats, IsOfLeastSeat}
+use Rattle.cdb_race.specs.Plans.{seats_of}
 use Rattle.cdb_race.specs.Races.{all_told}
 use Rattle.cdb_race.specs.declared.plan.Plan.{Plan}
+use Rattle.cdb_race.specs.declared.threads.RaceFault.{RaceFault}
+use Rattle.cdb_race.specs.declared.threads.RaceFault.TheVariants as fault
+use Rattle.cdb_race.specs.declared.worker.Ran.{Ran}
 use Rattle.cdb_race.proofs.Outcomes.{fresh, all_ready, all_rest, raced}
 use Rattle.cdb_race.proofs.Stops.{of_least}
+use Rattle.cdb_race.proofs.Underway.{same_fault, met_full, under_way, full_at}
 use Rattle.cdb_race.proofs.threads.race.Goals as goal
 
 pub run_all-requires-clause-ready : goal.run_all-requires-clause-ready
@@ -29,35 +33,56 @@ pub finish-control-requires-clause-rest : goal.finish-control-requires-clause-re
 finish-control-requires-clause-rest g c =
     let plan : Plan = record { processes = c.n-processes.result; turns = c.args.turns; scripts = c.args.scripts } in
     let new = fresh c.in-Ok-open.shared c.args.setup plan _ _ _ c.in-Ok.ensures.opened (omega arith) c.in-Ok-open.ensures.opened in
-    let rans = c.in_ok-rans.ensures in
-    let count = c.in_ok-seats.ensures.count in
-    let before = c.in-Ok-open.seats in
+    let rans = c.in_ok-rans.rans in
     let seats = c.in_ok-seats.seats in
-    let finished = c.in_ok-seats.ensures.each plan before.items (omega (arith, rans.count, before.ok.0)) rans.each in
-    let many : length seats.items ≡ length before.items = omega (arith, count.0, rans.count, seats.ok.0, before.ok.0) in
-    all_rest c.in-Ok-open.shared plan c.args.setup before.items seats.items _ new (many ∙ new.many) finished
+    let before = c.in-Ok-open.seats in
+    let long : length seats.items ≡ length rans.items = omega (arith, c.in_ok-seats.ensures.count.0, seats.ok.0, rans.ok.0) in
+    let many : length rans.items ≡ seats_of plan = omega (arith, c.in_ok-rans.ensures.count, new.many, rans.ok.0, before.ok.0) in
+    all_rest c.in-Ok-open.shared plan c.args.setup before.items seats.items rans.items new many long c.in_ok-rans.ensures.each c.in_ok-seats.ensures.seats
 
-pub returns-clause-raced : goal.returns-clause-raced
-returns-clause-raced g c =
+pub returns-in-None-clause-raced : goal.returns-in-None-clause-raced
+returns-in-None-clause-raced g c =
     let plan : Plan = record { processes = c.n-processes.result; turns = c.args.turns; scripts = c.args.scripts } in
     let new = fresh c.in-Ok-open.shared c.args.setup plan _ _ _ c.in-Ok.ensures.opened (omega arith) c.in-Ok-open.ensures.opened in
-    let rans = c.in_ok-rans.ensures in
-    let count = c.in_ok-seats.ensures.count in
+    let rans = c.in_ok-rans.rans in
     let before = c.in-Ok-open.seats in
     let seats = c.in_ok-seats.seats in
+    let got = c.in_ok-seats.ensures in
     let replies = c.in_ok-seats.replies in
-    let finished = c.in_ok-seats.ensures.each plan before.items (omega (arith, rans.count, before.ok.0)) rans.each in
-    let many : length seats.items ≡ length before.items = omega (arith, count.0, rans.count, seats.ok.0, before.ok.0) in
-    let long : length (all_told replies.items) ≡ length seats.items = length-map replies.items _ ∙ omega (arith, count.0, count.1, replies.ok.0, seats.ok.0) in
+    let clean : All (λ ran. fault_in ran ≡ None) rans.items = subst (λ (l : List Ran). All (λ ran. fault_in ran ≡ None) l) c.as_slice.ensures.value c.in-None.ensures in
+    let finished = got.each plan before.items (omega (arith, c.in_ok-rans.ensures.count, before.ok.0)) c.in_ok-rans.ensures.each clean in
+    let many : length seats.items ≡ length before.items = omega (arith, got.count.0, c.in_ok-rans.ensures.count, seats.ok.0, before.ok.0) in
+    let long : length (all_told replies.items) ≡ length seats.items = length-map replies.items _ ∙ omega (arith, got.count.0, got.count.1, replies.ok.0, seats.ok.0) in
     raced c.in-Ok-open.shared plan c.args.setup c.finish-control.result before.items seats.items _ c.n-processes.ensures.value new (many ∙ new.many) finished c.finish-control.ensures c.n-processes.ensures.ranges.processes.0 long c.journal.ensures.seats
 
-pub returns-in_err-seats-clause-fault : goal.returns-in_err-seats-clause-fault
-returns-in_err-seats-clause-fault g c =
+pub returns-in-Some-clause-fault : goal.returns-in-Some-clause-fault
+returns-in-Some-clause-fault g c =
     let plan : Plan = record { processes = c.n-processes.result; turns = c.args.turns; scripts = c.args.scripts } in
     let new = fresh c.in-Ok-open.shared c.args.setup plan _ _ _ c.in-Ok.ensures.opened (omega arith) c.in-Ok-open.ensures.opened in
-    let p = err_from_is_err_and c.from_residual-in_err-seats.result c.from_residual-in_err-seats.ensures.1 in
-    let rans = c.in_ok-rans.ensures in
+    let rans = c.in_ok-rans.rans in
     let before = c.in-Ok-open.seats in
-    let why = c.in_err-seats.field-0.0 in
-    let it = of_least c.in-Ok-open.shared plan c.args.setup before.items c.in_ok-rans.rans.items why new (omega (arith, rans.count, new.many, c.in_ok-rans.rans.ok.0, before.ok.0)) rans.each c.in_err-seats.ensures.least in
-    rw (p.1, p.2) (subst (λ n. IsAmongSeats (n + length c.args.scripts.now) why) c.n-processes.ensures.value it)
+    let why = c.in-Some.fault in
+    let least : IsOfLeastSeat why rans.items = subst (IsOfLeastSeat why) c.as_slice.ensures.value c.in-Some.ensures in
+    let many : length rans.items ≡ seats_of plan = omega (arith, c.in_ok-rans.ensures.count, new.many, rans.ok.0, before.ok.0) in
+    let it = of_least c.in-Ok-open.shared plan c.args.setup before.items rans.items why new many c.in_ok-rans.ensures.each least in
+    subst (λ n. IsAmongSeats (n + length c.args.scripts.now) why) c.n-processes.ensures.value it
+
+pub returns-in-Some-clause-full : goal.returns-in-Some-clause-full
+returns-in-Some-clause-full g c = λ full.
+    let plan : Plan = record { processes = c.n-processes.result; turns = c.args.turns; scripts = c.args.scripts } in
+    let new = fresh c.in-Ok-open.shared c.args.setup plan _ _ _ c.in-Ok.ensures.opened (omega arith) c.in-Ok-open.ensures.opened in
+    let rans = c.in_ok-rans.rans in
+    let before = c.in-Ok-open.seats in
+    let seats = c.in_ok-seats.seats in
+    let got = c.in_ok-seats.ensures in
+    let why = c.in-Some.fault in
+    let least : IsOfLeastSeat why rans.items = subst (IsOfLeastSeat why) c.as_slice.ensures.value c.in-Some.ensures in
+    let many : length rans.items ≡ seats_of plan = omega (arith, c.in_ok-rans.ensures.count, new.many, rans.ok.0, before.ok.0) in
+    let long : length seats.items ≡ length rans.items = omega (arith, got.count.0, seats.ok.0, rans.ok.0) in
+    let same : why ≡ fault.JournalFull = same_fault (Err why) (Err fault.JournalFull) why fault.JournalFull refl refl full in
+    let met = met_full least.its.seat.number least.its.end (least.has ∙ ap (λ (f : RaceFault). Some f) same) in
+    let final = c.finish-control.result in
+    let so_far = under_way c.in-Ok-open.shared plan c.args.setup final before.items rans.items least.its c.n-processes.ensures.value new many c.in_ok-rans.ensures.each seats.items long got.seats c.finish-control.ensures c.n-processes.ensures.ranges.processes.0 c.journal.ensures.seats in
+    let whole =
+    full_at c.in-Ok-open.shared plan c.args.setup final before.items rans.items least.its c.n-processes.ensures.value new many c.in_ok-rans.ensures.each seats.items long got.seats c.finish-control.ensures least.place least.within (ap (λ (r : Ran). r.end) least.at ∙ met) c.journal.ensures.limit in
+    (final, so_far, whole)

@@ -3,7 +3,7 @@ use Rattle.std.specs.declared.thread.PromisedHandle.{PromisedHandle}
 use Rattle.cdb_race.specs.Plans.{IsReady}
 use Rattle.cdb_race.specs.Promises.{IsPromise}
 use Rattle.cdb_race.specs.declared.worker.Ran.{Ran}
-use Rattle.cdb_race.specs.declared.worker.Runs.{Runs}
+use Rattle.cdb_race.specs.declared.worker.SeatPromise.{SeatPromise}
 use Rattle.cdb_shared.specs.Seats.{SeatView}
 use Rattle.cdb_race.proofs.Ends.{each_front, each_push, get_or-middle}
 use Rattle.cdb_race.proofs.threads.start_all.Goals as goal
@@ -30,7 +30,7 @@ loop-seat-preserved g c =
       each = λ k before handle low.
           let here : seat ≡ get_or all (vec_len c.args.seats - 1 - length c.loop-seat.handles.items) before = sym (get_or-middle front was.left.0 all seat before _ whole place) in
           let one = subst (λ (s : SeatView). IsPromise plan s c.in_ok-handle.handle.promise) here c.in_ok-handle.ensures.promise in
-          each_push (λ (i : ℕ) (h : PromisedHandle Ran Runs). IsPromise plan (get_or all (vec_len c.args.seats - 1 - i) before) h.promise) c.loop-seat.handles.items c.push_reserved.new.self.items c.in_ok-handle.handle c.push_reserved.ensures.items
+          each_push (λ (i : ℕ) (h : PromisedHandle Ran SeatPromise). IsPromise plan (get_or all (vec_len c.args.seats - 1 - i) before) h.promise) c.loop-seat.handles.items c.push_reserved.new.self.items c.in_ok-handle.handle c.push_reserved.ensures.items
           (λ i h below. was.each i before h (omega (arith, handles))) one k handle (omega (arith, c.push_reserved.new.self.ok.0));
     }
 

@@ -1,12 +1,13 @@
-use Rattle.std.proofs.Common.{◌≡◌, ℕ, suc, ◌+◌, ◌-◌, ◌<◌, ◌≤◌, List, length, refl, sym, ap, ◌∙◌, subst, true≢false, arith, Some}
+use Rattle.std.proofs.Common.{◌≡◌, ℕ, suc, ◌+◌, ◌-◌, ◌<◌, ◌≤◌, List, length, refl, sym, ap, ◌∙◌, subst, true≢false, arith}
 use Rattle.std.proofs.lemmas.Option.{same_Some, slice_get_read, slice_get_within}
+use Rattle.cdb_base.specs.Event.{is_step_of}
 use Rattle.cdb_base.specs.declared.event.Event.{Event}
 use Rattle.cdb_causal.proofs.Walks.{below_or_at}
 use Rattle.cdb_record.specs.Taken.{IsStepOf, IsLastStepOf}
 use Rattle.cdb_record.proofs.records.last_of.Goals as goal
 
 pub loop-i-init : goal.loop-i-init
-loop-i-init c = λ k low step. let within = slice_get_within c.as_slice-events.result.now k _ step.2 in omega (arith, low, within)
+loop-i-init c = λ k low step. let within = slice_get_within c.as_slice-events.result.now k step.0 step.1 in omega (arith, low, within)
 
 pub loop-i-preserved : goal.loop-i-preserved
 loop-i-preserved c =
@@ -21,7 +22,7 @@ loop-i-preserved c =
     (λ above. c.loop-i.invariant k above step)
     (λ is.
     let there = subst (λ m. IsStepOf events c.args.p m) is step in
-    true≢false (sym (c.is_step_of.ensures.1 (there.0, there.1, same_Some _ _ (sym at ∙ there.2))) ∙ c.if-is_step_of.false))
+    true≢false (sym there.2 ∙ ap (is_step_of c.args.p) (same_Some _ _ (sym there.1 ∙ at)) ∙ sym c.is_step_of.ensures ∙ c.if-is_step_of.false))
 
 pub returns-then-is_step_of : goal.returns-then-is_step_of
 returns-then-is_step_of c =
@@ -32,8 +33,7 @@ returns-then-is_step_of c =
     let within : i < length events = omega (arith, before, test) in
     let at = slice_get_read events (length events) i c.index-events-i.result refl within c.index-events-i.is in
     let back : i ≡ (i + 1) - 1 = omega arith in
-    let step = c.is_step_of.ensures.0 c.if-is_step_of.true in
-    let here : IsStepOf events c.args.p i = (step.0, step.1, at ∙ ap Some step.2) in
+    let here : IsStepOf events c.args.p i = (c.index-events-i.result, at, sym c.is_step_of.ensures ∙ c.if-is_step_of.true) in
     let most : (j : ℕ) → IsStepOf events c.args.p j → j ≤ i = λ j other. not_above i j (λ above. c.loop-i.invariant j above other) (omega (arith, test)) in
     let last : IsLastStepOf events c.args.p i = (here, most) in
     (omega arith, subst (λ l. IsLastStepOf l c.args.p (i + 1 - 1)) c.as_slice-events.ensures.events (subst (IsLastStepOf events c.args.p) back last))

@@ -1,8 +1,8 @@
 use Rattle.std.proofs.Common.{◌≡◌, true, rules, arith}
 use Rattle.std.proofs.lemmas.Grind.{common_steps}
 use Rattle.std.proofs.lemmas.Iterator.Consumers.{YieldsList-from_filter, YieldsList-from_first}
+use Rattle.cdb_base.specs.Event.{is_step_of}
 use Rattle.cdb_run.specs.OwnSteps.{noted, no_writes}
-use Rattle.cdb_run.specs.Undo.{is_step_of}
 use Rattle.cdb_run.specs.contracts.own_steps.OwnEventPartialEq.TheImpl as compared
 use Rattle.cdb_run.specs.declared.own_steps.OwnEvent.{OwnEvent}
 use Rattle.cdb_run.proofs.Compared.{answered_eq}

@@ -1,7 +1,7 @@
 use Rattle.std.proofs.Common.{arith, ◌≤◌, ◌++◌, length, get_or, option_to_list, sym, ap, subst, ◌∙◌, append-nil}
 use Rattle.cdb_run.proofs.Lawful.{few_registers}
 use Rattle.cdb_run.specs.Algorithms.{rules as rules_of_setup}
-use Rattle.cdb_run.specs.Current.{Standing}
+use Rattle.cdb_run.specs.Current.{RunView}
 use Rattle.cdb_setup.specs.Parts.{AreInRange}
 use Rattle.cdb_control.proofs.Cells.{one-more, all-cells, number_at}
 use Rattle.cdb_control.proofs.any_run.RunOfSetupRuns.cells.Goals as goal
@@ -25,7 +25,7 @@ returns c =
     let now = c.args.self.now in
     let registers = (rules_of_setup now.setup).registers now.history in
     let cells = c.loop-p.cells.items in
-    let range : AreInRange now.setup = subst (λ (s : Standing). AreInRange s.setup) c.self.view_is (subst AreInRange c.setup.ensures c.n-ranges.ensures.ranges) in
+    let range : AreInRange now.setup = subst (λ (s : RunView). AreInRange s.setup) c.self.view_is (subst AreInRange c.setup.ensures c.n-ranges.ensures.ranges) in
     let fewer = few_registers now.setup range now.history in
     let few : length registers.of_processes ≤ c.loop-p.p-index = omega (arith, fewer, range.processes, c.loop-p-test.false) in
     let all = all-cells registers c.loop-p.p-index c.cell-2.result cells few c.cell-2.ensures c.loop-p.invariant in

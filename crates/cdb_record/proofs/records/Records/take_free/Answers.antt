@@ -1,4 +1,5 @@
 use Rattle.std.proofs.Common.{◌≡◌, ℕ, ◌-◌, ◌≤◌, ◌↔◌, List, length, get_or, refl, ap, ◌∙◌, subst, arith}
+use Rattle.std.proofs.lemmas.List.{length-map}
 use Rattle.std.proofs.lemmas.Option.{slice_get_read}
 use Rattle.cdb_base.specs.declared.event.Event.{Event}
 use Rattle.cdb_causal.specs.Causality.{IsFree}
@@ -7,7 +8,7 @@ use Rattle.cdb_record.specs.Accounts.{AreAccounts}
 use Rattle.cdb_record.specs.Entries.{events_of}
 use Rattle.cdb_record.specs.declared.accounts.Account.{Account}
 use Rattle.cdb_record.proofs.Free.{place_free}
-use Rattle.cdb_record.proofs.Seams.{before_nth, length-map}
+use Rattle.cdb_record.proofs.Seams.{before_nth}
 use Rattle.cdb_record.proofs.records.Records.take_free.Goals as goal
 
 counted : (history seen : List Event) (accounts : List Account) (at : ℕ) (account : Account) → AreAccounts history accounts → history ≡ seen → 1 ≤ at → at ≤ length seen → account ≡ get_or accounts (at - 1) account → (account.count ≡ 0) ↔ IsFree depends seen (at - 1)
@@ -20,7 +21,7 @@ counted history seen accounts at account are same from_one to_len read =
 pub returns-then-index-gt0 : goal.returns-then-index-gt0
 returns-then-index-gt0 g c =
     let seen = c.self.invariant.0 ∙ ap events_of c.self.view_is in
-    let mapped = length-map (λ entry. entry.event) c.args.self.now in
+    let mapped = length-map c.args.self.now (λ entry. entry.event) in
     let to_len = c.requires.to_len in
     let is = counted c.self.inside.history (events_of c.args.self.now) c.self.inside.accounts.items c.args.at c.index.result.now c.self.invariant.1 seen c.requires.from_one (omega (arith, mapped, to_len)) c.index.ensures in
     ((λ free. let zeros = is.1 free in let some = c.if-index-gt0.true in omega (arith, zeros, some)), refl)
@@ -28,7 +29,7 @@ returns-then-index-gt0 g c =
 pub take_out-requires-clause-free : goal.take_out-requires-clause-free
 take_out-requires-clause-free g c =
     let seen = c.self.invariant.0 ∙ ap events_of c.self.view_is in
-    let mapped = length-map (λ entry. entry.event) c.args.self.now in
+    let mapped = length-map c.args.self.now (λ entry. entry.event) in
     let to_len = c.requires.to_len in
     let is = counted c.self.inside.history (events_of c.args.self.now) c.self.inside.accounts.items c.args.at c.index.result.now c.self.invariant.1 seen c.requires.from_one (omega (arith, mapped, to_len)) c.index.ensures in
     let none = c.if-index-gt0.false in
@@ -37,7 +38,7 @@ take_out-requires-clause-free g c =
 pub returns : goal.returns
 returns g c =
     let seen = c.self.invariant.0 ∙ ap events_of c.self.view_is in
-    let mapped = length-map (λ entry. entry.event) c.args.self.now in
+    let mapped = length-map c.args.self.now (λ entry. entry.event) in
     let to_len = c.requires.to_len in
     let is = counted c.self.inside.history (events_of c.args.self.now) c.self.inside.accounts.items c.args.at c.index.result.now c.self.invariant.1 seen c.requires.from_one (omega (arith, mapped, to_len)) c.index.ensures in
     let none = c.if-index-gt0.false in

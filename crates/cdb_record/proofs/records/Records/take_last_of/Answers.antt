@@ -1,10 +1,11 @@
 use Rattle.std.proofs.Common.{◌≡◌, ℕ, ◌-◌, length, MatchOption, refl, sym, ap, ◌∙◌, subst, arith}
+use Rattle.std.proofs.lemmas.List.{length-map}
 use Rattle.std.proofs.lemmas.Option.{slice_get_within}
 use Rattle.cdb_causal.specs.Causality.{IsFree}
 use Rattle.cdb_causal.specs.Dependence.{depends}
 use Rattle.cdb_record.specs.Entries.{events_of}
 use Rattle.cdb_record.specs.Taken.{IsStepOf, IsLastStepOf, IsTakenOut}
-use Rattle.cdb_record.proofs.Seams.{length-map, matched}
+use Rattle.cdb_record.proofs.Seams.{matched}
 use Rattle.cdb_record.proofs.records.Records.take_last_of.Goals as goal
 
 pub returns-in_err-at : goal.returns-in_err-at
@@ -17,9 +18,9 @@ returns-in_err-at g c =
 pub take_free-requires-clause-to_len : goal.take_free-requires-clause-to_len
 take_free-requires-clause-to_len g c =
     let seen = c.self.invariant.0 ∙ ap events_of c.self.view_is in
-    let within = slice_get_within c.self.inside.history (c.in_ok-at.at - 1) _ c.in_ok-at.ensures.1.0.2 in
+    let within = slice_get_within c.self.inside.history (c.in_ok-at.at - 1) c.in_ok-at.ensures.1.0.0 c.in_ok-at.ensures.1.0.1 in
     let same = ap length seen in
-    let mapped = length-map (λ entry. entry.event) c.args.self.now in
+    let mapped = length-map c.args.self.now (λ entry. entry.event) in
     omega (arith, within, same, mapped)
 
 pub returns : goal.returns

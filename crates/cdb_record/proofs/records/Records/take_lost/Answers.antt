@@ -1,4 +1,5 @@
 use Rattle.std.proofs.Common.{◌≡◌, ℕ, ◌-◌, length, MatchOption, refl, sym, ap, ◌∙◌, subst, arith}
+use Rattle.std.proofs.lemmas.List.{length-map}
 use Rattle.std.proofs.lemmas.Option.{slice_get_within}
 use Rattle.cdb_base.specs.declared.name.StepId.TheVariants as named
 use Rattle.cdb_causal.specs.Causality.{IsFree}
@@ -6,7 +7,7 @@ use Rattle.cdb_causal.specs.Dependence.{depends}
 use Rattle.cdb_causal.specs.Names.{IsNamedAt, IsNewName, IsPlaceOf}
 use Rattle.cdb_record.specs.Entries.{events_of}
 use Rattle.cdb_record.specs.Taken.{IsTakenOut}
-use Rattle.cdb_record.proofs.Seams.{length-map, matched}
+use Rattle.cdb_record.proofs.Seams.{matched}
 use Rattle.cdb_record.proofs.records.Records.take_lost.Goals as goal
 
 pub returns-in_err-at : goal.returns-in_err-at
@@ -22,7 +23,7 @@ take_free-requires-clause-to_len g c =
     let place = c.in_ok-at.ensures in
     let within = slice_get_within c.self.inside.history (c.in_ok-at.at - 1) place.named.0 place.named.1 in
     let same = ap length seen in
-    let mapped = length-map (λ entry. entry.event) c.args.self.now in
+    let mapped = length-map c.args.self.now (λ entry. entry.event) in
     omega (arith, within, same, mapped)
 
 pub returns : goal.returns

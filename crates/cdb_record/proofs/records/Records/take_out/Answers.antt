@@ -7,9 +7,10 @@ use Rattle.cdb_causal.specs.Dependence.{depends}
 use Rattle.cdb_causal.specs.Rollback.{without}
 use Rattle.cdb_causal.proofs.Lists.{remove-without, nth_before}
 use Rattle.cdb_record.specs.Accounts.{AreAccounts}
-use Rattle.cdb_record.specs.Changes.{IsNamedByOne, AreDifferent, AreChanged}
+use Rattle.cdb_record.specs.Changes.{IsNamedByOne, AreDifferent, AreChanged, changed_by}
 use Rattle.cdb_record.specs.Entries.{events_of}
 use Rattle.cdb_record.specs.declared.accounts.Account.{Account}
+use Rattle.cdb_record.specs.declared.accounts.Change.TheVariants.{Lower}
 use Rattle.cdb_record.proofs.Adding.{names_different}
 use Rattle.cdb_record.proofs.Seams.{moved, before_nth, written_back}
 use Rattle.cdb_record.proofs.TakingOut.{taken_out, some_counted, names_within, events_without}
@@ -21,8 +22,8 @@ account_at history accounts i gone account are at is =
     let same = are.same_length in
     slice_get_read accounts (length accounts) i account refl (omega (arith, within, same)) is
 
-pub lower-requires-clause-different : goal.lower-requires-clause-different
-lower-requires-clause-different g c =
+pub change_counts-requires-clause-different : goal.change_counts-requires-clause-different
+change_counts-requires-clause-different g c =
     let history : List Event = c.self.inside.history in
     let i : ℕ = c.args.at - 1 in
     let are = c.self.invariant.1 in
@@ -30,8 +31,8 @@ lower-requires-clause-different g c =
     let at_account = account_at history c.self.inside.accounts.items i c.remove.result c.remove-account.result are at c.remove-account.ensures.value in
     subst AreDifferent (sym c.deref.ensures) (names_different history i c.remove-account.result.causes.items (are.causes i c.remove-account.result at_account))
 
-pub lower-requires-clause-within : goal.lower-requires-clause-within
-lower-requires-clause-within g c =
+pub change_counts-requires-clause-within : goal.change_counts-requires-clause-within
+change_counts-requires-clause-within g c =
     let history : List Event = c.self.inside.history in
     let accounts : List Account = c.self.inside.accounts.items in
     let account : Account = c.remove-account.result in
@@ -44,8 +45,8 @@ lower-requires-clause-within g c =
     (sym c.remove.ensures.rest) (sym (c.deref_mut.ensures.value ∙ c.remove-account.ensures.items ∙ remove-without accounts i)) (sym c.deref.ensures)
     (names_within history accounts i c.remove.result account at at_account free are)
 
-pub lower-requires-clause-counted : goal.lower-requires-clause-counted
-lower-requires-clause-counted g c =
+pub change_counts-requires-clause-room : goal.change_counts-requires-clause-room
+change_counts-requires-clause-room g c =
     let history : List Event = c.self.inside.history in
     let accounts : List Account = c.self.inside.accounts.items in
     let account : Account = c.remove-account.result in
@@ -68,11 +69,11 @@ invariant_of-self g c =
     let at = before_nth history c.args.at c.remove.result c.requires.from_one c.remove.ensures.event in
     let at_account = account_at history accounts i c.remove.result account are at c.remove-account.ensures.value in
     let free = subst (λ l. IsFree depends l i) (sym (c.self.invariant.0 ∙ ap events_of c.self.view_is)) c.requires.free in
-    let lowered : List Account = c.lower.new.accounts in
-    let changed = moved (λ left mid names. AreChanged (λ count. count - 1) left names (length names) mid lowered)
-    c.remove.ensures.rest (c.deref_mut.ensures.value ∙ c.remove-account.ensures.items ∙ remove-without accounts i) c.deref.ensures c.lower.ensures in
+    let lowered : List Account = c.change_counts.new.accounts in
+    let changed = moved (λ left mid names. AreChanged (changed_by Lower) left names (length names) mid lowered)
+    c.remove.ensures.rest (c.deref_mut.ensures.value ∙ c.remove-account.ensures.items ∙ remove-without accounts i) c.deref.ensures c.change_counts.ensures in
     let right = taken_out history accounts i c.remove.result account at at_account free are lowered changed in
-    let back = written_back lowered (drop (length lowered) c.remove-account.new.self.items) c.remove-account.new.self.len (c.lower.auto.accounts ∙ c.deref_mut.ensures.len) in (
+    let back = written_back lowered (drop (length lowered) c.remove-account.new.self.items) c.remove-account.new.self.len (c.change_counts.auto.accounts ∙ c.deref_mut.ensures.len) in (
       c.remove.ensures.rest ∙ ap (λ l. without l i) c.self.invariant.0 ∙ sym (events_without c.self.inside.entries.items i) ∙ ap events_of (sym (c.remove-2.ensures.items ∙ remove-without c.self.inside.entries.items i)),
       subst (AreAccounts c.remove.new.self) (sym back) (subst (λ l. AreAccounts l lowered) (sym c.remove.ensures.rest) right),
     )

@@ -1,4 +1,5 @@
 use Rattle.std.proofs.Common.{◌≡◌, ℕ, ◌+◌, ◌-◌, ◌≤◌, List, [], ◌∷◌, ◌++◌, length, ap, ◌∙◌, arith}
+use Rattle.std.proofs.lemmas.List.{length-map}
 use Rattle.std.proofs.lemmas.Grind.{common_steps}
 use Rattle.std.proofs.lemmas.Option.{slice_get_within}
 use Rattle.cdb_base.specs.declared.event.Event.{Event}
@@ -7,7 +8,7 @@ use Rattle.cdb_causal.specs.Dependence.{depends}
 use Rattle.cdb_causal.specs.Rollback.{without}
 use Rattle.cdb_causal.proofs.Dependents.{without_push_back}
 use Rattle.cdb_record.specs.Entries.{events_of}
-use Rattle.cdb_record.proofs.Seams.{before_nth, length-map, last_is, last_found}
+use Rattle.cdb_record.proofs.Seams.{before_nth, last_is, last_found}
 use Rattle.cdb_record.proofs.records.Records.withdraw.Goals as goal
 
 nothing_later : (history : List Event) (at : ℕ) → length history ≤ at → IsFree depends history (at - 1)
@@ -30,7 +31,7 @@ pub take_out-requires-clause-free : goal.take_out-requires-clause-free
 take_out-requires-clause-free g c =
     let len = c.len-last.ensures in
     let seen = ap length c.self.view_is in
-    let mapped = length-map (λ entry. entry.event) c.args.self.now in
+    let mapped = length-map c.args.self.now (λ entry. entry.event) in
     nothing_later (events_of c.args.self.now) c.len-last.result (grind (arith, len, seen, mapped, common_steps))
 
 pub returns : goal.returns

@@ -1,28 +1,28 @@
 use Rattle.std.proofs.Common.{◌≡◌, ◌↔◌, Bool, IsTrue, sym, subst}
 use Rattle.cdb_run.specs.Algorithms.{leader_machine, alpha_machine}
-use Rattle.cdb_run.specs.Any.{standing_of, IsTrueToSetup}
-use Rattle.cdb_run.specs.Current.{Standing}
+use Rattle.cdb_run.specs.Any.{run_view, IsTrueToSetup}
+use Rattle.cdb_run.specs.Current.{RunView}
 use Rattle.cdb_run.specs.SameState.{ReachSameState, ReachSameStateBy}
 use Rattle.cdb_run.specs.Step.{fold}
 use Rattle.cdb_run.specs.declared.any.AnyRun.{AnyRun}
 use Rattle.cdb_run.specs.declared.any.AnyRun.TheVariants as run_of
 use Rattle.cdb_run.proofs.any.AnyRun.same_run.Goals as goal
 
-module _ {run other : AnyRun} {stands others : Standing} {result : Bool} where
+module _ {run other : AnyRun} {stands others : RunView} {result : Bool} where
   of_leaders : IsTrueToSetup run → run ≡ run_of.Leader stands → other ≡ run_of.Leader others
       → IsTrue result ↔ (fold (leader_machine stands.setup) stands.history ≡ fold (leader_machine stands.setup) others.history)
-      → IsTrue result ↔ ReachSameState (standing_of run).setup (standing_of run).history (standing_of other).history
+      → IsTrue result ↔ ReachSameState (run_view run).setup (run_view run).history (run_view other).history
   of_leaders true_to is other_is told =
-      subst (λ (r : AnyRun). IsTrueToSetup r → IsTrue result ↔ ReachSameState (standing_of r).setup (standing_of r).history (standing_of other).history) (sym is)
-      (λ names. subst (λ (o : AnyRun). IsTrue result ↔ ReachSameState stands.setup stands.history (standing_of o).history) (sym other_is)
+      subst (λ (r : AnyRun). IsTrueToSetup r → IsTrue result ↔ ReachSameState (run_view r).setup (run_view r).history (run_view other).history) (sym is)
+      (λ names. subst (λ (o : AnyRun). IsTrue result ↔ ReachSameState stands.setup stands.history (run_view o).history) (sym other_is)
       (subst (λ algorithm. IsTrue result ↔ ReachSameStateBy algorithm stands.setup stands.history others.history) (sym names) told)) true_to
 
   of_alphas : IsTrueToSetup run → run ≡ run_of.Alpha stands → other ≡ run_of.Alpha others
       → IsTrue result ↔ (fold (alpha_machine stands.setup) stands.history ≡ fold (alpha_machine stands.setup) others.history)
-      → IsTrue result ↔ ReachSameState (standing_of run).setup (standing_of run).history (standing_of other).history
+      → IsTrue result ↔ ReachSameState (run_view run).setup (run_view run).history (run_view other).history
   of_alphas true_to is other_is told =
-      subst (λ (r : AnyRun). IsTrueToSetup r → IsTrue result ↔ ReachSameState (standing_of r).setup (standing_of r).history (standing_of other).history) (sym is)
-      (λ names. subst (λ (o : AnyRun). IsTrue result ↔ ReachSameState stands.setup stands.history (standing_of o).history) (sym other_is)
+      subst (λ (r : AnyRun). IsTrueToSetup r → IsTrue result ↔ ReachSameState (run_view r).setup (run_view r).history (run_view other).history) (sym is)
+      (λ names. subst (λ (o : AnyRun). IsTrue result ↔ ReachSameState stands.setup stands.history (run_view o).history) (sym other_is)
       (subst (λ algorithm. IsTrue result ↔ ReachSameStateBy algorithm stands.setup stands.history others.history) (sym names) told)) true_to
 
 pub returns-in-Leader-Leader-clause-state : goal.returns-in-Leader-Leader-clause-state

@@ -3,7 +3,7 @@ use Rattle.cdb_base.specs.declared.name.StepId.{StepId}
 use Rattle.cdb_base.specs.declared.name.StepId.TheVariants as named
 use Rattle.cdb_causal.specs.DirectCauses.{AreDirectCauses}
 use Rattle.cdb_message.specs.Mail.{message_name, copy_name}
-use Rattle.cdb_run.specs.Current.{Standing}
+use Rattle.cdb_run.specs.Current.{RunView}
 use Rattle.cdb_run.specs.Machines.{machine_of}
 use Rattle.cdb_run.specs.Step.{fold}
 use Rattle.cdb_run.proofs.RollingBack.{causes_answer}
@@ -25,7 +25,7 @@ returns g c =
     let few : length (machine_of process.first process.next process.wish process.place process.last_place setup).firsts ≤ 9 = omega (arith, number, inputs, most) in
     causes_answer standing.setup.processes standing.history name c.in_ok-at.at found.found found.within
     (machine_of process.first process.next process.wish process.place process.last_place standing.setup)
-    (subst (λ (s : Standing). IsSome (fold (machine_of process.first process.next process.wish process.place process.last_place s.setup) s.history)) c.self.view_is (history_valid c.self.invariant))
-    (subst (λ (s : Standing). length (machine_of process.first process.next process.wish process.place process.last_place s.setup).firsts ≤ 9) c.self.view_is few)
+    (subst (λ (s : RunView). IsSome (fold (machine_of process.first process.next process.wish process.place process.last_place s.setup) s.history)) c.self.view_is (history_valid c.self.invariant))
+    (subst (λ (s : RunView). length (machine_of process.first process.next process.wish process.place process.last_place s.setup).firsts ≤ 9) c.self.view_is few)
     c.direct_causes.result.items
     (subst (λ h. AreDirectCauses h (c.in_ok-at.at - 1) c.direct_causes.result.items) c.standing.ensures c.direct_causes.ensures)

@@ -1,5 +1,5 @@
 use Rattle.std.proofs.Common.{◌≡◌, ◌≤◌, List, length, map, IfOk, ap, ◌∙◌, subst, arith}
-use Rattle.cdb_run.specs.Current.{Standing}
+use Rattle.cdb_run.specs.Current.{RunView}
 use Rattle.cdb_run.specs.Decisions.{decided_from, decisions_of}
 use Rattle.cdb_run.specs.Machines.{machine_of}
 use Rattle.cdb_run.specs.Step.{state_of}
@@ -24,5 +24,5 @@ returns g c =
     let shown : decided_from process.decision 1 (map (λ progress. progress.local) c.deref.result.now) ≡ decisions_of process.decision (state_of (machine_of process.first process.next process.wish process.place process.last_place c.args.self.now.setup) c.args.self.now.history) =
     ap (λ l. decided_from process.decision 1 (map (λ progress. progress.local) l)) c.deref.ensures.value
     ∙ ap (decided_from process.decision 1) (progresses_shown c.self.invariant)
-    ∙ ap (λ (s : Standing). decisions_of process.decision (state_of (machine_of process.first process.next process.wish process.place process.last_place s.setup) s.history)) c.self.view_is in
+    ∙ ap (λ (s : RunView). decisions_of process.decision (state_of (machine_of process.first process.next process.wish process.place process.last_place s.setup) s.history)) c.self.view_is in
     subst (λ (l : List _). IfOk c.decided.result (λ found. found.items ≡ l)) shown c.decided.ensures

@@ -1,5 +1,5 @@
 use Rattle.std.proofs.Common.{◌≡◌, length, ap, ◌∙◌}
-use Rattle.cdb_run.specs.Current.{Standing}
+use Rattle.cdb_run.specs.Current.{RunView}
 use Rattle.cdb_run.specs.Machines.{machine_of}
 use Rattle.cdb_run.specs.Mail.{mail_of}
 use Rattle.cdb_run.specs.Step.{state_of}
@@ -11,11 +11,11 @@ pub returns-clause-mail : goal.returns-clause-mail
 returns-clause-mail g c =
     let process = g.P.Process in
     mail_shown c.self.invariant
-    ∙ ap (λ (s : Standing). mail_of (state_of (machine_of process.first process.next process.wish process.place process.last_place s.setup) s.history)) c.self.view_is
+    ∙ ap (λ (s : RunView). mail_of (state_of (machine_of process.first process.next process.wish process.place process.last_place s.setup) s.history)) c.self.view_is
 
 pub returns-clause-receivers : goal.returns-clause-receivers
 returns-clause-receivers g c =
     let setup = c.self.inside.setup in
     let inputs : length setup.inputs ≡ setup.processes = c.n-ranges.ensures.ranges.an_input_each in
     receivers_shown c.self.invariant ∙ length-first_states g.P.Process.first 1 setup.processes setup.quorum setup.inputs ∙ inputs
-    ∙ ap (λ (s : Standing). s.setup.processes) c.self.view_is
+    ∙ ap (λ (s : RunView). s.setup.processes) c.self.view_is

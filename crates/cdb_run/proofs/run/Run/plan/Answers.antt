@@ -1,6 +1,6 @@
 use Rattle.std.proofs.Common.{rules, ◌≡◌, ◌<◌, ◌≤◌, length, false, Result, Ok, Err, ap, ◌∙◌, sym, subst, refl, IfOk, IsSome, arith}
 use Rattle.std.proofs.lemmas.Grind.{common_steps}
-use Rattle.cdb_run.specs.Current.{Standing}
+use Rattle.cdb_run.specs.Current.{RunView}
 use Rattle.cdb_run.specs.Machines.{machine_of}
 use Rattle.cdb_run.specs.Refusals.{step_answer}
 use Rattle.cdb_run.specs.Step.{after, state_of, is_among}
@@ -15,9 +15,9 @@ returns-in_default-clause-answer g c =
     let setup = c.self.inside.setup in
     let inputs : length setup.inputs ≡ setup.processes = c.n-ranges.ensures.ranges.an_input_each in
     let number = length-first_states process.first 1 setup.processes setup.quorum setup.inputs ∙ inputs in
-    let none = subst (λ (s : Standing). is_among s.setup.processes c.args.p ≡ false) (sym c.self.view_is) c.in_default.ensures.number in
+    let none = subst (λ (s : RunView). is_among s.setup.processes c.args.p ≡ false) (sym c.self.view_is) c.in_default.ensures.number in
     plan_absent c.self.invariant setup.processes number c.args.p setup c.args.act none
-    ∙ ap (λ (s : Standing). let machine = machine_of process.first process.next process.wish process.place process.last_place s.setup in step_answer machine s.setup (state_of machine s.history) c.args.p c.args.act) c.self.view_is
+    ∙ ap (λ (s : RunView). let machine = machine_of process.first process.next process.wish process.place process.last_place s.setup in step_answer machine s.setup (state_of machine s.history) c.args.p c.args.act) c.self.view_is
 
 pub index-progress-requires : goal.index-progress-requires
 index-progress-requires g c =
@@ -26,7 +26,7 @@ index-progress-requires g c =
     let inputs : length setup.inputs ≡ setup.processes = c.n-ranges.ensures.ranges.an_input_each in
     let number = length-first_states process.first 1 setup.processes setup.quorum setup.inputs ∙ inputs in
     let last : c.in-Some.process ≤ setup.processes = (
-    let shown : c.args.p ≤ setup.processes = subst (λ (s : Standing). c.args.p ≤ s.setup.processes) (sym c.self.view_is) c.in-Some.ensures.number.1 in
+    let shown : c.args.p ≤ setup.processes = subst (λ (s : RunView). c.args.p ≤ s.setup.processes) (sym c.self.view_is) c.in-Some.ensures.number.1 in
     subst (λ q. q ≤ setup.processes) (sym c.in-Some.ensures.number.0) shown) in
     let below : c.index.result < length c.self.inside.processes.items = index_below c.self.invariant setup.processes number c.index.result c.in-Some.process c.index.ensures.value last in
     first_of (search (rules, below), grind (arith, below, common_steps))
@@ -38,7 +38,7 @@ plan-requires-clause-among g c =
     let inputs : length setup.inputs ≡ setup.processes = c.n-ranges.ensures.ranges.an_input_each in
     let number = length-first_states process.first 1 setup.processes setup.quorum setup.inputs ∙ inputs in
     let last : c.in-Some.process ≤ setup.processes = (
-    let shown : c.args.p ≤ setup.processes = subst (λ (s : Standing). c.args.p ≤ s.setup.processes) (sym c.self.view_is) c.in-Some.ensures.number.1 in
+    let shown : c.args.p ≤ setup.processes = subst (λ (s : RunView). c.args.p ≤ s.setup.processes) (sym c.self.view_is) c.in-Some.ensures.number.1 in
     subst (λ q. q ≤ setup.processes) (sym c.in-Some.ensures.number.0) shown) in
     receives_shown c.self.invariant setup.processes number c.index.result c.in-Some.process c.index-progress.result.now c.index.ensures.value last c.index-progress.ensures
 
@@ -49,7 +49,7 @@ plan-requires-clause-queries g c =
     let inputs : length setup.inputs ≡ setup.processes = c.n-ranges.ensures.ranges.an_input_each in
     let number = length-first_states process.first 1 setup.processes setup.quorum setup.inputs ∙ inputs in
     let last : c.in-Some.process ≤ setup.processes = (
-    let shown : c.args.p ≤ setup.processes = subst (λ (s : Standing). c.args.p ≤ s.setup.processes) (sym c.self.view_is) c.in-Some.ensures.number.1 in
+    let shown : c.args.p ≤ setup.processes = subst (λ (s : RunView). c.args.p ≤ s.setup.processes) (sym c.self.view_is) c.in-Some.ensures.number.1 in
     subst (λ q. q ≤ setup.processes) (sym c.in-Some.ensures.number.0) shown) in
     queries_shown c.self.invariant setup.processes number c.index.result c.in-Some.process c.index-progress.result.now c.index.ensures.value last c.index-progress.ensures
 
@@ -60,10 +60,10 @@ returns-clause-answer g c =
     let inputs : length setup.inputs ≡ setup.processes = c.n-ranges.ensures.ranges.an_input_each in
     let number = length-first_states process.first 1 setup.processes setup.quorum setup.inputs ∙ inputs in
     let last : c.in-Some.process ≤ setup.processes = (
-    let shown : c.args.p ≤ setup.processes = subst (λ (s : Standing). c.args.p ≤ s.setup.processes) (sym c.self.view_is) c.in-Some.ensures.number.1 in
+    let shown : c.args.p ≤ setup.processes = subst (λ (s : RunView). c.args.p ≤ s.setup.processes) (sym c.self.view_is) c.in-Some.ensures.number.1 in
     subst (λ q. q ≤ setup.processes) (sym c.in-Some.ensures.number.0) shown) in
     plan_shown c.self.invariant setup.processes number c.index.result c.in-Some.process c.index-progress.result.now c.index.ensures.value last c.index-progress.ensures setup c.args.act c.plan.result c.plan.ensures
-    ∙ ap (λ (s : Standing). let machine = machine_of process.first process.next process.wish process.place process.last_place s.setup in step_answer machine s.setup (state_of machine s.history) c.in-Some.process c.args.act) c.self.view_is
+    ∙ ap (λ (s : RunView). let machine = machine_of process.first process.next process.wish process.place process.last_place s.setup in step_answer machine s.setup (state_of machine s.history) c.in-Some.process c.args.act) c.self.view_is
     ∙ ap (λ p. let machine = machine_of process.first process.next process.wish process.place process.last_place c.args.self.now.setup in step_answer machine c.args.self.now.setup (state_of machine c.args.self.now.history) p c.args.act) c.in-Some.ensures.number.0
 
 if_ok : {A E : Type 0} (r : Result A E) (P : A → Type 0) → ((a : A) → r ≡ Ok a → P a) → IfOk r P
@@ -80,6 +80,6 @@ returns-clause-enabled g c =
     let lawful : IsLawful (machine_of process.first process.next process.wish process.place process.last_place setup) = record { query = laws.query_by_state; recv = laws.recv_by_state; send = laws.wish_send; write = laws.wish_write } in
     let answered = returns-clause-answer g c in
     if_ok c.plan.result _ (λ event is.
-    subst (λ (s : Standing). let machine = machine_of process.first process.next process.wish process.place process.last_place s.setup in IsSome (after machine (state_of machine s.history) event)) c.self.view_is
+    subst (λ (s : RunView). let machine = machine_of process.first process.next process.wish process.place process.last_place s.setup in IsSome (after machine (state_of machine s.history) event)) c.self.view_is
     (answer_enabled c.self.invariant setup number c.n-ranges.ensures.ranges lawful c.args.p c.args.act event
-    (ap (λ (s : Standing). let machine = machine_of process.first process.next process.wish process.place process.last_place s.setup in step_answer machine s.setup (state_of machine s.history) c.args.p c.args.act) c.self.view_is ∙ sym answered ∙ is)))
+    (ap (λ (s : RunView). let machine = machine_of process.first process.next process.wish process.place process.last_place s.setup in step_answer machine s.setup (state_of machine s.history) c.args.p c.args.act) c.self.view_is ∙ sym answered ∙ is)))

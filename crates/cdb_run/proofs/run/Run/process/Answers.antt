@@ -1,6 +1,6 @@
 use Rattle.std.proofs.Common.{◌≡◌, ◌≤◌, length, None, false, MatchOption, ◌∙◌, ap, subst}
 use Rattle.cdb_base.specs.Places.{nth}
-use Rattle.cdb_run.specs.Current.{Standing}
+use Rattle.cdb_run.specs.Current.{RunView}
 use Rattle.cdb_run.specs.Machines.{machine_of}
 use Rattle.cdb_run.specs.Step.{is_among, state_of}
 use Rattle.cdb_run.proofs.Finding.{among_some, among_none}
@@ -11,7 +11,7 @@ use Rattle.cdb_run.proofs.run.Run.process.Goals as goal
 pub returns-clause-number : goal.returns-clause-number
 returns-clause-number g c =
     subst (λ n. MatchOption c.process_among.result (is_among n c.args.p ≡ false) (λ q. (q ≡ c.args.p) × (c.args.p ≤ n) × (1 ≤ c.args.p)))
-    (c.n.ensures.value ∙ ap (λ (s : Standing). s.setup.processes) c.self.view_is)
+    (c.n.ensures.value ∙ ap (λ (s : RunView). s.setup.processes) c.self.view_is)
     (among_some c.n.result c.args.p c.process_among.result c.process_among.ensures)
 
 pub returns-clause-none : goal.returns-clause-none
@@ -21,5 +21,5 @@ returns-clause-none g c =
     let inputs : length setup.inputs ≡ setup.processes = c.n.ensures.ranges.an_input_each in
     let number = length-first_states process.first 1 setup.processes setup.quorum setup.inputs ∙ inputs in
     among_none c.n.result c.args.p c.process_among.result c.process_among.ensures
-    (λ absent. subst (λ (s : Standing). nth (state_of (machine_of process.first process.next process.wish process.place process.last_place s.setup) s.history).processes c.args.p ≡ None) c.self.view_is
+    (λ absent. subst (λ (s : RunView). nth (state_of (machine_of process.first process.next process.wish process.place process.last_place s.setup) s.history).processes c.args.p ≡ None) c.self.view_is
     (process_none c.self.invariant setup.processes number c.args.p (subst (λ m. is_among m c.args.p ≡ false) c.n.ensures.value absent)))

@@ -5,7 +5,7 @@ use Rattle.cdb_base.specs.declared.event.Event.{Event}
 use Rattle.cdb_base.specs.declared.name.StepId.{StepId}
 use Rattle.cdb_causal.specs.Dependence.{depends}
 use Rattle.cdb_causal.specs.Rollback.{without, consequences}
-use Rattle.cdb_run.specs.Current.{Standing}
+use Rattle.cdb_run.specs.Current.{RunView}
 use Rattle.cdb_run.proofs.Finding.{place_before}
 use Rattle.cdb_run.proofs.RollingBack.{IsLeft, stands_at, left_first, number_left, next_free, alone_left}
 use Rattle.cdb_run.proofs.run.Run.roll_back.Goals as goal
@@ -55,9 +55,9 @@ loop-name-preserved g c =
     let room = c.loop-name.invariant.room in
     let kept = c.loop-name.invariant.kept in
     record {
-      setup = ap (λ (s : Standing). s.setup) after ∙ c.loop-name.invariant.setup;
+      setup = ap (λ (s : RunView). s.setup) after ∙ c.loop-name.invariant.setup;
       left =
-          subst (λ (h : List Event). IsLeft history i into h names c.push_reserved.new.events.items) (sym (ap (λ (s : Standing). s.history) after))
+          subst (λ (h : List Event). IsLeft history i into h names c.push_reserved.new.events.items) (sym (ap (λ (s : RunView). s.history) after))
           (subst (λ (l : List Event). IsLeft history i into (without c.loop-name.self.history next.0) names l) (sym pushed.items) (next.3 c.take_back_named-event.result (taken.event next.0 next.1)));
       kept = omega (arith, same_room, kept);
       room = omega (arith, longer, same_room, fewer, room, length-append names (c.in-Some.name ∷ []));

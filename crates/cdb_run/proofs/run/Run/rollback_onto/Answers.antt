@@ -2,11 +2,11 @@ use Rattle.std.proofs.Common.{List, refl, ap, ◌∙◌}
 use Rattle.cdb_base.specs.declared.event.Event.{Event}
 use Rattle.cdb_base.specs.declared.name.StepId.{StepId}
 use Rattle.cdb_base.specs.declared.name.StepId.TheVariants as named
-use Rattle.cdb_run.specs.Current.{Standing}
+use Rattle.cdb_run.specs.Current.{RunView}
 use Rattle.cdb_run.proofs.RollingBack.{number_answer, history_answer, list_answer}
 use Rattle.cdb_run.proofs.run.Run.rollback_onto.Goals as goal
 
-abbrev with_history : Standing → List Event → Standing
+abbrev with_history : RunView → List Event → RunView
 with_history standing history = record standing { history = history }
 
 pub returns-in_ok-roll_back-in-Ok-clause-answer : goal.returns-in_ok-roll_back-in-Ok-clause-answer

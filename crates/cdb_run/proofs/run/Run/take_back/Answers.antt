@@ -1,4 +1,5 @@
 use Rattle.std.proofs.Common.{rules, ◌≡◌, ◌-◌, ◌<◌, ◌≤◌, length, Some, List, sym, ap, ap₂, ◌∙◌, subst, arith}
+use Rattle.std.proofs.lemmas.List.{length-map}
 use Rattle.std.proofs.lemmas.Grind.{common_steps}
 use Rattle.cdb_base.specs.Places.{nth}
 use Rattle.cdb_causal.specs.Causality.{IsFree}
@@ -6,9 +7,9 @@ use Rattle.cdb_causal.specs.Dependence.{depends}
 use Rattle.cdb_causal.specs.Rollback.{without}
 use Rattle.cdb_base.specs.declared.event.Event.{Event}
 use Rattle.cdb_record.specs.Entries.{events_of}
-use Rattle.cdb_record.proofs.Seams.{before_nth, length-map}
+use Rattle.cdb_record.proofs.Seams.{before_nth}
 use Rattle.cdb_record.proofs.TakingOut.{events_without}
-use Rattle.cdb_run.specs.Current.{Standing}
+use Rattle.cdb_run.specs.Current.{RunView}
 use Rattle.cdb_setup.specs.Parts.{Parts}
 use Rattle.cdb_run.proofs.Admitting.{nth_events}
 use Rattle.cdb_run.proofs.Restoring.{stepped_within, stepped_there, may_unpost, may_restore, may_count_back, current_undone, is_lost_now, current_found}
@@ -17,18 +18,18 @@ use Rattle.cdb_run.proofs.run.Run.take_back.Goals.{in-Some-1, in-None-1}
 
 pub take_out-back-requires-clause-to_len : goal.take_out-back-requires-clause-to_len
 take_out-back-requires-clause-to_len g c =
-    let same = ap (λ (s : Standing). s.history) c.self.view_is in
+    let same = ap (λ (s : RunView). s.history) c.self.view_is in
     let to_len = subst (λ h. c.args.at ≤ length h) (sym same) c.requires.to_len in
-    let mapped = length-map (λ entry. entry.event) c.self.inside.records in
+    let mapped = length-map c.self.inside.records (λ entry. entry.event) in
     omega (arith, to_len, mapped)
 
 pub take_out-back-requires-clause-free : goal.take_out-back-requires-clause-free
-take_out-back-requires-clause-free g c = subst (λ (s : Standing). IsFree depends s.history (c.args.at - 1)) (sym c.self.view_is) c.requires.free
+take_out-back-requires-clause-free g c = subst (λ (s : RunView). IsFree depends s.history (c.args.at - 1)) (sym c.self.view_is) c.requires.free
 
 pub index_mut-progress-requires : goal.index_mut-progress-requires
 index_mut-progress-requires g c =
     let i = c.args.at - 1 in
-    let same = ap (λ (s : Standing). s.history) c.self.view_is in
+    let same = ap (λ (s : RunView). s.history) c.self.view_is in
     let first = c.requires.from_one in
     let free = subst (λ h. IsFree depends h i) (sym same) c.requires.free in
     let entry = c.take_out-back.result in
@@ -45,7 +46,7 @@ index_mut-progress-requires g c =
 pub change_back-requires-clause-countable : goal.change_back-requires-clause-countable
 change_back-requires-clause-countable g c =
     let i = c.args.at - 1 in
-    let same = ap (λ (s : Standing). s.history) c.self.view_is in
+    let same = ap (λ (s : RunView). s.history) c.self.view_is in
     let first = c.requires.from_one in
     let free = subst (λ h. IsFree depends h i) (sym same) c.requires.free in
     let entry = c.take_out-back.result in
@@ -61,7 +62,7 @@ change_back-requires-clause-countable g c =
 pub change_back-requires-clause-unpostable : goal.change_back-requires-clause-unpostable
 change_back-requires-clause-unpostable g c =
     let i = c.args.at - 1 in
-    let same = ap (λ (s : Standing). s.history) c.self.view_is in
+    let same = ap (λ (s : RunView). s.history) c.self.view_is in
     let first = c.requires.from_one in
     let free = subst (λ h. IsFree depends h i) (sym same) c.requires.free in
     let entry = c.take_out-back.result in
@@ -75,7 +76,7 @@ change_back-requires-clause-unpostable g c =
 pub change_back-requires-clause-restorable : goal.change_back-requires-clause-restorable
 change_back-requires-clause-restorable g c =
     let i = c.args.at - 1 in
-    let same = ap (λ (s : Standing). s.history) c.self.view_is in
+    let same = ap (λ (s : RunView). s.history) c.self.view_is in
     let first = c.requires.from_one in
     let free = subst (λ h. IsFree depends h i) (sym same) c.requires.free in
     let entry = c.take_out-back.result in
@@ -89,7 +90,7 @@ change_back-requires-clause-restorable g c =
 pub invariant_of-self : goal.invariant_of-self
 invariant_of-self g c =
     let i = c.args.at - 1 in
-    let same = ap (λ (s : Standing). s.history) c.self.view_is in
+    let same = ap (λ (s : RunView). s.history) c.self.view_is in
     let first = c.requires.from_one in
     let free = subst (λ h. IsFree depends h i) (sym same) c.requires.free in
     let entry = c.take_out-back.result in
@@ -108,7 +109,7 @@ invariant_of-self g c =
 pub take_back_lose-requires : goal.take_back_lose-requires
 take_back_lose-requires g c =
     let i = c.args.at - 1 in
-    let same = ap (λ (s : Standing). s.history) c.self.view_is in
+    let same = ap (λ (s : RunView). s.history) c.self.view_is in
     let first = c.requires.from_one in
     let free = subst (λ h. IsFree depends h i) (sym same) c.requires.free in
     let entry = c.take_out-back.result in
@@ -120,7 +121,7 @@ take_back_lose-requires g c =
 pub invariant_of-self-in-Lost : goal.invariant_of-self-in-Lost
 invariant_of-self-in-Lost g c =
     let i = c.args.at - 1 in
-    let same = ap (λ (s : Standing). s.history) c.self.view_is in
+    let same = ap (λ (s : RunView). s.history) c.self.view_is in
     let first = c.requires.from_one in
     let free = subst (λ h. IsFree depends h i) (sym same) c.requires.free in
     let entry = c.take_out-back.result in
@@ -134,7 +135,7 @@ invariant_of-self-in-Lost g c =
 pub invariant_of-self-in-Lost-2 : goal.invariant_of-self-in-Lost-2
 invariant_of-self-in-Lost-2 g c =
     let i = c.args.at - 1 in
-    let same = ap (λ (s : Standing). s.history) c.self.view_is in
+    let same = ap (λ (s : RunView). s.history) c.self.view_is in
     let first = c.requires.from_one in
     let free = subst (λ h. IsFree depends h i) (sym same) c.requires.free in
     let entry = c.take_out-back.result in
@@ -147,7 +148,7 @@ invariant_of-self-in-Lost-2 g c =
 
 pub returns-in-Step-clause-event : goal.returns-in-Step-clause-event
 returns-in-Step-clause-event g c =
-    let same = ap (λ (s : Standing). s.history) c.self.view_is in
+    let same = ap (λ (s : RunView). s.history) c.self.view_is in
     subst (λ h. nth h c.args.at ≡ Some c.take_out-back.result.event) same (nth_events c.self.inside.records c.args.at c.take_out-back.result c.take_out-back.ensures.entry)
 
 pub returns-in-Step-clause-after : goal.returns-in-Step-clause-after
@@ -156,13 +157,13 @@ returns-in-Step-clause-after g c =
     let view = c.self.view_is in
     λ j.
     record {
-      setup = ap (λ (s : Standing). s.setup) view j;
-      history = (ap events_of c.take_out-back.ensures.rest ∙ events_without c.self.inside.records i ∙ ap (λ (s : Standing). without s.history i) view) j;
+      setup = ap (λ (s : RunView). s.setup) view j;
+      history = (ap events_of c.take_out-back.ensures.rest ∙ events_without c.self.inside.records i ∙ ap (λ (s : RunView). without s.history i) view) j;
     }
 
 pub returns-in-Lost-clause-event : goal.returns-in-Lost-clause-event
 returns-in-Lost-clause-event g c =
-    let same = ap (λ (s : Standing). s.history) c.self.view_is in
+    let same = ap (λ (s : RunView). s.history) c.self.view_is in
     subst (λ h. nth h c.args.at ≡ Some c.take_out-back.result.event) same (nth_events c.self.inside.records c.args.at c.take_out-back.result c.take_out-back.ensures.entry)
 
 pub returns-in-Lost-clause-after : goal.returns-in-Lost-clause-after
@@ -170,7 +171,7 @@ returns-in-Lost-clause-after g c =
     let i = c.args.at - 1 in
     let view = c.self.view_is in
     let left =
-    ap₂ (λ (setup : Parts) (history : List Event). let standing : Standing = record { setup = setup; history = history } in standing)
-    (ap (λ (s : Standing). s.setup) view)
-    (ap events_of c.take_out-back.ensures.rest ∙ events_without c.self.inside.records i ∙ ap (λ (s : Standing). without s.history i) view) in
+    ap₂ (λ (setup : Parts) (history : List Event). let standing : RunView = record { setup = setup; history = history } in standing)
+    (ap (λ (s : RunView). s.setup) view)
+    (ap events_of c.take_out-back.ensures.rest ∙ events_without c.self.inside.records i ∙ ap (λ (s : RunView). without s.history i) view) in
     elim c.match-back.branch [ in-Some-1 w ↦ w.self-is ∙ left | in-None-1 w ↦ w.self-is ∙ left ]

@@ -3,7 +3,7 @@ use Rattle.cdb_causal.specs.Causality.{IsFree}
 use Rattle.cdb_causal.specs.Dependence.{depends}
 use Rattle.cdb_causal.specs.Names.{IsNewName, IsPlaceOf}
 use Rattle.cdb_causal.specs.Rollback.{without}
-use Rattle.cdb_run.specs.Current.{Standing}
+use Rattle.cdb_run.specs.Current.{RunView}
 use Rattle.cdb_run.proofs.Finding.{place_before}
 use Rattle.cdb_run.proofs.run.Run.take_back_named.Goals as goal
 
@@ -28,4 +28,4 @@ pub returns-clause-after : goal.returns-clause-after
 returns-clause-after g c =
     let standing = c.args.self.now in
     let place = subst (λ h. IsPlaceOf h c.args.name c.in-Some.at) c.standing.ensures c.in-Some.ensures in
-    λ i named. c.take_back.ensures.after ∙ ap (λ j. let left : Standing = record standing { history = without standing.history j } in left) (sym (place.only i named))
+    λ i named. c.take_back.ensures.after ∙ ap (λ j. let left : RunView = record standing { history = without standing.history j } in left) (sym (place.only i named))

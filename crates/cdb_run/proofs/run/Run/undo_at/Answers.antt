@@ -1,12 +1,12 @@
 use Rattle.std.proofs.Common.{◌-◌, List, ap, sym, ◌∙◌}
 use Rattle.cdb_base.specs.declared.event.Event.{Event}
-use Rattle.cdb_run.specs.Current.{Standing}
+use Rattle.cdb_run.specs.Current.{RunView}
 use Rattle.cdb_run.specs.Undo.{answered, left_by}
 use Rattle.cdb_run.proofs.Answering.{free_answer, needed_answer}
 use Rattle.cdb_run.proofs.Finding.{place_before}
 use Rattle.cdb_run.proofs.run.Run.undo_at.Goals as goal
 
-abbrev with_history : Standing → List Event → Standing
+abbrev with_history : RunView → List Event → RunView
 with_history standing history = record standing { history = history }
 
 pub take_back-requires-clause-free : goal.take_back-requires-clause-free

@@ -1,0 +1,93 @@
+-- What the final journal has of the seats of a race that a fault ended.
+use Rattle.std.proofs.Common.{◌≡◌, ℕ, ◌+◌, ◌-◌, ◌<◌, ◌≤◌, List, [], All, Some, Result, Err, length, map, replicate, take, get_or, sym, ap, ◌∙◌, subst, arith, length-append}
+use Rattle.atomic_table.specs.Seated.{TableId}
+use Rattle.cdb_control.specs.Answer.{told}
+use Rattle.cdb_control.specs.Journal.{Journaled, opened, own, AreOfSeats}
+use Rattle.cdb_control.specs.declared.command.Command.TheVariants.{Auto}
+use Rattle.cdb_race.specs.Faults.{fault_at}
+use Rattle.cdb_race.specs.Plans.{seats_of}
+use Rattle.cdb_race.specs.Promises.{HasRan}
+use Rattle.cdb_race.specs.Races.{AllRan, AreSeatsOf, IsUnderWay}
+use Rattle.cdb_race.specs.declared.plan.Plan.{Plan}
+use Rattle.cdb_race.specs.declared.threads.RaceFault.{RaceFault}
+use Rattle.cdb_race.specs.declared.threads.RaceFault.TheVariants as fault
+use Rattle.cdb_race.specs.declared.worker.Ran.{Ran}
+use Rattle.cdb_setup.specs.Parts.{Parts}
+use Rattle.cdb_shared.specs.Seats.{SeatView, IsKnownBy, fresh_seat}
+use Rattle.cdb_shared.specs.declared.session.End.{End}
+use Rattle.cdb_shared.specs.declared.session.End.TheVariants.{All as AllDone, Done, Stopped, NoMemory, JournalFull}
+use Rattle.cdb_race.proofs.Outcomes.{AreFresh, own_known}
+
+-- equal answers have equal faults
+pub same_fault : {A : Type 0} (x y : Result A RaceFault) (a b : RaceFault) → x ≡ Err a → y ≡ Err b → x ≡ y → a ≡ b
+same_fault x y a b left right same = cc
+
+-- a full journal is the fault of a seat that met one
+pub met_full : (seat : ℕ) (end : End) → fault_at seat end ≡ Some fault.JournalFull → end ≡ JournalFull
+met_full seat AllDone has = absurd cc
+met_full seat Done has = absurd cc
+met_full seat Stopped has = absurd cc
+met_full seat NoMemory has = absurd cc
+met_full seat JournalFull has = cc
+
+module _ (shared : TableId) (plan : Plan) (setup : Parts) (c : Journaled) (before : List SeatView) (rans : List Ran) (nobody : Ran)
+    (same : plan.processes ≡ setup.processes) (new : AreFresh shared setup (seats_of plan) before) (many : length rans ≡ seats_of plan)
+    (all : AllRan plan before rans) (seats : List SeatView) (long : length seats ≡ length rans) (gathered : AreSeatsOf seats rans) (known : All (λ seat. IsKnownBy c seat) seats) where
+  -- the outcome of the seat at this place
+  abbrev ran_at : ℕ → Ran
+  ran_at k = get_or rans (seats_of plan - 1 - k) nobody
+
+  knows : (k : ℕ) → k < length rans → IsKnownBy c (get_or rans k nobody).seat
+  knows k low =
+      let place = length rans - 1 - k in
+      let back : length rans - 1 - place ≡ k = omega (arith, low) in
+      subst (IsKnownBy c) (gathered place nobody.seat nobody (omega (arith, low)) ∙ ap (λ i. (get_or rans i nobody).seat) back) (known place nobody.seat (omega (arith, long, low)))
+
+  has_ran : (k : ℕ) → k < seats_of plan → HasRan plan (fresh_seat shared (opened setup (seats_of plan)) (1 + k)) (ran_at k)
+  has_ran k low =
+      let none = fresh_seat shared (opened setup 0) 0 in
+      let place : length before - 1 - (seats_of plan - 1 - k) ≡ k = omega (arith, new.many) in
+      subst (λ (b : SeatView). HasRan plan b (ran_at k)) (ap (λ i. get_or before i none) place ∙ new.each k none low) (all (seats_of plan - 1 - k) nobody (omega (arith, many)) none)
+
+  driven_at : (p : ℕ) → 1 ≤ p → p ≤ plan.processes → (count : ℕ) × (count ≤ plan.turns) × (own p c.journal ≡ replicate count (Auto p))
+  driven_at p from to =
+      let k = p - 1 in
+      let low : k < seats_of plan = omega arith in
+      let h = has_ran k low in
+      let seat = (ran_at k).seat in
+      let is : seat.number ≡ p = h.later.number ∙ omega arith in
+      let driven = (h.driven (omega arith)).0 in
+      (driven.count, driven.few, own_known c seat p is (knows (seats_of plan - 1 - k) (omega (arith, many))) ∙ driven.calls ∙ ap (λ n. replicate driven.count (Auto n)) is)
+
+  served_at : (k : ℕ) → k < length plan.scripts.now → (count : ℕ) × (own (plan.processes + k + 1) c.journal ≡ take count (get_or plan.scripts.now k []))
+  served_at k below =
+      let place = plan.processes + k in
+      let low : place < seats_of plan = omega arith in
+      let h = has_ran place low in
+      let seat = (ran_at place).seat in
+      let is : seat.number ≡ place + 1 = h.later.number ∙ omega arith in
+      let its : 1 + place - plan.processes - 1 ≡ k = omega arith in
+      let served = h.served (omega arith) in
+      let count = length (map told (ran_at place).replies.items) in
+      (count, own_known c seat (place + 1) is (knows (seats_of plan - 1 - place) (omega (arith, many))) ∙ served.calls ∙ ap (λ n. take count (get_or plan.scripts.now n [])) its)
+
+  pub under_way : 1 ≤ setup.processes → AreOfSeats c.seats c.journal → IsUnderWay setup plan.turns plan.scripts.now c
+  under_way some entries =
+      let low : 0 < seats_of plan = omega arith in
+      let first = (has_ran 0 low).later in
+      let at = knows (seats_of plan - 1 - 0) (omega (arith, many)) in
+      record {
+        setup_is = at.setup ∙ first.setup;
+        seats_are = at.seats ∙ first.seats ∙ ap (λ n. n + length plan.scripts.now) same;
+        entries = entries;
+        driven = λ p from to. driven_at p from (omega arith);
+        served = λ k below. ((served_at k below).0, ap (λ n. own (n + k + 1) c.journal) (sym same) ∙ (served_at k below).1);
+      }
+
+  -- the journal that a seat saw is no longer than the final one
+  pub full_at : (place : ℕ) → place < length rans → (get_or rans place nobody).end ≡ JournalFull → length c.journal ≤ 999999 → length c.journal ≡ 999999
+  full_at place low is few =
+      let seat = (get_or rans place nobody).seat in
+      let seen = (all place nobody low (fresh_seat shared (opened setup 0) 0)).full is in
+      let begins = (knows place low).begins in
+      omega (arith, seen, few, ap length begins.1, length-append seat.seen begins.0)
