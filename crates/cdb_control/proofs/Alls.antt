@@ -8,9 +8,6 @@ module _ {A : Type 0} (P : A → Type 0) where
   all-append [] ys left right = right
   all-append (x ∷ xs) ys left right = (left.0, all-append xs ys left.1 right)
 
-  pub all-push : (xs : List A) (x : A) → AllByRecursion P xs → P x → AllByRecursion P (xs ++ x ∷ [])
-  all-push xs x all one = all-append xs (x ∷ []) all (one, tt)
-
   pub all-take : (n : ℕ) (xs : List A) → AllByRecursion P xs → AllByRecursion P (take n xs)
   all-take zero xs all = tt
   all-take (suc n) [] all = tt

@@ -4,13 +4,14 @@ use Rattle.std.proofs.lemmas.List.Sums.{fold-append}
 use Rattle.cdb_base.specs.declared.event.Event.{Event}
 use Rattle.cdb_control.specs.declared.command.Command.{Command}
 use Rattle.cdb_control.specs.declared.control.Entry.{Entry}
+use Rattle.cdb_setup.proofs.Walk.{push_all}
 use Rattle.cdb_setup.specs.Parts.{Parts, AreInRange}
 use Rattle.cdb_run.specs.Rules.{Rules}
 use Rattle.cdb_run.specs.Lawful.{AreLawful}
 use Rattle.cdb_control.specs.State.{State, first_state, waiting}
 use Rattle.cdb_control.specs.Commands.{obey}
 use Rattle.cdb_control.specs.Journal.{entry, replay, IsReplayed}
-use Rattle.cdb_control.proofs.Alls.{all-push, all-replicate}
+use Rattle.cdb_control.proofs.Alls.{all-replicate}
 use Rattle.cdb_control.proofs.Table.{Adds, obey-adds}
 use Rattle.cdb_run.specs.Refusals.{IsOfRun}
 use Rattle.std.specs.List.{AllByRecursion}
@@ -56,7 +57,7 @@ IsReplayed-push rules seats es t u e longer lawful is was low high room after =
       replayed = replay-push rules t.setup seats es e ∙ ap (λ (v : State). obey rules v e.seat e.command) was.replayed ∙ sym after;
       some_seat = was.some_seat;
       few_seats = was.few_seats;
-      of_seats = all-push _ es e was.of_seats (low, high);
+      of_seats = push_all _ es e was.of_seats (low, high);
       few_entries = omega (arith, more, room);
       lists = adds.lists ∙ was.lists;
       numbers = omega (arith, more, adds.numbers, was.numbers);

@@ -21,12 +21,13 @@ use Rattle.cdb_control.specs.declared.command.Command.TheVariants.{Step, Auto, L
 use Rattle.cdb_control.specs.declared.command.View.{View}
 use Rattle.cdb_control.specs.declared.command.View.TheVariants as view
 use Rattle.cdb_control.specs.declared.named.Named.TheVariants as named
-use Rattle.cdb_control.proofs.Alls.{all-append, all-push, all-take, all-set, all-get_or, all-slice_get}
+use Rattle.cdb_control.proofs.Alls.{all-append, all-take, all-set, all-get_or, all-slice_get}
 use Rattle.cdb_control.proofs.Held.{waiting-set}
 use Rattle.cdb_control.proofs.Removed.{Parted, undone-parted, rolled_back-parted}
 use Rattle.cdb_message.specs.Mail.{message_name}
 use Rattle.cdb_run.specs.Refusals.{IsOfRun}
 use Rattle.cdb_run.specs.Rules.{Rules}
+use Rattle.cdb_setup.proofs.Walk.{push_all}
 use Rattle.cdb_run.specs.Undo.{undo_of, rollback_of, causes_of}
 
 -- what one command can add to a state
@@ -64,7 +65,7 @@ module _ (rules : Rules) (t : State) (lawful : AreLawful rules t.setup) where
         numbers = omega arith;
         events = omega (arith, length-append t.history (e ∷ []));
         lists = refl;
-        of_run = λ all. (all-push (IsOfRun t.setup) t.history e all.0 of_run, all.1);
+        of_run = λ all. (push_all (IsOfRun t.setup) t.history e all.0 of_run, all.1);
       }
 
   step-adds : (p : ℕ) (act : Act) → Adds t (step rules t p act).after
@@ -77,7 +78,7 @@ module _ (rules : Rules) (t : State) (lawful : AreLawful rules t.setup) where
         numbers = omega arith;
         events = omega (arith, length-append t.history (e ∷ []));
         lists = refl;
-        of_run = λ all. (all-push (IsOfRun t.setup) t.history e all.0 of_run, all.1);
+        of_run = λ all. (push_all (IsOfRun t.setup) t.history e all.0 of_run, all.1);
       }
 
   module _ (seat : ℕ) (from_one : 1 ≤ seat) (to_last : seat ≤ length t.redo) where
@@ -114,7 +115,7 @@ module _ (rules : Rules) (t : State) (lawful : AreLawful rules t.setup) where
           numbers = omega arith;
           events = omega (arith, length-append t.history (e ∷ []), length-take (length (redo_of t seat) - 1) (redo_of t seat), waiting-set t.redo (seat - 1) (without_last (redo_of t seat)) low);
           lists = length-set t.redo (seat - 1) _;
-          of_run = λ all. (all-push (IsOfRun t.setup) t.history e all.0 (of_run all), all-set (AllByRecursion (IsOfRun t.setup)) t.redo (seat - 1) (without_last (redo_of t seat)) all.1 (all-take (IsOfRun t.setup) (length (redo_of t seat) - 1) (redo_of t seat) (waiting-of_run all)));
+          of_run = λ all. (push_all (IsOfRun t.setup) t.history e all.0 (of_run all), all-set (AllByRecursion (IsOfRun t.setup)) t.redo (seat - 1) (without_last (redo_of t seat)) all.1 (all-take (IsOfRun t.setup) (length (redo_of t seat) - 1) (redo_of t seat) (waiting-of_run all)));
         }
 
     redo-adds : Adds t (outcome rules t seat Redo).after

@@ -1,7 +1,7 @@
 //! Starting and joining the threads of a race.
 ghost use Rattle.std.specs.Prelude.{◌≡◌, ℕ, ◌+◌, ◌-◌, ◌<◌, ◌≤◌, List, length, vec_len, All, IfOk, IfErr, MatchOption, None, Err, slice_index_or};
 ghost use Rattle.cdb_control.specs.Journal.{Journaled};
-ghost use Rattle.cdb_race.specs.Faults.{fault_at, fault_in, IsAmongSeats, IsFaultOfThreads, IsOfLeastSeat};
+ghost use Rattle.cdb_race.specs.Faults.{fault_in, IsAmongSeats, IsFaultOfThreads, IsOfLeastSeat};
 ghost use Rattle.cdb_race.specs.Plans.{IsReady};
 ghost use Rattle.cdb_race.specs.Promises.{IsPromise, HasRan};
 ghost use Rattle.cdb_race.specs.Races.{all_told, AllRan, AllFinished, AreSeatsOf, IsRaced, IsUnderWay};
@@ -56,10 +56,7 @@ fn start_one<'s, E, G: Gate + Drop + Send + 's, R: Threads + Wait + Sync>(
             ensures { HasRan plan.entry seat result }
         { run(shared, rt, alloc, plan, seat, gate) },
     );
-    match started {
-        Ok(handle) => Ok(handle),
-        Err(_) => Err(RaceFault::Spawn),
-    }
+    started.map_err(|_| RaceFault::Spawn)
 }
 
 // Starts a thread for each seat, the last seat's first.
@@ -117,21 +114,18 @@ fn run_all<G: Gate + Drop + Send, R: Threads + Wait + Sync>(
             ensures fault { IfErr result IsFaultOfThreads }
         {
             let handles = start_all(scope, rt, alloc, shared, plan, seats, gates)?;
-            match thread::join_promised(rt, handles) {
-                Ok(rans) => Ok(rans),
-                Err(_) => Err(RaceFault::NoMemory),
-            }
+            thread::join_promised(rt, handles).map_err(|_| RaceFault::NoMemory)
         },
     )
 }
 
 // The fault of a seat whose session did not end well.
-fn fault_of(seat: u8, end: End) -> Option<RaceFault>
-    ensures { result ≡ fault_at seat end }
+fn fault_of(ran: &Ran) -> Option<RaceFault>
+    ensures { result ≡ fault_in ran.now }
 {
-    match end {
+    match ran.end {
         End::All | End::Done => None,
-        End::Stopped => Some(RaceFault::Stopped(seat)),
+        End::Stopped => Some(RaceFault::Stopped(ran.seat.number())),
         End::NoMemory => Some(RaceFault::NoMemory),
         End::JournalFull => Some(RaceFault::JournalFull),
     }
@@ -141,11 +135,8 @@ fn fault_of(seat: u8, end: End) -> Option<RaceFault>
 fn first_fault(rans: &[Ran]) -> Option<RaceFault>
     ensures { MatchOption result (All (λ ran. fault_in ran ≡ None) rans.now) (λ fault. IsOfLeastSeat fault rans.now) }
 {
-    let mut left = rans.len();
-    while left > 0 {
-        left -= 1;
-        let ran = &rans[left];
-        if let Some(fault) = fault_of(ran.seat.number(), ran.end) {
+    for place in (0..rans.len()).rev() {
+        if let Some(fault) = fault_of(&rans[place]) {
             return Some(fault);
         }
     }

@@ -1,7 +1,7 @@
 //! revdbg: a causal reversible debugger for indulgent consensus.
 #![tactic(auto)]
 
-ghost use Rattle.std.specs.Prelude.{◌≡◌, ◌≢◌, ◌⊎◌, ℕ, ◌+◌, ◌≤◌, List, [], length, vec_len, map, codes, None, IfOk, IfErr, OnOk};
+ghost use Rattle.std.specs.Prelude.{◌≡◌, ◌≢◌, ◌⊎◌, ℕ, ◌+◌, ◌≤◌, List, [], length, vec_len, map, codes, Any, None, IfOk, IfErr, OnOk};
 ghost use Rattle.std.specs.Io.KnownBytes.{prepend_known, IsAtEnd};
 ghost use Rattle.cdb_play.specs.Faults.{IsFaultOfPlay};
 ghost use Rattle.cdb_play.specs.Transcripts.{IsTranscriptOf};
@@ -9,7 +9,7 @@ ghost use Rattle.cdb_run.specs.Algorithms.{rules};
 ghost use Rattle.clap.specs.Words.{fault_of};
 ghost use Rattle.revdbg.specs.Asking.{IsOfKinds, ask_status_of};
 ghost use Rattle.revdbg.specs.CommandLine.{program};
-ghost use Rattle.revdbg.specs.Playing.{IsUnread, IsUnreadAs, IsFaultOfBytes};
+ghost use Rattle.revdbg.specs.Playing.{IsUnreadAs, IsFaultOfBytes};
 ghost use Rattle.revdbg.specs.Racing.{IsStatusOfRace, NeedsTooManySeats};
 
 mod ends;
@@ -17,7 +17,8 @@ mod request;
 mod words;
 
 use cdb_play::{
-    Bytes, Input, MAX_BYTES, Output, PlayFault, RaceFault, Source, fits, play, race, read_up_to,
+    Bytes, Input, MAX_BYTES, Output, PlayFault, RaceFault, ReadFault, Source, fits, play, race,
+    read_up_to,
 };
 use cdb_setup::Setup;
 use ends::{NamedFault, ended, race_ended};
@@ -39,25 +40,22 @@ const ONE_PROCESS: &[u8] =
 const USAGE: u8 = 2;
 
 /// All that a reader has left, and no more than one byte too many.
-fn read_all<S: Source>(alloc: Global, source: &mut S) -> Result<Vec<u8>, PlayFault>
+fn read_all<S: Source>(alloc: Global, source: &mut S) -> Result<Vec<u8>, ReadFault>
     ensures taken { IfOk result (λ bytes. S.remaining source.old ≡ prepend_known bytes.items (S.remaining source.new)) }
     ensures most { IfOk result (λ bytes. length bytes.items ≤ MAX_BYTES + 1) }
     ensures end { IfOk result (λ bytes. length bytes.items ≤ MAX_BYTES → IsAtEnd (S.remaining source.new)) }
-    ensures fault { IfErr result IsUnread }
 {
-    let bytes = read_up_to(alloc, source, MAX_BYTES + 1)?;
-    Ok(bytes)
+    read_up_to(alloc, source, MAX_BYTES + 1)
 }
 
 /// The bytes of a file, and no more than one byte too many.
-fn bytes_of(rt: &HostRuntime, name: &str) -> Result<Vec<u8>, PlayFault>
+fn bytes_of(rt: &HostRuntime, name: &str) -> Result<Vec<u8>, ReadFault>
     ensures most { IfOk result (λ bytes. length bytes.items ≤ MAX_BYTES + 1) }
-    ensures fault { IfErr result IsUnread }
 {
     match File::open(rt, name) {
         Ok(file) => read_all(rt.alloc(), &mut Input::new(file)),
-        Err(error) if error.kind() == ErrorKind::OutOfMemory => Err(PlayFault::NoMemory),
-        Err(_) => Err(PlayFault::Read),
+        Err(error) if error.kind() == ErrorKind::OutOfMemory => Err(ReadFault::NoMemory),
+        Err(_) => Err(ReadFault::Failed),
     }
 }
 
@@ -66,16 +64,16 @@ fn read_file<'a>(rt: &HostRuntime, name: &'a str) -> Result<Vec<u8>, NamedFault<
     ensures most { IfOk result (λ bytes. length bytes.items ≤ MAX_BYTES + 1) }
     ensures fault { IfErr result (IsUnreadAs name.entry.now) }
 {
-    match bytes_of(rt, name) {
-        Ok(bytes) => Ok(bytes),
-        Err(fault) => Err(NamedFault { fault, name }),
-    }
+    bytes_of(rt, name).map_err(|fault| NamedFault {
+        fault: PlayFault::from(fault),
+        name,
+    })
 }
 
 /// The bytes of files, in order. A fault has the name of its file.
 fn read_files<'a>(rt: &HostRuntime, names: &[&'a str]) -> Result<Vec<Vec<u8>>, NamedFault<'a>>
     ensures count { IfOk result (λ files. vec_len files ≡ length names.now) }
-    ensures fault { IfErr result (λ named. IsUnread named.fault) }
+    ensures fault { IfErr result (λ named. Any (λ name. IsUnreadAs name.now named) names.now) }
 {
     let mut files = Vec::new(rt.alloc());
     for name in names {
@@ -98,13 +96,10 @@ fn play_input(rt: &HostRuntime) -> Result<(), NamedFault<'static>>
 {
     let mut script = Input::new(rt.reader());
     let mut out = Output::new(io::writer(rt));
-    match play(rt.alloc(), ONE_PROCESS, &mut script, &mut out) {
-        Ok(()) => Ok(()),
-        Err(fault) => Err(NamedFault {
-            fault,
-            name: "standard input",
-        }),
-    }
+    play(rt.alloc(), ONE_PROCESS, &mut script, &mut out).map_err(|fault| NamedFault {
+        fault,
+        name: "standard input",
+    })
 }
 
 /// Plays a script on a run of a setup, of both of which the bytes are here.
@@ -123,13 +118,10 @@ fn play_files<'a>(rt: &HostRuntime, setup: &'a str, script: &'a str) -> Result<(
 {
     let json = read_file(rt, setup)?;
     let bytes = read_file(rt, script)?;
-    match play_bytes(rt, json.as_slice(), bytes.as_slice()) {
-        Ok(()) => Ok(()),
-        Err(fault) => Err(NamedFault {
-            fault,
-            name: script,
-        }),
-    }
+    play_bytes(rt, json.as_slice(), bytes.as_slice()).map_err(|fault| NamedFault {
+        fault,
+        name: script,
+    })
 }
 
 /// Runs a race of scripts, where it has seats enough.
@@ -169,7 +161,7 @@ fn race_files<'a, R: Threads + Wait + Sync>(
 ) -> Result<u8, NamedFault<'a>>
     requires { turns ≤ 99999 }
     ensures says { IfOk result (λ status. (json : List ℕ) × (scripts : _) × (length scripts ≡ length names.now) × IsStatusOfRace status json turns scripts) }
-    ensures fault { IfErr result (λ named. IsUnread named.fault) }
+    ensures fault { IfErr result (λ named. IsUnreadAs setup.entry.now named ⊎ Any (λ name. IsUnreadAs name.now named) names.now) }
 {
     let json = read_file(rt, setup)?;
     let scripts = read_files(rt, names)?;

@@ -249,8 +249,5 @@ pub fn asked<'a>(alloc: Global, words: &'a [&'a str]) -> Result<Asked<'a>, AskFa
     ensures refused { IfErr result (λ fault. IsOfKinds (fault_of program (map (λ word. word.now) words.entry.now)) fault) }
 {
     let matches = matches_of(alloc, words)?;
-    match asked_by(alloc, &matches) {
-        Ok(asked) => Ok(asked),
-        Err(_) => Err(AskFault::NoMemory),
-    }
+    asked_by(alloc, &matches).map_err(|_| AskFault::NoMemory)
 }

@@ -1,15 +1,15 @@
-use Rattle.std.proofs.Common.{◌-◌, ◌∙◌, rules, sym, ap, arith}
-use Rattle.cdb_race.specs.Faults.{fault_at}
+use Rattle.std.proofs.Common.{◌-◌, ◌∙◌, rules, sym, arith}
 use Rattle.cdb_race.proofs.threads.first_fault.Goals as goal
 
 pub returns-in-Some : goal.returns-in-Some
 returns-in-Some c =
-    let its = c.index-rans-left.result in
+    let before = c.loop-place.auto.place in
+    let test = c.loop-place-test.true in
     record {
-      its = its;
-      place = c.loop-left.left - 1;
-      within = omega (arith, c.loop-left.invariant.within, c.loop-left-test.true);
+      its = c.index-rans-place.result;
+      place = c.loop-place.place - 1;
+      within = omega (arith, before, test);
       at = search rules;
-      has = ap (λ n. fault_at n its.end) (sym c.number.ensures.number) ∙ sym c.fault_of.ensures ∙ c.in-Some.is;
-      least = λ k ran low below. c.loop-left.invariant.clean k ran (omega arith) below;
+      has = sym c.fault_of.ensures ∙ c.in-Some.is;
+      least = λ k ran low below. c.loop-place.invariant k ran (omega (arith, low, test)) below;
     }
