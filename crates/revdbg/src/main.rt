@@ -1,9 +1,10 @@
 //! revdbg: a causal reversible debugger for indulgent consensus.
 #![tactic(auto)]
 
-ghost use Rattle.std.specs.Prelude.{◌≡◌, ◌≢◌, ◌⊎◌, ℕ, ◌+◌, ◌≤◌, List, [], length, vec_len, map, codes, Any, None, IfOk, IfErr, OnOk};
+ghost use Rattle.std.specs.Prelude.{◌≡◌, ◌≢◌, ◌⊎◌, ℕ, ◌+◌, ◌≤◌, List, [], length, vec_len, map, codes, Any, None, Err, IfOk, IfErr, OnOk};
 ghost use Rattle.std.specs.Io.KnownBytes.{prepend_known, IsAtEnd};
 ghost use Rattle.cdb_play.specs.Faults.{IsFaultOfPlay};
+ghost use Rattle.cdb_play.specs.Streams.{one_more};
 ghost use Rattle.cdb_play.specs.Transcripts.{IsTranscriptOf};
 ghost use Rattle.cdb_run.specs.Algorithms.{rules};
 ghost use Rattle.clap.specs.Words.{fault_of};
@@ -44,6 +45,8 @@ fn read_all<S: Source>(alloc: Global, source: &mut S) -> Result<Vec<u8>, ReadFau
     ensures taken { IfOk result (λ bytes. S.remaining source.old ≡ prepend_known bytes.items (S.remaining source.new)) }
     ensures most { IfOk result (λ bytes. length bytes.items ≤ MAX_BYTES + 1) }
     ensures end { IfOk result (λ bytes. length bytes.items ≤ MAX_BYTES → IsAtEnd (S.remaining source.new)) }
+    ensures failed { result ≡ Err ReadFault.Failed → S.failures source.new ≡ one_more (S.failures source.old) }
+    ensures unfailed { result ≢ Err ReadFault.Failed → S.failures source.new ≡ S.failures source.old }
 {
     read_up_to(alloc, source, MAX_BYTES + 1)
 }
