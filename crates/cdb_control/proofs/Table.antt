@@ -12,7 +12,6 @@ use Rattle.cdb_base.specs.declared.refusal.Refusal.{Refusal}
 use Rattle.cdb_base.specs.declared.refusal.Refusal.TheVariants.{NoProcess, NothingToRedo, NoBreak, BreakLimit}
 use Rattle.cdb_control.specs.Auto.{choice}
 use Rattle.cdb_control.specs.Commands.{Outcome, unless, granted, found, unpaused, stepped, step, lost, taken_back, undo, rollback, why, redone, shown, outcome, obey}
-use Rattle.cdb_run.specs.Lawful.{AreLawful}
 use Rattle.cdb_control.specs.Named.{name_of}
 use Rattle.cdb_control.specs.State.{State, held, redo_of, last_of, AreOfRun}
 use Rattle.cdb_control.specs.Stops.{names_none_of}
@@ -25,6 +24,7 @@ use Rattle.cdb_control.proofs.Alls.{all-append, all-take, all-set, all-get_or, a
 use Rattle.cdb_control.proofs.Held.{waiting-set}
 use Rattle.cdb_control.proofs.Removed.{Parted, undone-parted, rolled_back-parted}
 use Rattle.cdb_message.specs.Mail.{message_name}
+use Rattle.cdb_run.specs.Lawful.{AreLawful}
 use Rattle.cdb_run.specs.Refusals.{IsOfRun}
 use Rattle.cdb_run.specs.Rules.{Rules}
 use Rattle.cdb_setup.proofs.Walk.{push_all}

@@ -73,7 +73,7 @@ fn read_file<'a>(rt: &HostRuntime, name: &'a str) -> Result<Vec<u8>, NamedFault<
     })
 }
 
-/// The bytes of files, in order. A fault has the name of its file.
+/// The bytes of files, in order. A fault has the name of one of them.
 fn read_files<'a>(rt: &HostRuntime, names: &[&'a str]) -> Result<Vec<Vec<u8>>, NamedFault<'a>>
     ensures count { IfOk result (λ files. vec_len files ≡ length names.now) }
     ensures fault { IfErr result (λ named. Any (λ name. IsUnreadAs name.now named) names.now) }
