@@ -1,18 +1,13 @@
 -- Which events of a run depend on each other: those of one process, the send and a receive of one
 -- message, two accesses of one register of which at least one writes it, and the loss of a copy with the
 -- send of its message and with the receive of that copy.
-use Rattle.std.specs.Prelude.{ℕ, Bool, true, false, ◌&&◌, ◌||◌, nat_eq}
+use Rattle.std.specs.Prelude.{ℕ, Bool, false, ◌&&◌, ◌||◌, nat_eq}
+use Rattle.cdb_base.specs.Registers.{same_register}
 use Rattle.cdb_base.specs.declared.event.Event.{Event}
 use Rattle.cdb_base.specs.declared.event.Event.TheVariants.{Step, Lost}
 use Rattle.cdb_base.specs.declared.event.Kind.{Kind}
 use Rattle.cdb_base.specs.declared.event.Kind.TheVariants.{Send, Recv, Read, Write}
 use Rattle.cdb_base.specs.declared.register.Reg.{Reg}
-use Rattle.cdb_base.specs.declared.register.Reg.TheVariants.{R, Dec}
-
-abbrev pub same_register : Reg → Reg → Bool
-same_register (R p) (R q) = nat_eq p q
-same_register Dec Dec = true
-same_register _ _ = false
 
 -- whether a step of process p of that kind sends the m-th message of process s
 abbrev pub sends : ℕ → ℕ → ℕ → Kind → Bool

@@ -26,7 +26,7 @@ pub struct Bounds {
     lost: usize,
 }
 
-// The row of a register in a table.
+/// The row of a register in a table.
 fn register_row(register: Reg) -> usize
     ensures value { result ≡ row register }
     ensures within { result ≤ 9 }
@@ -37,7 +37,7 @@ fn register_row(register: Reg) -> usize
     }
 }
 
-// The cell of a register and a slot in a table.
+/// The cell of a register and a slot in a table.
 fn cell(register: Reg, slot: usize) -> usize
     requires { slot < 9 }
     ensures value { result ≡ cell_of register slot }
@@ -46,7 +46,7 @@ fn cell(register: Reg, slot: usize) -> usize
     register_row(register) * 9 + slot
 }
 
-// Raises the number heard of one sender.
+/// Raises the number heard of one sender.
 fn raise_heard(heard: &mut [u16; 9], sender: usize, number: u16)
     requires { sender < 9 }
     ensures others { IsRaised heard.old heard.new }
@@ -81,7 +81,7 @@ impl Bounds {
         self.lost
     }
 
-    // Raises the bounds for a step of the slot's process.
+    /// Raises the bounds for a step of the slot's process.
     fn note_step(&mut self, place: usize, slot: usize, kind: Kind)
         requires place { place < 18446744073709551615 }
         requires slot { slot < 9 }
@@ -113,8 +113,8 @@ impl Bounds {
         }
     }
 
-    // Above all steps of the slot's process on which a step of another process `p`, of that kind and
-    // at place `j`, depends.
+    /// Above all steps of the slot's process on which a step of another process `p`, of that kind and
+    /// at place `j`, depends.
     fn end_for_step(&self, p: Proc, kind: Kind, j: usize, slot: usize) -> usize
         requires { slot < 9 }
         ensures { (i q l : ℕ) (other : AKind) → i < j → IsWithin self.now i (Step q l other) → slot + 1 ≡ q → nat_eq q p ≡ false → (kind_affects q other kind || kind_affects p kind other) ≡ true → i < result }
@@ -128,7 +128,7 @@ impl Bounds {
         }
     }
 
-    // Above all steps of the slot's process on which the loss of the copy, at place `j`, depends.
+    /// Above all steps of the slot's process on which the loss of the copy, at place `j`, depends.
     fn end_for_loss(&self, copy: &CopyName, j: usize, slot: usize) -> usize
         ensures { (i q l : ℕ) (other : AKind) → i < j → IsWithin self.now i (Step q l other) → slot + 1 ≡ q → depends_of (Step q l other) (Lost copy.now) ≡ true → i < result }
     {
@@ -140,7 +140,7 @@ impl Bounds {
         }
     }
 
-    // Above all losses on which a step of that kind depends that is no send of the copy.
+    /// Above all losses on which a step of that kind depends that is no send of the copy.
     fn end_of_losses(&self, kind: Kind) -> usize
         ensures { (i p k : ℕ) (copy : ACopy) → i < self.now.lost → affects_of (Step p k kind) (Lost copy) ≡ false → depends_of (Lost copy) (Step p k kind) ≡ true → i < result }
     {

@@ -12,7 +12,7 @@ use crate::history::{History, append};
 use cdb_base::{Event, NoMemory, StepId};
 use std::alloc::Global;
 
-// The first event that depends on the one at place `i`, from 0.
+/// The first event that depends on the one at place `i`, from 0.
 fn first_linked(events: &[Event], i: usize) -> Option<StepId>
     requires { i < length events.now }
     ensures { MatchOption result (IsFree depends_of events.now i) (λ name. IsFirstDependent events.now i name) }
@@ -36,14 +36,14 @@ pub fn first_dependent(history: &History, at: usize) -> Option<StepId>
     first_linked(history.as_slice(), at - 1)
 }
 
-// Whether the event depends on one of the causes.
+/// Whether the event depends on one of the causes.
 fn depends_on_one(causes: &[Event], event: &Event) -> bool
     ensures { result ≡ depends_on_one_of depends_of causes.now event.now }
 {
     causes.iter().any(|cause| depends(cause, event))
 }
 
-// The event at a place, from 0, with its consequences, in order.
+/// The event at a place, from 0, with its consequences, in order.
 fn rolled_back_events(alloc: Global, events: &[Event], i: usize) -> Result<Vec<Event>, NoMemory>
     requires { i < length events.now }
     ensures { IfOk result (λ taken. taken.items ≡ rolled_back depends_of events.now i) }
@@ -58,7 +58,7 @@ fn rolled_back_events(alloc: Global, events: &[Event], i: usize) -> Result<Vec<E
     Ok(causes)
 }
 
-// The names of the events, in order.
+/// The names of the events, in order.
 fn names(alloc: Global, events: &[Event]) -> Result<Vec<StepId>, NoMemory>
     ensures { IfOk result (λ names. names.items ≡ map event_name events.now) }
 {

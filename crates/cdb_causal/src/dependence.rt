@@ -5,8 +5,8 @@ ghost use Rattle.cdb_causal.specs.Dependence.{sends as sends_of, receives as rec
 
 use cdb_base::{CopyName, Event, Kind, Proc};
 
-// Whether a step of that process and kind sends what one of the other kind receives, or writes a
-// register that it reads or writes.
+/// Whether a step of that process and kind sends what one of the other kind receives, or writes a
+/// register that it reads or writes.
 fn kind_affects(p: Proc, kind: Kind, other: Kind) -> bool
     ensures { result ≡ kind_affects_of p kind other }
 {
@@ -18,7 +18,7 @@ fn kind_affects(p: Proc, kind: Kind, other: Kind) -> bool
     }
 }
 
-// Whether a step of that process and kind sends the message of the copy.
+/// Whether a step of that process and kind sends the message of the copy.
 fn sends(p: Proc, kind: Kind, copy: &CopyName) -> bool
     ensures { result ≡ sends_of copy.now.msg.s copy.now.msg.m p kind }
 {
@@ -28,7 +28,7 @@ fn sends(p: Proc, kind: Kind, copy: &CopyName) -> bool
     }
 }
 
-// Whether a step of that process and kind receives the copy.
+/// Whether a step of that process and kind receives the copy.
 fn receives(p: Proc, kind: Kind, copy: &CopyName) -> bool
     ensures { result ≡ (nat_eq p copy.now.to && receives_of copy.now.msg.s copy.now.msg.m kind) }
 {
@@ -38,8 +38,8 @@ fn receives(p: Proc, kind: Kind, copy: &CopyName) -> bool
     }
 }
 
-// Whether the event is a step that affects the other, or sends the message of a lost copy, or is the
-// loss of a copy that the other receives.
+/// Whether the event is a step that affects the other, or sends the message of a lost copy, or is the
+/// loss of a copy that the other receives.
 pub(crate) fn affects(event: &Event, other: &Event) -> bool
     ensures { result ≡ affects_of event.now other.now }
 {
@@ -55,7 +55,7 @@ pub(crate) fn affects(event: &Event, other: &Event) -> bool
     }
 }
 
-// Whether both events are steps of one process.
+/// Whether both events are steps of one process.
 fn same_process(event: &Event, other: &Event) -> bool
     ensures { result ≡ same_process_of event.now other.now }
 {

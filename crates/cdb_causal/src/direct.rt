@@ -14,10 +14,10 @@ use cdb_base::{Event, StepId};
 use smallvec::SmallVec;
 use std::alloc::Global;
 
-// Causes are sought in a slot for each process, and then in one for losses.
+/// Causes are sought in a slot for each process, and then in one for losses.
 const SLOTS: usize = 10;
 
-// The slot of an event as a cause.
+/// The slot of an event as a cause.
 fn slot_of(event: &Event) -> usize
     ensures { IsSlot event.now result }
 {
@@ -27,15 +27,15 @@ fn slot_of(event: &Event) -> usize
     }
 }
 
-// Whether the event is one in the slot on which the effect depends.
+/// Whether the event is one in the slot on which the effect depends.
 fn is_cause(event: &Event, effect: &Event, slot: usize) -> bool
     ensures { IsTrue result ↔ (IsSlot event.now slot × (depends_of event.now effect.now ≡ true)) }
 {
     slot_of(event) == slot && depends(event, effect)
 }
 
-// The place of the last event in a slot on which the one at place `j` depends. All such places are
-// below the end.
+/// The place of the last event in a slot on which the one at place `j` depends. All such places are
+/// below the end.
 fn last_cause(events: &[Event], j: usize, slot: usize, end: usize) -> Option<usize>
     requires within { j < length events.now }
     requires end { (i : ℕ) (l : IsLink depends_of events.now i j) → IsSlot l.cause slot → i < end }
@@ -49,14 +49,14 @@ fn last_cause(events: &[Event], j: usize, slot: usize, end: usize) -> Option<usi
     None
 }
 
-// Whether the event depends on the first and the last one on it.
+/// Whether the event depends on the first and the last one on it.
 fn leads_on(first: &Event, event: &Event, last: &Event) -> bool
     ensures { IsTrue result ↔ ((depends_of first.now event.now ≡ true) × (depends_of event.now last.now ≡ true)) }
 {
     depends(first, event) && depends(event, last)
 }
 
-// Whether no event between the two depends on the first and has the second depend on it.
+/// Whether no event between the two depends on the first and has the second depend on it.
 fn is_direct(events: &[Event], i: usize, j: usize) -> bool
     requires order { i < j }
     requires within { j < length events.now }
@@ -70,7 +70,7 @@ fn is_direct(events: &[Event], i: usize, j: usize) -> bool
     true
 }
 
-// The name of the direct cause in a slot, if there is one.
+/// The name of the direct cause in a slot, if there is one.
 fn direct_cause(events: &[Event], j: usize, slot: usize, end: usize) -> Option<StepId>
     requires standing { IsStanding events.now }
     requires within { j < length events.now }

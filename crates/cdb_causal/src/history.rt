@@ -50,14 +50,14 @@ pub(crate) fn append(events: &mut Vec<Event>, event: Event) -> Result<(), NoMemo
     Ok(())
 }
 
-// Whether the event has the name.
+/// Whether the event has the name.
 fn is_named(event: &Event, name: &StepId) -> bool
     ensures { IsTrue result ↔ (event_name event.now ≡ name.now) }
 {
     event.name() == *name
 }
 
-// The place, from 1, of the event of that name. It stands below the end.
+/// The place, from 1, of the event of that name. It stands below the end.
 fn place_of(events: &[Event], name: &StepId, end: usize) -> Option<usize>
     requires standing { IsStanding events.now }
     requires end { (i : ℕ) → IsNamedAt events.now i name.now → i < end }
@@ -123,7 +123,7 @@ impl History {
         self.events[at - 1]
     }
 
-    // A place, from 0, above the event of that name.
+    /// A place, from 0, above the event of that name.
     fn end_of_name(&self, name: &StepId) -> usize
         ensures { (i : ℕ) → IsNamedAt self.now i name.now → i < result }
     {

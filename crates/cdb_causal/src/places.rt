@@ -10,7 +10,7 @@ ghost use Rattle.cdb_causal.specs.Raised.{IsRaised};
 use cdb_base::{Event, NoMemory, Proc};
 use std::alloc::Global;
 
-// The cell of the k-th step of a process.
+/// The cell of the k-th step of a process.
 fn cell(p: Proc, k: u16) -> usize
     ensures value { result ≡ name_cell p k }
     ensures small { result < 1048576 }
@@ -18,7 +18,7 @@ fn cell(p: Proc, k: u16) -> usize
     k as usize * 9 + p.index()
 }
 
-// Makes room for a cell. The new cells are 0.
+/// Makes room for a cell. The new cells are 0.
 fn grow(table: &mut Vec<usize>, cell: usize) -> Result<(), NoMemory>
     requires { cell < 1048576 }
     ensures others { IsRaised table.old.items table.new.items }

@@ -3,12 +3,12 @@ use Rattle.std.specs.Prelude.{ℕ, ◌+◌, ◌++◌, nat_eq, ◌==◌, ◌<◌,
 use Rattle.std.specs.List.{AllByRecursion}
 use Rattle.std.specs.Map.{remove_entry}
 use Rattle.cdb_base.specs.Event.{is_step_of}
+use Rattle.cdb_base.specs.Registers.{same_register}
 use Rattle.cdb_base.specs.declared.event.Event.{Event}
 use Rattle.cdb_base.specs.declared.event.Event.TheVariants.{Step}
 use Rattle.cdb_base.specs.declared.event.Kind.TheVariants as kind
 use Rattle.cdb_base.specs.declared.register.Reg.{Reg}
 use Rattle.cdb_base.specs.declared.register.Reg.TheVariants.{R, Dec}
-use Rattle.cdb_causal.specs.Dependence.{same_register}
 use Rattle.cdb_control.specs.declared.command.Stop.{Stop}
 use Rattle.cdb_control.specs.declared.command.Stop.TheVariants as stop
 use Rattle.cdb_control.specs.declared.stops.Taken.{Taken}

@@ -175,14 +175,14 @@ impl<R: Runs> Control<R> {
     }
 }
 
-// No seat has room.
+/// No seat has room.
 fn no_marks(alloc: Global, seats: u8) -> Result<Vec<u32>, NoMemory>
     ensures { IfOk result (λ marks. marks.items ≡ replicate seats 0) }
 {
     Ok(Vec::from_elem(alloc, 0, seats as usize)?)
 }
 
-// Lowers the mark of the seat of a command by what the command takes of its room, save the one that its entry takes.
+/// Lowers the mark of the seat of a command by what the command takes of its room, save the one that its entry takes.
 fn lower(marks: &mut Vec<u32>, seat: u8, reply: &Reply)
     requires from_one { 1 ≤ seat }
     requires to_last { seat ≤ length marks.old.items }
@@ -194,7 +194,7 @@ fn lower(marks: &mut Vec<u32>, seat: u8, reply: &Reply)
     }
 }
 
-// Raises the mark of a seat, where it is lower.
+/// Raises the mark of a seat, where it is lower.
 fn raise(marks: &mut Vec<u32>, seat: u8, mark: u32)
     requires from_one { 1 ≤ seat }
     requires to_last { seat ≤ length marks.old.items }
@@ -204,7 +204,7 @@ fn raise(marks: &mut Vec<u32>, seat: u8, mark: u32)
     *old = mark.max(*old);
 }
 
-// Adds an entry where there is room for it.
+/// Adds an entry where there is room for it.
 fn push_entry(journal: &mut Vec<Entry>, seat: u8, command: Command)
     requires { vec_len journal.old < vec_capacity journal.old }
     ensures items { journal.new.items ≡ journal.old.items ++ entry seat command ∷ [] }

@@ -43,7 +43,7 @@ impl<R: Runs> Model for ControlState<R> {
     } };
 }
 
-// An empty redo list for each seat.
+/// An empty redo list for each seat.
 fn empty_lists(alloc: Global, seats: u8) -> Result<Vec<RedoList>, NoMemory>
     ensures { IfOk result (λ lists. map (λ list. list.events) lists.items ≡ replicate seats []) }
 {
@@ -202,27 +202,21 @@ impl<R: Runs> ControlState<R> {
         }
     }
 
-    // The round of a process, 0 where there is no such process.
+    /// The round of a process, 0 where there is no such process.
     fn round_of(&self, p: u32) -> u32
         ensures { result ≡ round_of (R.rules self.now.state.setup) self.now.state.history p }
     {
-        match self.run.view(p) {
-            Some(process) => process.round,
-            None => 0,
-        }
+        self.run.view(p).map_or(0, |process| process.round)
     }
 
-    // The decision of a process, if it has one.
+    /// The decision of a process, if it has one.
     fn decision_of(&self, p: u32) -> Option<Val>
         ensures { result ≡ decision_of (R.rules self.now.state.setup) self.now.state.history p }
     {
-        match self.run.view(p) {
-            Some(process) => process.decision,
-            None => None,
-        }
+        self.run.view(p)?.decision
     }
 
-    // The decision that an event which stands last gave its process.
+    /// The decision that an event which stands last gave its process.
     fn decides(&self, event: &Event) -> Option<Val>
         ensures { result ≡ decides (R.rules self.now.state.setup) self.now.state.history event.now }
     {
@@ -232,7 +226,7 @@ impl<R: Runs> ControlState<R> {
         }
     }
 
-    // Sets the pause, where none stands and a breakpoint fires.
+    /// Sets the pause, where none stands and a breakpoint fires.
     fn fire(&mut self, taken: &Taken) -> Option<u32>
         ensures fired { result ≡ newly_fired self.old.state.pause taken.now self.old.state.stops }
         ensures after { self.new.state ≡ record self.old.state { pause = option_or self.old.state.pause result } }

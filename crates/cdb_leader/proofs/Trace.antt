@@ -1,6 +1,6 @@
 -- What a process sends, for the inputs that it takes in turn, keeps the laws.
-use Rattle.std.proofs.Common.{◌≡◌, ℕ, zero, suc, ◌<◌, List, [], ◌∷◌, ◌++◌, length, slice_index_or, Contains, Option, Some, None, ◌⊎◌, inl, inr, refl, sym, ◌∙◌, subst, append_assoc, append-nil, arith}
-use Rattle.std.specs.Option.{option_map_or, option_to_list}
+use Rattle.std.proofs.Common.{◌≡◌, ℕ, zero, suc, List, [], ◌∷◌, ◌++◌, Contains, Option, Some, None, inl, inr, refl, sym, ◌∙◌, subst, append_assoc, append-nil, arith}
+use Rattle.std.specs.Option.{option_map_or}
 use Rattle.cdb_base.specs.declared.payload.Payload.{Payload}
 use Rattle.cdb_base.specs.declared.payload.Payload.TheVariants.{P1, P2, D}
 use Rattle.cdb_process.specs.declared.Input.{Input}
@@ -8,7 +8,7 @@ use Rattle.cdb_process.specs.declared.Input.TheVariants as input
 use Rattle.cdb_process.proofs.Members.{IsIn}
 use Rattle.cdb_process.specs.Walk.{state_along}
 use Rattle.cdb_leader.specs.LocalState.{LocalState, first_state}
-use Rattle.cdb_leader.specs.Table.{sent_at, next_state}
+use Rattle.cdb_leader.specs.Table.{next_state}
 use Rattle.cdb_leader.specs.Trace.{sent_of, sent_along, IsHeard, IsFounded, SentMessagesAreFounded}
 use Rattle.cdb_leader.proofs.Steps.{Heard, SentIn, Step, LocalLaws, entry, first_laws, step_keeps, aux_follows, decision_follows, first_or_leave_follows}
 use Rattle.cdb_leader.proofs.TableSteps.{local_of, posted_by, WasSent, table_step}

@@ -108,9 +108,8 @@ pub(crate) fn count_backers(inbox: &[Entry], round: u32, leader: Proc) -> usize
 {
     Proc::all()
         .iter()
-        .filter(|sender| match find_first_phase(inbox, round, **sender) {
-            Some(said) => said.lead == leader,
-            None => false,
+        .filter(|sender| {
+            find_first_phase(inbox, round, **sender).is_some_and(|said| said.lead == leader)
         })
         .count()
 }

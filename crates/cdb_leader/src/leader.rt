@@ -71,10 +71,7 @@ impl Leader {
     fn heard_lead(&self) -> bool
         ensures { result ≡ heard_lead self.now }
     {
-        match self.lead {
-            Some(lead) => find_first_phase(&self.inbox, self.round, lead).is_some(),
-            None => false,
-        }
+        self.lead.is_some_and(|lead| find_first_phase(&self.inbox, self.round, lead).is_some())
     }
 
     /// The payload that the process would send.

@@ -1,10 +1,10 @@
 -- What was sent, received and lost: for each process the list of payloads that it sent and the set of the
 -- names that it received, each in order of process, and the set of the copies that are lost.
-use Rattle.std.specs.Prelude.{ℕ, ◌-◌, Bool, true, not, ◌&&◌, List, [], ◌∷◌, ◌++◌, length, take, map, filter, find, replicate, Option, None, Some, is_some, unwrap_or, refl}
+use Rattle.std.specs.Prelude.{ℕ, Bool, true, not, ◌&&◌, List, [], ◌∷◌, ◌++◌, length, map, filter, find, replicate, Option, None, Some, is_some, unwrap_or, refl}
 use Rattle.std.specs.List.{flat_map, range_with_len}
 use Rattle.std.specs.Coded.{Coded, code_by, coded×, coded_list}
 use Rattle.std.specs.FinSet as set
-use Rattle.cdb_base.specs.Places.{nth, set_nth}
+use Rattle.cdb_base.specs.Places.{nth, set_nth, without_last}
 use Rattle.cdb_base.specs.Processes.{all_processes}
 use Rattle.cdb_base.specs.declared.name.MsgName.{MsgName}
 use Rattle.cdb_base.specs.declared.name.CopyName.{CopyName}
@@ -74,7 +74,7 @@ add_loss mail copy = record mail { lost = set.insert mail.lost copy }
 
 -- p's last send is taken back
 abbrev pub remove_send : MailState → ℕ → MailState
-remove_send mail p = record mail { sent = set_nth mail.sent p (take (length (sent_by mail p) - 1) (sent_by mail p)) }
+remove_send mail p = record mail { sent = set_nth mail.sent p (without_last (sent_by mail p)) }
 
 -- p's receive of that message is taken back
 abbrev pub remove_receive : MailState → ℕ → MsgName → MailState

@@ -1,5 +1,6 @@
-ghost use Rattle.std.specs.Prelude.{◌≡◌, ◌-◌, ◌<◌, ◌≤◌, length, take, [], ◌∷◌, ◌++◌, OnOk, OnErr, slice_get};
+ghost use Rattle.std.specs.Prelude.{◌≡◌, ◌<◌, ◌≤◌, length, [], ◌∷◌, ◌++◌, OnOk, OnErr, slice_get};
 ghost use Rattle.std.specs.Option.{option_copied};
+ghost use Rattle.cdb_base.specs.Places.{without_last};
 
 use cdb_base::{NoMemory, Payload, Val};
 use std::alloc::Global;
@@ -54,7 +55,7 @@ impl Outbox {
 
     /// Takes the last payload back, if there is one.
     pub fn pop(&mut self)
-        ensures { self.new ≡ take (length self.old - 1) self.old }
+        ensures { self.new ≡ without_last self.old }
     {
         let _ = self.payloads.pop();
     }

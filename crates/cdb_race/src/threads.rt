@@ -31,7 +31,7 @@ pub enum RaceFault {
     Stopped(u8),
 }
 
-// Starts a thread for one seat.
+/// Starts a thread for one seat.
 fn start_one<'s, E, G: Gate + Drop + Send + 's, R: Threads + Wait + Sync>(
     scope: &Scope<'s, E>,
     rt: &'s R,
@@ -59,7 +59,7 @@ fn start_one<'s, E, G: Gate + Drop + Send + 's, R: Threads + Wait + Sync>(
     started.map_err(|_| RaceFault::Spawn)
 }
 
-// Starts a thread for each seat, the last seat's first.
+/// Starts a thread for each seat, the last seat's first.
 fn start_all<'s, E, G: Gate + Drop + Send + 's, R: Threads + Wait + Sync>(
     scope: &Scope<'s, E>,
     rt: &'s R,
@@ -88,7 +88,7 @@ fn start_all<'s, E, G: Gate + Drop + Send + 's, R: Threads + Wait + Sync>(
     Ok(handles)
 }
 
-// Runs every seat in a thread of its own, and joins them all. The last seat's outcome comes first.
+/// Runs every seat in a thread of its own, and joins them all. The last seat's outcome comes first.
 fn run_all<G: Gate + Drop + Send, R: Threads + Wait + Sync>(
     rt: &R,
     alloc: Global,
@@ -119,7 +119,7 @@ fn run_all<G: Gate + Drop + Send, R: Threads + Wait + Sync>(
     )
 }
 
-// The fault of a seat whose session did not end well.
+/// The fault of a seat whose session did not end well.
 fn fault_of(ran: &Ran) -> Option<RaceFault>
     ensures { result ≡ fault_in ran.now }
 {
@@ -131,7 +131,7 @@ fn fault_of(ran: &Ran) -> Option<RaceFault>
     }
 }
 
-// The fault of the least seat that has one. The last seat's outcome comes first.
+/// The fault of the least seat that has one. The last seat's outcome comes first.
 fn first_fault(rans: &[Ran]) -> Option<RaceFault>
     ensures { MatchOption result (All (λ ran. fault_in ran ≡ None) rans.now) (λ fault. IsOfLeastSeat fault rans.now) }
 {
@@ -143,7 +143,7 @@ fn first_fault(rans: &[Ran]) -> Option<RaceFault>
     None
 }
 
-// The seats and their replies, the first seat's first.
+/// The seats and their replies, the first seat's first.
 fn collect(alloc: Global, mut rans: Vec<Ran>) -> Result<(Vec<Seat>, Vec<Vec<Reply>>), RaceFault>
     ensures fault { IfErr result (λ fault. fault ≡ RaceFault.NoMemory) }
     ensures count { IfOk result (λ r. (vec_len r.0 ≡ vec_len rans) × (vec_len r.1 ≡ vec_len rans)) }

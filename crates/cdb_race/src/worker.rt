@@ -35,7 +35,7 @@ impl<'a> Promise<Ran> for SeatPromise<'a> {
     ghost kept_by = { λ p r. HasRun p.plan p.seat.value r.seat (map told r.replies.items) r.end };
 }
 
-// Drives a process, or serves a script, by the seat's number.
+/// Drives a process, or serves a script, by the seat's number.
 pub(crate) fn run<G: Gate + Drop, R: Wait>(
     shared: &Shared,
     rt: &R,

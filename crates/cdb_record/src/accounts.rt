@@ -23,7 +23,7 @@ pub enum Change {
 }
 
 impl Change {
-    // The count after the change.
+    /// The count after the change.
     fn of(self, count: u32) -> u32
         requires { HasRoomFor self count }
         ensures { result ≡ changed_by self count }

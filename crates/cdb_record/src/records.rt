@@ -148,7 +148,7 @@ impl<B: Drop> Records<B> {
         self.take_out(last)
     }
 
-    // Takes the event at a place out where it is free.
+    /// Takes the event at a place out where it is free.
     fn take_free(&mut self, at: usize) -> Option<Entry<B>>
         requires from_one { 1 ≤ at }
         requires to_len { at ≤ length self.old }
@@ -179,7 +179,7 @@ impl<B: Drop> Records<B> {
     }
 }
 
-// The place, from 1, of the last step of a process.
+/// The place, from 1, of the last step of a process.
 fn last_of(history: &History, p: Proc) -> Option<usize>
     ensures { MatchOption result ((i : ℕ) → IsStepOf history.now p i → ⊥) (λ at. (1 ≤ at) × IsLastStepOf history.now p (at - 1)) }
 {

@@ -15,7 +15,7 @@ use Rattle.cdb_base.specs.declared.refusal.Refusal.{Refusal}
 use Rattle.cdb_base.specs.declared.refusal.Refusal.TheVariants as refusal
 use Rattle.cdb_message.specs.Mail.{MailState, message_name, copy_name, sent_by, is_sent, is_received, is_lost}
 use Rattle.cdb_run.specs.Mail.{mail_of}
-use Rattle.cdb_run.specs.Refusals.{first_refusal, accepts_kind, receives, again_checks, again_answer, lose_checks, lose_answer, unless_refused, NamesProcess, IsOfRun}
+use Rattle.cdb_run.specs.Refusals.{first_refusal, accepts_kind, receives_such, again_checks, again_answer, lose_checks, lose_answer, unless_refused, NamesProcess, IsOfRun}
 use Rattle.cdb_run.specs.State.{Machine, ProcessState, RunState}
 use Rattle.cdb_run.specs.Step.{is_among, sight_in, may_lose, after}
 use Rattle.cdb_run.proofs.Enabled.{accepts_by, fits_by}
@@ -47,13 +47,13 @@ is_one_of n p first last = grind (arith, nat_tests)
 
 -- what a receive asks for, by its checks
 fits_receive : {L : Type 0} (machine : Machine L) (setup : Parts) (number : length machine.firsts ≡ setup.processes) (mail : MailState) (p : ℕ) (kind : Kind) → NamesProcess setup.processes kind
-    → receives (λ name. not (is_sent mail name)) kind ≡ false → receives (is_received mail p) kind ≡ false → receives (λ name. is_lost mail (copy_name name p)) kind ≡ false → Fits machine mail p kind
+    → receives_such (λ name. not (is_sent mail name)) kind ≡ false → receives_such (is_received mail p) kind ≡ false → receives_such (λ name. is_lost mail (copy_name name p)) kind ≡ false → Fits machine mail p kind
 fits_receive machine setup number mail p (Query leader) names sent received lost = subst (λ n. is_among n leader ≡ true) (sym number) (is_one_of setup.processes leader names.0 names.1)
 fits_receive machine setup number mail p (Recv s m) names sent received lost = (not_false (is_sent mail (message_name s m)) sent, received, lost)
 fits_receive machine setup number mail p _ names sent received lost = tt
 
 receive_passes : {L : Type 0} (machine : Machine L) (mail : MailState) (p : ℕ) (kind : Kind) → Fits machine mail p kind
-    → (receives (λ name. not (is_sent mail name)) kind ≡ false) × (receives (is_received mail p) kind ≡ false) × (receives (λ name. is_lost mail (copy_name name p)) kind ≡ false)
+    → (receives_such (λ name. not (is_sent mail name)) kind ≡ false) × (receives_such (is_received mail p) kind ≡ false) × (receives_such (λ name. is_lost mail (copy_name name p)) kind ≡ false)
 receive_passes machine mail p (Recv s m) fits = (turned (is_sent mail (message_name s m)) fits.0, fits.1, fits.2)
 receive_passes machine mail p _ fits = (refl, refl, refl)
 

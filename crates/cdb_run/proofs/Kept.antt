@@ -5,6 +5,7 @@ use Rattle.std.specs.FinSet as set
 use Rattle.std.specs.Cmp.{Equal-is}
 use Rattle.std.specs.Ordering.{eq_by_cmp}
 use Rattle.cdb_base.specs.Places.{nth}
+use Rattle.cdb_base.specs.Registers.{same_register}
 use Rattle.cdb_base.specs.declared.event.Event.TheVariants.{Step, Lost}
 use Rattle.cdb_base.specs.declared.event.Kind.{Kind}
 use Rattle.cdb_base.specs.declared.event.Kind.TheVariants.{Send, Recv, Read, Write}
@@ -14,7 +15,7 @@ use Rattle.cdb_base.specs.declared.payload.Payload.{Payload}
 use Rattle.cdb_base.specs.declared.register.Cell.{Cell}
 use Rattle.cdb_base.specs.declared.register.Reg.{Reg}
 use Rattle.cdb_base.specs.declared.register.Reg.TheVariants.{R, Dec}
-use Rattle.cdb_causal.specs.Dependence.{same_register, sends, receives, kind_affects, affects}
+use Rattle.cdb_causal.specs.Dependence.{sends, receives, kind_affects, affects}
 use Rattle.cdb_message.specs.Mail.{message_name, copy_name, sent_by, received_by, payload_of, is_sent, is_received, is_lost}
 use Rattle.cdb_message.specs.Names.{NameSet, CopySet, name_cmp, copy_cmp}
 use Rattle.cdb_message.proofs.Sets.{name_cmp_total, name_cmp-IsAntisymmetric, copy_cmp_total, copy_cmp-IsAntisymmetric}

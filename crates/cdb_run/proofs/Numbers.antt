@@ -1,12 +1,13 @@
 -- What one event that is taken says of the numbers of the processes, of what is received and lost, and of the register
 -- that it reads or writes.
-use Rattle.std.proofs.Common.{◌≡◌, ℕ, ◌+◌, ◌≤◌, Bool, true, false, ◌||◌, ◌⊎◌, inl, inr, ⊎_elim, length, Option, Some, None, option_and_then, option_map, option_to_list, nat_eq, refl, sym, ap, ap₂, ◌∙◌, subst, true≢false, eq-eqb, le_refl, le_of_eq, length-append, arith}
+use Rattle.std.proofs.Common.{◌≡◌, ℕ, ◌+◌, ◌≤◌, Bool, true, false, ◌||◌, ◌⊎◌, inl, inr, ⊎_elim, length, Option, Some, None, option_and_then, option_map, option_to_list, nat_eq, refl, sym, ap, ap₂, ◌∙◌, subst, true≢false, le_refl, le_of_eq, length-append, arith}
 use Rattle.std.proofs.lemmas.Option.{same_Some}
 use Rattle.std.proofs.lemmas.List.{length_push}
 use Rattle.std.specs.FinSet as set
 use Rattle.std.specs.Cmp.{Equal-is, tied_itself}
 use Rattle.std.specs.Ordering.{eq_by_cmp}
 use Rattle.cdb_base.specs.Places.{nth, update_nth}
+use Rattle.cdb_base.specs.Registers.{same_register-itself, same_register-true}
 use Rattle.cdb_base.specs.declared.event.Event.{Event}
 use Rattle.cdb_base.specs.declared.event.Event.TheVariants.{Step, Lost}
 use Rattle.cdb_base.specs.declared.event.Kind.{Kind}
@@ -16,7 +17,7 @@ use Rattle.cdb_base.specs.declared.name.MsgName.{MsgName}
 use Rattle.cdb_base.specs.declared.register.Cell.{Cell}
 use Rattle.cdb_base.specs.declared.register.Reg.{Reg}
 use Rattle.cdb_base.specs.declared.register.Reg.TheVariants.{R, Dec}
-use Rattle.cdb_causal.specs.Dependence.{same_register, accesses}
+use Rattle.cdb_causal.specs.Dependence.{accesses}
 use Rattle.cdb_message.specs.Mail.{message_name, copy_name, sent_by, is_sent, is_received, is_lost}
 use Rattle.cdb_message.specs.Names.{NameSet, CopySet, name_cmp, copy_cmp}
 use Rattle.cdb_message.proofs.Sets.{name_cmp_total, copy_cmp_total}
@@ -59,20 +60,10 @@ IsCounted {L} state = (p : ℕ) (process : ProcessState L) → nth state.process
 
 -- registers
 
-pub register_same : (x y : Reg) → same_register x y ≡ true → x ≡ y
-register_same (R p) (R q) h = ap R (nat_eq-is p q h)
-register_same (R p) Dec h = absurd (true≢false (sym h))
-register_same Dec (R q) h = absurd (true≢false (sym h))
-register_same Dec Dec h = refl
-
-pub same_register_itself : (x : Reg) → same_register x x ≡ true
-same_register_itself (R p) = eq-eqb p p refl
-same_register_itself Dec = refl
-
 -- what accesses a register reads or writes it
 access_cases : (register : Reg) (kind : Kind) → accesses register kind ≡ true → (kind ≡ Read register) ⊎ (kind ≡ Write register)
-access_cases register (Read other) h = inl (ap Read (sym (register_same register other h)))
-access_cases register (Write other) h = inr (ap Write (sym (register_same register other h)))
+access_cases register (Read other) h = inl (ap Read (sym (same_register-true register other h)))
+access_cases register (Write other) h = inr (ap Write (sym (same_register-true register other h)))
 access_cases register _ h = absurd (true≢false (sym h))
 
 of_register-written : (cell : Cell) (o : Option RegisterState) → of_register o ≤ of_register (option_map (written cell) o)
@@ -282,7 +273,7 @@ module _ {L : Type 0} (machine : Machine L) (state to : RunState L) (p k : ℕ) 
   -- a write counts
   pub write_counts : (register : Reg) → kind ≡ Write register → writes_of to register ≡ writes_of state register + 1
   write_counts register e =
-      let met = met_register register (ap (accesses register) e ∙ same_register_itself register) in
+      let met = met_register register (ap (accesses register) e ∙ same_register-itself register) in
       let cell = some_of (wished_cell (machine.wish t.process.progress.local)) (subst (λ x. is_due machine t.process x ≡ true) e goes_on.due) in
       ap (λ (x : RunState L). writes_of x register) (sym t.leads_to)
       ∙ ap₂ (λ x c. of_register (register_of (registers_after state.registers x c) register)) e cell.1

@@ -3,13 +3,14 @@ use Rattle.std.proofs.Common.{◌≡◌, ℕ, zero, suc, ◌+◌, length, replic
 use Rattle.std.proofs.lemmas.Option.{same_Some}
 use Rattle.cdb_base.specs.Event.{is_step_of}
 use Rattle.cdb_base.specs.Places.{nth}
+use Rattle.cdb_base.specs.Registers.{same_register, same_register-itself, same_register-true}
 use Rattle.cdb_base.specs.declared.event.Event.{Event}
 use Rattle.cdb_base.specs.declared.event.Event.TheVariants.{Step, Lost}
 use Rattle.cdb_base.specs.declared.event.Kind.{Kind}
 use Rattle.cdb_base.specs.declared.event.Kind.TheVariants.{Query, Send, Recv, Read, Write, Local, Learn, Crash}
 use Rattle.cdb_base.specs.declared.register.Reg.{Reg}
 use Rattle.cdb_base.specs.declared.register.Reg.TheVariants.{R, Dec}
-use Rattle.cdb_causal.specs.Dependence.{same_register, accesses, kind_affects}
+use Rattle.cdb_causal.specs.Dependence.{accesses, kind_affects}
 use Rattle.cdb_register.specs.Registers.{register_of, fresh_register, fresh_registers}
 use Rattle.cdb_run.specs.OwnSteps.{no_writes, writes_with, writes_met, noted, own_steps, own_of}
 use Rattle.cdb_run.specs.State.{Machine, OwnEvent, ProcessState, RunState, start}
@@ -17,7 +18,7 @@ use Rattle.cdb_run.specs.Step.{after, fold, own_event, sight_in}
 use Rattle.cdb_run.proofs.Commutes.{lost_from}
 use Rattle.cdb_run.proofs.Kept.{at_left, process_kept, register_kept, nat_eq-is, nat_eq-ne}
 use Rattle.cdb_run.proofs.Members.{Reaches, first_step, nth-fresh}
-use Rattle.cdb_run.proofs.Numbers.{of_register, writes_of, access_noted, write_counts, register_same, same_register_itself}
+use Rattle.cdb_run.proofs.Numbers.{of_register, writes_of, access_noted, write_counts}
 use Rattle.cdb_run.proofs.Taken.{IsTaken, taken_from}
 
 -- what is noted hangs on the counts of the registers alone
@@ -68,7 +69,7 @@ module _ {L : Type 0} (machine : Machine L) where
         by_kind : (other : Kind) → kind ≡ other → writes_of to register ≡ writes_with (writes_of state) (Step p k other) register
         by_kind (Write x) is =
             elim (same_register x register) as (λ b. same_register x register ≡ b → writes_of to register ≡ (if b then writes_of state register + 1 else writes_of state register)) [
-              | true ↦ λ e. write_counts machine state to p k kind t register (is ∙ ap Write (register_same x register e))
+              | true ↦ λ e. write_counts machine state to p k kind t register (is ∙ ap Write (same_register-true x register e))
               | false ↦ λ e. kept (ap (λ y. kind_affects p y (Read register)) is ∙ e)
             ] refl
         by_kind (Query leader) is = kept (ap (λ y. kind_affects p y (Read register)) is)
@@ -84,8 +85,8 @@ module _ {L : Type 0} (machine : Machine L) where
     met_is = by_kind kind refl
       where
         by_kind : (other : Kind) → kind ≡ other → (own_event p k kind (sight_in state p kind)).writes_before ≡ writes_met (writes_of state) (Step p k other)
-        by_kind (Read register) is = access_noted machine state to p k kind t register (ap (accesses register) is ∙ same_register_itself register)
-        by_kind (Write register) is = access_noted machine state to p k kind t register (ap (accesses register) is ∙ same_register_itself register)
+        by_kind (Read register) is = access_noted machine state to p k kind t register (ap (accesses register) is ∙ same_register-itself register)
+        by_kind (Write register) is = access_noted machine state to p k kind t register (ap (accesses register) is ∙ same_register-itself register)
         by_kind (Query leader) is = ap (λ y. (own_event p k y (sight_in state p y)).writes_before) is
         by_kind (Send m) is = ap (λ y. (own_event p k y (sight_in state p y)).writes_before) is
         by_kind (Recv s m) is = ap (λ y. (own_event p k y (sight_in state p y)).writes_before) is

@@ -1,6 +1,7 @@
 -- Histories that reach the same state are equal up to exchange.
 use Rattle.std.proofs.Common.{◌≡◌, ℕ, Bool, true, false, ◌&&◌, ◌||◌, ◌⊎◌, inl, inr, ⊎_elim, List, [], ◌∷◌, Option, Some, nat_eq, refl, sym, ap, ap₂, ◌∙◌, subst, true≢false, lt_irrefl, arith}
 use Rattle.std.proofs.lemmas.Option.{same_Some}
+use Rattle.cdb_base.specs.Registers.{same_register-itself}
 use Rattle.cdb_base.specs.declared.event.Event.{Event}
 use Rattle.cdb_base.specs.declared.event.Event.TheVariants.{Step, Lost}
 use Rattle.cdb_base.specs.declared.event.Kind.{Kind}
@@ -17,7 +18,7 @@ use Rattle.cdb_run.specs.State.{Machine, OwnEvent, RunState, start}
 use Rattle.cdb_run.specs.Step.{fold}
 use Rattle.cdb_run.proofs.Kept.{nat_eq-is}
 use Rattle.cdb_run.proofs.Members.{IsOrdered, AreStepsOrdered, member, ordered, own_comes, lost_comes, start_counted, start_empty, start_unlost}
-use Rattle.cdb_run.proofs.Numbers.{own_at, same_register_itself}
+use Rattle.cdb_run.proofs.Numbers.{own_at}
 use Rattle.cdb_run.proofs.Taken.{both}
 
 or_cases : (a b : Bool) → (a || b) ≡ true → (a ≡ true) ⊎ (b ≡ true)
@@ -55,7 +56,7 @@ module _ {L : Type 0} (machine : Machine L) where
   module _ (to : RunState L) where
     clash : (register : Reg) (p k : ℕ) (kind : Kind) (q l : ℕ) (other : Kind) → kind ≡ Write register → accesses register other ≡ true → AreStepsOrdered machine to p k kind q l other → AreStepsOrdered machine to q l other p k kind → ⊥
     clash register p k kind q l other e two o b =
-        let one = ap (accesses register) e ∙ same_register_itself register in
+        let one = ap (accesses register) e ∙ same_register-itself register in
         let w = o.writes register one two in
         let z = b.writes register two one in
         let same_first = noted_number (Step p k kind) w.0 z.1 (sym w.2 ∙ z.3) in

@@ -4,11 +4,11 @@ use Rattle.std.specs.List.{list_all}
 use Rattle.cdb_base.specs.Event.{is_step_of}
 use Rattle.cdb_base.specs.Places.{nth}
 use Rattle.cdb_base.specs.Processes.{all_processes}
+use Rattle.cdb_base.specs.Registers.{same_register}
 use Rattle.cdb_base.specs.declared.event.Event.{Event}
 use Rattle.cdb_base.specs.declared.event.Event.TheVariants.{Step, Lost}
 use Rattle.cdb_base.specs.declared.event.Kind.TheVariants.{Read, Write}
 use Rattle.cdb_base.specs.declared.register.Reg.{Reg}
-use Rattle.cdb_causal.specs.Dependence.{same_register}
 use Rattle.cdb_message.specs.Mail.{MailState, is_lost}
 use Rattle.cdb_run.specs.State.{OwnEvent, RunState}
 

@@ -118,9 +118,9 @@ step_answer machine setup state p do_act =
 -- Why a step that was undone is not taken again.
 
 -- a step of that kind receives a message of which the test holds
-abbrev pub receives : (MsgName → Bool) → Kind → Bool
-receives test (Recv s m) = test (message_name s m)
-receives test _ = false
+abbrev pub receives_such : (MsgName → Bool) → Kind → Bool
+receives_such test (Recv s m) = test (message_name s m)
+receives_such test _ = false
 
 abbrev pub again_checks : {L : Type 0} → Machine L → MailState → RegisterStates → Progress L → ℕ → ℕ → Kind → List (Bool × Refusal)
 again_checks machine mail registers progress p k kind =
@@ -128,9 +128,9 @@ again_checks machine mail registers progress p k kind =
     ∷ (not progress.alive, refusal.Crashed)
     ∷ (machine.done progress.local, refusal.Done)
     ∷ (not (accepts_kind machine.next progress.local (length (sent_by mail p)) registers kind), refusal.NotNow)
-    ∷ (receives (λ name. not (is_sent mail name)) kind, refusal.NoMessage)
-    ∷ (receives (is_received mail p) kind, refusal.Taken)
-    ∷ (receives (λ name. is_lost mail (copy_name name p)) kind, refusal.Lost)
+    ∷ (receives_such (λ name. not (is_sent mail name)) kind, refusal.NoMessage)
+    ∷ (receives_such (is_received mail p) kind, refusal.Taken)
+    ∷ (receives_such (λ name. is_lost mail (copy_name name p)) kind, refusal.Lost)
     ∷ []
 
 -- Why the copy of a message for process p is not lost.

@@ -191,10 +191,7 @@ impl<P: Process> Run<P> {
     pub fn refuses(&self, p: u32, act: Act) -> Option<Refusal>
         ensures { result ≡ result_err (step_answer (machine_of P.first P.next P.wish P.place P.last_place self.now.setup) self.now.setup (state_of (machine_of P.first P.next P.wish P.place P.last_place self.now.setup) self.now.history) p act) }
     {
-        match self.plan(p, act) {
-            Ok(_) => None,
-            Err(refusal) => Some(refusal),
-        }
+        self.plan(p, act).err()
     }
 
     /// Takes the step of process `p` that an act names, or answers the first refusal that holds:

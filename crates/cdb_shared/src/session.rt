@@ -37,7 +37,7 @@ pub enum End {
     JournalFull,
 }
 
-// How a session ends at a fault.
+/// How a session ends at a fault.
 fn ended_by(fault: CallFault) -> End
     ensures { result ≡ end_at fault }
 {
@@ -47,7 +47,7 @@ fn ended_by(fault: CallFault) -> End
     }
 }
 
-// Whether the process was done.
+/// Whether the process was done.
 fn is_done(reply: &Reply) -> bool
     ensures { IsTrue result ↔ (told reply.now ≡ Refused Refusal.Done) }
 {

@@ -130,7 +130,7 @@ impl Shared {
     }
 }
 
-// A pass for each seat, by the numbers from 1 on.
+/// A pass for each seat, by the numbers from 1 on.
 fn deal(turn: &Turn, mut pass: TurnPass, count: u8, mut seats: Vec<Seat>) -> Vec<Seat>
     requires queue { IsPassOf turn.now pass }
     requires all { (c : Journaled) × (view pass ≡ resting (places_from c 1 count)) × (count ≤ c.seats) }
@@ -147,7 +147,7 @@ fn deal(turn: &Turn, mut pass: TurnPass, count: u8, mut seats: Vec<Seat>) -> Vec
     seats
 }
 
-// One pass for all the seats.
+/// One pass for all the seats.
 fn gather(turn: &Turn, mut seats: Vec<Seat>) -> TurnPass
     requires some { 0 < vec_len seats }
     requires rest { All (λ seat. RestsAt turn.now.table.shared.table_id seat) seats.items }

@@ -119,7 +119,7 @@ fn faults_of_words(rt: HostRuntime) {
     refuse_each(&rt, &lines);
 }
 
-// The copy has no receiver, a fourth number, neither `lost` nor a number.
+/// The copy has no receiver, a fourth number, neither `lost` nor a number.
 #[test]
 fn faults_of_losses(rt: HostRuntime) {
     let lines = [

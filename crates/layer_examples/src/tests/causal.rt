@@ -45,7 +45,7 @@ fn a_loss_depends_on_its_send_and_its_receive(rt: HostRuntime) {
     assert!(rt; !are_dependent(&lost, &step(1, 3, Kind::Crash)));
 }
 
-// Two processes, each with a register of its own. Process 1 goes on as soon as it has read both.
+/// Two processes, each with a register of its own. Process 1 goes on as soon as it has read both.
 #[test]
 fn two_processes_with_registers(rt: HostRuntime) -> Result<(), Fail> {
     let events = [
@@ -85,7 +85,7 @@ fn two_processes_with_registers(rt: HostRuntime) -> Result<(), Fail> {
     Ok(())
 }
 
-// A write to the register of the decision needs the read before it by another process.
+/// A write to the register of the decision needs the read before it by another process.
 #[test]
 fn a_write_needs_the_read_before_it(rt: HostRuntime) -> Result<(), Fail> {
     let events = [
@@ -106,7 +106,7 @@ fn a_write_needs_the_read_before_it(rt: HostRuntime) -> Result<(), Fail> {
     Ok(())
 }
 
-// The copy to process 2 is lost, and the one to process 1 is received.
+/// The copy to process 2 is lost, and the one to process 1 is received.
 #[test]
 fn lost_copies(rt: HostRuntime) -> Result<(), Fail> {
     let lost = copy(1, 1, 2);
@@ -145,7 +145,7 @@ fn lost_copies(rt: HostRuntime) -> Result<(), Fail> {
     Ok(())
 }
 
-// Each law holds of the events of a run.
+/// Each law holds of the events of a run.
 #[test]
 fn laws_of_events() {
     laws::dependence_is_symmetric();

@@ -9,8 +9,8 @@ use std::alloc::Global;
 use std::process::Abort;
 use std::test::Fail;
 
-// Whether there are events at both places, the first before the second, and the second depends on
-// the first.
+/// Whether there are events at both places, the first before the second, and the second depends on
+/// the first.
 fn is_linked(events: &[Event], i: usize, j: usize) -> bool {
     match (events.get(i), events.get(j)) {
         (Some(cause), Some(effect)) => i < j && are_dependent(cause, effect),
@@ -31,8 +31,8 @@ fn is_linked_to_one(events: &[Event], causes: &[usize], j: usize) -> bool {
     causes.iter().any(|cause| is_linked(events, *cause, j))
 }
 
-// The least set that has the place and each place linked to one that it has: it grows until nothing
-// is left to add.
+/// The least set that has the place and each place linked to one that it has: it grows until nothing
+/// is left to add.
 fn plain_rolled_back(alloc: Global, events: &[Event], i: usize) -> Result<Vec<usize>, NoMemory> {
     let mut places = Vec::new(alloc);
     places.push(i)?;
@@ -73,7 +73,7 @@ fn plain_direct_causes(alloc: Global, events: &[Event], j: usize) -> Result<Vec<
     Ok(names)
 }
 
-// A number below `n`, and the next seed.
+/// A number below `n`, and the next seed.
 fn draw(seed: &mut u64, n: u64) -> u64
     requires { 0 < n }
     ensures { result < n }
@@ -113,7 +113,7 @@ fn draw_kind(seed: &mut u64) -> Kind {
     }
 }
 
-// A step under a name that may stand already, or a loss.
+/// A step under a name that may stand already, or a loss.
 fn draw_event(seed: &mut u64) -> Event {
     let p = draw_process(seed);
     match draw(seed, 5) {
@@ -136,7 +136,7 @@ fn draw_history(alloc: Global, seed: &mut u64) -> Result<ExampleHistory, NoMemor
     Ok(history)
 }
 
-// All events but the one at place `i`, in order.
+/// All events but the one at place `i`, in order.
 fn plain_without(alloc: Global, events: &[Event], i: usize) -> Result<Vec<StepId>, NoMemory> {
     let mut names = Vec::new(alloc);
     for (j, event) in events.iter().enumerate() {
@@ -170,7 +170,7 @@ fn compare(rt: &impl Abort, alloc: Global, history: &ExampleHistory) -> Result<(
     Ok(())
 }
 
-// Takes events out, one after the other, until none stands.
+/// Takes events out, one after the other, until none stands.
 fn compare_removals(
     rt: &impl Abort,
     alloc: Global,

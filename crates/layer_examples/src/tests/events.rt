@@ -56,7 +56,7 @@ pub fn are_dependent(event: &Event, other: &Event) -> bool {
     depends(event, other)
 }
 
-// False where the event is no send.
+/// False where the event is no send.
 fn may_send(event: &Event) -> bool
     ensures { (copy : ACopy) → result ≡ false → affects_of event.now (Lost copy) ≡ false }
 {
@@ -69,7 +69,7 @@ fn may_send(event: &Event) -> bool
     }
 }
 
-// False where the earlier event is not the loss of a copy of what the event sends.
+/// False where the earlier event is not the loss of a copy of what the event sends.
 fn has_lost(event: &Event, earlier: &Event) -> bool
     ensures { (copy : ACopy) → earlier.now ≡ Lost copy → result ≡ false → affects_of event.now (Lost copy) ≡ false }
 {

@@ -43,7 +43,7 @@ fn counts_of_a_lost_copy(rt: HostRuntime) -> Result<(), Fail> {
     Ok(())
 }
 
-// Receives of one message do not need each other, and both need its send.
+/// Receives of one message do not need each other, and both need its send.
 #[test]
 fn counts_of_two_receives(rt: HostRuntime) -> Result<(), Fail> {
     let mut records = example(rt.alloc())?;

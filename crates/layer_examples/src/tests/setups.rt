@@ -432,7 +432,7 @@ fn longest_text(rt: HostRuntime) -> Result<(), Fail> {
     Ok(())
 }
 
-// Whatever it says.
+/// Whatever it says.
 #[test]
 fn too_long_a_text(rt: HostRuntime) -> Result<(), Fail> {
     let setup = padded(rt.alloc(), ONE, LONGEST + 1)?;

@@ -10,7 +10,7 @@ use std::alloc::AllocError;
 use std::sync::Wait;
 use std::test::Fail;
 
-// Drives process 1 for eight turns, and for what is left of them if memory was wanting.
+/// Drives process 1 for eight turns, and for what is left of them if memory was wanting.
 fn drive_at_last<R: Wait + AllocGlobal>(rt: &R, pair: Pair) -> (Pair, u32, End) {
     let (pair, count, end) = pair.drive(rt, OPEN, 8);
     if end != End::NoMemory {
@@ -20,12 +20,12 @@ fn drive_at_last<R: Wait + AllocGlobal>(rt: &R, pair: Pair) -> (Pair, u32, End) 
     (pair, count.saturating_add(more), end)
 }
 
-// The commands behind the first that were answered.
+/// The commands behind the first that were answered.
 fn left(commands: &[Command], answered: usize) -> &[Command] {
     commands.get(answered..).unwrap_or(&[])
 }
 
-// Serves the commands, and those that are left if memory was wanting.
+/// Serves the commands, and those that are left if memory was wanting.
 fn serve_at_last<R: Wait + AllocGlobal>(
     rt: &R,
     pair: Pair,

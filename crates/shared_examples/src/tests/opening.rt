@@ -26,7 +26,7 @@ pub fn try_setup(alloc: Global, setup: &str) -> Option<Setup> {
     Setup::read(alloc, setup.as_bytes()).ok()
 }
 
-// A control of a setup in which nothing has happened, for two seats.
+/// A control of a setup in which nothing has happened, for two seats.
 fn try_control(alloc: Global, setup: &str) -> Option<Control<RunOfSetup>> {
     let setup = try_setup(alloc, setup)?;
     Control::open(alloc, setup, 2).ok()
@@ -40,7 +40,7 @@ pub fn control_of<R: AllocGlobal>(rt: &R, setup: &str) -> Result<Control<RunOfSe
     }
 }
 
-// The control as one that is shared, with its seats, or the control handed back.
+/// The control as one that is shared, with its seats, or the control handed back.
 fn try_share<R: Wait + AllocGlobal>(
     rt: &R,
     control: Control<RunOfSetup>,
@@ -69,7 +69,7 @@ pub fn share<R: Wait + AllocGlobal>(
     }
 }
 
-// The texts of replies, one after the other.
+/// The texts of replies, one after the other.
 fn try_texts(alloc: Global, replies: &[Reply]) -> Option<Vec<u8>> {
     let mut texts = Vec::new(alloc);
     for reply in replies {
@@ -89,7 +89,7 @@ pub fn say<R: Abort + AllocGlobal>(rt: &R, replies: &[Reply], expected: &str) ->
     Ok(())
 }
 
-// The seat of each entry of a journal.
+/// The seat of each entry of a journal.
 fn try_seats(alloc: Global, journal: &[Entry]) -> Option<Vec<u8>> {
     let mut seats = Vec::new(alloc);
     for entry in journal {

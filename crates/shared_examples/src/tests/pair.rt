@@ -161,7 +161,7 @@ impl Pair {
         )
     }
 
-    // Ends the sharing, and gives the control.
+    /// Ends the sharing, and gives the control.
     fn end<R: Wait>(self, rt: &R, room: Vec<Seat>) -> Control<RunOfSetup>
         requires { (room.items ≡ []) × (2 ≤ vec_capacity room) }
     {
@@ -182,7 +182,7 @@ impl Pair {
     }
 }
 
-// The pair of a shared control and its seats, which are two.
+/// The pair of a shared control and its seats, which are two.
 fn seated(shared: Shared, mut seats: Vec<Seat>) -> Result<Pair, Fail>
     requires { All (λ seat. RestsAt shared seat) seats.items }
 {
@@ -199,7 +199,7 @@ fn seated(shared: Shared, mut seats: Vec<Seat>) -> Result<Pair, Fail>
     })
 }
 
-// Asks twice for the decisions, behind a gate.
+/// Asks twice for the decisions, behind a gate.
 fn ask_twice<R: Wait>(shared: &Shared, rt: &R, alloc: Global, seat: Seat, gate: Crossing) -> End
     requires { RestsAt shared.now seat }
 {
@@ -208,7 +208,7 @@ fn ask_twice<R: Wait>(shared: &Shared, rt: &R, alloc: Global, seat: Seat, gate: 
     end
 }
 
-// Room for both seats, at the second try if the first wants memory.
+/// Room for both seats, at the second try if the first wants memory.
 fn room_for_two<R: AllocGlobal>(rt: &R) -> Result<Vec<Seat>, Fail>
     ensures { IfOk result (λ seats. (seats.items ≡ []) × (2 ≤ vec_capacity seats)) }
 {
@@ -218,7 +218,7 @@ fn room_for_two<R: AllocGlobal>(rt: &R) -> Result<Vec<Seat>, Fail>
     }
 }
 
-// Both seats, which rest.
+/// Both seats, which rest.
 fn gathered(shared: &Shared, first: Seat, second: Seat, room: Vec<Seat>) -> Vec<Seat>
     requires first { RestsAt shared.now first }
     requires second { RestsAt shared.now second }

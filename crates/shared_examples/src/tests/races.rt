@@ -40,7 +40,7 @@ fn outcome_of(alloc: Global, raced: &Raced) -> Result<Outcome, Fail> {
     })
 }
 
-// The race of a setup, which leaves nothing where the gates are not as many as its seats.
+/// The race of a setup, which leaves nothing where the gates are not as many as its seats.
 fn run<R: Threads + Wait + Sync + Abort + AllocGlobal>(
     rt: &R,
     setup: Setup,
@@ -65,7 +65,7 @@ fn raced<R: Threads + Wait + Sync + Abort + AllocGlobal>(
     outcome_of(rt.alloc(), &raced)
 }
 
-// So many scripts of these commands.
+/// So many scripts of these commands.
 fn scripts(alloc: Global, commands: &[Command], count: u32) -> Result<Vec<Script>, AllocError> {
     let mut scripts = Vec::new(alloc);
     for _ in 0..count {
@@ -74,7 +74,7 @@ fn scripts(alloc: Global, commands: &[Command], count: u32) -> Result<Vec<Script
     Ok(scripts)
 }
 
-// Four gates, of which two hold each other up: those of the first two seats or those of the last two.
+/// Four gates, of which two hold each other up: those of the first two seats or those of the last two.
 fn gates<'a>(
     alloc: Global,
     one: &'a AtomicBool,
@@ -94,7 +94,7 @@ fn gates<'a>(
     Ok(gates)
 }
 
-// Gates that always pass.
+/// Gates that always pass.
 fn open_gates(alloc: Global, count: u8) -> Result<Vec<Crossing<'static>>, AllocError> {
     let mut all = Vec::new(alloc);
     for _ in 0..count {
@@ -103,7 +103,7 @@ fn open_gates(alloc: Global, count: u8) -> Result<Vec<Crossing<'static>>, AllocE
     Ok(all)
 }
 
-// Two processes and two scripts, and how many entries the final journal has.
+/// Two processes and two scripts, and how many entries the final journal has.
 fn crossed<R: Threads + Wait + Sync + Abort + AllocGlobal>(
     rt: &R,
     turns: u32,
@@ -123,7 +123,7 @@ fn two_sessions_cross(rt: HostRuntime) -> Result<(), Fail> {
     Ok(())
 }
 
-// Whether all standing decisions have one value.
+/// Whether all standing decisions have one value.
 fn agree(decisions: &[(Proc, Val)]) -> bool {
     for (_, value) in decisions {
         for (_, other) in decisions {

@@ -33,7 +33,7 @@ fn replies<R: Wait + AllocGlobal>(
     Ok(replies)
 }
 
-// Makes the calls, and compares the texts of the replies with what is expected.
+/// Makes the calls, and compares the texts of the replies with what is expected.
 fn check<R: Wait + Abort + AllocGlobal>(
     rt: &R,
     pair: &mut Pair,

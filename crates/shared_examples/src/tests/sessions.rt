@@ -10,7 +10,7 @@ use std::sync::atomic::AtomicBool;
 use std::test::Fail;
 use std::thread::Threads;
 
-// How many calls a driven process makes, and how that ends.
+/// How many calls a driven process makes, and how that ends.
 fn driven<R: Wait + AllocGlobal>(rt: &R, turns: u32, stop: u32) -> Result<(u32, End), Fail> {
     let (_, count, end) = Pair::of(rt, ALONE)?.drive(rt, stop, turns);
     Ok((count, end))
@@ -46,7 +46,7 @@ fn a_gate_stops_a_session(rt: HostRuntime) -> Result<(), Fail> {
     Ok(())
 }
 
-// Two sessions, each of which waits for the other between its calls.
+/// Two sessions, each of which waits for the other between its calls.
 fn crossed<R: Threads + Wait + Sync + AllocGlobal>(rt: &R) -> Result<(End, End), Fail> {
     let pair = Pair::of(rt, ONE_LEADER)?;
     let (one, other) = (AtomicBool::new(false), AtomicBool::new(false));
