@@ -295,29 +295,15 @@ impl Alpha {
 }
 
 impl Process for Alpha {
-    ghost use Rattle.cdb_alpha.specs.LocalState.{first_state};
-    ghost use Rattle.cdb_alpha.specs.Place.{place_number};
-    ghost use Rattle.cdb_alpha.specs.Table.{next_state, wish_of};
+    ghost use Rattle.cdb_alpha.specs.Machine.{alpha_table};
     ghost use Rattle.cdb_alpha.specs.Back.{state_before};
     ghost use Rattle.cdb_alpha.specs.TableLaws as laws;
 
     type Back = Back;
 
-    ghost first = { λ me n q input. first_state me n input };
-
-    ghost next = { next_state };
+    ghost table = { alpha_table };
 
     ghost before = { state_before };
-
-    ghost wish = { wish_of };
-
-    ghost decision = { λ s. s.decision };
-
-    ghost place = { λ s. place_number s.place };
-
-    ghost round = { λ s. s.round };
-
-    ghost last_place = { 9 };
 
     ghost query_by_state = { laws.next_state-query };
 

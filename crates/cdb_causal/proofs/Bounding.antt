@@ -8,12 +8,10 @@ use Rattle.cdb_base.specs.declared.name.StepId.{StepId}
 use Rattle.cdb_base.specs.declared.name.StepId.TheVariants as named
 use Rattle.cdb_base.specs.declared.name.StepName.{StepName}
 use Rattle.cdb_base.specs.declared.event.Event.TheVariants.{Step, Lost}
-use Rattle.cdb_base.specs.declared.event.Kind.TheVariants.{Recv, Read, Write}
-use Rattle.cdb_causal.specs.Bounds.{IsWithin, AreWithin, AreRaised}
-use Rattle.cdb_causal.specs.Cells.{cell}
+use Rattle.cdb_base.specs.declared.event.Kind.TheVariants.{Send, Recv, Read, Write}
+use Rattle.cdb_causal.specs.Bounds.{IsKindWithin, IsWithin, AreWithin, AreRaised}
+use Rattle.cdb_causal.specs.Cells.{register_cell, named_cell, copy_cell}
 use Rattle.cdb_causal.specs.Names.{IsNamedAt}
-use Rattle.cdb_causal.specs.PlacesByName.{name_cell, AreStepsWithin}
-use Rattle.cdb_causal.specs.Raised.{IsRaised}
 use Rattle.cdb_causal.specs.Rollback.{without, place_before}
 use Rattle.cdb_causal.specs.declared.bounds.Bounds.{Bounds}
 use Rattle.cdb_causal.proofs.Counting.{slice_get-without}
@@ -27,35 +25,55 @@ no_loss : {step : StepName} {copy : CopyName} → named.Step step ≡ named.Lost
 unfolding is_step
 no_loss e = true≢false (ap is_step e)
 
+lost_copy : StepId → CopyName → CopyName
+lost_copy (named.Step step) other = other
+lost_copy (named.Lost copy) other = copy
+
+same_lost : {one two : CopyName} → named.Lost one ≡ named.Lost two → one ≡ two
+unfolding lost_copy
+same_lost {one} e = ap (λ name. lost_copy name one) e
+
+step_of : StepId → StepName → StepName
+step_of (named.Step step) other = step
+step_of (named.Lost copy) other = other
+
+same_step : {one two : StepName} → named.Step one ≡ named.Step two → one ≡ two
+unfolding step_of
+same_step {one} e = ap (λ name. step_of name one) e
+
 -- a higher bound is a bound too, and one above a later place
-within_raised : (old new : Bounds) → AreRaised old new → (i : ℕ) (event : Event) → IsWithin old i event → IsWithin new i event
-within_raised old new raised i (Step p k (Recv s m)) within = let h = raised.heard (s - 1) in omega arith
-within_raised old new raised i (Step p k (Read register)) within = let h = raised.accesses (cell register (p - 1)) in omega arith
-within_raised old new raised i (Step p k (Write register)) within =
-    let h = raised.accesses (cell register (p - 1)) in
-    let g = raised.writes (cell register (p - 1)) in
+kind_raised : (old new : Bounds) → AreRaised old new → (i p : ℕ) (kind : Kind) → IsKindWithin old i p kind → IsKindWithin new i p kind
+kind_raised old new raised i p (Send m) within = let h = raised.sends (named_cell p m) in omega arith
+kind_raised old new raised i p (Recv s m) within = let h = raised.receives (copy_cell s m (p - 1)) in omega arith
+kind_raised old new raised i p (Read register) within = let h = raised.accesses (register_cell register (p - 1)) in omega arith
+kind_raised old new raised i p (Write register) within =
+    let h = raised.accesses (register_cell register (p - 1)) in
+    let g = raised.writes (register_cell register (p - 1)) in
     let a = within.0 in
     let b = within.1 in
     (omega arith, omega arith)
-within_raised old new raised i (Step p k _) within = within
-within_raised old new raised i (Lost copy) within = let h = raised.lost in omega arith
+kind_raised old new raised i p _ within = within
+
+within_raised : (old new : Bounds) → AreRaised old new → (i : ℕ) (event : Event) → IsWithin old i event → IsWithin new i event
+within_raised old new raised i (Step p k kind) within =
+    let h = raised.steps (named_cell p k) in
+    let a = within.0 in
+    (omega arith, kind_raised old new raised i p kind within.1)
+within_raised old new raised i (Lost copy) within = let h = raised.losses (copy_cell copy.msg.s copy.msg.m (copy.to - 1)) in omega arith
+
+kind_lower : (bounds : Bounds) (i j p : ℕ) (kind : Kind) → i ≤ j → IsKindWithin bounds j p kind → IsKindWithin bounds i p kind
+kind_lower bounds i j p (Send m) below within = omega arith
+kind_lower bounds i j p (Recv s m) below within = omega arith
+kind_lower bounds i j p (Read register) below within = omega arith
+kind_lower bounds i j p (Write register) below within = let a = within.0 in let b = within.1 in (omega arith, omega arith)
+kind_lower bounds i j p _ below within = within
 
 within_lower : (bounds : Bounds) (i j : ℕ) (event : Event) → i ≤ j → IsWithin bounds j event → IsWithin bounds i event
-within_lower bounds i j (Step p k (Recv s m)) below within = within
-within_lower bounds i j (Step p k (Read register)) below within = omega arith
-within_lower bounds i j (Step p k (Write register)) below within = let a = within.0 in let b = within.1 in (omega arith, omega arith)
-within_lower bounds i j (Step p k _) below within = within
+within_lower bounds i j (Step p k kind) below within = let a = within.0 in (omega arith, kind_lower bounds i j p kind below within.1)
 within_lower bounds i j (Lost copy) below within = omega arith
 
-pub steps_raised : (old new : List ℕ) (history : List Event) → IsRaised old new → AreStepsWithin old history → AreStepsWithin new history
-steps_raised old new history raised within i p k kind at = let h = raised (name_cell p k) in let before = within i p k kind at in omega arith
-
-pub steps_push : (old new : List ℕ) (history : List Event) (event : Event) → IsRaised old new → AreStepsWithin old history → ((p k : ℕ) (kind : Kind) → event ≡ Step p k kind → length history < slice_index new (name_cell p k)) → AreStepsWithin new (history ++ event ∷ [])
-steps_push old new history event raised within last i p k kind at =
-    ⊎_elim
-    (λ before. steps_raised old new history raised within i p k kind before.0)
-    (λ here. let h = last p k kind here.0 in let e = here.1 in omega arith)
-    (push_cases history event (Step p k kind) i at)
+pub all_raised : (old new : Bounds) (history : List Event) → AreRaised old new → AreWithin old history → AreWithin new history
+all_raised old new history raised within i event at = within_raised old new raised i event (within i event at)
 
 place_not_below : (gone i : ℕ) → i ≤ place_before gone i
 place_not_below zero i = omega arith
@@ -69,19 +87,21 @@ within_push old new history event raised within last i other at =
     (λ here. subst (λ e. IsWithin new i e) here.0 (subst (λ n. IsWithin new n event) (sym here.1) last))
     (push_cases history event other i at)
 
-pub steps_without : (table : List ℕ) (history : List Event) (gone : ℕ) → AreStepsWithin table history → AreStepsWithin table (without history gone)
-steps_without table history gone within i p k kind at =
-    let before = within (place_before gone i) p k kind (sym (slice_get-without history gone i) ∙ at) in
-    let low = place_not_below gone i in
-    omega arith
-
--- a loss stands below the bound of losses
-pub loss_below : (bounds : Bounds) (history : List Event) → AreWithin bounds history → (name : StepId) (copy : CopyName) → name ≡ named.Lost copy → (i : ℕ) → IsNamedAt history i name → i < bounds.lost
+-- a loss stands below the bound of its copy
+pub loss_below : (bounds : Bounds) (history : List Event) → AreWithin bounds history → (name : StepId) (copy : CopyName) → name ≡ named.Lost copy → (i : ℕ) → IsNamedAt history i name → IsWithin bounds i (Lost copy)
 loss_below bounds history within name copy is_lost i n = go n.0 n.1 (n.2 ∙ is_lost)
   where
-    go : (event : Event) → slice_get history i ≡ Some event → event_name event ≡ named.Lost copy → i < bounds.lost
+    go : (event : Event) → slice_get history i ≡ Some event → event_name event ≡ named.Lost copy → IsWithin bounds i (Lost copy)
     go (Step p k kind) at is = absurd (no_loss is)
-    go (Lost other) at is = within i (Lost other) at
+    go (Lost other) at is = subst (λ c. IsWithin bounds i (Lost c)) (same_lost is) (within i (Lost other) at)
+
+-- a step stands below the bound of its name
+pub step_below : (bounds : Bounds) (history : List Event) → AreWithin bounds history → (name : StepId) (step : StepName) → name ≡ named.Step step → (i : ℕ) → IsNamedAt history i name → i < slice_index bounds.steps.items (named_cell step.p step.k)
+step_below bounds history within name step is_step i n = go n.0 n.1 (n.2 ∙ is_step)
+  where
+    go : (event : Event) → slice_get history i ≡ Some event → event_name event ≡ named.Step step → i < slice_index bounds.steps.items (named_cell step.p step.k)
+    go (Step p k kind) at is = subst (λ (s : StepName). i < slice_index bounds.steps.items (named_cell s.p s.k)) (same_step is) (within i (Step p k kind) at).0
+    go (Lost other) at is = absurd (no_loss (sym is))
 
 pub within_without : (bounds : Bounds) (history : List Event) (gone : ℕ) → AreWithin bounds history → AreWithin bounds (without history gone)
 within_without bounds history gone within i event at =

@@ -10,7 +10,9 @@ use Rattle.cdb_base.specs.declared.event.Kind.TheVariants.{Send, Recv, Write}
 use Rattle.cdb_base.specs.declared.name.CopyName.{CopyName}
 use Rattle.cdb_base.specs.declared.name.StepId.{StepId}
 use Rattle.cdb_base.specs.declared.name.StepId.TheVariants as named
-use Rattle.cdb_causal.specs.Dependence.{kind_affects, depends}
+use Rattle.cdb_causal.specs.Dependence.{depends}
+use Rattle.cdb_causal.specs.Effects.{kind_affects}
+use Rattle.cdb_causal.proofs.Effects.{by_effect}
 use Rattle.cdb_causal.specs.DirectCauses.{ComesBefore, AreDirectCauses}
 use Rattle.cdb_causal.specs.LastCauses.{IsSlot, NamesDirectCauseIn}
 use Rattle.cdb_causal.specs.Standing.{IsStanding}
@@ -124,7 +126,7 @@ affects_receive q s m _ h = absurd (true≢false (sym h))
 
 receive_causes : (p l s m slot : ℕ) (cause : Event) → IsSlot cause slot → slot < 9 → depends cause (Step p l (Recv s m)) ≡ true → IsOfTwo p s (event_name cause)
 receive_causes p l s m slot (Step q k kind) a below h =
-    ⊎_elim (λ same. inl (eqb-true q p same)) (λ sent. inr (affects_receive q s m kind sent)) (either_process (nat_eq q p) (kind_affects q kind (Recv s m)) false h refl)
+    ⊎_elim (λ same. inl (eqb-true q p same)) (λ sent. inr (affects_receive q s m kind sent)) (either_process (nat_eq q p) (kind_affects q kind (Recv s m)) false (sym (by_effect (Step q k kind) (Step p l (Recv s m))) ∙ h) refl)
 receive_causes p l s m slot (Lost copy) a below h = absurd (omega arith)
 
 last_slot : (event : Event) → IsSlot event 9 → (copy : CopyName) × (event ≡ Lost copy)

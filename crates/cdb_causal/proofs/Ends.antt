@@ -1,5 +1,5 @@
 -- Above the bound of its slot stands no cause: by what the event is, and what the cause is.
-use Rattle.std.proofs.Common.{◌≡◌, ◌≢◌, ℕ, ◌+◌, ◌<◌, true, false, ◌||◌, nat_eq, List, Some, slice_get, refl, sym, ap, subst, ◌∙◌, true≢false, eqb-true, arith}
+use Rattle.std.proofs.Common.{◌≡◌, ◌≢◌, ℕ, ◌+◌, ◌<◌, true, false, ◌||◌, nat_eq, List, Some, slice_get, refl, sym, ap, subst, ◌∙◌, eqb-true, arith}
 use Rattle.std.proofs.lemmas.Option.{same_Some}
 use Rattle.cdb_base.specs.declared.event.Event.{Event}
 use Rattle.cdb_base.specs.declared.event.Event.TheVariants.{Step, Lost}
@@ -9,7 +9,9 @@ use Rattle.cdb_causal.specs.Bounds.{IsWithin, AreWithin}
 use Rattle.cdb_causal.specs.Causality.{IsLink}
 use Rattle.cdb_causal.specs.Standing.{IsStanding}
 use Rattle.cdb_causal.specs.declared.bounds.Bounds.{Bounds}
-use Rattle.cdb_causal.specs.Dependence.{kind_affects, affects, depends}
+use Rattle.cdb_causal.specs.Dependence.{send_and_loss, depends}
+use Rattle.cdb_causal.specs.Effects.{kind_affects}
+use Rattle.cdb_causal.proofs.Effects.{by_effect}
 use Rattle.cdb_causal.specs.LastCauses.{IsSlot}
 use Rattle.cdb_causal.proofs.Exchanges.{is_false}
 
@@ -24,32 +26,37 @@ same_step_process event p k kind q l other one two = ap process_or_none (sym one
 module _ (bounds : Bounds) (slot result : ℕ) where
   -- no copy of what the event sends is lost by the cause
   abbrev pub IsNoLossOfSent : Event → Event → Type 0
-  IsNoLossOfSent event cause = (copy : CopyName) → cause ≡ Lost copy → affects event (Lost copy) ≡ false
+  IsNoLossOfSent event cause = (copy : CopyName) → cause ≡ Lost copy → send_and_loss event (Lost copy) ≡ false
 
-  pub above_losses : (event : Event) (p k : ℕ) (kind : Kind) → event ≡ Step p k kind → slot ≡ 9 → ((i p k : ℕ) (copy : CopyName) → i < bounds.lost → affects (Step p k kind) (Lost copy) ≡ false → depends (Lost copy) (Step p k kind) ≡ true → i < result)
+  pub above_losses : (event : Event) (p k : ℕ) (kind : Kind) → event ≡ Step p k kind → slot ≡ 9 → ((i k : ℕ) (copy : CopyName) → IsWithin bounds i (Lost copy) → send_and_loss (Step p k kind) (Lost copy) ≡ false → depends (Lost copy) (Step p k kind) ≡ true → i < result)
       → (i : ℕ) (cause : Event) → IsWithin bounds i cause → IsSlot cause slot → IsNoLossOfSent event cause → depends cause event ≡ true → i < result
   above_losses event p k kind is last above i (Step q l other) within in_slot unsent h = absurd (let s = in_slot.1 in omega (arith, last))
   above_losses event p k kind is last above i (Lost copy) within in_slot unsent h =
-      above i p k copy within (ap (λ e. affects e (Lost copy)) (sym is) ∙ unsent copy refl) (ap (λ e. depends (Lost copy) e) (sym is) ∙ h)
+      above i k copy within (ap (λ e. send_and_loss e (Lost copy)) (sym is) ∙ unsent copy refl) (ap (λ e. depends (Lost copy) e) (sym is) ∙ h)
 
-  pub above_steps : (event : Event) (p k : ℕ) (kind : Kind) (j : ℕ) → event ≡ Step p k kind → slot ≢ 9 → slot + 1 ≢ p → ((i q l : ℕ) (other : Kind) → i < j → IsWithin bounds i (Step q l other) → slot + 1 ≡ q → nat_eq q p ≡ false → (kind_affects q other kind || kind_affects p kind other) ≡ true → i < result)
-      → (i : ℕ) (cause : Event) → i < j → IsWithin bounds i cause → IsSlot cause slot → depends cause event ≡ true → i < result
-  above_steps event p k kind j is not_last other_process above i (Step q l other) before within in_slot h =
+  pub above_steps : (event : Event) (p k : ℕ) (kind : Kind) → event ≡ Step p k kind → slot ≢ 9 → slot + 1 ≢ p → ((i q l : ℕ) (other : Kind) → IsWithin bounds i (Step q l other) → slot + 1 ≡ q → (kind_affects q other kind || kind_affects p kind other) ≡ true → i < result)
+      → (i : ℕ) (cause : Event) → IsWithin bounds i cause → IsSlot cause slot → depends cause event ≡ true → i < result
+  above_steps event p k kind is not_last other_process above i (Step q l other) within in_slot h =
       let apart = is_false (nat_eq q p) (λ same. other_process (in_slot.0 ∙ eqb-true q p same)) in
-      above i q l other before within in_slot.0 apart
-      (sym (ap (λ b. b || (kind_affects q other kind || kind_affects p kind other)) apart) ∙ ap (λ e. depends (Step q l other) e) (sym is) ∙ h)
-  above_steps event p k kind j is not_last other_process above i (Lost copy) before within in_slot h = absurd (not_last in_slot)
-
-  pub above_for_loss : (event : Event) (copy : CopyName) (j : ℕ) → event ≡ Lost copy → ((i q l : ℕ) (other : Kind) → i < j → IsWithin bounds i (Step q l other) → slot + 1 ≡ q → depends (Step q l other) (Lost copy) ≡ true → i < result)
-      → (i : ℕ) (cause : Event) → i < j → IsWithin bounds i cause → IsSlot cause slot → depends cause event ≡ true → i < result
-  above_for_loss event copy j is above i (Step q l other) before within in_slot h = above i q l other before within in_slot.0 (ap (λ e. depends (Step q l other) e) (sym is) ∙ h)
-  above_for_loss event copy j is above i (Lost lost) before within in_slot h = absurd (true≢false (sym (ap (λ e. depends (Lost lost) e) (sym is) ∙ h)))
+      above i q l other within in_slot.0
+      (sym (ap (λ b. b || (kind_affects q other kind || kind_affects p kind other)) apart) ∙ sym (by_effect (Step q l other) (Step p k kind)) ∙ ap (λ e. depends (Step q l other) e) (sym is) ∙ h)
+  above_steps event p k kind is not_last other_process above i (Lost copy) within in_slot h = absurd (not_last in_slot)
 
 -- the bound of a slot is above each event of a history on which the one at place j depends
 pub end_above : (history : List Event) → IsStanding history → (bounds : Bounds) → AreWithin bounds history → (j slot result : ℕ) (event : Event) → slice_get history j ≡ Some event
-    → ((i : ℕ) (cause : Event) → i < j → IsWithin bounds i cause → IsSlot cause slot → ((copy : CopyName) → cause ≡ Lost copy → affects event (Lost copy) ≡ false) → depends cause event ≡ true → i < result)
+    → ((i : ℕ) (cause : Event) → i < j → IsWithin bounds i cause → IsSlot cause slot → ((copy : CopyName) → cause ≡ Lost copy → send_and_loss event (Lost copy) ≡ false) → depends cause event ≡ true → i < result)
     → (i : ℕ) (l : IsLink depends history i j) → IsSlot l.cause slot → i < result
 end_above history standing bounds within j slot result event at_j above i l in_slot =
     above i l.cause l.later (within i l.cause l.at_cause) in_slot
     (λ copy is. standing.lost_after_sent i j copy event l.later (l.at_cause ∙ ap Some is) at_j)
     (subst (λ e. depends l.cause e ≡ true) (same_Some l.effect event (sym l.at_effect ∙ at_j)) l.linked)
+
+-- and the bound of what stands between two events, above each event through which a chain leads from the one to the other
+pub end_above_between : (history : List Event) (bounds : Bounds) → AreWithin bounds history → (i j result : ℕ) (cause effect : Event) → slice_get history i ≡ Some cause → slice_get history j ≡ Some effect
+    → ((k : ℕ) (between : Event) → k < j → IsWithin bounds k between → depends cause between ≡ true → depends between effect ≡ true → k < result)
+    → (k : ℕ) → IsLink depends history i k → IsLink depends history k j → k < result
+end_above_between history bounds within i j result cause effect at_i at_j above k one two =
+    above k one.effect two.later (within k one.effect one.at_effect)
+    (subst (λ e. depends e one.effect ≡ true) (same_Some one.cause cause (sym one.at_cause ∙ at_i)) one.linked)
+    (subst (λ e. depends one.effect e ≡ true) (same_Some two.effect effect (sym two.at_effect ∙ at_j))
+    (subst (λ e. depends e two.effect ≡ true) (same_Some two.cause one.effect (sym two.at_cause ∙ one.at_effect)) two.linked))

@@ -4,7 +4,7 @@ use Rattle.cdb_base.specs.Event.{event_name}
 use Rattle.cdb_base.specs.declared.event.Event.{Event}
 use Rattle.cdb_base.specs.declared.event.Event.TheVariants.{Step, Lost}
 use Rattle.cdb_base.specs.declared.event.Kind.{Kind}
-use Rattle.cdb_causal.specs.Dependence.{affects}
+use Rattle.cdb_causal.specs.Dependence.{send_and_loss}
 use Rattle.cdb_causal.specs.Names.{IsNewName}
 use Rattle.cdb_causal.specs.Rollback.{without, place_before}
 use Rattle.cdb_causal.specs.Standing.{HasNoLostCopy, IsStanding}
@@ -35,7 +35,7 @@ module _ (history : List Event) (event : Event) (standing : IsStanding history) 
             ⊎_elim
             (λ old_i. ⊎_elim
             (λ old_j. standing.lost_after_sent i j copy sent less old_i.0 old_j.0)
-            (λ new_j. subst (λ e. affects e (Lost copy) ≡ false) new_j.0 (not_lost i copy old_i.0))
+            (λ new_j. subst (λ e. send_and_loss e (Lost copy) ≡ false) new_j.0 (not_lost i copy old_i.0))
             (push_cases history event sent j b))
             (λ new_i. ⊎_elim
             (λ old_j. absurd (let e = new_i.1 in let l = old_j.1 in omega arith))

@@ -4,12 +4,14 @@ pub mod Counting
 pub mod Dependents
 pub mod DirectByList
 pub mod DirectCausesBelow
+pub mod Effects
 pub mod Ends
 pub mod Exchanges
 pub mod Keeping
 pub mod LeastSet
 pub mod Lists
 pub mod Orders
+pub mod PastLaws
 pub mod Paths
 pub mod Reaches
 pub mod SlotsOfCauses

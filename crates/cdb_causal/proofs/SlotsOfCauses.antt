@@ -10,7 +10,9 @@ use Rattle.cdb_base.specs.declared.name.CopyName.{CopyName}
 use Rattle.cdb_base.specs.declared.name.StepId.{StepId}
 use Rattle.cdb_base.specs.declared.name.StepId.TheVariants as named
 use Rattle.cdb_causal.specs.Causality.{IsLink}
-use Rattle.cdb_causal.specs.Dependence.{sends, receives, kind_affects, affects, depends}
+use Rattle.cdb_causal.specs.Dependence.{sends, receives, send_and_loss, depends}
+use Rattle.cdb_causal.specs.Effects.{kind_affects}
+use Rattle.cdb_causal.proofs.Effects.{by_effect}
 use Rattle.cdb_causal.specs.LastCauses.{IsSlot, IsNoCause, IsLastCause, NamesDirectCauseIn}
 use Rattle.cdb_causal.specs.Standing.{IsStanding}
 use Rattle.cdb_causal.proofs.Walks.{link_at}
@@ -22,7 +24,7 @@ slot_within (Lost copy) slot a = omega arith
 -- of two events with one slot the second depends on the first, unless both are losses
 same_slot_depends : (first second : Event) (slot : ℕ) → IsSlot first slot → IsSlot second slot → ((copy other : CopyName) → first ≡ Lost copy → second ≡ Lost other → ⊥) → depends first second ≡ true
 same_slot_depends (Step p k kind) (Step q l other) slot a b not =
-    ap (λ t. t || (kind_affects p kind other || kind_affects q other kind)) (eq-eqb p q (sym a.0 ∙ b.0))
+    by_effect (Step p k kind) (Step q l other) ∙ ap (λ t. t || (kind_affects p kind other || kind_affects q other kind)) (eq-eqb p q (sym a.0 ∙ b.0))
 same_slot_depends (Step p k kind) (Lost copy) slot a b not = absurd (let e = a.1 in omega arith)
 same_slot_depends (Lost copy) (Step q l other) slot a b not = absurd (let e = b.1 in omega arith)
 same_slot_depends (Lost copy) (Lost other) slot a b not = absurd (not copy other refl refl)
@@ -53,9 +55,9 @@ receive_is copy q l (Recv s m) to h =
 receive_is copy q l _ to h = absurd (true≢false (sym h))
 
 -- what depends on a loss, and does not send what is lost, receives the copy
-loss_received : (copy : CopyName) (event : Event) → depends (Lost copy) event ≡ true → affects event (Lost copy) ≡ false → IsReceiveOf copy event
+loss_received : (copy : CopyName) (event : Event) → depends (Lost copy) event ≡ true → send_and_loss event (Lost copy) ≡ false → IsReceiveOf copy event
 loss_received copy (Step q l kind) h unsent =
-    let parts = both_true (nat_eq q copy.to) (receives copy.msg.s copy.msg.m kind) (first_true (nat_eq q copy.to && receives copy.msg.s copy.msg.m kind) (sends copy.msg.s copy.msg.m q kind) unsent h) in
+    let parts = both_true (nat_eq q copy.to) (receives copy.msg.s copy.msg.m kind) (first_true (nat_eq q copy.to && receives copy.msg.s copy.msg.m kind) (sends copy.msg.s copy.msg.m q kind) unsent (sym (by_effect (Lost copy) (Step q l kind)) ∙ h)) in
     receive_is copy q l kind parts.0 parts.1
 loss_received copy (Lost other) h unsent = absurd (true≢false (sym h))
 

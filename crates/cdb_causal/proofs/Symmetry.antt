@@ -1,10 +1,12 @@
 -- Dependence does not hang on the order of the two events.
-use Rattle.std.proofs.Common.{◌≡◌, ℕ, Bool, true, false, ◌||◌, nat_eq, refl, sym, ap₂, true≢false, eq-eqb, eqb-true}
+use Rattle.std.proofs.Common.{◌≡◌, ℕ, Bool, true, false, ◌||◌, nat_eq, refl, sym, ap₂, ◌∙◌, true≢false, eq-eqb, eqb-true}
 use Rattle.std.specs.Cmp.{both_ways}
 use Rattle.cdb_base.specs.declared.event.Event.{Event}
 use Rattle.cdb_base.specs.declared.event.Event.TheVariants.{Step, Lost}
-use Rattle.cdb_causal.specs.Dependence.{affects, same_process, depends}
+use Rattle.cdb_causal.specs.Dependence.{same_process, depends}
+use Rattle.cdb_causal.specs.Effects.{affects}
 use Rattle.cdb_causal.specs.Reach.{IsSymmetric}
+use Rattle.cdb_causal.proofs.Effects.{by_effect}
 
 nat_eq-symmetric : (a b : ℕ) → nat_eq a b ≡ nat_eq b a
 nat_eq-symmetric a b = both_ways (nat_eq a b) (nat_eq b a) (λ e. eq-eqb b a (sym (eqb-true a b e))) (λ e. eq-eqb a b (sym (eqb-true b a e)))
@@ -22,7 +24,10 @@ same_process-symmetric (Lost copy) (Step q l other) = refl
 same_process-symmetric (Lost copy) (Lost other) = refl
 
 pub depends-symmetric : (first second : Event) → depends first second ≡ depends second first
-depends-symmetric first second = ap₂ (λ a b. a || b) (same_process-symmetric first second) (or-symmetric (affects first second) (affects second first))
+depends-symmetric first second =
+    by_effect first second
+    ∙ ap₂ (λ a b. a || b) (same_process-symmetric first second) (or-symmetric (affects first second) (affects second first))
+    ∙ sym (by_effect second first)
 
 pub symmetric : IsSymmetric depends
 symmetric = depends-symmetric
@@ -38,10 +43,13 @@ or-false_right false b h = h
 
 -- the three parts of independence
 pub other_process : (first second : Event) → depends first second ≡ false → same_process first second ≡ false
-other_process first second h = or-false_left (same_process first second) (affects first second || affects second first) h
+other_process first second h = or-false_left (same_process first second) (affects first second || affects second first) (sym (by_effect first second) ∙ h)
+
+neither_affects : (first second : Event) → depends first second ≡ false → (affects first second || affects second first) ≡ false
+neither_affects first second h = or-false_right (same_process first second) (affects first second || affects second first) (sym (by_effect first second) ∙ h)
 
 pub unaffected : (first second : Event) → depends first second ≡ false → affects first second ≡ false
-unaffected first second h = or-false_left (affects first second) (affects second first) (or-false_right (same_process first second) (affects first second || affects second first) h)
+unaffected first second h = or-false_left (affects first second) (affects second first) (neither_affects first second h)
 
 pub unaffecting : (first second : Event) → depends first second ≡ false → affects second first ≡ false
-unaffecting first second h = or-false_right (affects first second) (affects second first) (or-false_right (same_process first second) (affects first second || affects second first) h)
+unaffecting first second h = or-false_right (affects first second) (affects second first) (neither_affects first second h)

@@ -1,26 +1,46 @@
--- Bounds of the places at which events of some kinds stand: at a bound and above no such event stands. A search for causes begins there.
-use Rattle.std.specs.Prelude.{◌≡◌, ℕ, ◌-◌, ◌<◌, ◌≤◌, ⊤, List, Some, slice_get, slice_index}
+-- Bounds of the places at which events of some kinds stand: at a bound and above no such event stands. A search begins there.
+use Rattle.std.specs.Prelude.{◌≡◌, ℕ, ◌-◌, ◌<◌, ⊤, List, Some, slice_get, slice_index, vec_len}
 use Rattle.cdb_base.specs.declared.event.Event.{Event}
 use Rattle.cdb_base.specs.declared.event.Event.TheVariants.{Step, Lost}
-use Rattle.cdb_base.specs.declared.event.Kind.TheVariants.{Recv, Read, Write}
-use Rattle.cdb_causal.specs.Cells.{cell}
+use Rattle.cdb_base.specs.declared.event.Kind.{Kind}
+use Rattle.cdb_base.specs.declared.event.Kind.TheVariants.{Send, Recv, Read, Write}
+use Rattle.cdb_causal.specs.Cells.{register_cell, named_cell, copy_cell}
 use Rattle.cdb_causal.specs.Raised.{IsRaised}
 use Rattle.cdb_causal.specs.declared.bounds.Bounds.{Bounds}
 
--- the event, at place i, is within its bounds; of a receive the number of the message is
+-- what a step of process p of that kind does at place i is within its bounds
+abbrev pub IsKindWithin : Bounds → ℕ → ℕ → Kind → Type 0
+IsKindWithin bounds i p (Send m) = i < slice_index bounds.sends.items (named_cell p m)
+IsKindWithin bounds i p (Recv s m) = i < slice_index bounds.receives.items (copy_cell s m (p - 1))
+IsKindWithin bounds i p (Read register) = i < slice_index bounds.accesses (register_cell register (p - 1))
+IsKindWithin bounds i p (Write register) =
+    (i < slice_index bounds.accesses (register_cell register (p - 1))) × (i < slice_index bounds.writes (register_cell register (p - 1)))
+IsKindWithin bounds i p _ = ⊤
+
+-- the event, at place i, is within its bounds
 abbrev pub IsWithin : Bounds → ℕ → Event → Type 0
-IsWithin bounds i (Step p k (Recv s m)) = m ≤ slice_index bounds.heard (s - 1)
-IsWithin bounds i (Step p k (Read register)) = i < slice_index bounds.accesses (cell register (p - 1))
-IsWithin bounds i (Step p k (Write register)) = (i < slice_index bounds.accesses (cell register (p - 1))) × (i < slice_index bounds.writes (cell register (p - 1)))
-IsWithin bounds i (Step p k _) = ⊤
-IsWithin bounds i (Lost copy) = i < bounds.lost
+IsWithin bounds i (Step p k kind) = (i < slice_index bounds.steps.items (named_cell p k)) × IsKindWithin bounds i p kind
+IsWithin bounds i (Lost copy) = i < slice_index bounds.losses.items (copy_cell copy.msg.s copy.msg.m (copy.to - 1))
 
 abbrev pub AreWithin : Bounds → List Event → Type 0
 AreWithin bounds history = (i : ℕ) (event : Event) → slice_get history i ≡ Some event → IsWithin bounds i event
 
 -- each bound is as high as it was, or higher
 pub record AreRaised (old new : Bounds) : Type 0 where
-  pub heard : IsRaised old.heard new.heard
+  pub steps : IsRaised old.steps.items new.steps.items
+  pub sends : IsRaised old.sends.items new.sends.items
+  pub receives : IsRaised old.receives.items new.receives.items
+  pub losses : IsRaised old.losses.items new.losses.items
   pub writes : IsRaised old.writes new.writes
   pub accesses : IsRaised old.accesses new.accesses
-  pub lost : old.lost ≤ new.lost
+
+-- the tables that grow have a cell for what a step of process p of that kind does
+abbrev pub HasRoomFor : Bounds → ℕ → Kind → Type 0
+HasRoomFor bounds p (Send m) = named_cell p m < vec_len bounds.sends
+HasRoomFor bounds p (Recv s m) = copy_cell s m (p - 1) < vec_len bounds.receives
+HasRoomFor bounds p _ = ⊤
+
+-- and for the event
+abbrev pub HasRoom : Bounds → Event → Type 0
+HasRoom bounds (Step p k kind) = (named_cell p k < vec_len bounds.steps) × HasRoomFor bounds p kind
+HasRoom bounds (Lost copy) = copy_cell copy.msg.s copy.msg.m (copy.to - 1) < vec_len bounds.losses

@@ -1,12 +1,20 @@
--- Where a table of the registers and processes has its cells: a row for the register of each process, a last one for
--- that of the decision, and in each row a cell for each process.
+-- Where tables have their cells.
 use Rattle.std.specs.Prelude.{ℕ, ◌+◌, ◌-◌, ◌*◌}
 use Rattle.cdb_base.specs.declared.register.Reg.{Reg}
 use Rattle.cdb_base.specs.declared.register.Reg.TheVariants.{R, Dec}
 
+-- a row for the register of each process, a last one for that of the decision, and in each row a cell for each process
 abbrev pub row : Reg → ℕ
 row (R p) = p - 1
 row Dec = 9
 
-abbrev pub cell : Reg → ℕ → ℕ
-cell register slot = row register * 9 + slot
+abbrev pub register_cell : Reg → ℕ → ℕ
+register_cell register slot = row register * 9 + slot
+
+-- steps, and messages, of one number have cells beside each other
+abbrev pub named_cell : ℕ → ℕ → ℕ
+named_cell p k = k * 9 + (p - 1)
+
+-- and so have the copies of one message
+abbrev pub copy_cell : ℕ → ℕ → ℕ → ℕ
+copy_cell s m slot = named_cell s m * 9 + slot

@@ -1,16 +1,19 @@
-pub mod Bounds
+-- what a reader of the contracts believes
 pub mod Causality
-pub mod Cells
 pub mod Dependence
 pub mod DirectCauses
 pub mod DirectDependents
 pub mod Exchange
-pub mod Indexed
-pub mod LastCauses
 pub mod Names
+pub mod Past
 pub mod Paths
-pub mod PlacesByName
-pub mod Raised
 pub mod Reach
 pub mod Rollback
 pub mod Standing
+-- what the code keeps for itself: tests by effect, and the bounds from which events are sought
+pub mod Bounds
+pub mod Cells
+pub mod Effects
+pub mod Indexed
+pub mod LastCauses
+pub mod Raised

@@ -6,14 +6,14 @@ use Rattle.cdb_base.specs.declared.event.Event.TheVariants.{Step, Lost}
 use Rattle.cdb_base.specs.declared.event.Kind.{Kind}
 use Rattle.cdb_base.specs.declared.name.CopyName.{CopyName}
 use Rattle.cdb_base.specs.declared.name.StepId.{StepId}
-use Rattle.cdb_causal.specs.Dependence.{affects}
+use Rattle.cdb_causal.specs.Dependence.{send_and_loss}
 use Rattle.cdb_causal.specs.Names.{IsNamedAt}
 
 -- no loss in the history is that of a copy of what the event sends
 abbrev pub HasNoLostCopy : List Event → Event → Type 0
-HasNoLostCopy history event = (i : ℕ) (copy : CopyName) → slice_get history i ≡ Some (Lost copy) → affects event (Lost copy) ≡ false
+HasNoLostCopy history event = (i : ℕ) (copy : CopyName) → slice_get history i ≡ Some (Lost copy) → send_and_loss event (Lost copy) ≡ false
 
 pub record IsStanding (history : List Event) : Type 0 where
   pub names_differ : (i j : ℕ) (name : StepId) → IsNamedAt history i name → IsNamedAt history j name → i ≡ j
   pub processes : (i p k : ℕ) (kind : Kind) → slice_get history i ≡ Some (Step p k kind) → (1 ≤ p) × (p ≤ 9)
-  pub lost_after_sent : (i j : ℕ) (copy : CopyName) (event : Event) → i < j → slice_get history i ≡ Some (Lost copy) → slice_get history j ≡ Some event → affects event (Lost copy) ≡ false
+  pub lost_after_sent : (i j : ℕ) (copy : CopyName) (event : Event) → i < j → slice_get history i ≡ Some (Lost copy) → slice_get history j ≡ Some event → send_and_loss event (Lost copy) ≡ false

@@ -1,29 +1,40 @@
-//! Bounds of the places at which events stand that another event may depend on, so that a search for
-//! causes begins near them. A bound may be too high, never too low: so it stays right where events
-//! are taken out.
+//! Bounds of the places at which events stand, by what another event may look for, so that a search
+//! begins near it. A bound may be too high, never too low: so it stays right where events are taken
+//! out.
 
-ghost use Rattle.std.specs.Prelude.{◌≡◌, ℕ, ◌+◌, ◌-◌, ◌<◌, ◌≤◌, ◌||◌, true, false, nat_eq, slice_index, replicate};
-ghost use Rattle.cdb_causal.specs.Dependence.{kind_affects, affects as affects_of, depends as depends_of};
-ghost use Rattle.cdb_causal.specs.LastCauses.{IsSlot};
-ghost use Rattle.cdb_causal.specs.Raised.{IsRaised};
+ghost use Rattle.std.specs.Prelude.{◌≡◌, ℕ, ◌+◌, ◌-◌, ◌<◌, ◌≤◌, ◌||◌, [], OnOk, true, false, length, nat_eq, slice_index, replicate, vec_len};
 ghost use Rattle.cdb_base.specs.declared.event.Event.{Event as AnEvent};
 ghost use Rattle.cdb_base.specs.declared.event.Event.TheVariants.{Step, Lost};
+ghost use Rattle.cdb_base.specs.declared.event.Kind.{Kind as AKind};
+ghost use Rattle.cdb_base.specs.declared.event.Kind.TheVariants.{Send, Recv};
 ghost use Rattle.cdb_base.specs.declared.name.CopyName.{CopyName as ACopy};
-ghost use Rattle.cdb_causal.specs.Cells.{row, cell as cell_of};
+ghost use Rattle.cdb_causal.specs.Cells.{row, register_cell as register_cell_of, named_cell as named_cell_of, copy_cell as copy_cell_of};
+ghost use Rattle.cdb_causal.specs.Dependence.{send_and_loss, depends as depends_of};
+ghost use Rattle.cdb_causal.specs.Effects.{kind_affects};
+ghost use Rattle.cdb_causal.specs.LastCauses.{IsSlot};
+ghost use Rattle.cdb_causal.specs.Raised.{IsRaised};
 
-use crate::places::raise;
-use cdb_base::{CopyName, Event, Kind, Proc, Reg};
+use cdb_base::{CopyName, Event, Kind, NoMemory, Proc, Reg};
+use std::alloc::Global;
 
-const CELLS: usize = 90;
+/// Cells of a table of the registers and processes.
+const REGISTER_CELLS: usize = 90;
 
-/// A table has a cell for each register and process. A bound is one above the last place.
+/// Each bound is one above the last place at which such an event stood.
 #[derive(Drop)]
 pub struct Bounds {
-    /// The greatest number of a message received, by sender.
-    heard: [u16; 9],
-    writes: [usize; CELLS],
-    accesses: [usize; CELLS],
-    lost: usize,
+    /// By process and number of the step.
+    steps: Vec<usize>,
+    /// By sender and number of the message sent.
+    sends: Vec<usize>,
+    /// By copy received.
+    receives: Vec<usize>,
+    /// By copy lost.
+    losses: Vec<usize>,
+    /// By register written and process.
+    writes: [usize; REGISTER_CELLS],
+    /// By register read or written and process.
+    accesses: [usize; REGISTER_CELLS],
 }
 
 /// The row of a register in a table.
@@ -38,61 +49,133 @@ fn register_row(register: Reg) -> usize
 }
 
 /// The cell of a register and a slot in a table.
-fn cell(register: Reg, slot: usize) -> usize
+fn register_cell(register: Reg, slot: usize) -> usize
     requires { slot < 9 }
-    ensures value { result ≡ cell_of register slot }
+    ensures value { result ≡ register_cell_of register slot }
     ensures within { result < 90 }
 {
     register_row(register) * 9 + slot
 }
 
-/// Raises the number heard of one sender.
-fn raise_heard(heard: &mut [u16; 9], sender: usize, number: u16)
-    requires { sender < 9 }
-    ensures others { IsRaised heard.old heard.new }
-    ensures raised { number ≤ slice_index heard.new sender }
+/// The cell of the k-th step, or message, of a process.
+fn named_cell(p: Proc, k: u16) -> usize
+    ensures value { result ≡ named_cell_of p k }
+    ensures small { result < 1048576 }
 {
-    heard[sender] = heard[sender].max(number);
+    k as usize * 9 + p.index()
+}
+
+/// The cell of a copy, for the process of a slot, of the m-th message of process s.
+fn copy_cell(s: Proc, m: u16, slot: usize) -> usize
+    requires { slot < 9 }
+    ensures value { result ≡ copy_cell_of s m slot }
+    ensures small { result < 9437184 }
+{
+    named_cell(s, m) * 9 + slot
+}
+
+/// Makes room for a cell. The new cells are 0.
+fn grow(table: &mut Vec<usize>, cell: usize) -> Result<(), NoMemory>
+    requires { cell < 9437184 }
+    ensures others { IsRaised table.old.items table.new.items }
+    ensures room { OnOk result (cell < vec_len table.new) }
+{
+    if table.len() <= cell {
+        table.resize(cell + 1, 0)?;
+    }
+    Ok(())
+}
+
+/// Raises one bound.
+fn raise(table: &mut [usize], cell: usize, bound: usize)
+    requires { cell < length table.old }
+    ensures others { IsRaised table.old table.new }
+    ensures raised { bound ≤ slice_index table.new cell }
+{
+    table[cell] = table[cell].max(bound);
+}
+
+/// The bound in a cell; 0 beyond the end of the table.
+fn bound_in(table: &[usize], cell: usize) -> usize
+    ensures { result ≡ slice_index table.now cell }
+{
+    table.get(cell).copied().unwrap_or(0)
 }
 
 impl Bounds {
-    ghost use Rattle.cdb_base.specs.declared.event.Kind.{Kind as AKind};
-    ghost use Rattle.cdb_causal.specs.Bounds.{IsWithin, AreRaised};
+    ghost use Rattle.cdb_causal.specs.Bounds.{IsWithin, IsKindWithin, AreRaised, HasRoom, HasRoomFor};
 
     /// The bounds of a history without events.
-    pub fn new() -> Self
-        ensures heard { result.heard ≡ replicate 9 0 }
+    pub fn new(alloc: Global) -> Self
+        ensures steps { result.steps.items ≡ [] }
+        ensures sends { result.sends.items ≡ [] }
+        ensures receives { result.receives.items ≡ [] }
+        ensures losses { result.losses.items ≡ [] }
         ensures writes { result.writes ≡ replicate 90 0 }
         ensures accesses { result.accesses ≡ replicate 90 0 }
-        ensures lost { result.lost ≡ 0 }
     {
         Bounds {
-            heard: [0; 9],
-            writes: [0; CELLS],
-            accesses: [0; CELLS],
-            lost: 0,
+            steps: Vec::new(alloc),
+            sends: Vec::new(alloc),
+            receives: Vec::new(alloc),
+            losses: Vec::new(alloc),
+            writes: [0; REGISTER_CELLS],
+            accesses: [0; REGISTER_CELLS],
         }
     }
 
-    /// The bound of losses.
-    pub fn end_of_lost(&self) -> usize
-        ensures { result ≡ self.now.lost }
-    {
-        self.lost
-    }
-
-    /// Raises the bounds for a step of the slot's process.
-    fn note_step(&mut self, place: usize, slot: usize, kind: Kind)
-        requires place { place < 18446744073709551615 }
-        requires slot { slot < 9 }
+    /// Makes room for what a step of that kind sends or receives.
+    fn reserve_kind(&mut self, p: Proc, kind: Kind) -> Result<(), NoMemory>
         ensures others { AreRaised self.old self.new }
-        ensures within { (k : ℕ) → IsWithin self.new place (Step (slot + 1) k kind) }
+        ensures steps { self.new.steps ≡ self.old.steps }
+        ensures room { OnOk result (HasRoomFor self.new p kind) }
     {
         match kind {
-            Kind::Recv(s, m) => raise_heard(&mut self.heard, s.index(), m),
-            Kind::Read(register) => raise(&mut self.accesses, cell(register, slot), place + 1),
+            Kind::Send(m) => grow(&mut self.sends, named_cell(p, m)),
+            Kind::Recv(s, m) => grow(&mut self.receives, copy_cell(s, m, p.index())),
+            _ => Ok(()),
+        }
+    }
+
+    /// Makes room for the bounds of an event.
+    pub fn reserve(&mut self, event: &Event) -> Result<(), NoMemory>
+        ensures others { AreRaised self.old self.new }
+        ensures room { OnOk result (HasRoom self.new event.now) }
+    {
+        match event {
+            Event::Step { p, k, kind } => {
+                grow(&mut self.steps, named_cell(*p, *k))?;
+                self.reserve_kind(*p, *kind)
+            }
+            Event::Lost(copy) => {
+                grow(
+                    &mut self.losses,
+                    copy_cell(copy.msg.s, copy.msg.m, copy.to.index()),
+                )
+            }
+        }
+    }
+
+    /// Raises the bounds for what a step of that kind does.
+    fn note_kind(&mut self, place: usize, p: Proc, kind: Kind)
+        requires place { place < 18446744073709551615 }
+        requires room { HasRoomFor self.old p kind }
+        ensures others { AreRaised self.old self.new }
+        ensures steps { self.new.steps ≡ self.old.steps }
+        ensures within { IsKindWithin self.new place p kind }
+    {
+        match kind {
+            Kind::Send(m) => raise(&mut self.sends, named_cell(p, m), place + 1),
+            Kind::Recv(s, m) => raise(&mut self.receives, copy_cell(s, m, p.index()), place + 1),
+            Kind::Read(register) => {
+                raise(
+                    &mut self.accesses,
+                    register_cell(register, p.index()),
+                    place + 1,
+                )
+            }
             Kind::Write(register) => {
-                let written = cell(register, slot);
+                let written = register_cell(register, p.index());
                 raise(&mut self.accesses, written, place + 1);
                 raise(&mut self.writes, written, place + 1);
             }
@@ -100,52 +183,98 @@ impl Bounds {
         }
     }
 
-    /// Raises the bounds, so that the event at that place is within them.
+    /// Raises the bounds, for which there is room, so that the event at that place is within them.
     pub fn note(&mut self, place: usize, event: &Event)
-        requires { place < 18446744073709551615 }
+        requires place { place < 18446744073709551615 }
+        requires room { HasRoom self.old event.now }
         ensures others { AreRaised self.old self.new }
         ensures within { IsWithin self.new place event.now }
         ensures process { (p k : ℕ) (kind : AKind) → event.now ≡ Step p k kind → (1 ≤ p) × (p ≤ 9) }
     {
         match event {
-            Event::Step { p, kind, .. } => self.note_step(place, p.index(), *kind),
-            Event::Lost(_) => self.lost = self.lost.max(place + 1),
+            Event::Step { p, k, kind } => {
+                let _index = p.index();
+                raise(&mut self.steps, named_cell(*p, *k), place + 1);
+                self.note_kind(place, *p, *kind);
+            }
+            Event::Lost(copy) => {
+                let lost = copy_cell(copy.msg.s, copy.msg.m, copy.to.index());
+                raise(&mut self.losses, lost, place + 1);
+            }
         }
     }
 
-    /// Above all steps of the slot's process on which a step of another process `p`, of that kind and
-    /// at place `j`, depends.
-    fn end_for_step(&self, p: Proc, kind: Kind, j: usize, slot: usize) -> usize
+    /// The bound of a step.
+    pub fn end_of_step(&self, p: Proc, k: u16) -> usize
+        ensures { result ≡ slice_index self.now.steps.items (named_cell_of p k) }
+    {
+        bound_in(&self.steps, named_cell(p, k))
+    }
+
+    /// The bound of the sends of a message.
+    fn end_of_sends(&self, s: Proc, m: u16) -> usize
+        ensures { result ≡ slice_index self.now.sends.items (named_cell_of s m) }
+    {
+        bound_in(&self.sends, named_cell(s, m))
+    }
+
+    /// The bound of the receives of a copy for the slot's process.
+    fn end_of_receives(&self, s: Proc, m: u16, slot: usize) -> usize
         requires { slot < 9 }
-        ensures { (i q l : ℕ) (other : AKind) → i < j → IsWithin self.now i (Step q l other) → slot + 1 ≡ q → nat_eq q p ≡ false → (kind_affects q other kind || kind_affects p kind other) ≡ true → i < result }
+        ensures { result ≡ slice_index self.now.receives.items (copy_cell_of s m slot) }
+    {
+        bound_in(&self.receives, copy_cell(s, m, slot))
+    }
+
+    /// The bound of the losses of a copy for the slot's process.
+    fn end_of_losses(&self, s: Proc, m: u16, slot: usize) -> usize
+        requires { slot < 9 }
+        ensures { result ≡ slice_index self.now.losses.items (copy_cell_of s m slot) }
+    {
+        bound_in(&self.losses, copy_cell(s, m, slot))
+    }
+
+    /// The bound of the loss of a copy.
+    pub fn end_of_lost(&self, copy: &CopyName) -> usize
+        ensures { (i : ℕ) → IsWithin self.now i (Lost copy.now) → i < result }
+    {
+        self.end_of_losses(copy.msg.s, copy.msg.m, copy.to.index())
+    }
+
+    /// Above all steps of the slot's process on which a step of another process `p`, of that kind,
+    /// depends.
+    fn end_for_step(&self, p: Proc, kind: Kind, slot: usize) -> usize
+        requires { slot < 9 }
+        ensures { (i q l : ℕ) (other : AKind) → IsWithin self.now i (Step q l other) → slot + 1 ≡ q
+            → (kind_affects q other kind || kind_affects p kind other) ≡ true → i < result }
     {
         match kind {
-            Kind::Recv(s, _) if s.index() == slot => j,
-            Kind::Send(m) if m <= self.heard[p.index()] => j,
-            Kind::Read(register) => self.writes[cell(register, slot)],
-            Kind::Write(register) => self.accesses[cell(register, slot)],
+            Kind::Recv(s, m) if s.index() == slot => self.end_of_sends(s, m),
+            Kind::Send(m) => self.end_of_receives(p, m, slot),
+            Kind::Read(register) => self.writes[register_cell(register, slot)],
+            Kind::Write(register) => self.accesses[register_cell(register, slot)],
             _ => 0,
         }
     }
 
-    /// Above all steps of the slot's process on which the loss of the copy, at place `j`, depends.
-    fn end_for_loss(&self, copy: &CopyName, j: usize, slot: usize) -> usize
-        ensures { (i q l : ℕ) (other : AKind) → i < j → IsWithin self.now i (Step q l other) → slot + 1 ≡ q → depends_of (Step q l other) (Lost copy.now) ≡ true → i < result }
+    /// Above all events on which the loss of the copy depends.
+    fn end_for_loss(&self, copy: &CopyName) -> usize
+        ensures { (i : ℕ) (cause : AnEvent) → IsWithin self.now i cause
+            → depends_of cause (Lost copy.now) ≡ true → i < result }
     {
-        let sender = copy.msg.s.index();
-        if sender == slot || copy.msg.m <= self.heard[sender] {
-            j
-        } else {
-            0
-        }
+        let sent = self.end_of_sends(copy.msg.s, copy.msg.m);
+        sent.max(self.end_of_receives(copy.msg.s, copy.msg.m, copy.to.index()))
     }
 
-    /// Above all losses on which a step of that kind depends that is no send of the copy.
-    fn end_of_losses(&self, kind: Kind) -> usize
-        ensures { (i p k : ℕ) (copy : ACopy) → i < self.now.lost → affects_of (Step p k kind) (Lost copy) ≡ false → depends_of (Lost copy) (Step p k kind) ≡ true → i < result }
+    /// Above all losses on which a step of process `p` of that kind depends that is no send of the
+    /// copy.
+    fn end_of_lost_for(&self, p: Proc, kind: Kind) -> usize
+        ensures { (i k : ℕ) (copy : ACopy) → IsWithin self.now i (Lost copy)
+            → send_and_loss (Step p k kind) (Lost copy) ≡ false
+            → depends_of (Lost copy) (Step p k kind) ≡ true → i < result }
     {
         match kind {
-            Kind::Recv(_, _) => self.lost,
+            Kind::Recv(s, m) => self.end_of_losses(s, m, p.index()),
             _ => 0,
         }
     }
@@ -153,13 +282,61 @@ impl Bounds {
     /// A place above all events in a slot on which the event at place `j` depends.
     pub fn end(&self, event: &Event, j: usize, slot: usize) -> usize
         requires { slot < 10 }
-        ensures { (i : ℕ) (cause : AnEvent) → i < j → IsWithin self.now i cause → IsSlot cause slot → ((copy : ACopy) → cause ≡ Lost copy → affects_of event.now (Lost copy) ≡ false) → depends_of cause event.now ≡ true → i < result }
+        ensures { (i : ℕ) (cause : AnEvent) → i < j → IsWithin self.now i cause → IsSlot cause slot
+            → ((copy : ACopy) → cause ≡ Lost copy → send_and_loss event.now (Lost copy) ≡ false)
+            → depends_of cause event.now ≡ true → i < result }
     {
         match event {
-            Event::Step { kind, .. } if slot == 9 => self.end_of_losses(*kind),
+            Event::Step { p, kind, .. } if slot == 9 => self.end_of_lost_for(*p, *kind),
             Event::Step { p, .. } if p.index() == slot => j,
-            Event::Step { p, kind, .. } => self.end_for_step(*p, *kind, j, slot),
-            Event::Lost(copy) => self.end_for_loss(copy, j, slot),
+            Event::Step { p, kind, .. } => self.end_for_step(*p, *kind, slot),
+            Event::Lost(copy) => self.end_for_loss(copy),
+        }
+    }
+
+    /// Above all events that depend on the m-th send of process `q` and on which the receive, by
+    /// another process `p`, of the r-th message of process `s` depends.
+    fn end_of_waiting(&self, q: Proc, m: u16, p: Proc, s: Proc, r: u16) -> usize
+        requires { nat_eq q p ≡ false }
+        ensures { (i k l : ℕ) (between : AnEvent) → IsWithin self.now i between
+            → depends_of (Step q k (Send m)) between ≡ true
+            → depends_of between (Step p l (Recv s r)) ≡ true → i < result }
+    {
+        let sent = self.end_of_sends(s, r);
+        let lost = self.end_of_losses(s, r, p.index());
+        let received = self.end_of_receives(q, m, p.index());
+        sent.max(lost).max(received)
+    }
+
+    /// The same for steps of any kind of the processes `q` and `p`, the second at place `j`.
+    fn end_between_steps(&self, q: Proc, sent: Kind, p: Proc, received: Kind, j: usize) -> usize
+        ensures { (i k l : ℕ) (between : AnEvent) → i < j → IsWithin self.now i between
+            → depends_of (Step q k sent) between ≡ true
+            → depends_of between (Step p l received) ≡ true → i < result }
+    {
+        match (sent, received) {
+            (Kind::Send(m), Kind::Recv(s, r)) if q != p => self.end_of_waiting(q, m, p, s, r),
+            _ => j,
+        }
+    }
+
+    /// A place above all events that depend on the cause and on which the effect at place `j`
+    /// depends.
+    pub fn end_between(&self, cause: &Event, effect: &Event, j: usize) -> usize
+        ensures { (i : ℕ) (between : AnEvent) → i < j → IsWithin self.now i between
+            → depends_of cause.now between ≡ true
+            → depends_of between effect.now ≡ true → i < result }
+    {
+        match effect {
+            Event::Lost(copy) => self.end_for_loss(copy),
+            Event::Step { p, kind, .. } => match cause {
+                Event::Step {
+                    p: q,
+                    kind: sent,
+                    ..
+                } => self.end_between_steps(*q, *sent, *p, *kind, j),
+                Event::Lost(_) => j,
+            },
         }
     }
 }

@@ -1,7 +1,8 @@
 //! Which events depend on each other.
 
 ghost use Rattle.std.specs.Prelude.{◌≡◌, ◌&&◌, nat_eq};
-ghost use Rattle.cdb_causal.specs.Dependence.{sends as sends_of, receives as receives_of, kind_affects as kind_affects_of, affects as affects_of, same_process as same_process_of, depends as depends_of};
+ghost use Rattle.cdb_causal.specs.Dependence.{sends as sends_of, receives as receives_of, same_process as same_process_of, depends as depends_of};
+ghost use Rattle.cdb_causal.specs.Effects.{kind_affects as kind_affects_of, affects as affects_of};
 
 use cdb_base::{CopyName, Event, Kind, Proc};
 
@@ -71,6 +72,7 @@ fn same_process(event: &Event, other: &Event) -> bool
 /// Whether two events depend on each other: both are steps of one process, one sends the message
 /// that the other receives, both access one register and one of them writes it, or one is the loss
 /// of a copy and the other sends its message or receives that copy.
+#[tactic(auto, using(crate::proofs::Effects::by_effect))]
 pub fn depends(event: &Event, other: &Event) -> bool
     ensures { result ≡ depends_of event.now other.now }
 {

@@ -57,12 +57,14 @@ fn leads_on(first: &Event, event: &Event, last: &Event) -> bool
 }
 
 /// Whether no event between the two depends on the first and has the second depend on it.
-fn is_direct(events: &[Event], i: usize, j: usize) -> bool
+/// All such events are below the end.
+fn is_direct(events: &[Event], i: usize, j: usize, end: usize) -> bool
     requires order { i < j }
     requires within { j < length events.now }
+    requires end { (k : ℕ) → IsLink depends_of events.now i k → IsLink depends_of events.now k j → k < end }
     ensures { IsTrue result ↔ ((k : ℕ) → IsLink depends_of events.now i k → IsLink depends_of events.now k j → ⊥) }
 {
-    for k in i + 1..j {
+    for k in i + 1..end.min(j) {
         if leads_on(&events[i], &events[k], &events[j]) {
             return false;
         }
@@ -71,14 +73,15 @@ fn is_direct(events: &[Event], i: usize, j: usize) -> bool
 }
 
 /// The name of the direct cause in a slot, if there is one.
-fn direct_cause(events: &[Event], j: usize, slot: usize, end: usize) -> Option<StepId>
-    requires standing { IsStanding events.now }
-    requires within { j < length events.now }
-    requires end { (i : ℕ) (l : IsLink depends_of events.now i j) → IsSlot l.cause slot → i < end }
-    ensures { MatchOption result ((name : AName) → NamesDirectCauseIn events.now j slot name → ⊥) (λ name. NamesDirectCauseIn events.now j slot name) }
+fn direct_cause(history: &History, j: usize, slot: usize) -> Option<StepId>
+    requires within { j < length history.now }
+    requires slot { slot < 10 }
+    ensures { MatchOption result ((name : AName) → NamesDirectCauseIn history.now j slot name → ⊥)
+        (λ name. NamesDirectCauseIn history.now j slot name) }
 {
-    if let Some(i) = last_cause(events, j, slot, end) {
-        if is_direct(events, i, j) {
+    let events = history.as_slice();
+    if let Some(i) = last_cause(events, j, slot, history.end_of_causes(j, slot)) {
+        if is_direct(events, i, j, history.end_between(i, j)) {
             return Some(events[i].name());
         }
     }
@@ -94,11 +97,10 @@ pub fn direct_causes(alloc: Global, history: &History, at: usize) -> SmallVec<St
     requires to_len { at ≤ length history.now }
     ensures { AreDirectCauses history.now (at - 1) result.items }
 {
-    let events = history.as_slice();
+    let _standing = history.as_slice();
     let mut causes = SmallVec::new(alloc);
     for slot in 0..SLOTS {
-        let end = history.end_of_causes(at - 1, slot);
-        if let Some(name) = direct_cause(events, at - 1, slot, end) {
+        if let Some(name) = direct_cause(history, at - 1, slot) {
             causes.push_reserved(name);
         }
     }

@@ -11,7 +11,6 @@ ghost use Rattle.cdb_causal.specs.Rollback.{without};
 ghost use Rattle.cdb_causal.specs.Standing.{IsStanding, HasNoLostCopy};
 
 use crate::bounds::Bounds;
-use crate::places::Places;
 use cdb_base::{Event, Kind, NoMemory, Reg, StepId};
 use std::alloc::Global;
 use std::marker::Model;
@@ -22,7 +21,6 @@ use std::marker::Model;
 pub struct History {
     events: Vec<Event>,
     bounds: Bounds,
-    places: Places,
 }
 
 impl Model for History {
@@ -34,7 +32,7 @@ impl Model for History {
 
     ghost view = { λ h. h.events.items };
 
-    ghost invariant = { λ h. IsIndexed h.events.items h.bounds h.places.bounds.items };
+    ghost invariant = { λ h. IsIndexed h.events.items h.bounds };
 }
 
 /// Adds an event at the end of a list.
@@ -78,8 +76,7 @@ impl History {
     {
         History {
             events: Vec::new(alloc),
-            bounds: Bounds::new(),
-            places: Places::new(alloc),
+            bounds: Bounds::new(alloc),
         }
     }
 
@@ -114,6 +111,16 @@ impl History {
         self.bounds.end(&self.events[j], j, slot)
     }
 
+    /// A place, from 0, above all events that depend on the event at place `i` and on which the one at
+    /// place `j` depends.
+    pub(crate) fn end_between(&self, i: usize, j: usize) -> usize
+        requires order { i < j }
+        requires within { j < length self.now }
+        ensures { (k : ℕ) → IsLink depends_of self.now i k → IsLink depends_of self.now k j → k < result }
+    {
+        self.bounds.end_between(&self.events[i], &self.events[j], j)
+    }
+
     /// The event at a place, from 1 to the number of events.
     pub fn get(&self, at: usize) -> Event
         requires from_one { 1 ≤ at }
@@ -128,8 +135,8 @@ impl History {
         ensures { (i : ℕ) → IsNamedAt self.now i name.now → i < result }
     {
         match name {
-            StepId::Step(step) => self.places.end(step.p, step.k),
-            StepId::Lost(_) => self.bounds.end_of_lost(),
+            StepId::Step(step) => self.bounds.end_of_step(step.p, step.k),
+            StepId::Lost(copy) => self.bounds.end_of_lost(copy),
         }
     }
 
@@ -148,12 +155,11 @@ impl History {
         ensures ok { OnOk result (self.new ≡ self.old ++ event ∷ []) }
         ensures err { OnErr result (self.new ≡ self.old) }
     {
-        self.places.reserve(&event)?;
+        self.bounds.reserve(&event)?;
         let place = self.events.len();
         let added = event;
         append(&mut self.events, added)?;
         self.bounds.note(place, &event);
-        self.places.note(place, &event);
         Ok(())
     }
 

@@ -7,7 +7,7 @@ pub mod dependence;
 pub mod direct;
 pub mod history;
 pub mod laws;
-mod places;
+pub mod past;
 
 pub use causes::{consequences, first_dependent};
 pub use dependence::depends;

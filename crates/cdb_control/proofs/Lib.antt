@@ -11,3 +11,5 @@ pub mod Along
 pub mod Steps
 pub mod Refused
 pub mod Own
+pub mod FirstDependent
+pub mod Headline

@@ -5,9 +5,9 @@ use Rattle.cdb_base.specs.declared.event.Event.{Event}
 use Rattle.cdb_base.specs.declared.name.StepId.{StepId}
 use Rattle.cdb_base.specs.declared.refusal.Refusal.{Refusal}
 use Rattle.cdb_causal.specs.Names.{IsNewName}
-use Rattle.cdb_control.specs.Named.{name_of, CanName}
-use Rattle.cdb_control.specs.declared.named.Named.{Named}
-use Rattle.cdb_control.specs.declared.named.Named.TheVariants.{Step, Lost}
+use Rattle.cdb_run.specs.EventRefs.{name_of, CanName}
+use Rattle.cdb_run.specs.declared.event_ref.EventRef.{EventRef}
+use Rattle.cdb_run.specs.declared.event_ref.EventRef.TheVariants.{Step, Lost}
 use Rattle.cdb_run.proofs.Finding.{number_of, too_great, none_named, no_process_named}
 use Rattle.cdb_run.proofs.Taken.{both}
 use Rattle.cdb_run.specs.Algorithms.{leader_machine, alpha_machine, rules_by, rules}
@@ -58,7 +58,7 @@ module _ (setup : Parts) (range : AreInRange setup) (history : List Event) (vali
       go true e = small (number_of name) e
       go false e = absurd (refused setup.processes history name causes _ answer (none_named history name setup.processes (there name answer) (number_new setup history valid name (great (number_of name) e))))
 
-  pub can_name : (name : Named) → causes_of setup.processes history (name_of name) ≡ Ok causes → CanName name
+  pub can_name : (name : EventRef) → causes_of setup.processes history (name_of name) ≡ Ok causes → CanName name
   can_name (Step p k) answer = (among_nine setup.processes p range.processes.1 (there (name_of (Step p k)) answer), few (name_of (Step p k)) answer)
   can_name (Lost s m p) answer =
       let among = both (is_among setup.processes s) (is_among setup.processes p) (there (name_of (Lost s m p)) answer) in

@@ -12,7 +12,8 @@ use Rattle.cdb_control.specs.Answer.{Answer}
 use Rattle.cdb_control.specs.Answer as reply
 use Rattle.cdb_control.specs.Auto.{choice}
 use Rattle.cdb_control.specs.Commands.{Outcome, unless, granted, found, unpaused, stepped, step, lost, undo, rollback, why, redone, shown, outcome}
-use Rattle.cdb_control.specs.Named.{name_of}
+use Rattle.cdb_control.specs.Done.{NoneShrinks}
+use Rattle.cdb_run.specs.EventRefs.{name_of}
 use Rattle.cdb_control.specs.Room.{StoredList, StoredState, HasRoom, cost, room_of, lowered, raised, rooms_at}
 use Rattle.cdb_control.specs.State.{State, redo_of, last_of}
 use Rattle.cdb_control.specs.Stops.{names_none_of}
@@ -20,7 +21,7 @@ use Rattle.cdb_control.specs.declared.command.Command.{Command}
 use Rattle.cdb_control.specs.declared.command.Command.TheVariants.{Step, Auto, Lose, Undo, UndoLost, Redo, Forget, Rollback, RollbackLost, Why, WhyLost, Break, Unbreak, Resume, Show, Decisions}
 use Rattle.cdb_control.specs.declared.command.View.{View}
 use Rattle.cdb_control.specs.declared.command.View.TheVariants as view
-use Rattle.cdb_control.specs.declared.named.Named.TheVariants as named
+use Rattle.cdb_run.specs.declared.event_ref.EventRef.TheVariants as named
 use Rattle.cdb_message.specs.Mail.{message_name}
 use Rattle.cdb_run.specs.Rules.{Rules}
 use Rattle.cdb_run.specs.Undo.{undo_of, rollback_of, causes_of}
@@ -303,4 +304,13 @@ HasRoom-first places seats stored long =
       seats = length-map (replicate seats 0) (λ mark. mark - 0) ∙ length-replicate seats 0 ∙ sym long;
       journal = λ i some. absurd (let none = no-rooms seats i in omega (arith, none, some));
       lists = λ i some. absurd (let none = no-rooms seats i in omega (arith, none, some));
+    }
+
+-- where the state is as it was, and no memory was given back, the room is as it was
+pub HasRoom-kept : (n places places' : ℕ) (rooms : List ℕ) (was next : StoredState) → HasRoom n places rooms was → places ≤ places' → next.state ≡ was.state → NoneShrinks was.capacities next.capacities → HasRoom n places' rooms next
+HasRoom-kept n places places' rooms was next room more same grown =
+    record {
+      seats = room.seats ∙ ap (λ (t : State). length t.redo) (sym same);
+      journal = λ i some. let fits = room.journal i some in omega (arith, fits, more);
+      lists = λ i some. let fits = room.lists i some in let wide = grown i in let long = ap (λ (t : State). length (get_or t.redo i [])) same in omega (arith, fits, wide, long);
     }

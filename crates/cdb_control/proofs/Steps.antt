@@ -1,17 +1,21 @@
 -- Commands that share a word of the table.
-use Rattle.std.proofs.Common.{◌≡◌, ℕ, ◌-◌, List, [], ◌∷◌, ◌++◌, length, set, Option, Some, Result, Ok, Err, sym, ap, ◌∙◌}
+use Rattle.std.proofs.Common.{◌≡◌, ℕ, ◌-◌, false, IsOk, OnErr, List, [], ◌∷◌, ◌++◌, length, set, Option, Some, None, Result, Ok, Err, refl, sym, ap, ◌∙◌, true≢false}
 use Rattle.std.proofs.lemmas.List.{set-get_or}
+use Rattle.std.proofs.lemmas.Option.{none-some}
+use Rattle.std.specs.Result.{result_err}
 use Rattle.cdb_base.specs.Places.{without_last}
 use Rattle.cdb_base.specs.declared.act.Act.{Act}
 use Rattle.cdb_base.specs.declared.event.Event.{Event}
 use Rattle.cdb_base.specs.declared.refusal.Refusal.{Refusal}
 use Rattle.cdb_base.specs.declared.refusal.Refusal.TheVariants.{NothingToRedo}
+use Rattle.cdb_control.specs.Answer.{is_refused}
 use Rattle.cdb_control.specs.Answer as reply
-use Rattle.cdb_control.specs.Commands.{Outcome, granted, found, taken_back, redone, decides, step, undo, rollback, why, outcome}
-use Rattle.cdb_control.specs.Named.{name_of}
+use Rattle.cdb_control.specs.Auto.{choice}
+use Rattle.cdb_control.specs.Commands.{Outcome, granted, found, unpaused, taken_back, redone, decides, step, undo, rollback, why, answer, outcome}
+use Rattle.cdb_run.specs.EventRefs.{name_of}
 use Rattle.cdb_control.specs.State.{State, redo_of, last_of}
 use Rattle.cdb_control.specs.declared.command.Command.TheVariants as command
-use Rattle.cdb_control.specs.declared.named.Named.TheVariants.{Step, Lost}
+use Rattle.cdb_run.specs.declared.event_ref.EventRef.TheVariants.{Step, Lost}
 use Rattle.cdb_run.specs.Refusals.{with_taken}
 use Rattle.cdb_run.specs.Rules.{Rules}
 use Rattle.cdb_run.specs.Undo.{answered, left_by, number_removed, with_removed}
@@ -43,6 +47,59 @@ as_why rules t seat p k o h = h
 pub as_why_lost : (rules : Rules) (t : State) (seat s m p : ℕ) (o : Outcome) → o ≡ why t (name_of (Lost s m p)) → o ≡ outcome rules t seat (command.WhyLost s m p)
 unfolding outcome
 as_why_lost rules t seat s m p o h = h
+
+-- ---- commands that are not refused
+
+pub step_taken : (rules : Rules) (t : State) (seat p : ℕ) (act : Act) → is_refused (step rules t p act).reply ≡ false → is_refused (answer rules t seat (command.Step p act)) ≡ false
+unfolding outcome
+step_taken rules t seat p act h = h
+
+pub undo_taken : (rules : Rules) (t : State) (seat p k : ℕ) → is_refused (undo t seat (name_of (Step p k))).reply ≡ false → is_refused (answer rules t seat (command.Undo p k)) ≡ false
+unfolding outcome
+undo_taken rules t seat p k h = h
+
+pub undo_lost_taken : (rules : Rules) (t : State) (seat s m p : ℕ) → is_refused (undo t seat (name_of (Lost s m p))).reply ≡ false → is_refused (answer rules t seat (command.UndoLost s m p)) ≡ false
+unfolding outcome
+undo_lost_taken rules t seat s m p h = h
+
+pub rollback_taken : (rules : Rules) (t : State) (seat p k : ℕ) → is_refused (rollback t seat (name_of (Step p k))).reply ≡ false → is_refused (answer rules t seat (command.Rollback p k)) ≡ false
+unfolding outcome
+rollback_taken rules t seat p k h = h
+
+pub rollback_lost_taken : (rules : Rules) (t : State) (seat s m p : ℕ) → is_refused (rollback t seat (name_of (Lost s m p))).reply ≡ false → is_refused (answer rules t seat (command.RollbackLost s m p)) ≡ false
+unfolding outcome
+rollback_lost_taken rules t seat s m p h = h
+
+-- what is granted is answered as what it goes on to
+pub granted_taken : {A : Type 0} (x : Result A Refusal) (t : State) (go : A → Outcome) → IsOk x → ((a : A) → is_refused (go a).reply ≡ false) → is_refused (granted x t go).reply ≡ false
+granted_taken (Ok a) t go ok each = each a
+granted_taken (Err why) t go ok each = absurd (true≢false (sym ok))
+
+pub answered_ok : {A : Type 0} (x : Result (A × List Event) Refusal) → IsOk (answered x) → IsOk x
+answered_ok (Ok done) ok = refl
+answered_ok (Err why) ok = ok
+
+pub redo_taken : (rules : Rules) (t : State) (seat : ℕ) (undone : Event) → Some undone ≡ last_of (redo_of t seat) → IsOk (rules.again t.history undone) → is_refused (answer rules t seat command.Redo) ≡ false
+unfolding outcome
+redo_taken rules t seat undone last ok =
+    ap (λ (o : Option Event). is_refused (found o NothingToRedo t (λ e. granted (rules.again t.history e) t (redone rules t seat))).reply) (sym last)
+    ∙ granted_taken (rules.again t.history undone) t (redone rules t seat) ok (λ event. refl)
+
+pub auto_taken : (rules : Rules) (t : State) (seat p : ℕ) (act : Act) → choice rules t.history p ≡ Ok act → t.pause ≡ None → is_refused (step rules t p act).reply ≡ false → is_refused (answer rules t seat (command.Auto p)) ≡ false
+unfolding outcome
+auto_taken rules t seat p act chosen unpaused_now taken =
+    ap (λ (x : Result Act Refusal). is_refused (granted x t (λ act. unpaused t.pause t (step rules t p act))).reply) chosen
+    ∙ ap (λ (o : Option ℕ). is_refused (unpaused o t (step rules t p act)).reply) unpaused_now
+    ∙ taken
+
+pub on_err : {A E P Q : Type 0} (r : Result A E) → (P → Q) → OnErr r P → OnErr r Q
+on_err (Ok a) go held = held
+on_err (Err e) go held = go held
+
+-- what is refused leaves the history as it was
+pub refused_leaves : (x : Result (Event × List Event) Refusal) (history : List Event) (why : Refusal) → Some why ≡ result_err (answered x) → left_by history x ≡ history
+refused_leaves (Ok done) history why is = absurd (none-some why (sym is))
+refused_leaves (Err other) history why is = refl
 
 -- ---- what an undo or a rollback answers, together with what it leaves
 

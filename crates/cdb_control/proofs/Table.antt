@@ -12,14 +12,14 @@ use Rattle.cdb_base.specs.declared.refusal.Refusal.{Refusal}
 use Rattle.cdb_base.specs.declared.refusal.Refusal.TheVariants.{NoProcess, NothingToRedo, NoBreak, BreakLimit}
 use Rattle.cdb_control.specs.Auto.{choice}
 use Rattle.cdb_control.specs.Commands.{Outcome, unless, granted, found, unpaused, stepped, step, lost, taken_back, undo, rollback, why, redone, shown, outcome, obey}
-use Rattle.cdb_control.specs.Named.{name_of}
+use Rattle.cdb_run.specs.EventRefs.{name_of}
 use Rattle.cdb_control.specs.State.{State, held, redo_of, last_of, AreOfRun}
 use Rattle.cdb_control.specs.Stops.{names_none_of}
 use Rattle.cdb_control.specs.declared.command.Command.{Command}
 use Rattle.cdb_control.specs.declared.command.Command.TheVariants.{Step, Auto, Lose, Undo, UndoLost, Redo, Forget, Rollback, RollbackLost, Why, WhyLost, Break, Unbreak, Resume, Show, Decisions}
 use Rattle.cdb_control.specs.declared.command.View.{View}
 use Rattle.cdb_control.specs.declared.command.View.TheVariants as view
-use Rattle.cdb_control.specs.declared.named.Named.TheVariants as named
+use Rattle.cdb_run.specs.declared.event_ref.EventRef.TheVariants as named
 use Rattle.cdb_control.proofs.Alls.{all-append, all-take, all-set, all-get_or, all-slice_get}
 use Rattle.cdb_control.proofs.Held.{waiting-set}
 use Rattle.cdb_control.proofs.Removed.{Parted, undone-parted, rolled_back-parted}

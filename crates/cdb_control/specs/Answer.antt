@@ -1,5 +1,5 @@
 -- What a reply tells: the reply, with lists where the program has vectors.
-use Rattle.std.specs.Prelude.{ℕ, List, Option}
+use Rattle.std.specs.Prelude.{ℕ, Bool, true, false, List, Option}
 use Rattle.cdb_base.specs.declared.event.Event.{Event}
 use Rattle.cdb_base.specs.declared.name.MsgName.{MsgName}
 use Rattle.cdb_base.specs.declared.name.StepId.{StepId}
@@ -26,6 +26,11 @@ pub data Answer : Type 0 where
   History : List Event → Answer
   Decisions : List (ℕ × ℕ) → Answer
   Refused : Refusal → Answer
+
+-- whether it is a refusal
+abbrev pub is_refused : Answer → Bool
+is_refused (Refused why) = true
+is_refused _ = false
 
 abbrev pub told : Reply → Answer
 told (reply.Stepped event decides paused) = Stepped event decides paused

@@ -12,7 +12,7 @@ use Rattle.cdb_base.specs.declared.refusal.Refusal.TheVariants.{NoProcess, Pause
 use Rattle.cdb_control.specs.Answer.{Answer}
 use Rattle.cdb_control.specs.Answer as reply
 use Rattle.cdb_control.specs.Auto.{choice}
-use Rattle.cdb_control.specs.Named.{name_of}
+use Rattle.cdb_run.specs.EventRefs.{name_of}
 use Rattle.cdb_control.specs.State.{State, redo_of, with_redo, last_of}
 use Rattle.cdb_control.specs.Stops.{Stops, first_fired, names_none_of}
 use Rattle.cdb_control.specs.Views.{seen_as, round_of, decision_of, cells_of, all_open_copies}
@@ -21,7 +21,7 @@ use Rattle.cdb_control.specs.declared.command.Command.TheVariants.{Step, Auto, L
 use Rattle.cdb_control.specs.declared.command.Stop.{Stop}
 use Rattle.cdb_control.specs.declared.command.View.{View}
 use Rattle.cdb_control.specs.declared.command.View.TheVariants as view
-use Rattle.cdb_control.specs.declared.named.Named.TheVariants as named
+use Rattle.cdb_run.specs.declared.event_ref.EventRef.TheVariants as named
 use Rattle.cdb_control.specs.declared.stops.Taken.{Taken}
 use Rattle.cdb_message.specs.Mail.{message_name}
 use Rattle.cdb_run.specs.Rules.{Rules}

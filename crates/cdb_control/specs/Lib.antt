@@ -1,9 +1,11 @@
 pub mod Answer
 pub mod Auto
-pub mod Named
 pub mod Stops
 pub mod Views
 pub mod State
 pub mod Commands
+pub mod Done
 pub mod Room
 pub mod Journal
+pub mod Headline
+pub mod WorkedJournals

@@ -1,21 +1,22 @@
 //! A run of either algorithm, under the control.
 
-ghost use Rattle.std.specs.Prelude.{◌≡◌, ◌≤◌, ◌++◌, OnOk, OnErr, IfOk, Ok, Err, MatchResult, map, option_map, option_to_list, vec_capacity};
+ghost use Rattle.std.specs.Prelude.{◌≡◌, ◌≤◌, ◌++◌, OnOk, map, option_to_list, vec_capacity};
 ghost use Rattle.cdb_message.specs.Mail.{payload_of};
-ghost use Rattle.cdb_control.specs.Named.{name_of};
+ghost use Rattle.cdb_run.specs.EventRefs.{name_of};
 ghost use Rattle.cdb_control.specs.Views.{open_copies};
-ghost use Rattle.cdb_register.specs.Registers.{register_of};
+ghost use Rattle.cdb_run.proofs.KeptHistories.{rules_keep_histories};
 ghost use Rattle.cdb_run.proofs.Lawful.{rules_are_lawful};
 ghost use Rattle.cdb_run.specs.Algorithms.{rules as rules_of_setup};
 ghost use Rattle.cdb_run.specs.Any.{run_view, IsTrueToSetup};
+ghost use Rattle.cdb_run.specs.ByRules.{cell_in, mail_in};
 ghost use Rattle.cdb_run.specs.Current.{RunView};
-ghost use Rattle.cdb_run.specs.Undo.{rollback_of, causes_of, answered, left_by, number_removed, with_removed};
+ghost use Rattle.cdb_run.specs.Runs.{RollsBackOnto, Tells, causes_in};
+ghost use Rattle.cdb_run.specs.SameState.{ReachSameState};
 
-use crate::named::Named;
 use crate::reply::ProcView;
 use crate::runs::Runs;
 use cdb_base::{Act, Cell, Event, MsgName, NoMemory, Payload, Proc, Refusal, Reg, StepId, Val};
-use cdb_run::AnyRun;
+use cdb_run::{AnyRun, EventRef};
 use cdb_setup::{Algorithm, Setup};
 use smallvec::SmallVec;
 use std::alloc::Global;
@@ -41,7 +42,8 @@ impl Model for RunOfSetup {
 /// The copy of a message for a process, where the message was sent.
 fn copy_of(run: &AnyRun, p: &Proc, name: &MsgName) -> Option<(Proc, MsgName, Payload)>
     requires { IsTrueToSetup run.now }
-    ensures { option_to_list result ≡ map (λ payload. (p.now, name.now, payload)) (option_to_list (payload_of ((rules_of_setup (run_view run.now).setup).mail (run_view run.now).history) name.now)) }
+    ensures { option_to_list result ≡ map (λ payload. (p.now, name.now, payload))
+        (option_to_list (payload_of (mail_in rules_of_setup (run_view run.now)) name.now)) }
 {
     let payload = run.payload(*name).copied()?;
     Some((*p, *name, payload))
@@ -55,7 +57,8 @@ fn push_open_copies(
 ) -> Result<(), NoMemory>
     requires true_to_setup { IsTrueToSetup run.now }
     requires among { p.now ≤ (run_view run.now).setup.processes }
-    ensures { OnOk result (copies.new.items ≡ copies.old.items ++ open_copies ((rules_of_setup (run_view run.now).setup).mail (run_view run.now).history) p.now) }
+    ensures { OnOk result (copies.new.items
+        ≡ copies.old.items ++ open_copies (mail_in rules_of_setup (run_view run.now)) p.now) }
 {
     // Names the type inside a payload, which the check finds in no other part of the function.
     let _value: Option<Val> = None;
@@ -80,7 +83,7 @@ impl RunOfSetup {
 
     /// What the register holds, where the run has it.
     fn cell(&self, register: Reg) -> Option<Cell>
-        ensures { result ≡ option_map (λ stands. stands.cell) (register_of ((rules_of_setup self.now.setup).registers self.now.history) register) }
+        ensures { result ≡ cell_in rules_of_setup self.now register }
     {
         let again = register;
         if !self.run.has(again) {
@@ -88,44 +91,14 @@ impl RunOfSetup {
         }
         Some(self.run.cell(register))
     }
-
-    /// Takes an event back with its consequences and adds them to a list, as `rollback` does.
-    fn rollback_onto(
-        &mut self,
-        alloc: Global,
-        name: &Named,
-        taken: &mut Vec<Event>,
-    ) -> Result<Result<usize, Refusal>, NoMemory>
-        ensures answer { IfOk result (λ answer. answer ≡ number_removed (answered (rollback_of self.old.setup.processes self.old.history (name_of name.now)))) }
-        ensures after { IfOk result (λ _. self.new ≡ record self.old { history = left_by self.old.history (rollback_of self.old.setup.processes self.old.history (name_of name.now)) }) }
-        ensures list { IfOk result (λ _. taken.new.items ≡ with_removed taken.old.items (answered (rollback_of self.old.setup.processes self.old.history (name_of name.now)))) }
-        ensures err { OnErr result (self.new ≡ self.old) }
-        ensures list_err { OnErr result (taken.new.items ≡ taken.old.items) }
-        ensures capacity { vec_capacity taken.old ≤ vec_capacity taken.new }
-    {
-        match *name {
-            Named::Step(p, k) => self.run.rollback_onto(alloc, p, k, taken),
-            Named::Lost(s, m, p) => self.run.rollback_lost_onto(alloc, s, m, p, taken),
-        }
-    }
-
-    /// The direct causes of an event, in order of process.
-    fn causes(&self, alloc: Global, name: &Named) -> Result<SmallVec<StepId, 9>, Refusal>
-        ensures { MatchResult result (λ causes. causes_of self.now.setup.processes self.now.history (name_of name.now) ≡ Ok causes.items) (λ why. causes_of self.now.setup.processes self.now.history (name_of name.now) ≡ Err why) }
-    {
-        match *name {
-            Named::Step(p, k) => self.run.causes(alloc, p, k),
-            Named::Lost(s, m, p) => self.run.causes_of_loss(alloc, s, m, p),
-        }
-    }
 }
 
 impl Runs for RunOfSetup {
     ghost rules = { rules_of_setup };
 
-    ghost setup = { λ run. run.setup };
+    ghost same_state = { ReachSameState };
 
-    ghost history = { λ run. run.history };
+    ghost run = { λ run. run };
 
     fn start(alloc: Global, given: Setup) -> Result<Self, NoMemory> {
         let run = AnyRun::start(alloc, given)?;
@@ -155,20 +128,21 @@ impl Runs for RunOfSetup {
         self.run.again(alloc, event)
     }
 
-    fn undo(&mut self, name: &Named) -> Result<Event, Refusal> {
-        match *name {
-            Named::Step(p, k) => self.run.undo(p, k),
-            Named::Lost(s, m, p) => self.run.undo_lost(s, m, p),
-        }
+    fn undo(&mut self, name: EventRef) -> Result<Event, Refusal> {
+        self.run.undo_event(name)
+    }
+
+    fn refuses_undo(&self, name: EventRef) -> Option<Refusal> {
+        self.run.refuses_undo(name)
     }
 
     fn rollback(
         &mut self,
         alloc: Global,
-        name: &Named,
+        name: EventRef,
         taken: &mut Vec<Event>,
     ) -> Result<Result<u32, Refusal>, NoMemory> {
-        match self.rollback_onto(alloc, name, taken)? {
+        match self.run.rollback_event(alloc, name, taken)? {
             Ok(count) => Ok(Ok(count as u32)),
             Err(refusal) => Ok(Err(refusal)),
         }
@@ -189,11 +163,11 @@ impl Runs for RunOfSetup {
     fn explain(
         &self,
         alloc: Global,
-        name: &Named,
+        name: EventRef,
     ) -> Result<(StepId, SmallVec<StepId, 9>), Refusal> {
         let _ranges = self.run.setup().n();
         let _valid = self.run.history();
-        let causes = self.causes(alloc, name)?;
+        let causes = self.run.causes_of(alloc, name)?;
         match name.id() {
             Some(id) => Ok((id, causes)),
             None => unreachable!(),
@@ -250,4 +224,6 @@ impl Runs for RunOfSetup {
     }
 
     ghost lawful = { rules_are_lawful };
+
+    ghost histories = { rules_keep_histories };
 }

@@ -1,9 +1,10 @@
 //! The control: the control state, and the journal that led to it.
 ghost use Rattle.std.specs.Prelude.{◌≡◌, ◌≢◌, ◌+◌, ◌-◌, ◌<◌, ◌≤◌, ◌↔◌, ◌⊎◌, true, max, IfOk, OnOk, OnErr, length, replicate, vec_len, vec_capacity, ◌++◌, ◌∷◌, []};
 ghost use Rattle.std.specs.Result.{result_ok};
-ghost use Rattle.cdb_control.specs.Answer.{told};
+ghost use Rattle.cdb_control.specs.Answer.{told, is_refused};
 ghost use Rattle.cdb_control.specs.Auto.{choice};
 ghost use Rattle.cdb_control.specs.Commands.{answer};
+ghost use Rattle.cdb_control.specs.Headline.{Headline};
 ghost use Rattle.cdb_control.specs.Journal.{entry, opened, extended, state_of, AreOfSeats};
 ghost use Rattle.cdb_control.specs.Room.{is_spared, cost, room_of, with_room, raised};
 
@@ -41,7 +42,7 @@ pub enum OpenFault {
 }
 
 /// To contracts a control is its setup, its number of seats, its journal and the room of each seat. All else is the
-/// journal's replay.
+/// journal's replay. What holds after any list of commands is one definition, `Headline`, which each control keeps.
 #[derive(Drop)]
 pub struct Control<R: Runs> {
     seats: u8,
@@ -70,6 +71,8 @@ impl<R: Runs> Control<R> {
     pub fn open(alloc: Global, setup: Setup, seats: u8) -> Result<Self, OpenFault>
         ensures opened { IfOk result (λ c. c ≡ opened setup seats) }
         ensures seats { (result ≡ Err OpenFault.Seats) ↔ ((seats ≡ 0) ⊎ (64 < seats)) }
+        ensures headline { IfOk result
+            (λ c. Headline R.rules R.same_state c.setup c.seats c.journal) }
     {
         if seats == 0 || seats > MAX_SEATS {
             return Err(OpenFault::Seats);
@@ -92,7 +95,7 @@ impl<R: Runs> Control<R> {
 
     /// Carries a command out for a seat, from 1, and adds it to the journal, a refused one too. `JournalFull` comes
     /// before `NoMemory`, and either changes nothing. Where the seat has room, an undo, an undo of a loss, `forget`,
-    /// `unbreak` and `resume` want no memory.
+    /// `unbreak` and `resume` need no memory, nor does any command that is refused.
     pub fn execute(&mut self, alloc: Global, seat: u8, command: Command) -> Result<Reply, CallFault>
         requires from_one { 1 ≤ seat }
         requires to_last { seat ≤ self.old.seats }
@@ -101,6 +104,9 @@ impl<R: Runs> Control<R> {
         ensures fault { OnErr result (self.new ≡ self.old) }
         ensures full { (result ≡ Err CallFault.JournalFull) ↔ (length self.old.journal ≡ MAX_ENTRIES) }
         ensures limit { length self.new.journal ≤ MAX_ENTRIES }
+        ensures headline { Headline R.rules R.same_state
+            self.new.setup self.new.seats self.new.journal }
+        ensures refusal { 0 < room_of self.old.rooms seat → is_refused (answer (R.rules self.old.setup) (state_of (R.rules self.old.setup) self.old) seat command) ≡ true → result ≢ Err CallFault.NoMemory }
         ensures spared { is_spared command ≡ true → 0 < room_of self.old.rooms seat → result ≢ Err CallFault.NoMemory }
     {
         if self.journal.len() >= MAX_ENTRIES as usize {
@@ -152,8 +158,8 @@ impl<R: Runs> Control<R> {
 
     /// The run that the journal leads to.
     pub fn run(&self) -> &R
-        ensures setup { R.setup result.now ≡ self.now.setup }
-        ensures history { R.history result.now ≡ (state_of (R.rules self.now.setup) self.now).history }
+        ensures setup { (R.run result.now).setup ≡ self.now.setup }
+        ensures history { (R.run result.now).history ≡ (state_of (R.rules self.now.setup) self.now).history }
     {
         self.state.run()
     }
@@ -170,6 +176,8 @@ impl<R: Runs> Control<R> {
         ensures entries { result.now ≡ self.now.journal }
         ensures seats { AreOfSeats self.now.seats self.now.journal }
         ensures limit { length self.now.journal ≤ MAX_ENTRIES }
+        ensures headline { Headline R.rules R.same_state
+            self.now.setup self.now.seats self.now.journal }
     {
         self.journal.as_slice()
     }

@@ -1,14 +1,20 @@
 //! Laws of the table of the commands and of journals. Each function does nothing: its contract is the law.
-ghost use Rattle.std.specs.Prelude.{◌≡◌, ◌≢◌, ◌≤◌, ℕ, List, [], ◌∷◌, ◌++◌};
+ghost use Rattle.std.specs.Prelude.{◌≡◌, ◌≢◌, ◌≤◌, ℕ, List, [], ◌∷◌, ◌++◌, None};
+ghost use Rattle.cdb_base.specs.Event.{event_name};
 ghost use Rattle.cdb_base.specs.declared.refusal.Refusal.{Refusal};
+ghost use Rattle.cdb_base.specs.declared.refusal.Refusal.TheVariants.{NeededBy, NothingToRedo};
 ghost use Rattle.cdb_control.specs.declared.command.Command.{Command};
 ghost use Rattle.cdb_control.specs.declared.control.Entry.{Entry};
-ghost use Rattle.cdb_control.specs.Answer.{Refused};
+ghost use Rattle.cdb_control.specs.Answer.{Stepped, Undone, Redone, RolledBack, History, Decisions, Refused};
 ghost use Rattle.cdb_control.specs.Commands.{answer, obey};
-ghost use Rattle.cdb_control.specs.Journal.{entry, replay, own, replies_of, Begins};
+ghost use Rattle.cdb_control.specs.Headline.{Headline};
+ghost use Rattle.cdb_control.specs.Journal.{entry, replay, own, replies_of, AreOfSeats, Begins};
 ghost use Rattle.cdb_control.specs.State.{State, redo_of};
+ghost use Rattle.cdb_control.specs.WorkedJournals.{replies, query, send, undone_and_redone, rolled_back_and_redone};
+ghost use Rattle.cdb_run.specs.Algorithms.{rules};
 ghost use Rattle.cdb_run.specs.Rules.{Rules};
-ghost use Rattle.cdb_setup.specs.Parts.{Parts};
+ghost use Rattle.cdb_run.specs.SameState.{ReachSameState};
+ghost use Rattle.cdb_setup.specs.Parts.{Parts, AreInRange};
 
 /// A refused command changes nothing.
 #[tactic(auto, using(crate::proofs::Refused::refused_changes_nothing))]
@@ -38,4 +44,23 @@ pub fn own_command_adds_its_reply()
 #[tactic(auto)]
 pub fn others_add_no_reply()
     ensures { (rules : Rules) (setup : Parts) (seats seat : ℕ) (seen journal : List Entry) → Begins seen journal → own seat journal ≡ own seat seen → replies_of rules setup seats seat journal ≡ replies_of rules setup seats seat seen }
+{}
+
+/// The headline holds of every journal of commands of seats that there are, by either algorithm.
+pub fn headline()
+    ensures { (setup : Parts) → AreInRange setup → (seats : ℕ) (journal : List Entry) →
+        AreOfSeats seats journal → Headline rules ReachSameState setup seats journal }
+{}
+
+/// By the table of the commands: what one seat undoes or rolls back it takes again, whatever the other
+/// seat asks in between.
+pub fn worked_journals()
+    ensures undone_for_2 { replies 2 undone_and_redone ≡ Undone query ∷ Redone query None ∷ [] }
+    ensures undone_for_1 { replies 1 undone_and_redone
+        ≡ Stepped query None None ∷ Refused NothingToRedo ∷ [] }
+    ensures rolled_back_for_2 { replies 2 rolled_back_and_redone
+        ≡ RolledBack 2 ∷ Redone query None ∷ Redone send None ∷ [] }
+    ensures rolled_back_for_1 { replies 1 rolled_back_and_redone
+        ≡ Stepped query None None ∷ Stepped send None None ∷ Decisions []
+        ∷ Refused (NeededBy (event_name send)) ∷ History (query ∷ send ∷ []) ∷ [] }
 {}

@@ -6,7 +6,6 @@ mod any_run;
 mod command;
 mod control;
 pub mod laws;
-mod named;
 mod redo;
 mod reply;
 mod runs;
@@ -15,8 +14,8 @@ mod stops;
 
 pub use any_run::RunOfSetup;
 pub use cdb_base::Act;
+pub use cdb_run::EventRef;
 pub use command::{Command, Stop, View};
 pub use control::{CallFault, Control, Entry, OpenFault};
-pub use named::Named;
 pub use reply::{ProcView, Reply};
 pub use runs::Runs;

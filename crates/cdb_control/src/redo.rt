@@ -2,13 +2,13 @@
 ghost use Rattle.std.specs.Prelude.{◌≡◌, ◌<◌, ◌≤◌, ◌+◌, [], IfOk, OnOk, OnErr, IsOk, length};
 ghost use Rattle.cdb_base.specs.Places.{without_last};
 ghost use Rattle.cdb_control.specs.State.{last_of};
-ghost use Rattle.cdb_control.specs.Named.{name_of};
+ghost use Rattle.cdb_run.specs.EventRefs.{name_of};
 ghost use Rattle.cdb_run.specs.Refusals.{with_taken};
-ghost use Rattle.cdb_run.specs.Undo.{undo_of, rollback_of, answered, left_by, number_removed, with_removed};
+ghost use Rattle.cdb_run.specs.Runs.{RollsBackOnto, undo_answer, after_undo};
 
-use crate::named::Named;
 use crate::runs::Runs;
 use cdb_base::{Event, Kind, NoMemory, Refusal, Reg};
+use cdb_run::EventRef;
 use std::alloc::Global;
 use std::marker::Model;
 
@@ -76,24 +76,31 @@ impl RedoList {
     }
 
     /// Takes an event of a run back, and adds it at the end. After a refusal and after `NoMemory` both
-    /// are as they were. It wants no memory where there is room for the event.
+    /// are as they were. It needs no memory where there is room for the event, nor for a refusal.
     pub fn undo<R: Runs>(
         &mut self,
         run: &mut R,
-        name: &Named,
+        name: EventRef,
     ) -> Result<Result<Event, Refusal>, NoMemory>
-        ensures setup { R.setup run.new ≡ R.setup run.old }
-        ensures answer { IfOk result (λ r. r ≡ answered (undo_of (R.setup run.old).processes (R.history run.old) (name_of name.now))) }
-        ensures history { IfOk result (λ _. R.history run.new ≡ left_by (R.history run.old) (undo_of (R.setup run.old).processes (R.history run.old) (name_of name.now))) }
+        ensures answer { IfOk result (λ r. r ≡ undo_answer (R.run run.old) (name_of name)) }
+        ensures after { OnOk result
+            (R.run run.new ≡ after_undo (R.run run.old) (name_of name)) }
         ensures list { IfOk result (λ r. self.new.events ≡ with_taken self.old.events r) }
-        ensures err { OnErr result (R.history run.new ≡ R.history run.old) }
+        ensures err { OnErr result (R.run run.new ≡ R.run run.old) }
         ensures list_err { OnErr result (self.new.events ≡ self.old.events) }
         ensures capacity { self.old.capacity ≤ self.new.capacity }
         ensures spared { length self.old.events < self.old.capacity → IsOk result }
+        ensures memory { OnErr result (IsOk (undo_answer (R.run run.old) (name_of name))) }
     {
         let _kind: Option<Kind> = None;
         let _register: Option<Reg> = None;
-        self.events.reserve(1)?;
+        if self.events.reserve(1).is_err() {
+            // A refusal needs no room in the list.
+            return match run.refuses_undo(name) {
+                Some(refusal) => Ok(Err(refusal)),
+                None => Err(NoMemory),
+            };
+        }
         let undone = run.undo(name);
         if let Ok(event) = &undone {
             self.events.push_reserved(*event);
@@ -107,15 +114,11 @@ impl RedoList {
         &mut self,
         alloc: Global,
         run: &mut R,
-        name: &Named,
+        name: EventRef,
     ) -> Result<Result<u32, Refusal>, NoMemory>
-        requires { length (R.history run.old) ≤ 999999 }
-        ensures setup { R.setup run.new ≡ R.setup run.old }
-        ensures answer { IfOk result (λ r. r ≡ number_removed (answered (rollback_of (R.setup run.old).processes (R.history run.old) (name_of name.now)))) }
-        ensures history { IfOk result (λ _. R.history run.new ≡ left_by (R.history run.old) (rollback_of (R.setup run.old).processes (R.history run.old) (name_of name.now))) }
-        ensures list { IfOk result (λ _. self.new.events ≡ with_removed self.old.events (answered (rollback_of (R.setup run.old).processes (R.history run.old) (name_of name.now)))) }
-        ensures err { OnErr result (R.history run.new ≡ R.history run.old) }
-        ensures list_err { OnErr result (self.new.events ≡ self.old.events) }
+        requires { length (R.run run.old).history ≤ 999999 }
+        ensures rolled_back { RollsBackOnto (R.run run.old) (R.run run.new) (name_of name)
+            self.old.events self.new.events result }
         ensures capacity { self.old.capacity ≤ self.new.capacity }
     {
         run.rollback(alloc, name, &mut self.events)

@@ -1,23 +1,24 @@
 //! The control state: a run, the breakpoints, the pause and the redo lists.
-ghost use Rattle.std.specs.Prelude.{◌≡◌, ℕ, ◌+◌, ◌-◌, ◌<◌, ◌≤◌, [], true, IfOk, OnOk, OnErr, IsOk, replicate, length, map, slice_index_or};
+ghost use Rattle.std.specs.Prelude.{◌≡◌, ℕ, ◌+◌, ◌-◌, ◌<◌, ◌≤◌, [], true, false, IfOk, OnOk, OnErr, IsOk, replicate, length, map, slice_index_or};
 ghost use Rattle.std.specs.Option.{option_or};
-ghost use Rattle.cdb_control.specs.Answer.{told};
+ghost use Rattle.cdb_control.specs.Answer.{is_refused};
+ghost use Rattle.cdb_control.specs.Done.{came_out, Does, IsTaken, NoneShrinks};
 ghost use Rattle.cdb_control.specs.Auto.{choice};
-ghost use Rattle.cdb_control.specs.Commands.{outcome, step, undo, rollback, why, shown, decides, newly_fired};
-ghost use Rattle.cdb_control.specs.Named.{name_of};
+ghost use Rattle.cdb_control.specs.Commands.{step, undo, rollback, why, shown, decides, newly_fired};
+ghost use Rattle.cdb_run.specs.EventRefs.{name_of};
 ghost use Rattle.cdb_control.specs.Room.{is_spared};
 ghost use Rattle.cdb_control.specs.State.{first_state, held, redo_of, AreOfRun};
 ghost use Rattle.cdb_control.specs.Views.{round_of, decision_of};
 ghost use Rattle.cdb_setup.specs.Parts.{AreInRange};
 
 use crate::command::{Command, Stop, View};
-use crate::named::Named;
 use crate::redo::RedoList;
 use crate::reply::Reply;
 use crate::runs::Runs;
 use crate::stops::{Breakpoints, Taken, names_none_of};
 use cdb_base::limits::MAX_BREAKPOINTS;
 use cdb_base::{Act, Event, NoMemory, Refusal, Val};
+use cdb_run::EventRef;
 use cdb_setup::Setup;
 use std::alloc::Global;
 use std::marker::Model;
@@ -38,7 +39,7 @@ impl<R: Runs> Model for ControlState<R> {
     ghost Value = { StoredState };
 
     ghost view = { λ t. record {
-      state = record { setup = R.setup t.run; history = R.history t.run; stops = t.breakpoints.stops; next = t.breakpoints.next; pause = t.pause; redo = map (λ list. list.events) t.redo.items };
+      state = record { setup = (R.run t.run).setup; history = (R.run t.run).history; stops = t.breakpoints.stops; next = t.breakpoints.next; pause = t.pause; redo = map (λ list. list.events) t.redo.items };
       capacities = map (λ list. list.capacity) t.redo.items;
     } };
 }
@@ -71,8 +72,8 @@ impl<R: Runs> ControlState<R> {
 
     /// The run.
     pub fn run(&self) -> &R
-        ensures setup { R.setup result.now ≡ self.now.state.setup }
-        ensures history { R.history result.now ≡ self.now.state.history }
+        ensures setup { (R.run result.now).setup ≡ self.now.state.setup }
+        ensures history { (R.run result.now).history ≡ self.now.state.history }
     {
         &self.run
     }
@@ -80,7 +81,8 @@ impl<R: Runs> ControlState<R> {
     /// Ends the pause.
     #[tactic(auto, unfolding(crate::specs::Commands::outcome))]
     pub fn resume(&mut self) -> Reply
-        ensures table { (seat : ℕ) → record { reply = told result; after = self.new.state } ≡ outcome (R.rules self.old.state.setup) self.old.state seat Command.Resume }
+        ensures table { (seat : ℕ) →
+            Does R.rules self.old.state seat Command.Resume result self.new.state }
         ensures kept { self.new.capacities ≡ self.old.capacities }
     {
         self.pause = None;
@@ -90,7 +92,8 @@ impl<R: Runs> ControlState<R> {
     /// Takes a breakpoint away.
     #[tactic(auto, unfolding(crate::specs::Commands::outcome))]
     pub fn unbreak(&mut self, number: u32) -> Reply
-        ensures table { (seat : ℕ) → record { reply = told result; after = self.new.state } ≡ outcome (R.rules self.old.state.setup) self.old.state seat (Command.Unbreak number) }
+        ensures table { (seat : ℕ) →
+            Does R.rules self.old.state seat (Command.Unbreak number) result self.new.state }
         ensures kept { self.new.capacities ≡ self.old.capacities }
     {
         if !self.breakpoints.has(number) {
@@ -104,8 +107,12 @@ impl<R: Runs> ControlState<R> {
     #[tactic(auto, unfolding(crate::specs::Commands::outcome))]
     pub fn set_break(&mut self, stop: Stop) -> Result<Reply, NoMemory>
         requires { self.old.state.next ≤ 999999 }
-        ensures ok { IfOk result (λ reply. (seat : ℕ) → record { reply = told reply; after = self.new.state } ≡ outcome (R.rules self.old.state.setup) self.old.state seat (Command.Break stop)) }
+        ensures ok { IfOk result
+            (λ r. (seat : ℕ) →
+            Does R.rules self.old.state seat (Command.Break stop) r self.new.state) }
         ensures err { OnErr result (self.new.state ≡ self.old.state) }
+        ensures memory { OnErr result
+            ((seat : ℕ) → IsTaken R.rules self.old.state seat (Command.Break stop)) }
         ensures kept { self.new.capacities ≡ self.old.capacities }
     {
         if names_none_of(self.run.processes(), &stop) {
@@ -124,8 +131,8 @@ impl<R: Runs> ControlState<R> {
         requires from_one { 1 ≤ seat }
         requires to_last { seat ≤ length self.old.state.redo }
         requires few { held self.old.state ≤ 999999 }
-        ensures table { record { reply = told result; after = self.new.state } ≡ outcome (R.rules self.old.state.setup) self.old.state seat Command.Forget }
-        ensures capacities { (i : ℕ) → slice_index_or self.old.capacities i 0 ≤ slice_index_or self.new.capacities i 0 }
+        ensures table { Does R.rules self.old.state seat Command.Forget result self.new.state }
+        ensures capacities { NoneShrinks self.old.capacities self.new.capacities }
     {
         let list = &mut self.redo[seat as usize - 1];
         let count = list.len();
@@ -139,21 +146,27 @@ impl<R: Runs> ControlState<R> {
         requires from_one { 1 ≤ seat }
         requires to_last { seat ≤ length self.old.state.redo }
         ensures state { self.new.state ≡ self.old.state }
-        ensures ok { OnOk result (length (redo_of self.old.state seat) + additional ≤ slice_index_or self.new.capacities (seat - 1) 0) }
-        ensures capacities { (i : ℕ) → slice_index_or self.old.capacities i 0 ≤ slice_index_or self.new.capacities i 0 }
+        ensures ok { OnOk result
+            (length (redo_of self.old.state seat) + additional
+            ≤ slice_index_or self.new.capacities (seat - 1) 0) }
+        ensures capacities { NoneShrinks self.old.capacities self.new.capacities }
     {
         self.redo[seat as usize - 1].reserve(additional)
     }
 
     /// Takes an event back on which no standing event depends, and puts it at the end of the seat's
     /// redo list. It wants no memory where there is room for the event.
-    pub fn undo(&mut self, seat: u8, name: &Named) -> Result<Reply, NoMemory>
+    pub fn undo(&mut self, seat: u8, name: EventRef) -> Result<Reply, NoMemory>
         requires from_one { 1 ≤ seat }
         requires to_last { seat ≤ length self.old.state.redo }
-        ensures ok { IfOk result (λ reply. record { reply = told reply; after = self.new.state } ≡ undo self.old.state seat (name_of name.now)) }
+        ensures ok { IfOk result
+            (λ reply. came_out reply self.new.state ≡ undo self.old.state seat (name_of name)) }
         ensures err { OnErr result (self.new.state ≡ self.old.state) }
-        ensures capacities { (i : ℕ) → slice_index_or self.old.capacities i 0 ≤ slice_index_or self.new.capacities i 0 }
-        ensures spared { length (redo_of self.old.state seat) < slice_index_or self.old.capacities (seat - 1) 0 → IsOk result }
+        ensures memory { OnErr result
+            (is_refused (undo self.old.state seat (name_of name)).reply ≡ false) }
+        ensures capacities { NoneShrinks self.old.capacities self.new.capacities }
+        ensures spared { length (redo_of self.old.state seat)
+            < slice_index_or self.old.capacities (seat - 1) 0 → IsOk result }
     {
         let list = &mut self.redo[seat as usize - 1];
         match list.undo(&mut self.run, name)? {
@@ -163,13 +176,16 @@ impl<R: Runs> ControlState<R> {
     }
 
     /// Takes an event back with its consequences, and puts them on the seat's redo list, the last first.
-    pub fn rollback(&mut self, alloc: Global, seat: u8, name: &Named) -> Result<Reply, NoMemory>
+    pub fn rollback(&mut self, alloc: Global, seat: u8, name: EventRef) -> Result<Reply, NoMemory>
         requires from_one { 1 ≤ seat }
         requires to_last { seat ≤ length self.old.state.redo }
         requires few { held self.old.state ≤ 999999 }
-        ensures ok { IfOk result (λ reply. record { reply = told reply; after = self.new.state } ≡ rollback self.old.state seat (name_of name.now)) }
+        ensures ok { IfOk result
+            (λ r. came_out r self.new.state ≡ rollback self.old.state seat (name_of name)) }
         ensures err { OnErr result (self.new.state ≡ self.old.state) }
-        ensures capacities { (i : ℕ) → slice_index_or self.old.capacities i 0 ≤ slice_index_or self.new.capacities i 0 }
+        ensures memory { OnErr result
+            (is_refused (rollback self.old.state seat (name_of name)).reply ≡ false) }
+        ensures capacities { NoneShrinks self.old.capacities self.new.capacities }
     {
         let list = &mut self.redo[seat as usize - 1];
         match list.rollback(alloc, &mut self.run, name)? {
@@ -184,9 +200,11 @@ impl<R: Runs> ControlState<R> {
         requires from_one { 1 ≤ seat }
         requires to_last { seat ≤ length self.old.state.redo }
         requires of_run { AreOfRun self.old.state }
-        ensures ok { IfOk result (λ reply. record { reply = told reply; after = self.new.state } ≡ outcome (R.rules self.old.state.setup) self.old.state seat Command.Redo) }
+        ensures ok { IfOk result
+            (λ reply. Does R.rules self.old.state seat Command.Redo reply self.new.state) }
         ensures err { OnErr result (self.new.state ≡ self.old.state) }
-        ensures capacities { (i : ℕ) → slice_index_or self.old.capacities i 0 ≤ slice_index_or self.new.capacities i 0 }
+        ensures memory { OnErr result (IsTaken R.rules self.old.state seat Command.Redo) }
+        ensures capacities { NoneShrinks self.old.capacities self.new.capacities }
     {
         let list = &mut self.redo[seat as usize - 1];
         let Some(undone) = list.last() else {
@@ -229,7 +247,8 @@ impl<R: Runs> ControlState<R> {
     /// Sets the pause, where none stands and a breakpoint fires.
     fn fire(&mut self, taken: &Taken) -> Option<u32>
         ensures fired { result ≡ newly_fired self.old.state.pause taken.now self.old.state.stops }
-        ensures after { self.new.state ≡ record self.old.state { pause = option_or self.old.state.pause result } }
+        ensures after { self.new.state
+            ≡ record self.old.state { pause = option_or self.old.state.pause result } }
         ensures kept { self.new.capacities ≡ self.old.capacities }
     {
         if self.pause.is_some() {
@@ -241,8 +260,12 @@ impl<R: Runs> ControlState<R> {
 
     /// Takes a step.
     pub fn step(&mut self, alloc: Global, p: u32, act: Act) -> Result<Reply, NoMemory>
-        ensures ok { IfOk result (λ reply. record { reply = told reply; after = self.new.state } ≡ step (R.rules self.old.state.setup) self.old.state p act) }
+        ensures ok { IfOk result
+            (λ r. came_out r self.new.state
+            ≡ step (R.rules self.old.state.setup) self.old.state p act) }
         ensures err { OnErr result (self.new.state ≡ self.old.state) }
+        ensures memory { OnErr result
+            (is_refused (step (R.rules self.old.state.setup) self.old.state p act).reply ≡ false) }
         ensures kept { self.new.capacities ≡ self.old.capacities }
     {
         let round_before = self.round_of(p);
@@ -268,8 +291,12 @@ impl<R: Runs> ControlState<R> {
     /// Loses the copy of the `m`-th message of process `s` for process `p`. No breakpoint looks at it.
     #[tactic(auto, unfolding(crate::specs::Commands::outcome))]
     pub fn lose(&mut self, alloc: Global, s: u32, m: u32, p: u32) -> Result<Reply, NoMemory>
-        ensures ok { IfOk result (λ reply. (seat : ℕ) → record { reply = told reply; after = self.new.state } ≡ outcome (R.rules self.old.state.setup) self.old.state seat (Command.Lose s m p)) }
+        ensures ok { IfOk result
+            (λ r. (seat : ℕ) →
+            Does R.rules self.old.state seat (Command.Lose s m p) r self.new.state) }
         ensures err { OnErr result (self.new.state ≡ self.old.state) }
+        ensures memory { OnErr result
+            ((seat : ℕ) → IsTaken R.rules self.old.state seat (Command.Lose s m p)) }
         ensures kept { self.new.capacities ≡ self.old.capacities }
     {
         match self.run.lose(alloc, s, m, p)? {
@@ -312,8 +339,12 @@ impl<R: Runs> ControlState<R> {
     #[tactic(auto, unfolding(crate::specs::Commands::outcome))]
     pub fn auto(&mut self, alloc: Global, p: u32) -> Result<Reply, NoMemory>
         requires { AreInRange self.old.state.setup }
-        ensures ok { IfOk result (λ reply. (seat : ℕ) → record { reply = told reply; after = self.new.state } ≡ outcome (R.rules self.old.state.setup) self.old.state seat (Command.Auto p)) }
+        ensures ok { IfOk result
+            (λ r. (seat : ℕ) →
+            Does R.rules self.old.state seat (Command.Auto p) r self.new.state) }
         ensures err { OnErr result (self.new.state ≡ self.old.state) }
+        ensures memory { OnErr result
+            ((seat : ℕ) → IsTaken R.rules self.old.state seat (Command.Auto p)) }
         ensures kept { self.new.capacities ≡ self.old.capacities }
     {
         match self.choose(p) {
@@ -326,8 +357,8 @@ impl<R: Runs> ControlState<R> {
     }
 
     /// Tells the direct causes of an event.
-    pub fn why(&self, alloc: Global, name: &Named) -> Reply
-        ensures { record { reply = told result; after = self.now.state } ≡ why self.now.state (name_of name.now) }
+    pub fn why(&self, alloc: Global, name: EventRef) -> Reply
+        ensures { came_out result self.now.state ≡ why self.now.state (name_of name) }
     {
         match self.run.explain(alloc, name) {
             Ok((event, causes)) => Reply::Because(event, causes),
@@ -336,7 +367,8 @@ impl<R: Runs> ControlState<R> {
     }
 
     fn show_process(&self, p: u32) -> Reply
-        ensures { record { reply = told result; after = self.now.state } ≡ shown (R.rules self.now.state.setup) self.now.state (View.Proc p) }
+        ensures { came_out result self.now.state
+            ≡ shown (R.rules self.now.state.setup) self.now.state (View.Proc p) }
     {
         match self.run.view(p) {
             Some(process) => Reply::Proc(process),
@@ -347,7 +379,11 @@ impl<R: Runs> ControlState<R> {
     /// Shows a part of the run.
     #[tactic(auto, unfolding(crate::specs::Commands::outcome))]
     pub fn show(&self, alloc: Global, view: View) -> Result<Reply, NoMemory>
-        ensures { IfOk result (λ reply. (seat : ℕ) → record { reply = told reply; after = self.now.state } ≡ outcome (R.rules self.now.state.setup) self.now.state seat (Command.Show view)) }
+        ensures ok { IfOk result
+            (λ r. (seat : ℕ) →
+            Does R.rules self.now.state seat (Command.Show view) r self.now.state) }
+        ensures memory { OnErr result
+            ((seat : ℕ) → IsTaken R.rules self.now.state seat (Command.Show view)) }
     {
         let reply = match view {
             View::Proc(p) => self.show_process(p),
@@ -361,7 +397,11 @@ impl<R: Runs> ControlState<R> {
     /// Shows who has decided what.
     #[tactic(auto, unfolding(crate::specs::Commands::outcome))]
     pub fn decisions(&self, alloc: Global) -> Result<Reply, NoMemory>
-        ensures { IfOk result (λ reply. (seat : ℕ) → record { reply = told reply; after = self.now.state } ≡ outcome (R.rules self.now.state.setup) self.now.state seat Command.Decisions) }
+        ensures ok { IfOk result
+            (λ r. (seat : ℕ) →
+            Does R.rules self.now.state seat Command.Decisions r self.now.state) }
+        ensures memory { OnErr result
+            ((seat : ℕ) → IsTaken R.rules self.now.state seat Command.Decisions) }
     {
         Ok(Reply::Decisions(self.run.decisions(alloc)?))
     }
@@ -375,23 +415,26 @@ impl<R: Runs> ControlState<R> {
         requires numbers { self.old.state.next ≤ 999999 }
         requires of_run { AreOfRun self.old.state }
         requires in_range { AreInRange self.old.state.setup }
-        ensures ok { IfOk result (λ reply. record { reply = told reply; after = self.new.state } ≡ outcome (R.rules self.old.state.setup) self.old.state seat command) }
+        ensures ok { IfOk result
+            (λ reply. Does R.rules self.old.state seat command reply self.new.state) }
         ensures err { OnErr result (self.new.state ≡ self.old.state) }
-        ensures capacities { (i : ℕ) → slice_index_or self.old.capacities i 0 ≤ slice_index_or self.new.capacities i 0 }
-        ensures spared { is_spared command ≡ true → length (redo_of self.old.state seat) < slice_index_or self.old.capacities (seat - 1) 0 → IsOk result }
+        ensures memory { OnErr result (IsTaken R.rules self.old.state seat command) }
+        ensures capacities { NoneShrinks self.old.capacities self.new.capacities }
+        ensures spared { is_spared command ≡ true → length (redo_of self.old.state seat)
+            < slice_index_or self.old.capacities (seat - 1) 0 → IsOk result }
     {
         match command {
             Command::Step(p, act) => self.step(alloc, p, act),
             Command::Auto(p) => self.auto(alloc, p),
             Command::Lose(s, m, p) => self.lose(alloc, s, m, p),
-            Command::Undo(p, k) => self.undo(seat, &Named::Step(p, k)),
-            Command::UndoLost(s, m, p) => self.undo(seat, &Named::Lost(s, m, p)),
+            Command::Undo(p, k) => self.undo(seat, EventRef::Step(p, k)),
+            Command::UndoLost(s, m, p) => self.undo(seat, EventRef::Lost(s, m, p)),
             Command::Redo => self.redo(alloc, seat),
             Command::Forget => Ok(self.forget(seat)),
-            Command::Rollback(p, k) => self.rollback(alloc, seat, &Named::Step(p, k)),
-            Command::RollbackLost(s, m, p) => self.rollback(alloc, seat, &Named::Lost(s, m, p)),
-            Command::Why(p, k) => Ok(self.why(alloc, &Named::Step(p, k))),
-            Command::WhyLost(s, m, p) => Ok(self.why(alloc, &Named::Lost(s, m, p))),
+            Command::Rollback(p, k) => self.rollback(alloc, seat, EventRef::Step(p, k)),
+            Command::RollbackLost(s, m, p) => self.rollback(alloc, seat, EventRef::Lost(s, m, p)),
+            Command::Why(p, k) => Ok(self.why(alloc, EventRef::Step(p, k))),
+            Command::WhyLost(s, m, p) => Ok(self.why(alloc, EventRef::Lost(s, m, p))),
             Command::Break(stop) => self.set_break(stop),
             Command::Unbreak(number) => Ok(self.unbreak(number)),
             Command::Resume => Ok(self.resume()),

@@ -1,7 +1,17 @@
-ghost use Rattle.std.specs.Prelude.{◌≡◌, ◌↔◌, IsTrue, ◌<◌};
-ghost use Rattle.cdb_leader.specs.Inbox.{first_phase_from, second_phase_from, decision_from, first_phase_senders, backers, is_agreed, agreed_leader, agreed_estimate, second_phase_senders, proposal, is_only_proposal, learnt};
+ghost use Rattle.std.specs.Prelude.{◌≡◌, IsTrue, ◌↔◌, [], ◌∷◌, ◌++◌, OnOk, OnErr, All, is_some, slice_get};
+ghost use Rattle.std.specs.Option.{option_copied, option_and_then};
+ghost use Rattle.cdb_base.specs.Places.{without_last};
+ghost use Rattle.cdb_base.specs.Processes.{all_processes};
+ghost use Rattle.cdb_leader.specs.Inbox.{first_phase, second_phase, first_phase_from, second_phase_from, decision_from, first_phase_senders, agreed_estimate, second_phase_senders, proposal, is_only_proposal, learnt};
+ghost use Rattle.cdb_leader.specs.Index.{AreFirsts, IsRowOf, said_by};
 
-use cdb_base::{Payload, Proc, Val};
+use crate::first_phases::FirstPhases;
+use crate::firsts::Firsts;
+use crate::index::Index;
+use crate::row::Row;
+use cdb_base::{NoMemory, Payload, Proc, Val};
+use std::alloc::Global;
+use std::marker::Model;
 
 /// A message that was received, and its sender.
 #[derive(Clone, Copy, Debug, PartialEq, Eq)]
@@ -19,6 +29,27 @@ pub struct FirstPhase {
 
 impl Entry {
     ghost use Rattle.cdb_leader.specs.Inbox.{first_phase, second_phase, decision_in, if_from};
+    ghost use Rattle.cdb_leader.specs.Index.{round_of};
+
+    /// The round of a first-phase or second-phase message.
+    pub(crate) fn round(&self) -> Option<u32>
+        ensures { result ≡ round_of self.now.payload }
+    {
+        match self.payload {
+            Payload::P1 { round, .. } | Payload::P2 { round, .. } => Some(round),
+            Payload::D { .. } => None,
+        }
+    }
+
+    /// What the entry carries as a second-phase message of that round.
+    pub(crate) fn answer(&self, in_round: u32) -> Option<Option<Val>>
+        ensures { result ≡ second_phase in_round self.now.payload }
+    {
+        match self.payload {
+            Payload::P2 { round, aux } if round == in_round => Some(aux),
+            _ => None,
+        }
+    }
 
     /// The entry as a first-phase message of that round from that sender.
     fn first_phase(&self, in_round: u32, sender: Proc) -> Option<FirstPhase>
@@ -56,142 +87,195 @@ impl Entry {
     }
 }
 
-/// The first-phase message of that round from that sender: the first of its kind.
-pub(crate) fn find_first_phase(inbox: &[Entry], round: u32, sender: Proc) -> Option<FirstPhase>
-    ensures { result ≡ first_phase_from round sender inbox.now }
+/// The entry at that position, if one is given.
+pub(crate) fn entry_at(entries: &[Entry], position: Option<usize>) -> Option<&Entry>
+    ensures { option_copied result ≡ option_and_then (slice_get entries.now) position }
 {
-    for entry in inbox {
-        if let Some(said) = entry.first_phase(round, sender) {
-            return Some(said);
+    entries.get(position?)
+}
+
+/// The messages that a process has received. A contract sees the list of them, in the order of
+/// receipt. Beside the list stands an index, so that no question goes over the list.
+#[derive(Drop)]
+pub struct Inbox {
+    entries: Vec<Entry>,
+    index: Index,
+}
+
+impl Model for Inbox {
+    ghost use Rattle.std.specs.Prelude.{List};
+    ghost use Rattle.cdb_leader.specs.declared.inbox.Entry.{Entry};
+    ghost use Rattle.cdb_leader.specs.Index.{IsIndexOf};
+
+    ghost Value = { List Entry };
+
+    ghost view = { λ x. x.entries.items };
+
+    ghost invariant = { λ x. IsIndexOf x.index x.entries.items };
+}
+
+impl Inbox {
+    /// Nothing was received.
+    pub(crate) fn new(alloc: Global) -> Self
+        ensures { result ≡ [] }
+    {
+        Inbox {
+            entries: Vec::new(alloc),
+            index: Index::new(alloc),
         }
     }
-    None
-}
 
-/// The second-phase message of that round from that sender: the first of its kind.
-pub(crate) fn find_second_phase(inbox: &[Entry], round: u32, sender: Proc) -> Option<Option<Val>>
-    ensures { result ≡ second_phase_from round sender inbox.now }
-{
-    for entry in inbox {
-        if let Some(said) = entry.second_phase(round, sender) {
-            return Some(said);
+    /// Adds an entry at the end. Where an allocation fails, the inbox is as it was.
+    pub(crate) fn push(&mut self, entry: &Entry) -> Result<(), NoMemory>
+        ensures ok { OnOk result (self.new ≡ self.old ++ entry.now ∷ []) }
+        ensures err { OnErr result (self.new ≡ self.old) }
+    {
+        self.entries.reserve(1)?;
+        self.index.note(&self.entries, entry)?;
+        self.entries.push_reserved(*entry);
+        Ok(())
+    }
+
+    /// Takes the last entry out, if there is one. It allocates nothing.
+    pub(crate) fn pop(&mut self)
+        ensures { self.new ≡ without_last self.old }
+    {
+        if let Some(entry) = self.entries.pop() {
+            self.index.forget(&self.entries, &entry);
         }
     }
-    None
-}
 
-/// The decision of that sender: the first of its kind.
-pub(crate) fn find_decision(inbox: &[Entry], sender: Proc) -> Option<Val>
-    ensures { result ≡ decision_from sender inbox.now }
-{
-    for entry in inbox {
-        if let Some(said) = entry.decision(sender) {
-            return Some(said);
+    /// The first-phase message of the round from that sender, by what is kept of the round.
+    #[tactic(auto, using(crate::proofs::LookUps::read_at))]
+    fn first_phase_at(&self, kept: &Firsts, round: u32, sender: Proc) -> Option<FirstPhase>
+        ensures { AreFirsts (first_phase round) kept.now self.now
+            → result ≡ first_phase_from round sender self.now }
+    {
+        entry_at(&self.entries, kept.get(sender))?.first_phase(round, sender)
+    }
+
+    /// The second-phase message of the round from that sender, by what is kept of the round.
+    #[tactic(auto, using(crate::proofs::LookUps::read_at))]
+    fn second_phase_at(&self, kept: &Firsts, round: u32, sender: Proc) -> Option<Option<Val>>
+        ensures { AreFirsts (second_phase round) kept.now self.now
+            → result ≡ second_phase_from round sender self.now }
+    {
+        entry_at(&self.entries, kept.get(sender))?.second_phase(round, sender)
+    }
+
+    /// The decision of that sender: the first of its kind.
+    #[tactic(auto, using(crate::proofs::LookUps::read_at))]
+    fn find_decision(&self, sender: Proc) -> Option<Val>
+        ensures { result ≡ decision_from sender self.now }
+    {
+        entry_at(&self.entries, self.index.decision(sender))?.decision(sender)
+    }
+
+    /// Where the first-phase messages of that round stand.
+    fn first_phase_positions(&self, round: u32) -> Firsts
+        ensures { AreFirsts (first_phase round) result self.now }
+    {
+        self.index.first_phases(round)
+    }
+
+    /// Where the second-phase messages of that round stand.
+    fn second_phase_positions(&self, round: u32) -> Firsts
+        ensures { AreFirsts (second_phase round) result self.now }
+    {
+        self.index.second_phases(round)
+    }
+
+    /// Where the first messages of that round stand.
+    fn row(&self, round: u32) -> Row
+        ensures { IsRowOf round result self.now }
+    {
+        self.index.row(round)
+    }
+
+    /// Whether a first-phase message of that round came from that sender.
+    #[tactic(auto, using(crate::proofs::LookUps::is_kept))]
+    pub(crate) fn has_first_phase(&self, round: u32, sender: Proc) -> bool
+        ensures { result ≡ is_some (first_phase_from round sender self.now) }
+    {
+        self.first_phase_positions(round).get(sender).is_some()
+    }
+
+    /// From how many different senders a first-phase message of that round came.
+    #[tactic(auto, using(crate::proofs::LookUps::count_kept))]
+    pub(crate) fn count_first_phase(&self, round: u32) -> usize
+        ensures { result ≡ first_phase_senders round self.now }
+    {
+        self.first_phase_positions(round).count()
+    }
+
+    /// From how many different senders a second-phase message of that round came.
+    #[tactic(auto, using(crate::proofs::LookUps::count_kept))]
+    pub(crate) fn count_second_phase(&self, round: u32) -> usize
+        ensures { result ≡ second_phase_senders round self.now }
+    {
+        self.second_phase_positions(round).count()
+    }
+
+    /// The first-phase message of that round from each sender.
+    fn first_phases(&self, round: u32) -> FirstPhases
+        ensures { All (λ s. said_by s result ≡ first_phase_from round s self.now) all_processes }
+    {
+        let kept = self.first_phase_positions(round);
+        FirstPhases {
+            by_sender: Proc::all().map(|sender| self.first_phase_at(&kept, round, sender)),
         }
     }
-    None
-}
 
-/// From how many different senders a first-phase message of that round came.
-pub(crate) fn count_first_phase(inbox: &[Entry], round: u32) -> usize
-    ensures { result ≡ first_phase_senders round inbox.now }
-{
-    Proc::all()
-        .iter()
-        .filter(|sender| find_first_phase(inbox, round, **sender).is_some())
-        .count()
-}
+    /// The estimate of the least process that at least `quorum` senders name as leader in that round,
+    /// and whose own first-phase message came.
+    pub(crate) fn find_agreed_estimate(&self, round: u32, quorum: u8) -> Option<Val>
+        ensures { result ≡ agreed_estimate quorum round self.now }
+    {
+        let said = self.first_phases(round);
+        said.find_agreed(quorum).map(|own| own.estimate)
+    }
 
-/// From how many different senders a first-phase message of that round names that leader.
-pub(crate) fn count_backers(inbox: &[Entry], round: u32, leader: Proc) -> usize
-    ensures { result ≡ backers round leader inbox.now }
-{
-    Proc::all()
-        .iter()
-        .filter(|sender| {
-            find_first_phase(inbox, round, **sender).is_some_and(|said| said.lead == leader)
-        })
-        .count()
-}
+    /// The value in the second-phase message of that round from the least sender whose message has
+    /// one.
+    pub(crate) fn find_proposal(&self, round: u32) -> Option<Val>
+        ensures { result ≡ proposal round self.now }
+    {
+        let kept = self.second_phase_positions(round);
+        for sender in Proc::all() {
+            if let Some(Some(value)) = self.second_phase_at(&kept, round, sender) {
+                return Some(value);
+            }
+        }
+        None
+    }
 
-/// Whether at least `quorum` senders name that leader in that round, and its own first-phase message
-/// came.
-fn is_agreed_leader(inbox: &[Entry], round: u32, quorum: u8, leader: Proc) -> bool
-    ensures { result ≡ is_agreed quorum round inbox.now leader }
-{
-    usize::from(quorum) <= count_backers(inbox, round, leader)
-        && find_first_phase(inbox, round, leader).is_some()
-}
-
-/// The least process that at least `quorum` senders name as leader in that round, and whose own
-/// first-phase message came.
-pub(crate) fn find_agreed_leader(inbox: &[Entry], round: u32, quorum: u8) -> Option<Proc>
-    ensures { result ≡ agreed_leader quorum round inbox.now }
-{
-    for leader in Proc::all() {
-        if is_agreed_leader(inbox, round, quorum, leader) {
-            return Some(leader);
+    /// Whether every second-phase message of that round carries the value.
+    pub(crate) fn all_propose(&self, round: u32, value: Val) -> bool
+        ensures { result ≡ is_only_proposal round value self.now }
+    {
+        let row = self.row(round);
+        match row.find_answer(round, &self.entries) {
+            Some(aux) => aux == Some(value) && !row.has_other_answer(),
+            None => true,
         }
     }
-    None
-}
 
-/// The estimate of that leader.
-pub(crate) fn find_agreed_estimate(inbox: &[Entry], round: u32, quorum: u8) -> Option<Val>
-    ensures { result ≡ agreed_estimate quorum round inbox.now }
-{
-    let leader = find_agreed_leader(inbox, round, quorum)?;
-    let said = find_first_phase(inbox, round, leader)?;
-    Some(said.estimate)
-}
-
-/// From how many different senders a second-phase message of that round came.
-pub(crate) fn count_second_phase(inbox: &[Entry], round: u32) -> usize
-    ensures { result ≡ second_phase_senders round inbox.now }
-{
-    Proc::all()
-        .iter()
-        .filter(|sender| find_second_phase(inbox, round, **sender).is_some())
-        .count()
-}
-
-/// The value in the second-phase message of that round from the least sender whose message has one.
-pub(crate) fn find_proposal(inbox: &[Entry], round: u32) -> Option<Val>
-    ensures { result ≡ proposal round inbox.now }
-{
-    for sender in Proc::all() {
-        if let Some(Some(value)) = find_second_phase(inbox, round, sender) {
-            return Some(value);
+    /// The first decision of the least sender that sent one.
+    pub(crate) fn find_learnt(&self) -> Option<Val>
+        ensures { result ≡ learnt self.now }
+    {
+        for sender in Proc::all() {
+            if let Some(value) = self.find_decision(sender) {
+                return Some(value);
+            }
         }
+        None
     }
-    None
-}
 
-/// Whether every second-phase message of that round carries the value.
-pub(crate) fn all_propose(inbox: &[Entry], round: u32, value: Val) -> bool
-    ensures { result ≡ is_only_proposal round value inbox.now }
-{
-    inbox.iter().all(|entry| match entry.payload {
-        Payload::P2 { round: of, aux } => of != round || aux == Some(value),
-        _ => true,
-    })
-}
-
-/// The first decision of the least sender that sent one.
-pub(crate) fn find_learnt(inbox: &[Entry]) -> Option<Val>
-    ensures { result ≡ learnt inbox.now }
-{
-    for sender in Proc::all() {
-        if let Some(value) = find_decision(inbox, sender) {
-            return Some(value);
-        }
+    /// Whether the inboxes have the same entries, in the same order.
+    pub(crate) fn is_same(&self, other: &Self) -> bool
+        ensures { IsTrue result ↔ (self.now ≡ other.now) }
+    {
+        self.entries == other.entries
     }
-    None
-}
-
-/// Whether the inboxes have the same entries, in the same order.
-pub(crate) fn are_same(inbox: &[Entry], other: &[Entry]) -> bool
-    ensures { IsTrue result ↔ (inbox.now ≡ other.now) }
-{
-    inbox == other
 }

@@ -1,10 +1,7 @@
 ghost use Rattle.std.specs.Prelude.{◌≡◌, ℕ, ◌+◌, ◌<◌, ◌↔◌, Option, Some, None, IsTrue, IsSome, IfOk, OnErr, is_some, if◌then◌else◌};
 
 use crate::back::Back;
-use crate::inbox::{
-    Entry, all_propose, are_same, count_first_phase, count_second_phase, find_agreed_estimate,
-    find_first_phase, find_learnt, find_proposal,
-};
+use crate::inbox::{Entry, Inbox};
 use crate::place::Place;
 use cdb_base::limits::MAX_ROUND;
 use cdb_base::{NoMemory, Payload, Proc, Val};
@@ -21,7 +18,7 @@ pub struct Leader {
     estimate: Val,
     lead: Option<Proc>,
     aux: Option<Val>,
-    inbox: Vec<Entry>,
+    inbox: Inbox,
     decision: Option<Val>,
 }
 
@@ -39,7 +36,7 @@ impl Model for Leader {
       estimate = x.estimate;
       lead = x.lead;
       aux = x.aux;
-      inbox = x.inbox.items;
+      inbox = x.inbox;
       decision = x.decision;
     } };
 
@@ -57,21 +54,22 @@ impl Leader {
     fn heard_first_phase(&self) -> bool
         ensures { result ≡ heard_first_phase self.now }
     {
-        usize::from(self.quorum) <= count_first_phase(&self.inbox, self.round)
+        usize::from(self.quorum) <= self.inbox.count_first_phase(self.round)
     }
 
     /// Whether the second phase of the round did.
     fn heard_second_phase(&self) -> bool
         ensures { result ≡ heard_second_phase self.now }
     {
-        usize::from(self.quorum) <= count_second_phase(&self.inbox, self.round)
+        usize::from(self.quorum) <= self.inbox.count_second_phase(self.round)
     }
 
     /// Whether the first phase of the round came from the process that the oracle named.
     fn heard_lead(&self) -> bool
         ensures { result ≡ heard_lead self.now }
     {
-        self.lead.is_some_and(|lead| find_first_phase(&self.inbox, self.round, lead).is_some())
+        self.lead
+            .is_some_and(|lead| self.inbox.has_first_phase(self.round, lead))
     }
 
     /// The payload that the process would send.
@@ -113,7 +111,7 @@ impl Leader {
     {
         match self.place {
             Place::L5 | Place::L6 => false,
-            _ => find_learnt(&self.inbox).is_some(),
+            _ => self.inbox.find_learnt().is_some(),
         }
     }
 
@@ -170,7 +168,7 @@ impl Leader {
         requires { self.old.place ≡ Place.L2 }
         ensures { self.new ≡ set_aux self.old }
     {
-        self.aux = find_agreed_estimate(&self.inbox, self.round, self.quorum);
+        self.aux = self.inbox.find_agreed_estimate(self.round, self.quorum);
         self.place = Place::L3;
     }
 
@@ -180,8 +178,8 @@ impl Leader {
         ensures { self.new ≡ end_round self.old (proposal self.old.round self.old.inbox) }
     {
         self.place = Place::L0;
-        if let Some(value) = find_proposal(&self.inbox, self.round) {
-            if all_propose(&self.inbox, self.round, value) {
+        if let Some(value) = self.inbox.find_proposal(self.round) {
+            if self.inbox.all_propose(self.round, value) {
                 self.place = Place::L5;
             }
             self.estimate = value;
@@ -249,7 +247,7 @@ impl Leader {
         ensures quorum { self.new.quorum ≡ self.old.quorum }
         ensures inbox { self.new.inbox ≡ self.old.inbox }
     {
-        if let Some(value) = find_learnt(&self.inbox) {
+        if let Some(value) = self.inbox.find_learnt() {
             self.estimate = value;
             self.place = Place::L5;
         }
@@ -263,35 +261,20 @@ impl Leader {
         ensures inbox { IfOk result (λ _. without_last self.new.inbox ≡ self.old.inbox) }
         ensures unchanged { OnErr result (self.new ≡ self.old) }
     {
-        self.inbox.push(Entry { from, payload })?;
-        Ok(())
+        self.inbox.push(&Entry { from, payload })
     }
 }
 
 impl Process for Leader {
-    ghost use Rattle.cdb_leader.specs.LocalState.{first_state};
-    ghost use Rattle.cdb_leader.specs.Place.{place_number};
-    ghost use Rattle.cdb_leader.specs.Table.{next_state, wish_of};
+    ghost use Rattle.cdb_leader.specs.Machine.{leader_table};
     ghost use Rattle.cdb_leader.specs.Back.{state_before};
     ghost use Rattle.cdb_leader.specs.TableLaws as laws;
 
     type Back = Back;
 
-    ghost first = { λ me n q input. first_state q input };
-
-    ghost next = { next_state };
+    ghost table = { leader_table };
 
     ghost before = { state_before };
-
-    ghost wish = { wish_of };
-
-    ghost decision = { λ s. s.decision };
-
-    ghost place = { λ s. place_number s.place };
-
-    ghost round = { λ s. s.round };
-
-    ghost last_place = { 6 };
 
     ghost query_by_state = { laws.next_state-query };
 
@@ -313,7 +296,7 @@ impl Process for Leader {
             estimate: input,
             lead: None,
             aux: None,
-            inbox: Vec::new(alloc),
+            inbox: Inbox::new(alloc),
             decision: None,
         })
     }
@@ -376,7 +359,7 @@ impl Process for Leader {
         self.aux = b.aux;
         self.decision = b.decision;
         if b.received {
-            let _ = self.inbox.pop();
+            self.inbox.pop();
         }
     }
 
@@ -395,6 +378,6 @@ impl Process for Leader {
 
 impl SameState for Leader {
     fn has_same_state(&self, other: &Self) -> bool {
-        self.is_as_far(other) && self.has_same_outcome(other) && are_same(&self.inbox, &other.inbox)
+        self.is_as_far(other) && self.has_same_outcome(other) && self.inbox.is_same(&other.inbox)
     }
 }

@@ -4,3 +4,5 @@ pub mod Pending
 pub mod Sets
 pub mod TakenBack
 pub mod Sent
+pub mod Rising
+pub mod Least

@@ -1,28 +1,22 @@
--- What was sent, received and lost: for each process the list of payloads that it sent and the set of the
--- names that it received, each in order of process, and the set of the copies that are lost.
-use Rattle.std.specs.Prelude.{ℕ, Bool, true, not, ◌&&◌, List, [], ◌∷◌, ◌++◌, length, map, filter, find, replicate, Option, None, Some, is_some, unwrap_or, refl}
+-- What was sent, received and lost: for each process the list of payloads that it sent and the set of
+-- the names that it received, each in order of process, and the set of the copies that are lost.
+use Rattle.std.specs.Prelude.{◌≡◌, ℕ, ◌+◌, ◌<◌, Bool, true, false, not, ◌&&◌, IsTrue, length}
+use Rattle.std.specs.Prelude.{List, [], ◌∷◌, ◌++◌, map, filter, find, replicate}
+use Rattle.std.specs.Prelude.{Option, None, Some, is_some, unwrap_or}
 use Rattle.std.specs.List.{flat_map, range_with_len}
-use Rattle.std.specs.Coded.{Coded, code_by, coded×, coded_list}
 use Rattle.std.specs.FinSet as set
 use Rattle.cdb_base.specs.Places.{nth, set_nth, without_last}
 use Rattle.cdb_base.specs.Processes.{all_processes}
+use Rattle.cdb_base.specs.declared.limits.TheConstants.{MAX_STEPS}
 use Rattle.cdb_base.specs.declared.name.MsgName.{MsgName}
 use Rattle.cdb_base.specs.declared.name.CopyName.{CopyName}
 use Rattle.cdb_base.specs.declared.payload.Payload.{Payload}
-use Rattle.cdb_base.specs.contracts.payload.Payload as payload
-use Rattle.cdb_message.specs.Names.{NameSet, CopySet, name_code, copy_code, is_name_below}
+use Rattle.cdb_message.specs.Names.{NameSet, CopySet, is_name_below}
 
 pub record MailState : Type 0 where
   pub sent : List (List Payload)
   pub received : List NameSet
   pub lost : CopySet
-
--- mail is stored as the list of its fields
-abbrev pub mail_code : Coded MailState
-mail_code =
-    code_by (List (List Payload) × (List NameSet × CopySet))
-    (coded× (coded_list (coded_list payload.the_row.coded)) (coded× (coded_list (set.code name_code)) (set.code copy_code)))
-    (λ mail. (mail.sent, (mail.received, mail.lost))) (λ p. record { sent = p.0; received = p.1.0; lost = p.1.1 }) (λ _. refl)
 
 -- nobody has sent anything
 abbrev pub first_mail : ℕ → MailState
@@ -44,6 +38,18 @@ sent_by mail p = unwrap_or (nth mail.sent p) []
 abbrev pub received_by : MailState → ℕ → NameSet
 received_by mail p = unwrap_or (nth mail.received p) set.empty
 
+-- the name of the last message that p sent
+abbrev pub last_name : MailState → ℕ → MsgName
+last_name mail p = message_name p (length (sent_by mail p))
+
+-- the name of the next message that p sends
+abbrev pub next_name : MailState → ℕ → MsgName
+next_name mail p = message_name p (length (sent_by mail p) + 1)
+
+-- each send is a step, so p sends at most as many messages as it has steps
+abbrev pub MaySend : MailState → ℕ → Type 0
+MaySend mail p = length (sent_by mail p) < MAX_STEPS
+
 -- the payload of the message of that name, if it was sent
 abbrev pub payload_of : MailState → MsgName → Option Payload
 payload_of mail name = nth (sent_by mail name.s) name.m
@@ -51,6 +57,14 @@ payload_of mail name = nth (sent_by mail name.s) name.m
 -- the message was sent
 abbrev pub is_sent : MailState → MsgName → Bool
 is_sent mail name = is_some (payload_of mail name)
+
+-- the name is that of the m-th message of process s, which was sent
+abbrev pub IsNameOfSent : MailState → ℕ → ℕ → MsgName → Type 0
+IsNameOfSent mail s m name = (name ≡ message_name s m) × IsTrue (is_sent mail (message_name s m))
+
+-- process s sent no m-th message
+abbrev pub IsUnsent : MailState → ℕ → ℕ → Type 0
+IsUnsent mail s m = is_sent mail (message_name s m) ≡ false
 
 -- p received the message
 abbrev pub is_received : MailState → ℕ → MsgName → Bool
@@ -60,13 +74,17 @@ is_received mail p name = set.contains (received_by mail p) name
 abbrev pub is_lost : MailState → CopyName → Bool
 is_lost mail copy = set.contains mail.lost copy
 
+-- ---- what happens, and the way back
+
 -- p sent one payload more
 abbrev pub add_send : MailState → ℕ → Payload → MailState
-add_send mail p payload = record mail { sent = set_nth mail.sent p (sent_by mail p ++ payload ∷ []) }
+add_send mail p payload =
+    record mail { sent = set_nth mail.sent p (sent_by mail p ++ payload ∷ []) }
 
 -- p received one message more
 abbrev pub add_receive : MailState → ℕ → MsgName → MailState
-add_receive mail p name = record mail { received = set_nth mail.received p (set.insert (received_by mail p) name) }
+add_receive mail p name =
+    record mail { received = set_nth mail.received p (set.insert (received_by mail p) name) }
 
 -- one copy more is lost
 abbrev pub add_loss : MailState → CopyName → MailState
@@ -74,15 +92,19 @@ add_loss mail copy = record mail { lost = set.insert mail.lost copy }
 
 -- p's last send is taken back
 abbrev pub remove_send : MailState → ℕ → MailState
-remove_send mail p = record mail { sent = set_nth mail.sent p (without_last (sent_by mail p)) }
+remove_send mail p =
+    record mail { sent = set_nth mail.sent p (without_last (sent_by mail p)) }
 
 -- p's receive of that message is taken back
 abbrev pub remove_receive : MailState → ℕ → MsgName → MailState
-remove_receive mail p name = record mail { received = set_nth mail.received p (set.remove (received_by mail p) name) }
+remove_receive mail p name =
+    record mail { received = set_nth mail.received p (set.remove (received_by mail p) name) }
 
 -- the copy is no longer lost
 abbrev pub remove_loss : MailState → CopyName → MailState
 remove_loss mail copy = record mail { lost = set.remove mail.lost copy }
+
+-- ---- which copies are still to be received
 
 -- the names of the messages that process s sent, in order
 abbrev pub messages_of : MailState → ℕ → List MsgName
@@ -105,6 +127,22 @@ abbrev pub stands_above : Option MsgName → MsgName → Bool
 stands_above None name = true
 stands_above (Some after) name = is_name_below after name
 
--- the first of them above `after`
+-- the message was sent, and p neither received its copy nor is this copy lost
+abbrev pub IsPending : MailState → ℕ → MsgName → Type 0
+IsPending mail p name = IsTrue (is_sent mail name) × IsTrue (is_open mail p name)
+
+-- of the pending messages above `after`, this is the least
+pub record IsLeastPending (mail : MailState) (p : ℕ) (after : Option MsgName) (name : MsgName) : Type 0 where
+  pub pending : IsPending mail p name
+  pub above : IsTrue (stands_above after name)
+  pub least : (other : MsgName) → IsPending mail p other
+      → IsTrue (stands_above after other) → is_name_below other name ≡ false
+
+-- no pending message is above `after`
+abbrev pub HasNonePending : MailState → ℕ → Option MsgName → Type 0
+HasNonePending mail p after =
+    (name : MsgName) → IsPending mail p name → stands_above after name ≡ false
+
+-- the first of these copies above `after`, which is the least pending one
 abbrev pub next_pending : MailState → ℕ → Option MsgName → Option MsgName
 next_pending mail p after = find (stands_above after) (copies_for mail p)

@@ -1,3 +1,5 @@
+//! Sets of the names of copies.
+
 ghost use Rattle.std.specs.Prelude.{◌≡◌, OnOk, OnErr};
 ghost use Rattle.std.specs.FinSet as set;
 
@@ -14,7 +16,8 @@ pub struct Copies {
 
 impl Model for Copies {
     ghost use Rattle.std.specs.FinSet as set;
-    ghost use Rattle.cdb_message.specs.Names.{CopySet, copy_code};
+    ghost use Rattle.cdb_message.specs.Codes.{copy_code};
+    ghost use Rattle.cdb_message.specs.Names.{CopySet};
 
     ghost Value = { CopySet };
 

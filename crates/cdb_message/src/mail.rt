@@ -1,7 +1,9 @@
-ghost use Rattle.std.specs.Prelude.{◌≡◌, ℕ, ◌+◌, ◌-◌, ◌<◌, ◌≤◌, length, false, IsTrue, IfOk, OnOk, OnErr, IfSome, IfNone, MatchOption, nat_le, map, filter, find};
-ghost use Rattle.std.specs.List.{range_with_len};
+//! The messages of a run.
+
+ghost use Rattle.std.specs.Prelude.{◌≡◌, ◌+◌, ◌<◌, ◌≤◌, length, false, IsTrue, find};
+ghost use Rattle.std.specs.Prelude.{IfOk, OnOk, OnErr, IfSome, IfNone, MatchOption};
 ghost use Rattle.std.specs.Option.{option_copied};
-ghost use Rattle.cdb_message.specs.Mail.{message_name, stands_above};
+ghost use Rattle.cdb_message.specs.Search.{IsLowestAbove, HasNoneAbove};
 
 use crate::copies::Copies;
 use crate::marks::Marks;
@@ -24,28 +26,48 @@ pub struct Mail {
 
 impl Model for Mail {
     ghost use Rattle.std.specs.Prelude.{◌≡◌, ◌≤◌, length};
-    ghost use Rattle.cdb_message.specs.Mail.{MailState, mail_code};
+    ghost use Rattle.cdb_base.specs.declared.limits.TheConstants.{MAX_PROCESSES};
+    ghost use Rattle.cdb_message.specs.Codes.{mail_code};
+    ghost use Rattle.cdb_message.specs.Mail.{MailState};
     ghost use Rattle.cdb_message.specs.Marks.{AreBelowOpenCopies};
 
     ghost Value = { MailState };
 
     ghost coded = { mail_code };
 
-    ghost view = { λ x. record { sent = x.sent.items; received = x.received.items; lost = x.lost } };
+    ghost view = { λ x. record {
+      sent = x.sent.items;
+      received = x.received.items;
+      lost = x.lost;
+    } };
 
     ghost invariant = { λ x. (length x.sent.items ≡ length x.received.items)
-        × (length x.sent.items ≤ 9)
-        × AreBelowOpenCopies x.marks (record { sent = x.sent.items; received = x.received.items; lost = x.lost }) };
+        × (length x.sent.items ≤ MAX_PROCESSES)
+        × AreBelowOpenCopies x.marks (record {
+          sent = x.sent.items;
+          received = x.received.items;
+          lost = x.lost;
+        }) };
 }
 
 impl Mail {
+    ghost use Rattle.std.specs.Prelude.{ℕ};
+    ghost use Rattle.cdb_base.specs.declared.limits.TheConstants.{MAX_PROCESSES, MAX_STEPS};
     ghost use Rattle.cdb_base.specs.declared.payload.Payload.{Payload};
-    ghost use Rattle.cdb_message.specs.Mail.{MailState, first_mail, sent_by, payload_of, is_sent, is_received, is_lost, copy_name, add_send, add_receive, add_loss, remove_send, remove_receive, remove_loss, messages_of, is_open, next_pending};
+    ghost use Rattle.cdb_message.specs.Mail.{MailState, first_mail, sent_by};
+    ghost use Rattle.cdb_message.specs.Mail.{message_name, copy_name};
+    ghost use Rattle.cdb_message.specs.Mail.{last_name, next_name, MaySend, IsNameOfSent, IsUnsent};
+    ghost use Rattle.cdb_message.specs.Mail.{payload_of, is_sent, is_received, is_lost, is_open};
+    ghost use Rattle.cdb_message.specs.Mail.{add_send, add_receive, add_loss};
+    ghost use Rattle.cdb_message.specs.Mail.{remove_send, remove_receive, remove_loss};
+    ghost use Rattle.cdb_message.specs.Mail.{next_pending, HasNonePending, IsLeastPending};
+    ghost use Rattle.cdb_message.specs.Marks.{HasNoneOpen};
+    ghost use Rattle.cdb_message.specs.Search.{first_of_sender, messages_from};
 
     /// The mail of `n` processes, at most 9, none of which has sent or received anything. `NoMemory` if
-    /// a growth is refused.
+    /// an allocation fails.
     pub fn new(alloc: Global, n: u8) -> Result<Self, NoMemory>
-        requires { n ≤ 9 }
+        requires { n ≤ MAX_PROCESSES }
         ensures { IfOk result (λ mail. mail ≡ first_mail n) }
     {
         let mut sent = Vec::new(alloc);
@@ -64,12 +86,12 @@ impl Mail {
         })
     }
 
-    /// Process `p`, which has sent fewer than 9,999 messages, broadcasts a payload. Answers the name of
+    /// Process `p`, which has sent fewer than 9,999 messages, broadcasts a payload. Returns the name of
     /// the message. After `NoMemory` nothing was sent.
     pub fn send(&mut self, _alloc: Global, p: Proc, payload: Payload) -> Result<MsgName, NoMemory>
         requires among { p ≤ length self.old.sent }
-        requires room { length (sent_by self.old p) < 9999 }
-        ensures name { IfOk result (λ name. name ≡ message_name p (length (sent_by self.old p) + 1)) }
+        requires room { MaySend self.old p }
+        ensures name { IfOk result (λ name. name ≡ next_name self.old p) }
         ensures ok { OnOk result (self.new ≡ add_send self.old p payload) }
         ensures err { OnErr result (self.new ≡ self.old) }
     {
@@ -84,10 +106,12 @@ impl Mail {
     pub fn take_back_send(&mut self, p: Proc)
         requires among { p ≤ length self.old.sent }
         requires sent { 0 < length (sent_by self.old p) }
-        requires not_received { (q : ℕ) → is_received self.old q (message_name p (length (sent_by self.old p))) ≡ false }
-        requires not_lost { (q : ℕ) → is_lost self.old (copy_name (message_name p (length (sent_by self.old p))) q) ≡ false }
+        requires not_received { (q : ℕ) → is_received self.old q (last_name self.old p) ≡ false }
+        requires not_lost { (q : ℕ)
+            → is_lost self.old (copy_name (last_name self.old p) q) ≡ false }
         ensures after { self.new ≡ remove_send self.old p }
-        ensures undoes { (mail : MailState) (x : Payload) → self.old ≡ add_send mail p x → self.new ≡ mail }
+        ensures undoes { (mail : MailState) (sent : Payload)
+            → self.old ≡ add_send mail p sent → self.new ≡ mail }
     {
         let outbox = &mut self.sent[p.index()];
         outbox.pop();
@@ -163,7 +187,7 @@ impl Mail {
 
     /// The name of the `m`-th message of process `s`, where there is such a process and it was sent.
     pub fn find(&self, s: u32, m: u32) -> Option<MsgName>
-        ensures { MatchOption result (is_sent self.now (message_name s m) ≡ false) (λ name. (name ≡ message_name s m) × IsTrue (is_sent self.now (message_name s m))) }
+        ensures { MatchOption result (IsUnsent self.now s m) (IsNameOfSent self.now s m) }
     {
         if !self.is_process(s) {
             return None;
@@ -180,8 +204,8 @@ impl Mail {
 
     /// Whether there is a process of that number.
     fn is_process(&self, s: u32) -> bool
-        ensures range { IsTrue result → (1 ≤ s) × (s ≤ 9) }
-        ensures none { result ≡ false → (m : ℕ) → is_sent self.now (message_name s m) ≡ false }
+        ensures range { IsTrue result → (1 ≤ s) × (s ≤ MAX_PROCESSES) }
+        ensures none { result ≡ false → (m : ℕ) → IsUnsent self.now s m }
     {
         1 <= s && s as usize <= self.sent.len()
     }
@@ -190,7 +214,7 @@ impl Mail {
     #[tactic(auto, using(crate::proofs::Sent::is_sent_within))]
     fn was_sent(&self, s: Proc, m: u32) -> bool
         ensures value { result ≡ is_sent self.now (message_name s m) }
-        ensures limit { IsTrue result → m ≤ 9999 }
+        ensures limit { IsTrue result → m ≤ MAX_STEPS }
     {
         1 <= m && m <= u32::from(self.count_sent(s))
     }
@@ -215,8 +239,13 @@ impl Mail {
     /// for process `p` was neither received nor lost.
     pub fn pending(&self, p: Proc, after: Option<MsgName>) -> Option<MsgName>
         requires among { p ≤ length self.now.received }
-        ensures { result ≡ next_pending self.now p after }
+        ensures value { result ≡ next_pending self.now p after }
+        // None is pending above `after`, or the result is the least that is.
+        ensures least { MatchOption result (HasNonePending self.now p after)
+            (IsLeastPending self.now p after) }
     {
+        // There are at most 9 processes, which the proof reads here.
+        let _processes = &self.sent;
         for sender in Proc::all() {
             let above = after;
             if let Some(name) = self.pending_from(p, sender, above) {
@@ -229,7 +258,7 @@ impl Mail {
     /// The least such name of the sender `s`.
     fn pending_from(&self, p: Proc, s: Proc, after: Option<MsgName>) -> Option<MsgName>
         requires among { p ≤ length self.now.received }
-        ensures { result ≡ find (stands_above after) (filter (is_open self.now p) (messages_of self.now s)) }
+        ensures { result ≡ first_of_sender self.now p s after }
     {
         let low = lowest_above(after, s)?;
         let behind = u32::from(self.mark(p, s)) + 1;
@@ -241,7 +270,7 @@ impl Mail {
     fn first_open(&self, p: Proc, s: Proc, low: u32) -> Option<MsgName>
         requires among { p ≤ length self.now.received }
         requires from_one { 1 ≤ low }
-        ensures { result ≡ find (is_open self.now p) (map (message_name s) (range_with_len low (length (sent_by self.now s) + 1 - low))) }
+        ensures { result ≡ find (is_open self.now p) (messages_from self.now s low) }
     {
         for m in low..u32::from(self.count_sent(s)) + 1 {
             let name = MsgName { s, m: m as u16 };
@@ -254,7 +283,7 @@ impl Mail {
 
     /// A number up to which process `p` has received or lost each message of `s`.
     fn mark(&self, p: Proc, s: Proc) -> u16
-        ensures { (m : ℕ) → 1 ≤ m → m ≤ result → is_open self.now p (message_name s m) ≡ false }
+        ensures { HasNoneOpen self.now p s result }
     {
         self.marks.get(p, s)
     }
@@ -262,7 +291,7 @@ impl Mail {
     /// The greatest such number, among the messages that were sent.
     fn farthest_mark(&self, p: Proc, s: Proc) -> u16
         requires among { p ≤ length self.now.received }
-        ensures { (m : ℕ) → 1 ≤ m → m ≤ result → is_open self.now p (message_name s m) ≡ false }
+        ensures { HasNoneOpen self.now p s result }
     {
         let count = self.count_sent(s);
         let mut mark = self.mark(p, s);
@@ -284,7 +313,7 @@ impl Mail {
     /// How many messages process `s` sent: at most 9,999.
     pub fn count_sent(&self, s: Proc) -> u16
         ensures value { result ≡ length (sent_by self.now s) }
-        ensures limit { result ≤ 9999 }
+        ensures limit { result ≤ MAX_STEPS }
     {
         match self.sent.get(s.index()) {
             Some(outbox) => outbox.count(),
@@ -304,8 +333,8 @@ impl Mail {
 
 /// The least number from which on every name of `s` stands above the other name.
 fn lowest_above(after: Option<MsgName>, s: Proc) -> Option<u32>
-    ensures some { IfSome result (λ low. (m : ℕ) → stands_above after (message_name s m) ≡ nat_le low m) }
-    ensures none { IfNone result ((m : ℕ) → stands_above after (message_name s m) ≡ false) }
+    ensures some { IfSome result (λ low. IsLowestAbove after s low) }
+    ensures none { IfNone result (HasNoneAbove after s) }
 {
     let Some(name) = after else {
         return Some(0);

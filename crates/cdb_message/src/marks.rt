@@ -1,5 +1,7 @@
-ghost use Rattle.std.specs.Prelude.{◌≡◌, ℕ, ◌-◌, min, ◌==◌, ◌&&◌, if◌then◌else◌};
-ghost use Rattle.cdb_message.specs.Marks.{number_of, mark_of};
+//! From which message on the look for a pending copy begins.
+
+ghost use Rattle.std.specs.Prelude.{◌≡◌, ℕ};
+ghost use Rattle.cdb_message.specs.Marks.{number_of, mark_of, SetsNumber, SetsMark, LowersMark};
 
 use cdb_base::Proc;
 
@@ -17,7 +19,7 @@ impl Row {
     }
 
     fn set(&mut self, s: Proc, number: u16)
-        ensures { (t : ℕ) → number_of self.new t ≡ (if t == s then number else number_of self.old t) }
+        ensures { SetsNumber self.old self.new s number }
     {
         self.numbers[s.index()] = number;
     }
@@ -47,7 +49,7 @@ impl Marks {
 
     /// Puts the mark of receiver `p` and sender `s` at that number.
     pub fn set(&mut self, p: Proc, s: Proc, number: u16)
-        ensures { (q t : ℕ) → mark_of self.new q t ≡ (if q == p && t == s then number else mark_of self.old q t) }
+        ensures { SetsMark self.old self.new p s number }
     {
         let row = &mut self.rows[p.index()];
         row.set(s, number);
@@ -55,7 +57,7 @@ impl Marks {
 
     /// Puts the mark of receiver `p` and sender `s` below that number, where it is not.
     pub fn lower(&mut self, p: Proc, s: Proc, number: u16)
-        ensures { (q t : ℕ) → mark_of self.new q t ≡ (if q == p && t == s then min (mark_of self.old q t) (number - 1) else mark_of self.old q t) }
+        ensures { LowersMark self.old self.new p s number }
     {
         let below = self.get(p, s).min(number.saturating_sub(1));
         self.set(p, s, below);

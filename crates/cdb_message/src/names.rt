@@ -1,3 +1,5 @@
+//! Sets of the names of messages.
+
 ghost use Rattle.std.specs.Prelude.{◌≡◌, OnOk, OnErr};
 ghost use Rattle.std.specs.FinSet as set;
 
@@ -14,7 +16,8 @@ pub struct Names {
 
 impl Model for Names {
     ghost use Rattle.std.specs.FinSet as set;
-    ghost use Rattle.cdb_message.specs.Names.{NameSet, name_code};
+    ghost use Rattle.cdb_message.specs.Codes.{name_code};
+    ghost use Rattle.cdb_message.specs.Names.{NameSet};
 
     ghost Value = { NameSet };
 

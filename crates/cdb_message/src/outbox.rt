@@ -1,6 +1,9 @@
+//! What one process sent.
+
 ghost use Rattle.std.specs.Prelude.{◌≡◌, ◌<◌, ◌≤◌, length, [], ◌∷◌, ◌++◌, OnOk, OnErr, slice_get};
 ghost use Rattle.std.specs.Option.{option_copied};
 ghost use Rattle.cdb_base.specs.Places.{without_last};
+ghost use Rattle.cdb_base.specs.declared.limits.TheConstants.{MAX_STEPS};
 
 use cdb_base::{NoMemory, Payload, Val};
 use std::alloc::Global;
@@ -14,13 +17,14 @@ pub struct Outbox {
 
 impl Model for Outbox {
     ghost use Rattle.std.specs.Prelude.{◌≤◌, List, length};
+    ghost use Rattle.cdb_base.specs.declared.limits.TheConstants.{MAX_STEPS};
     ghost use Rattle.cdb_base.specs.declared.payload.Payload.{Payload};
 
     ghost Value = { List Payload };
 
     ghost view = { λ x. x.payloads.items };
 
-    ghost invariant = { λ x. length x.payloads.items ≤ 9999 };
+    ghost invariant = { λ x. length x.payloads.items ≤ MAX_STEPS };
 }
 
 impl Outbox {
@@ -36,14 +40,14 @@ impl Outbox {
     /// How many payloads were sent: at most 9,999.
     pub fn count(&self) -> u16
         ensures value { result ≡ length self.now }
-        ensures limit { result ≤ 9999 }
+        ensures limit { result ≤ MAX_STEPS }
     {
         self.payloads.len() as u16
     }
 
     /// Adds a payload, where there are fewer than 9,999. After `NoMemory` nothing was added.
     pub fn push(&mut self, payload: Payload) -> Result<(), NoMemory>
-        requires { length self.old < 9999 }
+        requires { length self.old < MAX_STEPS }
         ensures ok { OnOk result (self.new ≡ self.old ++ payload ∷ []) }
         ensures err { OnErr result (self.new ≡ self.old) }
     {

@@ -1,11 +1,14 @@
 pub mod Added
+pub mod Putting
 pub mod Cutting
 pub mod Reading
-pub mod ScriptFaults
 pub mod Transcribing
+pub mod Ending
 pub mod Numbered
 pub mod ScriptsRead
 pub mod RaceTexts
 pub mod RaceGrowth
 pub mod SeatsFit
 pub mod RunningFaults
+pub mod Agreeing
+pub mod Told

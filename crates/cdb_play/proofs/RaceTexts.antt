@@ -1,6 +1,5 @@
 -- The text of a race grows seat by seat, and is that of its journal.
-use Rattle.std.proofs.Common.{inl, inr, ◌≡◌, ℕ, suc, ◌+◌, ◌-◌, ◌<◌, List, [], ◌∷◌, ◌++◌, length, map, get_or, take, drop, Vec, Global, refl, sym, ap, ◌∙◌, arith, append_assoc, length-drop}
-use Rattle.std.specs.Prelude.{◌⊎◌, Option}
+use Rattle.std.proofs.Common.{◌≡◌, ℕ, suc, ◌+◌, ◌-◌, ◌<◌, List, [], ◌∷◌, ◌++◌, length, map, get_or, take, drop, Vec, Global, refl, sym, ap, ◌∙◌, arith, append_assoc, length-drop}
 use Rattle.std.specs.List.{range_with_len}
 use Rattle.std.proofs.lemmas.List.{get_or-drop, drop-map, take_rest}
 use Rattle.cdb_control.specs.Answer.{Answer, told}
@@ -8,10 +7,8 @@ use Rattle.cdb_control.specs.Journal.{Journaled}
 use Rattle.cdb_control.specs.declared.command.Command.{Command}
 use Rattle.cdb_control.specs.declared.reply.Reply.{Reply}
 use Rattle.cdb_race.specs.Races.{IsRaced, answers_to, all_told}
-use Rattle.cdb_setup.specs.Format.{StandsFor}
 use Rattle.cdb_setup.specs.Parts.{Parts}
-use Rattle.cdb_play.specs.Races.{seat_text, seats_text, end_text, last_decisions, race_text, AreScripts, IsTextOfRace}
-use Rattle.cdb_play.specs.Streams.{AddsBeginning}
+use Rattle.cdb_play.specs.Races.{seat_text, seats_text, end_text, last_decisions, race_text, AreScripts, IsTextOnSetup, IsTextOfCommands}
 
 -- seats, and then others
 pub seats_text-append : (first : ℕ) (lists others : List (List Answer)) → seats_text first (lists ++ others) ≡ seats_text first lists ++ seats_text (first + length lists) others
@@ -52,10 +49,7 @@ text_of_replies setup turns scripts c replies shown n same count raced =
     ∙ ap (λ k. seats_text (c.setup.processes + 1) (drop k (all_told replies)) ++ end_text (last_decisions c)) count
     ∙ text_of_race setup turns scripts c (all_told replies) raced
 
--- what was written of a race on a setup and scripts that were read
-pub beginning_of_race : {Same : Type 0} (json : List ℕ) (setup : Parts) (turns : ℕ) (scripts : List (List ℕ)) (commands : List (List Command)) (old new : Option (List ℕ)) → StandsFor json setup → AreScripts commands scripts
-    → Same ⊎ ((c : Journaled) × (answers : List (List Answer)) × IsRaced setup turns commands c answers × AddsBeginning old new (race_text c))
-    → Same ⊎ ((text : List ℕ) × IsTextOfRace json turns scripts text × AddsBeginning old new text)
-beginning_of_race json setup turns scripts commands old new stands read (inl same) = inl same
-beginning_of_race json setup turns scripts commands old new stands read (inr (c, answers, raced, added)) =
-    inr (race_text c, record { setup = setup; commands = commands; control = c; answers = answers; stands = stands; read = read; raced = raced; is = refl }, added)
+-- a text of a race of commands is one of the scripts that have them
+pub of_scripts : (setup : Parts) (turns : ℕ) (scripts : List (List ℕ)) (commands : List (List Command)) → AreScripts commands scripts → (text : List ℕ) → IsTextOfCommands setup turns commands text → IsTextOnSetup setup turns scripts text
+of_scripts setup turns scripts commands read text (control, answers, raced, is) =
+    record { commands = commands; control = control; answers = answers; read = read; raced = raced; is = is }

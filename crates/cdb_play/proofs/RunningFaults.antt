@@ -5,8 +5,13 @@ use Rattle.cdb_race.specs.Faults.{IsAmongSeats}
 use Rattle.cdb_race.specs.declared.threads.RaceFault.{RaceFault as ThreadFault}
 use Rattle.cdb_race.specs.declared.threads.RaceFault.TheVariants as threads
 use Rattle.cdb_setup.specs.Format.{StandsFor}
+use Rattle.cdb_setup.specs.Order.{IsFirstFault}
 use Rattle.cdb_setup.specs.Parts.{Parts}
-use Rattle.cdb_play.specs.Races.{race_fault_of_threads, AreScripts, IsFaultOfRunning, IsFaultOfRace}
+use Rattle.cdb_setup.specs.declared.fault.SetupFault.{SetupFault}
+use Rattle.cdb_setup.specs.declared.fault.SetupFault.TheVariants as setup
+use Rattle.cdb_play.specs.Races.{race_fault_of_setup, race_fault_of_threads, race_fault_of_output, AreScripts, IsFaultOfRunning, IsFaultOfScripts, IsFaultOnSetup, IsFaultOfRace}
+use Rattle.cdb_play.specs.declared.buffer.OutputFault.{OutputFault}
+use Rattle.cdb_play.specs.declared.buffer.OutputFault.TheVariants as output
 use Rattle.cdb_play.specs.declared.fault.RaceFault.{RaceFault}
 use Rattle.cdb_play.specs.declared.fault.RaceFault.TheVariants.{Setup, Line, ScriptTooLong, Write, NoMemory, JournalFull, Spawn, Stopped}
 
@@ -17,12 +22,10 @@ of_threads seats threads.JournalFull is = tt
 of_threads seats threads.Spawn is = tt
 of_threads seats (threads.Stopped seat) is = is
 
--- none of them is one of the writer
-pub not_written : (fault : ThreadFault) → race_fault_of_threads fault ≢ Write
-not_written threads.NoMemory is = absurd cc
-not_written threads.JournalFull is = absurd cc
-not_written threads.Spawn is = absurd cc
-not_written (threads.Stopped seat) is = absurd cc
+-- nor is one of the output another
+pub of_writing : (seats : ℕ) (fault : OutputFault) → IsFaultOfRunning seats (race_fault_of_output fault)
+of_writing seats output.Write = tt
+of_writing seats output.NoMemory = tt
 
 -- each script has its commands
 so_many : (commands : List (List Command)) (scripts : List (List ℕ)) → AreScripts commands scripts → length commands ≡ length scripts
@@ -31,14 +34,36 @@ so_many [] (script ∷ scripts) are = absurd are
 so_many (list ∷ commands) [] are = absurd are
 so_many (list ∷ commands) (script ∷ scripts) are = ap suc (so_many commands scripts are.1)
 
--- what they say of the texts
-pub of_race : (json : List ℕ) (setup : Parts) (commands : List (List Command)) (scripts : List (List ℕ)) → StandsFor json setup → AreScripts commands scripts
-    → (fault : RaceFault) → IsFaultOfRunning (setup.processes + length commands) fault → IsFaultOfRace fault json scripts
-of_race json setup commands scripts stands read (Setup fault) is = absurd is
-of_race json setup commands scripts stands read (Line place line fault) is = absurd is
-of_race json setup commands scripts stands read (ScriptTooLong place) is = absurd is
-of_race json setup commands scripts stands read Write is = ((setup, stands), commands, read)
-of_race json setup commands scripts stands read NoMemory is = tt
-of_race json setup commands scripts stands read JournalFull is = ((setup, stands), commands, read)
-of_race json setup commands scripts stands read Spawn is = ((setup, stands), commands, read)
-of_race json setup commands scripts stands read (Stopped seat) is = let many = so_many commands scripts read in ((setup, stands, (is.0, omega (arith, is.1, many))), commands, read)
+-- what they say of the scripts
+pub on_setup : (setup : Parts) (commands : List (List Command)) (scripts : List (List ℕ)) → AreScripts commands scripts → (fault : RaceFault) → IsFaultOfRunning (setup.processes + length commands) fault → IsFaultOnSetup fault setup scripts
+on_setup setup commands scripts read (Setup fault) is = absurd is
+on_setup setup commands scripts read (Line place line fault) is = absurd is
+on_setup setup commands scripts read (ScriptTooLong place) is = absurd is
+on_setup setup commands scripts read Write is = (commands, read)
+on_setup setup commands scripts read NoMemory is = tt
+on_setup setup commands scripts read JournalFull is = (commands, read)
+on_setup setup commands scripts read Spawn is = (commands, read)
+on_setup setup commands scripts read (Stopped seat) is = let many = so_many commands scripts read in ((commands, read), (is.0, omega (arith, is.1, many)))
+
+-- so do those of reading them
+pub of_reading : (setup : Parts) (scripts : List (List ℕ)) (fault : RaceFault) → IsFaultOfScripts fault scripts → IsFaultOnSetup fault setup scripts
+of_reading setup scripts (Line place line fault) is = is
+of_reading setup scripts (ScriptTooLong place) is = is
+of_reading setup scripts NoMemory is = tt
+of_reading setup scripts fault is = absurd is
+
+-- and on the setup that a text stands for
+pub of_race : (json : List ℕ) (setup : Parts) (scripts : List (List ℕ)) → StandsFor json setup → (fault : RaceFault) → IsFaultOnSetup fault setup scripts → IsFaultOfRace fault json scripts
+of_race json setup scripts stands (Setup fault) is = absurd is
+of_race json setup scripts stands NoMemory is = tt
+of_race json setup scripts stands (Line place line fault) is = (setup, stands, is)
+of_race json setup scripts stands (ScriptTooLong place) is = (setup, stands, is)
+of_race json setup scripts stands Write is = (setup, stands, is)
+of_race json setup scripts stands JournalFull is = (setup, stands, is)
+of_race json setup scripts stands Spawn is = (setup, stands, is)
+of_race json setup scripts stands (Stopped seat) is = (setup, stands, is)
+
+-- a fault of the setup is its first one, or an allocation failed
+pub of_setup_read : (json : List ℕ) (scripts : List (List ℕ)) (fault : SetupFault) → (fault ≢ setup.NoMemory → IsFirstFault fault json) → IsFaultOfRace (race_fault_of_setup fault) json scripts
+of_setup_read json scripts setup.NoMemory said = tt
+of_setup_read json scripts fault said = said (λ same. absurd cc)

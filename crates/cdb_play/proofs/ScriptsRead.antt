@@ -1,13 +1,9 @@
 -- Scripts are read one after the other.
 use Rattle.std.proofs.Common.{◌≡◌, ℕ, ◌+◌, ◌<◌, ◌≤◌, List, [], ◌∷◌, ◌++◌, length, get_or, take, drop, Vec, Global, refl, sym, ap, ◌∙◌, arith, length-take}
 use Rattle.std.proofs.lemmas.List.{length-map, map-append, take_more}
-use Rattle.std.specs.Prelude.{◌↔◌}
 use Rattle.cdb_control.specs.declared.command.Command.{Command}
-use Rattle.cdb_text.specs.declared.fault.LineFault.{LineFault}
-use Rattle.cdb_play.specs.Lines.{lines_of}
-use Rattle.cdb_play.specs.Races.{race_fault_of_script, IsScript, AreScripts, IsFaultOfScripts, bytes_of}
-use Rattle.cdb_play.specs.Scripts.{IsFirstBadLine}
-use Rattle.cdb_setup.specs.Format.{longest}
+use Rattle.cdb_play.specs.Races.{race_fault_of_script, AreScripts, IsFaultOfScripts, bytes_of}
+use Rattle.cdb_play.specs.Scripts.{IsScript, IsFaultOfScript}
 use Rattle.cdb_play.specs.declared.script.ScriptFault.{ScriptFault}
 use Rattle.cdb_play.specs.declared.script.ScriptFault.TheVariants.{Line, TooLong, NoMemory}
 use Rattle.cdb_play.proofs.Added.{parted}
@@ -20,19 +16,12 @@ one_script [] (other ∷ good) commands script are is = absurd are
 one_script (other ∷ read) [] commands script are is = absurd are
 one_script (other ∷ read) (other_script ∷ good) commands script are is = (are.0, one_script read good commands script are.1 is)
 
--- a script whose commands were read was not too long
-pub not_too_long : (bytes : List ℕ) → (longest < length bytes → ⊥) → length bytes ≤ longest
-not_too_long bytes never = grind (arith, never)
-
--- the first bad script, behind those that were read
+-- the first bad script, after those that were read
 pub bad_script : (read : List (List Command)) (good : List (List ℕ)) (bad : List ℕ) (rest scripts : List (List ℕ)) (place : ℕ) → scripts ≡ good ++ bad ∷ rest → place ≡ length good + 1 → AreScripts read good
-    → (fault : ScriptFault) → ((line : ℕ) (why : LineFault) → fault ≡ Line line why → IsFirstBadLine line why (lines_of bad)) → ((fault ≡ TooLong) ↔ (longest < length bad))
-    → IsFaultOfScripts (race_fault_of_script place fault) scripts
-bad_script read good bad rest scripts place whole is_place are (Line line why) said too_long =
-    let short : length bad ≤ longest = not_too_long bad (λ more. let wrong : Line line why ≡ TooLong = too_long.1 more in absurd cc) in
-    (read, good, bad, rest, whole, is_place, are, (short, said line why refl))
-bad_script read good bad rest scripts place whole is_place are TooLong said too_long = (read, good, bad, rest, whole, is_place, are, too_long.0 refl)
-bad_script read good bad rest scripts place whole is_place are NoMemory said too_long = tt
+    → (fault : ScriptFault) → IsFaultOfScript fault bad → IsFaultOfScripts (race_fault_of_script place fault) scripts
+bad_script read good bad rest scripts place whole is_place are (Line line why) said = (read, good, bad, rest, whole, is_place, are, said)
+bad_script read good bad rest scripts place whole is_place are TooLong said = (read, good, bad, rest, whole, is_place, are, said)
+bad_script read good bad rest scripts place whole is_place are NoMemory said = tt
 
 module _ (scripts : List (Vec ℕ Global)) (i : ℕ) (script : Vec ℕ Global) (is : script ≡ get_or scripts i script) (below : i < length scripts) where
   -- a script stands behind those before it

@@ -6,7 +6,7 @@ use Rattle.cdb_setup.specs.declared.fault.SetupFault.TheVariants.{NoMemory}
 
 module _ (read : Result Parts SetupFault) (found parts : Parts) (is : read ≡ Ok found) where
   -- what they stand for is what was read
-  same_setup : (read ≡ Ok parts) ⊎ (read ≡ Err NoMemory) → found ≡ parts
+  pub same_setup : (read ≡ Ok parts) ⊎ (read ≡ Err NoMemory) → found ≡ parts
   same_setup (inl e) = cc
   same_setup (inr e) = absurd cc
 

@@ -1,5 +1,5 @@
+-- ---- what the public contracts name
 pub mod Streams
-pub mod Pieces
 pub mod Lines
 pub mod Scripts
 pub mod Transcripts
@@ -7,3 +7,8 @@ pub mod Faults
 pub mod FaultTexts
 pub mod Statuses
 pub mod Races
+pub mod Written
+-- what the public ones name, and then what the code keeps for itself
+pub mod Buffers
+-- ---- what the code keeps for itself
+pub mod Pieces

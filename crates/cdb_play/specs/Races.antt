@@ -1,24 +1,26 @@
 -- What a race reads and writes.
-use Rattle.std.specs.Prelude.{◌≡◌, ℕ, ◌+◌, ◌-◌, ◌<◌, ◌≤◌, ◌==◌, Bool, true, List, [], ◌∷◌, ◌++◌, length, map, codes, decimal, if◌then◌else◌}
+use Rattle.std.specs.Prelude.{◌≡◌, ℕ, ◌+◌, ◌-◌, ◌==◌, Bool, true, List, [], ◌∷◌, ◌++◌, length, map, codes, decimal, Option, if◌then◌else◌}
 use Rattle.std.specs.List.{AllZip, flat_map, list_all, range_with_len}
 use Rattle.std.proofs.Common.{Vec, Global}
 use Rattle.cdb_control.specs.Answer.{Answer}
 use Rattle.cdb_control.specs.Journal.{Journaled, state_of}
 use Rattle.cdb_control.specs.declared.command.Command.{Command}
-use Rattle.cdb_race.specs.Races.{IsRaced, answers_to}
+use Rattle.cdb_race.specs.Faults.{IsFaultOfSeats}
+use Rattle.cdb_race.specs.Races.{IsRaced, MayFill, answers_to}
 use Rattle.cdb_race.specs.declared.threads.RaceFault.{RaceFault as ThreadFault}
 use Rattle.cdb_race.specs.declared.threads.RaceFault.TheVariants as threads
 use Rattle.cdb_run.specs.Algorithms.{rules}
-use Rattle.cdb_setup.specs.Format.{StandsFor, longest}
+use Rattle.cdb_setup.specs.Format.{StandsFor}
 use Rattle.cdb_setup.specs.Order.{IsFirstFault}
 use Rattle.cdb_setup.specs.Parts.{Parts, IsWithin}
 use Rattle.cdb_setup.specs.declared.fault.SetupFault.{SetupFault}
 use Rattle.cdb_setup.specs.declared.fault.SetupFault.TheVariants as setup
+use Rattle.cdb_shared.specs.Gates.{Heard}
 use Rattle.cdb_text.specs.Reports.{decisions_text}
 use Rattle.cdb_text.specs.Texts.{text_of}
-use Rattle.cdb_play.specs.Faults.{IsSetup}
-use Rattle.cdb_play.specs.Lines.{lines_of}
-use Rattle.cdb_play.specs.Scripts.{AreCommandsOf, IsFirstBadLine}
+use Rattle.cdb_play.specs.Scripts.{IsScript, IsFaultOfScript}
+use Rattle.cdb_play.specs.declared.buffer.OutputFault.{OutputFault}
+use Rattle.cdb_play.specs.declared.buffer.OutputFault.TheVariants as output
 use Rattle.cdb_play.specs.declared.fault.RaceFault.{RaceFault}
 use Rattle.cdb_play.specs.declared.fault.RaceFault.TheVariants.{Setup, Line, ScriptTooLong, Write, NoMemory, JournalFull, Spawn, Stopped}
 use Rattle.cdb_play.specs.declared.script.ScriptFault.{ScriptFault}
@@ -26,9 +28,13 @@ use Rattle.cdb_play.specs.declared.script.ScriptFault.TheVariants as script
 
 -- ---- the text
 
--- a line with the number of a seat, and then the texts of its replies
+-- the line with the number of a seat
+abbrev pub seat_line : ℕ → List ℕ
+seat_line seat = codes "seat " ++ decimal seat ++ codes "\n"
+
+-- that line, and then the texts of the seat's replies
 abbrev pub seat_text : ℕ → List Answer → List ℕ
-seat_text seat answers = codes "seat " ++ decimal seat ++ codes "\n" ++ flat_map text_of answers
+seat_text seat answers = seat_line seat ++ flat_map text_of answers
 
 -- seats from this number on, each with its replies
 abbrev pub seats_text : ℕ → List (List Answer) → List ℕ
@@ -43,6 +49,10 @@ have_one_value (pair ∷ pairs) = list_all (λ other. other.1 == pair.1) pairs
 -- whether they agree
 abbrev pub verdict_text : List (ℕ × ℕ) → List ℕ
 verdict_text decisions = if have_one_value decisions then codes "decisions agree\n" else codes "decisions differ\n"
+
+-- the last line of the text says that the decisions agree
+abbrev pub EndsInAgreement : List ℕ → Type 0
+EndsInAgreement text = (before : List ℕ) × (text ≡ before ++ codes "\n" ++ codes "decisions agree\n")
 
 -- the decisions, and whether they agree
 abbrev pub end_text : List (ℕ × ℕ) → List ℕ
@@ -66,87 +76,138 @@ race_text c = seats_text (c.setup.processes + 1) (map (λ seat. answers_to seat 
 abbrev pub bytes_of : List (Vec ℕ Global) → List (List ℕ)
 bytes_of scripts = map (λ script. script.items) scripts
 
--- a script that is not too long, with its commands
-abbrev pub IsScript : List Command → List ℕ → Type 0
-IsScript commands script = (length script ≤ longest) × AreCommandsOf commands (lines_of script)
-
 -- each with its commands
 abbrev pub AreScripts : List (List Command) → List (List ℕ) → Type 0
 AreScripts read scripts = AllZip IsScript read scripts
 
--- the script at this place, counted from 1, is bad in this way, and each before it has its commands
-abbrev pub IsFirstBad : (List ℕ → Type 0) → ℕ → List (List ℕ) → Type 0
-IsFirstBad IsBad place scripts =
-    (read : List (List Command)) × (good : List (List ℕ)) × (bad : List ℕ) × (rest : List (List ℕ)) × (scripts ≡ good ++ bad ∷ rest) × (place ≡ length good + 1) × AreScripts read good × IsBad bad
+-- the script at this place, counted from 1, has this fault, and each before it has its commands
+abbrev pub IsFirstBad : ℕ → ScriptFault → List (List ℕ) → Type 0
+IsFirstBad place fault scripts =
+    (read : List (List Command)) × (good : List (List ℕ)) × (bad : List ℕ) × (rest : List (List ℕ)) × (scripts ≡ good ++ bad ∷ rest) × (place ≡ length good + 1) × AreScripts read good × IsFaultOfScript fault bad
 
--- the text is that of a race of these scripts, each process with so many turns, on the setup that a text of JSON stands for
-pub record IsTextOfRace (json : List ℕ) (turns : ℕ) (scripts : List (List ℕ)) (text : List ℕ) : Type 0 where
-  pub setup : Parts
+-- all of them have their commands
+abbrev pub AreAllRead : List (List ℕ) → Type 0
+AreAllRead scripts = (read : List (List Command)) × AreScripts read scripts
+
+-- the text is that of a race of these scripts on a setup, each process with so many turns
+pub record IsTextOnSetup (setup : Parts) (turns : ℕ) (scripts : List (List ℕ)) (text : List ℕ) : Type 0 where
   pub commands : List (List Command)
   pub control : Journaled
   pub answers : List (List Answer)
-  pub stands : StandsFor json setup
   pub read : AreScripts commands scripts
   pub raced : IsRaced setup turns commands control answers
   pub is : text ≡ race_text control
 
--- ---- the faults
+-- the same on the setup that a text of JSON stands for
+abbrev pub IsTextOfRace : List ℕ → ℕ → List (List ℕ) → List ℕ → Type 0
+IsTextOfRace json turns scripts text = (setup : Parts) × StandsFor json setup × IsTextOnSetup setup turns scripts text
 
--- a fault of the setup; want of memory is no fault of it
+-- ---- which fault of a race each fault of its parts is; want of memory is one fault
+
 abbrev pub race_fault_of_setup : SetupFault → RaceFault
 race_fault_of_setup setup.NoMemory = NoMemory
 race_fault_of_setup fault = Setup fault
 
--- a fault of the script at this place
+-- of the script at this place
 abbrev pub race_fault_of_script : ℕ → ScriptFault → RaceFault
 race_fault_of_script place (script.Line line fault) = Line place line fault
 race_fault_of_script place script.TooLong = ScriptTooLong place
 race_fault_of_script place script.NoMemory = NoMemory
 
--- a fault of the threads
 abbrev pub race_fault_of_threads : ThreadFault → RaceFault
 race_fault_of_threads threads.NoMemory = NoMemory
 race_fault_of_threads threads.JournalFull = JournalFull
 race_fault_of_threads threads.Spawn = Spawn
 race_fault_of_threads (threads.Stopped seat) = Stopped seat
 
--- what a fault of reading says of the scripts
+abbrev pub race_fault_of_output : OutputFault → RaceFault
+race_fault_of_output output.Write = Write
+race_fault_of_output output.NoMemory = NoMemory
+
+-- ---- what they say
+
+-- What a fault says of a race of these scripts on a setup. Those of the scripts come before the others; a stopped seat
+-- is one of a process or of a script.
+abbrev pub IsFaultOnSetup : RaceFault → Parts → List (List ℕ) → Type 0
+IsFaultOnSetup (Setup fault) setup scripts = ⊥
+IsFaultOnSetup (Line place line fault) setup scripts = IsFirstBad place (script.Line line fault) scripts
+IsFaultOnSetup (ScriptTooLong place) setup scripts = IsFirstBad place script.TooLong scripts
+IsFaultOnSetup JournalFull setup scripts = AreAllRead scripts
+IsFaultOnSetup Spawn setup scripts = AreAllRead scripts
+IsFaultOnSetup (Stopped seat) setup scripts = AreAllRead scripts × IsWithin 1 (setup.processes + length scripts) seat
+IsFaultOnSetup Write setup scripts = AreAllRead scripts
+IsFaultOnSetup NoMemory setup scripts = Unit {0}
+
+-- the same of a race on the setup that a text of JSON stands for: a fault of the setup comes before all others
+abbrev pub IsFaultOfRace : RaceFault → List ℕ → List (List ℕ) → Type 0
+IsFaultOfRace (Setup fault) json scripts = IsFirstFault fault json
+IsFaultOfRace NoMemory json scripts = Unit {0}
+IsFaultOfRace fault json scripts = (setup : Parts) × StandsFor json setup × IsFaultOnSetup fault setup scripts
+
+-- ---- which of several faults of sessions is reported
+
+-- A full journal and a stopped seat are told of the least seat whose session ended so. Such a race of these scripts
+-- makes, at most, as many calls as a journal has entries at most.
+abbrev pub IsToldOnSetup : {G : Type 0} → (G → Option (List Heard)) → (G → Bool) → Parts → ℕ → List (List ℕ) → List G → RaceFault → Type 0
+IsToldOnSetup heard passes setup turns scripts gates JournalFull =
+    (commands : List (List Command)) × AreScripts commands scripts × MayFill setup turns commands
+    × IsFaultOfSeats heard passes setup turns commands gates threads.JournalFull
+IsToldOnSetup heard passes setup turns scripts gates (Stopped seat) =
+    (commands : List (List Command)) × AreScripts commands scripts
+    × IsFaultOfSeats heard passes setup turns commands gates (threads.Stopped seat)
+IsToldOnSetup heard passes setup turns scripts gates other = Unit {0}
+
+-- the same on the setup that a text of JSON stands for
+abbrev pub IsToldOfRace : {G : Type 0} → (G → Option (List Heard)) → (G → Bool) → List ℕ → ℕ → List (List ℕ) → List G → RaceFault → Type 0
+IsToldOfRace heard passes json turns scripts gates JournalFull =
+    (setup : Parts) × StandsFor json setup × IsToldOnSetup heard passes setup turns scripts gates JournalFull
+IsToldOfRace heard passes json turns scripts gates (Stopped seat) =
+    (setup : Parts) × StandsFor json setup × IsToldOnSetup heard passes setup turns scripts gates (Stopped seat)
+IsToldOfRace heard passes json turns scripts gates other = Unit {0}
+
+-- no gate stopped a session
+abbrev pub IsNotStopped : RaceFault → Type 0
+IsNotStopped (Stopped seat) = ⊥
+IsNotStopped other = Unit {0}
+
+-- Behind gates that always pass: a journal is full only where a race of these scripts may fill one, and none is stopped.
+abbrev pub IsUnstoppedOnSetup : Parts → ℕ → List (List ℕ) → RaceFault → Type 0
+IsUnstoppedOnSetup setup turns scripts JournalFull =
+    (commands : List (List Command)) × AreScripts commands scripts × MayFill setup turns commands
+IsUnstoppedOnSetup setup turns scripts (Stopped seat) = ⊥
+IsUnstoppedOnSetup setup turns scripts other = Unit {0}
+
+abbrev pub IsUnstoppedOfRace : List ℕ → ℕ → List (List ℕ) → RaceFault → Type 0
+IsUnstoppedOfRace json turns scripts JournalFull =
+    (setup : Parts) × StandsFor json setup × IsUnstoppedOnSetup setup turns scripts JournalFull
+IsUnstoppedOfRace json turns scripts (Stopped seat) = ⊥
+IsUnstoppedOfRace json turns scripts other = Unit {0}
+
+-- ---- what the code keeps for itself
+
+-- the same of a race of these commands
+abbrev pub IsToldOfCommands : {G : Type 0} → (G → Option (List Heard)) → (G → Bool) → Parts → ℕ → List (List Command) → List G → RaceFault → Type 0
+IsToldOfCommands heard passes setup turns commands gates JournalFull =
+    MayFill setup turns commands × IsFaultOfSeats heard passes setup turns commands gates threads.JournalFull
+IsToldOfCommands heard passes setup turns commands gates (Stopped seat) = IsFaultOfSeats heard passes setup turns commands gates (threads.Stopped seat)
+IsToldOfCommands heard passes setup turns commands gates other = Unit {0}
+
+-- the text is that of a race of these commands
+abbrev pub IsTextOfCommands : Parts → ℕ → List (List Command) → List ℕ → Type 0
+IsTextOfCommands setup turns commands text =
+    (control : Journaled) × (answers : List (List Answer)) × IsRaced setup turns commands control answers × (text ≡ race_text control)
+
+-- a fault of reading the scripts
 abbrev pub IsFaultOfScripts : RaceFault → List (List ℕ) → Type 0
-IsFaultOfScripts (Line place line fault) scripts = IsFirstBad (λ bad. (length bad ≤ longest) × IsFirstBadLine line fault (lines_of bad)) place scripts
-IsFaultOfScripts (ScriptTooLong place) scripts = IsFirstBad (λ bad. longest < length bad) place scripts
+IsFaultOfScripts (Line place line fault) scripts = IsFirstBad place (script.Line line fault) scripts
+IsFaultOfScripts (ScriptTooLong place) scripts = IsFirstBad place script.TooLong scripts
 IsFaultOfScripts NoMemory scripts = Unit {0}
 IsFaultOfScripts fault scripts = ⊥
 
--- the faults of reading
-abbrev pub IsFaultOfReading : RaceFault → List ℕ → List (List ℕ) → Type 0
-IsFaultOfReading (Setup fault) json scripts = IsFirstFault fault json
-IsFaultOfReading NoMemory json scripts = Unit {0}
-IsFaultOfReading fault json scripts = IsSetup json × IsFaultOfScripts fault scripts
-
--- the faults of writing
-abbrev pub IsFaultOfOutput : RaceFault → Type 0
-IsFaultOfOutput Write = Unit {0}
-IsFaultOfOutput NoMemory = Unit {0}
-IsFaultOfOutput fault = ⊥
-
--- the faults of what was read well. A stopped seat is one of so many
+-- a fault of what was read, with so many seats
 abbrev pub IsFaultOfRunning : ℕ → RaceFault → Type 0
 IsFaultOfRunning seats (Setup fault) = ⊥
 IsFaultOfRunning seats (Line place line fault) = ⊥
 IsFaultOfRunning seats (ScriptTooLong place) = ⊥
 IsFaultOfRunning seats (Stopped seat) = IsWithin 1 seats seat
 IsFaultOfRunning seats fault = Unit {0}
-
--- a seat of the race: one of a process of the setup, or one of a script
-abbrev pub IsSeatOfRace : ℕ → List ℕ → List (List ℕ) → Type 0
-IsSeatOfRace seat json scripts = (setup : Parts) × StandsFor json setup × IsWithin 1 (setup.processes + length scripts) seat
-
--- What a fault of a race says: one of the setup comes before those of the scripts, and the others come where
--- all was read.
-abbrev pub IsFaultOfRace : RaceFault → List ℕ → List (List ℕ) → Type 0
-IsFaultOfRace (Setup fault) json scripts = IsFirstFault fault json
-IsFaultOfRace NoMemory json scripts = Unit {0}
-IsFaultOfRace (Line place line fault) json scripts = IsSetup json × IsFaultOfScripts (Line place line fault) scripts
-IsFaultOfRace (ScriptTooLong place) json scripts = IsSetup json × IsFaultOfScripts (ScriptTooLong place) scripts
-IsFaultOfRace (Stopped seat) json scripts = IsSeatOfRace seat json scripts × (read : List (List Command)) × AreScripts read scripts
-IsFaultOfRace fault json scripts = IsSetup json × (read : List (List Command)) × AreScripts read scripts

@@ -1,24 +1,49 @@
 -- What readers and writers do to the bytes that are known of them.
 use Rattle.std.specs.Prelude.{◌≡◌, ℕ, ◌+◌, ◌%◌, ◌^◌, Bool, true, not, ◌&&◌, ◌==◌, List, ◌++◌, length, Option, Result, Ok, Err, if◌then◌else◌}
-use Rattle.std.specs.Io.KnownBytes.{append_known, prepend_known, IsAtEnd}
+use Rattle.std.specs.Io.KnownBytes.{Appends, Consumes, IsAtEnd}
+
+-- ---- readers
 
 -- the bytes were all that was left
 abbrev pub IsReadToEnd : Option (List ℕ) → List ℕ → Option (List ℕ) → Type 0
-IsReadToEnd old bytes new = (old ≡ prepend_known bytes new) × IsAtEnd new
+IsReadToEnd old bytes new = Consumes old new bytes × IsAtEnd new
 
--- a beginning of the text was added
-abbrev pub AddsBeginning : Option (List ℕ) → Option (List ℕ) → List ℕ → Type 0
-AddsBeginning old new text = (written rest : List ℕ) × (text ≡ written ++ rest) × (new ≡ append_known old written)
+-- ---- failures
 
--- the call failed: it answered an error, or took none of a piece that is not empty
+-- the call failed: it returned an error, or took none of a piece that is not empty
 abbrev pub is_failure : {E : Type 0} → Result ℕ E → List ℕ → Bool
 is_failure (Err e) piece = true
 is_failure (Ok count) piece = (count == 0) && not (length piece == 0)
 
--- a count of failures once there is one more; it is kept in 64 bits, so behind the greatest comes 0
+-- a count of failures once there is one more; it is kept in 64 bits, so after the greatest comes 0
 abbrev pub one_more : ℕ → ℕ
 one_more failures = (failures + 1) % 2 ^ 64
 
 -- the count after a call
 abbrev pub counted : Bool → ℕ → ℕ
 counted failed failures = if failed then one_more failures else failures
+
+-- one call of a reader or a writer failed where this holds, and else none
+abbrev pub FailsWhere : {X : Type 0} → (X → ℕ) → Type 0 → X → X → Type 0
+FailsWhere failures Here old new = (Here → failures new ≡ one_more (failures old)) × ((Here → ⊥) → failures new ≡ failures old)
+
+-- ---- writers
+
+-- a beginning of the text was added
+abbrev pub AddsBeginning : Option (List ℕ) → Option (List ℕ) → List ℕ → Type 0
+AddsBeginning old new text = (written rest : List ℕ) × (text ≡ written ++ rest) × Appends old new written
+
+-- Of a writer before and after: the bytes that it holds, and how many of its calls failed
+module _ {W : Type 0} (contents : W → Option (List ℕ)) (failures : W → ℕ) where
+  -- it took the text, and no call failed
+  abbrev pub Takes : W → W → List ℕ → Type 0
+  Takes old new text = Appends (contents old) (contents new) text × (failures new ≡ failures old)
+
+  -- it took a beginning of the text, and then one call failed
+  abbrev pub Fails : W → W → List ℕ → Type 0
+  Fails old new text = AddsBeginning (contents old) (contents new) text × (failures new ≡ one_more (failures old))
+
+  -- The text was written, or a call failed and what was written is a beginning of it
+  abbrev pub Writes : {A E : Type 0} → Result A E → W → W → List ℕ → Type 0
+  Writes (Ok done) old new text = Takes old new text
+  Writes (Err failed) old new text = Fails old new text

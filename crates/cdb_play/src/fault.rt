@@ -1,9 +1,8 @@
 //! Why a play or a race ended early.
 
+use crate::buffer::OutputFault;
 use crate::script::ScriptFault;
-use crate::sink::Failed;
 use crate::source::ReadFault;
-use cdb_base::NoMemory;
 use cdb_setup::SetupFault;
 use cdb_text::LineFault;
 
@@ -87,24 +86,16 @@ impl From<ReadFault> for PlayFault {
     }
 }
 
-impl From<Failed> for PlayFault {
+impl From<OutputFault> for PlayFault {
     ghost use Rattle.std.specs.Prelude.{◌≡◌};
-    ghost use Rattle.cdb_play.specs.declared.fault.PlayFault.TheVariants.{Write as write};
+    ghost use Rattle.cdb_play.specs.Faults.{of_output};
 
-    ghost from_gives = { λ _ made. made ≡ write };
+    ghost from_gives = { λ fault made. made ≡ of_output fault };
 
-    fn from(_error: Failed) -> Self {
-        PlayFault::Write
-    }
-}
-
-impl From<NoMemory> for PlayFault {
-    ghost use Rattle.std.specs.Prelude.{◌≡◌};
-    ghost use Rattle.cdb_play.specs.declared.fault.PlayFault.TheVariants.{NoMemory as no_memory};
-
-    ghost from_gives = { λ _ made. made ≡ no_memory };
-
-    fn from(_error: NoMemory) -> Self {
-        PlayFault::NoMemory
+    fn from(fault: OutputFault) -> Self {
+        match fault {
+            OutputFault::Write => PlayFault::Write,
+            OutputFault::NoMemory => PlayFault::NoMemory,
+        }
     }
 }

@@ -1,10 +1,9 @@
 //! The texts of faults. They are written without memory.
 
-ghost use Rattle.std.specs.Prelude.{◌≡◌, ◌∷◌, [], Some, OnOk, OnErr};
-ghost use Rattle.std.specs.Io.KnownBytes.{append_known};
+ghost use Rattle.std.specs.Prelude.{◌≡◌, ◌∷◌, [], Some};
 ghost use Rattle.cdb_play.specs.FaultTexts.{setup_detail, numbered_text, setup_fault_text, line_fault_text, too_long_text, play_fault_text, race_fault_text};
 ghost use Rattle.cdb_play.specs.Pieces.{pieces_text};
-ghost use Rattle.cdb_play.specs.Streams.{AddsBeginning, one_more};
+ghost use Rattle.cdb_play.specs.Streams.{Writes};
 
 use crate::fault::{PlayFault, RaceFault};
 use crate::piece::Piece::{Number, Text};
@@ -39,10 +38,7 @@ fn detail_of(
 
 /// A fault of a setup that has this number.
 fn write_numbered<W: Sink>(number: u8, fault: &SetupFault, err: &mut W) -> Result<(), Failed>
-    ensures ok { OnOk result (W.contents err.new ≡ append_known (W.contents err.old) (numbered_text (Some number) fault.now)) }
-    ensures beginning { OnErr result (AddsBeginning (W.contents err.old) (W.contents err.new) (numbered_text (Some number) fault.now)) }
-    ensures no_failure { OnOk result (W.failures err.new ≡ W.failures err.old) }
-    ensures one_failure { OnErr result (W.failures err.new ≡ one_more (W.failures err.old)) }
+    ensures { Writes W.contents W.failures result err.old err.new (numbered_text (Some number) fault.now) }
 {
     let number = Number(usize::from(number));
     let name = Text(fault.name());
@@ -62,10 +58,7 @@ fn write_numbered<W: Sink>(number: u8, fault: &SetupFault, err: &mut W) -> Resul
 }
 
 fn write_setup_fault<W: Sink>(fault: &SetupFault, err: &mut W) -> Result<(), Failed>
-    ensures ok { OnOk result (W.contents err.new ≡ append_known (W.contents err.old) (setup_fault_text fault.now)) }
-    ensures beginning { OnErr result (AddsBeginning (W.contents err.old) (W.contents err.new) (setup_fault_text fault.now)) }
-    ensures no_failure { OnOk result (W.failures err.new ≡ W.failures err.old) }
-    ensures one_failure { OnErr result (W.failures err.new ≡ one_more (W.failures err.old)) }
+    ensures { Writes W.contents W.failures result err.old err.new (setup_fault_text fault.now) }
 {
     match fault.number() {
         Some(number) => write_numbered(number, fault, err),
@@ -79,10 +72,7 @@ fn write_line_fault<W: Sink>(
     fault: LineFault,
     err: &mut W,
 ) -> Result<(), Failed>
-    ensures ok { OnOk result (W.contents err.new ≡ append_known (W.contents err.old) (line_fault_text script line fault)) }
-    ensures beginning { OnErr result (AddsBeginning (W.contents err.old) (W.contents err.new) (line_fault_text script line fault)) }
-    ensures no_failure { OnOk result (W.failures err.new ≡ W.failures err.old) }
-    ensures one_failure { OnErr result (W.failures err.new ≡ one_more (W.failures err.old)) }
+    ensures { Writes W.contents W.failures result err.old err.new (line_fault_text script line fault) }
 {
     let (script, line) = (Number(script), Number(line));
     let (number, name) = (Number(usize::from(fault.number())), Text(fault.name()));
@@ -101,10 +91,7 @@ fn write_line_fault<W: Sink>(
 }
 
 fn write_too_long<W: Sink>(script: usize, err: &mut W) -> Result<(), Failed>
-    ensures ok { OnOk result (W.contents err.new ≡ append_known (W.contents err.old) (too_long_text script)) }
-    ensures beginning { OnErr result (AddsBeginning (W.contents err.old) (W.contents err.new) (too_long_text script)) }
-    ensures no_failure { OnOk result (W.failures err.new ≡ W.failures err.old) }
-    ensures one_failure { OnErr result (W.failures err.new ≡ one_more (W.failures err.old)) }
+    ensures { Writes W.contents W.failures result err.old err.new (too_long_text script) }
 {
     write_each(err, &[Text("script "), Number(script), Text(" too long\n")])
 }
@@ -112,10 +99,7 @@ fn write_too_long<W: Sink>(script: usize, err: &mut W) -> Result<(), Failed>
 /// Writes the text of a fault. The name is that of what could not be read. Where the writer fails, what was
 /// written is a beginning of the text.
 pub fn write_fault<W: Sink>(fault: &PlayFault, name: &str, err: &mut W) -> Result<(), Failed>
-    ensures ok { OnOk result (W.contents err.new ≡ append_known (W.contents err.old) (play_fault_text fault.now name.now)) }
-    ensures beginning { OnErr result (AddsBeginning (W.contents err.old) (W.contents err.new) (play_fault_text fault.now name.now)) }
-    ensures no_failure { OnOk result (W.failures err.new ≡ W.failures err.old) }
-    ensures one_failure { OnErr result (W.failures err.new ≡ one_more (W.failures err.old)) }
+    ensures { Writes W.contents W.failures result err.old err.new (play_fault_text fault.now name.now) }
 {
     match fault {
         PlayFault::Setup(fault) => write_setup_fault(fault, err),
@@ -129,10 +113,7 @@ pub fn write_fault<W: Sink>(fault: &PlayFault, name: &str, err: &mut W) -> Resul
 
 /// Writes the text of a fault of a race. Where the writer fails, what was written is a beginning of it.
 pub fn write_race_fault<W: Sink>(fault: &RaceFault, err: &mut W) -> Result<(), Failed>
-    ensures ok { OnOk result (W.contents err.new ≡ append_known (W.contents err.old) (race_fault_text fault.now)) }
-    ensures beginning { OnErr result (AddsBeginning (W.contents err.old) (W.contents err.new) (race_fault_text fault.now)) }
-    ensures no_failure { OnOk result (W.failures err.new ≡ W.failures err.old) }
-    ensures one_failure { OnErr result (W.failures err.new ≡ one_more (W.failures err.old)) }
+    ensures { Writes W.contents W.failures result err.old err.new (race_fault_text fault.now) }
 {
     match fault {
         RaceFault::Setup(fault) => write_setup_fault(fault, err),

@@ -6,7 +6,7 @@ use crate::sink::Failed;
 use crate::source::Source;
 use std::io::Read;
 
-/// A reader whose failures are counted. What it has left is not known.
+/// A reader of the standard library whose failures are counted. What it has left is what the reader has left.
 #[derive(Drop)]
 pub struct Input<R: Read + Drop> {
     reader: R,
@@ -16,7 +16,8 @@ pub struct Input<R: Read + Drop> {
 impl<R: Read + Drop> Input<R> {
     /// The reader, of which no call has failed.
     pub fn new(reader: R) -> Self
-        ensures { result.failures ≡ 0 }
+        ensures reader { result.reader ≡ reader }
+        ensures failures { result.failures ≡ 0 }
     {
         Input {
             reader,
@@ -26,9 +27,7 @@ impl<R: Read + Drop> Input<R> {
 }
 
 impl<R: Read + Drop> Source for Input<R> {
-    ghost use Rattle.std.specs.Prelude.{None};
-
-    ghost remaining = { λ _. None };
+    ghost remaining = { λ input. R.remaining input.reader };
 
     ghost failures = { λ input. input.failures };
 

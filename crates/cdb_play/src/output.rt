@@ -5,7 +5,7 @@ ghost use Rattle.std.specs.Prelude.{◌≡◌};
 use crate::sink::{Failed, Sink};
 use std::io::Write;
 
-/// A writer whose failures are counted. What it holds is not known.
+/// A writer of the standard library whose failures are counted. What it holds is what the writer holds.
 #[derive(Drop)]
 pub struct Output<W: Write + Drop> {
     writer: W,
@@ -15,19 +15,25 @@ pub struct Output<W: Write + Drop> {
 impl<W: Write + Drop> Output<W> {
     /// The writer, of which no call has failed.
     pub fn new(writer: W) -> Self
-        ensures { result.failures ≡ 0 }
+        ensures writer { result.writer ≡ writer }
+        ensures failures { result.failures ≡ 0 }
     {
         Output {
             writer,
             failures: 0,
         }
     }
+
+    /// The writer, with what it holds.
+    pub fn into_inner(self) -> W
+        ensures { result ≡ self.writer }
+    {
+        self.writer
+    }
 }
 
 impl<W: Write + Drop> Sink for Output<W> {
-    ghost use Rattle.std.specs.Prelude.{None};
-
-    ghost contents = { λ _. None };
+    ghost contents = { λ out. W.contents out.writer };
 
     ghost failures = { λ out. out.failures };
 

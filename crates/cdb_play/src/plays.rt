@@ -1,21 +1,19 @@
 //! A script is played: its commands are carried out one after the other, and each reply is written.
 
-ghost use Rattle.std.specs.Prelude.{◌≡◌, ◌≢◌, ◌⊎◌, ℕ, ◌<◌, ◌≤◌, List, length, Err, IfOk, IfErr, OnOk, OnErr};
-ghost use Rattle.std.specs.Io.KnownBytes.{append_known};
-ghost use Rattle.cdb_control.specs.Commands.{answer};
-ghost use Rattle.cdb_control.specs.Journal.{extended, state_of};
+ghost use Rattle.std.specs.Prelude.{◌≡◌, ◌<◌, length, Err, IfErr, OnOk};
+ghost use Rattle.cdb_control.specs.Journal.{extended};
 ghost use Rattle.cdb_run.specs.Algorithms.{rules};
-ghost use Rattle.cdb_text.specs.Texts.{text_of};
-ghost use Rattle.cdb_play.specs.Faults.{IsFaultOfScript, IsFaultOfPlay, IsFaultOfWriting};
-ghost use Rattle.cdb_play.specs.Lines.{lines_of};
-ghost use Rattle.cdb_play.specs.Scripts.{AreCommandsOf};
-ghost use Rattle.cdb_setup.specs.Format.{longest};
-ghost use Rattle.cdb_play.specs.Streams.{AddsBeginning, IsReadToEnd, one_more};
-ghost use Rattle.cdb_play.specs.Transcripts.{transcript, Plays};
+ghost use Rattle.cdb_setup.specs.declared.fault.SetupFault.{SetupFault as SetupFaultName};
+ghost use Rattle.cdb_play.specs.Buffers.{Puts, Wrote};
+ghost use Rattle.cdb_play.specs.Faults.{IsFaultOfPlay};
+ghost use Rattle.cdb_play.specs.Streams.{FailsWhere};
+ghost use Rattle.cdb_play.specs.Transcripts.{reply_to, transcript, Plays};
+ghost use Rattle.cdb_play.specs.Written.{PlayWrites};
 
+use crate::buffer::{Buffer, OutputFault};
 use crate::fault::PlayFault;
 use crate::script::commands_of;
-use crate::sink::{Sink, write_all};
+use crate::sink::Sink;
 use crate::source::{Source, read_up_to};
 use cdb_base::limits::MAX_BYTES;
 use cdb_control::{CallFault, Command, Control, RunOfSetup, Runs};
@@ -23,67 +21,66 @@ use cdb_setup::Setup;
 use cdb_text::reply_text;
 use std::alloc::Global;
 
-/// Carries a command out for the only seat, and writes the text of the reply.
+/// Carries a command out for the only seat, and puts the text of the reply.
 fn perform<T: Runs, W: Sink>(
     alloc: Global,
     control: &mut Control<T>,
     command: Command,
+    buffer: &mut Buffer,
     out: &mut W,
-) -> Result<(), PlayFault>
+) -> Result<(), OutputFault>
     requires seats { control.old.seats ≡ 1 }
     requires room { length control.old.journal < 999999 }
     ensures done { OnOk result (control.new ≡ extended (T.rules control.old.setup) control.old 1 command) }
-    ensures ok { OnOk result (W.contents out.new ≡ append_known (W.contents out.old) (text_of (answer (T.rules control.old.setup) (state_of (T.rules control.old.setup) control.old) 1 command))) }
-    ensures err { OnErr result (AddsBeginning (W.contents out.old) (W.contents out.new) (text_of (answer (T.rules control.old.setup) (state_of (T.rules control.old.setup) control.old) 1 command))) }
-    ensures fault { IfErr result IsFaultOfWriting }
-    ensures write { result ≡ Err PlayFault.Write → W.failures out.new ≡ one_more (W.failures out.old) }
-    ensures unfailed { result ≢ Err PlayFault.Write → W.failures out.new ≡ W.failures out.old }
+    ensures put { Puts W.contents W.failures result out.old buffer.old out.new buffer.new
+        (reply_to T.rules control.old command) }
 {
     let reply = match control.execute(alloc, 1, command) {
         Ok(reply) => reply,
         Err(CallFault::JournalFull) => unreachable!(),
-        Err(CallFault::NoMemory) => return Err(PlayFault::NoMemory),
+        Err(CallFault::NoMemory) => return Err(OutputFault::NoMemory),
     };
     let text = reply_text(alloc, &reply)?;
-    write_all(out, text.as_slice())?;
+    buffer.put(out, text.as_slice())?;
     Ok(())
 }
 
 /// Carries the commands out, one after the other, on a run of the setup in which nothing has happened, and
-/// writes the text of each reply. After an error what was written is a beginning of the transcript.
+/// puts the text of each reply. After an error what was put is a beginning of the transcript.
 fn perform_all<T: Runs, W: Sink>(
     alloc: Global,
     setup: Setup,
     commands: &[Command],
+    buffer: &mut Buffer,
     out: &mut W,
-) -> Result<(), PlayFault>
+) -> Result<(), OutputFault>
     requires { length commands.now < 999999 }
-    ensures ok { OnOk result (W.contents out.new ≡ append_known (W.contents out.old) (transcript (T.rules setup) setup commands.now)) }
-    ensures err { OnErr result (AddsBeginning (W.contents out.old) (W.contents out.new) (transcript (T.rules setup) setup commands.now)) }
-    ensures fault { IfErr result IsFaultOfWriting }
-    ensures write { result ≡ Err PlayFault.Write → W.failures out.new ≡ one_more (W.failures out.old) }
-    ensures unfailed { result ≢ Err PlayFault.Write → W.failures out.new ≡ W.failures out.old }
+    ensures { Puts W.contents W.failures result out.old buffer.old out.new buffer.new
+        (transcript (T.rules setup) setup commands.now) }
 {
     let Ok(mut control) = Control::<T>::open(alloc, setup, 1) else {
-        return Err(PlayFault::NoMemory);
+        return Err(OutputFault::NoMemory);
     };
     for command in commands {
-        perform(alloc, &mut control, *command, out)?;
+        perform(alloc, &mut control, *command, buffer, out)?;
     }
     Ok(())
 }
 
-/// Reads a script to its end, and then its lines.
-fn read_script<R: Source>(alloc: Global, script: &mut R) -> Result<Vec<Command>, PlayFault>
-    ensures commands { IfOk result (λ commands. (bytes : List ℕ) × IsReadToEnd (R.remaining script.old) bytes (R.remaining script.new) × (length bytes ≤ longest) × AreCommandsOf commands.items (lines_of bytes)) }
-    ensures few { IfOk result (λ commands. length commands.items < 999999) }
-    ensures fault { IfErr result (λ fault. IsFaultOfScript fault (R.remaining script.old) (R.remaining script.new)) }
-    ensures read { result ≡ Err PlayFault.Read → R.failures script.new ≡ one_more (R.failures script.old) }
-    ensures unfailed { result ≢ Err PlayFault.Read → R.failures script.new ≡ R.failures script.old }
+/// Carries the commands out as `perform_all` does, and writes the transcript in pieces.
+fn write_transcript<T: Runs, W: Sink>(
+    alloc: Global,
+    setup: Setup,
+    commands: &[Command],
+    out: &mut W,
+) -> Result<(), OutputFault>
+    requires { length commands.now < 999999 }
+    ensures { Wrote W.contents W.failures result out.old out.new (transcript (T.rules setup) setup commands.now) }
 {
-    let bytes = read_up_to(alloc, script, MAX_BYTES + 1)?;
-    let commands = commands_of(alloc, bytes.as_slice())?;
-    Ok(commands)
+    let mut buffer = Buffer::new(alloc)?;
+    perform_all::<T, W>(alloc, setup, commands, &mut buffer, out)?;
+    buffer.flush(out)?;
+    Ok(())
 }
 
 /// Plays a script on a run of the setup, by the rules of such a run.
@@ -93,39 +90,38 @@ fn play_by<T: Runs, R: Source, W: Sink>(
     script: &mut R,
     out: &mut W,
 ) -> Result<(), PlayFault>
-    ensures ok { OnOk result ((text : List ℕ) × Plays T.rules setup.now (R.remaining script.old) (R.remaining script.new) text × (W.contents out.new ≡ append_known (W.contents out.old) text)) }
-    ensures beginning { OnErr result ((out.new ≡ out.old) ⊎ ((text : List ℕ) × Plays T.rules setup.now (R.remaining script.old) (R.remaining script.new) text × AddsBeginning (W.contents out.old) (W.contents out.new) text)) }
-    ensures unwritten { IfErr result (λ fault. (fault ≢ PlayFault.Write) → (fault ≢ PlayFault.NoMemory) → out.new ≡ out.old) }
-    ensures fault { IfErr result (λ fault. IsFaultOfPlay fault setup.now (R.remaining script.old) (R.remaining script.new)) }
-    ensures read { result ≡ Err PlayFault.Read → R.failures script.new ≡ one_more (R.failures script.old) }
-    ensures readable { result ≢ Err PlayFault.Read → R.failures script.new ≡ R.failures script.old }
-    ensures write { result ≡ Err PlayFault.Write → W.failures out.new ≡ one_more (W.failures out.old) }
-    ensures writable { result ≢ Err PlayFault.Write → W.failures out.new ≡ W.failures out.old }
+    ensures wrote { PlayWrites W.contents W.failures result out.old out.new
+        (Plays T.rules setup.now (R.remaining script.old) (R.remaining script.new)) }
+    ensures fault { IfErr result (λ fault.
+        IsFaultOfPlay fault setup.now (R.remaining script.old) (R.remaining script.new)) }
+    ensures unread { (fault : SetupFaultName) → result ≡ Err (PlayFault.Setup fault) → script.new ≡ script.old }
+    ensures read { FailsWhere R.failures (result ≡ Err PlayFault.Read) script.old script.new }
 {
     let setup = Setup::read(alloc, setup)?;
-    let commands = read_script(alloc, script)?;
-    perform_all::<T, W>(alloc, setup, commands.as_slice(), out)
+    let bytes = read_up_to(alloc, script, MAX_BYTES + 1)?;
+    let commands = commands_of(alloc, bytes.as_slice())?;
+    write_transcript::<T, W>(alloc, setup, commands.as_slice(), out)?;
+    Ok(())
 }
 
 /// Plays a script on a run of the setup, with seat 1 of one seat, and writes the text of each reply.
 ///
-/// The setup is read first, then the whole script, then all its lines: so after `Setup`, `Read`,
-/// `ScriptTooLong` and `Line` nothing was written. After `Write` and `NoMemory` what was written is a beginning
-/// of the transcript. `Read` and `Write` come only where the reader or the writer failed in this call.
+/// The setup is read first, then the whole script, then all its lines: so after `Setup` the script is not read,
+/// and after `Setup`, `Read`, `ScriptTooLong` and `Line` nothing was written. After `Write` what was written is a
+/// beginning of the transcript, and after `NoMemory` one of whole pieces of 65,536 bytes. `Read` and `Write` come
+/// only where the reader or the writer failed in this call.
 pub fn play<R: Source, W: Sink>(
     alloc: Global,
     setup: &[u8],
     script: &mut R,
     out: &mut W,
 ) -> Result<(), PlayFault>
-    ensures ok { OnOk result ((text : List ℕ) × Plays rules setup.now (R.remaining script.old) (R.remaining script.new) text × (W.contents out.new ≡ append_known (W.contents out.old) text)) }
-    ensures beginning { OnErr result ((out.new ≡ out.old) ⊎ ((text : List ℕ) × Plays rules setup.now (R.remaining script.old) (R.remaining script.new) text × AddsBeginning (W.contents out.old) (W.contents out.new) text)) }
-    ensures unwritten { IfErr result (λ fault. (fault ≢ PlayFault.Write) → (fault ≢ PlayFault.NoMemory) → out.new ≡ out.old) }
-    ensures fault { IfErr result (λ fault. IsFaultOfPlay fault setup.now (R.remaining script.old) (R.remaining script.new)) }
-    ensures read { result ≡ Err PlayFault.Read → R.failures script.new ≡ one_more (R.failures script.old) }
-    ensures readable { result ≢ Err PlayFault.Read → R.failures script.new ≡ R.failures script.old }
-    ensures write { result ≡ Err PlayFault.Write → W.failures out.new ≡ one_more (W.failures out.old) }
-    ensures writable { result ≢ Err PlayFault.Write → W.failures out.new ≡ W.failures out.old }
+    ensures wrote { PlayWrites W.contents W.failures result out.old out.new
+        (Plays rules setup.now (R.remaining script.old) (R.remaining script.new)) }
+    ensures fault { IfErr result (λ fault.
+        IsFaultOfPlay fault setup.now (R.remaining script.old) (R.remaining script.new)) }
+    ensures unread { (fault : SetupFaultName) → result ≡ Err (PlayFault.Setup fault) → script.new ≡ script.old }
+    ensures read { FailsWhere R.failures (result ≡ Err PlayFault.Read) script.old script.new }
 {
     play_by::<RunOfSetup, R, W>(alloc, setup, script, out)
 }

@@ -1,21 +1,21 @@
 //! A race: one thread for each process and one for each script, over one shared run, and its text.
 
-ghost use Rattle.std.specs.Prelude.{◌≡◌, ◌≢◌, ◌⊎◌, ℕ, ◌+◌, ◌≤◌, List, length, vec_len, Err, IfOk, IfErr, OnOk, OnErr};
-ghost use Rattle.std.specs.Io.KnownBytes.{append_known};
-ghost use Rattle.cdb_control.specs.Answer.{Answer};
-ghost use Rattle.cdb_control.specs.Journal.{Journaled};
-ghost use Rattle.cdb_race.specs.Races.{IsRaced};
+ghost use Rattle.std.specs.Prelude.{◌≡◌, ◌+◌, ◌≤◌, length, vec_len, IfOk, IfErr};
+ghost use Rattle.cdb_race.specs.Races.{AllPass};
+ghost use Rattle.cdb_run.specs.Agreement.{HasMajorityIfNeeded};
 ghost use Rattle.cdb_setup.specs.Format.{StandsFor};
 ghost use Rattle.cdb_setup.specs.Parts.{Parts};
-ghost use Rattle.cdb_play.specs.Races.{race_text, race_fault_of_script, bytes_of, AreScripts, IsTextOfRace, IsFaultOfScripts, IsFaultOfReading, IsFaultOfRunning, IsFaultOfRace};
-ghost use Rattle.cdb_play.specs.Streams.{AddsBeginning, one_more};
+ghost use Rattle.cdb_play.specs.Races.{race_fault_of_script, bytes_of, AreScripts, IsTextOnSetup, IsTextOfRace, IsFaultOnSetup, IsFaultOfRace};
+ghost use Rattle.cdb_play.specs.Races.{IsNotStopped, IsToldOnSetup, IsToldOfRace, IsUnstoppedOnSetup, IsUnstoppedOfRace};
+ghost use Rattle.cdb_play.specs.Races.{IsTextOfCommands, IsFaultOfScripts, IsFaultOfRunning, IsToldOfCommands};
+ghost use Rattle.cdb_play.specs.Written.{AgreesAtEnd, RaceWrites};
 
 mod text;
 
+use crate::buffer::{Buffer, OutputFault};
 use crate::fault::RaceFault;
 use crate::script::{ScriptFault, commands_of};
-use crate::sink::{Failed, Sink};
-use cdb_base::NoMemory;
+use crate::sink::Sink;
 use cdb_race::{RaceFault as ThreadFault, Script};
 use cdb_setup::{Setup, SetupFault};
 use cdb_shared::{Gate, Seat};
@@ -38,25 +38,17 @@ impl From<SetupFault> for RaceFault {
     }
 }
 
-impl From<Failed> for RaceFault {
+impl From<OutputFault> for RaceFault {
     ghost use Rattle.std.specs.Prelude.{◌≡◌};
-    ghost use Rattle.cdb_play.specs.declared.fault.RaceFault.TheVariants.{Write as write};
+    ghost use Rattle.cdb_play.specs.Races.{race_fault_of_output};
 
-    ghost from_gives = { λ _ made. made ≡ write };
+    ghost from_gives = { λ fault made. made ≡ race_fault_of_output fault };
 
-    fn from(_error: Failed) -> Self {
-        RaceFault::Write
-    }
-}
-
-impl From<NoMemory> for RaceFault {
-    ghost use Rattle.std.specs.Prelude.{◌≡◌};
-    ghost use Rattle.cdb_play.specs.declared.fault.RaceFault.TheVariants.{NoMemory as no_memory};
-
-    ghost from_gives = { λ _ made. made ≡ no_memory };
-
-    fn from(_error: NoMemory) -> Self {
-        RaceFault::NoMemory
+    fn from(fault: OutputFault) -> Self {
+        match fault {
+            OutputFault::Write => RaceFault::Write,
+            OutputFault::NoMemory => RaceFault::NoMemory,
+        }
     }
 }
 
@@ -93,6 +85,10 @@ impl From<ThreadFault> for RaceFault {
 pub struct Open;
 
 impl Gate for Open {
+    ghost use Rattle.std.specs.Prelude.{true};
+
+    ghost passes = { λ _. true };
+
     fn before(&mut self, _call: u32, _seat: &Seat) -> bool {
         true
     }
@@ -134,24 +130,7 @@ fn scripts_of(alloc: Global, scripts: &[Vec<u8>]) -> Result<Vec<Script>, RaceFau
     Ok(read)
 }
 
-/// Reads the setup, and then the scripts.
-fn read_all(
-    alloc: Global,
-    setup: &[u8],
-    scripts: &[Vec<u8>],
-) -> Result<(Setup, Vec<Script>), RaceFault>
-    ensures setup { IfOk result (λ all. StandsFor setup.now all.0) }
-    ensures scripts { IfOk result (λ all. AreScripts all.1.items (bytes_of scripts.now)) }
-    ensures count { IfOk result (λ all. vec_len all.1 ≡ length scripts.now) }
-    ensures fault { IfErr result (λ fault. IsFaultOfReading fault setup.now (bytes_of scripts.now)) }
-    ensures unwritten { result ≢ Err RaceFault.Write }
-{
-    let setup = Setup::read(alloc, setup)?;
-    let scripts = scripts_of(alloc, scripts)?;
-    Ok((setup, scripts))
-}
-
-/// Runs the race, and then writes its text.
+/// Runs the race, and then writes its text. The memory of the buffer is there before the threads start.
 fn run_race<G: Gate + Drop + Send, R: Threads + Wait + Sync, W: Sink>(
     rt: &R,
     alloc: Global,
@@ -163,26 +142,90 @@ fn run_race<G: Gate + Drop + Send, R: Threads + Wait + Sync, W: Sink>(
 ) -> Result<(), RaceFault>
     requires fits { setup.processes + length scripts.now ≤ 64 }
     requires gates { vec_len gates ≡ setup.processes + length scripts.now }
-    ensures ok { OnOk result ((c : Journaled) × (answers : List (List Answer)) × IsRaced setup turns scripts.now c answers × (W.contents out.new ≡ append_known (W.contents out.old) (race_text c))) }
-    ensures beginning { OnErr result ((out.new ≡ out.old) ⊎ ((c : Journaled) × (answers : List (List Answer)) × IsRaced setup turns scripts.now c answers × AddsBeginning (W.contents out.old) (W.contents out.new) (race_text c))) }
-    ensures unwritten { IfErr result (λ fault. (fault ≢ RaceFault.Write) → (fault ≢ RaceFault.NoMemory) → out.new ≡ out.old) }
+    ensures wrote { RaceWrites W.contents W.failures result out.old out.new
+        (IsTextOfCommands setup turns scripts.now) }
+    ensures agree { HasMajorityIfNeeded setup
+        → AgreesAtEnd W.contents W.failures result out.old out.new }
     ensures fault { IfErr result (IsFaultOfRunning (setup.processes + length scripts.now)) }
-    ensures write { result ≡ Err RaceFault.Write → W.failures out.new ≡ one_more (W.failures out.old) }
-    ensures writable { result ≢ Err RaceFault.Write → W.failures out.new ≡ W.failures out.old }
+    ensures told { IfErr result
+        (IsToldOfCommands G.heard G.passes setup turns scripts.now gates.items) }
+    ensures passes { AllPass G.passes gates.items → IfErr result IsNotStopped }
 {
+    let buffer = Buffer::new(alloc)?;
     let processes = usize::from(setup.n());
     let raced = cdb_race::race(rt, alloc, setup, turns, scripts, gates)?;
-    write_race(alloc, &raced.control, &raced.replies[processes..], out)
+    write_race(
+        alloc,
+        &raced.control,
+        &raced.replies[processes..],
+        buffer,
+        out,
+    )?;
+    Ok(())
 }
 
-/// Runs a race: each process is driven for so many turns by a seat of its own, and each script is served
-/// by a seat of its own, behind the gate of that seat. Then the text of the race is written: for each script
+/// Runs a race on a setup: each process is driven for so many turns by a seat of its own, and each script is served
+/// by a seat of its own, after the gate of that seat. Then the text of the race is written: for each script
 /// its seat and its replies, then the decisions of the last state, and whether they agree.
 ///
-/// The setup is read first, then each script by order, where `ScriptTooLong` is looked for before the first bad
-/// line: so after `Setup`, `ScriptTooLong` and `Line` nothing was written, nor after `JournalFull`, `Spawn` and
-/// `Stopped`, which come from the threads. After `Write` and `NoMemory` what was written is a beginning of the text.
-/// `Write` comes only where the writer failed in this call.
+/// Each script is read first, by order, where `ScriptTooLong` is looked for before the first bad line: so after
+/// `ScriptTooLong` and `Line` nothing was written, nor after `JournalFull`, `Spawn` and `Stopped`, which come from the
+/// threads. After `Write` what was written is a beginning of the text, and after `NoMemory` one of whole pieces of
+/// 65,536 bytes. `Write` comes only where the writer failed in this call, and `Setup` never.
+///
+/// With a majority, or in Alpha, the last line of a race that ended well is `decisions agree`. Of several faults of
+/// sessions that of the least seat is reported; `JournalFull` comes only where processes times turns and the commands
+/// of the scripts are 999,999 at least, and `Stopped` only of a gate that did not let a call go on.
+pub fn race_on_with<G: Gate + Drop + Send, R: Threads + Wait + Sync, W: Sink>(
+    rt: &R,
+    alloc: Global,
+    setup: Setup,
+    turns: u32,
+    scripts: &[Vec<u8>],
+    gates: Vec<G>,
+    out: &mut W,
+) -> Result<(), RaceFault>
+    requires turns { turns ≤ 99999 }
+    requires fits { setup.processes + length scripts.now ≤ 64 }
+    requires gates { vec_len gates ≡ setup.processes + length scripts.now }
+    ensures wrote { RaceWrites W.contents W.failures result out.old out.new
+        (IsTextOnSetup setup turns (bytes_of scripts.now)) }
+    ensures agree { HasMajorityIfNeeded setup
+        → AgreesAtEnd W.contents W.failures result out.old out.new }
+    ensures fault { IfErr result (λ fault. IsFaultOnSetup fault setup (bytes_of scripts.now)) }
+    ensures told { IfErr result
+        (IsToldOnSetup G.heard G.passes setup turns (bytes_of scripts.now) gates.items) }
+    ensures passes { AllPass G.passes gates.items → IfErr result IsNotStopped }
+{
+    let commands = scripts_of(alloc, scripts)?;
+    run_race(rt, alloc, setup, turns, commands.as_slice(), gates, out)
+}
+
+/// Runs a race as `race_on_with` does, with gates that always pass.
+pub fn race_on<R: Threads + Wait + Sync, W: Sink>(
+    rt: &R,
+    alloc: Global,
+    setup: Setup,
+    turns: u32,
+    scripts: &[Vec<u8>],
+    out: &mut W,
+) -> Result<(), RaceFault>
+    requires turns { turns ≤ 99999 }
+    requires fits { setup.processes + length scripts.now ≤ 64 }
+    ensures wrote { RaceWrites W.contents W.failures result out.old out.new
+        (IsTextOnSetup setup turns (bytes_of scripts.now)) }
+    ensures agree { HasMajorityIfNeeded setup
+        → AgreesAtEnd W.contents W.failures result out.old out.new }
+    ensures fault { IfErr result (λ fault. IsFaultOnSetup fault setup (bytes_of scripts.now)) }
+    ensures told { IfErr result (IsUnstoppedOnSetup setup turns (bytes_of scripts.now)) }
+{
+    let commands = scripts_of(alloc, scripts)?;
+    let gates = open_gates(alloc, usize::from(setup.n()) + commands.len())?;
+    run_race(rt, alloc, setup, turns, commands.as_slice(), gates, out)
+}
+
+/// Runs a race as `race_on_with` does, on the setup that a text of JSON stands for. The setup is read first: after
+/// `Setup` nothing was written.
 pub fn race_with<G: Gate + Drop + Send, R: Threads + Wait + Sync, W: Sink>(
     rt: &R,
     alloc: Global,
@@ -194,16 +237,19 @@ pub fn race_with<G: Gate + Drop + Send, R: Threads + Wait + Sync, W: Sink>(
 ) -> Result<(), RaceFault>
     requires turns { turns ≤ 99999 }
     requires fits { (parts : Parts) → StandsFor setup.now parts → parts.processes + length scripts.now ≤ 64 }
-    requires gates { (parts : Parts) → StandsFor setup.now parts → vec_len gates ≡ parts.processes + length scripts.now }
-    ensures ok { OnOk result ((text : List ℕ) × IsTextOfRace setup.now turns (bytes_of scripts.now) text × (W.contents out.new ≡ append_known (W.contents out.old) text)) }
-    ensures beginning { OnErr result ((out.new ≡ out.old) ⊎ ((text : List ℕ) × IsTextOfRace setup.now turns (bytes_of scripts.now) text × AddsBeginning (W.contents out.old) (W.contents out.new) text)) }
-    ensures unwritten { IfErr result (λ fault. (fault ≢ RaceFault.Write) → (fault ≢ RaceFault.NoMemory) → out.new ≡ out.old) }
+    requires gates { (parts : Parts) → StandsFor setup.now parts
+        → vec_len gates ≡ parts.processes + length scripts.now }
+    ensures wrote { RaceWrites W.contents W.failures result out.old out.new
+        (IsTextOfRace setup.now turns (bytes_of scripts.now)) }
+    ensures agree { (parts : Parts) → StandsFor setup.now parts → HasMajorityIfNeeded parts
+        → AgreesAtEnd W.contents W.failures result out.old out.new }
     ensures fault { IfErr result (λ fault. IsFaultOfRace fault setup.now (bytes_of scripts.now)) }
-    ensures write { result ≡ Err RaceFault.Write → W.failures out.new ≡ one_more (W.failures out.old) }
-    ensures writable { result ≢ Err RaceFault.Write → W.failures out.new ≡ W.failures out.old }
+    ensures told { IfErr result
+        (IsToldOfRace G.heard G.passes setup.now turns (bytes_of scripts.now) gates.items) }
+    ensures passes { AllPass G.passes gates.items → IfErr result IsNotStopped }
 {
-    let (parts, commands) = read_all(alloc, setup, scripts)?;
-    run_race(rt, alloc, parts, turns, commands.as_slice(), gates, out)
+    let parts = Setup::read(alloc, setup)?;
+    race_on_with(rt, alloc, parts, turns, scripts, gates, out)
 }
 
 /// Runs a race as `race_with` does, with gates that always pass.
@@ -217,14 +263,13 @@ pub fn race<R: Threads + Wait + Sync, W: Sink>(
 ) -> Result<(), RaceFault>
     requires turns { turns ≤ 99999 }
     requires fits { (parts : Parts) → StandsFor setup.now parts → parts.processes + length scripts.now ≤ 64 }
-    ensures ok { OnOk result ((text : List ℕ) × IsTextOfRace setup.now turns (bytes_of scripts.now) text × (W.contents out.new ≡ append_known (W.contents out.old) text)) }
-    ensures beginning { OnErr result ((out.new ≡ out.old) ⊎ ((text : List ℕ) × IsTextOfRace setup.now turns (bytes_of scripts.now) text × AddsBeginning (W.contents out.old) (W.contents out.new) text)) }
-    ensures unwritten { IfErr result (λ fault. (fault ≢ RaceFault.Write) → (fault ≢ RaceFault.NoMemory) → out.new ≡ out.old) }
+    ensures wrote { RaceWrites W.contents W.failures result out.old out.new
+        (IsTextOfRace setup.now turns (bytes_of scripts.now)) }
+    ensures agree { (parts : Parts) → StandsFor setup.now parts → HasMajorityIfNeeded parts
+        → AgreesAtEnd W.contents W.failures result out.old out.new }
     ensures fault { IfErr result (λ fault. IsFaultOfRace fault setup.now (bytes_of scripts.now)) }
-    ensures write { result ≡ Err RaceFault.Write → W.failures out.new ≡ one_more (W.failures out.old) }
-    ensures writable { result ≢ Err RaceFault.Write → W.failures out.new ≡ W.failures out.old }
+    ensures told { IfErr result (IsUnstoppedOfRace setup.now turns (bytes_of scripts.now)) }
 {
-    let (setup, scripts) = read_all(alloc, setup, scripts)?;
-    let gates = open_gates(alloc, usize::from(setup.n()) + scripts.len())?;
-    run_race(rt, alloc, setup, turns, scripts.as_slice(), gates, out)
+    let parts = Setup::read(alloc, setup)?;
+    race_on(rt, alloc, parts, turns, scripts, out)
 }

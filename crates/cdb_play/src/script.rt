@@ -1,10 +1,9 @@
 //! The commands of a script.
 
-ghost use Rattle.std.specs.Prelude.{◌≡◌, ◌↔◌, ℕ, ◌+◌, ◌*◌, ◌<◌, ◌≤◌, [], ◌∷◌, ◌++◌, length, Err, IfOk, OnOk};
-ghost use Rattle.cdb_text.specs.declared.fault.LineFault.{LineFault as LineFaultName};
+ghost use Rattle.std.specs.Prelude.{◌≡◌, ◌+◌, ◌*◌, ◌≤◌, [], ◌∷◌, ◌++◌, length, IfOk, IfErr, OnOk};
 ghost use Rattle.cdb_play.specs.Lines.{lines_of};
 ghost use Rattle.cdb_setup.specs.Format.{longest};
-ghost use Rattle.cdb_play.specs.Scripts.{AreCommandsOf, IsFirstBadLine};
+ghost use Rattle.cdb_play.specs.Scripts.{AreCommandsOf, IsFaultOfScript};
 
 use crate::lines::first_line;
 use cdb_base::limits::MAX_BYTES;
@@ -52,8 +51,8 @@ pub fn commands_of(alloc: Global, script: &[u8]) -> Result<Vec<Command>, ScriptF
     ensures commands { IfOk result (λ commands. AreCommandsOf commands.items (lines_of script.now)) }
     // No line is empty, so two bytes at least stand for each but the last.
     ensures few { IfOk result (λ commands. 2 * length commands.items ≤ length script.now + 1) }
-    ensures line { (place : ℕ) → (fault : LineFaultName) → result ≡ Err (ScriptFault.Line place fault) → IsFirstBadLine place fault (lines_of script.now) }
-    ensures too_long { (result ≡ Err ScriptFault.TooLong) ↔ (longest < length script.now) }
+    ensures short { IfOk result (λ _. length script.now ≤ longest) }
+    ensures fault { IfErr result (λ fault. IsFaultOfScript fault script.now) }
 {
     if script.len() > MAX_BYTES {
         return Err(ScriptFault::TooLong);

@@ -1,8 +1,9 @@
 //! Readers.
 
-ghost use Rattle.std.specs.Prelude.{◌≡◌, ◌≢◌, ℕ, ◌<◌, ◌≤◌, List, take, length, Option, Err, IfOk, is_err};
-ghost use Rattle.std.specs.Io.KnownBytes.{prepend_known, IsAtEnd};
-ghost use Rattle.cdb_play.specs.Streams.{counted, one_more};
+ghost use Rattle.std.specs.Prelude.{◌≡◌, ℕ, ◌<◌, ◌≤◌, List, length, Option, Err, IfOk, is_err};
+ghost use Rattle.std.specs.Io.{ReadsAtMost};
+ghost use Rattle.std.specs.Io.KnownBytes.{Consumes, IsAtEnd, ReadConsumes};
+ghost use Rattle.cdb_play.specs.Streams.{counted, FailsWhere};
 
 use crate::sink::Failed;
 use std::alloc::{AllocError, Global};
@@ -15,12 +16,11 @@ pub trait Source {
     /// How many of its calls have failed, in 64 bits.
     ghost failures: { Self → ℕ };
 
-    /// Puts the next bytes at the front of the buffer, and answers how many. It answers 0 at the end,
-    /// and where the buffer is empty.
+    /// Puts the next bytes at the front of the buffer, and returns how many: 0 at the end, and where the buffer
+    /// is empty. After an error as many are left as before.
     fn read(&mut self, buffer: &mut [u8]) -> Result<usize, Failed>
-        ensures within { IfOk result (λ count. count ≤ length buffer.old) }
-        ensures taken { IfOk result (λ count. remaining self.old ≡ prepend_known (take count buffer.new) (remaining self.new)) }
-        ensures end { IfOk result (λ count. count ≡ 0 → 0 < length buffer.old → IsAtEnd (remaining self.new)) }
+        ensures within { ReadsAtMost result buffer.new }
+        ensures bytes { ReadConsumes (remaining self.old) (remaining self.new) result buffer.new }
         ensures failures { failures self.new ≡ counted (is_err result) (failures self.old) };
 }
 
@@ -64,11 +64,10 @@ pub fn read_up_to<R: Source>(
     source: &mut R,
     most: usize,
 ) -> Result<Vec<u8>, ReadFault>
-    ensures taken { IfOk result (λ bytes. R.remaining source.old ≡ prepend_known bytes.items (R.remaining source.new)) }
+    ensures taken { IfOk result (λ bytes. Consumes (R.remaining source.old) (R.remaining source.new) bytes.items) }
     ensures most { IfOk result (λ bytes. length bytes.items ≤ most) }
     ensures end { IfOk result (λ bytes. length bytes.items < most → IsAtEnd (R.remaining source.new)) }
-    ensures failed { result ≡ Err ReadFault.Failed → R.failures source.new ≡ one_more (R.failures source.old) }
-    ensures unfailed { result ≢ Err ReadFault.Failed → R.failures source.new ≡ R.failures source.old }
+    ensures failed { FailsWhere R.failures (result ≡ Err ReadFault.Failed) source.old source.new }
 {
     let mut bytes = Vec::new(alloc);
     let mut buffer = [0u8; PIECE];

@@ -5,6 +5,7 @@
 ghost use Rattle.std.specs.Prelude.{◌≡◌, ℕ, ◌↔◌, ◌≤◌, Option, Some, IsTrue, IsSome, IfOk, OnErr};
 ghost use Rattle.cdb_process.specs.declared.Input.{Input};
 ghost use Rattle.cdb_process.specs.declared.Wish.{Wish};
+ghost use Rattle.cdb_process.specs.Table.{Table};
 ghost use Rattle.cdb_process.specs.Process.{QueryHangsOnStateAlone, RecvHangsOnStateAlone, WishNamesSend, WishNamesRead, WishNamesWrite, WishNamesLocal};
 
 use cdb_base::{Cell, NoMemory, Payload, Proc, Reg, Val};
@@ -47,49 +48,32 @@ pub trait Process: Sized + Drop {
     /// What an input consumed or overwrote, for going back.
     type Back: Drop;
 
-    // The first local state of process `me` of `n`, with a quorum and an input of its own.
-    ghost first: { ℕ → ℕ → ℕ → ℕ → Self };
-
-    // The local state after an input, where the machine accepts the input.
-    ghost next: { Self → Input → Option Self };
+    // What the machine is, as a table over its local states.
+    ghost table: { Table Self };
 
     // The local state from which an input led to this one, by what the input left for going back.
     ghost before: { Self → Self.Back → Self };
-
-    // What the process would do of itself, where there is something.
-    ghost wish: { Self → Option Wish };
-
-    // The value that the process decided, if it has.
-    ghost decision: { Self → Option ℕ };
-
-    // The number of the place in the machine's table.
-    ghost place: { Self → ℕ };
-
-    ghost round: { Self → ℕ };
-
-    // The place at which the machine is done.
-    ghost last_place: { ℕ };
 
     /// The machine of process `me` of `n`, at most 9, before its first step. The quorum `q` is from 1
     /// to `n`. `NoMemory` if a growth is refused.
     fn first(alloc: Global, me: Proc, n: u8, q: u8, input: Val) -> Result<Self, NoMemory>
         requires among { (me ≤ n) × (n ≤ 9) }
         requires quorum { (1 ≤ q) × (q ≤ n) }
-        ensures { IfOk result (λ local. local ≡ first me n q input) };
+        ensures { IfOk result (λ local. local ≡ table.first me n q input) };
 
     /// What the process would do of itself: a send, a read, a write or a local step.
     fn wish(&self) -> Option<Wish>
-        ensures { result ≡ wish self.now };
+        ensures { result ≡ table.wish self.now };
 
     /// Whether the machine accepts the input now.
     fn accepts(&self, i: &Input) -> bool
-        ensures { IsTrue result ↔ IsSome (next self.now i.now) };
+        ensures { IsTrue result ↔ IsSome (table.next self.now i.now) };
 
     /// Takes an input that is accepted, and answers what `put_back` needs to undo it. After `NoMemory`
     /// the local state is as it was.
     fn take(&mut self, alloc: Global, i: Input) -> Result<Self::Back, NoMemory>
-        requires { IsSome (next self.old i) }
-        ensures after { IfOk result (λ _. next self.old i ≡ Some self.new) }
+        requires { IsSome (table.next self.old i) }
+        ensures after { IfOk result (λ _. table.next self.old i ≡ Some self.new) }
         ensures back { IfOk result (λ b. before self.new b ≡ self.old) }
         ensures unchanged { OnErr result (self.new ≡ self.old) };
 
@@ -100,28 +84,28 @@ pub trait Process: Sized + Drop {
 
     /// The value that the process decided: some exactly at the last place.
     fn decision(&self) -> Option<Val>
-        ensures value { result ≡ decision self.now }
-        ensures at_last_place { IsSome result ↔ (place self.now ≡ last_place) };
+        ensures value { result ≡ table.decision self.now }
+        ensures at_last_place { IsSome result ↔ (table.place self.now ≡ table.last_place) };
 
     /// The number of the place in the machine's table.
     fn place(&self) -> u8
-        ensures { result ≡ place self.now };
+        ensures { result ≡ table.place self.now };
 
     /// The round that the process is in.
     fn round(&self) -> u32
-        ensures { result ≡ round self.now };
+        ensures { result ≡ table.round self.now };
 
-    ghost query_by_state: { QueryHangsOnStateAlone next };
+    ghost query_by_state: { QueryHangsOnStateAlone table.next };
 
-    ghost recv_by_state: { RecvHangsOnStateAlone next };
+    ghost recv_by_state: { RecvHangsOnStateAlone table.next };
 
-    ghost wish_send: { WishNamesSend next wish };
+    ghost wish_send: { WishNamesSend table.next table.wish };
 
-    ghost wish_read: { WishNamesRead next wish };
+    ghost wish_read: { WishNamesRead table.next table.wish };
 
-    ghost wish_write: { WishNamesWrite next wish };
+    ghost wish_write: { WishNamesWrite table.next table.wish };
 
-    ghost wish_local: { WishNamesLocal next wish };
+    ghost wish_local: { WishNamesLocal table.next table.wish };
 }
 
 /// A machine whose local states can be compared.
@@ -133,14 +117,15 @@ pub trait SameState: Process {
 
 /// Whether the machine accepts a query now, whoever is named.
 pub fn accepts_query<P: Process>(local: &P) -> bool
-    ensures { (l : ℕ) → IsTrue result ↔ IsSome (P.next local.now (Input.Query l)) }
+    ensures { (l : ℕ) → IsTrue result ↔ IsSome (P.table.next local.now (Input.Query l)) }
 {
     local.accepts(&Input::Query(Proc::new(1)))
 }
 
 /// Whether the machine accepts a receive now, whoever sent and whatever was sent.
 pub fn accepts_receive<P: Process>(local: &P) -> bool
-    ensures { (s : ℕ) (x : Payload) → IsTrue result ↔ IsSome (P.next local.now (Input.Recv s x)) }
+    ensures { (s : ℕ) (x : Payload) →
+        IsTrue result ↔ IsSome (P.table.next local.now (Input.Recv s x)) }
 {
     let any = Payload::D { est: Val::new(0) };
     local.accepts(&Input::Recv(Proc::new(1), any))

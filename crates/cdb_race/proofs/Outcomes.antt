@@ -6,6 +6,7 @@ use Rattle.cdb_control.proofs.Own.{replies_of-same}
 use Rattle.cdb_control.specs.Answer.{Answer}
 use Rattle.cdb_control.specs.Journal.{Journaled, opened, own, replies_of, AreOfSeats}
 use Rattle.cdb_control.specs.declared.command.Command.{Command}
+use Rattle.cdb_race.specs.Faults.{AreFresh}
 use Rattle.cdb_race.specs.Plans.{IsReady, seats_of}
 use Rattle.cdb_race.specs.Races.{AllFinished, AllRan, AreSeatsOf, IsRaced, answers_to}
 use Rattle.cdb_race.specs.Runs.{IsDrivenOut, HasFinished}
@@ -15,11 +16,6 @@ use Rattle.cdb_run.specs.Algorithms.{rules}
 use Rattle.cdb_setup.specs.Parts.{Parts}
 use Rattle.cdb_shared.specs.Seats.{SeatView, RestsAt, IsKnownBy, fresh_seat, fresh_seats}
 use Rattle.cdb_shared.specs.Sessions.{calls_of, replies_to}
-
--- the seats of a control in which nothing has happened
-pub record AreFresh (shared : TableId) (setup : Parts) (count : ℕ) (seats : List SeatView) : Type 0 where
-  pub many : length seats ≡ count
-  pub each : (k : ℕ) (d : SeatView) → k < count → get_or seats k d ≡ fresh_seat shared (opened setup count) (1 + k)
 
 pub fresh : (shared : TableId) (setup : Parts) (plan : Plan) (count : ℕ) (c : Journaled) (seats : List SeatView) → c ≡ opened setup count → count ≡ seats_of plan → seats ≡ fresh_seats shared c 1 c.seats → AreFresh shared setup (seats_of plan) seats
 fresh shared setup plan count c seats is planned dealt =

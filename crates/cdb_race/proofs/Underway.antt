@@ -4,7 +4,7 @@ use Rattle.atomic_table.specs.Seated.{TableId}
 use Rattle.cdb_control.specs.Answer.{told}
 use Rattle.cdb_control.specs.Journal.{Journaled, opened, own, AreOfSeats}
 use Rattle.cdb_control.specs.declared.command.Command.TheVariants.{Auto}
-use Rattle.cdb_race.specs.Faults.{fault_at}
+use Rattle.cdb_race.specs.Faults.{fault_at, AreFresh}
 use Rattle.cdb_race.specs.Plans.{seats_of}
 use Rattle.cdb_race.specs.Promises.{HasRan}
 use Rattle.cdb_race.specs.Races.{AllRan, AreSeatsOf, IsUnderWay}
@@ -16,7 +16,7 @@ use Rattle.cdb_setup.specs.Parts.{Parts}
 use Rattle.cdb_shared.specs.Seats.{SeatView, IsKnownBy, fresh_seat}
 use Rattle.cdb_shared.specs.declared.session.End.{End}
 use Rattle.cdb_shared.specs.declared.session.End.TheVariants.{All as AllDone, Done, Stopped, NoMemory, JournalFull}
-use Rattle.cdb_race.proofs.Outcomes.{AreFresh, own_known}
+use Rattle.cdb_race.proofs.Outcomes.{own_known}
 
 -- equal answers have equal faults
 pub same_fault : {A : Type 0} (x y : Result A RaceFault) (a b : RaceFault) → x ≡ Err a → y ≡ Err b → x ≡ y → a ≡ b

@@ -1,15 +1,25 @@
 -- Which fault a race answers.
-use Rattle.std.specs.Prelude.{◌≡◌, ℕ, ◌<◌, List, length, slice_index_or, Option, Some, None}
+use Rattle.std.specs.Prelude.{◌≡◌, ◌⊎◌, ℕ, ◌+◌, ◌<◌, Bool, List, All, length, slice_index_or, Option, Some, None, Vec, vec_len}
+use Rattle.std.specs.Global.{Global}
+use Rattle.atomic_table.specs.Seated.{TableId}
+use Rattle.cdb_control.specs.Journal.{opened}
+use Rattle.cdb_control.specs.declared.command.Command.{Command}
+use Rattle.cdb_control.specs.declared.reply.Reply.{Reply}
+use Rattle.cdb_race.specs.Plans.{seats_of}
+use Rattle.cdb_race.specs.Races.{all_told, AllRan, AllEnded, AllFinished}
+use Rattle.cdb_race.specs.declared.plan.Plan.{Plan}
 use Rattle.cdb_race.specs.declared.threads.RaceFault.{RaceFault}
 use Rattle.cdb_race.specs.declared.threads.RaceFault.TheVariants as fault
 use Rattle.cdb_race.specs.declared.worker.Ran.{Ran}
-use Rattle.cdb_setup.specs.Parts.{IsWithin}
+use Rattle.cdb_setup.specs.Parts.{Parts, IsWithin}
+use Rattle.cdb_shared.specs.Gates.{Heard}
+use Rattle.cdb_shared.specs.Seats.{SeatView, fresh_seat}
 use Rattle.cdb_shared.specs.declared.session.End.{End}
-use Rattle.cdb_shared.specs.declared.session.End.TheVariants.{All, Done, Stopped, NoMemory, JournalFull}
+use Rattle.cdb_shared.specs.declared.session.End.TheVariants.{All as AllDone, Done, Stopped, NoMemory, JournalFull}
 
 -- the fault of a seat whose session did not end well
 abbrev pub fault_at : ℕ → End → Option RaceFault
-fault_at seat All = None
+fault_at seat AllDone = None
 fault_at seat Done = None
 fault_at seat Stopped = Some (fault.Stopped seat)
 fault_at seat NoMemory = Some fault.NoMemory
@@ -18,6 +28,16 @@ fault_at seat JournalFull = Some fault.JournalFull
 -- that of what a thread hands back
 abbrev pub fault_in : Ran → Option RaceFault
 fault_in ran = fault_at ran.seat.number ran.end
+
+-- none of the sessions has one
+abbrev pub AreWell : List Ran → Type 0
+AreWell rans = All (λ ran. fault_in ran ≡ None) rans
+
+-- where none has, these are the seats and the replies of a race whose seats have finished
+abbrev pub HaveFinished : Vec Ran Global → Vec SeatView Global → Vec (Vec Reply Global) Global → Type 0
+HaveFinished rans seats replies =
+    (plan : Plan) (before : List SeatView) → length before ≡ vec_len rans → AllRan plan before rans.items → AreWell rans.items
+    → AllFinished plan before seats.items (all_told replies.items)
 
 -- of the seats that have a fault the least has this one. The last seat's outcome comes first
 pub record IsOfLeastSeat (fault : RaceFault) (rans : List Ran) : Type 0 where
@@ -33,8 +53,38 @@ abbrev pub IsAmongSeats : ℕ → RaceFault → Type 0
 IsAmongSeats seats (fault.Stopped seat) = IsWithin 1 seats seat
 IsAmongSeats seats other = Unit {0}
 
+-- it is not that of a gate which stopped a session
+abbrev pub IsNotStopped : RaceFault → Type 0
+IsNotStopped (fault.Stopped seat) = ⊥
+IsNotStopped other = Unit {0}
+
 -- the faults of starting the threads and of joining them
 abbrev pub IsFaultOfThreads : RaceFault → Type 0
 IsFaultOfThreads fault.NoMemory = Unit {0}
 IsFaultOfThreads fault.Spawn = Unit {0}
 IsFaultOfThreads other = ⊥
+
+-- the seats of a control in which nothing has happened
+pub record AreFresh (shared : TableId) (setup : Parts) (count : ℕ) (seats : List SeatView) : Type 0 where
+  pub many : length seats ≡ count
+  pub each : (k : ℕ) (d : SeatView) → k < count → slice_index_or seats k d ≡ fresh_seat shared (opened setup count) (1 + k)
+
+-- each seat has run, its session ended by its gate, and of the seats whose session a fault ended the least has this one
+pub record IsFaultOfSeats {G : Type 0} (heard : G → Option (List Heard)) (passes : G → Bool) (setup : Parts) (turns : ℕ) (scripts : List (List Command)) (gates : List G) (fault : RaceFault) : Type 0 where
+  pub plan : Plan
+  pub processes_are : plan.processes ≡ setup.processes
+  pub turns_are : plan.turns ≡ turns
+  pub scripts_are : plan.scripts.now ≡ scripts
+  pub shared : TableId
+  pub seats : List SeatView
+  pub new : AreFresh shared setup (seats_of plan) seats
+  pub rans : List Ran
+  pub many : length rans ≡ seats_of plan
+  pub ran : AllRan plan seats rans
+  pub ended : AllEnded heard passes gates seats rans
+  pub least : IsOfLeastSeat fault rans
+
+-- a fault of starting or joining the threads, or that of a seat
+abbrev pub IsTold : {G : Type 0} → (G → Option (List Heard)) → (G → Bool) → Parts → ℕ → List (List Command) → List G → RaceFault → Type 0
+IsTold heard passes setup turns scripts gates fault =
+    IsFaultOfThreads fault ⊎ IsFaultOfSeats heard passes setup turns scripts gates fault

@@ -1,17 +1,20 @@
 -- What a race has done.
-use Rattle.std.specs.Prelude.{◌≡◌, ℕ, ◌+◌, ◌-◌, ◌<◌, ◌≤◌, List, [], length, map, replicate, take, slice_index_or, Vec}
+use Rattle.std.specs.Prelude.{◌≡◌, ℕ, ◌+◌, ◌-◌, ◌*◌, ◌<◌, ◌≤◌, Bool, true, List, [], Option, All, length, map, replicate, sum, take, slice_index_or, Vec}
 use Rattle.std.specs.Global.{Global}
+use Rattle.cdb_base.specs.declared.limits.TheConstants.{MAX_ENTRIES}
 use Rattle.cdb_control.specs.Answer.{Answer, told}
 use Rattle.cdb_control.specs.Journal.{Journaled, own, replies_of, AreOfSeats}
 use Rattle.cdb_control.specs.declared.command.Command.{Command}
 use Rattle.cdb_control.specs.declared.command.Command.TheVariants.{Auto}
 use Rattle.cdb_control.specs.declared.reply.Reply.{Reply}
-use Rattle.cdb_race.specs.Promises.{HasRan}
+use Rattle.cdb_race.specs.Promises.{HasRan, HasEnded}
 use Rattle.cdb_race.specs.Runs.{HasFinished, IsDrivenOut}
 use Rattle.cdb_race.specs.declared.plan.Plan.{Plan}
+use Rattle.cdb_race.specs.declared.threads.Raced.{Raced}
 use Rattle.cdb_race.specs.declared.worker.Ran.{Ran}
 use Rattle.cdb_run.specs.Algorithms.{rules}
 use Rattle.cdb_setup.specs.Parts.{Parts}
+use Rattle.cdb_shared.specs.Gates.{Heard}
 use Rattle.cdb_shared.specs.Seats.{SeatView}
 
 -- what lists of replies tell
@@ -22,6 +25,16 @@ all_told replies = map (λ list. map told list.items) replies
 abbrev pub AllRan : Plan → List SeatView → List Ran → Type 0
 AllRan plan seats rans =
     (k : ℕ) (ran : Ran) → k < length rans → (before : SeatView) → HasRan plan (slice_index_or seats (length seats - 1 - k) before) (slice_index_or rans k ran)
+
+-- how the sessions of these outcomes ended, by their gates; the last gate's and seat's first
+abbrev pub AllEnded : {G : Type 0} → (G → Option (List Heard)) → (G → Bool) → List G → List SeatView → List Ran → Type 0
+AllEnded {G} heard passes gates seats rans =
+    (k : ℕ) (ran : Ran) (gate : G) → k < length rans → (before : SeatView)
+    → HasEnded heard passes (slice_index_or gates (length gates - 1 - k) gate) (slice_index_or seats (length seats - 1 - k) before) (slice_index_or rans k ran).seat (slice_index_or rans k ran).end
+
+-- each of these gates lets every call go on
+abbrev pub AllPass : {G : Type 0} → (G → Bool) → List G → Type 0
+AllPass passes gates = All (λ gate. passes gate ≡ true) gates
 
 -- these are the seats of the outcomes, the first seat first
 abbrev pub AreSeatsOf : List SeatView → List Ran → Type 0
@@ -56,3 +69,19 @@ pub record IsUnderWay (setup : Parts) (turns : ℕ) (scripts : List (List Comman
   pub entries : AreOfSeats c.seats c.journal
   pub driven : (p : ℕ) → 1 ≤ p → p ≤ setup.processes → (count : ℕ) × (count ≤ turns) × (own p c.journal ≡ replicate count (Auto p))
   pub served : (k : ℕ) → k < length scripts → (count : ℕ) × (own (setup.processes + k + 1) c.journal ≡ take count (slice_index_or scripts k []))
+
+-- how many calls a race makes at most: of each process its turns, and each command of each script
+abbrev pub most_calls : Parts → ℕ → List (List Command) → ℕ
+most_calls setup turns scripts = setup.processes * turns + sum (map length scripts)
+
+-- a race whose final control and replies are these
+abbrev pub HasRaced : Parts → ℕ → List (List Command) → Raced → Type 0
+HasRaced setup turns scripts raced = IsRaced setup turns scripts raced.control (all_told raced.replies.items)
+
+-- a race under way has come to a full journal
+abbrev pub FillsJournal : Parts → ℕ → List (List Command) → Type 0
+FillsJournal setup turns scripts = (c : Journaled) × IsUnderWay setup turns scripts c × (length c.journal ≡ MAX_ENTRIES)
+
+-- a race makes, at most, as many calls as a journal has entries at most
+abbrev pub MayFill : Parts → ℕ → List (List Command) → Type 0
+MayFill setup turns scripts = MAX_ENTRIES ≤ most_calls setup turns scripts

@@ -1,16 +1,13 @@
 //! Starting and joining the threads of a race.
-ghost use Rattle.std.specs.Prelude.{◌≡◌, ℕ, ◌+◌, ◌-◌, ◌<◌, ◌≤◌, List, length, vec_len, All, IfOk, IfErr, MatchOption, None, Err, slice_index_or};
-ghost use Rattle.cdb_control.specs.Journal.{Journaled};
-ghost use Rattle.cdb_race.specs.Faults.{fault_in, IsAmongSeats, IsFaultOfThreads, IsOfLeastSeat};
+ghost use Rattle.std.specs.Prelude.{◌≡◌, ◌+◌, ◌<◌, ◌≤◌, length, vec_len, All, IfOk, IfErr, MatchOption, Err};
+ghost use Rattle.cdb_race.specs.Faults.{fault_in, AreWell, HaveFinished, IsAmongSeats, IsFaultOfThreads, IsNotStopped, IsOfLeastSeat, IsTold};
 ghost use Rattle.cdb_race.specs.Plans.{IsReady};
-ghost use Rattle.cdb_race.specs.Promises.{IsPromise, HasRan};
-ghost use Rattle.cdb_race.specs.Races.{all_told, AllRan, AllFinished, AreSeatsOf, IsRaced, IsUnderWay};
-ghost use Rattle.cdb_race.specs.declared.plan.Plan.{Plan as Planned};
-ghost use Rattle.cdb_shared.specs.Seats.{SeatView};
+ghost use Rattle.cdb_race.specs.Promises.{ArePromises, IsPromise, HasRan, HasEnded};
+ghost use Rattle.cdb_race.specs.Races.{AllRan, AllEnded, AllPass, AreSeatsOf, FillsJournal, HasRaced, MayFill};
+ghost use Rattle.cdb_shared.specs.Seats.{HasHeadline};
 
 use crate::plan::{Plan, Script};
 use crate::worker::{Ran, SeatPromise, run};
-use cdb_base::limits::MAX_ENTRIES;
 use cdb_control::{Control, Reply, RunOfSetup};
 use cdb_setup::Setup;
 use cdb_shared::{End, Gate, Seat, Shared};
@@ -40,20 +37,22 @@ fn start_one<'s, E, G: Gate + Drop + Send + 's, R: Threads + Wait + Sync>(
     plan: Plan<'s>,
     seat: Seat,
     gate: G,
-) -> Result<PromisedHandle<Ran, SeatPromise<'s>>, RaceFault>
+) -> Result<PromisedHandle<Ran, SeatPromise<'s, G>>, RaceFault>
     requires { IsReady shared.now plan seat }
-    ensures promise { IfOk result (λ handle. IsPromise plan.entry seat handle.promise) }
+    ensures promise { IfOk result (λ handle. IsPromise plan.entry seat gate handle.promise) }
     ensures fault { IfErr result IsFaultOfThreads }
 {
     let promise = SeatPromise {
         plan,
         seat: Snapshot::of(&seat),
+        gate: Snapshot::of(&gate),
     };
     let started = scope.spawn_with(
         promise,
         move || -> Ran
             requires { IsReady shared.now plan seat }
-            ensures { HasRan plan.entry seat result }
+            ensures ran { HasRan plan.entry seat result }
+            ensures ended { HasEnded G.heard G.passes gate seat result.seat result.end }
         { run(shared, rt, alloc, plan, seat, gate) },
     );
     started.map_err(|_| RaceFault::Spawn)
@@ -68,11 +67,11 @@ fn start_all<'s, E, G: Gate + Drop + Send + 's, R: Threads + Wait + Sync>(
     plan: Plan<'s>,
     mut seats: Vec<Seat>,
     mut gates: Vec<G>,
-) -> Result<Vec<PromisedHandle<Ran, SeatPromise<'s>>>, RaceFault>
+) -> Result<Vec<PromisedHandle<Ran, SeatPromise<'s, G>>>, RaceFault>
     requires ready { All (λ seat. IsReady shared.now plan seat) seats.items }
     requires gates { vec_len gates ≡ vec_len seats }
     ensures count { IfOk result (λ handles. vec_len handles ≡ vec_len seats) }
-    ensures each { IfOk result (λ handles. (k : ℕ) (before : SeatView) (handle : _) → k < vec_len seats → IsPromise plan.entry (slice_index_or seats.items (vec_len seats - 1 - k) before) (slice_index_or handles.items k handle).promise) }
+    ensures each { IfOk result (λ handles. ArePromises plan.entry seats gates handles) }
     ensures fault { IfErr result IsFaultOfThreads }
 {
     let Ok(mut handles) = Vec::with_capacity(alloc, seats.len()) else {
@@ -101,6 +100,7 @@ fn run_all<G: Gate + Drop + Send, R: Threads + Wait + Sync>(
     requires gates { vec_len gates ≡ vec_len seats }
     ensures count { IfOk result (λ rans. vec_len rans ≡ vec_len seats) }
     ensures each { IfOk result (λ rans. AllRan plan.entry seats.items rans.items) }
+    ensures ended { IfOk result (λ rans. AllEnded G.heard G.passes gates.items seats.items rans.items) }
     ensures fault { IfErr result IsFaultOfThreads }
 {
     thread::scope(
@@ -111,10 +111,15 @@ fn run_all<G: Gate + Drop + Send, R: Threads + Wait + Sync>(
             requires gates { vec_len gates ≡ vec_len seats }
             ensures count { IfOk result (λ rans. vec_len rans ≡ vec_len seats) }
             ensures each { IfOk result (λ rans. AllRan plan.entry seats.items rans.items) }
+            ensures ended { IfOk result
+                (λ rans. AllEnded G.heard G.passes gates.items seats.items rans.items) }
             ensures fault { IfErr result IsFaultOfThreads }
         {
             let handles = start_all(scope, rt, alloc, shared, plan, seats, gates)?;
-            thread::join_promised(rt, handles).map_err(|_| RaceFault::NoMemory)
+            let Ok(rans) = thread::join_promised(rt, handles) else {
+                return Err(RaceFault::NoMemory);
+            };
+            Ok(rans)
         },
     )
 }
@@ -133,7 +138,7 @@ fn fault_of(ran: &Ran) -> Option<RaceFault>
 
 /// The fault of the least seat that has one. The last seat's outcome comes first.
 fn first_fault(rans: &[Ran]) -> Option<RaceFault>
-    ensures { MatchOption result (All (λ ran. fault_in ran ≡ None) rans.now) (λ fault. IsOfLeastSeat fault rans.now) }
+    ensures { MatchOption result (AreWell rans.now) (λ fault. IsOfLeastSeat fault rans.now) }
 {
     for place in (0..rans.len()).rev() {
         if let Some(fault) = fault_of(&rans[place]) {
@@ -148,7 +153,7 @@ fn collect(alloc: Global, mut rans: Vec<Ran>) -> Result<(Vec<Seat>, Vec<Vec<Repl
     ensures fault { IfErr result (λ fault. fault ≡ RaceFault.NoMemory) }
     ensures count { IfOk result (λ r. (vec_len r.0 ≡ vec_len rans) × (vec_len r.1 ≡ vec_len rans)) }
     ensures seats { IfOk result (λ r. AreSeatsOf r.0.items rans.items) }
-    ensures each { IfOk result (λ r. (plan : Planned) (seats : List SeatView) → length seats ≡ vec_len rans → AllRan plan seats rans.items → All (λ ran. fault_in ran ≡ None) rans.items → AllFinished plan seats r.0.items (all_told r.1.items)) }
+    ensures each { IfOk result (λ r. HaveFinished rans r.0 r.1) }
 {
     let Ok(mut seats) = Vec::with_capacity(alloc, rans.len()) else {
         return Err(RaceFault::NoMemory);
@@ -177,9 +182,9 @@ pub struct Raced {
 
 /// Drives each process by so many turns and serves each script, each in a thread of its own, and joins
 /// them all. The seats and the gates of the processes come first, and then those of the scripts; there
-/// are at most 64. Of several faults of sessions the one of the least seat is answered, which `first_fault` says
-/// and this contract does not; the race leaves nothing then. `JournalFull` comes only where a journal of these
-/// processes and scripts has as many entries as it can.
+/// are at most 64. Of several faults of sessions the one of the least seat is returned, and the race leaves nothing
+/// then. `Stopped` comes only from a gate that did not let a call go on, and `JournalFull` only where these processes
+/// and scripts make as many calls as a journal has entries at most.
 pub fn race<G: Gate + Drop + Send, R: Threads + Wait + Sync>(
     rt: &R,
     alloc: Global,
@@ -190,9 +195,13 @@ pub fn race<G: Gate + Drop + Send, R: Threads + Wait + Sync>(
 ) -> Result<Raced, RaceFault>
     requires fits { setup.processes + length scripts.now ≤ 64 }
     requires gates { vec_len gates ≡ setup.processes + length scripts.now }
-    ensures raced { IfOk result (λ r. IsRaced setup turns scripts.now r.control (all_told r.replies.items)) }
+    ensures raced { IfOk result (HasRaced setup turns scripts.now) }
+    ensures headline { IfOk result (λ r. HasHeadline r.control) }
     ensures fault { IfErr result (IsAmongSeats (setup.processes + length scripts.now)) }
-    ensures full { result ≡ Err RaceFault.JournalFull → (c : Journaled) × IsUnderWay setup turns scripts.now c × (length c.journal ≡ MAX_ENTRIES) }
+    ensures full { result ≡ Err RaceFault.JournalFull → FillsJournal setup turns scripts.now }
+    ensures most { result ≡ Err RaceFault.JournalFull → MayFill setup turns scripts.now }
+    ensures told { IfErr result (IsTold G.heard G.passes setup turns scripts.now gates.items) }
+    ensures passes { AllPass G.passes gates.items → IfErr result IsNotStopped }
 {
     let processes = setup.n();
     let plan = Plan {

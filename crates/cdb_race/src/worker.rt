@@ -1,8 +1,6 @@
 //! What one thread of a race does with its seat.
-ghost use Rattle.std.specs.Prelude.{map};
-ghost use Rattle.cdb_control.specs.Answer.{told};
 ghost use Rattle.cdb_race.specs.Plans.{IsReady};
-ghost use Rattle.cdb_race.specs.Promises.{HasRan};
+ghost use Rattle.cdb_race.specs.Promises.{HasRan, HasEnded};
 
 use crate::plan::Plan;
 use cdb_control::Reply;
@@ -22,17 +20,17 @@ pub(crate) struct Ran {
 
 /// What the thread of a seat promises.
 #[derive(Drop)]
-pub(crate) struct SeatPromise<'a> {
+pub(crate) struct SeatPromise<'a, G> {
     pub(crate) plan: Plan<'a>,
     pub(crate) seat: Snapshot<Seat>,
+    pub(crate) gate: Snapshot<G>,
 }
 
-impl<'a> Promise<Ran> for SeatPromise<'a> {
-    ghost use Rattle.std.specs.Prelude.{map};
-    ghost use Rattle.cdb_control.specs.Answer.{told};
-    ghost use Rattle.cdb_race.specs.Runs.{HasRun};
+impl<'a, G: Gate> Promise<Ran> for SeatPromise<'a, G> {
+    ghost use Rattle.cdb_race.specs.Promises.{HasRan, HasEnded};
 
-    ghost kept_by = { λ p r. HasRun p.plan p.seat.value r.seat (map told r.replies.items) r.end };
+    ghost kept_by = { λ p r. HasRan p.plan p.seat.value r
+        × HasEnded G.heard G.passes p.gate.value p.seat.value r.seat r.end };
 }
 
 /// Drives a process, or serves a script, by the seat's number.
@@ -45,7 +43,8 @@ pub(crate) fn run<G: Gate + Drop, R: Wait>(
     gate: G,
 ) -> Ran
     requires { IsReady shared.now plan seat }
-    ensures { HasRan plan.entry seat result }
+    ensures ran { HasRan plan.entry seat result }
+    ensures ended { HasEnded G.heard G.passes gate seat result.seat result.end }
 {
     let number = seat.number();
     if number <= plan.processes {

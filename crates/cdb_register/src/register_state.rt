@@ -1,3 +1,5 @@
+//! One register.
+
 ghost use Rattle.std.specs.Prelude.{◌≡◌, ◌<◌};
 
 use cdb_base::Cell;
@@ -10,7 +12,7 @@ pub struct RegisterState {
 }
 
 impl RegisterState {
-    ghost use Rattle.cdb_register.specs.Registers.{fresh_register, written, restored};
+    ghost use Rattle.cdb_register.specs.Registers.{fresh_register, most_writes, written, restored};
 
     /// A register that nobody has written.
     pub(crate) fn fresh() -> Self
@@ -24,9 +26,9 @@ impl RegisterState {
         RegisterState { cell, writes: 0 }
     }
 
-    /// Writes a cell, where fewer than 999,999 writes stand. Answers the cell that was overwritten.
+    /// Writes a cell, where fewer than 999,999 writes stand. Returns the cell that was overwritten.
     pub(crate) fn write(&mut self, cell: Cell) -> Cell
-        requires { self.old.writes < 999999 }
+        requires { self.old.writes < most_writes }
         ensures overwritten { result ≡ self.old.cell }
         ensures after { self.new ≡ written cell self.old }
     {

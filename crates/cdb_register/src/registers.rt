@@ -1,6 +1,11 @@
-ghost use Rattle.std.specs.Prelude.{◌≡◌, ◌<◌, ◌≤◌, Some, IsSome, IfOk, is_some};
-ghost use Rattle.std.specs.Option.{ForSome, option_copied, option_map};
-ghost use Rattle.cdb_register.specs.Registers.{fresh_registers, register_of, with_register, written, restored};
+//! The registers of a run.
+
+ghost use Rattle.std.specs.Prelude.{◌≡◌, ◌≤◌, Some, IfOk, is_some};
+ghost use Rattle.std.specs.Option.{option_copied};
+ghost use Rattle.cdb_base.specs.declared.limits.TheConstants.{MAX_PROCESSES};
+ghost use Rattle.cdb_register.specs.Registers.{fresh_registers, register_of, cell_of, writes_of};
+ghost use Rattle.cdb_register.specs.Registers.{HasRegister, MayBeWritten, HasWrite};
+ghost use Rattle.cdb_register.specs.Registers.{after_write, after_restore, IsBeforeWrite};
 
 use crate::register_state::RegisterState;
 use cdb_base::{Cell, NoMemory, Reg};
@@ -20,17 +25,17 @@ impl Model for Registers {
 
     ghost Value = { RegisterStates };
 
-    ghost view = { λ x. record { of_processes = x.of_processes.items; of_decision = x.of_decision } };
+    ghost view = { λ x. record {
+      of_processes = x.of_processes.items;
+      of_decision = x.of_decision;
+    } };
 }
 
 impl Registers {
-    ghost use Rattle.cdb_base.specs.declared.register.Cell.{Cell};
-    ghost use Rattle.cdb_register.specs.Registers.{RegisterStates};
-
     /// The registers of `n` processes, at most 9, which nobody has written; for 0 there is none, not
-    /// that of the decision either. `NoMemory` if a growth is refused.
+    /// that of the decision either. `NoMemory` if an allocation fails.
     pub fn new(alloc: Global, n: u8) -> Result<Self, NoMemory>
-        requires { n ≤ 9 }
+        requires { n ≤ MAX_PROCESSES }
         ensures { IfOk result (λ registers. registers ≡ fresh_registers n) }
     {
         let mut of_processes = Vec::new(alloc);
@@ -57,8 +62,8 @@ impl Registers {
 
     /// What a register that is there holds.
     pub fn read(&self, register: Reg) -> Cell
-        requires { IsSome (register_of self.now register) }
-        ensures { option_map (λ state. state.cell) (register_of self.now register) ≡ Some result }
+        requires { HasRegister self.now register }
+        ensures { cell_of self.now register ≡ Some result }
     {
         match self.state(register) {
             Some(state) => state.cell,
@@ -68,8 +73,8 @@ impl Registers {
 
     /// How many writes of a register that is there stand.
     pub fn writes(&self, register: Reg) -> u32
-        requires { IsSome (register_of self.now register) }
-        ensures { option_map (λ state. state.writes) (register_of self.now register) ≡ Some result }
+        requires { HasRegister self.now register }
+        ensures { writes_of self.now register ≡ Some result }
     {
         match self.state(register) {
             Some(state) => state.writes,
@@ -77,13 +82,13 @@ impl Registers {
         }
     }
 
-    /// Writes a cell to a register that is there and of which fewer than 999,999 writes stand. Answers
+    /// Writes a cell to a register that is there and of which fewer than 999,999 writes stand. Returns
     /// the cell that was overwritten.
     pub fn write(&mut self, register: Reg, cell: Cell) -> Cell
-        requires here { IsSome (register_of self.old register) }
-        requires room { ForSome (register_of self.old register) (λ state. state.writes < 999999) }
-        ensures overwritten { option_map (λ state. state.cell) (register_of self.old register) ≡ Some result }
-        ensures after { self.new ≡ with_register (written cell) self.old register }
+        requires here { HasRegister self.old register }
+        requires room { MayBeWritten self.old register }
+        ensures overwritten { cell_of self.old register ≡ Some result }
+        ensures after { self.new ≡ after_write self.old register cell }
     {
         match register {
             Reg::R(p) => {
@@ -97,14 +102,13 @@ impl Registers {
         }
     }
 
-    /// Puts a cell back in a register that is there and of which a write stands. With what a write
-    /// answered, on what this write left, it undoes the write.
+    /// Puts a cell back in a register that is there and of which a write stands. After a write, with
+    /// the cell that this write returned, it leads back to the registers before the write.
     pub fn restore(&mut self, register: Reg, cell: Cell)
-        requires here { IsSome (register_of self.old register) }
-        requires standing { ForSome (register_of self.old register) (λ state. 0 < state.writes) }
-        ensures after { self.new ≡ with_register (restored cell) self.old register }
-        ensures undoes { (before : RegisterStates) (by : Cell) → self.old ≡ with_register (written by) before register
-            → option_map (λ state. state.cell) (register_of before register) ≡ Some cell → self.new ≡ before }
+        requires here { HasRegister self.old register }
+        requires standing { HasWrite self.old register }
+        ensures after { self.new ≡ after_restore self.old register cell }
+        ensures undoes { IsBeforeWrite self.old register cell self.new }
     {
         match register {
             Reg::R(p) => {

@@ -51,7 +51,7 @@ pub record Lawful (n : ℕ) (t : RunState LocalState) : Type 0 where
   pub holds : (p : ℕ) (r : RegisterState) → nth t.registers.of_processes p ≡ Some r → r.cell ≡ (run.traced p).own
   pub dec : (r : RegisterState) → t.registers.of_decision ≡ Some r → r.cell.val ≡ run.dec
 
-nth_low : {A : Type 0} (xs : List A) (i : ℕ) (x : A) → nth xs i ≡ Some x → 1 ≤ i
+pub nth_low : {A : Type 0} (xs : List A) (i : ℕ) (x : A) → nth xs i ≡ Some x → 1 ≤ i
 nth_low xs zero x is = absurd (none-some x is)
 nth_low xs (suc i) x is = omega arith
 
@@ -363,6 +363,21 @@ module _ (n : ℕ) (setup : Parts) (t : RunState LocalState) (lawful : Lawful n 
         holds_after o r is_r (inr other) =
             kinded.other_cells o r (λ same. other (same ∙ is_me)) is_r ∙ sym (ap (λ (l : Traced). l.own) (traced_other o other))
 
+  -- register i is written by process i alone
+  pub writes_alone : (p k i : ℕ) (to : RunState LocalState) → after (alpha_machine setup) t (happening.Step p k (Write (R i))) ≡ Some to → p ≡ i
+  writes_alone p k i to is =
+      let taken = taken_from (alpha_machine setup) t to p k (Write (R i)) is in
+      let accepted = parts (alpha_machine setup) t to p k (Write (R i)) taken in
+      go taken.process taken.next taken.at_process (register_of t.registers (R i)) accepted.met accepted.takes
+    where
+      go : (x : ProcessState LocalState) (s : LocalState) → nth t.processes p ≡ Some x → (o : Option RegisterState) → is_some o ≡ true
+          → taken_local table.next_state x.progress.local (option_map (λ (stands : RegisterState). input.Write (R i)) o) ≡ Some s → p ≡ i
+      go x s at None there it = absurd (true≢false (sym there))
+      go x s at (Some stands) there it =
+          let me = lawful.me p x at in
+          let wrote = takes x (subst (λ o. nth t.processes o ≡ Some x) (sym me) at) s (input.Write (R i)) tt it in
+          sym (wrote.leaves.0 ∙ me)
+
   -- an enabled event keeps the laws
   pub after_lawful : (event : Event) (to : RunState LocalState) → after (alpha_machine setup) t event ≡ Some to → Lawful n to
   after_lawful (happening.Step p k kind) to is =
@@ -373,6 +388,12 @@ module _ (n : ℕ) (setup : Parts) (t : RunState LocalState) (lawful : Lawful n 
       let lost = where_true (may_lose (alpha_machine setup) (mail_of t) copy) (Some (record t { lost = set.insert t.lost copy })) to is in
       subst (λ z. Lawful n z) (same_Some (record t { lost = set.insert t.lost copy }) to lost.1)
       (record { run = lawful.run; laws = lawful.laws; size = lawful.size; me = lawful.me; among = lawful.among; tied = lawful.tied; holds = lawful.holds; dec = lawful.dec })
+
+-- each state that a valid history reaches keeps the laws
+pub reached_lawful : (setup : Parts) → length setup.inputs ≡ setup.processes → (history : List Event) (t : RunState LocalState) → fold (alpha_machine setup) history ≡ Some t → Lawful setup.processes t
+reached_lawful setup each history t is =
+    reached_keeps (after (alpha_machine setup)) (Lawful setup.processes) (λ s e u it. after_lawful setup.processes setup s it e u)
+    (start (alpha_machine setup)) history t (start_lawful setup each) is
 
 -- no two processes decide differently in a valid history
 one_decision : (setup : Parts) → length setup.inputs ≡ setup.processes → (history : List Event) (t : RunState LocalState) → fold (alpha_machine setup) history ≡ Some t
@@ -385,9 +406,7 @@ one_decision setup each history t is p o v w mine other =
     (ap (λ (l : Traced). l.decision) (lawful.tied p mine.0 mine.1) ∙ mine.2) (ap (λ (l : Traced). l.decision) (lawful.tied o other.0 other.1) ∙ other.2)
   where
     lawful : Lawful setup.processes t
-    lawful =
-        reached_keeps (after (alpha_machine setup)) (Lawful setup.processes) (λ s e u it. after_lawful setup.processes setup s it e u)
-        (start (alpha_machine setup)) history t (start_lawful setup each) is
+    lawful = reached_lawful setup each history t is
 
 pub alpha_agrees : (setup : Parts) → AreInRange setup → (history : List Event) (t : RunState LocalState) → fold (alpha_machine setup) history ≡ Some t
     → AllAgree (decisions_of (λ local. local.decision) t)

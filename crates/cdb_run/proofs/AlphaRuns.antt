@@ -359,7 +359,7 @@ run_step_keeps n t u laws run_step = record {
 }
 
 -- a round that was carried through is not dead
-carried_not_dead : (n : ℕ) (t : Run) → RunLaws n t → (i r : ℕ) → 1 ≤ i → i ≤ n → IsIn r (t.traced i).carried → Dead n t i r → ⊥
+pub carried_not_dead : (n : ℕ) (t : Run) → RunLaws n t → (i r : ℕ) → 1 ≤ i → i ≤ n → IsIn r (t.traced i).carried → Dead n t i r → ⊥
 carried_not_dead n t laws i r il ih carried (inl past) = past.1 carried
 carried_not_dead n t laws i r il ih carried (inr now) = go ((laws.each i il ih).carried_past r carried) now.1
   where

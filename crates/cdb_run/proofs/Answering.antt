@@ -1,7 +1,8 @@
 -- What an undo is answered, by what is found.
-use Rattle.std.proofs.Common.{◌≡◌, ℕ, zero, suc, ◌+◌, ◌<◌, Bool, true, false, List, [], ◌∷◌, Some, None, Ok, Err, find, drop, take, ◌-◌, slice_get, refl, sym, ap, ap₂, ◌∙◌, arith, cond}
-use Rattle.std.proofs.lemmas.Option.{none-some, same_Some}
+use Rattle.std.proofs.Common.{◌≡◌, ℕ, zero, suc, ◌+◌, ◌<◌, Bool, true, false, List, [], ◌∷◌, Some, None, Ok, Err, find, drop, take, length, ◌-◌, ⊎_elim, slice_get, refl, sym, ap, ap₂, ◌∙◌, arith, cond}
+use Rattle.std.proofs.lemmas.Option.{none-some, same_Some, slice_get_cases}
 use Rattle.std.specs.Option.{option_map_or}
+use Rattle.std.specs.Result.{result_err}
 use Rattle.cdb_base.specs.Event.{event_name}
 use Rattle.cdb_base.specs.declared.event.Event.{Event}
 use Rattle.cdb_base.specs.declared.name.StepId.{StepId}
@@ -10,7 +11,7 @@ use Rattle.cdb_causal.specs.Causality.{IsFree}
 use Rattle.cdb_causal.specs.Dependence.{depends}
 use Rattle.cdb_causal.specs.Names.{IsFirstDependent}
 use Rattle.cdb_causal.specs.Rollback.{without}
-use Rattle.cdb_run.specs.Undo.{found_at, for_standing, undo_found}
+use Rattle.cdb_run.specs.Undo.{answered, found_at, for_standing, undo_found}
 use Rattle.cdb_run.proofs.Kept.{is_false}
 
 module _ {E : Type 0} (test : E → Bool) where
@@ -71,3 +72,14 @@ module _ (history : List Event) (i : ℕ) where
         ap (λ f. for_standing f (undo_found history)) found_is
         ∙ ap (λ o. option_map_or (λ dependent. Err (refusal.NeededBy (event_name dependent))) o (Ok (event, without history i))) (first_needs name first)
         ∙ ap (λ n. Err (refusal.NeededBy n)) first.named.2
+
+-- what an undo of the event at a place is refused with, by the first event that needs it
+module _ (history : List Event) (i : ℕ) (within : i < length history) where
+  at_place : (event : Event) × (slice_get history i ≡ Some event)
+  at_place = ⊎_elim (λ there. (there.0, there.2)) (λ past. absurd (let end = past.0 in omega (arith, end, within))) (slice_get_cases history i).1
+
+  pub free_unrefused : IsFree depends history i → None ≡ result_err (answered (for_standing (found_at history i) (undo_found history)))
+  free_unrefused free = sym (ap (λ a. result_err (answered a)) (free_answer history i at_place.0 at_place.1 free))
+
+  pub needed_refused : (name : StepId) → IsFirstDependent history i name → Some (refusal.NeededBy name) ≡ result_err (answered (for_standing (found_at history i) (undo_found history)))
+  needed_refused name first = sym (ap (λ a. result_err (answered a)) (needed_answer history i at_place.0 at_place.1 name first))

@@ -11,7 +11,9 @@ use Rattle.cdb_base.specs.declared.name.CopyName.{CopyName}
 use Rattle.cdb_base.specs.declared.name.StepId.{StepId}
 use Rattle.cdb_base.specs.declared.name.StepId.TheVariants as named
 use Rattle.cdb_causal.specs.Causality.{IsLink, IsDirectCause}
-use Rattle.cdb_causal.specs.Dependence.{affects, depends}
+use Rattle.cdb_causal.specs.Dependence.{depends}
+use Rattle.cdb_causal.specs.Effects.{affects}
+use Rattle.cdb_causal.proofs.Effects.{by_effect}
 use Rattle.cdb_causal.specs.DirectCauses.{ComesBefore, AreDirectCauses, NamesDirectCause}
 use Rattle.cdb_causal.specs.DirectDependents.{is_direct}
 use Rattle.cdb_causal.specs.Exchange.{IsIn, here, there}
@@ -95,7 +97,7 @@ module _ (effect : Event) where
 
   same_process_depends : (p : ℕ) (one other : Event) → is_step_of p one ≡ true → is_step_of p other ≡ true → depends one other ≡ true
   same_process_depends p (Step q k kind) (Step r l other) one two =
-      ap (λ b. b || (affects (Step q k kind) (Step r l other) || affects (Step r l other) (Step q k kind))) (same q r one two)
+      by_effect (Step q k kind) (Step r l other) ∙ ap (λ b. b || (affects (Step q k kind) (Step r l other) || affects (Step r l other) (Step q k kind))) (same q r one two)
     where
       same : (q r : ℕ) → (q == p) ≡ true → (r == p) ≡ true → nat_eq q r ≡ true
       same q r one two = grind (arith, nat_tests)

@@ -1,10 +1,10 @@
 -- What the machine of an algorithm gives, a run of that algorithm gives.
 use Rattle.std.proofs.Common.{◌≡◌, List, Option, Some, None, IfNone, option_map, ap, ◌∙◌, sym, subst}
 use Rattle.cdb_alpha.specs.LocalState.{LocalState as AlphaState}
-use Rattle.cdb_alpha.specs.Place.{place_number as alpha_place}
+use Rattle.cdb_alpha.specs.Machine.{alpha_table}
 use Rattle.cdb_base.specs.declared.event.Event.{Event}
 use Rattle.cdb_leader.specs.LocalState.{LocalState as LeaderState}
-use Rattle.cdb_leader.specs.Place.{place_number as leader_place}
+use Rattle.cdb_leader.specs.Machine.{leader_table}
 use Rattle.cdb_run.specs.Algorithms.{rules, rules_by}
 use Rattle.cdb_run.specs.Any.{run_view, IsTrueToSetup}
 use Rattle.cdb_run.specs.Current.{RunView}
@@ -41,10 +41,10 @@ of_alpha {run = _} {stands = stands} Holds true_to is =
 
 -- a process as it is shown, by algorithm
 abbrev pub leader_shown : ProcessState LeaderState → Shown
-leader_shown = shown_of (λ local. leader_place local.place) (λ local. local.round) (λ local. local.decision)
+leader_shown = shown_of leader_table
 
 abbrev pub alpha_shown : ProcessState AlphaState → Shown
-alpha_shown = shown_of (λ local. alpha_place local.place) (λ local. local.round) (λ local. local.decision)
+alpha_shown = shown_of alpha_table
 
 -- what is read of a process is what is shown of it
 pub as_shown : {L A B : Type 0} (read : ProcessState L → A) (show : ProcessState L → Shown) (of : Shown → B) (view : A → B)

@@ -27,7 +27,7 @@ module _ {L : Type 0} (machine : Machine L) where
   undo_redo : (history : List Event) (i : ℕ) (event : Event) → slice_get history i ≡ Some event → IsFree depends history i → option_and_then (λ state. after machine state event) (fold machine (without history i)) ≡ fold machine history
   undo_redo history i event at free = sym (reached_push (after machine) (start machine) (without history i) event) ∙ fold_free history i event at free
 
-  reached_state : (history : List Event) → IsValid machine history → fold machine history ≡ Some (state_of machine history)
+  pub reached_state : (history : List Event) → IsValid machine history → fold machine history ≡ Some (state_of machine history)
   reached_state history valid = is_some_of (fold machine history) valid
     where
       is_some_of : (o : Option (RunState L)) → IsSome o → o ≡ Some (unwrap_or o (start machine))

@@ -15,7 +15,8 @@ use Rattle.cdb_base.specs.declared.payload.Payload.{Payload}
 use Rattle.cdb_base.specs.declared.register.Cell.{Cell}
 use Rattle.cdb_base.specs.declared.register.Reg.{Reg}
 use Rattle.cdb_base.specs.declared.register.Reg.TheVariants.{R, Dec}
-use Rattle.cdb_causal.specs.Dependence.{sends, receives, kind_affects, affects}
+use Rattle.cdb_causal.specs.Dependence.{sends, receives}
+use Rattle.cdb_causal.specs.Effects.{kind_affects, affects}
 use Rattle.cdb_message.specs.Mail.{message_name, copy_name, sent_by, received_by, payload_of, is_sent, is_received, is_lost}
 use Rattle.cdb_message.specs.Names.{NameSet, CopySet, name_cmp, copy_cmp}
 use Rattle.cdb_message.proofs.Sets.{name_cmp_total, name_cmp-IsAntisymmetric, copy_cmp_total, copy_cmp-IsAntisymmetric}

@@ -25,6 +25,10 @@ use Rattle.cdb_process.specs.declared.Wish.TheVariants as wished
 use Rattle.cdb_run.specs.Mail.{mail_of}
 use Rattle.cdb_run.specs.Refusals.{first_refusal, named_kind, wished_kind, names_no_leader, step_checks, named_event, unless_refused, planned, step_answer, again_checks, lose_checks, lose_answer, again_answer, IsOfRun, NamesProcess}
 use Rattle.cdb_run.specs.Algorithms.{leader_machine, alpha_machine, rules_by, rules}
+use Rattle.cdb_alpha.specs.Machine.{alpha_table}
+use Rattle.cdb_leader.specs.Machine.{leader_table}
+use Rattle.cdb_process.specs.Table.{Table}
+use Rattle.cdb_run.specs.Machines.{machine_of}
 use Rattle.cdb_run.specs.Rules.{rules_of}
 use Rattle.cdb_run.specs.State.{Machine, ProcessState, RunState, start}
 use Rattle.cdb_run.specs.Step.{is_among, registers_after, may_lose, after, fold, state_of}
@@ -41,7 +45,7 @@ answered (Some why) e event h = absurd (cc)
 answered None (Some x) event h = (refl, cc)
 answered None None event h = absurd (cc)
 
-of_some : {A : Type 0} (f : A → Result Event Refusal) (o : Option A) (why : Refusal) (event : Event) → option_map_or f o (Err why) ≡ Ok event → (a : A) × (o ≡ Some a) × (f a ≡ Ok event)
+pub of_some : {A : Type 0} (f : A → Result Event Refusal) (o : Option A) (why : Refusal) (event : Event) → option_map_or f o (Err why) ≡ Ok event → (a : A) × (o ≡ Some a) × (f a ≡ Ok event)
 of_some f (Some a) why event h = (a, refl, h)
 of_some f None why event h = absurd (cc)
 
@@ -76,7 +80,7 @@ all_nth P [] (suc i) x all at = absurd (none-some x at)
 all_nth P (y ∷ xs) (suc zero) x all at = subst P (same_Some y x at) all.0
 all_nth P (y ∷ xs) (suc (suc i)) x all at = all_nth P xs (suc i) x all.1 at
 
-answers_within : (setup : Parts) (p k leader : ℕ) → AreInRange setup → answer_of setup p k ≡ Some leader → IsWithin 1 setup.processes leader
+pub answers_within : (setup : Parts) (p k leader : ℕ) → AreInRange setup → answer_of setup p k ≡ Some leader → IsWithin 1 setup.processes leader
 answers_within setup p k leader range h =
     let row = bound (λ answers. nth answers k) (nth setup.answers p) leader h in
     all_nth (IsWithin 1 setup.processes) row.0 k leader (all_nth (AllByRecursion (IsWithin 1 setup.processes)) setup.answers p row.0 range.answers row.1) row.2
@@ -223,18 +227,20 @@ module _ {L : Type 0} (machine : Machine L) where
     again_same state (Lost copy) taken h =
         sym (same_Some (Lost (copy_name copy.msg copy.to)) taken (answered (first_refusal (lose_checks setup (mail_of state) copy.msg copy.to)) _ taken h).1)
 
-    rules_lawful : (place round : L → ℕ) (decision : L → Option ℕ) → AreLawful (rules_of machine place round decision setup) setup
-    rules_lawful place round decision =
-        record {
-          among = λ history p a event h. (step_planned (state_of machine history) p a event (count_is history) h).there;
-          step = λ history p a event h. (step_planned (state_of machine history) p a event (count_is history) h).of_run;
-          lose = λ history name p event h. lose_of_run (state_of machine history) name p event h;
-          again = λ history event taken h. again_same (state_of machine history) event taken h;
-        }
+rules_lawful : {L : Type 0} (table : Table L) (setup : Parts) → AreInRange setup → AreLawful (rules_of table setup) setup
+rules_lawful table setup range =
+    let machine = machine_of table setup in
+    let firsts = length-first_states table.first 1 setup.processes setup.quorum setup.inputs ∙ range.an_input_each in
+    record {
+      among = λ history p a event h. (step_planned machine setup range firsts (state_of machine history) p a event (count_is machine history) h).there;
+      step = λ history p a event h. (step_planned machine setup range firsts (state_of machine history) p a event (count_is machine history) h).of_run;
+      lose = λ history name p event h. lose_of_run machine setup range firsts (state_of machine history) name p event h;
+      again = λ history event taken h. again_same machine setup range firsts (state_of machine history) event taken h;
+    }
 
 by_algorithm : (algorithm : Algorithm) (setup : Parts) → AreInRange setup → AreLawful (rules_by algorithm setup) setup
-by_algorithm Leader setup range = rules_lawful (leader_machine setup) setup range (length-first_states _ 1 setup.processes setup.quorum setup.inputs ∙ range.an_input_each) _ _ _
-by_algorithm Alpha setup range = rules_lawful (alpha_machine setup) setup range (length-first_states _ 1 setup.processes setup.quorum setup.inputs ∙ range.an_input_each) _ _ _
+by_algorithm Leader setup range = rules_lawful leader_table setup range
+by_algorithm Alpha setup range = rules_lawful alpha_table setup range
 
 pub rules_are_lawful : (setup : Parts) → AreInRange setup → AreLawful (rules setup) setup
 rules_are_lawful setup range = by_algorithm setup.algorithm setup range

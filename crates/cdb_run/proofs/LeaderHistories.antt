@@ -41,11 +41,11 @@ use Rattle.cdb_run.proofs.Taken.{taken_from, parts, where_true}
 
 -- a process, where there is one, as the laws on agreement see it
 
-abbrev local_in : Option (ProcessState LocalState) → laws.Local
+abbrev pub local_in : Option (ProcessState LocalState) → laws.Local
 local_in None = first_local 0
 local_in (Some x) = local_of x.progress.local
 
-abbrev sent_in : Option (ProcessState LocalState) → List Payload
+abbrev pub sent_in : Option (ProcessState LocalState) → List Payload
 sent_in None = []
 sent_in (Some x) = x.sent
 
@@ -217,6 +217,12 @@ module _ (n : ℕ) (setup : Parts) (t : RunState LocalState) (lawful : Lawful n 
       subst (λ z. Lawful n setup.quorum z) (same_Some (record t { lost = set.insert t.lost copy }) to lost.1)
       (record { size = lawful.size; quorum = lawful.quorum; laws = lawful.laws })
 
+-- each state that a valid history reaches keeps the laws
+pub reached_lawful : (setup : Parts) (history : List Event) (t : RunState LocalState) → fold (leader_machine setup) history ≡ Some t → Lawful (length setup.inputs) setup.quorum t
+reached_lawful setup history t is =
+    reached_keeps (after (leader_machine setup)) (Lawful (length setup.inputs) setup.quorum) (λ s e u it. after_lawful (length setup.inputs) setup s it e u)
+    (start (leader_machine setup)) history t (start_lawful setup) is
+
 -- no two processes decide differently in a valid history, where a quorum is more than half of the processes
 one_decision : (setup : Parts) → length setup.inputs ≤ 9 → length setup.inputs < setup.quorum + setup.quorum
     → (history : List Event) (t : RunState LocalState) → fold (leader_machine setup) history ≡ Some t
@@ -226,9 +232,7 @@ one_decision setup small majority history t is p o v w mine other =
     (ap (λ a. (local_in a).decision) mine.1 ∙ mine.2) (ap (λ a. (local_in a).decision) other.1 ∙ other.2)
   where
     lawful : Lawful (length setup.inputs) setup.quorum t
-    lawful =
-        reached_keeps (after (leader_machine setup)) (Lawful (length setup.inputs) setup.quorum) (λ s e u it. after_lawful (length setup.inputs) setup s it e u)
-        (start (leader_machine setup)) history t (start_lawful setup) is
+    lawful = reached_lawful setup history t is
 
 pub leader_agrees : (setup : Parts) → AreInRange setup → setup.processes < 2 * setup.quorum → (history : List Event) (t : RunState LocalState)
     → fold (leader_machine setup) history ≡ Some t → AllAgree (decisions_of (λ local. local.decision) t)

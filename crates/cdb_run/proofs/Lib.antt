@@ -6,6 +6,7 @@ pub mod Held
 pub mod Starting
 pub mod Granted
 pub mod Views
+pub mod TakenBack
 pub mod Planned
 pub mod Enabled
 pub mod Again
@@ -44,3 +45,5 @@ pub mod Compared
 pub mod OwnOfState
 pub mod SameRuns
 pub mod Lawful
+pub mod KeptHistories
+pub mod RoundLaws

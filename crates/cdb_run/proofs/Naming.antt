@@ -13,7 +13,9 @@ use Rattle.cdb_base.specs.declared.name.MsgName.{MsgName}
 use Rattle.cdb_base.specs.declared.name.StepId.{StepId}
 use Rattle.cdb_base.specs.declared.name.StepId.TheVariants as named
 use Rattle.cdb_base.specs.declared.payload.Payload.{Payload}
-use Rattle.cdb_causal.specs.Dependence.{sends, affects}
+use Rattle.cdb_causal.proofs.Symmetry.{depends-symmetric}
+use Rattle.cdb_causal.specs.Causality.{IsFree}
+use Rattle.cdb_causal.specs.Dependence.{depends, sends, send_and_loss}
 use Rattle.cdb_causal.specs.Exchange.{IsIn, IsBefore, IsEachOnce, here, there}
 use Rattle.cdb_causal.specs.Names.{IsNamedAt}
 use Rattle.cdb_causal.specs.Standing.{IsStanding}
@@ -26,7 +28,7 @@ use Rattle.cdb_run.proofs.Commutes.{lost_from}
 use Rattle.cdb_run.proofs.Kept.{is_false, left, payload_kept}
 use Rattle.cdb_run.proofs.Members.{Reaches, IsOrdered, first_step, losable, ordered, start_counted, nth-fresh}
 use Rattle.cdb_run.proofs.Places.{nth-map, nth_within}
-use Rattle.cdb_run.proofs.SameState.{once, sends_it, stand_apart}
+use Rattle.cdb_run.proofs.SameState.{once, sends_it, stand_apart, step_loss_not_both}
 use Rattle.cdb_run.proofs.Taken.{taken_from, some_of}
 
 pub in_place : {E : Type 0} (events : List E) (j : ℕ) (event : E) → slice_get events j ≡ Some event → IsIn event events
@@ -121,7 +123,7 @@ module _ {L : Type 0} (machine : Machine L) where
         (λ more. absurd (names_apart b.0 a.0 (before_places history j i b.0 a.0 more b.1 a.1) (b.2 ∙ sym a.2))))
         (three_cases i j)
 
-    not_sent_later : (copy : CopyName) (event : Event) → IsBefore (Lost copy) event history → affects event (Lost copy) ≡ false
+    not_sent_later : (copy : CopyName) (event : Event) → IsBefore (Lost copy) event history → send_and_loss event (Lost copy) ≡ false
     not_sent_later copy (Step p k kind) before =
         is_false (sends copy.msg.s copy.msg.m p kind) (λ s. (in_order (Lost copy) (Step p k kind) before).0 (sends_it copy.msg.s copy.msg.m p kind s))
     not_sent_later copy (Lost other) before = refl
@@ -150,6 +152,18 @@ module _ {L : Type 0} (machine : Machine L) where
       where
         is_no_step : is_step (named.Lost copy) ≡ is_step (event_name (Step copy.to k (Recv copy.msg.s copy.msg.m))) → ⊥
         is_no_step same = true≢false (sym same)
+
+    -- no event depends on a loss
+    pub loss_free : (i : ℕ) (copy : CopyName) → slice_get history i ≡ Some (Lost copy) → IsFree depends history i
+    loss_free i copy at j link =
+        let cause = same_Some link.cause (Lost copy) (sym link.at_cause ∙ at) in
+        unlinked link.effect (sym (ap (λ c. depends c link.effect) cause) ∙ link.linked)
+        (before_places history i j (Lost copy) link.effect link.later at link.at_effect)
+      where
+        unlinked : (effect : Event) → depends (Lost copy) effect ≡ true → IsBefore (Lost copy) effect history → ⊥
+        unlinked (Step p k kind) linked before =
+            step_loss_not_both machine reaches.0 p k kind copy (depends-symmetric (Step p k kind) (Lost copy) ∙ linked) (in_order (Lost copy) (Step p k kind) before)
+        unlinked (Lost other) linked before = true≢false (sym linked)
 
   -- the send of a message that is sent behind a list, and was not before it, is in the list
   sent_by_step : (state next : RunState L) (event : Event) (name : MsgName) → after machine state event ≡ Some next → is_sent (mail_of next) name ≡ true → (is_sent (mail_of state) name ≡ true) ⊎ ((k : ℕ) × (event ≡ Step name.s k (Send name.m)))

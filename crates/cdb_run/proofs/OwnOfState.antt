@@ -10,7 +10,8 @@ use Rattle.cdb_base.specs.declared.event.Kind.{Kind}
 use Rattle.cdb_base.specs.declared.event.Kind.TheVariants.{Query, Send, Recv, Read, Write, Local, Learn, Crash}
 use Rattle.cdb_base.specs.declared.register.Reg.{Reg}
 use Rattle.cdb_base.specs.declared.register.Reg.TheVariants.{R, Dec}
-use Rattle.cdb_causal.specs.Dependence.{accesses, kind_affects}
+use Rattle.cdb_causal.specs.Dependence.{accesses}
+use Rattle.cdb_causal.specs.Effects.{kind_affects}
 use Rattle.cdb_register.specs.Registers.{register_of, fresh_register, fresh_registers}
 use Rattle.cdb_run.specs.OwnSteps.{no_writes, writes_with, writes_met, noted, own_steps, own_of}
 use Rattle.cdb_run.specs.State.{Machine, OwnEvent, ProcessState, RunState, start}

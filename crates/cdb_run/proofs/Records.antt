@@ -8,7 +8,8 @@ use Rattle.cdb_base.specs.declared.event.Event.TheVariants.{Step, Lost}
 use Rattle.cdb_base.specs.declared.event.Kind.{Kind}
 use Rattle.cdb_base.specs.declared.event.Kind.TheVariants.{Write}
 use Rattle.cdb_causal.specs.Causality.{IsFree}
-use Rattle.cdb_causal.specs.Dependence.{kind_affects, depends}
+use Rattle.cdb_causal.specs.Dependence.{depends}
+use Rattle.cdb_causal.specs.Effects.{kind_affects}
 use Rattle.cdb_causal.specs.Paths.{IsPath, IsExchangeable}
 use Rattle.cdb_causal.specs.Rollback.{without}
 use Rattle.cdb_causal.proofs.Paths.{free_last}

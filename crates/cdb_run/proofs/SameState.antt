@@ -8,7 +8,9 @@ use Rattle.cdb_base.specs.declared.event.Kind.{Kind}
 use Rattle.cdb_base.specs.declared.event.Kind.TheVariants.{Send, Recv, Write}
 use Rattle.cdb_base.specs.declared.name.CopyName.{CopyName}
 use Rattle.cdb_base.specs.declared.register.Reg.{Reg}
-use Rattle.cdb_causal.specs.Dependence.{accesses, sends, receives, kind_affects, depends}
+use Rattle.cdb_causal.specs.Dependence.{accesses, sends, receives, depends}
+use Rattle.cdb_causal.specs.Effects.{kind_affects}
+use Rattle.cdb_causal.proofs.Effects.{by_effect}
 use Rattle.cdb_causal.specs.Exchange.{IsExchanged, IsIn, here, there, IsBefore, IsEachOnce, KeepsOrder}
 use Rattle.cdb_causal.proofs.Orders.{exchanged_from_order}
 use Rattle.cdb_causal.proofs.Symmetry.{depends-symmetric}
@@ -73,14 +75,14 @@ module _ {L : Type 0} (machine : Machine L) where
         (λ a. ⊎_elim (λ c. b.no_early_receive c.0 c.2 c.1) (λ c. clash c.0 p k kind q l other c.1 c.2 o b) (affects_cases p kind other a))
         (λ a. ⊎_elim (λ c. o.no_early_receive c.0 c.2 c.1) (λ c. clash c.0 q l other p k kind c.1 c.2 b o) (affects_cases q other kind a))
         (or_cases (kind_affects p kind other) (kind_affects q other kind) r))
-        (or_cases (nat_eq p q) (kind_affects p kind other || kind_affects q other kind) h)
+        (or_cases (nat_eq p q) (kind_affects p kind other || kind_affects q other kind) (sym (by_effect (Step p k kind) (Step q l other)) ∙ h))
 
-    step_loss_not_both : (p k : ℕ) (kind : Kind) (copy : CopyName) → depends (Step p k kind) (Lost copy) ≡ true → IsOrdered machine to (Lost copy) (Step p k kind) → ⊥
+    pub step_loss_not_both : (p k : ℕ) (kind : Kind) (copy : CopyName) → depends (Step p k kind) (Lost copy) ≡ true → IsOrdered machine to (Lost copy) (Step p k kind) → ⊥
     step_loss_not_both p k kind copy h o =
         ⊎_elim
         (λ s. o.0 (sends_it copy.msg.s copy.msg.m p kind s))
         (λ r. let q = both (nat_eq p copy.to) (receives copy.msg.s copy.msg.m kind) r in o.1 (nat_eq-is p copy.to q.0, receives_it copy.msg.s copy.msg.m kind q.1))
-        (or_cases (sends copy.msg.s copy.msg.m p kind) (nat_eq p copy.to && receives copy.msg.s copy.msg.m kind) h)
+        (or_cases (sends copy.msg.s copy.msg.m p kind) (nat_eq p copy.to && receives copy.msg.s copy.msg.m kind) (sym (by_effect (Step p k kind) (Lost copy)) ∙ h))
 
     -- two events that depend on each other cannot stand in both orders
     not_both_orders : (x y : Event) → depends x y ≡ true → IsOrdered machine to x y → IsOrdered machine to y x → ⊥

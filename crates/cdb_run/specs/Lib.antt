@@ -1,8 +1,10 @@
+pub mod EventRefs
 pub mod State
 pub mod Mail
 pub mod Step
 pub mod Machines
 pub mod Refusals
+pub mod Plans
 pub mod Back
 pub mod Registers
 pub mod Recorded
@@ -16,6 +18,9 @@ pub mod Lawful
 pub mod Algorithms
 pub mod SameState
 pub mod Restored
+pub mod Runs
+pub mod ByRules
 pub mod Any
 pub mod Agreement
+pub mod Rounds
 pub mod WorkedRuns

@@ -1,8 +1,8 @@
--- The machine of a run, made of the members of the trait `Process` at a setup.
-use Rattle.std.specs.Prelude.{ℕ, suc, Bool, true, false, ◌==◌, List, [], ◌∷◌, Option}
-use Rattle.cdb_process.specs.declared.Input.{Input}
-use Rattle.cdb_process.specs.declared.Wish.{Wish}
-use Rattle.cdb_run.specs.State.{Machine}
+-- The machine of a run: a table at a setup.
+use Rattle.std.specs.Prelude.{ℕ, suc, Bool, true, false, ◌==◌, List, [], ◌∷◌, map}
+use Rattle.cdb_process.specs.Table.{Table}
+use Rattle.cdb_run.specs.State.{Machine, fresh_progress}
+use Rattle.cdb_run.specs.declared.progress.Progress.{Progress}
 use Rattle.cdb_setup.specs.Parts.{Parts}
 use Rattle.cdb_setup.specs.declared.setup.Algorithm.{Algorithm}
 use Rattle.cdb_setup.specs.declared.setup.Algorithm.TheVariants.{Leader, Alpha}
@@ -18,13 +18,17 @@ uses_registers Leader = false
 uses_registers Alpha = true
 
 -- the machine of a setup: where its version is 2, copies can be lost
-abbrev pub machine_of : {Local : Type 0} → (ℕ → ℕ → ℕ → ℕ → Local) → (Local → Input → Option Local) → (Local → Option Wish) → (Local → ℕ) → ℕ → Parts → Machine Local
-machine_of first next wish place last_place setup =
+abbrev pub machine_of : {Local : Type 0} → Table Local → Parts → Machine Local
+machine_of table setup =
     record {
-      firsts = first_states first 1 setup.processes setup.quorum setup.inputs;
+      firsts = first_states table.first 1 setup.processes setup.quorum setup.inputs;
       has_registers = uses_registers setup.algorithm;
       loses_copies = setup.version == 2;
-      next = next;
-      wish = wish;
-      done = λ local. place local == last_place;
+      next = table.next;
+      wish = table.wish;
+      done = λ local. table.place local == table.last_place;
     }
+
+-- how far each process has come before its first step
+abbrev pub progress_at_start : {Local : Type 0} → Table Local → Parts → List (Progress Local)
+progress_at_start table setup = map fresh_progress (first_states table.first 1 setup.processes setup.quorum setup.inputs)

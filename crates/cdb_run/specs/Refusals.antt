@@ -143,14 +143,20 @@ lose_checks setup mail name p =
     ∷ (is_lost mail (copy_name name p), refusal.Lost)
     ∷ []
 
+abbrev pub planned_loss : Parts → MailState → MsgName → ℕ → Result Event Refusal
+planned_loss setup mail name p = unless_refused (first_refusal (lose_checks setup mail name p)) (Some (Lost (copy_name name p)))
+
 abbrev pub lose_answer : {L : Type 0} → Parts → RunState L → MsgName → ℕ → Result Event Refusal
-lose_answer setup state name p = unless_refused (first_refusal (lose_checks setup (mail_of state) name p)) (Some (Lost (copy_name name p)))
+lose_answer setup state name p = planned_loss setup (mail_of state) name p
 
 -- what it is answered to take an undone event again: the first refusal that holds, else the event
+abbrev pub planned_again : {L : Type 0} → Machine L → MailState → RegisterStates → Progress L → ℕ → ℕ → Kind → Result Event Refusal
+planned_again machine mail registers progress p k kind =
+    unless_refused (first_refusal (again_checks machine mail registers progress p k kind)) (Some (Step p k kind))
+
 abbrev pub again_answer : {L : Type 0} → Machine L → Parts → RunState L → Event → Result Event Refusal
 again_answer machine setup state (Step p k kind) =
-    option_map_or
-    (λ process. unless_refused (first_refusal (again_checks machine (mail_of state) state.registers process.progress p k kind)) (Some (Step p k kind)))
+    option_map_or (λ process. planned_again machine (mail_of state) state.registers process.progress p k kind)
     (nth state.processes p) (Err refusal.NoProcess)
 again_answer machine setup state (Lost copy) = lose_answer setup state copy.msg copy.to
 

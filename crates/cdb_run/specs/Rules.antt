@@ -8,9 +8,11 @@ use Rattle.cdb_base.specs.declared.refusal.Refusal.{Refusal}
 use Rattle.cdb_message.specs.Mail.{MailState}
 use Rattle.cdb_register.specs.Registers.{RegisterStates}
 use Rattle.cdb_run.specs.Decisions.{decisions_of}
+use Rattle.cdb_process.specs.Table.{Table}
+use Rattle.cdb_run.specs.Machines.{machine_of}
 use Rattle.cdb_run.specs.Mail.{mail_of}
 use Rattle.cdb_run.specs.Refusals.{step_answer, lose_answer, again_answer}
-use Rattle.cdb_run.specs.State.{Machine, ProcessState}
+use Rattle.cdb_run.specs.State.{ProcessState}
 use Rattle.cdb_run.specs.Step.{after, fold, state_of}
 use Rattle.cdb_setup.specs.Parts.{Parts}
 
@@ -37,28 +39,29 @@ pub record Rules : Type 0 where
   pub registers : List Event → RegisterStates
   pub decisions : List Event → List (ℕ × ℕ)
 
-abbrev pub shown_of : {L : Type 0} → (L → ℕ) → (L → ℕ) → (L → Option ℕ) → ProcessState L → Shown
-shown_of place round decision process =
+abbrev pub shown_of : {L : Type 0} → Table L → ProcessState L → Shown
+shown_of table process =
     record {
-      place = place process.progress.local;
-      round = round process.progress.local;
+      place = table.place process.progress.local;
+      round = table.round process.progress.local;
       alive = process.progress.alive;
       steps = process.progress.steps;
       queries = process.progress.queries;
-      decision = decision process.progress.local;
+      decision = table.decision process.progress.local;
     }
 
 -- the rules of a machine at a setup
-abbrev pub rules_of : {L : Type 0} → Machine L → (L → ℕ) → (L → ℕ) → (L → Option ℕ) → Parts → Rules
-rules_of machine place round decision setup =
+abbrev pub rules_of : {L : Type 0} → Table L → Parts → Rules
+rules_of table setup =
+    let machine = machine_of table setup in
     record {
       valid = λ history. is_some (fold machine history);
       enabled = λ history event. is_some (after machine (state_of machine history) event);
       step = λ history p act. step_answer machine setup (state_of machine history) p act;
       lose = λ history name p. lose_answer setup (state_of machine history) name p;
       again = λ history event. again_answer machine setup (state_of machine history) event;
-      process = λ history p. option_map (shown_of place round decision) (nth (state_of machine history).processes p);
+      process = λ history p. option_map (shown_of table) (nth (state_of machine history).processes p);
       mail = λ history. mail_of (state_of machine history);
       registers = λ history. (state_of machine history).registers;
-      decisions = λ history. decisions_of decision (state_of machine history);
+      decisions = λ history. decisions_of table.decision (state_of machine history);
     }

@@ -1,20 +1,22 @@
 //! A run of either algorithm.
 
-ghost use Rattle.std.specs.Prelude.{◌≡◌, ◌≤◌, ◌↔◌, [], false, None, Some, is_some, IsTrue, IsSome, IfNone, IsOk, IfOk, OnErr, Ok, Err, MatchOption, MatchResult, option_map, vec_capacity};
+ghost use Rattle.std.specs.Prelude.{◌≡◌, ◌≤◌, ◌↔◌, [], None, Some, is_some, IsTrue, IsSome, IfNone, IsOk, IfOk, OnOk, OnErr, vec_capacity};
 ghost use Rattle.std.specs.Option.{option_copied};
 ghost use Rattle.std.specs.Result.{result_err};
+ghost use Rattle.std.specs.Vec.{vec_items};
 ghost use Rattle.cdb_causal.specs.Dependence.{depends};
 ghost use Rattle.cdb_causal.specs.Exchange.{IsExchanged};
-ghost use Rattle.cdb_message.specs.Mail.{message_name, copy_name, next_pending, payload_of, is_lost};
-ghost use Rattle.cdb_register.specs.Registers.{register_of};
+ghost use Rattle.cdb_message.specs.Mail.{next_pending, payload_of, is_lost};
 ghost use Rattle.cdb_run.specs.Agreement.{AllAgree, HasMajorityIfNeeded};
 ghost use Rattle.cdb_run.specs.Algorithms.{rules};
 ghost use Rattle.cdb_run.specs.Any.{run_view, IsTrueToSetup};
-ghost use Rattle.cdb_run.specs.Refusals.{IsOfRun, with_taken};
+ghost use Rattle.cdb_run.specs.ByRules.{IsNext, IsInOrder, process_in, alive_in, steps_in, queries_in, place_in, round_in, decision_in, mail_in, register_in, cell_in, writes_in, decisions_in, answer_to_step, answer_to_again, answer_to_loss};
+ghost use Rattle.cdb_run.specs.EventRefs.{name_of};
+ghost use Rattle.cdb_run.specs.Refusals.{IsOfRun};
+ghost use Rattle.cdb_run.specs.Runs.{step_name, loss_name, IsNumberAmong, RollsBackOnto, Tells, undo_answer, rollback_answer, causes_in, with_answer, after_undo, after_rollback, CanUndo, IsJustTaken};
 ghost use Rattle.cdb_run.specs.SameState.{ReachSameState};
-ghost use Rattle.cdb_run.specs.Step.{is_among};
-ghost use Rattle.cdb_run.specs.Undo.{undo_of, rollback_of, causes_of, answered, left_by, number_removed, with_removed};
 
+use crate::event_ref::EventRef;
 use crate::run::Run;
 use cdb_alpha::Alpha;
 use cdb_base::{
@@ -57,9 +59,12 @@ impl AnyRun {
         act: Act,
     ) -> Result<Result<Event, Refusal>, NoMemory>
         requires { IsTrueToSetup self.old }
-        ensures answer { IfOk result (λ answer. answer ≡ (rules (run_view self.old).setup).step (run_view self.old).history p act) }
-        ensures after { IfOk result (λ answer. run_view self.new ≡ record (run_view self.old) { history = with_taken (run_view self.old).history answer }) }
+        ensures answer { IfOk result (λ r. r ≡ answer_to_step rules (run_view self.old) p act) }
+        ensures after { IfOk result (λ r. run_view self.new ≡ with_answer (run_view self.old) r) }
+        ensures undoable { IfOk result
+            (λ r. IfOk r (λ event. IsJustTaken (run_view self.new) event (run_view self.old))) }
         ensures err { OnErr result (self.new ≡ self.old) }
+        ensures memory { OnErr result (IsOk (answer_to_step rules (run_view self.old) p act)) }
         ensures true_to_setup { IsTrueToSetup self.new }
     {
         match self {
@@ -71,7 +76,7 @@ impl AnyRun {
     /// What a step of process `p` would be refused with, if it would be.
     pub fn refuses(&self, p: u32, act: Act) -> Option<Refusal>
         requires { IsTrueToSetup self.now }
-        ensures { result ≡ result_err ((rules (run_view self.now).setup).step (run_view self.now).history p act) }
+        ensures { result ≡ result_err (answer_to_step rules (run_view self.now) p act) }
     {
         match self {
             AnyRun::Leader(run) => run.refuses(p, act),
@@ -90,10 +95,14 @@ impl AnyRun {
     ) -> Result<Result<Event, Refusal>, NoMemory>
         requires true_to_setup { IsTrueToSetup self.old }
         requires of_run { IsOfRun (run_view self.old).setup event.now }
-        ensures answer { IfOk result (λ answer. answer ≡ (rules (run_view self.old).setup).again (run_view self.old).history event.now) }
-        ensures taken { IfOk result (λ answer. IsOk answer ↔ IsTrue ((rules (run_view self.old).setup).enabled (run_view self.old).history event.now)) }
-        ensures after { IfOk result (λ answer. run_view self.new ≡ record (run_view self.old) { history = with_taken (run_view self.old).history answer }) }
+        ensures answer { IfOk result
+            (λ r. r ≡ answer_to_again rules (run_view self.old) event.now) }
+        ensures taken { IfOk result (λ r. IsOk r ↔ IsNext rules (run_view self.old) event.now) }
+        ensures after { IfOk result (λ r. run_view self.new ≡ with_answer (run_view self.old) r) }
+        ensures undoable { IfOk result
+            (λ r. IfOk r (λ event. IsJustTaken (run_view self.new) event (run_view self.old))) }
         ensures err { OnErr result (self.new ≡ self.old) }
+        ensures memory { OnErr result (IsOk (answer_to_again rules (run_view self.old) event.now)) }
         ensures true_to_setup { IsTrueToSetup self.new }
     {
         match self {
@@ -113,9 +122,12 @@ impl AnyRun {
         p: u32,
     ) -> Result<Result<Event, Refusal>, NoMemory>
         requires { IsTrueToSetup self.old }
-        ensures answer { IfOk result (λ answer. answer ≡ (rules (run_view self.old).setup).lose (run_view self.old).history (message_name s m) p) }
-        ensures after { IfOk result (λ answer. run_view self.new ≡ record (run_view self.old) { history = with_taken (run_view self.old).history answer }) }
+        ensures answer { IfOk result (λ r. r ≡ answer_to_loss rules (run_view self.old) s m p) }
+        ensures after { IfOk result (λ r. run_view self.new ≡ with_answer (run_view self.old) r) }
+        ensures undoable { IfOk result
+            (λ r. IfOk r (λ event. IsJustTaken (run_view self.new) event (run_view self.old))) }
         ensures err { OnErr result (self.new ≡ self.old) }
+        ensures memory { OnErr result (IsOk (answer_to_loss rules (run_view self.old) s m p)) }
         ensures true_to_setup { IsTrueToSetup self.new }
     {
         match self {
@@ -124,38 +136,57 @@ impl AnyRun {
         }
     }
 
-    /// Undoes the `k`-th step of process `p`, whatever came later in time, or answers the first
-    /// refusal that holds: `NoProcess`, `NoStep`, or `NeededBy` the first standing event that depends
-    /// on it. After a refusal the run is as it was. It takes no memory.
+    /// Undoes an event, whatever came later in time, or returns the first refusal that holds: `NoProcess`, `NoStep`,
+    /// or `NeededBy` the first standing event that depends on it. After a refusal the run is as it was. It takes no
+    /// memory.
+    pub fn undo_event(&mut self, event: EventRef) -> Result<Event, Refusal>
+        requires { IsTrueToSetup self.old }
+        ensures answer { result ≡ undo_answer (run_view self.old) (name_of event) }
+        ensures after { run_view self.new ≡ after_undo (run_view self.old) (name_of event) }
+        ensures free { IsOk result ↔ CanUndo (run_view self.old) (name_of event) }
+        ensures true_to_setup { IsTrueToSetup self.new }
+    {
+        match self {
+            AnyRun::Leader(run) => run.undo_event(event),
+            AnyRun::Alpha(run) => run.undo_event(event),
+        }
+    }
+
+    /// What `undo_event` would be refused with, if it would be. It takes no memory.
+    pub fn refuses_undo(&self, event: EventRef) -> Option<Refusal>
+        requires { IsTrueToSetup self.now }
+        ensures { result ≡ result_err (undo_answer (run_view self.now) (name_of event)) }
+    {
+        match self {
+            AnyRun::Leader(run) => run.refuses_undo(event),
+            AnyRun::Alpha(run) => run.refuses_undo(event),
+        }
+    }
+
+    /// Undoes the `k`-th step of process `p`, as `undo_event` does.
     pub fn undo(&mut self, p: u32, k: u32) -> Result<Event, Refusal>
         requires { IsTrueToSetup self.old }
-        ensures answer { result ≡ answered (undo_of (run_view self.old).setup.processes (run_view self.old).history (StepId.Step (record { p = p; k = k }))) }
-        ensures after { run_view self.new ≡ record (run_view self.old) { history = left_by (run_view self.old).history (undo_of (run_view self.old).setup.processes (run_view self.old).history (StepId.Step (record { p = p; k = k }))) } }
+        ensures answer { result ≡ undo_answer (run_view self.old) (step_name p k) }
+        ensures after { run_view self.new ≡ after_undo (run_view self.old) (step_name p k) }
+        ensures free { IsOk result ↔ CanUndo (run_view self.old) (step_name p k) }
         ensures true_to_setup { IsTrueToSetup self.new }
     {
-        match self {
-            AnyRun::Leader(run) => run.undo(p, k),
-            AnyRun::Alpha(run) => run.undo(p, k),
-        }
+        self.undo_event(EventRef::Step(p, k))
     }
 
-    /// Undoes the loss of the copy for process `p` of the `m`-th message of process `s`, or answers
-    /// the first refusal that holds: `NoProcess` of `s` or `p`, `NoStep`, or `NeededBy`. After a
-    /// refusal the run is as it was. It takes no memory.
+    /// Undoes the loss of the copy for process `p` of the `m`-th message of process `s`, as `undo_event` does.
     pub fn undo_lost(&mut self, s: u32, m: u32, p: u32) -> Result<Event, Refusal>
         requires { IsTrueToSetup self.old }
-        ensures answer { result ≡ answered (undo_of (run_view self.old).setup.processes (run_view self.old).history (StepId.Lost (copy_name (message_name s m) p))) }
-        ensures after { run_view self.new ≡ record (run_view self.old) { history = left_by (run_view self.old).history (undo_of (run_view self.old).setup.processes (run_view self.old).history (StepId.Lost (copy_name (message_name s m) p))) } }
+        ensures answer { result ≡ undo_answer (run_view self.old) (loss_name s m p) }
+        ensures after { run_view self.new ≡ after_undo (run_view self.old) (loss_name s m p) }
+        ensures free { IsOk result ↔ CanUndo (run_view self.old) (loss_name s m p) }
         ensures true_to_setup { IsTrueToSetup self.new }
     {
-        match self {
-            AnyRun::Leader(run) => run.undo_lost(s, m, p),
-            AnyRun::Alpha(run) => run.undo_lost(s, m, p),
-        }
+        self.undo_event(EventRef::Lost(s, m, p))
     }
 
-    /// Takes the `k`-th step of process `p` back with its consequences, and answers what was taken
-    /// back, the last first; or answers the first refusal that holds: `NoProcess` or `NoStep`. After a
+    /// Takes the `k`-th step of process `p` back with its consequences, and returns what was taken
+    /// back, the last first; or returns the first refusal that holds: `NoProcess` or `NoStep`. After a
     /// refusal and after `NoMemory` the run is as it was.
     pub fn rollback(
         &mut self,
@@ -164,9 +195,13 @@ impl AnyRun {
         k: u32,
     ) -> Result<Result<Vec<Event>, Refusal>, NoMemory>
         requires { IsTrueToSetup self.old }
-        ensures answer { IfOk result (λ answer. MatchResult answer (λ taken. answered (rollback_of (run_view self.old).setup.processes (run_view self.old).history (StepId.Step (record { p = p; k = k }))) ≡ Ok taken.items) (λ why. answered (rollback_of (run_view self.old).setup.processes (run_view self.old).history (StepId.Step (record { p = p; k = k }))) ≡ Err why)) }
-        ensures after { IfOk result (λ _. run_view self.new ≡ record (run_view self.old) { history = left_by (run_view self.old).history (rollback_of (run_view self.old).setup.processes (run_view self.old).history (StepId.Step (record { p = p; k = k }))) }) }
+        ensures answer { IfOk result
+            (λ r. Tells vec_items r (rollback_answer (run_view self.old) (step_name p k))) }
+        ensures after { OnOk result
+            (run_view self.new ≡ after_rollback (run_view self.old) (step_name p k)) }
         ensures err { OnErr result (self.new ≡ self.old) }
+        ensures memory { OnErr result
+            (IsOk (rollback_answer (run_view self.old) (step_name p k))) }
         ensures true_to_setup { IsTrueToSetup self.new }
     {
         match self {
@@ -176,7 +211,7 @@ impl AnyRun {
     }
 
     /// Takes the loss of the copy for process `p` of the `m`-th message of process `s` back with its
-    /// consequences, and answers what was taken back, the last first; or answers the first refusal
+    /// consequences, and returns what was taken back, the last first; or answers the first refusal
     /// that holds: `NoProcess` of `s` or `p`, or `NoStep`. After a refusal and after `NoMemory` the run
     /// is as it was.
     pub fn rollback_lost(
@@ -187,9 +222,13 @@ impl AnyRun {
         p: u32,
     ) -> Result<Result<Vec<Event>, Refusal>, NoMemory>
         requires { IsTrueToSetup self.old }
-        ensures answer { IfOk result (λ answer. MatchResult answer (λ taken. answered (rollback_of (run_view self.old).setup.processes (run_view self.old).history (StepId.Lost (copy_name (message_name s m) p))) ≡ Ok taken.items) (λ why. answered (rollback_of (run_view self.old).setup.processes (run_view self.old).history (StepId.Lost (copy_name (message_name s m) p))) ≡ Err why)) }
-        ensures after { IfOk result (λ _. run_view self.new ≡ record (run_view self.old) { history = left_by (run_view self.old).history (rollback_of (run_view self.old).setup.processes (run_view self.old).history (StepId.Lost (copy_name (message_name s m) p))) }) }
+        ensures answer { IfOk result
+            (λ r. Tells vec_items r (rollback_answer (run_view self.old) (loss_name s m p))) }
+        ensures after { OnOk result
+            (run_view self.new ≡ after_rollback (run_view self.old) (loss_name s m p)) }
         ensures err { OnErr result (self.new ≡ self.old) }
+        ensures memory { OnErr result
+            (IsOk (rollback_answer (run_view self.old) (loss_name s m p))) }
         ensures true_to_setup { IsTrueToSetup self.new }
     {
         match self {
@@ -198,87 +237,46 @@ impl AnyRun {
         }
     }
 
-    /// Takes the `k`-th step of process `p` back with its consequences, adds what was taken back to
-    /// the end of a list, the last first, and answers how many events that are; or answers the first
-    /// refusal that holds: `NoProcess` or `NoStep`. After a refusal and after `NoMemory` run and list
-    /// are as they were.
-    pub fn rollback_onto(
+    /// Takes an event back with its consequences, adds what was taken back to the end of a list, the last first, and
+    /// returns how many events that are; or returns the first refusal that holds: `NoProcess` or `NoStep`. After a
+    /// refusal and after `NoMemory` run and list are as they were. A refusal takes no memory.
+    pub fn rollback_event(
         &mut self,
         alloc: Global,
-        p: u32,
-        k: u32,
+        event: EventRef,
         taken: &mut Vec<Event>,
     ) -> Result<Result<usize, Refusal>, NoMemory>
         requires { IsTrueToSetup self.old }
-        ensures answer { IfOk result (λ answer. answer ≡ number_removed (answered (rollback_of (run_view self.old).setup.processes (run_view self.old).history (StepId.Step (record { p = p; k = k }))))) }
-        ensures after { IfOk result (λ _. run_view self.new ≡ record (run_view self.old) { history = left_by (run_view self.old).history (rollback_of (run_view self.old).setup.processes (run_view self.old).history (StepId.Step (record { p = p; k = k }))) }) }
-        ensures list { IfOk result (λ _. taken.new.items ≡ with_removed taken.old.items (answered (rollback_of (run_view self.old).setup.processes (run_view self.old).history (StepId.Step (record { p = p; k = k }))))) }
-        ensures err { OnErr result (self.new ≡ self.old) }
-        ensures list_err { OnErr result (taken.new.items ≡ taken.old.items) }
+        ensures rolled_back { RollsBackOnto (run_view self.old) (run_view self.new) (name_of event)
+            taken.old.items taken.new.items result }
         ensures capacity { vec_capacity taken.old ≤ vec_capacity taken.new }
+        ensures err { OnErr result (self.new ≡ self.old) }
         ensures true_to_setup { IsTrueToSetup self.new }
     {
         match self {
-            AnyRun::Leader(run) => run.rollback_onto(alloc, p, k, taken),
-            AnyRun::Alpha(run) => run.rollback_onto(alloc, p, k, taken),
+            AnyRun::Leader(run) => run.rollback_event(alloc, event, taken),
+            AnyRun::Alpha(run) => run.rollback_event(alloc, event, taken),
         }
     }
 
-    /// Takes the loss of the copy for process `p` of the `m`-th message of process `s` back with its
-    /// consequences, adds what was taken back to the end of a list, the last first, and answers how
-    /// many events that are; or answers the first refusal that holds: `NoProcess` of `s` or `p`, or
-    /// `NoStep`. After a refusal and after `NoMemory` run and list are as they were.
-    pub fn rollback_lost_onto(
-        &mut self,
-        alloc: Global,
-        s: u32,
-        m: u32,
-        p: u32,
-        taken: &mut Vec<Event>,
-    ) -> Result<Result<usize, Refusal>, NoMemory>
-        requires { IsTrueToSetup self.old }
-        ensures answer { IfOk result (λ answer. answer ≡ number_removed (answered (rollback_of (run_view self.old).setup.processes (run_view self.old).history (StepId.Lost (copy_name (message_name s m) p))))) }
-        ensures after { IfOk result (λ _. run_view self.new ≡ record (run_view self.old) { history = left_by (run_view self.old).history (rollback_of (run_view self.old).setup.processes (run_view self.old).history (StepId.Lost (copy_name (message_name s m) p))) }) }
-        ensures list { IfOk result (λ _. taken.new.items ≡ with_removed taken.old.items (answered (rollback_of (run_view self.old).setup.processes (run_view self.old).history (StepId.Lost (copy_name (message_name s m) p))))) }
-        ensures err { OnErr result (self.new ≡ self.old) }
-        ensures list_err { OnErr result (taken.new.items ≡ taken.old.items) }
-        ensures capacity { vec_capacity taken.old ≤ vec_capacity taken.new }
-        ensures true_to_setup { IsTrueToSetup self.new }
+    /// The direct causes of a standing event, in order of process, at most one of each; or the first refusal that
+    /// holds: `NoProcess` or `NoStep`. It takes no memory.
+    pub fn causes_of(&self, alloc: Global, event: EventRef) -> Result<SmallVec<StepId, 9>, Refusal>
+        requires { IsTrueToSetup self.now }
+        ensures { Tells (λ c. c.items) result (causes_in (run_view self.now) (name_of event)) }
     {
         match self {
-            AnyRun::Leader(run) => run.rollback_lost_onto(alloc, s, m, p, taken),
-            AnyRun::Alpha(run) => run.rollback_lost_onto(alloc, s, m, p, taken),
+            AnyRun::Leader(run) => run.causes_of(alloc, event),
+            AnyRun::Alpha(run) => run.causes_of(alloc, event),
         }
     }
 
-    /// The direct causes of the `k`-th step of process `p`, in order of process, at most one of each;
-    /// or the first refusal that holds: `NoProcess` or `NoStep`. It takes no memory.
+    /// The direct causes of the `k`-th step of process `p`, as `causes_of` returns them.
     pub fn causes(&self, alloc: Global, p: u32, k: u32) -> Result<SmallVec<StepId, 9>, Refusal>
         requires { IsTrueToSetup self.now }
-        ensures { MatchResult result (λ causes. causes_of (run_view self.now).setup.processes (run_view self.now).history (StepId.Step (record { p = p; k = k })) ≡ Ok causes.items) (λ why. causes_of (run_view self.now).setup.processes (run_view self.now).history (StepId.Step (record { p = p; k = k })) ≡ Err why) }
+        ensures { Tells (λ c. c.items) result (causes_in (run_view self.now) (step_name p k)) }
     {
-        match self {
-            AnyRun::Leader(run) => run.causes(alloc, p, k),
-            AnyRun::Alpha(run) => run.causes(alloc, p, k),
-        }
-    }
-
-    /// The direct cause of the loss of the copy for process `p` of the `m`-th message of process `s`;
-    /// or the first refusal that holds: `NoProcess` of `s` or `p`, or `NoStep`. It takes no memory.
-    pub fn causes_of_loss(
-        &self,
-        alloc: Global,
-        s: u32,
-        m: u32,
-        p: u32,
-    ) -> Result<SmallVec<StepId, 9>, Refusal>
-        requires { IsTrueToSetup self.now }
-        ensures { MatchResult result (λ causes. causes_of (run_view self.now).setup.processes (run_view self.now).history (StepId.Lost (copy_name (message_name s m) p)) ≡ Ok causes.items) (λ why. causes_of (run_view self.now).setup.processes (run_view self.now).history (StepId.Lost (copy_name (message_name s m) p)) ≡ Err why) }
-    {
-        match self {
-            AnyRun::Leader(run) => run.causes_of_loss(alloc, s, m, p),
-            AnyRun::Alpha(run) => run.causes_of_loss(alloc, s, m, p),
-        }
+        self.causes_of(alloc, EventRef::Step(p, k))
     }
 
     /// The setup of the run.
@@ -295,7 +293,7 @@ impl AnyRun {
     pub fn history(&self) -> &[Event]
         requires { IsTrueToSetup self.now }
         ensures events { result.now ≡ (run_view self.now).history }
-        ensures valid { IsTrue ((rules (run_view self.now).setup).valid (run_view self.now).history) }
+        ensures valid { IsInOrder rules (run_view self.now) }
     {
         match self {
             AnyRun::Leader(run) => run.history(),
@@ -306,8 +304,8 @@ impl AnyRun {
     /// The process of that number, where the run has it.
     pub fn process(&self, p: u32) -> Option<Proc>
         requires { IsTrueToSetup self.now }
-        ensures number { MatchOption result (is_among (run_view self.now).setup.processes p ≡ false) (λ q. (q ≡ p) × (p ≤ (run_view self.now).setup.processes) × (1 ≤ p)) }
-        ensures none { IfNone result ((rules (run_view self.now).setup).process (run_view self.now).history p ≡ None) }
+        ensures number { IsNumberAmong (run_view self.now).setup.processes p result }
+        ensures none { IfNone result (process_in rules (run_view self.now) p ≡ None) }
     {
         match self {
             AnyRun::Leader(run) => run.process(p),
@@ -319,7 +317,7 @@ impl AnyRun {
     pub fn alive(&self, p: Proc) -> bool
         requires true_to_setup { IsTrueToSetup self.now }
         requires among { p ≤ (run_view self.now).setup.processes }
-        ensures { option_map (λ shown. shown.alive) ((rules (run_view self.now).setup).process (run_view self.now).history p) ≡ Some result }
+        ensures { alive_in rules (run_view self.now) p ≡ Some result }
     {
         match self {
             AnyRun::Leader(run) => run.alive(p),
@@ -331,7 +329,7 @@ impl AnyRun {
     pub fn steps(&self, p: Proc) -> u32
         requires true_to_setup { IsTrueToSetup self.now }
         requires among { p ≤ (run_view self.now).setup.processes }
-        ensures { option_map (λ shown. shown.steps) ((rules (run_view self.now).setup).process (run_view self.now).history p) ≡ Some result }
+        ensures { steps_in rules (run_view self.now) p ≡ Some result }
     {
         match self {
             AnyRun::Leader(run) => run.steps(p),
@@ -343,7 +341,7 @@ impl AnyRun {
     pub fn queries(&self, p: Proc) -> u32
         requires true_to_setup { IsTrueToSetup self.now }
         requires among { p ≤ (run_view self.now).setup.processes }
-        ensures { option_map (λ shown. shown.queries) ((rules (run_view self.now).setup).process (run_view self.now).history p) ≡ Some result }
+        ensures { queries_in rules (run_view self.now) p ≡ Some result }
     {
         match self {
             AnyRun::Leader(run) => run.queries(p),
@@ -356,7 +354,7 @@ impl AnyRun {
     pub fn place(&self, p: Proc) -> u8
         requires true_to_setup { IsTrueToSetup self.now }
         requires among { p ≤ (run_view self.now).setup.processes }
-        ensures { option_map (λ shown. shown.place) ((rules (run_view self.now).setup).process (run_view self.now).history p) ≡ Some result }
+        ensures { place_in rules (run_view self.now) p ≡ Some result }
     {
         match self {
             AnyRun::Leader(run) => run.local(p).place(),
@@ -368,7 +366,7 @@ impl AnyRun {
     pub fn round(&self, p: Proc) -> u32
         requires true_to_setup { IsTrueToSetup self.now }
         requires among { p ≤ (run_view self.now).setup.processes }
-        ensures { option_map (λ shown. shown.round) ((rules (run_view self.now).setup).process (run_view self.now).history p) ≡ Some result }
+        ensures { round_in rules (run_view self.now) p ≡ Some result }
     {
         match self {
             AnyRun::Leader(run) => run.local(p).round(),
@@ -380,7 +378,7 @@ impl AnyRun {
     pub fn decision(&self, p: Proc) -> Option<Val>
         requires true_to_setup { IsTrueToSetup self.now }
         requires among { p ≤ (run_view self.now).setup.processes }
-        ensures { option_map (λ shown. shown.decision) ((rules (run_view self.now).setup).process (run_view self.now).history p) ≡ Some result }
+        ensures { decision_in rules (run_view self.now) p ≡ Some result }
     {
         match self {
             AnyRun::Leader(run) => run.local(p).decision(),
@@ -391,7 +389,7 @@ impl AnyRun {
     /// Whether the run has the register: Alpha alone has some.
     pub fn has(&self, register: Reg) -> bool
         requires { IsTrueToSetup self.now }
-        ensures { result ≡ is_some (register_of ((rules (run_view self.now).setup).registers (run_view self.now).history) register) }
+        ensures { result ≡ is_some (register_in rules (run_view self.now) register) }
     {
         match self {
             AnyRun::Leader(run) => run.has(register),
@@ -402,8 +400,8 @@ impl AnyRun {
     /// What the register holds.
     pub fn cell(&self, register: Reg) -> Cell
         requires true_to_setup { IsTrueToSetup self.now }
-        requires has { IsSome (register_of ((rules (run_view self.now).setup).registers (run_view self.now).history) register) }
-        ensures { option_map (λ stands. stands.cell) (register_of ((rules (run_view self.now).setup).registers (run_view self.now).history) register) ≡ Some result }
+        requires has { IsSome (register_in rules (run_view self.now) register) }
+        ensures { cell_in rules (run_view self.now) register ≡ Some result }
     {
         match self {
             AnyRun::Leader(run) => run.cell(register),
@@ -414,8 +412,8 @@ impl AnyRun {
     /// How many writes of the register stand.
     pub fn writes(&self, register: Reg) -> u32
         requires true_to_setup { IsTrueToSetup self.now }
-        requires has { IsSome (register_of ((rules (run_view self.now).setup).registers (run_view self.now).history) register) }
-        ensures { option_map (λ stands. stands.writes) (register_of ((rules (run_view self.now).setup).registers (run_view self.now).history) register) ≡ Some result }
+        requires has { IsSome (register_in rules (run_view self.now) register) }
+        ensures { writes_in rules (run_view self.now) register ≡ Some result }
     {
         match self {
             AnyRun::Leader(run) => run.writes(register),
@@ -428,7 +426,7 @@ impl AnyRun {
     pub fn pending(&self, p: Proc, after: Option<MsgName>) -> Option<MsgName>
         requires true_to_setup { IsTrueToSetup self.now }
         requires among { p ≤ (run_view self.now).setup.processes }
-        ensures { result ≡ next_pending ((rules (run_view self.now).setup).mail (run_view self.now).history) p after }
+        ensures { result ≡ next_pending (mail_in rules (run_view self.now)) p after }
     {
         match self {
             AnyRun::Leader(run) => run.pending(p, after),
@@ -439,7 +437,7 @@ impl AnyRun {
     /// The payload of the message of that name, if it was sent.
     pub fn payload(&self, name: MsgName) -> Option<&Payload>
         requires { IsTrueToSetup self.now }
-        ensures { option_copied result ≡ payload_of ((rules (run_view self.now).setup).mail (run_view self.now).history) name }
+        ensures { option_copied result ≡ payload_of (mail_in rules (run_view self.now)) name }
     {
         match self {
             AnyRun::Leader(run) => run.payload(name),
@@ -450,7 +448,7 @@ impl AnyRun {
     /// Whether the copy is lost.
     pub fn lost(&self, copy: CopyName) -> bool
         requires { IsTrueToSetup self.now }
-        ensures { result ≡ is_lost ((rules (run_view self.now).setup).mail (run_view self.now).history) copy }
+        ensures { result ≡ is_lost (mail_in rules (run_view self.now)) copy }
     {
         match self {
             AnyRun::Leader(run) => run.lost(copy),
@@ -464,8 +462,10 @@ impl AnyRun {
         requires true_to_setup { IsTrueToSetup self.now }
         requires other_true_to_setup { IsTrueToSetup other.now }
         requires equal_setups { (run_view self.now).setup ≡ (run_view other.now).setup }
-        ensures state { IsTrue result ↔ ReachSameState (run_view self.now).setup (run_view self.now).history (run_view other.now).history }
-        ensures exchange { IsTrue result ↔ IsExchanged depends (run_view self.now).history (run_view other.now).history }
+        ensures state { IsTrue result ↔ ReachSameState (run_view self.now).setup
+            (run_view self.now).history (run_view other.now).history }
+        ensures exchange { IsTrue result
+            ↔ IsExchanged depends (run_view self.now).history (run_view other.now).history }
     {
         match (self, other) {
             (AnyRun::Leader(run), AnyRun::Leader(other)) => run.same_run(other),
@@ -479,8 +479,9 @@ impl AnyRun {
     /// `NoMemory` if a growth is refused.
     pub fn decisions(&self, alloc: Global) -> Result<Vec<(Proc, Val)>, NoMemory>
         requires { IsTrueToSetup self.now }
-        ensures value { IfOk result (λ found. found.items ≡ (rules (run_view self.now).setup).decisions (run_view self.now).history) }
-        ensures agreement { IfOk result (λ found. HasMajorityIfNeeded (run_view self.now).setup → AllAgree found.items) }
+        ensures value { IfOk result (λ v. v.items ≡ decisions_in rules (run_view self.now)) }
+        ensures agreement { IfOk result
+            (λ found. HasMajorityIfNeeded (run_view self.now).setup → AllAgree found.items) }
     {
         let _ranges = self.setup().n();
         let _valid = self.history();

@@ -3,7 +3,8 @@
 ghost use Rattle.std.specs.Prelude.{◌≡◌, ◌<◌, ◌≤◌, Some, IsSome, IfOk, OnOk, OnErr};
 ghost use Rattle.cdb_run.specs.Back.{put_back, overwritten_cell};
 ghost use Rattle.cdb_run.specs.Mail.{mail_after, IsPostable};
-ghost use Rattle.cdb_run.specs.Step.{sight, arriving, input_of, wished_payload, wished_cell, taken_local, progress_after, registers_after};
+ghost use Rattle.cdb_run.specs.Step.{sight, arriving, input_of, wished_payload, wished_cell, progress_after, registers_after};
+ghost use Rattle.cdb_run.specs.Plans.{local_after, payload_due, cell_due};
 ghost use Rattle.cdb_run.specs.Registers.{IsWritable};
 
 use crate::progress::{Progress, count, give_back, take_input};
@@ -107,15 +108,23 @@ pub(crate) fn change<P: Process>(
 ) -> Result<Left<P::Back>, NoMemory>
     requires steps { progress.old.steps < 9999 }
     requires queries { progress.old.queries ≤ progress.old.steps }
-    requires accepted { IsSome (taken_local P.next progress.old.local (input_of kind.now (sight mail.old registers.old p kind.now))) }
+    requires accepted { IsSome
+        (local_after P.table progress.old mail.old registers.old p kind.now) }
     requires postable { IsPostable mail.old p kind.now }
-    requires writable { IsWritable registers.old kind.now (P.wish progress.old.local) }
-    ensures next { IfOk result (λ _. taken_local P.next progress.old.local (input_of kind.now (sight mail.old registers.old p kind.now)) ≡ Some progress.new.local) }
-    ensures counted { IfOk result (λ _. progress.new ≡ progress_after progress.old kind.now progress.new.local) }
-    ensures mail { IfOk result (λ _. mail.new ≡ mail_after mail.old p kind.now (wished_payload (P.wish progress.old.local))) }
-    ensures registers { IfOk result (λ _. registers.new ≡ registers_after registers.old kind.now (wished_cell (P.wish progress.old.local))) }
-    ensures back { IfOk result (λ left. put_back P.before progress.new.local left.back ≡ progress.old.local) }
-    ensures overwritten { IfOk result (λ left. left.overwritten ≡ overwritten_cell registers.old kind.now) }
+    requires writable { IsWritable registers.old kind.now (P.table.wish progress.old.local) }
+    ensures next { OnOk result
+        (local_after P.table progress.old mail.old registers.old p kind.now
+        ≡ Some progress.new.local) }
+    ensures counted { OnOk result
+        (progress.new ≡ progress_after progress.old kind.now progress.new.local) }
+    ensures mail { OnOk result
+        (mail.new ≡ mail_after mail.old p kind.now (payload_due P.table progress.old)) }
+    ensures registers { OnOk result
+        (registers.new ≡ registers_after registers.old kind.now (cell_due P.table progress.old)) }
+    ensures back { IfOk result
+        (λ left. put_back P.before progress.new.local left.back ≡ progress.old.local) }
+    ensures overwritten { IfOk result
+        (λ left. left.overwritten ≡ overwritten_cell registers.old kind.now) }
     ensures same_progress { OnErr result (progress.new ≡ progress.old) }
     ensures same_mail { OnErr result (mail.new ≡ mail.old) }
     ensures same_registers { OnErr result (registers.new ≡ registers.old) }

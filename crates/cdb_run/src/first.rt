@@ -1,8 +1,7 @@
 //! The processes of a run in which nothing has happened.
 
-ghost use Rattle.std.specs.Prelude.{◌≡◌, map, IfOk};
-ghost use Rattle.cdb_run.specs.Machines.{first_states};
-ghost use Rattle.cdb_run.specs.State.{fresh_progress};
+ghost use Rattle.std.specs.Prelude.{◌≡◌, IfOk};
+ghost use Rattle.cdb_run.specs.Machines.{progress_at_start};
 
 use crate::progress::Progress;
 use cdb_base::{NoMemory, Proc};
@@ -15,7 +14,7 @@ pub(crate) fn first_processes<P: Process>(
     alloc: Global,
     setup: &Setup,
 ) -> Result<Vec<Progress<P>>, NoMemory>
-    ensures { IfOk result (λ processes. processes.items ≡ map fresh_progress (first_states P.first 1 setup.now.processes setup.now.quorum setup.now.inputs)) }
+    ensures { IfOk result (λ processes. processes.items ≡ progress_at_start P.table setup.now) }
 {
     let n = setup.n();
     let mut processes = Vec::new(alloc);

@@ -5,6 +5,7 @@ pub mod agreement;
 mod among;
 mod any;
 mod change;
+mod event_ref;
 mod first;
 pub mod laws;
 mod own_steps;
@@ -15,5 +16,6 @@ mod run;
 
 pub use any::AnyRun;
 pub use cdb_base::Act;
+pub use event_ref::EventRef;
 pub use progress::Progress;
 pub use run::Run;

@@ -65,7 +65,8 @@ impl WriteCounts {
     /// Counts a write of the register.
     fn add(&mut self, register: Reg)
         requires { count_of self.old register + 1 < 2 ^ 64 }
-        ensures { (other : ARegister) → count_of self.new other ≡ with_write (count_of self.old) register other }
+        ensures { (other : ARegister) →
+            count_of self.new other ≡ with_write (count_of self.old) register other }
     {
         match register {
             Reg::R(p) => self.of_processes[p.index()] += 1,
@@ -76,7 +77,8 @@ impl WriteCounts {
     /// Counts the event, where it is a write.
     fn count(&mut self, event: &Event)
         requires { (register : ARegister) → count_of self.old register + 1 < 2 ^ 64 }
-        ensures { (register : ARegister) → count_of self.new register ≡ writes_with (count_of self.old) event.now register }
+        ensures { (register : ARegister) →
+            count_of self.new register ≡ writes_with (count_of self.old) event.now register }
     {
         if let Event::Step {
             kind: Kind::Write(register),

@@ -1,9 +1,9 @@
 //! Whether a step may be taken, and which event it is.
 
-ghost use Rattle.std.specs.Prelude.{◌≡◌, ◌+◌, ◌≤◌, ◌==◌, nat_le, true, false, not, [], ◌∷◌, None, Some, Ok, Err, length, if◌then◌else◌};
-ghost use Rattle.cdb_message.specs.Mail.{sent_by, is_sent, is_received, is_lost, message_name, copy_name};
-ghost use Rattle.cdb_run.specs.Refusals.{first_refusal, wished_kind, accepts_kind, planned, unless_refused, again_checks, lose_checks};
-ghost use Rattle.cdb_run.specs.Machines.{machine_of};
+ghost use Rattle.std.specs.Prelude.{◌≡◌, ◌≤◌, ◌==◌, true, false, None, Some, length};
+ghost use Rattle.cdb_message.specs.Mail.{message_name};
+ghost use Rattle.cdb_run.specs.Plans.{plan_at, plan_again_at, refusal_again_at, copy_refusal, next_step_of, step_if_accepted};
+ghost use Rattle.cdb_run.specs.Refusals.{wished_kind, accepts_kind, planned_loss};
 
 use crate::among::process_among;
 use crate::progress::Progress;
@@ -30,7 +30,7 @@ fn kind_of_wish(wish: &Wish, sends: u16) -> Kind
 /// Whether a machine accepts a step of that kind now.
 fn does_accept<P: Process>(local: &P, sends: u16, registers: &Registers, kind: &Kind) -> bool
     requires { sends ≤ 9999 }
-    ensures { result ≡ accepts_kind P.next local.now sends registers.now kind.now }
+    ensures { result ≡ accepts_kind P.table.next local.now sends registers.now kind.now }
 {
     match kind {
         Kind::Query(_) => accepts_query(local),
@@ -51,7 +51,7 @@ fn does_accept<P: Process>(local: &P, sends: u16, registers: &Registers, kind: &
 
 /// The next step of process `p`, where it has fewer than it may have.
 fn next_step<P: Process>(progress: &Progress<P>, p: Proc, kind: Kind) -> Result<Event, Refusal>
-    ensures { result ≡ (if nat_le 9999 progress.now.steps then Err Refusal.StepLimit else Ok (Event.Step p (progress.now.steps + 1) kind)) }
+    ensures { result ≡ next_step_of progress.now p kind }
 {
     if progress.steps >= u32::from(MAX_STEPS) {
         return Err(Refusal::StepLimit);
@@ -68,9 +68,7 @@ fn plan_kind<P: Process>(
     p: Proc,
     kind: Kind,
 ) -> Result<Event, Refusal>
-    ensures { result ≡ (if accepts_kind P.next progress.now.local (length (sent_by mail.now p)) registers.now kind
-        then (if nat_le 9999 progress.now.steps then Err Refusal.StepLimit else Ok (Event.Step p (progress.now.steps + 1) kind))
-        else Err Refusal.NotNow) }
+    ensures { result ≡ step_if_accepted P.table mail.now registers.now progress.now p kind }
 {
     let asked = kind;
     if !does_accept(&progress.local, mail.count_sent(p), registers, &asked) {
@@ -88,8 +86,8 @@ fn plan_go<P: Process>(
     p: Proc,
 ) -> Result<Event, Refusal>
     requires alive { progress.now.alive ≡ true }
-    requires going { (P.place progress.now.local == P.last_place) ≡ false }
-    ensures { result ≡ planned (machine_of P.first P.next P.wish P.place P.last_place setup.now) setup.now mail.now registers.now progress.now p Act.Go }
+    requires going { (P.table.place progress.now.local == P.table.last_place) ≡ false }
+    ensures { result ≡ plan_at P.table setup.now mail.now registers.now progress.now p Act.Go }
 {
     let Some(wish) = progress.local.wish() else {
         return Err(Refusal::NotNow);
@@ -107,9 +105,10 @@ fn plan_query<P: Process>(
     p: Proc,
 ) -> Result<Event, Refusal>
     requires alive { progress.now.alive ≡ true }
-    requires going { (P.place progress.now.local == P.last_place) ≡ false }
+    requires going { (P.table.place progress.now.local == P.table.last_place) ≡ false }
     requires queries { progress.now.queries ≤ 9999 }
-    ensures { result ≡ planned (machine_of P.first P.next P.wish P.place P.last_place setup.now) setup.now mail.now registers.now progress.now p (Act.Query None) }
+    ensures { result ≡ plan_at P.table setup.now mail.now registers.now progress.now p
+        (Act.Query None) }
 {
     if !accepts_query(&progress.local) {
         return Err(Refusal::NotNow);
@@ -130,8 +129,9 @@ fn plan_answer<P: Process>(
     leader: u32,
 ) -> Result<Event, Refusal>
     requires alive { progress.now.alive ≡ true }
-    requires going { (P.place progress.now.local == P.last_place) ≡ false }
-    ensures { result ≡ planned (machine_of P.first P.next P.wish P.place P.last_place setup.now) setup.now mail.now registers.now progress.now p (Act.Query (Some leader)) }
+    requires going { (P.table.place progress.now.local == P.table.last_place) ≡ false }
+    ensures { result ≡ plan_at P.table setup.now mail.now registers.now progress.now p
+        (Act.Query (Some leader)) }
 {
     if !accepts_query(&progress.local) {
         return Err(Refusal::NotNow);
@@ -154,8 +154,9 @@ fn plan_recv<P: Process>(
 ) -> Result<Event, Refusal>
     requires among { p ≤ length mail.now.received }
     requires alive { progress.now.alive ≡ true }
-    requires going { (P.place progress.now.local == P.last_place) ≡ false }
-    ensures { result ≡ planned (machine_of P.first P.next P.wish P.place P.last_place setup.now) setup.now mail.now registers.now progress.now p (Act.Recv s m) }
+    requires going { (P.table.place progress.now.local == P.table.last_place) ≡ false }
+    ensures { result ≡ plan_at P.table setup.now mail.now registers.now progress.now p
+        (Act.Recv s m) }
 {
     if !accepts_receive(&progress.local) {
         return Err(Refusal::NotNow);
@@ -186,7 +187,7 @@ pub(crate) fn plan<P: Process>(
 ) -> Result<Event, Refusal>
     requires among { p ≤ length mail.now.received }
     requires queries { progress.now.queries ≤ 9999 }
-    ensures { result ≡ planned (machine_of P.first P.next P.wish P.place P.last_place setup.now) setup.now mail.now registers.now progress.now p act }
+    ensures { result ≡ plan_at P.table setup.now mail.now registers.now progress.now p act }
 {
     if !progress.alive {
         return Err(Refusal::Crashed);
@@ -207,7 +208,7 @@ pub(crate) fn plan<P: Process>(
 /// Why the copy of a message for process `p` can be neither received nor lost, if it cannot.
 fn refuses_copy(mail: &Mail, p: Proc, name: &MsgName) -> Option<Refusal>
     requires among { p ≤ length mail.now.received }
-    ensures { result ≡ first_refusal ((not (is_sent mail.now name.now), Refusal.NoMessage) ∷ (is_received mail.now p name.now, Refusal.Taken) ∷ (is_lost mail.now (copy_name name.now p), Refusal.Lost) ∷ []) }
+    ensures { result ≡ copy_refusal mail.now p name.now }
 {
     if mail.payload(*name).is_none() {
         return Some(Refusal::NoMessage);
@@ -230,7 +231,7 @@ pub(crate) fn plan_loss(
     p: u32,
 ) -> Result<Event, Refusal>
     requires { length mail.now.received ≡ setup.now.processes }
-    ensures { result ≡ unless_refused (first_refusal (lose_checks setup.now mail.now (message_name s m) p)) (Some (Event.Lost (copy_name (message_name s m) p))) }
+    ensures { result ≡ planned_loss setup.now mail.now (message_name s m) p }
 {
     if setup.version() != 2 {
         return Err(Refusal::NoLoss);
@@ -259,7 +260,8 @@ fn refuses_again<P: Process>(
 ) -> Option<Refusal>
     requires among { p ≤ length mail.now.received }
     requires steps { progress.now.steps ≤ 9999 }
-    ensures { result ≡ first_refusal (again_checks (machine_of P.first P.next P.wish P.place P.last_place setup.now) mail.now registers.now progress.now p k kind.now) }
+    ensures { result ≡ refusal_again_at P.table setup.now mail.now registers.now progress.now p k
+        kind.now }
 {
     if u32::from(k) != progress.steps + 1 {
         return Some(Refusal::Moved);
@@ -291,7 +293,8 @@ pub(crate) fn plan_again<P: Process>(
 ) -> Result<Event, Refusal>
     requires among { p ≤ length mail.now.received }
     requires steps { progress.now.steps ≤ 9999 }
-    ensures { result ≡ unless_refused (first_refusal (again_checks (machine_of P.first P.next P.wish P.place P.last_place setup.now) mail.now registers.now progress.now p k kind.now)) (Some (Event.Step p k kind.now)) }
+    ensures { result ≡ plan_again_at P.table setup.now mail.now registers.now progress.now p k
+        kind.now }
 {
     match refuses_again(setup, mail, registers, progress, p, k, kind) {
         Some(refusal) => Err(refusal),
@@ -304,7 +307,7 @@ pub(crate) fn plan_loss_again(setup: &Setup, mail: &Mail, copy: &CopyName) -> Re
     requires loses { setup.now.version ≡ 2 }
     requires among { copy.now.to ≤ setup.now.processes }
     requires receivers { length mail.now.received ≡ setup.now.processes }
-    ensures { result ≡ unless_refused (first_refusal (lose_checks setup.now mail.now copy.now.msg copy.now.to)) (Some (Event.Lost copy.now)) }
+    ensures { result ≡ planned_loss setup.now mail.now copy.now.msg copy.now.to }
 {
     let _from_one = copy.to.number();
     match refuses_copy(mail, copy.to, &copy.msg) {

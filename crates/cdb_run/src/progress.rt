@@ -26,8 +26,8 @@ pub(crate) fn take_input<P: Process>(
     local: &mut P,
     input: Option<Input>,
 ) -> Result<Option<P::Back>, NoMemory>
-    requires { ForSome input (λ given. IsSome (P.next local.old given)) }
-    ensures next { IfOk result (λ _. taken_local P.next local.old input ≡ Some local.new) }
+    requires { ForSome input (λ given. IsSome (P.table.next local.old given)) }
+    ensures next { IfOk result (λ _. taken_local P.table.next local.old input ≡ Some local.new) }
     ensures back { IfOk result (λ back. put_back P.before local.new back ≡ local.old) }
     ensures unchanged { OnErr result (local.new ≡ local.old) }
 {
@@ -66,7 +66,8 @@ pub(crate) fn decided<P: Process>(
     processes: &[Progress<P>],
 ) -> Result<Vec<(Proc, Val)>, NoMemory>
     requires { length processes.now ≤ 9 }
-    ensures { IfOk result (λ found. found.items ≡ decided_from P.decision 1 (map (λ progress. progress.local) processes.now)) }
+    ensures { IfOk result (λ found. found.items
+        ≡ decided_from P.table.decision 1 (map (λ progress. progress.local) processes.now)) }
 {
     let mut found = Vec::new(alloc);
     for (i, progress) in processes.iter().enumerate() {

@@ -1,19 +1,13 @@
 //! A run, with one current state and a record of each standing event.
 
-ghost use Rattle.std.specs.Prelude.{◌≡◌, ◌<◌, ◌≤◌, ◌↔◌, [], ◌∷◌, ◌++◌, length, false, None, Some, is_some, IsSome, IsOk, IfOk, OnOk, OnErr, IfNone, MatchOption, option_map};
-ghost use Rattle.cdb_base.specs.Places.{nth};
+ghost use Rattle.std.specs.Prelude.{◌≡◌, ◌≤◌, ◌↔◌, [], ◌∷◌, ◌++◌, length, None, Some, is_some, IsSome, IsOk, IfOk, OnOk, OnErr, IfNone};
 ghost use Rattle.cdb_causal.specs.Standing.{IsStanding};
 ghost use Rattle.std.specs.Option.{option_copied};
 ghost use Rattle.std.specs.Result.{result_err};
-ghost use Rattle.cdb_base.specs.declared.event.Event.{Event};
-ghost use Rattle.cdb_message.specs.Mail.{message_name, next_pending, payload_of, is_lost};
+ghost use Rattle.cdb_message.specs.Mail.{next_pending, payload_of, is_lost};
 ghost use Rattle.cdb_record.specs.Entries.{events_of};
-ghost use Rattle.cdb_register.specs.Registers.{register_of};
-ghost use Rattle.cdb_run.specs.Decisions.{decisions_of};
-ghost use Rattle.cdb_run.specs.Mail.{mail_of};
-ghost use Rattle.cdb_run.specs.Machines.{machine_of};
-ghost use Rattle.cdb_run.specs.Refusals.{step_answer, again_answer, lose_answer, IsOfRun, with_taken};
-ghost use Rattle.cdb_run.specs.Step.{IsEnabled, IsValid, is_among, state_of};
+ghost use Rattle.cdb_run.specs.Refusals.{IsOfRun};
+ghost use Rattle.cdb_run.specs.Runs.{IsNumberAmong, IsNext, IsInOrder, process_in, progress_in, alive_in, steps_in, queries_in, local_in, mail_in, registers_in, register_in, cell_in, writes_in, decisions_in, answer_to_step, answer_to_again, answer_to_loss, with_event, with_answer, IsJustTaken};
 
 use crate::among::process_among;
 use crate::change::change;
@@ -56,14 +50,16 @@ impl<P: Process> Model for Run<P> {
 
     ghost view = { λ run. record { setup = run.setup; history = events_of run.records } };
 
-    ghost invariant = { λ run. IsCurrent (machine_of P.first P.next P.wish P.place P.last_place run.setup) P.before run.processes.items run.mail run.registers (events_of run.records) run.records };
+    ghost invariant = { λ run. IsCurrent (machine_of P.table run.setup) P.before run.processes.items run.mail run.registers
+        (events_of run.records) run.records };
 }
 
 /// Adds an event to the records, with nothing yet to take it back by. Without memory they do not
 /// change.
 fn admit<B: Drop>(alloc: Global, records: &mut Records<B>, event: &Event) -> Result<(), NoMemory>
     requires { IsStanding (events_of records.old ++ event.now ∷ []) }
-    ensures ok { OnOk result (records.new ≡ records.old ++ record { event = event.now; back = None; overwritten = None } ∷ []) }
+    ensures ok { OnOk result (records.new
+        ≡ records.old ++ record { event = event.now; back = None; overwritten = None } ∷ []) }
     ensures err { OnErr result (records.new ≡ records.old) }
 {
     records.push(alloc, *event)
@@ -93,8 +89,8 @@ impl<P: Process> Run<P> {
 
     /// Takes an enabled step. A refused growth changes nothing.
     fn take_step(&mut self, alloc: Global, p: Proc, k: u16, kind: &Kind) -> Result<(), NoMemory>
-        requires { IsEnabled (machine_of P.first P.next P.wish P.place P.last_place self.old.setup) (state_of (machine_of P.first P.next P.wish P.place P.last_place self.old.setup) self.old.history) (Event.Step p k kind.now) }
-        ensures ok { OnOk result (self.new ≡ record self.old { history = self.old.history ++ Event.Step p k kind.now ∷ [] }) }
+        requires { IsNext P.table self.old (Event.Step p k kind.now) }
+        ensures ok { OnOk result (self.new ≡ with_event self.old (Event.Step p k kind.now)) }
         ensures err { OnErr result (self.new ≡ self.old) }
     {
         let _ranges = self.setup.n();
@@ -122,8 +118,8 @@ impl<P: Process> Run<P> {
 
     /// Takes an enabled loss. A refused growth changes nothing.
     fn take_loss(&mut self, alloc: Global, copy: &CopyName) -> Result<(), NoMemory>
-        requires { IsEnabled (machine_of P.first P.next P.wish P.place P.last_place self.old.setup) (state_of (machine_of P.first P.next P.wish P.place P.last_place self.old.setup) self.old.history) (Event.Lost copy.now) }
-        ensures ok { OnOk result (self.new ≡ record self.old { history = self.old.history ++ Event.Lost copy.now ∷ [] }) }
+        requires { IsNext P.table self.old (Event.Lost copy.now) }
+        ensures ok { OnOk result (self.new ≡ with_event self.old (Event.Lost copy.now)) }
         ensures err { OnErr result (self.new ≡ self.old) }
     {
         let _ranges = self.setup.n();
@@ -140,10 +136,13 @@ impl<P: Process> Run<P> {
 
     /// Takes an enabled event. A refused growth changes nothing.
     fn take(&mut self, alloc: Global, event: &Event) -> Result<(), NoMemory>
-        requires { IsEnabled (machine_of P.first P.next P.wish P.place P.last_place self.old.setup) (state_of (machine_of P.first P.next P.wish P.place P.last_place self.old.setup) self.old.history) event.now }
-        ensures ok { OnOk result (self.new ≡ record self.old { history = self.old.history ++ event.now ∷ [] }) }
+        requires { IsNext P.table self.old event.now }
+        ensures ok { OnOk result (self.new ≡ with_event self.old event.now) }
+        ensures undoable { OnOk result (IsJustTaken self.new event.now self.old) }
         ensures err { OnErr result (self.new ≡ self.old) }
     {
+        let _ranges = self.setup().n();
+        let _valid = self.history();
         match event {
             Event::Step { p, k, kind } => self.take_step(alloc, *p, *k, kind),
             Event::Lost(copy) => self.take_loss(alloc, copy),
@@ -152,8 +151,8 @@ impl<P: Process> Run<P> {
 
     /// The process of that number, where the run has it.
     pub fn process(&self, p: u32) -> Option<Proc>
-        ensures number { MatchOption result (is_among self.now.setup.processes p ≡ false) (λ q. (q ≡ p) × (p ≤ self.now.setup.processes) × (1 ≤ p)) }
-        ensures none { IfNone result (nth (state_of (machine_of P.first P.next P.wish P.place P.last_place self.now.setup) self.now.history).processes p ≡ None) }
+        ensures number { IsNumberAmong self.now.setup.processes p result }
+        ensures none { IfNone result (process_in P.table self.now p ≡ None) }
     {
         process_among(self.setup.n(), p)
     }
@@ -161,7 +160,7 @@ impl<P: Process> Run<P> {
     /// How far a process has come.
     pub fn progress(&self, p: Proc) -> &Progress<P>
         requires { p ≤ self.now.setup.processes }
-        ensures { option_map (λ process. process.progress) (nth (state_of (machine_of P.first P.next P.wish P.place P.last_place self.now.setup) self.now.history).processes p) ≡ Some result.now }
+        ensures { progress_in P.table self.now p ≡ Some result.now }
     {
         let _ranges = self.setup.n();
         &self.processes[p.index()]
@@ -169,8 +168,8 @@ impl<P: Process> Run<P> {
 
     /// What a step of process `p` is answered.
     fn plan(&self, p: u32, act: Act) -> Result<Event, Refusal>
-        ensures answer { result ≡ step_answer (machine_of P.first P.next P.wish P.place P.last_place self.now.setup) self.now.setup (state_of (machine_of P.first P.next P.wish P.place P.last_place self.now.setup) self.now.history) p act }
-        ensures enabled { IfOk result (λ event. IsEnabled (machine_of P.first P.next P.wish P.place P.last_place self.now.setup) (state_of (machine_of P.first P.next P.wish P.place P.last_place self.now.setup) self.now.history) event) }
+        ensures answer { result ≡ answer_to_step P.table self.now p act }
+        ensures enabled { IfOk result (λ event. IsNext P.table self.now event) }
     {
         let _ranges = self.setup.n();
         let Some(process) = self.process(p) else {
@@ -189,7 +188,7 @@ impl<P: Process> Run<P> {
 
     /// What a step of process `p` would be refused with, if it would be.
     pub fn refuses(&self, p: u32, act: Act) -> Option<Refusal>
-        ensures { result ≡ result_err (step_answer (machine_of P.first P.next P.wish P.place P.last_place self.now.setup) self.now.setup (state_of (machine_of P.first P.next P.wish P.place P.last_place self.now.setup) self.now.history) p act) }
+        ensures { result ≡ result_err (answer_to_step P.table self.now p act) }
     {
         self.plan(p, act).err()
     }
@@ -203,9 +202,11 @@ impl<P: Process> Run<P> {
         p: u32,
         act: Act,
     ) -> Result<Result<Event, Refusal>, NoMemory>
-        ensures answer { IfOk result (λ answer. answer ≡ step_answer (machine_of P.first P.next P.wish P.place P.last_place self.old.setup) self.old.setup (state_of (machine_of P.first P.next P.wish P.place P.last_place self.old.setup) self.old.history) p act) }
-        ensures after { IfOk result (λ answer. self.new ≡ record self.old { history = with_taken self.old.history answer }) }
+        ensures answer { IfOk result (λ r. r ≡ answer_to_step P.table self.old p act) }
+        ensures after { IfOk result (λ r. self.new ≡ with_answer self.old r) }
+        ensures undoable { IfOk result (λ r. IfOk r (λ e. IsJustTaken self.new e self.old)) }
         ensures err { OnErr result (self.new ≡ self.old) }
+        ensures memory { OnErr result (IsOk (answer_to_step P.table self.old p act)) }
     {
         match self.plan(p, act) {
             Ok(event) => {
@@ -219,8 +220,8 @@ impl<P: Process> Run<P> {
     /// What it is answered to take an undone event again.
     fn plan_again(&self, event: &Event) -> Result<Event, Refusal>
         requires { IsOfRun self.now.setup event.now }
-        ensures answer { result ≡ again_answer (machine_of P.first P.next P.wish P.place P.last_place self.now.setup) self.now.setup (state_of (machine_of P.first P.next P.wish P.place P.last_place self.now.setup) self.now.history) event.now }
-        ensures taken { IsOk result ↔ IsEnabled (machine_of P.first P.next P.wish P.place P.last_place self.now.setup) (state_of (machine_of P.first P.next P.wish P.place P.last_place self.now.setup) self.now.history) event.now }
+        ensures answer { result ≡ answer_to_again P.table self.now event.now }
+        ensures taken { IsOk result ↔ IsNext P.table self.now event.now }
         ensures same { IfOk result (λ taken. taken ≡ event.now) }
     {
         let _ranges = self.setup.n();
@@ -251,10 +252,12 @@ impl<P: Process> Run<P> {
         event: &Event,
     ) -> Result<Result<Event, Refusal>, NoMemory>
         requires { IsOfRun self.old.setup event.now }
-        ensures answer { IfOk result (λ answer. answer ≡ again_answer (machine_of P.first P.next P.wish P.place P.last_place self.old.setup) self.old.setup (state_of (machine_of P.first P.next P.wish P.place P.last_place self.old.setup) self.old.history) event.now) }
-        ensures taken { IfOk result (λ answer. IsOk answer ↔ IsEnabled (machine_of P.first P.next P.wish P.place P.last_place self.old.setup) (state_of (machine_of P.first P.next P.wish P.place P.last_place self.old.setup) self.old.history) event.now) }
-        ensures after { IfOk result (λ answer. self.new ≡ record self.old { history = with_taken self.old.history answer }) }
+        ensures answer { IfOk result (λ r. r ≡ answer_to_again P.table self.old event.now) }
+        ensures taken { IfOk result (λ r. IsOk r ↔ IsNext P.table self.old event.now) }
+        ensures after { IfOk result (λ r. self.new ≡ with_answer self.old r) }
+        ensures undoable { IfOk result (λ r. IfOk r (λ e. IsJustTaken self.new e self.old)) }
         ensures err { OnErr result (self.new ≡ self.old) }
+        ensures memory { OnErr result (IsOk (answer_to_again P.table self.old event.now)) }
     {
         let answer = self.plan_again(event);
         if answer.is_ok() {
@@ -273,9 +276,11 @@ impl<P: Process> Run<P> {
         m: u32,
         p: u32,
     ) -> Result<Result<Event, Refusal>, NoMemory>
-        ensures answer { IfOk result (λ answer. answer ≡ lose_answer self.old.setup (state_of (machine_of P.first P.next P.wish P.place P.last_place self.old.setup) self.old.history) (message_name s m) p) }
-        ensures after { IfOk result (λ answer. self.new ≡ record self.old { history = with_taken self.old.history answer }) }
+        ensures answer { IfOk result (λ r. r ≡ answer_to_loss P.table self.old s m p) }
+        ensures after { IfOk result (λ r. self.new ≡ with_answer self.old r) }
+        ensures undoable { IfOk result (λ r. IfOk r (λ e. IsJustTaken self.new e self.old)) }
         ensures err { OnErr result (self.new ≡ self.old) }
+        ensures memory { OnErr result (IsOk (answer_to_loss P.table self.old s m p)) }
     {
         match self.plan_loss(s, m, p) {
             Ok(event) => {
@@ -288,8 +293,8 @@ impl<P: Process> Run<P> {
 
     /// What it is answered to lose a copy.
     fn plan_loss(&self, s: u32, m: u32, p: u32) -> Result<Event, Refusal>
-        ensures answer { result ≡ lose_answer self.now.setup (state_of (machine_of P.first P.next P.wish P.place P.last_place self.now.setup) self.now.history) (message_name s m) p }
-        ensures enabled { IfOk result (λ event. IsEnabled (machine_of P.first P.next P.wish P.place P.last_place self.now.setup) (state_of (machine_of P.first P.next P.wish P.place P.last_place self.now.setup) self.now.history) event) }
+        ensures answer { result ≡ answer_to_loss P.table self.now s m p }
+        ensures enabled { IfOk result (λ event. IsNext P.table self.now event) }
     {
         let _ranges = self.setup.n();
         plan_loss(&self.setup, &self.mail, s, m, p)
@@ -305,7 +310,7 @@ impl<P: Process> Run<P> {
     /// The standing events, in the order in which they were taken: each was enabled in its turn.
     pub fn history(&self) -> &[Event]
         ensures events { result.now ≡ self.now.history }
-        ensures valid { IsValid (machine_of P.first P.next P.wish P.place P.last_place self.now.setup) self.now.history }
+        ensures valid { IsInOrder P.table self.now }
     {
         self.records.history().as_slice()
     }
@@ -320,7 +325,7 @@ impl<P: Process> Run<P> {
     /// Whether no crash of the process stands.
     pub fn alive(&self, p: Proc) -> bool
         requires { p ≤ self.now.setup.processes }
-        ensures { option_map (λ process. process.progress.alive) (nth (state_of (machine_of P.first P.next P.wish P.place P.last_place self.now.setup) self.now.history).processes p) ≡ Some result }
+        ensures { alive_in P.table self.now p ≡ Some result }
     {
         self.progress(p).alive
     }
@@ -328,7 +333,7 @@ impl<P: Process> Run<P> {
     /// How many steps of the process stand.
     pub fn steps(&self, p: Proc) -> u32
         requires { p ≤ self.now.setup.processes }
-        ensures { option_map (λ process. process.progress.steps) (nth (state_of (machine_of P.first P.next P.wish P.place P.last_place self.now.setup) self.now.history).processes p) ≡ Some result }
+        ensures { steps_in P.table self.now p ≡ Some result }
     {
         self.progress(p).steps
     }
@@ -336,7 +341,7 @@ impl<P: Process> Run<P> {
     /// How many queries of the process stand.
     pub fn queries(&self, p: Proc) -> u32
         requires { p ≤ self.now.setup.processes }
-        ensures { option_map (λ process. process.progress.queries) (nth (state_of (machine_of P.first P.next P.wish P.place P.last_place self.now.setup) self.now.history).processes p) ≡ Some result }
+        ensures { queries_in P.table self.now p ≡ Some result }
     {
         self.progress(p).queries
     }
@@ -344,14 +349,14 @@ impl<P: Process> Run<P> {
     /// The machine of the process, in its local state.
     pub fn local(&self, p: Proc) -> &P
         requires { p ≤ self.now.setup.processes }
-        ensures { option_map (λ process. process.progress.local) (nth (state_of (machine_of P.first P.next P.wish P.place P.last_place self.now.setup) self.now.history).processes p) ≡ Some result.now }
+        ensures { local_in P.table self.now p ≡ Some result.now }
     {
         &self.progress(p).local
     }
 
     /// The mail as it stands.
     fn mail(&self) -> &Mail
-        ensures mail { result.now ≡ mail_of (state_of (machine_of P.first P.next P.wish P.place P.last_place self.now.setup) self.now.history) }
+        ensures mail { result.now ≡ mail_in P.table self.now }
         ensures receivers { length result.now.received ≡ self.now.setup.processes }
     {
         let _ranges = self.setup.n();
@@ -360,30 +365,30 @@ impl<P: Process> Run<P> {
 
     /// The registers as they stand.
     fn registers(&self) -> &Registers
-        ensures { result.now ≡ (state_of (machine_of P.first P.next P.wish P.place P.last_place self.now.setup) self.now.history).registers }
+        ensures { result.now ≡ registers_in P.table self.now }
     {
         &self.registers
     }
 
     /// Whether the run has the register: Alpha alone has some.
     pub fn has(&self, register: Reg) -> bool
-        ensures { result ≡ is_some (register_of (state_of (machine_of P.first P.next P.wish P.place P.last_place self.now.setup) self.now.history).registers register) }
+        ensures { result ≡ is_some (register_in P.table self.now register) }
     {
         self.registers().has(register)
     }
 
     /// What the register holds.
     pub fn cell(&self, register: Reg) -> Cell
-        requires { IsSome (register_of (state_of (machine_of P.first P.next P.wish P.place P.last_place self.now.setup) self.now.history).registers register) }
-        ensures { option_map (λ stands. stands.cell) (register_of (state_of (machine_of P.first P.next P.wish P.place P.last_place self.now.setup) self.now.history).registers register) ≡ Some result }
+        requires { IsSome (register_in P.table self.now register) }
+        ensures { cell_in P.table self.now register ≡ Some result }
     {
         self.registers().read(register)
     }
 
     /// How many writes of the register stand.
     pub fn writes(&self, register: Reg) -> u32
-        requires { IsSome (register_of (state_of (machine_of P.first P.next P.wish P.place P.last_place self.now.setup) self.now.history).registers register) }
-        ensures { option_map (λ stands. stands.writes) (register_of (state_of (machine_of P.first P.next P.wish P.place P.last_place self.now.setup) self.now.history).registers register) ≡ Some result }
+        requires { IsSome (register_in P.table self.now register) }
+        ensures { writes_in P.table self.now register ≡ Some result }
     {
         self.registers().writes(register)
     }
@@ -392,28 +397,28 @@ impl<P: Process> Run<P> {
     /// for process `p` was neither received nor lost.
     pub fn pending(&self, p: Proc, after: Option<MsgName>) -> Option<MsgName>
         requires { p ≤ self.now.setup.processes }
-        ensures { result ≡ next_pending (mail_of (state_of (machine_of P.first P.next P.wish P.place P.last_place self.now.setup) self.now.history)) p after }
+        ensures { result ≡ next_pending (mail_in P.table self.now) p after }
     {
         self.mail().pending(p, after)
     }
 
     /// The payload of the message of that name, if it was sent.
     pub fn payload(&self, name: MsgName) -> Option<&Payload>
-        ensures { option_copied result ≡ payload_of (mail_of (state_of (machine_of P.first P.next P.wish P.place P.last_place self.now.setup) self.now.history)) name }
+        ensures { option_copied result ≡ payload_of (mail_in P.table self.now) name }
     {
         self.mail().payload(name)
     }
 
     /// Whether the copy is lost.
     pub fn lost(&self, copy: CopyName) -> bool
-        ensures { result ≡ is_lost (mail_of (state_of (machine_of P.first P.next P.wish P.place P.last_place self.now.setup) self.now.history)) copy }
+        ensures { result ≡ is_lost (mail_in P.table self.now) copy }
     {
         self.mail().lost(copy.to, copy.msg)
     }
 
     /// The decisions that stand: each process that has decided with its value, in order.
     pub fn decisions(&self, alloc: Global) -> Result<Vec<(Proc, Val)>, NoMemory>
-        ensures { IfOk result (λ found. found.items ≡ decisions_of P.decision (state_of (machine_of P.first P.next P.wish P.place P.last_place self.now.setup) self.now.history)) }
+        ensures { IfOk result (λ found. found.items ≡ decisions_in P.table self.now) }
     {
         let _ranges = self.setup.n();
         decided(alloc, &self.processes)

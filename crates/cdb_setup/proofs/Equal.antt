@@ -6,10 +6,10 @@ use Rattle.std.specs.Cmp.Lexicographic.{pointwise, pointwise_decides}
 use Rattle.cdb_setup.specs.declared.setup.Algorithm.{Algorithm}
 use Rattle.cdb_setup.specs.declared.setup.Algorithm.TheVariants.{Leader, Alpha}
 use Rattle.cdb_setup.specs.Parts.{Parts}
-use Rattle.cdb_setup.specs.Equal.{algorithm_place, are_equal}
+use Rattle.cdb_setup.specs.Equal.{algorithm_number, are_equal}
 use Rattle.cdb_setup.proofs.Fields.{same_fields}
 
-same_algorithm : (a b : Algorithm) → Decides (algorithm_place a == algorithm_place b) (a ≡ b)
+same_algorithm : (a b : Algorithm) → Decides (algorithm_number a == algorithm_number b) (a ≡ b)
 same_algorithm Leader Leader = (λ e. refl, λ e. refl)
 same_algorithm Leader Alpha = (λ e. absurd cc, λ e. cc)
 same_algorithm Alpha Leader = (λ e. absurd cc, λ e. cc)

@@ -17,8 +17,8 @@ use Rattle.cdb_setup.specs.declared.key.TheConstants as constants
 use Rattle.cdb_setup.specs.Format.{name_of, HasKnownKeys}
 use Rattle.cdb_setup.specs.Names.{is_key_name}
 use Rattle.cdb_setup.specs.Faults.{Holds}
-use Rattle.cdb_setup.specs.Order.{IsBefore, turn, key_place}
-use Rattle.cdb_setup.specs.Turns.{IsFirstOfTurn}
+use Rattle.cdb_setup.specs.Order.{IsBefore, rank, key_number}
+use Rattle.cdb_setup.specs.Ranks.{IsFirstOfRank}
 
 -- one of the keys has the name
 some_key : (name : List ℕ) (keys : List Key) → list_any (λ k. bytes_eq name (name_of k)) keys ≡ true → (key : Key) × (name ≡ name_of key)
@@ -111,42 +111,42 @@ present (Some value) e none = none value refl
 
 -- the keys of the places below n are there
 abbrev AreThereBelow : Data → ℕ → Type 0
-AreThereBelow json n = (key : Key) → key_place key < n → IsThere json key
+AreThereBelow json n = (key : Key) → key_number key < n → IsThere json key
 
-same_place : (j k : Key) → key_place j ≡ key_place k → j ≡ k
-same_place Algorithm Algorithm e = refl
-same_place Processes Processes e = refl
-same_place Quorum Quorum e = refl
-same_place Inputs Inputs e = refl
-same_place Oracle Oracle e = refl
-same_place Version Version e = refl
-same_place j k e = absurd (omega arith)
+same_number : (j k : Key) → key_number j ≡ key_number k → j ≡ k
+same_number Algorithm Algorithm e = refl
+same_number Processes Processes e = refl
+same_number Quorum Quorum e = refl
+same_number Inputs Inputs e = refl
+same_number Oracle Oracle e = refl
+same_number Version Version e = refl
+same_number j k e = absurd (omega arith)
 
-one_more : (json : Data) (k : Key) → AreThereBelow json (key_place k) → IsThere json k → AreThereBelow json (key_place k + 1)
+one_more : (json : Data) (k : Key) → AreThereBelow json (key_number k) → IsThere json k → AreThereBelow json (key_number k + 1)
 one_more json k before here j below =
-    elim (cases_eq (key_place j) (key_place k)) [
-      | inl same ↦ subst (λ (i : Key). IsThere json i) (sym (same_place j k same)) here
+    elim (cases_eq (key_number j) (key_number k)) [
+      | inl same ↦ subst (λ (i : Key). IsThere json i) (sym (same_number j k same)) here
       | inr other ↦ before j (omega arith)
     ]
 
-first_of_turn : (json : Data) (k : Key) → AreThereBelow json (key_place k) → Holds (faults.Missing k) json
-    → (other : SetupFault) → turn other ≡ 4 → IsBefore other (faults.Missing k) → ¬ Holds other json
-first_of_turn json k before holds (faults.Missing j) at earlier = before j (omega arith)
-first_of_turn json k before holds other at earlier = absurd (omega arith)
+first_of_rank : (json : Data) (k : Key) → AreThereBelow json (key_number k) → Holds (faults.Missing k) json
+    → (other : SetupFault) → rank other ≡ 4 → IsBefore other (faults.Missing k) → ¬ Holds other json
+first_of_rank json k before holds (faults.Missing j) at earlier = before j (omega arith)
+first_of_rank json k before holds other at earlier = absurd (omega arith)
 
 -- the key at which the search stops is the first that is not there
-stops : (json : Data) (k : Key) → AreThereBelow json (key_place k) → Holds (faults.Missing k) json → IsFirstOfTurn 4 (faults.Missing k) json
-stops json k before holds = record { in_turn = refl; holds = holds; first = first_of_turn json k before holds }
+stops : (json : Data) (k : Key) → AreThereBelow json (key_number k) → Holds (faults.Missing k) json → IsFirstOfRank 4 (faults.Missing k) json
+stops json k before holds = record { in_rank = refl; holds = holds; first = first_of_rank json k before holds }
 
 abbrev AreAllThere : Data → Type 0
 AreAllThere json = (key : Key) → IsThere json key
 
 -- what a search that goes on from the key k says
 abbrev Finds : Data → Option Key → Type 0
-Finds json found = MatchOption found (AreAllThere json) (λ k. IsFirstOfTurn 4 (faults.Missing k) json)
+Finds json found = MatchOption found (AreAllThere json) (λ k. IsFirstOfRank 4 (faults.Missing k) json)
 
-goes_on : (json : Data) (k : Key) (missing : Bool) (further : Option Key) → k ≢ Version → is_none (get (name_of k) json) ≡ missing → AreThereBelow json (key_place k)
-    → (AreThereBelow json (key_place k + 1) → Finds json further) → Finds json (cond missing (Some k) further)
+goes_on : (json : Data) (k : Key) (missing : Bool) (further : Option Key) → k ≢ Version → is_none (get (name_of k) json) ≡ missing → AreThereBelow json (key_number k)
+    → (AreThereBelow json (key_number k + 1) → Finds json further) → Finds json (cond missing (Some k) further)
 goes_on json k true further needed e before rest = stops json k before (needed, λ value. absent (get (name_of k) json) value e)
 goes_on json k false further needed e before rest = rest (one_more json k before (λ holds. present (get (name_of k) json) e holds.1))
 

@@ -1,7 +1,7 @@
 pub mod Fields
 pub mod Values
 pub mod Walk
-pub mod Turns
+pub mod Ranks
 pub mod KeyNames
 pub mod NoFault
 pub mod Stages

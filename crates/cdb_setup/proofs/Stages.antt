@@ -1,4 +1,4 @@
--- The parts are read one after the other: what was read leaves no fault of its turn.
+-- The parts are read one after the other: what was read leaves no fault of its rank.
 use Rattle.std.proofs.Common.{◌≡◌, ℕ, ◌+◌, List, length, map, arith, inl, inr}
 use Rattle.std.specs.List.{AllByRecursion}
 use Rattle.std.proofs.lemmas.Bool.{cases_lt}
@@ -11,23 +11,23 @@ use Rattle.cdb_setup.specs.declared.fault.SetupFault.TheVariants.{NotJson, NotOb
 use Rattle.cdb_setup.specs.Parts.{IsWithin}
 use Rattle.cdb_setup.specs.Format.{algorithm_name, whole, array_of, array_of_whole, HasAt, HasKnownKeys}
 use Rattle.cdb_setup.specs.Faults.{Holds, IsCount}
-use Rattle.cdb_setup.specs.Order.{turn, IsBefore}
-use Rattle.cdb_setup.specs.Turns.{IsFirstOfTurn, IsFirstOf, IsClearBelow}
+use Rattle.cdb_setup.specs.Order.{rank, IsBefore}
+use Rattle.cdb_setup.specs.Ranks.{IsFirstOfRank, IsFirstOf, IsClearBelow}
 use Rattle.cdb_setup.proofs.NoFault.{no_bad_input, no_bad_answer}
 
--- the first fault of a turn is the first of all where no earlier turn has one
-pub joined : (t : ℕ) (fault : SetupFault) (json : Data) → IsClearBelow t json → IsFirstOfTurn t fault json → IsFirstOf fault json
+-- the first fault of a rank is the first of all where no earlier rank has one
+pub joined : (t : ℕ) (fault : SetupFault) (json : Data) → IsClearBelow t json → IsFirstOfRank t fault json → IsFirstOf fault json
 joined t fault json clear found = record {
   holds = found.holds;
-  first = λ other before holds. elim (cases_lt (turn other) t) [
+  first = λ other before holds. elim (cases_lt (rank other) t) [
     | inl lt ↦ clear other lt holds
-    | inr le ↦ found.first other (omega (arith, found.in_turn)) before holds
+    | inr le ↦ found.first other (omega (arith, found.in_rank)) before holds
   ];
 }
 
-passes : (t : ℕ) (json : Data) → IsClearBelow t json → ((other : SetupFault) → turn other ≡ t → ¬ Holds other json) → IsClearBelow (t + 1) json
+passes : (t : ℕ) (json : Data) → IsClearBelow t json → ((other : SetupFault) → rank other ≡ t → ¬ Holds other json) → IsClearBelow (t + 1) json
 passes t json clear none other below =
-    elim (cases_lt (turn other) t) [ inl lt ↦ clear other lt | inr le ↦ none other (omega arith) ]
+    elim (cases_lt (rank other) t) [ inl lt ↦ clear other lt | inr le ↦ none other (omega arith) ]
 
 pub after_keys : (members : Members) (json : Data) → json ≡ object members → HasKnownKeys json → ((key : Key) → ¬ Holds (Missing key) json) → IsClearBelow 5 json
 after_keys ms json is known none TooLong below holds = holds
@@ -37,29 +37,29 @@ after_keys ms json is known none UnknownKey below holds = let found = known hold
 after_keys ms json is known none (Missing key) below holds = none key holds
 after_keys ms json is known none other below holds = absurd (omega arith)
 
-no_bad_algorithm : (algorithm : Algorithm) (json : Data) → HasAt key.Algorithm (string (algorithm_name algorithm)) json → (other : SetupFault) → turn other ≡ 5 → ¬ Holds other json
+no_bad_algorithm : (algorithm : Algorithm) (json : Data) → HasAt key.Algorithm (string (algorithm_name algorithm)) json → (other : SetupFault) → rank other ≡ 5 → ¬ Holds other json
 no_bad_algorithm algorithm json at BadAlgorithm is holds = holds algorithm at
 no_bad_algorithm algorithm json at other is holds = absurd (omega arith)
 
-no_bad_count : (n : ℕ) (json : Data) → IsCount n json → (other : SetupFault) → turn other ≡ 6 → ¬ Holds other json
+no_bad_count : (n : ℕ) (json : Data) → IsCount n json → (other : SetupFault) → rank other ≡ 6 → ¬ Holds other json
 no_bad_count n json count BadCount is holds = holds n count
 no_bad_count n json count other is holds = absurd (omega arith)
 
-no_bad_quorum : (n q : ℕ) (json : Data) → IsCount n json → HasAt key.Quorum (whole q) json → IsWithin 1 n q → (other : SetupFault) → turn other ≡ 7 → ¬ Holds other json
+no_bad_quorum : (n q : ℕ) (json : Data) → IsCount n json → HasAt key.Quorum (whole q) json → IsWithin 1 n q → (other : SetupFault) → rank other ≡ 7 → ¬ Holds other json
 no_bad_quorum n q json count at within BadQuorum is holds = holds n q count at within
 no_bad_quorum n q json count at within other is holds = absurd (omega arith)
 
 no_input : (n : ℕ) (inputs : List ℕ) (json : Data) → IsCount n json → HasAt key.Inputs (array_of_whole inputs) json → length inputs ≡ n → AllByRecursion (IsWithin 0 999999) inputs
-    → (other : SetupFault) → turn other ≡ 8 → ¬ Holds other json
+    → (other : SetupFault) → rank other ≡ 8 → ¬ Holds other json
 no_input n inputs json count at len all (BadInput place) is holds = no_bad_input n inputs json count at len all place holds
 no_input n inputs json count at len all other is holds = absurd (omega arith)
 
 no_answer : (n : ℕ) (lists : List (List ℕ)) (json : Data) → IsCount n json → HasAt key.Oracle (array_of (map array_of_whole lists)) json → length lists ≡ n
-    → AllByRecursion (AllByRecursion (IsWithin 1 n)) lists → (other : SetupFault) → turn other ≡ 9 → ¬ Holds other json
+    → AllByRecursion (AllByRecursion (IsWithin 1 n)) lists → (other : SetupFault) → rank other ≡ 9 → ¬ Holds other json
 no_answer n lists json count at len all (BadOracle process place) is holds = no_bad_answer n lists json count at len all process place holds
 no_answer n lists json count at len all other is holds = absurd (omega arith)
 
--- once the inputs are read, no fault of a turn up to theirs is left
+-- once the inputs are read, no fault of a rank up to theirs is left
 pub after_inputs : (algorithm : Algorithm) (n q : ℕ) (inputs : List ℕ) (json : Data) → IsClearBelow 5 json → HasAt key.Algorithm (string (algorithm_name algorithm)) json → IsCount n json
     → HasAt key.Quorum (whole q) json → IsWithin 1 n q → HasAt key.Inputs (array_of_whole inputs) json → length inputs ≡ n → AllByRecursion (IsWithin 0 999999) inputs → IsClearBelow 9 json
 after_inputs algorithm n q inputs json five named count quorum within at len all =

@@ -13,7 +13,7 @@ use Rattle.cdb_setup.specs.Parts.{Parts}
 use Rattle.cdb_setup.specs.Format.{algorithm_name, whole, array_of, array_of_whole, HasVersion, IsSetupOf, IsJsonOf, StandsFor, longest}
 use Rattle.cdb_setup.specs.Faults.{Holds, HoldsOf}
 use Rattle.cdb_setup.specs.Order.{IsFirstFault, IsBefore}
-use Rattle.cdb_setup.specs.Turns.{IsFirstOf}
+use Rattle.cdb_setup.specs.Ranks.{IsFirstOf}
 use Rattle.cdb_setup.proofs.Values.{array_same, whole_same}
 use Rattle.cdb_setup.proofs.Fields.{same_fields}
 use Rattle.cdb_setup.proofs.NoFault.{no_bad_input, no_bad_answer, no_bad_version}

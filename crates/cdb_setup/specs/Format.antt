@@ -1,4 +1,4 @@
--- Which setup a text of bytes stands for.
+-- Which bytes are the text of which setup.
 use Rattle.std.specs.Prelude.{◌≡◌, ◌⊎◌, ℕ, ◌≤◌, List, length, map, codes, Some, None}
 use Rattle.std.specs.Str.{IsUtf8}
 use Rattle.serde_json.specs.Data.{Data, number, unsigned, string, array}
@@ -43,13 +43,17 @@ HasAt key value json = get (name_of key) json ≡ Some value
 
 -- only keys of a setup stand there
 abbrev pub HasKnownKeys : Data → Type 0
-HasKnownKeys json = (name : List ℕ) (value : Data) → get name json ≡ Some value → (key : Key) × (name ≡ name_of key)
+HasKnownKeys json =
+    (name : List ℕ) (value : Data) → get name json ≡ Some value
+    → (key : Key) × (name ≡ name_of key)
 
 -- this version stands under its key, or the key is absent and the version is 1
 abbrev pub HasVersion : ℕ → Data → Type 0
-HasVersion version json = HasAt key.Version (whole version) json ⊎ ((get (name_of key.Version) json ≡ None) × (version ≡ 1))
+HasVersion version json =
+    HasAt key.Version (whole version) json
+    ⊎ ((get (name_of key.Version) json ≡ None) × (version ≡ 1))
 
--- the JSON value stands for the setup with these parts
+-- the JSON value is that of the setup with these parts
 pub record IsSetupOf (json : Data) (parts : Parts) : Type 0 where
   pub keys : HasKnownKeys json
   pub version : HasVersion parts.version json
@@ -68,6 +72,7 @@ longest = 1048576
 abbrev pub IsJsonOf : List ℕ → Data → Type 0
 IsJsonOf bytes json = IsUtf8 bytes × (reading.read bytes ≡ Some json)
 
--- the bytes stand for the setup with these parts
+-- the bytes are the text of the setup with these parts
 abbrev pub StandsFor : List ℕ → Parts → Type 0
-StandsFor bytes parts = (length bytes ≤ longest) × (json : Data) × IsJsonOf bytes json × IsSetupOf json parts
+StandsFor bytes parts =
+    (length bytes ≤ longest) × (json : Data) × IsJsonOf bytes json × IsSetupOf json parts

@@ -1,10 +1,12 @@
+-- what a contract names
 pub mod Parts
 pub mod Seen
 pub mod Format
 pub mod Faults
 pub mod Order
 pub mod Numbers
-pub mod Turns
-pub mod Stops
-pub mod Names
 pub mod Equal
+-- what the code keeps for itself: the parts as they are read in turn, and tests that compute
+pub mod Names
+pub mod Ranks
+pub mod Stops

@@ -1,9 +1,12 @@
 -- The number and the name under which a fault is shown.
 use Rattle.std.specs.Prelude.{ℕ, List, codes, Option, Some, None}
 use Rattle.cdb_setup.specs.declared.fault.SetupFault.{SetupFault}
-use Rattle.cdb_setup.specs.declared.fault.SetupFault.TheVariants.{NotJson, NotObject, UnknownKey, Missing, BadAlgorithm, BadCount, BadQuorum, BadInput, BadOracle, TooLong, BadVersion, NoMemory}
+use Rattle.cdb_setup.specs.declared.fault.SetupFault.TheVariants.{NotJson, NotObject, UnknownKey}
+use Rattle.cdb_setup.specs.declared.fault.SetupFault.TheVariants.{Missing, BadAlgorithm, BadCount}
+use Rattle.cdb_setup.specs.declared.fault.SetupFault.TheVariants.{BadQuorum, BadInput, BadOracle}
+use Rattle.cdb_setup.specs.declared.fault.SetupFault.TheVariants.{TooLong, BadVersion, NoMemory}
 
--- want of memory has no number
+-- out of memory has no number
 abbrev pub fault_number : SetupFault → Option ℕ
 fault_number NotJson = Some 1
 fault_number NotObject = Some 2

@@ -1,10 +1,13 @@
 -- What a setup says.
-use Rattle.std.specs.Prelude.{◌≡◌, ℕ, ◌≤◌, List, length, Option, option_and_then}
+use Rattle.std.specs.Prelude.{◌≡◌, ℕ, ◌≤◌, List, length, map, Vec, Option, option_and_then}
+use Rattle.std.specs.Borrow.{Bor}
+use Rattle.std.specs.Global.{Global}
 use Rattle.std.specs.List.{AllByRecursion}
 use Rattle.cdb_base.specs.Places.{nth}
+use Rattle.cdb_base.specs.declared.limits.TheConstants.{MAX_PROCESSES, MAX_VALUE}
 use Rattle.cdb_setup.specs.declared.setup.Algorithm.{Algorithm}
 
--- the parts of a setup: the k-th number of the p-th list of answers is the answer to the k-th query of process p
+-- the parts of a setup, with an input and a list of answers for each process, by number
 pub record Parts : Type 0 where
   pub version : ℕ
   pub algorithm : Algorithm
@@ -17,16 +20,39 @@ pub record Parts : Type 0 where
 abbrev pub IsWithin : ℕ → ℕ → ℕ → Type 0
 IsWithin low high n = (low ≤ n) × (n ≤ high)
 
--- the parts are in range: an input and a list of answers for each process, and each answer a process
+-- each number is a value that a process may propose
+abbrev pub AreValues : List ℕ → Type 0
+AreValues numbers = AllByRecursion (IsWithin 0 MAX_VALUE) numbers
+
+-- each number is one of n processes
+abbrev pub AreProcesses : ℕ → List ℕ → Type 0
+AreProcesses n numbers = AllByRecursion (IsWithin 1 n) numbers
+
+-- each number in these lists is one of n processes
+abbrev pub AreListsOfProcesses : ℕ → List (List ℕ) → Type 0
+AreListsOfProcesses n lists = AllByRecursion (AllByRecursion (IsWithin 1 n)) lists
+
+-- the parts are in range: an input and a list of answers for each process, each answer a process
 pub record AreInRange (parts : Parts) : Type 0 where
   pub version : IsWithin 1 2 parts.version
-  pub processes : IsWithin 1 9 parts.processes
+  pub processes : IsWithin 1 MAX_PROCESSES parts.processes
   pub quorum : IsWithin 1 parts.processes parts.quorum
   pub an_input_each : length parts.inputs ≡ parts.processes
-  pub inputs : AllByRecursion (IsWithin 0 999999) parts.inputs
+  pub inputs : AreValues parts.inputs
   pub a_list_each : length parts.answers ≡ parts.processes
-  pub answers : AllByRecursion (AllByRecursion (IsWithin 1 parts.processes)) parts.answers
+  pub answers : AreListsOfProcesses parts.processes parts.answers
+
+-- the k-th number of the p-th list, where there is one
+abbrev pub number_at : List (List ℕ) → ℕ → ℕ → Option ℕ
+number_at lists p k = option_and_then (λ numbers. nth numbers k) (nth lists p)
 
 -- the answer to the k-th query of process p, where there is one
 abbrev pub answer_of : Parts → ℕ → ℕ → Option ℕ
-answer_of parts p k = option_and_then (λ answers. nth answers k) (nth parts.answers p)
+answer_of parts p k = number_at parts.answers p k
+
+-- the lists that vectors hold, and those that slices hold
+abbrev pub lists_in : List (Vec ℕ Global) → List (List ℕ)
+lists_in vectors = map (λ list. list.items) vectors
+
+abbrev pub lists_of : List (Bor (List ℕ)) → List (List ℕ)
+lists_of slices = map (λ list. list.now) slices

@@ -1,7 +1,6 @@
 -- The parts that the fields of a setup hold.
-use Rattle.std.specs.Prelude.{map}
 use Rattle.cdb_setup.specs.declared.setup.Setup.TheInside.{Inside}
-use Rattle.cdb_setup.specs.Parts.{Parts}
+use Rattle.cdb_setup.specs.Parts.{Parts, lists_in}
 
 abbrev pub parts_of : Inside → Parts
 parts_of fields = record {
@@ -10,5 +9,5 @@ parts_of fields = record {
   processes = fields.processes;
   quorum = fields.quorum;
   inputs = fields.inputs.items;
-  answers = map (λ list. list.items) fields.answers.items;
+  answers = lists_in fields.answers.items;
 }

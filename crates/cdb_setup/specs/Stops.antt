@@ -1,11 +1,13 @@
--- Where the reading of an array stops, for private functions.
-use Rattle.std.specs.Prelude.{◌≡◌, ◌≢◌, ◌⊎◌, ℕ, ◌+◌, List, take, slice_get, Some}
+-- What is read from a JSON value, and where the reading of an array stops.
+use Rattle.std.specs.Prelude.{◌≡◌, ◌≢◌, ◌⊎◌, ℕ, ◌+◌, List, length, map, take, slice_get, Some}
 use Rattle.std.specs.List.{AllByRecursion}
 use Rattle.serde_json.specs.Data.{Data}
+use Rattle.cdb_base.specs.declared.limits.TheConstants.{MAX_VALUE}
 use Rattle.cdb_setup.specs.declared.fault.SetupFault.{SetupFault}
-use Rattle.cdb_setup.specs.declared.fault.SetupFault.TheVariants.{BadOracle}
-use Rattle.cdb_setup.specs.Parts.{IsWithin}
-use Rattle.cdb_setup.specs.Format.{array_of, array_of_whole}
+use Rattle.cdb_setup.specs.declared.fault.SetupFault.TheVariants.{BadInput, BadOracle}
+use Rattle.cdb_setup.specs.declared.key.Key.TheVariants as key
+use Rattle.cdb_setup.specs.Parts.{IsWithin, AreValues, AreProcesses, AreListsOfProcesses}
+use Rattle.cdb_setup.specs.Format.{whole, array_of, array_of_whole, HasAt}
 use Rattle.cdb_setup.specs.Faults.{IsWholeWithin}
 
 -- the i-th value, counted from 0, is the first of which this isn't so
@@ -15,16 +17,61 @@ pub record IsFirstNot (P : Data → Type 0) (values : List Data) (i : ℕ) : Typ
   pub there : slice_get values i ≡ Some value
   pub not_so : ¬ P value
 
+-- the value is the whole number n, which is from low to high
+abbrev pub IsRead : ℕ → ℕ → Data → ℕ → Type 0
+IsRead low high value n = (value ≡ whole n) × IsWithin low high n
+
+-- the values are these whole numbers, each from low to high
+abbrev pub AreRead : ℕ → ℕ → List Data → List ℕ → Type 0
+AreRead low high values numbers =
+    (values ≡ map whole numbers) × AllByRecursion (IsWithin low high) numbers
+
+-- the value is the array of these answers, each one of n processes
+abbrev pub IsListRead : ℕ → Data → List ℕ → Type 0
+IsListRead n value answers = (value ≡ array_of_whole answers) × AreProcesses n answers
+
+-- the values are these lists of answers, each one of n processes
+abbrev pub AreListsRead : ℕ → List Data → List (List ℕ) → Type 0
+AreListsRead n values lists =
+    (values ≡ map array_of_whole lists) × AreListsOfProcesses n lists
+
+-- these inputs stand under their key, one for each of n processes
+abbrev pub HasInputs : ℕ → Data → List ℕ → Type 0
+HasInputs n json inputs =
+    HasAt key.Inputs (array_of_whole inputs) json × (length inputs ≡ n) × AreValues inputs
+
+-- these lists of answers stand under their key, one for each of n processes
+abbrev pub HasAnswers : ℕ → Data → List (List ℕ) → Type 0
+HasAnswers n json lists =
+    HasAt key.Oracle (array_of (map array_of_whole lists)) json
+    × (length lists ≡ n) × AreListsOfProcesses n lists
+
+-- the fault is that of the first value that is no input
+abbrev pub IsFirstOfInputs : List Data → SetupFault → Type 0
+IsFirstOfInputs values fault =
+    (i : ℕ) × (fault ≡ BadInput (i + 1)) × IsFirstNot (IsWholeWithin 0 MAX_VALUE) values i
+
+-- the fault is that of the first answer of process p + 1 that is none of n processes
+abbrev pub IsFirstOfAnswers : ℕ → ℕ → List Data → SetupFault → Type 0
+IsFirstOfAnswers n p values fault =
+    (k : ℕ) × (fault ≡ BadOracle (p + 1) (k + 1)) × IsFirstNot (IsWholeWithin 1 n) values k
+
 -- the array of these answers, each from 1 to n
 abbrev pub IsAnswerList : ℕ → Data → Type 0
-IsAnswerList n value = (answers : List ℕ) × (value ≡ array_of_whole answers) × AllByRecursion (IsWithin 1 n) answers
+IsAnswerList n value =
+    (answers : List ℕ) × (value ≡ array_of_whole answers) × AllByRecursion (IsWithin 1 n) answers
 
--- the fault is the first of the list with the place p, counted from 0
+-- the fault is the first of the list of process p + 1
 abbrev pub IsFirstOfList : ℕ → ℕ → Data → SetupFault → Type 0
 IsFirstOfList n p list fault =
     ((fault ≡ BadOracle (p + 1) 0) × ((answers : List Data) → list ≢ array_of answers))
-    ⊎ ((k : ℕ) × (answers : List Data) × (fault ≡ BadOracle (p + 1) (k + 1)) × (list ≡ array_of answers) × IsFirstNot (IsWholeWithin 1 n) answers k)
+    ⊎ ((k : ℕ) × (answers : List Data)
+    × (fault ≡ BadOracle (p + 1) (k + 1)) × (list ≡ array_of answers)
+    × IsFirstNot (IsWholeWithin 1 n) answers k)
 
 -- the fault is the first of these lists
 abbrev pub IsFirstOfLists : ℕ → List Data → SetupFault → Type 0
-IsFirstOfLists n lists fault = (p : ℕ) × (list : Data) × AllByRecursion (IsAnswerList n) (take p lists) × (slice_get lists p ≡ Some list) × IsFirstOfList n p list fault
+IsFirstOfLists n lists fault =
+    (p : ℕ) × (list : Data)
+    × AllByRecursion (IsAnswerList n) (take p lists)
+    × (slice_get lists p ≡ Some list) × IsFirstOfList n p list fault

@@ -1,4 +1,4 @@
-//! Why bytes stand for no setup.
+//! Why bytes are the text of no setup.
 
 ghost use Rattle.std.specs.Prelude.{◌≡◌};
 ghost use Rattle.cdb_setup.specs.declared.fault.SetupFault.TheVariants.{NoMemory};
@@ -7,7 +7,7 @@ ghost use Rattle.cdb_setup.specs.Numbers.{fault_number, fault_name};
 use crate::key::Key;
 use std::alloc::{AllocError, AllocFailed};
 
-/// Why no setup was read. Processes and places count from 1.
+/// Why no setup was read. Processes, inputs and answers are numbered from 1.
 #[derive(Clone, Copy, Debug, PartialEq, Eq)]
 pub enum SetupFault {
     /// The bytes are no JSON value, nest more than 127 deep, or aren't UTF-8.
@@ -27,20 +27,20 @@ pub enum SetupFault {
     /// The input of this process is no whole number from 0 to 999,999; with 0, the inputs are no
     /// array with one for each process.
     BadInput(usize),
-    /// For this process, the answer at this place is no whole number from 1 to the number of
-    /// processes; with place 0, the answers for the process are no array; with 0 and 0, the oracle is
+    /// For this process, the answer of this number is no whole number from 1 to the number of
+    /// processes; with number 0, the answers for the process are no array; with 0 and 0, the oracle is
     /// no array with one list for each process.
     BadOracle(usize, usize),
     /// There are more than 1,048,576 bytes.
     TooLong,
     /// The version is neither 1 nor 2.
     BadVersion,
-    /// A growth was refused. The bytes may stand for a setup.
+    /// An allocation failed. The bytes may be the text of a setup.
     NoMemory,
 }
 
 impl SetupFault {
-    /// The number under which the fault is shown, from 1 to 11. Want of memory has none.
+    /// The number under which the fault is shown, from 1 to 11. Out of memory has none.
     pub fn number(&self) -> Option<u8>
         ensures { result ≡ fault_number self.now }
     {

@@ -1,6 +1,7 @@
 //! The keys of the JSON value.
 
-ghost use Rattle.std.specs.Prelude.{◌≡◌, MatchOption, MatchBool, IfErr, OnOk, string_bytes, is_none, find};
+ghost use Rattle.std.specs.Prelude.{◌≡◌, MatchOption, MatchBool, IfErr, OnOk};
+ghost use Rattle.std.specs.Prelude.{string_bytes, is_none, find};
 ghost use Rattle.std.specs.BTreeMap.{keys};
 ghost use Rattle.std.specs.List.{list_all, list_any};
 ghost use Rattle.std.specs.Str.{bytes_eq};
@@ -10,35 +11,35 @@ ghost use Rattle.serde_json.specs.View.{view, members_view};
 ghost use Rattle.cdb_setup.specs.declared.key.Key.{Key as KeyName};
 ghost use Rattle.cdb_setup.specs.Format.{name_of, HasKnownKeys};
 ghost use Rattle.cdb_setup.specs.Faults.{Holds};
-ghost use Rattle.cdb_setup.specs.Turns.{IsFirstOfTurn, IsFirstOf, IsClearBelow};
+ghost use Rattle.cdb_setup.specs.Ranks.{IsFirstOfRank, IsFirstOf, IsClearBelow};
 ghost use Rattle.cdb_setup.specs.Names.{is_key_name};
 
 use crate::fault::SetupFault;
 use crate::key::Key;
 use serde_json::{Map, Value};
 
-/// Tells whether each name is that of a key.
+/// Whether each name is that of a key.
 fn are_key_names(members: &Map<String, Value>) -> bool
     ensures { result ≡ list_all (λ name. is_key_name (string_bytes name)) (keys members.now) }
 {
     members.keys().all(|name| is_key_name(name.as_str()))
 }
 
-/// Tells whether the name is that of a key that each setup has.
+/// Whether the name is that of a key that each setup has.
 fn is_needed(name: &str) -> bool
     ensures { result ≡ list_any (λ key. bytes_eq name.now (name_of key)) Key.NEEDED }
 {
     Key::NEEDED.iter().any(|key| name == key.name())
 }
 
-/// Tells whether the name is that of a key.
+/// Whether the name is that of a key.
 fn is_key_name(name: &str) -> bool
     ensures { result ≡ is_key_name name.now }
 {
     is_needed(name) || name == Key::Version.name()
 }
 
-/// Tells whether only keys of a setup stand there, as the fault says it.
+/// Whether only keys of a setup stand there, as the fault says it.
 fn has_known_keys(members: &Map<String, Value>) -> bool
     ensures { MatchBool result (HasKnownKeys (object (members_view members.now.entries)))
         (Holds SetupFault.UnknownKey (object (members_view members.now.entries))) }
@@ -46,7 +47,7 @@ fn has_known_keys(members: &Map<String, Value>) -> bool
     are_key_names(members)
 }
 
-/// Tells whether nothing stands under the key.
+/// Whether nothing stands under the key.
 fn is_missing(value: &Value, key: Key) -> bool
     ensures { result ≡ is_none (get (name_of key) (view value.now)) }
 {
@@ -63,10 +64,10 @@ fn missing_key(value: &Value) -> Option<Key>
         .find(|key| is_missing(value, *key))
 }
 
-/// The same, told as the fault that it is.
+/// The same, as the fault that it is.
 fn first_missing(value: &Value) -> Option<Key>
     ensures { MatchOption result ((k : KeyName) → ¬ Holds (SetupFault.Missing k) (view value.now))
-        (λ k. IsFirstOfTurn 4 (SetupFault.Missing k) (view value.now)) }
+        (λ k. IsFirstOfRank 4 (SetupFault.Missing k) (view value.now)) }
 {
     missing_key(value)
 }

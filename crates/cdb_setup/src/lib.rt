@@ -1,4 +1,11 @@
-//! The setup of a run, read from JSON.
+//! The setup of a run, read from JSON. Bytes that are the text of none are refused with their first
+//! fault:
+//!
+//! ```text
+//! let setup = Setup::read(alloc, bytes)?;
+//! let input = setup.input(Proc::new(1));
+//! let leader = setup.answer(Proc::new(1), 1);
+//! ```
 #![tactic(auto)]
 
 mod answers;

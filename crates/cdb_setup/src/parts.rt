@@ -1,15 +1,15 @@
 //! The parts of a setup, each read from the JSON value under its key.
 
-ghost use Rattle.std.specs.Prelude.{◌≡◌, ◌≢◌, ◌<◌, ◌^◌, ◌+◌, List, length, map, MatchOption, IfOk, IfErr, ℕ};
-ghost use Rattle.std.specs.List.{AllByRecursion};
+ghost use Rattle.std.specs.Prelude.{◌≡◌, ◌<◌, ◌^◌, List, length, map, MatchOption, IfOk};
 ghost use Rattle.serde_json.specs.Data.{Data, string as text_value};
 ghost use Rattle.serde_json.specs.View.{view};
+ghost use Rattle.cdb_base.specs.declared.limits.TheConstants.{MAX_VALUE};
 ghost use Rattle.cdb_setup.specs.declared.key.Key.TheVariants as key;
 ghost use Rattle.cdb_setup.specs.Parts.{IsWithin};
-ghost use Rattle.cdb_setup.specs.Format.{algorithm_name, whole, array_of_whole, HasAt, HasVersion};
-ghost use Rattle.cdb_setup.specs.Faults.{Holds, IsCount, HasOneEach, IsWholeWithin};
-ghost use Rattle.cdb_setup.specs.Turns.{IsFirstOfTurn};
-ghost use Rattle.cdb_setup.specs.Stops.{IsFirstNot};
+ghost use Rattle.cdb_setup.specs.Format.{algorithm_name, whole, HasAt, HasVersion};
+ghost use Rattle.cdb_setup.specs.Faults.{IfFault, Holds, IsCount, HasOneEach, IsWholeWithin};
+ghost use Rattle.cdb_setup.specs.Ranks.{IsFirstOfRank};
+ghost use Rattle.cdb_setup.specs.Stops.{IsRead, AreRead, HasInputs, IsFirstOfInputs};
 
 use crate::fault::SetupFault;
 use crate::key::Key;
@@ -23,7 +23,7 @@ use std::alloc::Global;
 pub(crate) fn whole_within(value: &Value, low: u64, high: u64) -> Option<u32>
     requires { high < 2 ^ 32 }
     ensures { MatchOption result (¬ IsWholeWithin low high (view value.now))
-        (λ n. (view value.now ≡ whole n) × IsWithin low high n) }
+        (λ n. IsRead low high (view value.now) n) }
 {
     match value.as_u64() {
         Some(n) if low <= n && n <= high => Some(n as u32),
@@ -33,7 +33,8 @@ pub(crate) fn whole_within(value: &Value, low: u64, high: u64) -> Option<u32>
 
 /// The number of processes.
 pub(crate) fn count_of(value: &Value) -> Option<u8>
-    ensures { MatchOption result (Holds SetupFault.BadCount (view value.now)) (λ n. IsCount n (view value.now)) }
+    ensures { MatchOption result (Holds SetupFault.BadCount (view value.now))
+        (λ n. IsCount n (view value.now)) }
 {
     let count = value.get(Key::Processes.name())?;
     let number = whole_within(count, 1, MAX_PROCESSES as u64)?;
@@ -80,7 +81,8 @@ pub(crate) fn version_of(value: &Value) -> Option<u8>
 pub(crate) fn one_each(value: &Value, key: Key, count: u8) -> Option<&[Value]>
     requires { IsCount count (view value.now) }
     ensures { MatchOption result ((values : List Data) → ¬ HasOneEach key values (view value.now))
-        (λ values. HasOneEach key (map view values.now) (view value.now) × (length values.now ≡ count)) }
+        (λ values. HasOneEach key (map view values.now) (view value.now)
+        × (length values.now ≡ count)) }
 {
     let values = value.get(key.name())?.as_array()?.as_slice();
     if values.len() == count as usize {
@@ -90,12 +92,11 @@ pub(crate) fn one_each(value: &Value, key: Key, count: u8) -> Option<&[Value]>
     }
 }
 
-/// The inputs that the values are, or the first that is none.
+/// The inputs that the values are, or the fault of the first that is none.
 fn all_inputs(alloc: Global, values: &[Value]) -> Result<Vec<Val>, SetupFault>
-    ensures found { IfOk result (λ inputs. (map view values.now ≡ map whole inputs.items)
-        × AllByRecursion (IsWithin 0 999999) inputs.items) }
-    ensures fault { IfErr result (λ fault. fault ≢ SetupFault.NoMemory → (i : ℕ) × (fault ≡ SetupFault.BadInput (i + 1))
-        × IsFirstNot (IsWholeWithin 0 999999) (map view values.now) i) }
+    ensures found { IfOk result
+        (λ inputs. AreRead 0 MAX_VALUE (map view values.now) inputs.items) }
+    ensures fault { IfFault result (IsFirstOfInputs (map view values.now)) }
 {
     let mut inputs = Vec::new(alloc);
     for (i, value) in values.iter().enumerate() {
@@ -109,8 +110,8 @@ fn all_inputs(alloc: Global, values: &[Value]) -> Result<Vec<Val>, SetupFault>
 
 /// The input that the value is.
 fn input_of(value: &Value) -> Option<Val>
-    ensures { MatchOption result (¬ IsWholeWithin 0 999999 (view value.now))
-        (λ input. (view value.now ≡ whole input) × IsWithin 0 999999 input) }
+    ensures { MatchOption result (¬ IsWholeWithin 0 MAX_VALUE (view value.now))
+        (λ input. IsRead 0 MAX_VALUE (view value.now) input) }
 {
     Val::from_number(value.as_u64()?)
 }
@@ -118,9 +119,8 @@ fn input_of(value: &Value) -> Option<Val>
 /// The inputs, where there are this many processes.
 pub(crate) fn inputs_of(alloc: Global, value: &Value, count: u8) -> Result<Vec<Val>, SetupFault>
     requires { IsCount count (view value.now) }
-    ensures found { IfOk result (λ inputs. HasAt key.Inputs (array_of_whole inputs.items) (view value.now)
-        × (length inputs.items ≡ count) × AllByRecursion (IsWithin 0 999999) inputs.items) }
-    ensures fault { IfErr result (λ fault. fault ≢ SetupFault.NoMemory → IsFirstOfTurn 8 fault (view value.now)) }
+    ensures found { IfOk result (λ inputs. HasInputs count (view value.now) inputs.items) }
+    ensures fault { IfFault result (λ fault. IsFirstOfRank 8 fault (view value.now)) }
 {
     let Some(values) = one_each(value, Key::Inputs, count) else {
         return Err(SetupFault::BadInput(0));

@@ -1,10 +1,11 @@
 //! Reading a setup from the bytes of a JSON text.
 
-ghost use Rattle.std.specs.Prelude.{◌≢◌, IfOk, IfErr};
+ghost use Rattle.std.specs.Prelude.{◌≡◌, ◌<◌, length, Err, IfOk};
 ghost use Rattle.serde_json.specs.View.{view};
-ghost use Rattle.cdb_setup.specs.Format.{IsSetupOf, StandsFor};
+ghost use Rattle.cdb_setup.specs.Faults.{IfFault};
+ghost use Rattle.cdb_setup.specs.Format.{IsSetupOf, StandsFor, longest};
 ghost use Rattle.cdb_setup.specs.Order.{IsFirstFault};
-ghost use Rattle.cdb_setup.specs.Turns.{IsFirstOf};
+ghost use Rattle.cdb_setup.specs.Ranks.{IsFirstOf};
 
 use crate::answers::answers_of;
 use crate::fault::SetupFault;
@@ -15,10 +16,10 @@ use cdb_base::limits::MAX_BYTES;
 use serde_json::Value;
 use std::alloc::Global;
 
-/// The setup that the JSON value stands for.
+/// The setup of which this is the JSON value.
 fn setup_of(alloc: Global, value: &Value) -> Result<Setup, SetupFault>
     ensures found { IfOk result (λ setup. IsSetupOf (view value.now) setup) }
-    ensures fault { IfErr result (λ fault. fault ≢ SetupFault.NoMemory → IsFirstOf fault (view value.now)) }
+    ensures fault { IfFault result (λ fault. IsFirstOf fault (view value.now)) }
 {
     check_keys(value)?;
     let Some(algorithm) = algorithm_of(value) else {
@@ -45,10 +46,11 @@ fn setup_of(alloc: Global, value: &Value) -> Result<Setup, SetupFault>
     })
 }
 
-/// The setup that the bytes stand for, or their first fault.
+/// The setup of which the bytes are the text, or their first fault.
 pub(crate) fn read(alloc: Global, bytes: &[u8]) -> Result<Setup, SetupFault>
     ensures found { IfOk result (λ setup. StandsFor bytes.now setup) }
-    ensures fault { IfErr result (λ fault. fault ≢ SetupFault.NoMemory → IsFirstFault fault bytes.now) }
+    ensures fault { IfFault result (λ fault. IsFirstFault fault bytes.now) }
+    ensures too_long { longest < length bytes.now → result ≡ Err SetupFault.TooLong }
 {
     if bytes.len() > MAX_BYTES {
         return Err(SetupFault::TooLong);

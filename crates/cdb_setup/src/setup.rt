@@ -1,9 +1,10 @@
 //! A setup, and what can be asked of it.
 
 ghost use Rattle.std.specs.Cmp.Lexicographic.{pointwise};
-ghost use Rattle.std.specs.Prelude.{◌≡◌, ◌==◌, ◌≢◌, ◌⊎◌, ◌≤◌, Some, Ok, Err, length, map, IfSome, IfOk, IfErr};
-ghost use Rattle.std.specs.Option.{option_and_then, option_copied};
+ghost use Rattle.std.specs.Prelude.{◌≡◌, ◌==◌, ◌⊎◌, ◌≤◌, ◌<◌, Some, Ok, Err, length, IfSome, IfOk};
+ghost use Rattle.std.specs.Option.{option_copied};
 ghost use Rattle.cdb_base.specs.Places.{nth};
+ghost use Rattle.cdb_setup.specs.Parts.{lists_in, number_at};
 
 use crate::fault::SetupFault;
 use crate::reading;
@@ -46,24 +47,28 @@ impl Model for Setup {
 }
 
 impl Setup {
-    ghost use Rattle.std.specs.List.{AllByRecursion};
-    ghost use Rattle.cdb_setup.specs.Parts.{Parts, IsWithin, AreInRange, answer_of};
-    ghost use Rattle.cdb_setup.specs.Format.{StandsFor};
+    ghost use Rattle.cdb_base.specs.declared.limits.TheConstants.{MAX_PROCESSES};
+    ghost use Rattle.cdb_setup.specs.Parts.{Parts, IsWithin, AreInRange, AreValues};
+    ghost use Rattle.cdb_setup.specs.Parts.{AreListsOfProcesses, lists_of, answer_of};
+    ghost use Rattle.cdb_setup.specs.Faults.{IfFault};
+    ghost use Rattle.cdb_setup.specs.Format.{StandsFor, longest};
     ghost use Rattle.cdb_setup.specs.Order.{IsFirstFault};
 
-    /// The setup that the bytes stand for.
+    /// The setup of which the bytes are the text.
     ///
-    /// Bytes that stand for none have the first fault that holds of them: `TooLong` is looked for
-    /// first, then `NotJson` to `BadOracle` by number, then `BadVersion`. Where memory runs out the
-    /// answer is `NoMemory`. An error leaves nothing behind.
+    /// Bytes that are the text of none have the first fault that holds of them: `TooLong` is looked for
+    /// first, then `NotJson` to `BadOracle` by number, then `BadVersion`. `NoMemory` if an allocation
+    /// fails; a text that is too long needs none. An error leaves nothing allocated.
     pub fn read(alloc: Global, bytes: &[u8]) -> Result<Setup, SetupFault>
-        // What is answered is what the bytes stand for.
+        // What is returned is the setup of which the bytes are the text.
         ensures found { IfOk result (λ setup. StandsFor bytes.now setup) }
-        // What the bytes stand for is answered, unless memory runs out.
+        // That setup is returned, unless memory runs out.
         ensures only { (setup : Parts) → StandsFor bytes.now setup
             → (result ≡ Ok setup) ⊎ (result ≡ Err SetupFault.NoMemory) }
         // Any other fault is the first of the bytes.
-        ensures fault { IfErr result (λ fault. fault ≢ SetupFault.NoMemory → IsFirstFault fault bytes.now) }
+        ensures fault { IfFault result (λ fault. IsFirstFault fault bytes.now) }
+        // A text that is too long is refused as such, and never as out of memory.
+        ensures too_long { longest < length bytes.now → result ≡ Err SetupFault.TooLong }
     {
         reading::read(alloc, bytes)
     }
@@ -71,7 +76,7 @@ impl Setup {
     /// The setup with these parts: version 1 or 2, an input for each of 1 to 9 processes, a quorum
     /// from 1 to their number, and for each process a list of answers, which are processes of the
     /// setup. The `k`-th item of the `p`-th list is the answer to the `k`-th query of process `p`.
-    /// Where memory runs out the answer is `NoMemory`, and nothing is left behind.
+    /// `NoMemory` if an allocation fails, and nothing is left allocated.
     pub fn from_parts(
         alloc: Global,
         version: u8,
@@ -81,18 +86,18 @@ impl Setup {
         answers: &[&[Proc]],
     ) -> Result<Setup, NoMemory>
         requires version { IsWithin 1 2 version }
-        requires processes { IsWithin 1 9 (length inputs.now) }
+        requires processes { IsWithin 1 MAX_PROCESSES (length inputs.now) }
         requires quorum { IsWithin 1 (length inputs.now) quorum }
-        requires inputs { AllByRecursion (IsWithin 0 999999) inputs.now }
+        requires inputs { AreValues inputs.now }
         requires a_list_each { length answers.now ≡ length inputs.now }
-        requires answers { AllByRecursion (AllByRecursion (IsWithin 1 (length inputs.now))) (map (λ list. list.now) answers.now) }
+        requires answers { AreListsOfProcesses (length inputs.now) (lists_of answers.now) }
         ensures { IfOk result (λ setup. setup ≡ record {
           version = version;
           algorithm = algorithm;
           processes = length inputs.now;
           quorum = quorum;
           inputs = inputs.now;
-          answers = map (λ list. list.now) answers.now;
+          answers = lists_of answers.now;
         }) }
     {
         let mut lists = Vec::new(alloc);
@@ -156,7 +161,7 @@ impl Setup {
         answer_at(self.answers.as_slice(), p.number() as usize, k as usize)
     }
 
-    /// An equal setup. Where memory runs out the answer is `NoMemory`, and nothing is left behind.
+    /// An equal setup. `NoMemory` if an allocation fails, and nothing is left allocated.
     pub fn copy(&self, alloc: Global) -> Result<Setup, NoMemory>
         ensures { IfOk result (λ setup. setup ≡ self.now) }
     {
@@ -202,16 +207,16 @@ impl Eq for Setup {
     ghost laws = { are_equal_equiv };
 }
 
-/// Tells whether the lists of answers are the same.
+/// Whether the lists of answers are the same.
 fn are_same_lists(lists: &[Vec<Proc>], others: &[Vec<Proc>]) -> bool
-    ensures { result ≡ pointwise (pointwise ◌==◌) (map (λ list. list.items) lists.now) (map (λ list. list.items) others.now) }
+    ensures { result ≡ pointwise (pointwise ◌==◌) (lists_in lists.now) (lists_in others.now) }
 {
     lists == others
 }
 
 /// The same lists of answers.
 fn copy_lists(alloc: Global, lists: &[Vec<Proc>]) -> Result<Vec<Vec<Proc>>, NoMemory>
-    ensures { IfOk result (λ copies. map (λ list. list.items) copies.items ≡ map (λ list. list.items) lists.now) }
+    ensures { IfOk result (λ copies. lists_in copies.items ≡ lists_in lists.now) }
 {
     let mut copies = Vec::new(alloc);
     for list in lists {
@@ -222,7 +227,7 @@ fn copy_lists(alloc: Global, lists: &[Vec<Proc>]) -> Result<Vec<Vec<Proc>>, NoMe
 
 /// The k-th answer of the p-th list, both counted from 1.
 fn answer_at(lists: &[Vec<Proc>], p: usize, k: usize) -> Option<Proc>
-    ensures { result ≡ option_and_then (λ answers. nth answers k) (nth (map (λ list. list.items) lists.now) p) }
+    ensures { result ≡ number_at (lists_in lists.now) p k }
 {
     let answers = nth(lists, p)?;
     nth(answers.as_slice(), k).copied()

@@ -9,18 +9,23 @@ use Rattle.cdb_control.specs.declared.reply.Reply.{Reply}
 use Rattle.cdb_control.specs.declared.control.CallFault.{CallFault}
 use Rattle.cdb_control.specs.Answer.{Answer, told}
 use Rattle.cdb_control.specs.Commands.{answer}
+use Rattle.cdb_control.specs.Headline.{Headline}
 use Rattle.cdb_control.specs.Journal.{Journaled, Begins, entry, extended, replay, state_of}
 use Rattle.cdb_control.proofs.Own.{Begins-refl, Begins-push}
 use Rattle.cdb_run.specs.Algorithms.{rules}
+use Rattle.cdb_run.specs.SameState.{ReachSameState}
+use Rattle.cdb_setup.specs.Parts.{Parts}
 use Rattle.cdb_shared.specs.declared.knowledge.Stage.{Stage}
-use Rattle.cdb_shared.specs.declared.knowledge.Stage.TheVariants.{Opening, Spent, Resting, Holding}
+use Rattle.cdb_shared.specs.declared.knowledge.Stage.TheVariants.{Spent, Resting, Holding}
 use Rattle.cdb_shared.specs.declared.knowledge.Place.{Place}
+use Rattle.cdb_shared.specs.declared.knowledge.Story.{Story}
 use Rattle.cdb_shared.specs.declared.knowledge.Knowledge.{Knowledge}
-use Rattle.cdb_shared.specs.Turn.{resting, Knows, AllKnow, seen_at, seen_by, Taken, Given, MayGive, place_at, places_from, first_alone, without_first, joined}
-use Rattle.cdb_shared.specs.Seats.{SeatView, is_resting, place_of, seat_of, IsPassFor, IsLater, IsCall, SameCalls, RestsAt, IsKnownBy, fresh_seat, fresh_seats}
+use Rattle.cdb_shared.specs.Turn.{story, longer, MayFollow, seats_after, resting, Knows, AllKnow, seen_at, seen_by, Taken, Given, MayGive, place_at, places_from, first_alone, without_first, joined}
+use Rattle.cdb_shared.specs.Passes.{is_resting, place_of, seat_of, IsPassFor}
+use Rattle.cdb_shared.specs.Seats.{SeatView, IsLater, IsCall, SameCalls, RestsAt, IsKnownBy, SeesHeadline, HasHeadline, fresh_seat, fresh_seats}
 
 -- what one seat knows of the control that it took
-pub knows_one : (number : ℕ) (v : Knowledge) (c : Journaled) → IsPassFor number v → AllKnow c v.places → Knows c (place_of v.places)
+pub knows_one : (number : ℕ) (v : Knowledge) (c : Story) → IsPassFor number v → AllKnow c v.places → Knows c (place_of v.places)
 knows_one number v c one all = (subst (λ (ps : List Place). AllKnow c ps) one.only all).0
 
 -- an executed command, or a refused one, may be given back
@@ -28,10 +33,10 @@ pub may_give : (number : ℕ) (v w : Knowledge) (c after : Journaled) (command :
 may_give number v w c after command (Ok reply) one taken ok err =
     let is = taken.0 in (
       ap (λ (u : Knowledge). u.stage) is,
-      (c, ap (λ (u : Knowledge). u.held) is, inr (place_of v.places, command, ap (λ (u : Knowledge). u.places) is ∙ one.only, ok ∙ ap (λ n. extended (rules c.setup) c n command) (sym one.same))),
+      subst (λ (u : Knowledge). MayFollow u.held u.places (story after)) (sym is) (inr (place_of v.places, command, one.only, ap story ok ∙ ap (λ n. longer (story c) n command) (sym one.same))),
     )
 may_give number v w c after command (Err fault) one taken ok err =
-    let is = taken.0 in (ap (λ (u : Knowledge). u.stage) is, (c, ap (λ (u : Knowledge). u.held) is, inl err))
+    let is = taken.0 in (ap (λ (u : Knowledge). u.stage) is, subst (λ (u : Knowledge). MayFollow u.held u.places (story after)) (sym is) (inl (ap story err)))
 
 -- the journal has grown by no more than one command
 pub begins_after : (c after : Journaled) (number : ℕ) (command : Command) (r : Result Reply CallFault) (seen : List Entry) → IfOk r (λ _. after ≡ extended (rules c.setup) c number command) → OnErr r (after ≡ c) → Begins seen c.journal → Begins seen after.journal
@@ -41,7 +46,7 @@ begins_after c after number command (Err fault) seen ok err begins = subst (λ (
 later_of : (number : ℕ) (home home' : TableId) (v w x : Knowledge) (c after : Journaled) → home' ≡ home → IsPassFor number v → Taken v c w → Given w after x → Begins (place_of v.places).seen after.journal → IsLater (seat_of home v) (seat_of home' x)
 later_of number home home' v w x c after same one taken given begins =
     let is = taken.0 in
-    let places = ap (λ (u : Knowledge). u.places) given ∙ ap (λ (u : Knowledge). seen_by after u.places) is ∙ ap (seen_by after) one.only in
+    let places = ap (λ (u : Knowledge). u.places) given ∙ ap (λ (u : Knowledge). seats_after u.held u.places (story after)) is ∙ ap (seen_by (story after)) one.only in
     let mine = ap place_of places in
     record {
       home = same;
@@ -57,7 +62,6 @@ pub later : (number : ℕ) (home home' : TableId) (v w x : Knowledge) (c after :
 later number home home' v w x c after old is same one taken given begins = subst (λ (s : SeatView). IsLater s (seat_of home' x)) is (later_of number home home' v w x c after same one taken given begins)
 
 rests_stage : (stage : Stage) → is_resting stage ≡ true → stage ≡ Resting
-rests_stage Opening e = absurd (cc)
 rests_stage Spent e = absurd (cc)
 rests_stage Resting e = refl
 rests_stage Holding e = absurd (cc)
@@ -67,39 +71,46 @@ pub rests_of : (home : TableId) (v : Knowledge) (seat : SeatView) → seat_of ho
 rests_of home v seat is rests = rests_stage v.stage (ap (λ (s : SeatView). s.rests) is ∙ rests)
 
 -- the next seat to be dealt
-pub places_from-next : (c : Journaled) (dealt count : ℕ) → dealt < count → places_from c (dealt + 1) (count - dealt) ≡ place_at c (dealt + 1) ∷ places_from c (dealt + 1 + 1) (count - (dealt + 1))
+pub places_from-next : (c : Journaled) (dealt count : ℕ) → dealt < count → places_from (story c) (dealt + 1) (count - dealt) ≡ place_at (story c) (dealt + 1) ∷ places_from (story c) (dealt + 1 + 1) (count - (dealt + 1))
 places_from-next c dealt count low =
     let e : count - dealt ≡ suc (count - (dealt + 1)) = omega arith in
-    ap (places_from c (dealt + 1)) e
+    ap (places_from (story c) (dealt + 1)) e
 
 -- the pass of the next seat, and that of the others
-pub dealt_pass : (c : Journaled) (dealt count : ℕ) (v alone : Knowledge) → dealt < count → count ≤ c.seats → v ≡ resting (places_from c (dealt + 1) (count - dealt)) → alone ≡ first_alone v → IsPassFor (dealt + 1) alone
+pub dealt_pass : (c : Journaled) (dealt count : ℕ) (v alone : Knowledge) → dealt < count → count ≤ c.seats → v ≡ resting (places_from (story c) (dealt + 1) (count - dealt)) → alone ≡ first_alone v → IsPassFor (dealt + 1) alone
 dealt_pass c dealt count v alone low most is cut =
-    let next : alone ≡ resting (place_at c (dealt + 1) ∷ []) = cut ∙ ap first_alone (is ∙ ap resting (places_from-next c dealt count low)) in
+    let next : alone ≡ resting (place_at (story c) (dealt + 1) ∷ []) = cut ∙ ap first_alone (is ∙ ap resting (places_from-next c dealt count low)) in
     subst (IsPassFor (dealt + 1)) (sym next) (record { only = refl; same = refl; from_one = omega arith; to_last = omega arith })
 
-pub dealt_rest : (c : Journaled) (dealt count : ℕ) (v left : Knowledge) → dealt < count → v ≡ resting (places_from c (dealt + 1) (count - dealt)) → left ≡ without_first v → left ≡ resting (places_from c (dealt + 1 + 1) (count - (dealt + 1)))
+pub dealt_rest : (c : Journaled) (dealt count : ℕ) (v left : Knowledge) → dealt < count → v ≡ resting (places_from (story c) (dealt + 1) (count - dealt)) → left ≡ without_first v → left ≡ resting (places_from (story c) (dealt + 1 + 1) (count - (dealt + 1)))
 dealt_rest c dealt count v left low is cut = cut ∙ ap without_first (is ∙ ap resting (places_from-next c dealt count low))
 
 -- the seat of the pass that was dealt
-pub dealt_seat : (home home' : TableId) (c : Journaled) (dealt count : ℕ) (v alone : Knowledge) → dealt < count → v ≡ resting (places_from c (dealt + 1) (count - dealt)) → alone ≡ first_alone v → home ≡ home' → seat_of home alone ≡ fresh_seat home' c (1 + dealt)
+pub dealt_seat : (home home' : TableId) (c : Journaled) (dealt count : ℕ) (v alone : Knowledge) → dealt < count → v ≡ resting (places_from (story c) (dealt + 1) (count - dealt)) → alone ≡ first_alone v → home ≡ home' → seat_of home alone ≡ fresh_seat home' c (1 + dealt)
 dealt_seat home home' c dealt count v alone low is cut same =
-    let next : alone ≡ resting (place_at c (dealt + 1) ∷ []) = cut ∙ ap first_alone (is ∙ ap resting (places_from-next c dealt count low)) in
+    let next : alone ≡ resting (place_at (story c) (dealt + 1) ∷ []) = cut ∙ ap first_alone (is ∙ ap resting (places_from-next c dealt count low)) in
     let one : dealt + 1 ≡ 1 + dealt = omega arith in
     (λ i. seat_of (same i) (next i)) ∙ ap (fresh_seat home' c) one
 
 pub fresh_seats-push : (shared : TableId) (c : Journaled) (first n : ℕ) → fresh_seats shared c first (n + 1) ≡ fresh_seats shared c first n ++ fresh_seat shared c (first + n) ∷ []
 fresh_seats-push shared c first n = map-range_with_len_more (fresh_seat shared c) first n (first + n) refl
 
-AllKnow-parts : (c : Journaled) (ps qs : List Place) → AllKnow c (ps ++ qs) → AllKnow c ps × AllKnow c qs
+AllKnow-parts : (c : Story) (ps qs : List Place) → AllKnow c (ps ++ qs) → AllKnow c ps × AllKnow c qs
 AllKnow-parts c [] qs all = (tt, all)
 AllKnow-parts c (p ∷ ps) qs all = let rest = AllKnow-parts c ps qs all.1 in ((all.0, rest.0), rest.1)
 
+-- a seat knows what its pass knows
+pub known_by : (home : TableId) (number : ℕ) (u : Knowledge) (seat : SeatView) (c : Journaled) → IsPassFor number u → seat_of home u ≡ seat → AllKnow (story c) u.places → IsKnownBy c seat
+known_by home number u seat c one is all =
+    let knows = knows_one number u (story c) one all in
+    let known : IsKnownBy c (seat_of home u) = record { setup = knows.setup; seats = knows.seats; begins = knows.begins; calls = knows.calls } in
+    subst (IsKnownBy c) is known
+
 -- a seat whose pass was taken in knows what the joined pass knows
-pub known_joined : (home : TableId) (v u w : Knowledge) (number : ℕ) (seat : SeatView) (c : Journaled) → IsPassFor number u → seat_of home u ≡ seat → w ≡ joined v u → AllKnow c w.places → AllKnow c v.places × IsKnownBy c seat
+pub known_joined : (home : TableId) (v u w : Knowledge) (number : ℕ) (seat : SeatView) (c : Journaled) → IsPassFor number u → seat_of home u ≡ seat → w ≡ joined v u → AllKnow (story c) w.places → AllKnow (story c) v.places × IsKnownBy c seat
 known_joined home v u w number seat c one is both all =
-    let parts = AllKnow-parts c u.places v.places (subst (λ (x : Knowledge). AllKnow c x.places) both all) in
-    (parts.1, subst (IsKnownBy c) is (knows_one number u c one parts.0))
+    let parts = AllKnow-parts (story c) u.places v.places (subst (λ (x : Knowledge). AllKnow (story c) x.places) both all) in
+    (parts.1, known_by home number u seat c one is parts.0)
 
 pub known_push : (c : Journaled) (front back : List SeatView) (seat : SeatView) → back ≡ front ++ seat ∷ [] → All (IsKnownBy c) front → IsKnownBy c seat → All (IsKnownBy c) back
 known_push c front back seat is all one = subst (λ (l : List SeatView). All (IsKnownBy c) l) (sym is) (All-push (IsKnownBy c) front seat all one)
@@ -131,26 +142,26 @@ pub rest_dealt : (shared : TableId) (c : Journaled) (n : ℕ) (seats : List Seat
 rest_dealt shared c n seats is = subst (λ (l : List SeatView). All (λ seat. RestsAt shared seat) l) (sym is) (rest_fresh shared c 1 n)
 
 -- the pass that took another in, after it had the turn
-pub met_pass : (n m : ℕ) (u v j w x : Knowledge) (c : Journaled) → IsPassFor n u → IsPassFor m v → j ≡ joined v u → Taken j c w → Given w c x → x ≡ resting (seen_at c (place_of u.places) ∷ seen_at c (place_of v.places) ∷ [])
+pub met_pass : (n m : ℕ) (u v j w x : Knowledge) (c : Journaled) → IsPassFor n u → IsPassFor m v → j ≡ joined v u → Taken j c w → Given w c x → x ≡ resting (seen_at (story c) (place_of u.places) ∷ seen_at (story c) (place_of v.places) ∷ [])
 met_pass n m u v j w x c one two is taken given =
-    given ∙ ap (λ (k : Knowledge). resting (seen_by c k.places)) taken.0 ∙ ap (λ (k : Knowledge). resting (seen_by c k.places)) is
-    ∙ (λ i. resting (seen_by c (one.only i ++ two.only i)))
+    given ∙ ap (λ (k : Knowledge). resting (seats_after k.held k.places (story c))) taken.0 ∙ ap (λ (k : Knowledge). resting (seen_by (story c) k.places)) is
+    ∙ (λ i. resting (seen_by (story c) (one.only i ++ two.only i)))
 
-pub met_known : (n m : ℕ) (u v j w : Knowledge) (c : Journaled) → IsPassFor n u → IsPassFor m v → j ≡ joined v u → Taken j c w → Knows c (place_of u.places) × Knows c (place_of v.places)
+pub met_known : (n m : ℕ) (u v j w : Knowledge) (c : Journaled) → IsPassFor n u → IsPassFor m v → j ≡ joined v u → Taken j c w → Knows (story c) (place_of u.places) × Knows (story c) (place_of v.places)
 met_known n m u v j w c one two is taken =
-    let all = subst (λ (k : Knowledge). AllKnow c k.places) is taken.1 in
-    let both = subst (λ (ps : List Place). AllKnow c ps) (λ i. one.only i ++ two.only i) all in
+    let all = subst (λ (k : Knowledge). AllKnow (story c) k.places) is taken.1 in
+    let both = subst (λ (ps : List Place). AllKnow (story c) ps) (λ i. one.only i ++ two.only i) all in
     (both.0, both.1.0)
 
 -- a seat of the pass that met
-pub met_later : (home home' : TableId) (v y : Knowledge) (c : Journaled) (b : SeatView) → seat_of home v ≡ b → home' ≡ home → Knows c (place_of v.places) → y ≡ resting (seen_at c (place_of v.places) ∷ []) → IsLater b (seat_of home' y) × SameCalls b (seat_of home' y).seen
+pub met_later : (home home' : TableId) (v y : Knowledge) (c : Journaled) (b : SeatView) → seat_of home v ≡ b → home' ≡ home → Knows (story c) (place_of v.places) → y ≡ resting (seen_at (story c) (place_of v.places) ∷ []) → IsLater b (seat_of home' y) × SameCalls b (seat_of home' y).seen
 met_later home home' v y c b is same known after =
-    let it : seat_of home' y ≡ seat_of home (resting (seen_at c (place_of v.places) ∷ [])) = λ i. seat_of (same i) (after i) in
+    let it : seat_of home' y ≡ seat_of home (resting (seen_at (story c) (place_of v.places) ∷ [])) = λ i. seat_of (same i) (after i) in
     subst (λ (s : SeatView × SeatView). IsLater s.0 s.1 × SameCalls s.0 s.1.seen) (λ i. (is i, sym it i))
     (record { home = refl; setup = refl; seats = refl; number = refl; rests = refl; begins = known.begins }, known.calls)
 
 -- what the one has seen is a beginning of what the other has
-pub met_begins : (home : TableId) (u v y z : Knowledge) (c : Journaled) (a : SeatView) → seat_of home u ≡ a → Knows c (place_of u.places) → y ≡ resting (seen_at c (place_of u.places) ∷ []) → z ≡ resting (seen_at c (place_of v.places) ∷ [])
+pub met_begins : (home : TableId) (u v y z : Knowledge) (c : Journaled) (a : SeatView) → seat_of home u ≡ a → Knows (story c) (place_of u.places) → y ≡ resting (seen_at (story c) (place_of u.places) ∷ []) → z ≡ resting (seen_at (story c) (place_of v.places) ∷ [])
     → Begins (place_of y.places).seen (place_of z.places).seen × SameCalls a (place_of z.places).seen
 met_begins home u v y z c a is known first second =
     let one : (place_of y.places).seen ≡ c.journal = ap (λ (k : Knowledge). (place_of k.places).seen) first in
@@ -161,21 +172,38 @@ met_begins home u v y z c a is known first second =
 
 call_at : (number : ℕ) (home home' : TableId) (v w x : Knowledge) (c after : Journaled) (command : Command) (reply : Answer) → IsPassFor number v → Taken v c w → Given w after x
     → reply ≡ answer (rules c.setup) (state_of (rules c.setup) c) number command → after ≡ extended (rules c.setup) c number command → IsCall (seat_of home v) command reply (seat_of home' x)
-call_at number home home' v w x c after command reply one taken given answered longer =
+call_at number home home' v w x c after command reply one taken given answered extends =
     let p = place_of v.places in
-    let known = knows_one number v c one taken.1 in
-    let mine = ap place_of (ap (λ (u : Knowledge). u.places) given ∙ ap (λ (u : Knowledge). seen_by after u.places) taken.0 ∙ ap (seen_by after) one.only) in
+    let known = knows_one number v (story c) one taken.1 in
+    let mine = ap place_of (ap (λ (u : Knowledge). u.places) given ∙ ap (λ (u : Knowledge). seats_after u.held u.places (story after)) taken.0 ∙ ap (seen_by (story after)) one.only) in
     record {
       journal = c.journal;
       begins = known.begins;
       calls = known.calls;
-      entry = ap (λ (q : Place). q.seen) mine ∙ ap (λ (y : Journaled). y.journal) longer ∙ ap (λ n. c.journal ++ entry n command ∷ []) (sym one.same);
+      entry = ap (λ (q : Place). q.seen) mine ∙ ap (λ (y : Journaled). y.journal) extends ∙ ap (λ n. c.journal ++ entry n command ∷ []) (sym one.same);
       reply = answered ∙ (λ i. answer (rules (known.setup i)) (replay (rules (known.setup i)) (known.setup i) (known.seats i) c.journal) (sym one.same i) command);
     }
 
 -- a call that was answered
 pub is_call : (number : ℕ) (home home' : TableId) (v w x : Knowledge) (c after : Journaled) (command : Command) (r : Result Reply CallFault) (old : SeatView) → seat_of home v ≡ old → IsPassFor number v → Taken v c w → Given w after x
     → IfOk r (λ reply. told reply ≡ answer (rules c.setup) (state_of (rules c.setup) c) number command) → IfOk r (λ _. after ≡ extended (rules c.setup) c number command) → IfOk r (λ reply. IsCall old command (told reply) (seat_of home' x))
-is_call number home home' v w x c after command (Ok reply) old is one taken given answered longer =
-    subst (λ (s : SeatView). IsCall s command (told reply) (seat_of home' x)) is (call_at number home home' v w x c after command (told reply) one taken given answered longer)
-is_call number home home' v w x c after command (Err fault) old is one taken given answered longer = tt
+is_call number home home' v w x c after command (Ok reply) old is one taken given answered extends =
+    subst (λ (s : SeatView). IsCall s command (told reply) (seat_of home' x)) is (call_at number home home' v w x c after command (told reply) one taken given answered extends)
+is_call number home home' v w x c after command (Err fault) old is one taken given answered extends = tt
+
+-- a call leaves the setup and the number of seats
+same_parts : (c after : Journaled) (number : ℕ) (command : Command) (r : Result Reply CallFault) → IfOk r (λ _. after ≡ extended (rules c.setup) c number command) → OnErr r (after ≡ c) → (after.setup ≡ c.setup) × (after.seats ≡ c.seats)
+same_parts c after number command (Ok reply) ok err = (ap (λ (y : Journaled). y.setup) ok, ap (λ (y : Journaled). y.seats) ok)
+same_parts c after number command (Err fault) ok err = (ap (λ (y : Journaled). y.setup) err, ap (λ (y : Journaled). y.seats) err)
+
+-- the headline of the control that is given back is that of the seat
+pub sees_headline : (number : ℕ) (home' : TableId) (v w x : Knowledge) (c after : Journaled) (command : Command) (r : Result Reply CallFault) → IsPassFor number v → Taken v c w → Given w after x
+    → IfOk r (λ _. after ≡ extended (rules c.setup) c number command) → OnErr r (after ≡ c) → HasHeadline after → SeesHeadline (seat_of home' x)
+sees_headline number home' v w x c after command r one taken given ok err headline =
+    let known = knows_one number v (story c) one taken.1 in
+    let mine = ap place_of (ap (λ (u : Knowledge). u.places) given ∙ ap (λ (u : Knowledge). seats_after u.held u.places (story after)) taken.0 ∙ ap (seen_by (story after)) one.only) in
+    let parts = same_parts c after number command r ok err in
+    let setup = parts.0 ∙ known.setup ∙ sym (ap (λ (q : Place). q.setup) mine) in
+    let seats = parts.1 ∙ known.seats ∙ sym (ap (λ (q : Place). q.seats) mine) in
+    let seen = sym (ap (λ (q : Place). q.seen) mine) in
+    subst (λ (y : Parts × ℕ × List Entry). Headline rules ReachSameState y.0 y.1 y.2) (λ i. (setup i, seats i, seen i)) headline

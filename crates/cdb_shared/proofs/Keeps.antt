@@ -1,22 +1,23 @@
 -- Each step on the queue of the turn keeps the rule.
-use Rattle.std.proofs.Common.{◌≡◌, ◌≢◌, inl, inr, ℕ, zero, suc, ◌+◌, ◌<◌, ◌≤◌, ◌==◌, cond, Bool, true, false, List, [], ◌∷◌, ◌++◌, set, take, drop, Option, Some, None, refl, sym, ap, ◌∙◌, subst, ⊎_elim, arith}
+use Rattle.std.proofs.Common.{◌≡◌, ◌≢◌, inl, inr, ℕ, zero, suc, ◌+◌, ◌<◌, ◌≤◌, ◌==◌, cond, Bool, true, false, List, [], ◌∷◌, ◌++◌, map, set, take, drop, Option, Some, None, refl, sym, ap, ◌∙◌, subst, ⊎_elim, arith}
 use Rattle.std.proofs.lemmas.Bool.Decides.{nat_tests}
+use Rattle.std.proofs.lemmas.List.{map-append}
 use mathlib.Core.Option.{some, some-ne-none, some-injective}
 use lib.ListN.{get_elem?}
 use Rattle.crossbeam_queue.specs.Fifo.{Pushes, Pops, Forks, Merges, Learns}
 use Rattle.crossbeam_queue.proofs.Lists.{at_set, at_snoc, at_longer, set_else}
 use Rattle.cdb_control.specs.declared.command.Command.{Command}
-use Rattle.cdb_control.specs.Journal.{Journaled, entry, extended}
-use Rattle.cdb_run.specs.Algorithms.{rules}
+use Rattle.cdb_control.specs.Journal.{Journaled, entry}
 use Rattle.cdb_control.proofs.Own.{Begins-refl, Begins-push, own-push_other}
 use Rattle.cdb_shared.specs.declared.knowledge.Stage.{Stage}
-use Rattle.cdb_shared.specs.declared.knowledge.Stage.TheVariants.{Opening, Spent, Resting, Holding}
+use Rattle.cdb_shared.specs.declared.knowledge.Stage.TheVariants.{Spent, Resting, Holding}
 use Rattle.cdb_shared.specs.declared.knowledge.Place.{Place}
+use Rattle.cdb_shared.specs.declared.knowledge.Story.{Story}
 use Rattle.cdb_shared.specs.declared.knowledge.Knowledge.{Knowledge}
-use Rattle.cdb_shared.specs.Turn.{opening, spent, resting, holding, Knows, AllKnow, FitsAt, queued, IsHeld, count_of, total_of, Stands, places_from, seen_at, seen_by, Opened, Taken, Given, MayGrow, MayGive, NoneStands, without_first, first_alone, joined}
+use Rattle.cdb_shared.specs.Turn.{story, longer, opening, spent, resting, holding, Knows, AllKnow, Turn, InQueue, HeldBy, FitsAt, queued, IsHeld, count_of, total_of, Turns, IsRuled, places_from, seen_at, seen_by, Taken, Given, MayGrow, MayFollow, MayGive, seats_after, NoneStands, without_first, first_alone, joined}
 
 -- at the start there is one pass, and nothing in the queue
-pub begins : Stands [] (opening ∷ [])
+pub begins : IsRuled [] (opening ∷ [])
 begins = inl (refl, refl)
 
 -- the one view at the start
@@ -26,9 +27,6 @@ only_view views pass v is at = only pass (ap (λ l. get_elem? l pass) (sym is) �
     only : (i : ℕ) → get_elem? (opening ∷ []) i ≡ some v → (i ≡ 0) × (v ≡ opening)
     only zero e = (refl, sym (some-injective opening v e))
     only (suc i) e = absurd (some-ne-none v (sym e))
-
-not_opening : (v : Knowledge) → v ≡ opening → v.stage ≢ Opening → ⊥
-not_opening v is apart = apart (ap (λ (u : Knowledge). u.stage) is)
 
 -- a fact of each view, after one of them has changed
 each_set : (F : ℕ → Knowledge → Type 0) (views : List Knowledge) (pass : ℕ) (w : Knowledge) → F pass w → ((j : ℕ) (u : Knowledge) → j ≢ pass → get_elem? views j ≡ some u → F j u) → (j : ℕ) (u : Knowledge) → get_elem? (set views pass w) j ≡ some u → F j u
@@ -69,7 +67,7 @@ count_append : (n : ℕ) (ps qs : List Place) → count_of n (ps ++ qs) ≡ coun
 count_append n [] qs = omega arith
 count_append n (p ∷ ps) qs = let rest = count_append n ps qs in omega arith
 
-count_seen : (n : ℕ) (c : Journaled) (ps : List Place) → count_of n (seen_by c ps) ≡ count_of n ps
+count_seen : (n : ℕ) (c : Story) (ps : List Place) → count_of n (seen_by c ps) ≡ count_of n ps
 count_seen n c [] = refl
 count_seen n c (p ∷ ps) = let rest = count_seen n c ps in omega arith
 
@@ -83,40 +81,40 @@ count_alone p = ap (λ b. cond b 1 0 + 0) same ∙ refl
     same : (p.number == p.number) ≡ true
     same = grind arith
 
-count_below : (n first many : ℕ) (c : Journaled) → n < first → count_of n (places_from c first many) ≡ 0
+count_below : (n first many : ℕ) (c : Story) → n < first → count_of n (places_from c first many) ≡ 0
 count_below n first zero c low = refl
 count_below n first (suc many) c low =
     let apart : (first == n) ≡ false = grind (arith, nat_tests) in
     ap (λ b. cond b 1 0 + count_of n (places_from c (first + 1) many)) apart ∙ omega (arith, count_below n (first + 1) many c (omega arith))
 
-count_next : (n first many : ℕ) (c : Journaled) (b : Bool) → (first == n) ≡ b → count_of n (places_from c (first + 1) many) ≤ 1 → count_of n (places_from c first (suc many)) ≤ 1
+count_next : (n first many : ℕ) (c : Story) (b : Bool) → (first == n) ≡ b → count_of n (places_from c (first + 1) many) ≤ 1 → count_of n (places_from c first (suc many)) ≤ 1
 count_next n first many c true e rest =
     let same : first ≡ n = grind (arith, nat_tests) in
     let none = count_below n (first + 1) many c (omega arith) in
     rw e (omega arith)
 count_next n first many c false e rest = rw e (omega arith)
 
-count_from : (n first many : ℕ) (c : Journaled) → count_of n (places_from c first many) ≤ 1
+count_from : (n first many : ℕ) (c : Story) → count_of n (places_from c first many) ≤ 1
 count_from n first zero c = omega arith
 count_from n first (suc many) c = count_next n first many c (first == n) refl (count_from n (first + 1) many c)
 
-AllKnow-from : (first many : ℕ) (c : Journaled) → AllKnow c (places_from c first many)
+AllKnow-from : (first many : ℕ) (c : Story) → AllKnow c (places_from c first many)
 AllKnow-from first zero c = tt
 AllKnow-from first (suc many) c = (record { setup = refl; seats = refl; begins = Begins-refl c.journal; calls = refl }, AllKnow-from (first + 1) many c)
 
-pub AllKnow-seen : (c : Journaled) (ps : List Place) → ((p : Place) → Knows c p → Knows c (seen_at c p)) → AllKnow c ps → AllKnow c (seen_by c ps)
+pub AllKnow-seen : (c : Story) (ps : List Place) → ((p : Place) → Knows c p → Knows c (seen_at c p)) → AllKnow c ps → AllKnow c (seen_by c ps)
 AllKnow-seen c [] one all = tt
 AllKnow-seen c (p ∷ ps) one all = (one p all.0, AllKnow-seen c ps one all.1)
 
-AllKnow-append : (c : Journaled) (ps qs : List Place) → AllKnow c ps → AllKnow c qs → AllKnow c (ps ++ qs)
+AllKnow-append : (c : Story) (ps qs : List Place) → AllKnow c ps → AllKnow c qs → AllKnow c (ps ++ qs)
 AllKnow-append c [] qs a b = b
 AllKnow-append c (p ∷ ps) qs a b = (a.0, AllKnow-append c ps qs a.1 b)
 
-AllKnow-first : (c : Journaled) (ps : List Place) → AllKnow c ps → AllKnow c (take 1 ps)
+AllKnow-first : (c : Story) (ps : List Place) → AllKnow c ps → AllKnow c (take 1 ps)
 AllKnow-first c [] a = tt
 AllKnow-first c (p ∷ ps) a = (a.0, tt)
 
-AllKnow-others : (c : Journaled) (ps : List Place) → AllKnow c ps → AllKnow c (drop 1 ps)
+AllKnow-others : (c : Story) (ps : List Place) → AllKnow c ps → AllKnow c (drop 1 ps)
 AllKnow-others c [] a = tt
 AllKnow-others c (p ∷ ps) a = a.1
 
@@ -128,7 +126,7 @@ apart_from number n rest none same = apart_by (number == n) (grind (arith, nat_t
     apart_by false e h = cc
 
 -- a command of a seat that isn't among these
-AllKnow-push : (c : Journaled) (ps : List Place) (seat : ℕ) (command : Command) → count_of seat ps ≡ 0 → AllKnow c ps → AllKnow (extended (rules c.setup) c seat command) ps
+AllKnow-push : (c : Story) (ps : List Place) (seat : ℕ) (command : Command) → count_of seat ps ≡ 0 → AllKnow c ps → AllKnow (longer c seat command) ps
 AllKnow-push c [] seat command none a = tt
 AllKnow-push c (p ∷ ps) seat command none a =
     let apart = apart_from p.number seat (count_of seat ps) none in (
@@ -142,15 +140,15 @@ AllKnow-push c (p ∷ ps) seat command none a =
     )
 
 -- the holder holds after another pass has changed
-held_set : (holder : Option ℕ) (views : List Knowledge) (pass : ℕ) (v w : Knowledge) → get_elem? views pass ≡ some v → v.stage ≢ Holding → IsHeld holder views → IsHeld holder (set views pass w)
-held_set None views pass v w at apart held = tt
-held_set (Some h) views pass v w at apart held =
+held_set : (turn : Turn) (views : List Knowledge) (pass : ℕ) (v w : Knowledge) → get_elem? views pass ≡ some v → v.stage ≢ Holding → IsHeld turn views → IsHeld turn (set views pass w)
+held_set InQueue views pass v w at apart held = tt
+held_set (HeldBy h) views pass v w at apart held =
     let differs : h ≢ pass = λ same. apart (ap (λ (u : Knowledge). u.stage) (some-injective v held.0 (sym at ∙ ap (λ i. get_elem? views i) (sym same) ∙ held.1)) ∙ held.2) in
     (held.0, set_else views pass h w differs ∙ held.1, held.2)
 
-held_push : (holder : Option ℕ) (views : List Knowledge) (w : Knowledge) → IsHeld holder views → IsHeld holder (views ++ w ∷ [])
-held_push None views w held = tt
-held_push (Some h) views w held = (held.0, at_longer views (w ∷ []) h held.0 held.1, held.2)
+held_push : (turn : Turn) (views : List Knowledge) (w : Knowledge) → IsHeld turn views → IsHeld turn (views ++ w ∷ [])
+held_push InQueue views w held = tt
+held_push (HeldBy h) views w held = (held.0, at_longer views (w ∷ []) h held.0 held.1, held.2)
 
 here : (views : List Knowledge) (pass : ℕ) (v w : Knowledge) → get_elem? views pass ≡ some v → get_elem? (set views pass w) pass ≡ some w
 here [] pass v w at = absurd (some-ne-none v (sym at))
@@ -158,148 +156,150 @@ here (x ∷ xs) zero v w at = refl
 here (x ∷ xs) (suc i) v w at = here xs i v w at
 
 -- a pass at a stage that is known
-fits_as : (stage : Stage) (c : Journaled) (holder : Option ℕ) (pass : ℕ) (v : Knowledge) → v.stage ≡ stage → FitsAt v.stage c holder pass v → FitsAt stage c holder pass v
-fits_as stage c holder pass v is fits = subst (λ (s : Stage). FitsAt s c holder pass v) is fits
+fits_as : (stage : Stage) (c : Story) (turn : Turn) (pass : ℕ) (v : Knowledge) → v.stage ≡ stage → FitsAt v.stage c turn pass v → FitsAt stage c turn pass v
+fits_as stage c turn pass v is fits = subst (λ (s : Stage). FitsAt s c turn pass v) is fits
 
 resting_apart : (v : Knowledge) → v.stage ≡ Resting → v ≡ opening → ⊥
-resting_apart v rests is = let e : Resting ≡ Opening = sym rests ∙ ap (λ (u : Knowledge). u.stage) is in absurd (cc)
-
-holding_apart : (v : Knowledge) → v.stage ≡ Holding → v ≡ opening → ⊥
-holding_apart v holds is = let e : Holding ≡ Opening = sym holds ∙ ap (λ (u : Knowledge). u.stage) is in absurd (cc)
+resting_apart v rests is = let e : Resting ≡ Holding = sym rests ∙ ap (λ (u : Knowledge). u.stage) is in absurd (cc)
 
 resting_holds : (v : Knowledge) → v.stage ≡ Resting → v.stage ≢ Holding
 resting_holds v rests holds = let e : Resting ≡ Holding = sym rests ∙ holds in absurd (cc)
 
--- the first give back
-pub opens : (n pass : ℕ) (v : Knowledge) (c : Journaled) → v ≡ opening → Pushes Stands n pass v c (λ w. Opened v c w)
-opens n pass v c is items views room (inl start) at =
-    let w = resting (places_from c 1 c.seats) in
-    let first = only_view views pass v start.1 at in
-    let F : ℕ → Knowledge → Type 0 = λ j u. FitsAt u.stage c None j u in
-    let none : (k : ℕ) → total_of k views ≡ 0 = λ k. ap (total_of k) start.1 in (
-      w,
-      inr (record {
-        control = c;
-        holder = None;
-        stands = ap (λ l. l ++ c ∷ []) start.0;
-        held = tt;
-        each = each_set F views pass w (AllKnow-from 1 c.seats c) (λ j u apart e. absurd (apart ((only_view views j u start.1 e).0 ∙ sym first.0)));
-        once = λ k. let total = total_set k views pass v w at in let was = none k in let few = count_from k 1 c.seats c in omega arith;
-      }),
-      refl,
-    )
-opens n pass v c is items views room (inr t) at = absurd (fits_as Opening t.control t.holder pass v (ap (λ (u : Knowledge). u.stage) is) (t.each pass v at))
+stood : (turn : Turn) (c : Story) (x : Journaled) (items : List Journaled) → map story (x ∷ items) ≡ queued turn c → (turn ≡ InQueue) × (story x ≡ c) × (map story items ≡ [])
+stood InQueue c x items e = (refl, (cc), (cc))
+stood (HeldBy h) c x items e = absurd (cc)
 
-stood : (holder : Option ℕ) (c x : Journaled) (items : List Journaled) → x ∷ items ≡ queued holder c → (holder ≡ None) × (x ≡ c) × (items ≡ [])
-stood None c x items e = (refl, (cc), (cc))
-stood (Some h) c x items e = absurd (cc)
-
-take_other : (stage : Stage) (c : Journaled) (holder : Option ℕ) (pass j : ℕ) (u : Knowledge) → holder ≡ None → FitsAt stage c holder j u → FitsAt stage c (Some pass) j u
-take_other Opening c holder pass j u none fits = fits
-take_other Spent c holder pass j u none fits = tt
-take_other Resting c holder pass j u none fits = fits
-take_other Holding c holder pass j u none fits = let e : None ≡ Some j = sym none ∙ fits.1 in absurd (cc)
+take_other : (stage : Stage) (c : Story) (turn : Turn) (pass j : ℕ) (u : Knowledge) → turn ≡ InQueue → FitsAt stage c turn j u → FitsAt stage c (HeldBy pass) j u
+take_other Spent c turn pass j u none fits = tt
+take_other Resting c turn pass j u none fits = fits
+take_other Holding c turn pass j u none fits = let e : InQueue ≡ HeldBy j = sym none ∙ fits.1 in absurd (cc)
 
 -- the turn is taken
-pub takes : (pass : ℕ) (v : Knowledge) → v.stage ≡ Resting → Pops Stands pass v (λ x w. Taken v x w)
+pub takes : (pass : ℕ) (v : Knowledge) → v.stage ≡ Resting → Pops IsRuled pass v (λ x w. Taken v x w)
 takes pass v rests x items views (inl start) at = let e = start.0 in absurd (cc)
 takes pass v rests x items views (inr t) at =
-    let was = stood t.holder t.control x items t.stands in
+    let was = stood t.turn t.control x items t.stands in
     let c = t.control in
-    let w = holding v.places x in
-    let fits = fits_as Resting c t.holder pass v rests (t.each pass v at) in
-    let F : ℕ → Knowledge → Type 0 = λ j u. FitsAt u.stage c (Some pass) j u in (
+    let w = holding v.places (story x) in
+    let fits = fits_as Resting c t.turn pass v rests (t.each pass v at) in
+    let F : ℕ → Knowledge → Type 0 = λ j u. FitsAt u.stage c (HeldBy pass) j u in (
       w,
       inr (record {
         control = c;
-        holder = Some pass;
+        turn = HeldBy pass;
         stands = was.2;
         held = (w, here views pass v w at, refl);
-        each = each_set F views pass w (fits, refl, ap Some was.1) (λ j u apart e. take_other u.stage c t.holder pass j u was.0 (t.each j u e));
+        each = each_set F views pass w (fits, refl, ap Some was.1) (λ j u apart e. take_other u.stage c t.turn pass j u was.0 (t.each j u e));
         once = λ k. let total = total_set k views pass v w at in let few = t.once k in omega arith;
       }),
-      (refl, subst (λ (y : Journaled). AllKnow y v.places) (sym was.1) fits),
+      (refl, subst (λ (y : Story). AllKnow y v.places) (sym was.1) fits),
     )
 
-give_other : (stage : Stage) (old new : Journaled) (holder : Option ℕ) (pass j : ℕ) (u : Knowledge) → holder ≡ Some pass → j ≢ pass → (AllKnow old u.places → AllKnow new u.places) → FitsAt stage old holder j u → FitsAt stage new None j u
-give_other Opening old new holder pass j u is apart grow fits = fits
-give_other Spent old new holder pass j u is apart grow fits = tt
-give_other Resting old new holder pass j u is apart grow fits = grow fits
-give_other Holding old new holder pass j u is apart grow fits = let e : Some pass ≡ Some j = sym is ∙ fits.1 in absurd (apart (cc))
+give_other : (stage : Stage) (old new : Story) (turn : Turn) (pass j : ℕ) (u : Knowledge) → turn ≡ HeldBy pass → j ≢ pass → (AllKnow old u.places → AllKnow new u.places) → FitsAt stage old turn j u → FitsAt stage new InQueue j u
+give_other Spent old new turn pass j u is apart grow fits = tt
+give_other Resting old new turn pass j u is apart grow fits = grow fits
+give_other Holding old new turn pass j u is apart grow fits = let e : HeldBy pass ≡ HeldBy j = sym is ∙ fits.1 in absurd (apart (cc))
 
 -- what the others know still holds after the journal has grown
-grown : (before after : Journaled) (views : List Knowledge) (pass j : ℕ) (v u : Knowledge) → MayGrow v.places before after → ((k : ℕ) → total_of k views ≤ 1) → j ≢ pass → get_elem? views pass ≡ some v → get_elem? views j ≡ some u → AllKnow before u.places → AllKnow after u.places
-grown before after views pass j v u (inl same) once apart at other all = subst (λ (c : Journaled). AllKnow c u.places) (sym same) all
+grown : (before after : Story) (views : List Knowledge) (pass j : ℕ) (v u : Knowledge) → MayGrow v.places before after → ((k : ℕ) → total_of k views ≤ 1) → j ≢ pass → get_elem? views pass ≡ some v → get_elem? views j ≡ some u → AllKnow before u.places → AllKnow after u.places
+grown before after views pass j v u (inl same) once apart at other all = subst (λ (c : Story). AllKnow c u.places) (sym same) all
 grown before after views pass j v u (inr (p, command, places, longer)) once apart at other all =
     let two = total_two p.number views pass j v u (λ e. apart (sym e)) at other in
     let mine : count_of p.number v.places ≡ 1 = ap (count_of p.number) places ∙ count_alone p in
     let few = once p.number in
-    subst (λ (c : Journaled). AllKnow c u.places) (sym longer) (AllKnow-push before u.places p.number command (omega arith) all)
+    subst (λ (c : Story). AllKnow c u.places) (sym longer) (AllKnow-push before u.places p.number command (omega arith) all)
 
-seen_one : (c : Journaled) (p : Place) → Knows c p → Knows c (seen_at c p)
+seen_one : (c : Story) (p : Place) → Knows c p → Knows c (seen_at c p)
 seen_one c p known = record { setup = known.setup; seats = known.seats; begins = Begins-refl c.journal; calls = refl }
 
-seen_more : (c : Journaled) (seat : ℕ) (command : Command) (p : Place) → Knows c p → Knows (extended (rules c.setup) c seat command) (record { number = p.number; setup = p.setup; seats = p.seats; seen = c.journal ++ entry seat command ∷ [] })
+seen_more : (c : Story) (seat : ℕ) (command : Command) (p : Place) → Knows c p → Knows (longer c seat command) (record { number = p.number; setup = p.setup; seats = p.seats; seen = c.journal ++ entry seat command ∷ [] })
 seen_more c seat command p known = record { setup = known.setup; seats = known.seats; begins = Begins-refl (c.journal ++ entry seat command ∷ []); calls = refl }
 
 -- what the seats of the pass know of what it gives back
-AllKnow-given : (places : List Place) (before after : Journaled) → MayGrow places before after → AllKnow before places → AllKnow after (seen_by after places)
-AllKnow-given places before after (inl same) all = subst (λ (c : Journaled). AllKnow c (seen_by c places)) (sym same) (AllKnow-seen before places (seen_one before) all)
+AllKnow-given : (places : List Place) (before after : Story) → MayGrow places before after → AllKnow before places → AllKnow after (seen_by after places)
+AllKnow-given places before after (inl same) all = subst (λ (c : Story). AllKnow c (seen_by c places)) (sym same) (AllKnow-seen before places (seen_one before) all)
 AllKnow-given places before after (inr (p, command, is, longer)) all =
     let one = (subst (λ (ps : List Place). AllKnow before ps) is all).0 in
-    subst (λ (y : Journaled × List Place). AllKnow y.0 (seen_by y.0 y.1)) (λ i. (sym longer i, sym is i)) (seen_more before p.number command p one, tt)
+    subst (λ (y : Story × List Place). AllKnow y.0 (seen_by y.0 y.1)) (λ i. (sym longer i, sym is i)) (seen_more before p.number command p one, tt)
 
-some_same : (a b : Journaled) → Some a ≡ Some b → a ≡ b
-some_same a b e = cc
+-- the first pass gives the control that is handed in
+gives_first : (n pass : ℕ) (v : Knowledge) (c : Journaled) (items : List Journaled) (views : List Knowledge) → items ≡ [] → views ≡ opening ∷ [] → get_elem? views pass ≡ some v
+    → Turns (items ++ c ∷ []) (set views pass (resting (places_from (story c) 1 c.seats)))
+gives_first n pass v c items views empty alone at =
+    let k = story c in
+    let w = resting (places_from k 1 c.seats) in
+    let first = only_view views pass v alone at in
+    let F : ℕ → Knowledge → Type 0 = λ j u. FitsAt u.stage k InQueue j u in
+    let none : (m : ℕ) → total_of m views ≡ 0 = λ m. ap (total_of m) alone in
+    record {
+      control = k;
+      turn = InQueue;
+      stands = ap (λ l. map story (l ++ c ∷ [])) empty;
+      held = tt;
+      each = each_set F views pass w (AllKnow-from 1 c.seats k) (λ j u apart e. absurd (apart ((only_view views j u alone e).0 ∙ sym first.0)));
+      once = λ m. let total = total_set m views pass v w at in let was = none m in let few = count_from m 1 c.seats k in omega arith;
+    }
+
+-- and any other pass the control that it took, or that with one command more
+gives_next : (pass : ℕ) (v : Knowledge) (c : Journaled) (items : List Journaled) (views : List Knowledge) (t : Turns items views) → get_elem? views pass ≡ some v → t.turn ≡ HeldBy pass → AllKnow t.control v.places
+    → MayGrow v.places t.control (story c) → Turns (items ++ c ∷ []) (set views pass (resting (seen_by (story c) v.places)))
+gives_next pass v c items views t at mine known grow =
+    let old = t.control in
+    let k = story c in
+    let w = resting (seen_by k v.places) in
+    let F : ℕ → Knowledge → Type 0 = λ j u. FitsAt u.stage k InQueue j u in
+    record {
+      control = k;
+      turn = InQueue;
+      stands = map-append story items (c ∷ []) ∙ ap (λ l. l ++ k ∷ []) (t.stands ∙ ap (λ h. queued h old) mine);
+      held = tt;
+      each = each_set F views pass w (AllKnow-given v.places old k grow known)
+          (λ j u apart e. give_other u.stage old k t.turn pass j u mine apart (grown old k views pass j v u grow t.once apart at e) (t.each j u e));
+      once = λ m. let total = total_set m views pass v w at in let few = t.once m in let same = count_seen m k v.places in omega arith;
+    }
 
 -- the turn is given back
-pub gives : (n pass : ℕ) (v : Knowledge) (c : Journaled) → MayGive v c → Pushes Stands n pass v c (λ w. Given v c w)
-gives n pass v c may items views room (inl start) at = absurd (holding_apart v may.0 (only_view views pass v start.1 at).1)
+pub gives : (n pass : ℕ) (v : Knowledge) (c : Journaled) → MayGive v c → Pushes IsRuled n pass v c (λ w. Given v c w)
+gives n pass v c may items views room (inl start) at =
+    let is = (only_view views pass v start.1 at).1 in (
+      resting (places_from (story c) 1 c.seats),
+      inr (gives_first n pass v c items views start.0 start.1 at),
+      sym (ap (λ (u : Knowledge). resting (seats_after u.held u.places (story c))) is),
+    )
 gives n pass v c may items views room (inr t) at =
-    let old = t.control in
-    let fits = fits_as Holding old t.holder pass v may.0 (t.each pass v at) in
-    let w = resting (seen_by c v.places) in
-    let same = some_same may.1.0 old (sym may.1.1 ∙ fits.2) in
-    let grow : MayGrow v.places old c = subst (λ (b : Journaled). MayGrow v.places b c) same may.1.2 in
-    let F : ℕ → Knowledge → Type 0 = λ j u. FitsAt u.stage c None j u in (
-      w,
-      inr (record {
-        control = c;
-        holder = None;
-        stands = ap (λ l. l ++ c ∷ []) (t.stands ∙ ap (λ h. queued h old) fits.1);
-        held = tt;
-        each = each_set F views pass w (AllKnow-given v.places old c grow fits.0)
-            (λ j u apart e. give_other u.stage old c t.holder pass j u fits.1 apart (grown old c views pass j v u grow t.once apart at e) (t.each j u e));
-        once = λ k. let total = total_set k views pass v w at in let few = t.once k in let same = count_seen k c v.places in omega arith;
-      }),
-      refl,
+    let fits = fits_as Holding t.control t.turn pass v may.0 (t.each pass v at) in
+    let grow : MayGrow v.places t.control (story c) = subst (λ (h : Option Story). MayFollow h v.places (story c)) fits.2 may.1 in (
+      resting (seen_by (story c) v.places),
+      inr (gives_next pass v c items views t at fits.1 fits.0 grow),
+      sym (ap (λ (h : Option Story). resting (seats_after h v.places (story c))) fits.2),
     )
 
--- while a pass holds the control, none stands in the queue
-pub none_stands : (pass : ℕ) (v : Knowledge) → v.stage ≡ Holding → Learns Stands pass v (λ items. NoneStands v items)
-none_stands pass v holds items views (inl start) at = start.0
-none_stands pass v holds items views (inr t) at = let fits = fits_as Holding t.control t.holder pass v holds (t.each pass v at) in t.stands ∙ ap (λ h. queued h t.control) fits.1
+no_stories : (items : List Journaled) → map story items ≡ [] → items ≡ []
+no_stories [] e = refl
+no_stories (x ∷ items) e = absurd (cc)
 
--- nor before the opening
-pub none_stands_yet : (pass : ℕ) (v : Knowledge) → v ≡ opening → Learns Stands pass v (λ items. NoneStands v items)
-none_stands_yet pass v is items views (inl start) at = start.0
-none_stands_yet pass v is items views (inr t) at = absurd (fits_as Opening t.control t.holder pass v (ap (λ (u : Knowledge). u.stage) is) (t.each pass v at))
+-- while a pass holds the control, none stands in the queue
+pub none_stands : (pass : ℕ) (v : Knowledge) → v.stage ≡ Holding → Learns IsRuled pass v (λ items. NoneStands v items)
+none_stands pass v holds items views (inl start) at = start.0
+none_stands pass v holds items views (inr t) at =
+    let fits = fits_as Holding t.control t.turn pass v holds (t.each pass v at) in
+    no_stories items (t.stands ∙ ap (λ h. queued h t.control) fits.1)
 
 -- the first seat of a pass gets a pass of its own
-pub forks : (pass : ℕ) (v : Knowledge) → v.stage ≡ Resting → Forks Stands pass v (without_first v) (first_alone v)
+pub forks : (pass : ℕ) (v : Knowledge) → v.stage ≡ Resting → Forks IsRuled pass v (without_first v) (first_alone v)
 forks pass v rests items views (inl start) at = absurd (resting_apart v rests (only_view views pass v start.1 at).1)
 forks pass v rests items views (inr t) at =
     let c = t.control in
     let left = without_first v in
     let right = first_alone v in
-    let fits = fits_as Resting c t.holder pass v rests (t.each pass v at) in
-    let F : ℕ → Knowledge → Type 0 = λ j u. FitsAt u.stage c t.holder j u in
+    let fits = fits_as Resting c t.turn pass v rests (t.each pass v at) in
+    let F : ℕ → Knowledge → Type 0 = λ j u. FitsAt u.stage c t.turn j u in
     let was = each_set F views pass left (AllKnow-others c v.places fits) (λ j u apart e. t.each j u e) in
     inr (record {
       control = c;
-      holder = t.holder;
+      turn = t.turn;
       stands = t.stands;
-      held = held_push t.holder (set views pass left) right (held_set t.holder views pass v left at (resting_holds v rests) t.held);
+      held = held_push t.turn (set views pass left) right (held_set t.turn views pass v left at (resting_holds v rests) t.held);
       each = λ j u e. ⊎_elim (λ there. was j u there) (λ (is : right ≡ u). subst (F j) is (AllKnow-first c v.places fits)) (at_snoc (set views pass left) right u j e);
       once = λ k.
           let total = total_set k views pass v left at in
@@ -309,21 +309,21 @@ forks pass v rests items views (inr t) at =
     })
 
 -- a pass takes in the seats of another
-pub merges : (pass : ℕ) (v : Knowledge) (other : ℕ) (u : Knowledge) → v.stage ≡ Resting → u.stage ≡ Resting → Merges Stands pass v other u (joined v u) spent
+pub merges : (pass : ℕ) (v : Knowledge) (other : ℕ) (u : Knowledge) → v.stage ≡ Resting → u.stage ≡ Resting → Merges IsRuled pass v other u (joined v u) spent
 merges pass v other u rests rests' items views (inl start) at apart at' = absurd (resting_apart v rests (only_view views pass v start.1 at).1)
 merges pass v other u rests rests' items views (inr t) at apart at' =
     let c = t.control in
     let both = joined v u in
     let there : get_elem? views other ≡ some u = sym (set_else views pass other both apart) ∙ at' in
-    let fits = fits_as Resting c t.holder pass v rests (t.each pass v at) in
-    let fits' = fits_as Resting c t.holder other u rests' (t.each other u there) in
-    let F : ℕ → Knowledge → Type 0 = λ j y. FitsAt y.stage c t.holder j y in
+    let fits = fits_as Resting c t.turn pass v rests (t.each pass v at) in
+    let fits' = fits_as Resting c t.turn other u rests' (t.each other u there) in
+    let F : ℕ → Knowledge → Type 0 = λ j y. FitsAt y.stage c t.turn j y in
     let was = each_set F views pass both (AllKnow-append c u.places v.places fits' fits) (λ j y _ e. t.each j y e) in
     inr (record {
       control = c;
-      holder = t.holder;
+      turn = t.turn;
       stands = t.stands;
-      held = held_set t.holder (set views pass both) other u spent at' (resting_holds u rests') (held_set t.holder views pass v both at (resting_holds v rests) t.held);
+      held = held_set t.turn (set views pass both) other u spent at' (resting_holds u rests') (held_set t.turn views pass v both at (resting_holds v rests) t.held);
       each = each_set F (set views pass both) other spent tt (λ j y _ e. was j y e);
       once = λ k.
           let total = total_set k views pass v both at in

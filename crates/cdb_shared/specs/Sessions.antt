@@ -31,8 +31,14 @@ NoneDone replies = AllByRecursion (λ r. r ≢ Refused refusal.Done) replies
 
 -- how a driven seat ended, after so many turns of those allowed, by its replies
 abbrev pub IsDriven : End → ℕ → ℕ → List Answer → Type 0
-IsDriven Done count turns replies = (front : List Answer) × (replies ≡ front ++ Refused refusal.Done ∷ []) × NoneDone front
+IsDriven Done count turns replies =
+    (front : List Answer) × (replies ≡ front ++ Refused refusal.Done ∷ []) × NoneDone front
 IsDriven All count turns replies = (count ≡ turns) × NoneDone replies
 IsDriven Stopped count turns replies = (count < turns) × NoneDone replies
 IsDriven Short count turns replies = (count < turns) × NoneDone replies
 IsDriven Full count turns replies = (count < turns) × NoneDone replies
+
+-- the replies that led one seat to the other are those of a driven seat
+abbrev pub IsDrivenFrom : SeatView → SeatView → End → ℕ → ℕ → Type 0
+IsDrivenFrom before after end count turns =
+    (replies : List Answer) × (replies_to after ≡ replies_to before ++ replies) × IsDriven end count turns replies

@@ -4,16 +4,24 @@ use mathlib.Core.Option.{some}
 use lib.ListN.{get_elem?}
 use Rattle.std.specs.List.{AllByRecursion, range_with_len}
 use Rattle.cdb_control.specs.declared.command.Command.{Command}
-use Rattle.cdb_control.specs.Journal.{Journaled, Begins, extended, own}
-use Rattle.cdb_run.specs.Algorithms.{rules}
+use Rattle.cdb_control.specs.Journal.{Journaled, Begins, entry, own}
 use Rattle.cdb_shared.specs.declared.knowledge.Stage.{Stage}
-use Rattle.cdb_shared.specs.declared.knowledge.Stage.TheVariants.{Opening, Spent, Resting, Holding}
+use Rattle.cdb_shared.specs.declared.knowledge.Stage.TheVariants.{Spent, Resting, Holding}
 use Rattle.cdb_shared.specs.declared.knowledge.Place.{Place}
+use Rattle.cdb_shared.specs.declared.knowledge.Story.{Story}
 use Rattle.cdb_shared.specs.declared.knowledge.Knowledge.{Knowledge}
 
--- the first pass, until its control is put
+-- what the rule sees of a control. The rooms of its seats are no part of that
+abbrev pub story : Journaled → Story
+story c = record { setup = c.setup; seats = c.seats; journal = c.journal }
+
+-- one entry more
+abbrev pub longer : Story → ℕ → Command → Story
+longer c seat command = record c { journal = c.journal ++ entry seat command ∷ [] }
+
+-- the first pass, until it gives the turn back: it holds the control that is handed in
 abbrev pub opening : Knowledge
-opening = record { stage = Opening; places = []; held = None }
+opening = record { stage = Holding; places = []; held = None }
 
 -- a pass that another took in
 abbrev pub spent : Knowledge
@@ -24,35 +32,40 @@ abbrev pub resting : List Place → Knowledge
 resting places = record { stage = Resting; places = places; held = None }
 
 -- a pass that has this control
-abbrev pub holding : List Place → Journaled → Knowledge
+abbrev pub holding : List Place → Story → Knowledge
 holding places c = record { stage = Holding; places = places; held = Some c }
 
--- the control has the setup and the number of seats that the seat knows, and its journal begins with what the seat has seen and has of the seat's calls just those
-pub record Knows (c : Journaled) (p : Place) : Type 0 where
+-- The control has the setup and the number of seats that the seat knows. Its journal begins with what the seat
+-- has seen, and has of the seat's calls just those.
+pub record Knows (c : Story) (p : Place) : Type 0 where
   pub setup : c.setup ≡ p.setup
   pub seats : c.seats ≡ p.seats
   pub begins : Begins p.seen c.journal
   pub calls : own p.number c.journal ≡ own p.number p.seen
 
-abbrev pub AllKnow : Journaled → List Place → Type 0
+abbrev pub AllKnow : Story → List Place → Type 0
 AllKnow c places = AllByRecursion (Knows c) places
 
--- what a pass knows of the control c, which the pass `holder` holds or which stands in the queue
-abbrev pub FitsAt : Stage → Journaled → Option ℕ → ℕ → Knowledge → Type 0
-FitsAt Opening c holder pass v = ⊥
-FitsAt Spent c holder pass v = Unit {0}
-FitsAt Resting c holder pass v = AllKnow c v.places
-FitsAt Holding c holder pass v = AllKnow c v.places × (holder ≡ Some pass) × (v.held ≡ Some c)
+-- the two places of a control
+pub data Turn : Type 0 where
+  InQueue : Turn
+  HeldBy : ℕ → Turn
 
--- what the queue holds
-abbrev pub queued : Option ℕ → Journaled → List Journaled
-queued None c = c ∷ []
-queued (Some pass) c = []
+-- what the queue then holds
+abbrev pub queued : Turn → Story → List Story
+queued InQueue c = c ∷ []
+queued (HeldBy pass) c = []
 
--- where there is a holder, that pass holds
-abbrev pub IsHeld : Option ℕ → List Knowledge → Type 0
-IsHeld None views = Unit {0}
-IsHeld (Some pass) views = (v : Knowledge) × (get_elem? views pass ≡ some v) × (v.stage ≡ Holding)
+-- who holds it then
+abbrev pub IsHeld : Turn → List Knowledge → Type 0
+IsHeld InQueue views = Unit {0}
+IsHeld (HeldBy pass) views = (v : Knowledge) × (get_elem? views pass ≡ some v) × (v.stage ≡ Holding)
+
+-- what a pass knows of the control
+abbrev pub FitsAt : Stage → Story → Turn → ℕ → Knowledge → Type 0
+FitsAt Spent c turn pass v = Unit {0}
+FitsAt Resting c turn pass v = AllKnow c v.places
+FitsAt Holding c turn pass v = AllKnow c v.places × (turn ≡ HeldBy pass) × (v.held ≡ Some c)
 
 -- how many seats of this number are among these
 abbrev pub count_of : ℕ → List Place → ℕ
@@ -64,55 +77,62 @@ abbrev pub total_of : ℕ → List Knowledge → ℕ
 total_of number [] = 0
 total_of number (v ∷ vs) = count_of number v.places + total_of number vs
 
--- after the opening: the control stands in the queue and nobody holds, or the queue is empty and one pass holds; no two seats have one number
+-- After the opening: each pass knows the one control, which stands in the queue or is held by one pass, and no
+-- two seats have one number.
 pub record Turns (items : List Journaled) (views : List Knowledge) : Type 0 where
-  pub control : Journaled
-  pub holder : Option ℕ
-  pub stands : items ≡ queued holder control
-  pub held : IsHeld holder views
-  pub each : (pass : ℕ) (v : Knowledge) → get_elem? views pass ≡ some v → FitsAt v.stage control holder pass v
+  pub control : Story
+  pub turn : Turn
+  pub stands : map story items ≡ queued turn control
+  pub held : IsHeld turn views
+  pub each : (pass : ℕ) (v : Knowledge) → get_elem? views pass ≡ some v → FitsAt v.stage control turn pass v
   pub once : (number : ℕ) → total_of number views ≤ 1
 
 -- the rule
-abbrev pub Stands : List Journaled → List Knowledge → Type 0
-Stands items views = ((items ≡ []) × (views ≡ opening ∷ [])) ⊎ Turns items views
+abbrev pub IsRuled : List Journaled → List Knowledge → Type 0
+IsRuled items views = ((items ≡ []) × (views ≡ opening ∷ [])) ⊎ Turns items views
 
 -- the seat of this number, which has seen the journal of this control
-abbrev pub place_at : Journaled → ℕ → Place
+abbrev pub place_at : Story → ℕ → Place
 place_at c number = record { number = number; setup = c.setup; seats = c.seats; seen = c.journal }
 
 -- so many seats, with the numbers from this one on
-abbrev pub places_from : Journaled → ℕ → ℕ → List Place
+abbrev pub places_from : Story → ℕ → ℕ → List Place
 places_from c first n = map (place_at c) (range_with_len first n)
 
 -- the same seat, which has seen the journal of this control
-abbrev pub seen_at : Journaled → Place → Place
+abbrev pub seen_at : Story → Place → Place
 seen_at c p = record { number = p.number; setup = p.setup; seats = p.seats; seen = c.journal }
 
 -- the same seats, which have seen it
-abbrev pub seen_by : Journaled → List Place → List Place
+abbrev pub seen_by : Story → List Place → List Place
 seen_by c places = map (seen_at c) places
 
--- what the first give back tells: all seats, which have seen the journal of the control handed in
-abbrev pub Opened : Knowledge → Journaled → Knowledge → Type 0
-Opened v c w = w ≡ resting (places_from c 1 c.seats)
-
--- what a take tells: the pass holds the control, which its seats know
+-- the turn is taken: the pass holds the control, which its seats know
 abbrev pub Taken : Knowledge → Journaled → Knowledge → Type 0
-Taken v c w = (w ≡ holding v.places c) × AllKnow c v.places
-
--- what a give back tells: the pass rests, and its seats have seen the journal given back
-abbrev pub Given : Knowledge → Journaled → Knowledge → Type 0
-Given v c w = w ≡ resting (seen_by c v.places)
+Taken v c w = (w ≡ holding v.places (story c)) × AllKnow (story c) v.places
 
 -- the control is as it was, or has one command more, of the pass's only seat
-abbrev pub MayGrow : List Place → Journaled → Journaled → Type 0
+abbrev pub MayGrow : List Place → Story → Story → Type 0
 MayGrow places before after =
-    (after ≡ before) ⊎ ((p : Place) × (command : Command) × (places ≡ p ∷ []) × (after ≡ extended (rules before.setup) before p.number command))
+    (after ≡ before)
+    ⊎ ((p : Place) × (command : Command) × (places ≡ p ∷ []) × (after ≡ longer before p.number command))
 
--- what may be given back
+-- what a pass that holds this may give back; the first pass gives what is handed in
+abbrev pub MayFollow : Option Story → List Place → Story → Type 0
+MayFollow None places c = Unit {0}
+MayFollow (Some before) places c = MayGrow places before c
+
 abbrev pub MayGive : Knowledge → Journaled → Type 0
-MayGive v c = (v.stage ≡ Holding) × ((before : Journaled) × (v.held ≡ Some before) × MayGrow v.places before c)
+MayGive v c = (v.stage ≡ Holding) × MayFollow v.held v.places (story c)
+
+-- the seats of a pass that has given back, which have seen the journal; of the first pass all seats of the control
+abbrev pub seats_after : Option Story → List Place → Story → List Place
+seats_after None places c = places_from c 1 c.seats
+seats_after (Some before) places c = seen_by c places
+
+-- the turn is given back: the pass rests
+abbrev pub Given : Knowledge → Journaled → Knowledge → Type 0
+Given v c w = w ≡ resting (seats_after v.held v.places (story c))
 
 -- while a pass holds the control, none stands in the queue
 abbrev pub NoneStands : Knowledge → List Journaled → Type 0

@@ -5,9 +5,8 @@ use cdb_setup::Setup;
 use crossbeam_queue::protocol::{Join, Lesson, Outcome, Protocol, Split};
 use std::collections::LinkedList;
 
-/// Whether a pass has the turn. `Opening` is the first pass until its control is put, and `Spent` one that another took in.
+/// Whether a pass has the turn. `Spent` is one that another took in.
 pub enum Stage {
-    Opening,
     Spent,
     Resting,
     Holding,
@@ -21,37 +20,29 @@ pub struct Place {
     pub seen: LinkedList<Entry>,
 }
 
-/// What a pass knows: its seats, and while it holds the control, that control.
+/// What the rule sees of a control: its setup, its number of seats and its journal.
+pub struct Story {
+    pub setup: Setup,
+    pub seats: u8,
+    pub journal: LinkedList<Entry>,
+}
+
+/// What a pass knows: its seats, and the control that it took.
 pub struct Knowledge {
     pub stage: Stage,
     pub places: LinkedList<Place>,
-    pub held: Option<Control<RunOfSetup>>,
+    pub held: Option<Story>,
 }
 
 /// The rule: one control, which stands in the queue or is with one pass.
 pub struct OneControl;
 
 impl Protocol<Control<RunOfSetup>, Knowledge> for OneControl {
-    ghost use Rattle.cdb_shared.specs.Turn.{opening, Stands};
+    ghost use Rattle.cdb_shared.specs.Turn.{opening, IsRuled};
 
-    ghost holds = { Stands };
+    ghost holds = { IsRuled };
 
     ghost first = { opening };
-}
-
-/// The first give back, of the control that is handed in.
-pub struct Opens;
-
-impl Outcome<Control<RunOfSetup>, Knowledge> for Opens {
-    ghost use Rattle.cdb_shared.specs.Turn.{Opened};
-
-    ghost then = { Opened };
-}
-
-impl Lesson<Control<RunOfSetup>, Knowledge> for Opens {
-    ghost use Rattle.cdb_shared.specs.Turn.{NoneStands};
-
-    ghost fact = { NoneStands };
 }
 
 /// The turn is taken.
@@ -63,7 +54,7 @@ impl Outcome<Control<RunOfSetup>, Knowledge> for Takes {
     ghost then = { Taken };
 }
 
-/// The turn is given back.
+/// The turn is given back, at first with the control that is handed in.
 pub struct Gives;
 
 impl Outcome<Control<RunOfSetup>, Knowledge> for Gives {

@@ -16,7 +16,8 @@ pub struct Seat {
 impl Model for Seat {
     ghost use Rattle.std.specs.Prelude.{◌≡◌, []};
     ghost use Rattle.crossbeam_queue.specs.Passes.{view as view_of};
-    ghost use Rattle.cdb_shared.specs.Seats.{SeatView, seat_of, IsPassFor};
+    ghost use Rattle.cdb_shared.specs.Passes.{seat_of, IsPassFor};
+    ghost use Rattle.cdb_shared.specs.Seats.{SeatView};
 
     ghost Value = { SeatView };
 

@@ -1,27 +1,37 @@
 //! Sessions: a seat's calls in order, each behind a gate.
-ghost use Rattle.std.specs.Prelude.{◌≡◌, ◌≢◌, ◌++◌, ◌<◌, ◌≤◌, ◌↔◌, ◌⊎◌, length, map, take, replicate, vec_len, List, true, IsTrue};
-ghost use Rattle.cdb_control.specs.Answer.{Answer, Refused, told};
-ghost use Rattle.cdb_shared.specs.Seats.{RestsAt, IsLater};
-ghost use Rattle.cdb_shared.specs.Sessions.{calls_of, replies_to, end_at, IsDriven};
+ghost use Rattle.std.specs.Prelude.{◌≡◌, ◌≢◌, ◌++◌, ◌≤◌, ◌↔◌, ◌⊎◌, length, map, take, replicate, vec_len, List, Bool, true, false, Option, None, IsTrue};
+ghost use Rattle.cdb_control.specs.Answer.{Refused, told};
+ghost use Rattle.cdb_shared.specs.Gates.{Heard, HearsAsked, HearsTold, Hears, HearsServed};
+ghost use Rattle.cdb_shared.specs.Seats.{RestsAt, IsLater, SeesFull, SeesRoom};
+ghost use Rattle.cdb_shared.specs.Sessions.{calls_of, replies_to, end_at, IsDrivenFrom};
 
 use crate::seat::Seat;
 use crate::shared::Shared;
 use cdb_base::Refusal;
-use cdb_base::limits::MAX_ENTRIES;
 use cdb_control::{CallFault, Command, Reply};
 use std::alloc::Global;
 use std::sync::Wait;
 
-/// What is asked before each call of a session, and told after it. The calls are numbered from 1, and the
-/// seat that is shown rests.
+/// What is asked before each call of a session, and told after each answer. The calls are numbered from 1, and
+/// the seat that is shown rests.
 pub trait Gate {
+    // What it has heard of calls, in order, where that is known.
+    ghost heard: { Self → Option (List Heard) } = { λ _. None };
+
+    // Whether it lets every call go on from now on.
+    ghost passes: { Self → Bool } = { λ _. false };
+
     /// Whether the session goes on with this call.
     fn before(&mut self, call: u32, seat: &Seat) -> bool
-        requires { seat.now.rests ≡ true };
+        requires rests { seat.now.rests ≡ true }
+        ensures heard { HearsAsked (heard self.old) (heard self.new) call seat.now result }
+        ensures passes { passes self.old ≡ true → (result ≡ true) × (passes self.new ≡ true) };
 
     /// This call was answered.
     fn after(&mut self, call: u32, seat: &Seat)
-        requires { seat.now.rests ≡ true };
+        requires rests { seat.now.rests ≡ true }
+        ensures heard { HearsTold (heard self.old) (heard self.new) call seat.now }
+        ensures passes { passes self.old ≡ true → passes self.new ≡ true };
 }
 
 /// Why a session ended.
@@ -72,8 +82,10 @@ pub fn serve<G: Gate + Drop, R: Wait>(
     ensures fewer { vec_len result.1 ≤ length commands.now }
     ensures all { (result.2 ≡ End.All) ↔ (vec_len result.1 ≡ length commands.now) }
     ensures done { result.2 ≢ End.Done }
-    ensures full { result.2 ≡ End.JournalFull → length result.0.seen ≡ MAX_ENTRIES }
-    ensures short { result.2 ≡ End.NoMemory → (vec_len result.1 ≡ 0) ⊎ (length result.0.seen < MAX_ENTRIES) }
+    ensures full { result.2 ≡ End.JournalFull → SeesFull result.0 }
+    ensures short { result.2 ≡ End.NoMemory → (result.0 ≡ seat) ⊎ SeesRoom result.0 }
+    ensures gate { (last : G) × HearsServed (G.heard gate) (G.heard last) seat result.0 result.2 }
+    ensures passes { G.passes gate ≡ true → result.2 ≢ End.Stopped }
 {
     let mut replies = Vec::new(alloc);
     let mut number = 0u32;
@@ -110,9 +122,11 @@ pub fn drive<G: Gate + Drop, R: Wait>(
     ensures seat { IsLater seat result.0 }
     ensures calls { calls_of result.0 ≡ calls_of seat ++ replicate result.1 (Command.Auto process) }
     ensures turns { result.1 ≤ turns }
-    ensures replies { (replies : List Answer) × (replies_to result.0 ≡ replies_to seat ++ replies) × IsDriven result.2 result.1 turns replies }
-    ensures full { result.2 ≡ End.JournalFull → length result.0.seen ≡ MAX_ENTRIES }
-    ensures short { result.2 ≡ End.NoMemory → length result.0.seen < MAX_ENTRIES }
+    ensures replies { IsDrivenFrom seat result.0 result.2 result.1 turns }
+    ensures full { result.2 ≡ End.JournalFull → SeesFull result.0 }
+    ensures short { result.2 ≡ End.NoMemory → SeesRoom result.0 }
+    ensures gate { (last : G) × Hears (G.heard gate) (G.heard last) seat result.0 result.2 }
+    ensures passes { G.passes gate ≡ true → result.2 ≢ End.Stopped }
 {
     for turn in 0..turns {
         if !gate.before(turn + 1, &seat) {

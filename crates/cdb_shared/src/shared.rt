@@ -2,13 +2,13 @@
 ghost use Rattle.std.specs.Prelude.{◌≡◌, ◌<◌, ◌≤◌, ◌↔◌, [], length, vec_len, vec_capacity, All, IfOk, IfErr, OnErr};
 ghost use Rattle.cdb_control.specs.Answer.{told};
 ghost use Rattle.cdb_control.specs.Journal.{Journaled, Begins};
-ghost use Rattle.cdb_shared.specs.Seats.{RestsAt, fresh_seats, IsLater, IsCall, IsKnownBy, SameCalls};
-ghost use Rattle.cdb_shared.specs.Turn.{resting, places_from, AllKnow};
+ghost use Rattle.cdb_shared.specs.Seats.{RestsAt, fresh_seats, IsLater, IsCall, IsKnownBy, SameCalls, SeesFull, SeesHeadline, HasHeadline};
+ghost use Rattle.cdb_shared.specs.Turn.{story, resting, places_from, AllKnow};
 ghost use Rattle.crossbeam_queue.specs.Passes.{view, IsPassOf, ruled_capacity};
 
 use crate::knowledge::{AllPlaces, FirstPlace, Stage};
 use crate::seat::Seat;
-use crate::turn::{Turn, TurnPass, give, put, take};
+use crate::turn::{Turn, TurnPass, give, take};
 use cdb_base::NoMemory;
 use cdb_base::limits::MAX_ENTRIES;
 use cdb_control::{CallFault, Command, Control, Reply, RunOfSetup};
@@ -52,8 +52,9 @@ impl Shared {
         ensures seat { IsLater seat.old seat.new }
         ensures call { IfOk result (λ reply. IsCall seat.old command (told reply) seat.new) }
         ensures fault { OnErr result (SameCalls seat.old seat.new.seen) }
-        ensures full { IfErr result (λ f. (f ≡ CallFault.JournalFull) ↔ (length seat.new.seen ≡ MAX_ENTRIES)) }
+        ensures full { IfErr result (λ f. (f ≡ CallFault.JournalFull) ↔ SeesFull seat.new) }
         ensures limit { length seat.new.seen ≤ MAX_ENTRIES }
+        ensures headline { SeesHeadline seat.new }
     {
         let mut control = take(rt, &self.turn, &mut seat.pass);
         let reply = control.execute(alloc, seat.number, command);
@@ -79,7 +80,7 @@ impl Shared {
         let Ok((turn, mut pass)) = Turn::ruled(alloc, 1) else {
             return Err((control, NoMemory));
         };
-        put(rt, &turn, &mut pass, control);
+        give(rt, &turn, &mut pass, control);
         let seats = deal(&turn, pass, count, seats);
         Ok((Shared { turn }, seats))
     }
@@ -122,20 +123,24 @@ impl Shared {
     pub fn finish<R: Wait>(self, rt: &R, seats: Vec<Seat>) -> Control<RunOfSetup>
         requires some { 0 < vec_len seats }
         requires rest { All (λ seat. RestsAt self seat) seats.items }
-        ensures { All (λ seat. IsKnownBy result seat) seats.items }
+        ensures known { All (λ seat. IsKnownBy result seat) seats.items }
+        ensures headline { HasHeadline result }
     {
         let Shared { turn } = self;
         let mut pass = gather(&turn, seats);
-        take(rt, &turn, &mut pass)
+        let control = take(rt, &turn, &mut pass);
+        // Its clause says that the headline holds of the journal.
+        control.journal();
+        control
     }
 }
 
 /// A pass for each seat, by the numbers from 1 on.
 fn deal(turn: &Turn, mut pass: TurnPass, count: u8, mut seats: Vec<Seat>) -> Vec<Seat>
     requires queue { IsPassOf turn.now pass }
-    requires all { (c : Journaled) × (view pass ≡ resting (places_from c 1 count)) × (count ≤ c.seats) }
+    requires all { (c : Journaled) × (view pass ≡ resting (places_from (story c) 1 count)) × (count ≤ c.seats) }
     requires room { (seats.items ≡ []) × (count ≤ vec_capacity seats) }
-    ensures { (c : Journaled) → view pass ≡ resting (places_from c 1 count) → result.items ≡ fresh_seats turn.now.table.shared.table_id c 1 count }
+    ensures { (c : Journaled) → view pass ≡ resting (places_from (story c) 1 count) → result.items ≡ fresh_seats turn.now.table.shared.table_id c 1 count }
 {
     for dealt in 0..count {
         let alone = turn.another::<FirstPlace>(&mut pass);
@@ -153,7 +158,7 @@ fn gather(turn: &Turn, mut seats: Vec<Seat>) -> TurnPass
     requires rest { All (λ seat. RestsAt turn.now.table.shared.table_id seat) seats.items }
     ensures queue { IsPassOf turn.now result }
     ensures rests { (view result).stage ≡ Stage.Resting }
-    ensures seats { (c : Journaled) → AllKnow c (view result).places → All (λ seat. IsKnownBy c seat) seats.items }
+    ensures seats { (c : Journaled) → AllKnow (story c) (view result).places → All (λ seat. IsKnownBy c seat) seats.items }
 {
     let Some(last) = seats.pop() else {
         unreachable!()

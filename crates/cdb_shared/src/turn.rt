@@ -1,9 +1,9 @@
 //! The two steps on the turn.
 ghost use Rattle.std.specs.Prelude.{◌≡◌};
 ghost use Rattle.crossbeam_queue.specs.Passes.{view, IsPassOf, IsSamePass, ruled_capacity};
-ghost use Rattle.cdb_shared.specs.Turn.{opening, Opened, Taken, Given, MayGive};
+ghost use Rattle.cdb_shared.specs.Turn.{Taken, Given, MayGive};
 
-use crate::knowledge::{Gives, Knowledge, OneControl, Opens, Stage, Takes};
+use crate::knowledge::{Gives, Knowledge, OneControl, Stage, Takes};
 use cdb_control::{Control, RunOfSetup};
 use crossbeam_queue::{Pass, RuledArrayQueue};
 use std::sync::Wait;
@@ -14,16 +14,6 @@ pub type Turn = RuledArrayQueue<Control<RunOfSetup>, Knowledge, OneControl>;
 
 /// What a thread shows to take the turn.
 pub type TurnPass = Pass<Control<RunOfSetup>, Knowledge>;
-
-/// The first give back, of the control that is handed in.
-pub fn put<R: Wait>(rt: &R, turn: &Turn, pass: &mut TurnPass, control: Control<RunOfSetup>)
-    requires queue { IsPassOf turn.now pass.old × (ruled_capacity turn.now ≡ 1) }
-    requires first { view pass.old ≡ opening }
-    ensures queue { IsSamePass pass.old pass.new }
-    ensures seats { Opened (view pass.old) control (view pass.new) }
-{
-    let _ = turn.push_as::<Opens, R>(rt, pass, control);
-}
 
 /// Takes the turn, and tries again until it has it.
 pub fn take<R: Wait>(rt: &R, turn: &Turn, pass: &mut TurnPass) -> Control<RunOfSetup>
@@ -41,7 +31,7 @@ pub fn take<R: Wait>(rt: &R, turn: &Turn, pass: &mut TurnPass) -> Control<RunOfS
     unreachable!()
 }
 
-/// Gives the turn back.
+/// Gives the turn back; the first pass gives the control that is handed in.
 pub fn give<R: Wait>(rt: &R, turn: &Turn, pass: &mut TurnPass, control: Control<RunOfSetup>)
     requires queue { IsPassOf turn.now pass.old × (ruled_capacity turn.now ≡ 1) }
     requires control { MayGive (view pass.old) control }

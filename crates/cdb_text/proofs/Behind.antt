@@ -12,7 +12,7 @@ use Rattle.cdb_text.specs.declared.verb.Verb.{Verb}
 use Rattle.cdb_text.specs.declared.verb.Verb.TheVariants as verb
 use Rattle.cdb_text.specs.Commands.{Part, fixed, number}
 use Rattle.cdb_text.specs.Faults.{IsFirstFault}
-use Rattle.cdb_text.specs.Grammar.{AreWordsOf, IsInRange, written}
+use Rattle.cdb_text.specs.Grammar.{AreWordsOf, IsInRange, part_text}
 use Rattle.cdb_text.specs.Keywords.{keyword_name}
 use Rattle.cdb_text.specs.Reading.{◌>>=◌, IsRead, keyword_of, number_at, number_of, word_at}
 use Rattle.cdb_text.specs.Verbs.{verb_name}
@@ -26,14 +26,14 @@ All-both : (xs ys : List Part) → AllByRecursion IsInRange xs → AllByRecursio
 All-both [] ys a b = b
 All-both (x ∷ xs) ys a b = (a.0, All-both xs ys a.1 b)
 
-completed : (parts : List Part) (words : List (List ℕ)) (command : Command) → AllByRecursion IsInRange parts → Completes parts words command → AreWordsOf command (map written parts ++ words)
+completed : (parts : List Part) (words : List (List ℕ)) (command : Command) → AllByRecursion IsInRange parts → Completes parts words command → AreWordsOf command (map part_text parts ++ words)
 completed parts words command ranges found = (
-  ap (λ (ws : List (List ℕ)). map written parts ++ ws) found.2 ∙ sym (ap (map written) found.1 ∙ map-append written parts found.0),
+  ap (λ (ws : List (List ℕ)). map part_text parts ++ ws) found.2 ∙ sym (ap (map part_text) found.1 ∙ map-append part_text parts found.0),
   subst (λ (ps : List Part). AllByRecursion IsInRange ps) (sym found.1) (All-both parts found.0 ranges found.3),
 )
 
 -- a state finds the command, or the first fault
-read_by : (parts : List Part) (k : Reader) → State parts k → AllByRecursion IsInRange parts → (words : List (List ℕ)) (read : Result Command LineFault) → read ≡ k words → IsRead (map written parts) words read
+read_by : (parts : List Part) (k : Reader) → State parts k → AllByRecursion IsInRange parts → (words : List (List ℕ)) (read : Result Command LineFault) → read ≡ k words → IsRead (map part_text parts) words read
 unfolding IsRead
 read_by parts k at ranges words (Ok command) e = completed parts words command ranges (at.says words command (sym e))
 read_by parts k at ranges words (Err fault) e = at.faults words fault (sym e)

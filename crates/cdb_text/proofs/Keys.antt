@@ -13,7 +13,7 @@ use Rattle.cdb_text.specs.declared.keyword.Keyword.TheVariants as key
 use Rattle.cdb_text.specs.declared.keyword.TheConstants as constants
 use Rattle.cdb_text.specs.Keywords.{keyword_name}
 use Rattle.cdb_text.specs.Commands.{register}
-use Rattle.cdb_text.specs.Grammar.{written, IsInRange}
+use Rattle.cdb_text.specs.Grammar.{part_text, IsInRange}
 use Rattle.cdb_text.specs.Reading.{keyword_of, register_of}
 
 found_is : {A : Type 0} (p : A → Bool) (xs : List A) (x : A) → find p xs ≡ Some x → p x ≡ true
@@ -104,7 +104,7 @@ pub number_is_no_keyword : (n : ℕ) → 1 ≤ n → n ≤ 999999 → keyword_of
 number_is_no_keyword n low high = no_keyword_at (decimal n) (keyword_of (decimal n)) (first_digit n low high) refl
 
 -- each register is read as itself
-pub register_again : (x : Reg) → IsInRange (register x) → register_of (written (register x)) ≡ Some x
+pub register_again : (x : Reg) → IsInRange (register x) → register_of (part_text (register x)) ≡ Some x
 unfolding register_of
 register_again Dec is = refl
 register_again (R p) is =
@@ -120,7 +120,7 @@ two_bytes (a ∷ b ∷ []) e = refl
 two_bytes (a ∷ b ∷ c ∷ word) e = absurd (omega arith)
 
 -- `r` and a digit are a register
-digit_says : (a b : ℕ) → a ≡ 114 → 49 ≤ b → b ≤ 57 → (a ∷ b ∷ [] ≡ written (register (R (b - 48)))) × IsInRange (register (R (b - 48)))
+digit_says : (a b : ℕ) → a ≡ 114 → 49 ≤ b → b ≤ 57 → (a ∷ b ∷ [] ≡ part_text (register (R (b - 48)))) × IsInRange (register (R (b - 48)))
 digit_says a b is low high =
     let back : 48 + (b - 48) ≡ b = omega arith in
     ((rw (decimal_digit (b - 48) (omega arith), back, is) refl), (omega arith, omega arith))
@@ -128,7 +128,7 @@ digit_says a b is low high =
 abbrev test : List ℕ → Bool
 test word = eqb (length word) 2 && eqb (slice_index word 0) 114 && nat_le 49 (slice_index word 1) && nat_le (slice_index word 1) 57
 
-test_says : (word : List ℕ) → test word ≡ true → (word ≡ written (register (R (slice_index word 1 - 48)))) × IsInRange (register (R (slice_index word 1 - 48)))
+test_says : (word : List ℕ) → test word ≡ true → (word ≡ part_text (register (R (slice_index word 1 - 48)))) × IsInRange (register (R (slice_index word 1 - 48)))
 test_says word e =
     let without_high = and_parts (eqb (length word) 2 && eqb (slice_index word 0) 114 && nat_le 49 (slice_index word 1)) _ e in
     let without_low = and_parts (eqb (length word) 2 && eqb (slice_index word 0) 114) _ without_high.0 in
@@ -136,29 +136,29 @@ test_says word e =
     let is = digit_says (slice_index word 0) (slice_index word 1) (eqb-true _ _ without_r.1) (leb-true _ _ without_low.1) (leb-true _ _ without_high.1) in
     (two_bytes word (eqb-true _ _ without_r.0) ∙ is.0, is.1)
 
-register_says_r : (word : List ℕ) (x : Reg) → cond (test word) (Some (R (slice_index word 1 - 48))) None ≡ Some x → (word ≡ written (register x)) × IsInRange (register x)
+register_says_r : (word : List ℕ) (x : Reg) → cond (test word) (Some (R (slice_index word 1 - 48))) None ≡ Some x → (word ≡ part_text (register x)) × IsInRange (register x)
 register_says_r word x e =
     elim (cases_Bool (test word)) [
       | inl h ↦
           let there : Some (R (slice_index word 1 - 48)) ≡ Some x = rw h at e in
           let same : R (slice_index word 1 - 48) ≡ x = cc in
-          subst (λ (y : Reg). (word ≡ written (register y)) × IsInRange (register y)) same (test_says word h)
+          subst (λ (y : Reg). (word ≡ part_text (register y)) × IsInRange (register y)) same (test_says word h)
       | inr h ↦ absurd (let none : None ≡ Some x = rw h at e in cc)
     ]
 
 -- a word that is read as a register is that register
-pub register_says : (word : List ℕ) (x : Reg) → register_of word ≡ Some x → (word ≡ written (register x)) × IsInRange (register x)
+pub register_says : (word : List ℕ) (x : Reg) → register_of word ≡ Some x → (word ≡ part_text (register x)) × IsInRange (register x)
 unfolding register_of
 register_says word x e =
     elim (cases_Bool (bytes_eq word (codes "dec"))) [
       | inl h ↦
           let there : Some Dec ≡ Some x = rw h at e in
           let same : Dec ≡ x = cc in
-          subst (λ (y : Reg). (word ≡ written (register y)) × IsInRange (register y)) same ((bytes_eq-Decides word (codes "dec")).0 h, tt)
+          subst (λ (y : Reg). (word ≡ part_text (register y)) × IsInRange (register y)) same ((bytes_eq-Decides word (codes "dec")).0 h, tt)
       | inr h ↦ register_says_r word x (rw h at e)
     ]
 
-starts_with_letter : (x : Reg) → IsInRange (register x) → 97 ≤ get_or (written (register x)) 0 0
+starts_with_letter : (x : Reg) → IsInRange (register x) → 97 ≤ get_or (part_text (register x)) 0 0
 starts_with_letter (R p) is = lit≤ tt
 starts_with_letter Dec is = lit≤ tt
 
@@ -166,7 +166,7 @@ no_register : (word : List ℕ) (found : Option Reg) → get_or word 0 0 < 97 �
 no_register word None low e = e
 no_register word (Some x) low e =
     let says = register_says word x e in
-    let first : get_or word 0 0 ≡ get_or (written (register x)) 0 0 = ap (λ (w : List ℕ). get_or w 0 0) says.0 in
+    let first : get_or word 0 0 ≡ get_or (part_text (register x)) 0 0 = ap (λ (w : List ℕ). get_or w 0 0) says.0 in
     absurd (omega (arith, first, starts_with_letter x says.1))
 
 -- a number is no register

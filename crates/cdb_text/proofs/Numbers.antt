@@ -33,8 +33,8 @@ pub record IsDigits (word : List ℕ) : Type 0 where
   pub first : slice_index word 0 ≢ 48
 
 positive : (word : List ℕ) (n : ℕ) → IsDigits word → word ≡ decimal n → n ≤ 999999 → 1 ≤ n
-positive word zero is written high = absurd (is.first (let zero_is : word ≡ 48 ∷ [] = written ∙ decimal_digit 0 (omega arith) in rw zero_is refl))
-positive word (suc n) is written high = omega arith
+positive word zero is digits high = absurd (is.first (let zero_is : word ≡ 48 ∷ [] = digits ∙ decimal_digit 0 (omega arith) in rw zero_is refl))
+positive word (suc n) is digits high = omega arith
 
 tests_say : (word : List ℕ) → is_number word ≡ true → IsDigits word
 unfolding is_number
@@ -89,8 +89,8 @@ number_says word n e =
     let short = digits_value_short by_all word 6 found.0.all found.0.few in
     let small : n < 1000000 = omega (arith, short, found.1) in
     let same : decimal (digits_value 10 word) ≡ word = decimal-digits_value by_all word found.0.all found.0.some (λ zero_first. absurd (found.0.first zero_first)) (omega (arith, short)) in
-    let written : word ≡ decimal n = rw found.1 (sym same) in
-    (written, positive word n found.0 written (omega arith), omega arith)
+    let part_text : word ≡ decimal n = rw found.1 (sym same) in
+    (part_text, positive word n found.0 part_text (omega arith), omega arith)
 
 -- n in decimal is read as n
 pub number_again : (n : ℕ) → 1 ≤ n → n ≤ 999999 → number_of (decimal n) ≡ Some n

@@ -16,7 +16,7 @@ use Rattle.cdb_control.specs.declared.command.Command.TheVariants.{Step, Break, 
 use Rattle.cdb_control.specs.declared.command.Stop.TheVariants as stop
 use Rattle.cdb_control.specs.declared.command.View.TheVariants as view
 use Rattle.cdb_text.specs.Commands.{Part, fixed, number, register, parts_of}
-use Rattle.cdb_text.specs.Grammar.{IsInRange, HasNumbersInRange, IsLineOf, printed, words_of, written}
+use Rattle.cdb_text.specs.Grammar.{IsInRange, HasNumbersInRange, IsLineOf, printed, words_of, part_text}
 use Rattle.cdb_text.specs.Laws.{EachCommandHasOneLine}
 use Rattle.cdb_text.proofs.Cut.{is_space}
 
@@ -71,20 +71,20 @@ tested : (word : List ℕ) → list_all (λ byte. not (is_space byte)) word ≡ 
 tested [] e = tt
 tested (byte ∷ word) e = let parts = and_parts _ _ e in (not-true (is_space byte) parts.0, tested word parts.1)
 
-part_is_spaceless : (part : Part) → no_space part ≡ true → IsInRange part → IsSpaceless (written part)
+part_is_spaceless : (part : Part) → no_space part ≡ true → IsInRange part → IsSpaceless (part_text part)
 part_is_spaceless (fixed text) e is = tested (codes text) e
 part_is_spaceless (number n) e is = number_is_spaceless n is.1
 part_is_spaceless (register (R p)) e is = (refl, number_is_spaceless p (omega (arith, is.1)))
 part_is_spaceless (register Dec) e is = (refl, (refl, (refl, tt)))
 
-parts_are_spaceless : (parts : List Part) → list_all no_space parts ≡ true → AllByRecursion IsInRange parts → AllByRecursion IsSpaceless (map written parts)
+parts_are_spaceless : (parts : List Part) → list_all no_space parts ≡ true → AllByRecursion IsInRange parts → AllByRecursion IsSpaceless (map part_text parts)
 parts_are_spaceless [] e all = tt
 parts_are_spaceless (part ∷ parts) e all = let tests = and_parts _ _ e in (part_is_spaceless part tests.0 all.0, parts_are_spaceless parts tests.1 all.1)
 
 -- a command has a part
-cut_again : (parts : List Part) → parts ≢ [] → AllByRecursion IsSpaceless (map written parts) → words_of (join_with_byte 32 (map written parts)) ≡ map written parts
+cut_again : (parts : List Part) → parts ≢ [] → AllByRecursion IsSpaceless (map part_text parts) → words_of (join_with_byte 32 (map part_text parts)) ≡ map part_text parts
 cut_again [] some all = absurd (some refl)
-cut_again (part ∷ parts) some all = joined (written part) (map written parts) all.0 all.1
+cut_again (part ∷ parts) some all = joined (part_text part) (map part_text parts) all.0 all.1
 
 some_part : (command : Command) → parts_of command ≢ []
 some_part (Step p act.Go) e = cc

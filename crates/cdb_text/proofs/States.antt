@@ -8,7 +8,7 @@ use Rattle.cdb_control.specs.declared.command.Command.{Command}
 use Rattle.cdb_text.specs.declared.fault.LineFault.{LineFault}
 use Rattle.cdb_text.specs.declared.fault.LineFault.TheVariants.{Word, Number, Extra, Missing}
 use Rattle.cdb_text.specs.Commands.{Part, fixed, number, parts_of}
-use Rattle.cdb_text.specs.Grammar.{IsInRange, written}
+use Rattle.cdb_text.specs.Grammar.{IsInRange, part_text}
 use Rattle.cdb_text.specs.Faults.{IsWhole, GoesOn, IsFaultAt, IsFirstFault}
 use Rattle.cdb_text.specs.Reading.{◌>>=◌, number_at, number_of, ended}
 use Rattle.cdb_text.proofs.Reading.{command_at, one_at, two_at, three_at}
@@ -20,62 +20,62 @@ Reader = List (List ℕ) → Result Command LineFault
 
 -- after the words of these parts, k reads what follows
 abbrev pub Reads : List Part → Reader → Type 0
-Reads parts k = (rest : List (List ℕ)) → command_at (map written parts ++ rest) ≡ k rest
+Reads parts k = (rest : List (List ℕ)) → command_at (map part_text parts ++ rest) ≡ k rest
 
 -- the words complete the parts to the command
 abbrev pub Completes : List Part → List (List ℕ) → Command → Type 0
-Completes parts words command = (more : List Part) × (parts_of command ≡ parts ++ more) × (words ≡ map written more) × AllByRecursion IsInRange more
+Completes parts words command = (more : List Part) × (parts_of command ≡ parts ++ more) × (words ≡ map part_text more) × AllByRecursion IsInRange more
 
 -- what k finds and what it refuses
 pub record State (parts : List Part) (k : Reader) : Type 0 where
   pub says : (words : List (List ℕ)) (command : Command) → k words ≡ Ok command → Completes parts words command
-  pub faults : (words : List (List ℕ)) (fault : LineFault) → k words ≡ Err fault → IsFirstFault fault (map written parts ++ words)
+  pub faults : (words : List (List ℕ)) (fault : LineFault) → k words ≡ Err fault → IsFirstFault fault (map part_text parts ++ words)
 
 -- the word is the next part, or it is refused
 abbrev pub Choice : List Part → Reader → LineFault → List ℕ → Type 0
 Choice parts k fault word =
-    ((part : Part) × (further : Reader) × (word ≡ written part) × IsInRange part × ((rest : List (List ℕ)) → k (word ∷ rest) ≡ further rest) × State (parts ++ part ∷ []) further)
+    ((part : Part) × (further : Reader) × (word ≡ part_text part) × IsInRange part × ((rest : List (List ℕ)) → k (word ∷ rest) ≡ further rest) × State (parts ++ part ∷ []) further)
     ⊎ ((rest : List (List ℕ)) → k (word ∷ rest) ≡ Err fault)
 
 -- the line may end here, or not
 abbrev pub Ending : List Part → Reader → Type 0
 Ending parts k =
     ((command : Command) × (k [] ≡ Ok command) × (parts_of command ≡ parts))
-    ⊎ ((k [] ≡ Err Missing) × (next : List ℕ) × GoesOn (map written parts) next)
+    ⊎ ((k [] ≡ Err Missing) × (next : List ℕ) × GoesOn (map part_text parts) next)
 
-one_more : (parts : List Part) (part : Part) (rest : List (List ℕ)) → map written (parts ++ part ∷ []) ++ rest ≡ map written parts ++ written part ∷ rest
-one_more parts part rest = ap (λ (ws : List (List ℕ)). ws ++ rest) (map-append written parts (part ∷ [])) ∙ append_assoc (map written parts) (written part ∷ []) rest
+one_more : (parts : List Part) (part : Part) (rest : List (List ℕ)) → map part_text (parts ++ part ∷ []) ++ rest ≡ map part_text parts ++ part_text part ∷ rest
+one_more parts part rest = ap (λ (ws : List (List ℕ)). ws ++ rest) (map-append part_text parts (part ∷ [])) ∙ append_assoc (map part_text parts) (part_text part ∷ []) rest
 
 -- the next part is read on
-pub further_reads : (parts : List Part) (k further : Reader) (part : Part) → Reads parts k → ((rest : List (List ℕ)) → k (written part ∷ rest) ≡ further rest) → Reads (parts ++ part ∷ []) further
-further_reads parts k further part reads on rest = ap command_at (one_more parts part rest) ∙ reads (written part ∷ rest) ∙ on rest
+pub further_reads : (parts : List Part) (k further : Reader) (part : Part) → Reads parts k → ((rest : List (List ℕ)) → k (part_text part ∷ rest) ≡ further rest) → Reads (parts ++ part ∷ []) further
+further_reads parts k further part reads on rest = ap command_at (one_more parts part rest) ∙ reads (part_text part ∷ rest) ∙ on rest
 
 -- the words of a command that begins with these parts are read to it
-goes_to : (parts : List Part) (k : Reader) (word : List ℕ) (goes : GoesOn (map written parts) word) → Reads parts k → k (word ∷ goes.1) ≡ Ok goes.0
+goes_to : (parts : List Part) (k : Reader) (word : List ℕ) (goes : GoesOn (map part_text parts) word) → Reads parts k → k (word ∷ goes.1) ≡ Ok goes.0
 goes_to parts k word goes reads =
-    let read : command_at (map written parts ++ word ∷ goes.1) ≡ Ok goes.0 = ap command_at goes.2.0 ∙ again goes.0 goes.2.1 in
+    let read : command_at (map part_text parts ++ word ∷ goes.1) ≡ Ok goes.0 = ap command_at goes.2.0 ∙ again goes.0 goes.2.1 in
     sym (reads (word ∷ goes.1)) ∙ read
 
 -- with a refused word no command goes on
-pub stops : (parts : List Part) (k : Reader) (fault : LineFault) (word : List ℕ) → Reads parts k → ((rest : List (List ℕ)) → k (word ∷ rest) ≡ Err fault) → ¬ GoesOn (map written parts) word
+pub stops : (parts : List Part) (k : Reader) (fault : LineFault) (word : List ℕ) → Reads parts k → ((rest : List (List ℕ)) → k (word ∷ rest) ≡ Err fault) → ¬ GoesOn (map part_text parts) word
 stops parts k fault word reads refused goes = let read = goes_to parts k word goes reads in let no = refused goes.1 in cc
 
 first_at : (fault : LineFault) (words : List (List ℕ)) (word : List ℕ) (rest : List (List ℕ)) → IsFaultAt fault words (Some word) → IsFirstFault fault (words ++ word ∷ rest)
 first_at Missing words word rest at = absurd at
 first_at fault words word rest at = (words, word, rest, refl, at)
 
-missing_at : (parts : List Part) (k : Reader) (next : List ℕ) → Reads parts k → k [] ≡ Err Missing → GoesOn (map written parts) next → IsFirstFault Missing (map written parts ++ [])
+missing_at : (parts : List Part) (k : Reader) (next : List ℕ) → Reads parts k → k [] ≡ Err Missing → GoesOn (map part_text parts) next → IsFirstFault Missing (map part_text parts ++ [])
 missing_at parts k next reads none goes =
     rw append-nil (
       (λ whole.
-          let read : command_at (map written parts) ≡ Ok whole.0 = ap command_at whole.1.0 ∙ again whole.0 whole.1.1 in
-          let same : command_at (map written parts) ≡ k [] = ap command_at (sym (append-nil (map written parts))) ∙ reads [] in
+          let read : command_at (map part_text parts) ≡ Ok whole.0 = ap command_at whole.1.0 ∙ again whole.0 whole.1.1 in
+          let same : command_at (map part_text parts) ≡ k [] = ap command_at (sym (append-nil (map part_text parts))) ∙ reads [] in
           cc),
       (next, goes),
     )
 
 module _ (parts : List Part) (k : Reader) (fault : LineFault) (reads : Reads parts k) (ending : Ending parts k)
-    (kind : (word : List ℕ) → ¬ GoesOn (map written parts) word → IsFaultAt fault (map written parts) (Some word)) (each : (word : List ℕ) → Choice parts k fault word) where
+    (kind : (word : List ℕ) → ¬ GoesOn (map part_text parts) word → IsFaultAt fault (map part_text parts) (Some word)) (each : (word : List ℕ) → Choice parts k fault word) where
   says_at : (words : List (List ℕ)) (command : Command) → k words ≡ Ok command → Completes parts words command
   says_at [] command e =
       elim ending [
@@ -90,28 +90,28 @@ module _ (parts : List Part) (k : Reader) (fault : LineFault) (reads : Reads par
         | inr refused ↦ absurd (let a = refused rest in cc)
       ]
 
-  faults_at : (words : List (List ℕ)) (f : LineFault) → k words ≡ Err f → IsFirstFault f (map written parts ++ words)
+  faults_at : (words : List (List ℕ)) (f : LineFault) → k words ≡ Err f → IsFirstFault f (map part_text parts ++ words)
   faults_at [] f e =
       elim ending [
         | inl end ↦ absurd (let a = end.1 in cc)
-        | inr none ↦ let same : Missing ≡ f = (let a = none.0 in cc) in subst (λ (g : LineFault). IsFirstFault g (map written parts ++ [])) same (missing_at parts k none.1 reads none.0 none.2)
+        | inr none ↦ let same : Missing ≡ f = (let a = none.0 in cc) in subst (λ (g : LineFault). IsFirstFault g (map part_text parts ++ [])) same (missing_at parts k none.1 reads none.0 none.2)
       ]
   faults_at (word ∷ rest) f e =
       elim (each word) [
         | inl next ↦
             let found = next.5.faults rest f (sym (next.4 rest) ∙ e) in
-            let same : map written (parts ++ next.0 ∷ []) ++ rest ≡ map written parts ++ word ∷ rest = one_more parts next.0 rest ∙ ap (λ (w : List ℕ). map written parts ++ w ∷ rest) (sym next.2) in
+            let same : map part_text (parts ++ next.0 ∷ []) ++ rest ≡ map part_text parts ++ word ∷ rest = one_more parts next.0 rest ∙ ap (λ (w : List ℕ). map part_text parts ++ w ∷ rest) (sym next.2) in
             subst (λ (ws : List (List ℕ)). IsFirstFault f ws) same found
         | inr refused ↦
             let same : fault ≡ f = (let a = refused rest in cc) in
-            subst (λ (g : LineFault). IsFirstFault g (map written parts ++ word ∷ rest)) same (first_at fault (map written parts) word rest (kind word (stops parts k fault word reads refused)))
+            subst (λ (g : LineFault). IsFirstFault g (map part_text parts ++ word ∷ rest)) same (first_at fault (map part_text parts) word rest (kind word (stops parts k fault word reads refused)))
       ]
 
   pub state : State parts k
   state = record { says = says_at; faults = faults_at }
 
 -- the word is this part, and `further` reads on
-pub accept : (parts : List Part) (k further : Reader) (fault : LineFault) (word : List ℕ) (part : Part) → Reads parts k → word ≡ written part → IsInRange part
+pub accept : (parts : List Part) (k further : Reader) (fault : LineFault) (word : List ℕ) (part : Part) → Reads parts k → word ≡ part_text part → IsInRange part
     → ((rest : List (List ℕ)) → k (word ∷ rest) ≡ further rest) → (Reads (parts ++ part ∷ []) further → State (parts ++ part ∷ []) further) → Choice parts k fault word
 accept parts k further fault word part reads is range on next =
     inl (part, further, is, range, on, next (further_reads parts k further part reads (λ rest. ap (λ (w : List ℕ). k (w ∷ rest)) (sym is) ∙ on rest)))
@@ -121,14 +121,14 @@ accept parts k further fault word part reads is range on next =
 -- no word follows a whole command
 pub end_state : (command : Command) (parts : List Part) → parts_of command ≡ parts → AllByRecursion IsInRange parts → Reads parts (ended command) → State parts (ended command)
 end_state command parts are ranges reads =
-    let whole : IsWhole (map written parts) = (command, (ap (map written) (sym are), subst (λ (ps : List Part). AllByRecursion IsInRange ps) (sym are) ranges)) in
+    let whole : IsWhole (map part_text parts) = (command, (ap (map part_text) (sym are), subst (λ (ps : List Part). AllByRecursion IsInRange ps) (sym are) ranges)) in
     state parts (ended command) Extra reads (inl (command, refl, are))
     (λ word no. (whole, λ next. stops parts (ended command) Extra next reads (λ rest. refl)))
     (λ word. inr (λ rest. refl))
 
 -- ---- a fixed word, a register, or a word that is no number
 
-pub word_state : (parts : List Part) (k : Reader) (other : List ℕ) → Reads parts k → k [] ≡ Err Missing → GoesOn (map written parts) other
+pub word_state : (parts : List Part) (k : Reader) (other : List ℕ) → Reads parts k → k [] ≡ Err Missing → GoesOn (map part_text parts) other
     → ((n : ℕ) → IsInRange (number n) → (rest : List (List ℕ)) → k (decimal n ∷ rest) ≡ Err Word)
     → ((word : List ℕ) → Choice parts k Word word) → State parts k
 word_state parts k other reads none goes refuses each =
@@ -161,12 +161,12 @@ number_choice parts k further fault word (Some n) reads e refused on next =
 
 -- where a number is due, and nothing else
 pub number_state : (name : String) (parts : List Part) (after : ℕ × List (List ℕ) → Result Command LineFault) → bytes_eq (codes name) (codes "show") ≡ false
-    → Reads (fixed name ∷ parts) (number_then after) → GoesOn (map written (fixed name ∷ parts)) (decimal 1)
+    → Reads (fixed name ∷ parts) (number_then after) → GoesOn (map part_text (fixed name ∷ parts)) (decimal 1)
     → ((n : ℕ) → IsInRange (number n) → Reads (fixed name ∷ parts ++ number n ∷ []) (λ words. after (n, words)) → State (fixed name ∷ parts ++ number n ∷ []) (λ words. after (n, words)))
     → State (fixed name ∷ parts) (number_then after)
 number_state name parts after differs reads goes next =
     state (fixed name ∷ parts) (number_then after) Number reads (inr (refl, decimal 1, goes))
-    (λ word no. (no, (1, one, goes), not_show (codes name) (map written parts) differs))
+    (λ word no. (no, (1, one, goes), not_show (codes name) (map part_text parts) differs))
     (λ word. number_choice (fixed name ∷ parts) (number_then after) (λ n words. after (n, words)) Number word (number_of word) reads refl (λ rest none. rw none refl) (λ n rest some. rw some refl) next)
 
 -- ---- a command that ends with one number, with two or with three
@@ -176,21 +176,21 @@ AllByRecursion-snoc [] part all is = (is, tt)
 AllByRecursion-snoc (first ∷ parts) part all is = (all.0, AllByRecursion-snoc parts part all.1 is)
 
 -- the next part, of a command that goes on behind it
-goes_before : (parts : List Part) (part : Part) (word : List ℕ) → GoesOn (map written (parts ++ part ∷ [])) word → GoesOn (map written parts) (written part)
+goes_before : (parts : List Part) (part : Part) (word : List ℕ) → GoesOn (map part_text (parts ++ part ∷ [])) word → GoesOn (map part_text parts) (part_text part)
 goes_before parts part word goes = (goes.0, word ∷ goes.1, (sym (one_more parts part (word ∷ goes.1)) ∙ goes.2.0, goes.2.1))
 
-one_goes : (parts : List Part) (command : ℕ → Command) → ((n : ℕ) → parts_of (command n) ≡ parts ++ number n ∷ []) → AllByRecursion IsInRange parts → GoesOn (map written parts) (decimal 1)
+one_goes : (parts : List Part) (command : ℕ → Command) → ((n : ℕ) → parts_of (command n) ≡ parts ++ number n ∷ []) → AllByRecursion IsInRange parts → GoesOn (map part_text parts) (decimal 1)
 one_goes parts command are ranges = (
   command 1,
   [],
   (
-    sym (ap (map written) (are 1) ∙ map-append written parts (number 1 ∷ [])),
+    sym (ap (map part_text) (are 1) ∙ map-append part_text parts (number 1 ∷ [])),
     subst (λ (ps : List Part). AllByRecursion IsInRange ps) (sym (are 1)) (AllByRecursion-snoc parts (number 1) ranges one),
   ),
 )
 
 two_goes : (parts : List Part) (command : ℕ → ℕ → Command) → ((m n : ℕ) → parts_of (command m n) ≡ (parts ++ number m ∷ []) ++ number n ∷ []) → AllByRecursion IsInRange parts
-    → GoesOn (map written parts) (decimal 1)
+    → GoesOn (map part_text parts) (decimal 1)
 two_goes parts command are ranges =
     goes_before parts (number 1) (decimal 1) (one_goes (parts ++ number 1 ∷ []) (command 1) (are 1) (AllByRecursion-snoc parts (number 1) ranges one))
 

@@ -16,7 +16,7 @@ use Rattle.cdb_text.specs.declared.verb.Verb.{Verb}
 use Rattle.cdb_text.specs.declared.verb.Verb.TheVariants as verb
 use Rattle.cdb_text.specs.Commands.{Part, fixed, number, register, parts_of}
 use Rattle.cdb_text.specs.Faults.{GoesOn}
-use Rattle.cdb_text.specs.Grammar.{IsInRange, written}
+use Rattle.cdb_text.specs.Grammar.{IsInRange, part_text}
 use Rattle.cdb_text.specs.Keywords.{keyword_name}
 use Rattle.cdb_text.specs.Reading.{◌>>=◌, word_at, number_of, register_of, keyword_of, ended}
 use Rattle.cdb_text.specs.Verbs.{on_step, on_loss}
@@ -32,7 +32,7 @@ step_p p = fixed "step" ∷ number p ∷ []
 pub query_state : (p : ℕ) → IsInRange (number p) → Reads (step_p p ++ fixed "query" ∷ []) (query_at p) → State (step_p p ++ fixed "query" ∷ []) (query_at p)
 query_state p range reads =
     let parts : List Part = step_p p ++ fixed "query" ∷ [] in
-    let goes : GoesOn (map written parts) (decimal 1) = (Step p (act.Query (Some 1)), [], (refl, (tt, (range, (tt, (one, tt)))))) in
+    let goes : GoesOn (map part_text parts) (decimal 1) = (Step p (act.Query (Some 1)), [], (refl, (tt, (range, (tt, (one, tt)))))) in
     state parts (query_at p) Number reads (inl (Step p (act.Query None), refl, refl))
     (λ word no. (no, (1, one, goes), not_show (codes "step") _ refl))
     (λ word. number_choice parts (query_at p) (λ l. ended (Step p (act.Query (Some l)))) Number word (number_of word) reads refl (λ rest none. rw none refl) (λ l rest some. rw some refl)
@@ -135,7 +135,7 @@ show_choice reads word other e = number_view reads word (λ rest. rw e refl)
 pub show_state : Reads shows show_at → State shows show_at
 unfolding show_at
 show_state reads =
-    let goes : GoesOn (map written shows) (codes "regs") = (Show view.Regs, [], (refl, (tt, (tt, tt)))) in
+    let goes : GoesOn (map part_text shows) (codes "regs") = (Show view.Regs, [], (refl, (tt, (tt, tt)))) in
     state shows show_at Word reads (inr (refl, codes "regs", goes)) (λ word no. (no, (codes "regs", goes), λ takes. refl)) (λ word. show_choice reads word _ refl)
 
 -- ---- `undo`, `rollback` and `why`

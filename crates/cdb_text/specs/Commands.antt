@@ -28,7 +28,8 @@ parts_of (UndoLost s m p) = fixed "undo" ∷ fixed "lost" ∷ number s ∷ numbe
 parts_of Redo = fixed "redo" ∷ []
 parts_of Forget = fixed "forget" ∷ []
 parts_of (Rollback p k) = fixed "rollback" ∷ number p ∷ number k ∷ []
-parts_of (RollbackLost s m p) = fixed "rollback" ∷ fixed "lost" ∷ number s ∷ number m ∷ number p ∷ []
+parts_of (RollbackLost s m p) =
+    fixed "rollback" ∷ fixed "lost" ∷ number s ∷ number m ∷ number p ∷ []
 parts_of (Why p k) = fixed "why" ∷ number p ∷ number k ∷ []
 parts_of (WhyLost s m p) = fixed "why" ∷ fixed "lost" ∷ number s ∷ number m ∷ number p ∷ []
 parts_of (Break (stop.Decide p)) = fixed "break" ∷ fixed "decide" ∷ number p ∷ []

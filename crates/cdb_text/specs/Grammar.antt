@@ -1,6 +1,7 @@
 -- The script grammar: which line is which command.
 use Rattle.std.specs.Prelude.{◌≡◌, ℕ, ◌≤◌, List, map, codes, decimal, nat_eq}
 use Rattle.std.specs.List.{AllByRecursion, join_with_byte, slice_split}
+use Rattle.cdb_base.specs.declared.limits.TheConstants.{MAX_PROCESSES}
 use Rattle.cdb_base.specs.declared.register.Reg.TheVariants.{R, Dec}
 use Rattle.cdb_control.specs.declared.command.Command.{Command}
 use Rattle.cdb_text.specs.Commands.{Part, fixed, number, register, parts_of}
@@ -10,17 +11,21 @@ use Rattle.cdb_text.specs.Names.{register_text}
 abbrev pub words_of : List ℕ → List (List ℕ)
 words_of line = slice_split (λ byte. nat_eq byte 32) line
 
--- how a part is written: numbers in decimal, registers as `r1` to `r9` and `dec`
-abbrev pub written : Part → List ℕ
-written (fixed text) = codes text
-written (number n) = decimal n
-written (register x) = register_text x
+-- the word that a part is: numbers in decimal, registers as `r1` to `r9` and `dec`
+abbrev pub part_text : Part → List ℕ
+part_text (fixed text) = codes text
+part_text (number n) = decimal n
+part_text (register x) = register_text x
 
--- a number has one to six digits, the first not 0
+-- the greatest number that a line can have
+abbrev pub greatest_number : ℕ
+greatest_number = 999999
+
+-- a number has one to six digits, the first not 0, and a numbered register is that of a process
 abbrev pub IsInRange : Part → Type 0
 IsInRange (fixed text) = Unit {0}
-IsInRange (number n) = (1 ≤ n) × (n ≤ 999999)
-IsInRange (register (R p)) = (1 ≤ p) × (p ≤ 9)
+IsInRange (number n) = (1 ≤ n) × (n ≤ greatest_number)
+IsInRange (register (R p)) = (1 ≤ p) × (p ≤ MAX_PROCESSES)
 IsInRange (register Dec) = Unit {0}
 
 -- the numbers of the command are in range
@@ -29,7 +34,7 @@ HasNumbersInRange command = AllByRecursion IsInRange (parts_of command)
 
 -- the words are those of the command
 abbrev pub AreWordsOf : Command → List (List ℕ) → Type 0
-AreWordsOf command words = (words ≡ map written (parts_of command)) × HasNumbersInRange command
+AreWordsOf command words = (words ≡ map part_text (parts_of command)) × HasNumbersInRange command
 
 -- the line is that of the command
 abbrev pub IsLineOf : Command → List ℕ → Type 0
@@ -37,4 +42,4 @@ IsLineOf command line = AreWordsOf command (words_of line)
 
 -- the command as it is printed: its words, with one space between each two
 abbrev pub printed : Command → List ℕ
-printed command = join_with_byte 32 (map written (parts_of command))
+printed command = join_with_byte 32 (map part_text (parts_of command))

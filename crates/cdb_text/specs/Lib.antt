@@ -1,14 +1,18 @@
+-- what a contract names: the grammar of lines, and their faults
 pub mod Commands
-pub mod Events
-pub mod Faults
 pub mod Grammar
-pub mod Keywords
-pub mod Laws
+pub mod Faults
 pub mod LineFaults
+pub mod Laws
+-- and the texts of replies
 pub mod Names
-pub mod Reading
+pub mod Events
 pub mod Refusals
 pub mod Reports
 pub mod Texts
+-- what the code keeps for itself: the words of a line, and how they are read one after the other
+pub mod Keywords
 pub mod Verbs
 pub mod Words
+pub mod Reading
+pub mod Pushes

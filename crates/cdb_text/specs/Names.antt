@@ -16,7 +16,8 @@ message_text s m = decimal s ++ codes "#" ++ decimal m
 
 -- `lost S#M to P`
 abbrev pub loss_text : CopyName → List ℕ
-loss_text copy = codes "lost " ++ message_text (copy.msg).s (copy.msg).m ++ codes " to " ++ decimal copy.to
+loss_text copy =
+    codes "lost " ++ message_text (copy.msg).s (copy.msg).m ++ codes " to " ++ decimal copy.to
 
 abbrev pub name_text : StepId → List ℕ
 name_text (Step name) = step_text name.p name.k

@@ -1,4 +1,4 @@
--- What the private functions find in the words of a line.
+-- What is read in the words of a line, from the left.
 use Rattle.std.specs.Prelude.{◌≡◌, ℕ, ◌&&◌, ◌==◌, ◌-◌, ◌++◌, Bool, not, nat_lt, nat_le, List, [], ◌∷◌, length, slice_index, codes, find, Option, Some, None, ok_or, Result, Ok, Err, if◌then◌else◌}
 use Rattle.std.specs.Str.{bytes_eq, all_ascii_digits}
 use Rattle.std.specs.Str.Parse.{digits_value}
@@ -20,7 +20,9 @@ abbrev pub ◌>>=◌ : {A B : Type 0} → Result A LineFault → (A → Result B
 
 -- a number of one to six digits, the first not 0
 unfoldable pub is_number : List ℕ → Bool
-is_number word = all_ascii_digits word && nat_lt 0 (length word) && nat_le (length word) 6 && not (slice_index word 0 == 48)
+is_number word =
+    all_ascii_digits word && nat_lt 0 (length word) && nat_le (length word) 6
+    && not (slice_index word 0 == 48)
 
 unfoldable pub number_of : List ℕ → Option ℕ
 number_of word = if is_number word then Some (digits_value 10 word) else None
@@ -45,9 +47,18 @@ ended command (word ∷ words) = Err Extra
 unfoldable pub keyword_of : List ℕ → Option Keyword
 keyword_of word = find (λ k. bytes_eq word (keyword_name k)) constants.Keyword.ALL
 
+-- `r1` to `r9`
+abbrev pub is_numbered : List ℕ → Bool
+is_numbered word =
+    length word == 2 && slice_index word 0 == 114
+    && nat_le 49 (slice_index word 1) && nat_le (slice_index word 1) 57
+
 -- `dec`, or `r1` to `r9`
 unfoldable pub register_of : List ℕ → Option Reg
-register_of word = if bytes_eq word (codes "dec") then Some Dec else (if length word == 2 && slice_index word 0 == 114 && nat_le 49 (slice_index word 1) && nat_le (slice_index word 1) 57 then Some (R (slice_index word 1 - 48)) else None)
+register_of word =
+    if bytes_eq word (codes "dec")
+    then Some Dec
+    else (if is_numbered word then Some (R (slice_index word 1 - 48)) else None)
 
 abbrev pub register_at : List (List ℕ) → Result (Reg × List (List ℕ)) LineFault
 register_at words = do
@@ -60,7 +71,7 @@ abbrev pub Gives : {X Y : Type 0} → (X → Y) → Result X LineFault → Resul
 Gives view (Ok x) read = read ≡ Ok (view x)
 Gives view (Err fault) read = read ≡ Err fault
 
--- what is read behind these words: the command of all the words, or their first fault
+-- what is read after these words: the command of all the words, or their first fault
 unfoldable pub IsRead : List (List ℕ) → List (List ℕ) → Result Command LineFault → Type 0
 IsRead before words (Ok command) = AreWordsOf command (before ++ words)
 IsRead before words (Err fault) = IsFirstFault fault (before ++ words)

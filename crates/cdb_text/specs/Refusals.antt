@@ -34,4 +34,6 @@ refusal_detail other = []
 
 -- `refused N Name`, and the detail
 abbrev pub refusal_text : Refusal → List ℕ
-refusal_text why = codes "refused " ++ decimal (refusal_number why) ++ codes " " ++ refusal_name why ++ refusal_detail why
+refusal_text why =
+    codes "refused " ++ decimal (refusal_number why) ++ codes " "
+    ++ refusal_name why ++ refusal_detail why

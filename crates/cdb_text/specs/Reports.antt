@@ -27,8 +27,13 @@ life_word alive = if alive then codes "alive" else codes "crashed"
 -- `process P PLACE round R alive steps C queries Q decision V`
 abbrev pub process_text : ProcView → List ℕ
 process_text view =
-    codes "process " ++ decimal view.p ++ codes " " ++ machine_letter view.alpha ++ decimal view.place ++ codes " round " ++ decimal view.round ++ codes " " ++ life_word view.alive
-    ++ codes " steps " ++ decimal view.steps ++ codes " queries " ++ decimal view.queries ++ codes " decision " ++ value_text view.decision ++ codes "\n"
+    codes "process " ++ decimal view.p
+    ++ codes " " ++ machine_letter view.alpha ++ decimal view.place
+    ++ codes " round " ++ decimal view.round
+    ++ codes " " ++ life_word view.alive
+    ++ codes " steps " ++ decimal view.steps
+    ++ codes " queries " ++ decimal view.queries
+    ++ codes " decision " ++ value_text view.decision ++ codes "\n"
 
 -- ---- causes
 
@@ -53,13 +58,16 @@ history_text (event ∷ events) = flat_map event_line (event ∷ events)
 -- ---- the mail
 
 abbrev pub payload_text : Payload → List ℕ
-payload_text (P1 round est lead) = codes "p1 " ++ decimal round ++ codes " " ++ decimal est ++ codes " " ++ decimal lead
+payload_text (P1 round est lead) =
+    codes "p1 " ++ decimal round ++ codes " " ++ decimal est ++ codes " " ++ decimal lead
 payload_text (P2 round aux) = codes "p2 " ++ decimal round ++ codes " " ++ value_text aux
 payload_text (D est) = codes "d " ++ decimal est
 
 -- `to P S#M PAYLOAD`
 abbrev pub copy_line : ℕ × MsgName × Payload → List ℕ
-copy_line copy = codes "to " ++ decimal copy.0 ++ codes " " ++ message_text (copy.1).s (copy.1).m ++ codes " " ++ payload_text copy.2 ++ codes "\n"
+copy_line copy =
+    codes "to " ++ decimal copy.0 ++ codes " " ++ message_text (copy.1).s (copy.1).m
+    ++ codes " " ++ payload_text copy.2 ++ codes "\n"
 
 -- each copy in a line, or `no mail`
 abbrev pub mail_text : List (ℕ × MsgName × Payload) → List ℕ
@@ -74,13 +82,18 @@ decision_text pair = codes " " ++ decimal pair.0 ++ codes "=" ++ decimal pair.1
 -- `decisions` and then each decision after a space, or `decisions none`
 abbrev pub decisions_text : List (ℕ × ℕ) → List ℕ
 decisions_text [] = codes "decisions none\n"
-decisions_text (pair ∷ pairs) = codes "decisions" ++ flat_map decision_text (pair ∷ pairs) ++ codes "\n"
+decisions_text (pair ∷ pairs) =
+    codes "decisions" ++ flat_map decision_text (pair ∷ pairs) ++ codes "\n"
 
 -- ---- registers
 
 -- `rI lre A lrww B val V`
 abbrev pub register_line : ℕ → Cell → List ℕ
-register_line i cell = codes "r" ++ decimal i ++ codes " lre " ++ decimal cell.lre ++ codes " lrww " ++ decimal cell.lrww ++ codes " val " ++ value_text cell.val ++ codes "\n"
+register_line i cell =
+    codes "r" ++ decimal i
+    ++ codes " lre " ++ decimal cell.lre
+    ++ codes " lrww " ++ decimal cell.lrww
+    ++ codes " val " ++ value_text cell.val ++ codes "\n"
 
 -- `dec V`
 abbrev pub decision_line : Cell → List ℕ
@@ -90,7 +103,8 @@ decision_line cell = codes "dec " ++ value_text cell.val ++ codes "\n"
 abbrev pub registers_from : ℕ → List Cell → List ℕ
 registers_from i [] = []
 registers_from i (cell ∷ []) = decision_line cell
-registers_from i (cell ∷ next ∷ cells) = register_line i cell ++ registers_from (i + 1) (next ∷ cells)
+registers_from i (cell ∷ next ∷ cells) =
+    register_line i cell ++ registers_from (i + 1) (next ∷ cells)
 
 -- each register in a line, or `no registers`
 abbrev pub registers_text : List Cell → List ℕ

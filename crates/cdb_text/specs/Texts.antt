@@ -6,7 +6,7 @@ use Rattle.cdb_text.specs.Names.{name_text}
 use Rattle.cdb_text.specs.Refusals.{refusal_text}
 use Rattle.cdb_text.specs.Reports.{process_text, registers_text, mail_text, causes_text, history_text, decisions_text}
 
--- ` decides V`, where a decision was given
+-- ` decides V`, where the event is a decision
 abbrev pub decides_text : Option ℕ → List ℕ
 decides_text None = []
 decides_text (Some v) = codes " decides " ++ decimal v
@@ -17,11 +17,14 @@ break_text None = []
 break_text (Some b) = codes " break " ++ decimal b
 
 abbrev pub text_of : Answer → List ℕ
-text_of (Stepped event decides paused) = event_text event ++ decides_text decides ++ break_text paused ++ codes "\n"
+text_of (Stepped event decides paused) =
+    event_text event ++ decides_text decides ++ break_text paused ++ codes "\n"
 text_of (Undone event) = codes "undone " ++ event_text event ++ codes "\n"
-text_of (Redone event decides) = codes "redone " ++ event_text event ++ decides_text decides ++ codes "\n"
+text_of (Redone event decides) =
+    codes "redone " ++ event_text event ++ decides_text decides ++ codes "\n"
 text_of (RolledBack count) = codes "rolled back " ++ decimal count ++ codes "\n"
-text_of (Because name causes) = name_text name ++ codes " because" ++ causes_text causes ++ codes "\n"
+text_of (Because name causes) =
+    name_text name ++ codes " because" ++ causes_text causes ++ codes "\n"
 text_of (BreakSet b) = codes "break " ++ decimal b ++ codes "\n"
 text_of (BreakGone b) = codes "unbreak " ++ decimal b ++ codes "\n"
 text_of Resumed = codes "resumed\n"

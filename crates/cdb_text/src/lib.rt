@@ -1,4 +1,11 @@
-//! The script grammar, and the texts of replies.
+//! The script grammar, and the texts of replies. A line of a script is a command or has a first fault,
+//! and a reply of the control has one text:
+//!
+//! ```text
+//! let command = parse_line(b"undo 2 1")?;
+//! let reply = control.execute(alloc, seat, command)?;
+//! let text = reply_text(alloc, &reply)?;
+//! ```
 #![tactic(auto)]
 
 mod fault;
@@ -11,4 +18,4 @@ mod words;
 
 pub use fault::LineFault;
 pub use line::parse_line;
-pub use text::reply_text;
+pub use text::{push_causes, push_decides, push_event, push_payload, push_value, reply_text};

@@ -16,7 +16,7 @@ use crate::words::{Words, number_of};
 use cdb_base::Act;
 use cdb_control::{Command, Stop, View};
 
-/// What follows `step P query`.
+/// The words after `step P query`.
 fn query(p: u32, mut words: Words<'_>) -> Result<Command, LineFault>
     requires { IsInRange (number p) }
     ensures { IsRead (codes "step" ∷ decimal p ∷ codes "query" ∷ []) words.entry result }
@@ -28,7 +28,7 @@ fn query(p: u32, mut words: Words<'_>) -> Result<Command, LineFault>
     words.end(Command::Step(p, Act::Query(Some(answer))))
 }
 
-/// What follows `step P recv`.
+/// The words after `step P recv`.
 fn recv(p: u32, mut words: Words<'_>) -> Result<Command, LineFault>
     requires { IsInRange (number p) }
     ensures { IsRead (codes "step" ∷ decimal p ∷ codes "recv" ∷ []) words.entry result }
@@ -38,7 +38,7 @@ fn recv(p: u32, mut words: Words<'_>) -> Result<Command, LineFault>
     words.end(Command::Step(p, Act::Recv(sender, number)))
 }
 
-/// What follows `step`.
+/// The words after `step`.
 fn step(mut words: Words<'_>) -> Result<Command, LineFault>
     ensures { IsRead (codes "step" ∷ []) words.entry result }
 {
@@ -54,7 +54,7 @@ fn step(mut words: Words<'_>) -> Result<Command, LineFault>
     }
 }
 
-/// What follows `break`.
+/// The words after `break`.
 fn break_at(mut words: Words<'_>) -> Result<Command, LineFault>
     ensures { IsRead (codes "break" ∷ []) words.entry result }
 {
@@ -81,7 +81,7 @@ fn break_at(mut words: Words<'_>) -> Result<Command, LineFault>
     }
 }
 
-/// What follows `show`.
+/// The words after `show`.
 fn show(mut words: Words<'_>) -> Result<Command, LineFault>
     ensures { IsRead (codes "show" ∷ []) words.entry result }
 {
@@ -97,7 +97,7 @@ fn show(mut words: Words<'_>) -> Result<Command, LineFault>
     }
 }
 
-/// What follows `undo`, `rollback` or `why`.
+/// The words after `undo`, `rollback` or `why`.
 fn event(verb: Verb, mut words: Words<'_>) -> Result<Command, LineFault>
     ensures { IsRead (verb_name verb ∷ []) words.entry result }
 {
@@ -153,8 +153,8 @@ fn command(mut words: Words<'_>) -> Result<Command, LineFault>
     }
 }
 
-/// The command of a line of a script, without the byte 10 at its end; else the first fault of the line,
-/// read from the left. It takes no memory.
+/// The command of a line of a script, which is given without the byte 10 at its end; else the first
+/// fault of the line, read from the left. It allocates nothing.
 pub fn parse_line(line: &[u8]) -> Result<Command, LineFault>
     ensures command { (command : CommandName) → (result ≡ Ok command) ↔ IsLineOf command line.now }
     ensures fault { (fault : LineFaultName) → (result ≡ Err fault) ↔ IsFaultOf fault line.now }

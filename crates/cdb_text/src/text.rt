@@ -1,6 +1,7 @@
 //! The texts of replies.
 
-ghost use Rattle.std.specs.Prelude.{◌≡◌, ◌++◌, OnOk, IfOk, string_bytes, codes};
+ghost use Rattle.std.specs.Prelude.{◌≡◌, ◌++◌, IfOk, codes};
+ghost use Rattle.cdb_text.specs.Pushes.{Pushes};
 ghost use Rattle.cdb_control.specs.Answer.{told};
 ghost use Rattle.cdb_text.specs.Events.{event_text};
 ghost use Rattle.cdb_text.specs.Names.{name_text};
@@ -14,14 +15,17 @@ mod report;
 
 use cdb_base::{Event, NoMemory, StepId, Val};
 use cdb_control::Reply;
-use event::push_event;
+pub use event::push_event;
 use name::push_name;
 use refusal::push_refusal;
-use report::{push_causes, push_decisions, push_history, push_mail, push_process, push_registers};
+pub use report::{push_causes, push_payload, push_value};
+use report::{push_decisions, push_history, push_mail, push_process, push_registers};
 use std::alloc::{AllocError, Global};
 
-fn push_decides(text: &mut String, decides: Option<Val>) -> Result<(), AllocError>
-    ensures { OnOk result (string_bytes text.new ≡ string_bytes text.old ++ decides_text decides) }
+/// Adds ` decides V` at the end of a text where a decision was given, and nothing where none was. Only
+/// out of memory is an error.
+pub fn push_decides(text: &mut String, decides: Option<Val>) -> Result<(), AllocError>
+    ensures { Pushes result text.old text.new (decides_text decides) }
 {
     match decides {
         Some(value) => {
@@ -33,7 +37,7 @@ fn push_decides(text: &mut String, decides: Option<Val>) -> Result<(), AllocErro
 }
 
 fn push_break(text: &mut String, paused: Option<u32>) -> Result<(), AllocError>
-    ensures { OnOk result (string_bytes text.new ≡ string_bytes text.old ++ break_text paused) }
+    ensures { Pushes result text.old text.new (break_text paused) }
 {
     match paused {
         Some(number) => write!(text, " break {number}"),
@@ -41,9 +45,9 @@ fn push_break(text: &mut String, paused: Option<u32>) -> Result<(), AllocError>
     }
 }
 
-/// An event that was taken, and the decision that it gave.
+/// An event that was taken, and the decision that it made.
 fn push_taken(text: &mut String, event: &Event, decides: Option<Val>) -> Result<(), AllocError>
-    ensures { OnOk result (string_bytes text.new ≡ string_bytes text.old ++ event_text event.now ++ decides_text decides) }
+    ensures { Pushes result text.old text.new (event_text event.now ++ decides_text decides) }
 {
     push_event(text, event)?;
     push_decides(text, decides)
@@ -51,7 +55,8 @@ fn push_taken(text: &mut String, event: &Event, decides: Option<Val>) -> Result<
 
 /// An event and its direct causes.
 fn push_because(text: &mut String, name: StepId, causes: &[StepId]) -> Result<(), AllocError>
-    ensures { OnOk result (string_bytes text.new ≡ string_bytes text.old ++ name_text name ++ codes " because" ++ causes_text causes.now) }
+    ensures { Pushes result text.old text.new
+        (name_text name ++ codes " because" ++ causes_text causes.now) }
 {
     push_name(text, name)?;
     text.push_str(" because")?;
@@ -59,7 +64,7 @@ fn push_because(text: &mut String, name: StepId, causes: &[StepId]) -> Result<()
 }
 
 fn push_reply(text: &mut String, reply: &Reply) -> Result<(), AllocError>
-    ensures { OnOk result (string_bytes text.new ≡ string_bytes text.old ++ text_of (told reply.now)) }
+    ensures { Pushes result text.old text.new (text_of (told reply.now)) }
 {
     match reply {
         Reply::Stepped {
@@ -102,7 +107,7 @@ fn push_reply(text: &mut String, reply: &Reply) -> Result<(), AllocError>
     }
 }
 
-/// The text of a reply: its lines, each ended by byte 10. Only want of memory is an error.
+/// The text of a reply: its lines, each of which ends with byte 10. `NoMemory` if an allocation fails.
 pub fn reply_text(alloc: Global, reply: &Reply) -> Result<Vec<u8>, NoMemory>
     ensures { IfOk result (λ bytes. bytes.items ≡ text_of (told reply.now)) }
 {

@@ -1,11 +1,13 @@
 //! The words of a line, taken one after the other.
 
-ghost use Rattle.std.specs.Prelude.{◌≡◌, ◌≢◌, ◌≤◌, ◌∷◌, [], length, MatchOption, MatchBool, IfOk};
+ghost use Rattle.std.specs.Prelude.{◌≡◌, ◌≢◌, ◌≤◌, ◌∷◌, [], length};
+ghost use Rattle.std.specs.Prelude.{MatchOption, MatchBool, IfOk};
 ghost use Rattle.std.specs.Str.Parse.{AllDigits, digits_value};
 ghost use Rattle.cdb_text.specs.Commands.{number};
 ghost use Rattle.cdb_text.specs.Grammar.{IsInRange, words_of};
 ghost use Rattle.cdb_text.specs.Words.{words_left};
-ghost use Rattle.cdb_text.specs.Reading.{Gives, number_of, register_of, word_at, number_at, register_at, ended};
+ghost use Rattle.cdb_text.specs.Reading.{Gives, number_of, register_of};
+ghost use Rattle.cdb_text.specs.Reading.{word_at, number_at, register_at, ended};
 
 use crate::fault::LineFault;
 use cdb_base::{Proc, Reg};
@@ -35,7 +37,7 @@ impl<'a> Words<'a> {
         Words { rest: Some(line) }
     }
 
-    /// Tells whether no word is left.
+    /// Whether no word is left.
     pub(crate) fn is_empty(&self) -> bool
         ensures { MatchBool result (self.now ≡ []) (self.now ≢ []) }
     {
@@ -89,7 +91,7 @@ impl<'a> Words<'a> {
     }
 }
 
-/// The first word of a line, and what is left behind the space after it.
+/// The first word of a line, and what is left after the space that follows it.
 fn first_word(line: &[u8]) -> (&[u8], Option<&[u8]>)
     ensures { words_of line.now ≡ result.0.now ∷ words_left result.1 }
 {
@@ -99,7 +101,7 @@ fn first_word(line: &[u8]) -> (&[u8], Option<&[u8]>)
     }
 }
 
-/// The number that the digits stand for, if all the bytes are digits.
+/// The number that the digits write, if all the bytes are digits.
 fn value_of(word: &[u8]) -> Option<u32>
     requires { length word.now ≤ 6 }
     ensures { MatchOption result (¬ AllDigits 10 word.now)

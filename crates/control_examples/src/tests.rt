@@ -1,5 +1,6 @@
 mod alpha;
 mod breakpoints;
+mod laws;
 mod leader;
 mod lines;
 mod losses;

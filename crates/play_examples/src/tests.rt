@@ -1,6 +1,5 @@
 //! Worked examples as scripts, and readers and writers of the tests.
 
-mod alpha;
 mod breakpoints;
 mod failures;
 mod faults;
@@ -10,7 +9,6 @@ mod losses;
 mod races;
 mod rollback;
 mod setups;
-mod tour;
 mod undo;
 
 use cdb_play::{Bytes, Failed, PlayFault, Sink, Source, play};

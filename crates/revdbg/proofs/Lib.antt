@@ -1,4 +1,2 @@
-pub mod CommandLine
-pub mod Given
 pub mod Played
 pub mod Told

@@ -1,10 +1,9 @@
--- What is told of a fault, by the answer of the writer's call.
-use Rattle.std.proofs.Common.{◌≡◌, inl, inr, ℕ, List, Option, Result, Ok, Err, OnOk, OnErr}
-use Rattle.std.specs.Io.KnownBytes.{append_known}
-use Rattle.cdb_play.specs.Streams.{AddsBeginning, one_more}
+-- What is told of a fault, by what the writer's call returned.
+use Rattle.std.proofs.Common.{inl, inr, ℕ, List, Option, Result, Ok, Err}
+use Rattle.cdb_play.specs.Streams.{Writes}
 use Rattle.revdbg.specs.Telling.{IsTold}
 
-pub told_by : {A E : Type 0} (answer : Result A E) (old new : Option (List ℕ)) (failed fails : ℕ) (text : List ℕ)
-    → OnOk answer (new ≡ append_known old text) → OnErr answer (AddsBeginning old new text) → OnOk answer (fails ≡ failed) → OnErr answer (fails ≡ one_more failed) → IsTold old failed new fails text
-told_by (Ok done) old new failed fails text all beginning none one = inl (all, none)
-told_by (Err why) old new failed fails text all beginning none one = inr (beginning, one)
+pub told_by : {W A E : Type 0} (contents : W → Option (List ℕ)) (failures : W → ℕ) (outcome : Result A E) (old new : W) (text : List ℕ)
+    → Writes contents failures outcome old new text → IsTold contents failures old new text
+told_by contents failures (Ok done) old new text wrote = inl wrote
+told_by contents failures (Err why) old new text wrote = inr wrote

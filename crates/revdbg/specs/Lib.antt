@@ -1,5 +1,4 @@
-pub mod CommandLine
-pub mod Asking
 pub mod Telling
 pub mod Playing
 pub mod Racing
+pub mod Refusing

@@ -19,7 +19,8 @@ pub struct NamedFault<'a> {
 /// Tells how a play ended, and answers the status.
 pub fn ended<W: Sink>(outcome: Result<(), NamedFault<'_>>, err: &mut W) -> u8
     ensures status { MatchResult outcome.entry (λ _. result ≡ 0) (λ named. result ≡ play_status named.fault) }
-    ensures told { MatchResult outcome.entry (λ _. err.new ≡ err.old) (λ named. IsTold (W.contents err.old) (W.failures err.old) (W.contents err.new) (W.failures err.new) (play_fault_text named.fault named.name.now)) }
+    ensures told { MatchResult outcome.entry (λ _. err.new ≡ err.old) (λ named.
+        IsTold W.contents W.failures err.old err.new (play_fault_text named.fault named.name.now)) }
 {
     match outcome {
         Ok(()) => 0,
@@ -33,7 +34,8 @@ pub fn ended<W: Sink>(outcome: Result<(), NamedFault<'_>>, err: &mut W) -> u8
 /// Tells how a race ended, and answers the status.
 pub fn race_ended<W: Sink>(outcome: Result<(), RaceFault>, err: &mut W) -> u8
     ensures status { MatchResult outcome (λ _. result ≡ 0) (λ fault. result ≡ race_status fault) }
-    ensures told { MatchResult outcome (λ _. err.new ≡ err.old) (λ fault. IsTold (W.contents err.old) (W.failures err.old) (W.contents err.new) (W.failures err.new) (race_fault_text fault)) }
+    ensures told { MatchResult outcome (λ _. err.new ≡ err.old) (λ fault.
+        IsTold W.contents W.failures err.old err.new (race_fault_text fault)) }
 {
     match outcome {
         Ok(()) => 0,

@@ -2,28 +2,27 @@
 #![tactic(auto)]
 
 ghost use Rattle.std.specs.Prelude.{◌≡◌, ◌≢◌, ◌⊎◌, ℕ, ◌+◌, ◌≤◌, List, [], length, vec_len, map, codes, Any, None, Err, IfOk, IfErr, OnOk};
-ghost use Rattle.std.specs.Io.KnownBytes.{prepend_known, IsAtEnd};
+ghost use Rattle.std.specs.Io.KnownBytes.{Consumes, IsAtEnd};
 ghost use Rattle.cdb_play.specs.Faults.{IsFaultOfPlay};
-ghost use Rattle.cdb_play.specs.Streams.{one_more};
+ghost use Rattle.cdb_play.specs.Streams.{FailsWhere};
 ghost use Rattle.cdb_play.specs.Transcripts.{IsTranscriptOf};
 ghost use Rattle.cdb_run.specs.Algorithms.{rules};
 ghost use Rattle.clap.specs.Words.{fault_of};
-ghost use Rattle.revdbg.specs.Asking.{IsOfKinds, ask_status_of};
-ghost use Rattle.revdbg.specs.CommandLine.{program};
+ghost use Rattle.cdb_arguments.specs.Asking.{IsOfKinds, ask_status_of, texts};
+ghost use Rattle.cdb_arguments.specs.CommandLine.{program};
+ghost use Rattle.revdbg.specs.Refusing.{IsStatusOfRefused};
 ghost use Rattle.revdbg.specs.Playing.{IsUnreadAs, IsFaultOfBytes};
 ghost use Rattle.revdbg.specs.Racing.{IsStatusOfRace, NeedsTooManySeats};
 
 mod ends;
-mod request;
-mod words;
 
+use cdb_arguments::{AskFault, Asked, ask_status, asked};
 use cdb_play::{
-    Bytes, Input, MAX_BYTES, Output, PlayFault, RaceFault, ReadFault, Source, fits, play, race,
+    Bytes, Input, MAX_BYTES, Output, PlayFault, RaceFault, ReadFault, Source, fits, play, race_on,
     read_up_to,
 };
 use cdb_setup::Setup;
 use ends::{NamedFault, ended, race_ended};
-use request::{AskFault, Asked};
 use std::alloc::{AllocError, Global};
 use std::fs::File;
 use std::io::{ErrorKind, Input as _};
@@ -31,22 +30,23 @@ use std::process::ExitCode;
 use std::sync::Wait;
 use std::thread::Threads;
 use std::{env, io};
-use words::{ask_status, asked};
 
 /// The setup that a script from standard input is played on.
 const ONE_PROCESS: &[u8] =
     b"{\"algorithm\":\"leader\",\"processes\":1,\"quorum\":1,\"inputs\":[7],\"oracle\":[[1]]}";
 
-/// The status after words that can't be read.
+/// The status after arguments that can't be read.
 const USAGE: u8 = 2;
+
+/// The status where output fails.
+const UNWRITTEN: u8 = 7;
 
 /// All that a reader has left, and no more than one byte too many.
 fn read_all<S: Source>(alloc: Global, source: &mut S) -> Result<Vec<u8>, ReadFault>
-    ensures taken { IfOk result (λ bytes. S.remaining source.old ≡ prepend_known bytes.items (S.remaining source.new)) }
+    ensures taken { IfOk result (λ bytes. Consumes (S.remaining source.old) (S.remaining source.new) bytes.items) }
     ensures most { IfOk result (λ bytes. length bytes.items ≤ MAX_BYTES + 1) }
     ensures end { IfOk result (λ bytes. length bytes.items ≤ MAX_BYTES → IsAtEnd (S.remaining source.new)) }
-    ensures failed { result ≡ Err ReadFault.Failed → S.failures source.new ≡ one_more (S.failures source.old) }
-    ensures unfailed { result ≢ Err ReadFault.Failed → S.failures source.new ≡ S.failures source.old }
+    ensures failed { FailsWhere S.failures (result ≡ Err ReadFault.Failed) source.old source.new }
 {
     read_up_to(alloc, source, MAX_BYTES + 1)
 }
@@ -149,11 +149,11 @@ fn race_scripts<R: Threads + Wait + Sync>(
         return USAGE;
     }
     let mut out = Output::new(io::writer(rt));
-    let outcome = race(threads, rt.alloc(), setup, turns, scripts, &mut out);
+    let outcome = race_on(threads, rt.alloc(), parts, turns, scripts, &mut out);
     race_ended(outcome, &mut err)
 }
 
-/// Runs a race of script files on a run of a setup file, and answers the status. A file that can't be read
+/// Runs a race of script files on a run of a setup file, and returns the status. A file that can't be read
 /// has its name in the fault.
 fn race_files<'a, R: Threads + Wait + Sync>(
     rt: &HostRuntime,
@@ -171,7 +171,7 @@ fn race_files<'a, R: Threads + Wait + Sync>(
     Ok(race_scripts(rt, threads, json.as_slice(), turns, scripts.as_slice()))
 }
 
-/// Tells that memory is wanting, and answers the status.
+/// Reports that memory is out, and returns the status.
 fn no_memory(rt: &HostRuntime) -> u8
     ensures { result ≡ 6 }
 {
@@ -182,10 +182,26 @@ fn no_memory(rt: &HostRuntime) -> u8
     ended(Err(named), &mut Output::new(rt.stderr()))
 }
 
-/// Does what the words ask for, and answers the status.
+/// Prints help, the version or what is wrong with the arguments, and returns the status. Where help or the version
+/// can't be printed, it is that of output that fails.
+fn refused(rt: &HostRuntime, fault: &AskFault) -> u8
+    ensures { IsStatusOfRefused result fault.now }
+{
+    let status = ask_status(fault);
+    let AskFault::Words(error) = fault else {
+        let _ = no_memory(rt);
+        return status;
+    };
+    match error.print(rt) {
+        Err(_) if status == 0 => UNWRITTEN,
+        _ => status,
+    }
+}
+
+/// Does what the arguments ask for, and returns the status.
 fn run<R: Threads + Wait + Sync>(rt: &HostRuntime, threads: &R, words: &[&str]) -> u8
-    ensures { fault_of program (map (λ word. word.now) words.entry.now) ≢ []
-        → (fault : AskFault) × IsOfKinds (fault_of program (map (λ word. word.now) words.entry.now)) fault × (result ≡ ask_status_of fault) }
+    ensures { fault_of program (texts words.entry.now) ≢ []
+        → (fault : AskFault) × IsOfKinds (fault_of program (texts words.entry.now)) fault × IsStatusOfRefused result fault }
 {
     let mut err = Output::new(rt.stderr());
     match asked(rt.alloc(), words) {
@@ -201,24 +217,17 @@ fn run<R: Threads + Wait + Sync>(rt: &HostRuntime, threads: &R, words: &[&str]) 
             Ok(status) => status,
             Err(named) => ended(Err(named), &mut err),
         },
-        Err(fault) => {
-            if let AskFault::Words(error) = &fault {
-                let _ = error.print(rt);
-            } else {
-                let _ = no_memory(rt);
-            }
-            ask_status(&fault)
-        }
+        Err(fault) => refused(rt, &fault),
     }
 }
 
-/// The words of the command line.
+/// The arguments of the command line, the program's name first.
 fn words_of(rt: &HostRuntime) -> io::Result<Vec<String>> {
     let words = env::args(rt)?.collect(rt.alloc())?;
     Ok(words)
 }
 
-/// The texts of the words.
+/// The texts of the arguments.
 fn texts_of<'a>(rt: &HostRuntime, words: &'a [String]) -> Result<Vec<&'a str>, AllocError> {
     words.iter().map(|word| word.as_str()).collect(rt.alloc())
 }
@@ -230,7 +239,7 @@ fn main(rt: HostRuntime) -> ExitCode {
             return ExitCode::from(no_memory(&rt));
         }
         Err(_) => {
-            let _ = eprintln!(rt; "a word is no text");
+            let _ = eprintln!(rt; "an argument is not valid UTF-8");
             return ExitCode::from(USAGE);
         }
     };
@@ -239,6 +248,3 @@ fn main(rt: HostRuntime) -> ExitCode {
         Err(_) => ExitCode::from(no_memory(&rt)),
     }
 }
-
-#[cfg(test)]
-mod tests;

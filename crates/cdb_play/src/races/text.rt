@@ -1,84 +1,93 @@
-//! The text of a race is written.
+//! The text of a race is put into a buffer on its way to a writer.
 
-ghost use Rattle.std.specs.Prelude.{◌≡◌, ◌≢◌, ◌+◌, ◌≤◌, ◌++◌, length, map, Err, IfErr, OnOk, OnErr};
+ghost use Rattle.std.specs.Prelude.{◌≡◌, ◌+◌, ◌≤◌, [], ◌++◌, length, map};
 ghost use Rattle.std.specs.List.{flat_map};
-ghost use Rattle.std.specs.Io.KnownBytes.{append_known};
 ghost use Rattle.cdb_control.specs.Answer.{told};
 ghost use Rattle.cdb_race.specs.Races.{all_told};
 ghost use Rattle.cdb_text.specs.Texts.{text_of};
-ghost use Rattle.cdb_play.specs.Races.{seat_text, seats_text, end_text, verdict_text, have_one_value, last_decisions, IsFaultOfOutput};
-ghost use Rattle.cdb_play.specs.Streams.{AddsBeginning, one_more};
+ghost use Rattle.cdb_play.specs.Races.{seat_line, seat_text, seats_text, end_text, verdict_text, have_one_value, last_decisions};
+ghost use Rattle.cdb_play.specs.Buffers.{Puts, Wrote};
 
-use crate::fault::RaceFault;
-use crate::piece::Piece::{Number, Text};
-use crate::piece::{write_each, write_piece};
-use crate::sink::{Sink, write_all};
+use crate::buffer::{Buffer, OutputFault};
+use crate::sink::Sink;
 use cdb_base::{Proc, Val};
 use cdb_control::{Control, Reply, RunOfSetup, Runs};
 use cdb_text::reply_text;
+use itoa::Buffer as Digits;
 use std::alloc::Global;
 
-/// Writes the text of a reply.
-fn write_reply<W: Sink>(alloc: Global, reply: &Reply, out: &mut W) -> Result<(), RaceFault>
-    ensures ok { OnOk result (W.contents out.new ≡ append_known (W.contents out.old) (text_of (told reply.now))) }
-    ensures err { OnErr result (AddsBeginning (W.contents out.old) (W.contents out.new) (text_of (told reply.now))) }
-    ensures fault { IfErr result IsFaultOfOutput }
-    ensures write { result ≡ Err RaceFault.Write → W.failures out.new ≡ one_more (W.failures out.old) }
-    ensures unfailed { result ≢ Err RaceFault.Write → W.failures out.new ≡ W.failures out.old }
+/// Puts the text of a reply.
+fn put_reply<W: Sink>(
+    alloc: Global,
+    reply: &Reply,
+    buffer: &mut Buffer,
+    out: &mut W,
+) -> Result<(), OutputFault>
+    ensures { Puts W.contents W.failures result out.old buffer.old out.new buffer.new
+        (text_of (told reply.now)) }
 {
     let text = reply_text(alloc, reply)?;
-    write_all(out, text.as_slice())?;
+    buffer.put(out, text.as_slice())?;
     Ok(())
 }
 
-/// Writes the texts of the replies, one after the other.
-fn write_replies<W: Sink>(alloc: Global, replies: &[Reply], out: &mut W) -> Result<(), RaceFault>
-    ensures ok { OnOk result (W.contents out.new ≡ append_known (W.contents out.old) (flat_map text_of (map told replies.now))) }
-    ensures err { OnErr result (AddsBeginning (W.contents out.old) (W.contents out.new) (flat_map text_of (map told replies.now))) }
-    ensures fault { IfErr result IsFaultOfOutput }
-    ensures write { result ≡ Err RaceFault.Write → W.failures out.new ≡ one_more (W.failures out.old) }
-    ensures unfailed { result ≢ Err RaceFault.Write → W.failures out.new ≡ W.failures out.old }
+/// Puts the texts of the replies, one after the other.
+fn put_replies<W: Sink>(
+    alloc: Global,
+    replies: &[Reply],
+    buffer: &mut Buffer,
+    out: &mut W,
+) -> Result<(), OutputFault>
+    ensures { Puts W.contents W.failures result out.old buffer.old out.new buffer.new
+        (flat_map text_of (map told replies.now)) }
 {
     for reply in replies {
-        write_reply(alloc, reply, out)?;
+        put_reply(alloc, reply, buffer, out)?;
     }
     Ok(())
 }
 
-/// Writes the line of a seat, and the texts of its replies.
-fn write_seat<W: Sink>(
+/// Puts the line with the number of a seat.
+fn put_line<W: Sink>(seat: usize, buffer: &mut Buffer, out: &mut W) -> Result<(), OutputFault>
+    ensures { Puts W.contents W.failures result out.old buffer.old out.new buffer.new (seat_line seat) }
+{
+    let mut digits = Digits::new();
+    buffer.put(out, b"seat ")?;
+    buffer.put(out, digits.format(seat).as_bytes())?;
+    buffer.put(out, b"\n")?;
+    Ok(())
+}
+
+/// Puts the line of a seat, and the texts of its replies.
+fn put_seat<W: Sink>(
     alloc: Global,
     seat: usize,
     replies: &[Reply],
+    buffer: &mut Buffer,
     out: &mut W,
-) -> Result<(), RaceFault>
-    ensures ok { OnOk result (W.contents out.new ≡ append_known (W.contents out.old) (seat_text seat (map told replies.now))) }
-    ensures err { OnErr result (AddsBeginning (W.contents out.old) (W.contents out.new) (seat_text seat (map told replies.now))) }
-    ensures fault { IfErr result IsFaultOfOutput }
-    ensures write { result ≡ Err RaceFault.Write → W.failures out.new ≡ one_more (W.failures out.old) }
-    ensures unfailed { result ≢ Err RaceFault.Write → W.failures out.new ≡ W.failures out.old }
+) -> Result<(), OutputFault>
+    ensures { Puts W.contents W.failures result out.old buffer.old out.new buffer.new
+        (seat_text seat (map told replies.now)) }
 {
-    write_each(out, &[Text("seat "), Number(seat), Text("\n")])?;
-    write_replies(alloc, replies, out)
+    put_line(seat, buffer, out)?;
+    put_replies(alloc, replies, buffer, out)
 }
 
-/// Writes seats, numbered from the first, each with its replies.
-fn write_seats<W: Sink>(
+/// Puts seats, numbered from the first, each with its replies.
+fn put_seats<W: Sink>(
     alloc: Global,
     first: usize,
     seats: &[Vec<Reply>],
+    buffer: &mut Buffer,
     out: &mut W,
-) -> Result<(), RaceFault>
+) -> Result<(), OutputFault>
     requires { first + length seats.now ≤ 65 }
-    ensures ok { OnOk result (W.contents out.new ≡ append_known (W.contents out.old) (seats_text first (all_told seats.now))) }
-    ensures err { OnErr result (AddsBeginning (W.contents out.old) (W.contents out.new) (seats_text first (all_told seats.now))) }
-    ensures fault { IfErr result IsFaultOfOutput }
-    ensures write { result ≡ Err RaceFault.Write → W.failures out.new ≡ one_more (W.failures out.old) }
-    ensures unfailed { result ≢ Err RaceFault.Write → W.failures out.new ≡ W.failures out.old }
+    ensures { Puts W.contents W.failures result out.old buffer.old out.new buffer.new
+        (seats_text first (all_told seats.now)) }
 {
     let mut seat = first;
     for replies in seats {
-        write_seat(alloc, seat, replies.as_slice(), out)?;
+        put_seat(alloc, seat, replies.as_slice(), buffer, out)?;
         seat += 1;
     }
     Ok(())
@@ -105,40 +114,61 @@ fn verdict(decisions: &[(Proc, Val)]) -> &'static str
     }
 }
 
-/// Writes the decisions, and whether they agree.
-fn write_end<W: Sink>(
+/// Puts the decisions, and whether they agree.
+fn put_end<W: Sink>(
     alloc: Global,
     decisions: Vec<(Proc, Val)>,
+    buffer: &mut Buffer,
     out: &mut W,
-) -> Result<(), RaceFault>
-    ensures ok { OnOk result (W.contents out.new ≡ append_known (W.contents out.old) (end_text decisions.items)) }
-    ensures err { OnErr result (AddsBeginning (W.contents out.old) (W.contents out.new) (end_text decisions.items)) }
-    ensures fault { IfErr result IsFaultOfOutput }
-    ensures write { result ≡ Err RaceFault.Write → W.failures out.new ≡ one_more (W.failures out.old) }
-    ensures unfailed { result ≢ Err RaceFault.Write → W.failures out.new ≡ W.failures out.old }
+) -> Result<(), OutputFault>
+    ensures { Puts W.contents W.failures result out.old buffer.old out.new buffer.new
+        (end_text decisions.items) }
 {
     let verdict = verdict(decisions.as_slice());
-    write_reply(alloc, &Reply::Decisions(decisions), out)?;
-    write_piece(out, Text(verdict))?;
+    put_reply(alloc, &Reply::Decisions(decisions), buffer, out)?;
+    buffer.put(out, verdict.as_bytes())?;
     Ok(())
 }
 
-/// Writes what the seats of the scripts were answered, and then the decisions of the last state.
+/// Puts what the seats of the scripts were answered, and then the decisions of the last state.
+fn put_race<W: Sink>(
+    alloc: Global,
+    control: &Control<RunOfSetup>,
+    replies: &[Vec<Reply>],
+    buffer: &mut Buffer,
+    out: &mut W,
+) -> Result<(), OutputFault>
+    requires { control.now.setup.processes + length replies.now ≤ 64 }
+    ensures { Puts W.contents W.failures result out.old buffer.old out.new buffer.new
+        (seats_text (control.now.setup.processes + 1) (all_told replies.now) ++ end_text (last_decisions control.now)) }
+{
+    let run = control.run();
+    put_seats(
+        alloc,
+        usize::from(run.processes()) + 1,
+        replies,
+        buffer,
+        out,
+    )?;
+    let decisions = run.decisions(alloc)?;
+    put_end(alloc, decisions, buffer, out)
+}
+
+/// Puts the same into an empty buffer, and writes what is left in it.
 pub(super) fn write_race<W: Sink>(
     alloc: Global,
     control: &Control<RunOfSetup>,
     replies: &[Vec<Reply>],
+    buffer: Buffer,
     out: &mut W,
-) -> Result<(), RaceFault>
-    requires { control.now.setup.processes + length replies.now ≤ 64 }
-    ensures ok { OnOk result (W.contents out.new ≡ append_known (W.contents out.old) (seats_text (control.now.setup.processes + 1) (all_told replies.now) ++ end_text (last_decisions control.now))) }
-    ensures err { OnErr result (AddsBeginning (W.contents out.old) (W.contents out.new) (seats_text (control.now.setup.processes + 1) (all_told replies.now) ++ end_text (last_decisions control.now))) }
-    ensures fault { IfErr result IsFaultOfOutput }
-    ensures write { result ≡ Err RaceFault.Write → W.failures out.new ≡ one_more (W.failures out.old) }
-    ensures unfailed { result ≢ Err RaceFault.Write → W.failures out.new ≡ W.failures out.old }
+) -> Result<(), OutputFault>
+    requires seats { control.now.setup.processes + length replies.now ≤ 64 }
+    requires empty { buffer ≡ [] }
+    ensures { Wrote W.contents W.failures result out.old out.new
+        (seats_text (control.now.setup.processes + 1) (all_told replies.now) ++ end_text (last_decisions control.now)) }
 {
-    let run = control.run();
-    write_seats(alloc, usize::from(run.processes()) + 1, replies, out)?;
-    let decisions = run.decisions(alloc)?;
-    write_end(alloc, decisions, out)
+    let mut buffer = buffer;
+    put_race(alloc, control, replies, &mut buffer, out)?;
+    buffer.flush(out)?;
+    Ok(())
 }

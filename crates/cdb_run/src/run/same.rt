@@ -6,7 +6,7 @@ ghost use Rattle.cdb_base.specs.Processes.{all_processes};
 ghost use Rattle.cdb_causal.specs.Dependence.{depends};
 ghost use Rattle.cdb_causal.specs.Exchange.{IsExchanged};
 ghost use Rattle.cdb_run.specs.OwnSteps.{own_steps, is_lost_too, AreAlike};
-ghost use Rattle.cdb_run.specs.Step.{fold};
+ghost use Rattle.cdb_run.specs.Runs.{AreInSameState};
 
 use crate::own_steps::same_steps;
 use crate::run::Run;
@@ -16,7 +16,8 @@ use cdb_process::Process;
 
 /// Whether each process takes the same steps in both histories.
 fn same_steps_of_each(history: &[Event], other: &[Event]) -> bool
-    ensures { IsTrue result ↔ All (λ p. own_steps p history.now ≡ own_steps p other.now) all_processes }
+    ensures { IsTrue result
+        ↔ All (λ p. own_steps p history.now ≡ own_steps p other.now) all_processes }
 {
     Proc::all().iter().all(|p| same_steps(*p, history, other))
 }
@@ -42,14 +43,12 @@ fn are_alike(history: &[Event], mail: &Mail, other: &[Event], other_mail: &Mail)
 }
 
 impl<P: Process> Run<P> {
-    ghost use Rattle.cdb_run.specs.Machines.{machine_of};
-
     /// Whether both runs are in the same state: each process has the same events, each access behind
     /// as many writes of its register, and the same copies are lost. The histories are then equal up
     /// to exchange of neighbours that do not depend on each other. It takes no memory.
     pub fn same_run(&self, other: &Run<P>) -> bool
         requires { self.now.setup ≡ other.now.setup }
-        ensures state { IsTrue result ↔ (fold (machine_of P.first P.next P.wish P.place P.last_place self.now.setup) self.now.history ≡ fold (machine_of P.first P.next P.wish P.place P.last_place self.now.setup) other.now.history) }
+        ensures state { IsTrue result ↔ AreInSameState P.table self.now other.now }
         ensures exchange { IsTrue result ↔ IsExchanged depends self.now.history other.now.history }
     {
         let _ranges = self.setup().n();

@@ -1,15 +1,18 @@
 //! Steps and losses of a run, found by their names and taken back in place.
 
-ghost use Rattle.std.specs.Prelude.{◌≡◌, ◌-◌, ◌≤◌, length, Some, Err, MatchOption, MatchResult, IfOk};
+ghost use Rattle.std.specs.Prelude.{◌≡◌, ◌↔◌, ◌-◌, ◌≤◌, length, Some, MatchOption, IsOk, IfOk};
+ghost use Rattle.std.specs.Result.{result_err};
 ghost use Rattle.cdb_base.specs.Places.{nth};
 ghost use Rattle.cdb_causal.specs.Causality.{IsFree};
 ghost use Rattle.cdb_causal.specs.Dependence.{depends as depends_of};
 ghost use Rattle.cdb_causal.specs.Names.{IsFirstDependent};
 ghost use Rattle.cdb_causal.specs.Rollback.{without};
-ghost use Rattle.cdb_message.specs.Mail.{message_name, copy_name};
-ghost use Rattle.cdb_run.specs.Undo.{event_named, found_at, for_standing, undo_found, undo_of, answered, left_by};
+ghost use Rattle.cdb_run.specs.EventRefs.{name_of};
+ghost use Rattle.cdb_run.specs.Runs.{step_name, loss_name, IsPlaceFound, CanUndo, LeadsTo, undo_at_place, undo_answer, after_undo, with_history, with_left};
+ghost use Rattle.cdb_run.specs.Undo.{answered};
 
 use crate::change::Left;
+use crate::event_ref::EventRef;
 use crate::restore::change_back;
 use crate::run::Run;
 use cdb_base::{CopyName, Event, MsgName, Refusal, StepId, StepName};
@@ -20,7 +23,7 @@ use cdb_record::Entry;
 impl<P: Process> Run<P> {
     /// The place, from 1, of the `k`-th standing step of process `p`; or `NoProcess` or `NoStep`.
     pub(crate) fn find_step(&self, p: u32, k: u32) -> Result<usize, Refusal>
-        ensures found { MatchResult result (λ at. event_named self.now.setup.processes self.now.history (StepId.Step (record { p = p; k = k })) ≡ found_at self.now.history (at - 1)) (λ why. event_named self.now.setup.processes self.now.history (StepId.Step (record { p = p; k = k })) ≡ Err why) }
+        ensures found { IsPlaceFound self.now (step_name p k) result }
         ensures within { IfOk result (λ at. (1 ≤ at) × (at ≤ length self.now.history)) }
     {
         let _valid = self.history();
@@ -37,7 +40,7 @@ impl<P: Process> Run<P> {
     /// The place, from 1, of the standing loss of the copy for process `p` of the `m`-th message of
     /// process `s`; or `NoProcess` of `s` or `p`, or `NoStep`.
     pub(crate) fn find_loss(&self, s: u32, m: u32, p: u32) -> Result<usize, Refusal>
-        ensures found { MatchResult result (λ at. event_named self.now.setup.processes self.now.history (StepId.Lost (copy_name (message_name s m) p)) ≡ found_at self.now.history (at - 1)) (λ why. event_named self.now.setup.processes self.now.history (StepId.Lost (copy_name (message_name s m) p)) ≡ Err why) }
+        ensures found { IsPlaceFound self.now (loss_name s m p) result }
         ensures within { IfOk result (λ at. (1 ≤ at) × (at ≤ length self.now.history)) }
     {
         let _valid = self.history();
@@ -55,13 +58,24 @@ impl<P: Process> Run<P> {
         self.standing().position(name).ok_or(Refusal::NoStep)
     }
 
+    /// The place, from 1, of a standing event; or the first refusal that holds: `NoProcess` or `NoStep`.
+    pub(crate) fn find(&self, event: EventRef) -> Result<usize, Refusal>
+        ensures found { IsPlaceFound self.now (name_of event) result }
+        ensures within { IfOk result (λ at. (1 ≤ at) × (at ≤ length self.now.history)) }
+    {
+        match event {
+            EventRef::Step(p, k) => self.find_step(p, k),
+            EventRef::Lost(s, m, p) => self.find_loss(s, m, p),
+        }
+    }
+
     /// Takes the free event at a place, from 1, back. It takes no memory.
     pub(crate) fn take_back(&mut self, at: usize) -> Event
         requires from_one { 1 ≤ at }
         requires to_len { at ≤ length self.old.history }
         requires free { IsFree depends_of self.old.history (at - 1) }
         ensures event { nth self.old.history at ≡ Some result }
-        ensures after { self.new ≡ record self.old { history = without self.old.history (at - 1) } }
+        ensures after { self.new ≡ with_history self.old (without self.old.history (at - 1)) }
     {
         let Entry {
             event,
@@ -92,7 +106,8 @@ impl<P: Process> Run<P> {
     fn first_needing(&self, at: usize) -> Option<StepId>
         requires from_one { 1 ≤ at }
         requires to_len { at ≤ length self.now.history }
-        ensures { MatchOption result (IsFree depends_of self.now.history (at - 1)) (λ name. IsFirstDependent self.now.history (at - 1) name) }
+        ensures { MatchOption result (IsFree depends_of self.now.history (at - 1))
+            (λ name. IsFirstDependent self.now.history (at - 1) name) }
     {
         let name = self.standing().get(at).name();
         if self.records.count_of(name) == 0 {
@@ -105,8 +120,8 @@ impl<P: Process> Run<P> {
     fn undo_at(&mut self, at: usize) -> Result<Event, Refusal>
         requires from_one { 1 ≤ at }
         requires to_len { at ≤ length self.old.history }
-        ensures answer { result ≡ answered (for_standing (found_at self.old.history (at - 1)) (undo_found self.old.history)) }
-        ensures after { self.new ≡ record self.old { history = left_by self.old.history (for_standing (found_at self.old.history (at - 1)) (undo_found self.old.history)) } }
+        ensures answer { result ≡ answered (undo_at_place self.old (at - 1)) }
+        ensures after { self.new ≡ with_left self.old (undo_at_place self.old (at - 1)) }
     {
         match self.first_needing(at) {
             Some(name) => Err(Refusal::NeededBy(name)),
@@ -114,25 +129,48 @@ impl<P: Process> Run<P> {
         }
     }
 
-    /// Undoes the `k`-th step of process `p`, whatever came later in time, or answers the first
-    /// refusal that holds: `NoProcess`, `NoStep`, or `NeededBy` the first standing event that depends
-    /// on it. After a refusal the run is as it was. It takes no memory.
-    pub fn undo(&mut self, p: u32, k: u32) -> Result<Event, Refusal>
-        ensures answer { result ≡ answered (undo_of self.old.setup.processes self.old.history (StepId.Step (record { p = p; k = k }))) }
-        ensures after { self.new ≡ record self.old { history = left_by self.old.history (undo_of self.old.setup.processes self.old.history (StepId.Step (record { p = p; k = k }))) } }
+    /// Undoes an event, whatever came later in time, or returns the first refusal that holds: `NoProcess`, `NoStep`,
+    /// or `NeededBy` the first standing event that depends on it. After a refusal the run is as it was. It takes no
+    /// memory.
+    pub fn undo_event(&mut self, event: EventRef) -> Result<Event, Refusal>
+        ensures answer { result ≡ undo_answer self.old (name_of event) }
+        ensures after { self.new ≡ after_undo self.old (name_of event) }
+        ensures free { IsOk result ↔ CanUndo self.old (name_of event) }
+        ensures back { IfOk result (λ event. LeadsTo P.table self.new event self.old) }
     {
-        let at = self.find_step(p, k)?;
+        let _ranges = self.setup().n();
+        let _valid = self.history();
+        let at = self.find(event)?;
         self.undo_at(at)
     }
 
-    /// Undoes the loss of the copy for process `p` of the `m`-th message of process `s`, or answers
-    /// the first refusal that holds: `NoProcess` of `s` or `p`, `NoStep`, or `NeededBy`. After a
-    /// refusal the run is as it was. It takes no memory.
-    pub fn undo_lost(&mut self, s: u32, m: u32, p: u32) -> Result<Event, Refusal>
-        ensures answer { result ≡ answered (undo_of self.old.setup.processes self.old.history (StepId.Lost (copy_name (message_name s m) p))) }
-        ensures after { self.new ≡ record self.old { history = left_by self.old.history (undo_of self.old.setup.processes self.old.history (StepId.Lost (copy_name (message_name s m) p))) } }
+    /// What `undo_event` would be refused with, if it would be. It takes no memory.
+    pub fn refuses_undo(&self, event: EventRef) -> Option<Refusal>
+        ensures { result ≡ result_err (undo_answer self.now (name_of event)) }
     {
-        let at = self.find_loss(s, m, p)?;
-        self.undo_at(at)
+        match self.find(event) {
+            Ok(at) => Some(Refusal::NeededBy(self.first_needing(at)?)),
+            Err(refusal) => Some(refusal),
+        }
+    }
+
+    /// Undoes the `k`-th step of process `p`, as `undo_event` does.
+    pub fn undo(&mut self, p: u32, k: u32) -> Result<Event, Refusal>
+        ensures answer { result ≡ undo_answer self.old (step_name p k) }
+        ensures after { self.new ≡ after_undo self.old (step_name p k) }
+        ensures free { IsOk result ↔ CanUndo self.old (step_name p k) }
+        ensures back { IfOk result (λ event. LeadsTo P.table self.new event self.old) }
+    {
+        self.undo_event(EventRef::Step(p, k))
+    }
+
+    /// Undoes the loss of the copy for process `p` of the `m`-th message of process `s`, as `undo_event` does.
+    pub fn undo_lost(&mut self, s: u32, m: u32, p: u32) -> Result<Event, Refusal>
+        ensures answer { result ≡ undo_answer self.old (loss_name s m p) }
+        ensures after { self.new ≡ after_undo self.old (loss_name s m p) }
+        ensures free { IsOk result ↔ CanUndo self.old (loss_name s m p) }
+        ensures back { IfOk result (λ event. LeadsTo P.table self.new event self.old) }
+    {
+        self.undo_event(EventRef::Lost(s, m, p))
     }
 }

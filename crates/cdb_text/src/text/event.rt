@@ -1,6 +1,6 @@
 //! The texts of events.
 
-ghost use Rattle.std.specs.Prelude.{◌≡◌, ◌++◌, OnOk, string_bytes};
+ghost use Rattle.cdb_text.specs.Pushes.{Pushes};
 ghost use Rattle.cdb_text.specs.Events.{kind_text, event_text};
 
 use super::name::{push_loss, push_message, push_register, push_step};
@@ -8,7 +8,7 @@ use cdb_base::{Event, Kind, MsgName, Proc};
 use std::alloc::AllocError;
 
 fn push_kind(text: &mut String, p: Proc, kind: Kind) -> Result<(), AllocError>
-    ensures { OnOk result (string_bytes text.new ≡ string_bytes text.old ++ kind_text p kind) }
+    ensures { Pushes result text.old text.new (kind_text p kind) }
 {
     match kind {
         Kind::Query(leader) => {
@@ -37,8 +37,9 @@ fn push_kind(text: &mut String, p: Proc, kind: Kind) -> Result<(), AllocError>
     }
 }
 
-pub(super) fn push_event(text: &mut String, event: &Event) -> Result<(), AllocError>
-    ensures { OnOk result (string_bytes text.new ≡ string_bytes text.old ++ event_text event.now) }
+/// Adds the text of an event at the end of a text, as `show history` prints it. Only out of memory is an error.
+pub fn push_event(text: &mut String, event: &Event) -> Result<(), AllocError>
+    ensures { Pushes result text.old text.new (event_text event.now) }
 {
     match *event {
         Event::Step { p, k, kind } => {

@@ -1,20 +1,21 @@
 //! The texts of names.
 
-ghost use Rattle.std.specs.Prelude.{◌≡◌, ◌++◌, OnOk, string_bytes};
-ghost use Rattle.cdb_text.specs.Names.{step_text, message_text, loss_text, name_text, register_text};
+ghost use Rattle.cdb_text.specs.Pushes.{Pushes};
+ghost use Rattle.cdb_text.specs.Names.{step_text, message_text, loss_text};
+ghost use Rattle.cdb_text.specs.Names.{name_text, register_text};
 
 use cdb_base::{CopyName, MsgName, Proc, Reg, StepId, StepName};
 use std::alloc::AllocError;
 
 pub(super) fn push_step(text: &mut String, p: Proc, k: u16) -> Result<(), AllocError>
-    ensures { OnOk result (string_bytes text.new ≡ string_bytes text.old ++ step_text p k) }
+    ensures { Pushes result text.old text.new (step_text p k) }
 {
     let p = p.number();
     write!(text, "{p}.{k}")
 }
 
 pub(super) fn push_message(text: &mut String, name: MsgName) -> Result<(), AllocError>
-    ensures { OnOk result (string_bytes text.new ≡ string_bytes text.old ++ message_text name.s name.m) }
+    ensures { Pushes result text.old text.new (message_text name.s name.m) }
 {
     let s = name.s.number();
     let m = name.m;
@@ -22,7 +23,7 @@ pub(super) fn push_message(text: &mut String, name: MsgName) -> Result<(), Alloc
 }
 
 pub(super) fn push_loss(text: &mut String, copy: CopyName) -> Result<(), AllocError>
-    ensures { OnOk result (string_bytes text.new ≡ string_bytes text.old ++ loss_text copy) }
+    ensures { Pushes result text.old text.new (loss_text copy) }
 {
     text.push_str("lost ")?;
     push_message(text, copy.msg)?;
@@ -31,7 +32,7 @@ pub(super) fn push_loss(text: &mut String, copy: CopyName) -> Result<(), AllocEr
 }
 
 pub(super) fn push_name(text: &mut String, name: StepId) -> Result<(), AllocError>
-    ensures { OnOk result (string_bytes text.new ≡ string_bytes text.old ++ name_text name) }
+    ensures { Pushes result text.old text.new (name_text name) }
 {
     match name {
         StepId::Step(StepName { p, k }) => push_step(text, p, k),
@@ -40,7 +41,7 @@ pub(super) fn push_name(text: &mut String, name: StepId) -> Result<(), AllocErro
 }
 
 pub(super) fn push_register(text: &mut String, register: Reg) -> Result<(), AllocError>
-    ensures { OnOk result (string_bytes text.new ≡ string_bytes text.old ++ register_text register) }
+    ensures { Pushes result text.old text.new (register_text register) }
 {
     match register {
         Reg::R(p) => {

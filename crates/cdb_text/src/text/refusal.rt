@@ -1,6 +1,7 @@
 //! The texts of refusals.
 
-ghost use Rattle.std.specs.Prelude.{◌≡◌, ◌++◌, OnOk, string_bytes};
+ghost use Rattle.std.specs.Prelude.{◌≡◌};
+ghost use Rattle.cdb_text.specs.Pushes.{Pushes};
 ghost use Rattle.cdb_text.specs.Refusals.{refusal_name, refusal_detail, refusal_text};
 
 use super::name::push_name;
@@ -34,7 +35,7 @@ fn refusal_name(refusal: &Refusal) -> &'static str
 }
 
 fn push_detail(text: &mut String, refusal: &Refusal) -> Result<(), AllocError>
-    ensures { OnOk result (string_bytes text.new ≡ string_bytes text.old ++ refusal_detail refusal.now) }
+    ensures { Pushes result text.old text.new (refusal_detail refusal.now) }
 {
     match refusal {
         Refusal::NeededBy(name) => {
@@ -47,7 +48,7 @@ fn push_detail(text: &mut String, refusal: &Refusal) -> Result<(), AllocError>
 }
 
 pub(super) fn push_refusal(text: &mut String, refusal: &Refusal) -> Result<(), AllocError>
-    ensures { OnOk result (string_bytes text.new ≡ string_bytes text.old ++ refusal_text refusal.now) }
+    ensures { Pushes result text.old text.new (refusal_text refusal.now) }
 {
     let number = refusal.number();
     let name = refusal_name(refusal);

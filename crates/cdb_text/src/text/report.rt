@@ -1,8 +1,13 @@
 //! The texts of what is shown: processes, registers, mail, history and decisions.
 
-ghost use Rattle.std.specs.Prelude.{◌≡◌, ◌++◌, OnOk, string_bytes};
+ghost use Rattle.std.specs.Prelude.{◌≡◌};
+ghost use Rattle.cdb_text.specs.Pushes.{Pushes};
 ghost use Rattle.std.specs.List.{flat_map};
-ghost use Rattle.cdb_text.specs.Reports.{value_text, payload_text, machine_letter, life_word, process_text, cause_text, causes_text, event_line, history_text, copy_line, mail_text, decision_text, decisions_text, register_line, decision_line, registers_from, registers_text};
+ghost use Rattle.cdb_text.specs.Reports.{value_text, payload_text, machine_letter, life_word};
+ghost use Rattle.cdb_text.specs.Reports.{process_text, cause_text, causes_text};
+ghost use Rattle.cdb_text.specs.Reports.{event_line, history_text, copy_line, mail_text};
+ghost use Rattle.cdb_text.specs.Reports.{decision_text, decisions_text};
+ghost use Rattle.cdb_text.specs.Reports.{register_line, decision_line, registers_from, registers_text};
 
 use super::event::push_event;
 use super::name::{push_message, push_name};
@@ -10,8 +15,9 @@ use cdb_base::{Cell, Event, MsgName, Payload, Proc, StepId, Val};
 use cdb_control::ProcView;
 use std::alloc::AllocError;
 
-fn push_value(text: &mut String, value: Option<Val>) -> Result<(), AllocError>
-    ensures { OnOk result (string_bytes text.new ≡ string_bytes text.old ++ value_text value) }
+/// Adds a value at the end of a text, or `none`. Only out of memory is an error.
+pub fn push_value(text: &mut String, value: Option<Val>) -> Result<(), AllocError>
+    ensures { Pushes result text.old text.new (value_text value) }
 {
     match value {
         Some(value) => {
@@ -22,8 +28,9 @@ fn push_value(text: &mut String, value: Option<Val>) -> Result<(), AllocError>
     }
 }
 
-fn push_payload(text: &mut String, payload: &Payload) -> Result<(), AllocError>
-    ensures { OnOk result (string_bytes text.new ≡ string_bytes text.old ++ payload_text payload.now) }
+/// Adds a payload at the end of a text, as `show mail` prints it. Only out of memory is an error.
+pub fn push_payload(text: &mut String, payload: &Payload) -> Result<(), AllocError>
+    ensures { Pushes result text.old text.new (payload_text payload.now) }
 {
     match *payload {
         Payload::P1 { round, est, lead } => {
@@ -49,7 +56,7 @@ fn machine_letter(alpha: bool) -> &'static str
     if alpha { "A" } else { "L" }
 }
 
-/// Tells whether the process is alive.
+/// Whether the process is alive, in a word.
 fn life_word(alive: bool) -> &'static str
     ensures { result.now ≡ life_word alive }
 {
@@ -57,7 +64,7 @@ fn life_word(alive: bool) -> &'static str
 }
 
 pub(super) fn push_process(text: &mut String, view: &ProcView) -> Result<(), AllocError>
-    ensures { OnOk result (string_bytes text.new ≡ string_bytes text.old ++ process_text view.now) }
+    ensures { Pushes result text.old text.new (process_text view.now) }
 {
     let p = view.p.number();
     let letter = machine_letter(view.alpha);
@@ -74,7 +81,7 @@ pub(super) fn push_process(text: &mut String, view: &ProcView) -> Result<(), All
 
 /// Each cause after a space.
 fn push_each_cause(text: &mut String, causes: &[StepId]) -> Result<(), AllocError>
-    ensures { OnOk result (string_bytes text.new ≡ string_bytes text.old ++ flat_map cause_text causes.now) }
+    ensures { Pushes result text.old text.new (flat_map cause_text causes.now) }
 {
     for name in causes {
         text.push_str(" ")?;
@@ -83,8 +90,9 @@ fn push_each_cause(text: &mut String, causes: &[StepId]) -> Result<(), AllocErro
     Ok(())
 }
 
-pub(super) fn push_causes(text: &mut String, causes: &[StepId]) -> Result<(), AllocError>
-    ensures { OnOk result (string_bytes text.new ≡ string_bytes text.old ++ causes_text causes.now) }
+/// Adds each name after a space at the end of a text, or ` none`. Only out of memory is an error.
+pub fn push_causes(text: &mut String, causes: &[StepId]) -> Result<(), AllocError>
+    ensures { Pushes result text.old text.new (causes_text causes.now) }
 {
     if causes.is_empty() {
         return text.push_str(" none");
@@ -94,7 +102,7 @@ pub(super) fn push_causes(text: &mut String, causes: &[StepId]) -> Result<(), Al
 
 /// Each event in a line.
 fn push_each_event(text: &mut String, events: &[Event]) -> Result<(), AllocError>
-    ensures { OnOk result (string_bytes text.new ≡ string_bytes text.old ++ flat_map event_line events.now) }
+    ensures { Pushes result text.old text.new (flat_map event_line events.now) }
 {
     for event in events {
         push_event(text, event)?;
@@ -104,7 +112,7 @@ fn push_each_event(text: &mut String, events: &[Event]) -> Result<(), AllocError
 }
 
 pub(super) fn push_history(text: &mut String, events: &[Event]) -> Result<(), AllocError>
-    ensures { OnOk result (string_bytes text.new ≡ string_bytes text.old ++ history_text events.now) }
+    ensures { Pushes result text.old text.new (history_text events.now) }
 {
     if events.is_empty() {
         return text.push_str("no steps\n");
@@ -114,7 +122,7 @@ pub(super) fn push_history(text: &mut String, events: &[Event]) -> Result<(), Al
 
 /// Each copy of a message in a line.
 fn push_each_copy(text: &mut String, copies: &[(Proc, MsgName, Payload)]) -> Result<(), AllocError>
-    ensures { OnOk result (string_bytes text.new ≡ string_bytes text.old ++ flat_map copy_line copies.now) }
+    ensures { Pushes result text.old text.new (flat_map copy_line copies.now) }
 {
     for (receiver, name, payload) in copies {
         push_copy(text, *receiver, *name, payload)?;
@@ -128,8 +136,7 @@ fn push_copy(
     name: MsgName,
     payload: &Payload,
 ) -> Result<(), AllocError>
-    ensures { OnOk result (string_bytes text.new
-        ≡ string_bytes text.old ++ copy_line (receiver, name, payload.now)) }
+    ensures { Pushes result text.old text.new (copy_line (receiver, name, payload.now)) }
 {
     let receiver = receiver.number();
     write!(text, "to {receiver} ")?;
@@ -143,7 +150,7 @@ pub(super) fn push_mail(
     text: &mut String,
     copies: &[(Proc, MsgName, Payload)],
 ) -> Result<(), AllocError>
-    ensures { OnOk result (string_bytes text.new ≡ string_bytes text.old ++ mail_text copies.now) }
+    ensures { Pushes result text.old text.new (mail_text copies.now) }
 {
     if copies.is_empty() {
         return text.push_str("no mail\n");
@@ -153,7 +160,7 @@ pub(super) fn push_mail(
 
 /// Each decision after a space.
 fn push_each_decision(text: &mut String, decisions: &[(Proc, Val)]) -> Result<(), AllocError>
-    ensures { OnOk result (string_bytes text.new ≡ string_bytes text.old ++ flat_map decision_text decisions.now) }
+    ensures { Pushes result text.old text.new (flat_map decision_text decisions.now) }
 {
     for (p, value) in decisions {
         let p = p.number();
@@ -164,7 +171,7 @@ fn push_each_decision(text: &mut String, decisions: &[(Proc, Val)]) -> Result<()
 }
 
 pub(super) fn push_decisions(text: &mut String, decisions: &[(Proc, Val)]) -> Result<(), AllocError>
-    ensures { OnOk result (string_bytes text.new ≡ string_bytes text.old ++ decisions_text decisions.now) }
+    ensures { Pushes result text.old text.new (decisions_text decisions.now) }
 {
     if decisions.is_empty() {
         return text.push_str("decisions none\n");
@@ -176,7 +183,7 @@ pub(super) fn push_decisions(text: &mut String, decisions: &[(Proc, Val)]) -> Re
 
 /// The register with this number and what it holds.
 fn push_register_line(text: &mut String, number: usize, cell: &Cell) -> Result<(), AllocError>
-    ensures { OnOk result (string_bytes text.new ≡ string_bytes text.old ++ register_line number cell.now) }
+    ensures { Pushes result text.old text.new (register_line number cell.now) }
 {
     let lre = cell.lre;
     let lrww = cell.lrww;
@@ -187,7 +194,7 @@ fn push_register_line(text: &mut String, number: usize, cell: &Cell) -> Result<(
 
 /// The cell of the decision.
 fn push_decision_line(text: &mut String, cell: &Cell) -> Result<(), AllocError>
-    ensures { OnOk result (string_bytes text.new ≡ string_bytes text.old ++ decision_line cell.now) }
+    ensures { Pushes result text.old text.new (decision_line cell.now) }
 {
     text.push_str("dec ")?;
     push_value(text, cell.val)?;
@@ -196,7 +203,7 @@ fn push_decision_line(text: &mut String, cell: &Cell) -> Result<(), AllocError>
 
 /// The registers of the processes, and then that of the decision.
 fn push_each_register(text: &mut String, cells: &[Cell]) -> Result<(), AllocError>
-    ensures { OnOk result (string_bytes text.new ≡ string_bytes text.old ++ registers_from 1 cells.now) }
+    ensures { Pushes result text.old text.new (registers_from 1 cells.now) }
 {
     for (place, cell) in cells.iter().enumerate() {
         if place + 1 < cells.len() {
@@ -209,7 +216,7 @@ fn push_each_register(text: &mut String, cells: &[Cell]) -> Result<(), AllocErro
 }
 
 pub(super) fn push_registers(text: &mut String, cells: &[Cell]) -> Result<(), AllocError>
-    ensures { OnOk result (string_bytes text.new ≡ string_bytes text.old ++ registers_text cells.now) }
+    ensures { Pushes result text.old text.new (registers_text cells.now) }
 {
     if cells.is_empty() {
         return text.push_str("no registers\n");

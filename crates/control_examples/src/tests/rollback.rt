@@ -127,3 +127,22 @@ const IN_CAUSAL_ORDER: [Turn; 5] = [
 fn undo_in_causal_order(rt: HostRuntime) {
     check_parts(&rt, ONE_LEADER, &BOTH_DECIDED, &IN_CAUSAL_ORDER, &[]);
 }
+
+const OTHERS_BETWEEN: [Turn; 11] = [
+    DECIDE,
+    Turn::GiveAs(1, Command::Rollback(1, 2), "rolled back 7"),
+    Turn::GiveAs(2, Command::Decisions, "decisions none"),
+    Turn::GiveAs(1, Command::Redo, "redone 1.2 send 1#1"),
+    Turn::GiveAs(2, Command::Redo, "refused 14 NothingToRedo"),
+    Turn::GiveAs(2, Command::Why(1, 2), "1.2 because 1.1"),
+    Turn::GiveAs(1, Command::Redo, "redone 1.3 recv 1#1"),
+    Turn::GiveAs(2, Command::Undo(1, 2), "refused 11 NeededBy 1.3"),
+    Turn::GiveAs(2, Command::Forget, "forgot 0"),
+    Turn::Repeat(5, Command::Redo, "redone 1.8 send 1#3 decides 7"),
+    Turn::GiveAs(2, Command::Decisions, "decisions 1=7"),
+];
+
+#[test]
+fn others_ask_between_the_redos(rt: HostRuntime) {
+    check(&rt, ALONE, 2, &OTHERS_BETWEEN);
+}

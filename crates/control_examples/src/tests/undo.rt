@@ -100,3 +100,18 @@ const MIDDLE: [Turn; 6] = [
 fn a_step_in_the_middle_is_undone(rt: HostRuntime) {
     check(&rt, NO_MAJORITY, 1, &MIDDLE);
 }
+
+const TWO_UNDOS: [Turn; 7] = [
+    Turn::GiveAs(1, Command::Step(1, Act::Query(None)), "1.1 query 1"),
+    Turn::GiveAs(2, Command::Step(2, Act::Query(None)), "2.1 query 2"),
+    Turn::GiveAs(2, Command::Undo(1, 1), "undone 1.1 query 1"),
+    Turn::GiveAs(1, Command::Undo(2, 1), "undone 2.1 query 2"),
+    Turn::GiveAs(2, Command::Redo, "redone 1.1 query 1"),
+    Turn::GiveAs(1, Command::Redo, "redone 2.1 query 2"),
+    Turn::GiveAs(1, Command::Show(View::History), "1.1 query 1\n2.1 query 2"),
+];
+
+#[test]
+fn each_seat_undoes_a_step_of_the_other(rt: HostRuntime) {
+    check(&rt, NO_MAJORITY, 2, &TWO_UNDOS);
+}

@@ -4,7 +4,7 @@ ghost use Rattle.std.specs.Prelude.{◌≡◌, ◌≤◌, IsTrue, false};
 ghost use Rattle.cdb_base.specs.Event.{event_name};
 ghost use Rattle.cdb_base.specs.declared.event.Event.TheVariants.{Lost};
 ghost use Rattle.cdb_base.specs.declared.name.CopyName.{CopyName as ACopy};
-ghost use Rattle.cdb_causal.specs.Dependence.{affects as affects_of};
+ghost use Rattle.cdb_causal.specs.Dependence.{send_and_loss};
 ghost use Rattle.cdb_causal.specs.Names.{IsNewName};
 ghost use Rattle.cdb_causal.specs.Standing.{HasNoLostCopy};
 
@@ -58,7 +58,7 @@ pub fn are_dependent(event: &Event, other: &Event) -> bool {
 
 /// False where the event is no send.
 fn may_send(event: &Event) -> bool
-    ensures { (copy : ACopy) → result ≡ false → affects_of event.now (Lost copy) ≡ false }
+    ensures { (copy : ACopy) → result ≡ false → send_and_loss event.now (Lost copy) ≡ false }
 {
     match event {
         Event::Lost(_) => false,
@@ -71,7 +71,7 @@ fn may_send(event: &Event) -> bool
 
 /// False where the earlier event is not the loss of a copy of what the event sends.
 fn has_lost(event: &Event, earlier: &Event) -> bool
-    ensures { (copy : ACopy) → earlier.now ≡ Lost copy → result ≡ false → affects_of event.now (Lost copy) ≡ false }
+    ensures { (copy : ACopy) → earlier.now ≡ Lost copy → result ≡ false → send_and_loss event.now (Lost copy) ≡ false }
 {
     match earlier {
         Event::Step { .. } => false,

@@ -1,47 +1,8 @@
 //! Worked examples: breakpoints and pauses.
 
 use super::check;
-use super::setups::{ONE_PROCESS, TWO_ROUNDS};
+use super::setups::ONE_PROCESS;
 use std::test::Fail;
-
-#[test]
-fn round_breakpoint_and_pause(rt: HostRuntime) -> Result<(), Fail> {
-    let script = "break round 1 2
-auto 1
-auto 1
-auto 1
-auto 1
-auto 1
-auto 1
-auto 1
-auto 1
-auto 1
-step 1 go
-undo 1 9
-auto 1
-resume
-auto 1
-unbreak 2
-";
-    let transcript = "break 1
-1.1 query 2
-1.2 send 1#1
-1.3 recv 1#1
-1.4 query 1
-1.5 send 1#2
-1.6 recv 1#2
-1.7 local
-1.8 query 1 break 1
-refused 13 Paused 1
-1.9 send 1#3
-undone 1.9 send 1#3
-refused 13 Paused 1
-resumed
-1.9 send 1#3
-refused 15 NoBreak
-";
-    check(&rt, TWO_ROUNDS, script, transcript)
-}
 
 #[test]
 fn breakpoint_numbers(rt: HostRuntime) -> Result<(), Fail> {

@@ -2,9 +2,10 @@
 
 use super::setups::{MAJORITY, ONE_PROCESS};
 use super::{Halting, Memory, check_fault, writer};
-use cdb_play::{Bytes, PlayFault, play};
-use cdb_setup::SetupFault;
+use cdb_play::{Bytes, Input, Output, PlayFault, RaceFault, fits, play, race_on};
+use cdb_setup::{Setup, SetupFault};
 use cdb_text::LineFault;
+use std::test::Fail;
 
 /// Two processes drive themselves to a decision, in 12 lines.
 const SCRIPT: &str =
@@ -59,26 +60,59 @@ fn a_reader_that_comes_to_its_end(rt: HostRuntime) {
     );
 }
 
+/// A writer that takes seven bytes a call, and stops after so many calls.
+fn stopping(rt: &impl AllocGlobal, good_calls: usize, takes_none: bool) -> Memory {
+    Memory {
+        held: Vec::new(rt.alloc()),
+        most: 7,
+        good_calls,
+        takes_none,
+        failures: 0,
+    }
+}
+
 #[test]
 fn a_writer_that_stops_at_each_call(rt: HostRuntime) {
     for takes_none in [false, true] {
-        for good_calls in 0..12 {
-            let mut out = Memory {
-                held: Vec::new(rt.alloc()),
-                most: 1_000,
-                good_calls,
-                takes_none,
-                failures: 0,
-            };
+        // The transcript has 161 bytes.
+        for good_calls in 0..23 {
+            let mut out = stopping(&rt, good_calls, takes_none);
             let mut source = Bytes::new(SCRIPT.as_bytes());
             let answer = play(rt.alloc(), MAJORITY.as_bytes(), &mut source, &mut out);
             assert_eq!(rt; answer, Err(PlayFault::Write), "after {good_calls} calls");
             assert_eq!(rt; out.failures, 1);
-            let ends = out.held.iter().filter(|byte| **byte == b'\n').count();
-            assert_eq!(rt; ends, good_calls);
+            assert_eq!(rt; out.held.len(), 7 * good_calls);
             assert!(rt; TRANSCRIPT.as_bytes().starts_with(out.held.as_slice()));
         }
     }
+}
+
+#[test]
+fn a_writer_that_stops_at_each_call_of_a_race(rt: HostRuntime) -> Result<(), Fail> {
+    let text = b"seat 2\ndecisions none\ndecisions none\ndecisions agree\n";
+    let mut scripts = Vec::new(rt.alloc());
+    scripts.push(Vec::from_slice(rt.alloc(), b"decisions\n".as_slice())?)?;
+    for good_calls in 0..8 {
+        let setup = Setup::read(rt.alloc(), ONE_PROCESS.as_bytes())?;
+        let mut out = stopping(&rt, good_calls, false);
+        if fits(&setup, scripts.len()) {
+            let answer = race_on(&rt, rt.alloc(), setup, 0, scripts.as_slice(), &mut out);
+            assert_eq!(rt; answer, Err(RaceFault::Write), "after {good_calls} calls");
+        }
+        assert_eq!(rt; out.failures, 1);
+        assert_eq!(rt; out.held.len(), 7 * good_calls);
+        assert!(rt; text.starts_with(out.held.as_slice()));
+    }
+    Ok(())
+}
+
+#[test]
+fn the_readers_and_writers_of_the_library(rt: HostRuntime) {
+    let mut source = Input::new(SCRIPT.as_bytes());
+    let mut out = Output::new(Vec::new(rt.alloc()));
+    let answer = play(rt.alloc(), MAJORITY.as_bytes(), &mut source, &mut out);
+    assert_eq!(rt; answer, Ok(()));
+    assert_eq!(rt; out.into_inner().as_slice(), TRANSCRIPT.as_bytes());
 }
 
 #[test]

@@ -22,13 +22,15 @@ fn the_greatest_script(rt: HostRuntime) -> Result<(), Fail> {
     assert_eq!(rt; script.len(), MAX_BYTES);
     let mut transcript = repeated(rt.alloc(), "forgot 0\n", 149_796)?;
     transcript.push_str("refused 14 NothingToRedo\n")?;
-    let mut out = writer(&rt, 1_000);
+    let mut out = writer(&rt, MAX_BYTES);
     let mut source = Bytes::new(script.as_bytes());
     assert_eq!(rt;
         play(rt.alloc(), ONE_PROCESS.as_bytes(), &mut source, &mut out),
         Ok(())
     );
     assert!(rt; out.held.as_slice() == transcript.as_bytes());
+    // 20 whole pieces of 65,536 bytes, and the rest of 1,348,189.
+    assert_eq!(rt; out.good_calls, usize::MAX - 21);
     script.push_str("\n")?;
     check_fault(
         &rt,

@@ -9,17 +9,8 @@ pub const NO_MAJORITY: &str =
 pub const MAJORITY: &str =
     "{\"algorithm\":\"leader\",\"processes\":2,\"quorum\":2,\"inputs\":[5,6],\"oracle\":[[1],[1]]}";
 
-pub const ALPHA_ALONE: &str =
-    "{\"algorithm\":\"alpha\",\"processes\":1,\"quorum\":1,\"inputs\":[7],\"oracle\":[[1]]}";
-
 pub const ALPHA: &str =
     "{\"algorithm\":\"alpha\",\"processes\":2,\"quorum\":2,\"inputs\":[7,8],\"oracle\":[[1],[2]]}";
-
-pub const THREE_PROCESSES: &str =
-    "{\"algorithm\":\"leader\",\"processes\":3,\"quorum\":2,\"inputs\":[1,2,3],\"oracle\":[[],[1],[1]]}";
-
-pub const TWO_ROUNDS: &str =
-    "{\"algorithm\":\"leader\",\"processes\":2,\"quorum\":1,\"inputs\":[5,6],\"oracle\":[[2,1,1],[2]]}";
 
 pub const LOSSY: &str =
     "{\"algorithm\":\"leader\",\"processes\":2,\"quorum\":2,\"inputs\":[5,6],\"oracle\":[[1],[1]],\"version\":2}";

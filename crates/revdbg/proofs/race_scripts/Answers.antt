@@ -1,5 +1,4 @@
-use Rattle.std.proofs.Common.{◌≡◌, ◌∙◌, ◌⊎◌, inl, inr, ap, length, Result, Ok, Err}
-use Rattle.cdb_play.proofs.SeatsFit.{still_fits}
+use Rattle.std.proofs.Common.{◌≡◌, ◌∙◌, ◌⊎◌, inl, inr, ap, Result, Ok, Err}
 use Rattle.cdb_play.specs.Races.{race_fault_of_setup}
 use Rattle.cdb_play.specs.Statuses.{race_status}
 use Rattle.cdb_setup.specs.Parts.{Parts}
@@ -11,9 +10,6 @@ use Rattle.revdbg.proofs.race_scripts.Goals as goal
 memory_alone : (read : Result Parts SetupFault) (fault : SetupFault) (parts : Parts) → read ≡ Err fault → (read ≡ Ok parts) ⊎ (read ≡ Err NoMemory) → fault ≡ NoMemory
 memory_alone read fault parts is (inl e) = absurd cc
 memory_alone read fault parts is (inr e) = cc
-
-pub race-outcome-requires-clause-fits : goal.race-outcome-requires-clause-fits
-race-outcome-requires-clause-fits g c κs within = λ parts stands. still_fits c.read.result c.in-Ok.parts parts c.in-Ok.is (length c.args.scripts.now) (c.read.ensures.only parts stands) (c.fits.ensures.0 c.if-not-fits.false)
 
 pub returns-in-Err-clause-seats : goal.returns-in-Err-clause-seats
 returns-in-Err-clause-seats g c = λ many.

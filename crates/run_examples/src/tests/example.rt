@@ -7,7 +7,7 @@ ghost use Rattle.cdb_run.specs.Refusals.{IsOfRun};
 use cdb_base::{
     Act, Cell, CopyName, Event, Kind, MsgName, NoMemory, Payload, Proc, Refusal, Reg, StepId, Val,
 };
-use cdb_run::AnyRun;
+use cdb_run::{AnyRun, EventRef};
 use cdb_setup::{Algorithm, Setup, SetupFault};
 use smallvec::SmallVec;
 use std::alloc::Global;
@@ -145,39 +145,25 @@ impl Example {
         self.run.rollback_lost(alloc, s, m, p)
     }
 
-    pub fn rollback_onto(
+    pub fn rollback_event(
         &mut self,
         alloc: Global,
-        p: u32,
-        k: u32,
+        event: EventRef,
         taken: &mut Vec<Event>,
     ) -> Result<Result<usize, Refusal>, NoMemory> {
-        self.run.rollback_onto(alloc, p, k, taken)
-    }
-
-    pub fn rollback_lost_onto(
-        &mut self,
-        alloc: Global,
-        s: u32,
-        m: u32,
-        p: u32,
-        taken: &mut Vec<Event>,
-    ) -> Result<Result<usize, Refusal>, NoMemory> {
-        self.run.rollback_lost_onto(alloc, s, m, p, taken)
+        self.run.rollback_event(alloc, event, taken)
     }
 
     pub fn causes(&self, alloc: Global, p: u32, k: u32) -> Result<SmallVec<StepId, 9>, Refusal> {
         self.run.causes(alloc, p, k)
     }
 
-    pub fn causes_of_loss(
+    pub fn causes_of(
         &self,
         alloc: Global,
-        s: u32,
-        m: u32,
-        p: u32,
+        event: EventRef,
     ) -> Result<SmallVec<StepId, 9>, Refusal> {
-        self.run.causes_of_loss(alloc, s, m, p)
+        self.run.causes_of(alloc, event)
     }
 
     /// Whether the processes follow Alpha.

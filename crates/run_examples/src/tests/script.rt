@@ -6,6 +6,7 @@ use super::words::{push_answer, push_causes, push_count, push_refusal};
 use cdb_base::{
     Act, CopyName, Event, Kind, MsgName, NoMemory, Proc, Refusal, Reg, StepId, StepName,
 };
+use cdb_run::EventRef;
 use smallvec::SmallVec;
 use std::process::Abort;
 use std::test::Fail;
@@ -222,7 +223,7 @@ fn rollback<R: AllocGlobal>(
     text: &mut String,
 ) -> Result<(), Fail> {
     let (p, k) = step;
-    let answer = run.rollback_onto(rt.alloc(), p, k, undone)?;
+    let answer = run.rollback_event(rt.alloc(), EventRef::Step(p, k), undone)?;
     Ok(push_count(text, &answer)?)
 }
 
@@ -234,7 +235,7 @@ fn rollback_lost<R: AllocGlobal>(
     text: &mut String,
 ) -> Result<(), Fail> {
     let (s, m, p) = copy;
-    let answer = run.rollback_lost_onto(rt.alloc(), s, m, p, undone)?;
+    let answer = run.rollback_event(rt.alloc(), EventRef::Lost(s, m, p), undone)?;
     Ok(push_count(text, &answer)?)
 }
 
@@ -268,7 +269,7 @@ fn why_lost<R: AllocGlobal>(
     text: &mut String,
 ) -> Result<(), Fail> {
     let (s, m, p) = copy;
-    let causes = run.causes_of_loss(rt.alloc(), s, u32::from(m), p);
+    let causes = run.causes_of(rt.alloc(), EventRef::Lost(s, u32::from(m), p));
     let s = Proc::from_number(s).ok_or("no process")?;
     let to = Proc::from_number(p).ok_or("no process")?;
     let msg = MsgName { s, m };

@@ -1,30 +1,21 @@
-use Rattle.std.proofs.Common.{◌≡◌, ℕ, ◌+◌, ◌-◌, ◌<◌, List, sym, ap, ◌∙◌, subst, arith}
+use Rattle.std.proofs.Common.{◌≡◌, ℕ, ◌+◌, ◌-◌, List, sym, ap, ◌∙◌, subst, arith}
 use Rattle.cdb_base.specs.declared.event.Event.{Event}
-use Rattle.cdb_causal.specs.Causality.{IsLink}
-use Rattle.cdb_causal.specs.Dependence.{depends}
-use Rattle.cdb_causal.specs.DirectCauses.{AreDirectCauses}
-use Rattle.cdb_causal.specs.LastCauses.{IsSlot}
-use Rattle.cdb_causal.specs.Standing.{IsStanding}
 use Rattle.cdb_causal.proofs.DirectCausesBelow.{AreDirectCausesBelow, below_none, below_some, below_start, below_ten, room}
 use Rattle.cdb_causal.proofs.SlotsOfCauses.{one_name}
 use Rattle.cdb_causal.proofs.direct.direct_causes.Goals as goal
 use Rattle.cdb_causal.proofs.direct.direct_causes.Goals.{in-Some, in_default}
 
-pub direct_cause-requires-clause-end : goal.direct_cause-requires-clause-end
-direct_cause-requires-clause-end c =
-    subst (λ l. (i : ℕ) (link : IsLink depends l i (c.args.at - 1)) → IsSlot link.cause c.loop-slot.slot → i < c.end_of_causes-end.result) (sym c.as_slice-events.ensures.events) c.end_of_causes-end.ensures
-
 pub push_reserved-requires : goal.push_reserved-requires
 push_reserved-requires c =
-    let standing = subst IsStanding (sym c.as_slice-events.ensures.events) c.as_slice-events.ensures.standing in
-    let room_for_one = room c.as_slice-events.result.now standing (c.args.at - 1) c.loop-slot.causes.items c.loop-slot.slot c.loop-slot-test.true c.loop-slot.invariant.0 c.in-Some.name c.in-Some.ensures in
+    let standing = c.as_slice-standing.ensures.standing in
+    let room_for_one = room c.args.history.now standing (c.args.at - 1) c.loop-slot.causes.items c.loop-slot.slot c.loop-slot-test.true c.loop-slot.invariant.0 c.in-Some.name c.in-Some.ensures in
     let capacity = c.loop-slot.invariant.1 in
     (omega arith, omega arith)
 
 pub loop-slot-preserved : goal.loop-slot-preserved
 loop-slot-preserved c =
-    let events : List Event = c.as_slice-events.result.now in
-    let standing = subst IsStanding (sym c.as_slice-events.ensures.events) c.as_slice-events.ensures.standing in
+    let events : List Event = c.args.history.now in
+    let standing = c.as_slice-standing.ensures.standing in
     let j : ℕ = c.args.at - 1 in
     let slot : ℕ = c.loop-slot.slot in
     let before = c.loop-slot.invariant in
@@ -43,15 +34,14 @@ loop-slot-preserved c =
 
 pub loop-slot-init : goal.loop-slot-init
 loop-slot-init c = (
-  subst (AreDirectCausesBelow c.as_slice-events.result.now (c.args.at - 1) 0) (sym c.new-causes.ensures.items) (below_start c.as_slice-events.result.now (c.args.at - 1)),
+  subst (AreDirectCausesBelow c.args.history.now (c.args.at - 1) 0) (sym c.new-causes.ensures.items) (below_start c.args.history.now (c.args.at - 1)),
   c.new-causes.ensures.capacity,
 )
 
 pub returns : goal.returns
 returns c =
-    let events : List Event = c.as_slice-events.result.now in
-    let standing = subst IsStanding (sym c.as_slice-events.ensures.events) c.as_slice-events.ensures.standing in
+    let events : List Event = c.args.history.now in
+    let standing = c.as_slice-standing.ensures.standing in
     let end : c.loop-slot.slot ≡ 10 = let below = c.loop-slot-test.false in omega arith in
-    subst (λ l. AreDirectCauses l (c.args.at - 1) c.loop-slot.causes.items) c.as_slice-events.ensures.events
-    (below_ten events standing (c.args.at - 1) c.loop-slot.causes.items
-    (subst (λ n. AreDirectCausesBelow events (c.args.at - 1) n c.loop-slot.causes.items) end c.loop-slot.invariant.0))
+    below_ten events standing (c.args.at - 1) c.loop-slot.causes.items
+    (subst (λ n. AreDirectCausesBelow events (c.args.at - 1) n c.loop-slot.causes.items) end c.loop-slot.invariant.0)

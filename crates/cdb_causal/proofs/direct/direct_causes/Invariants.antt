@@ -3,4 +3,4 @@ use Rattle.cdb_causal.proofs.DirectCausesBelow.{AreDirectCausesBelow}
 use Rattle.cdb_causal.proofs.direct.direct_causes.Given as goal
 
 abbrev pub invariant-loop-slot : goal.invariant-loop-slot
-invariant-loop-slot l = AreDirectCausesBelow l.events (l.at - 1) l.slot l.causes.items × (l.causes.capacity ≡ 9)
+invariant-loop-slot l = AreDirectCausesBelow l.history (l.at - 1) l.slot l.causes.items × (l.causes.capacity ≡ 9)

@@ -1,15 +1,53 @@
-use Rattle.std.proofs.lemmas.Result.{on_err_weaker, IfErr-weaker}
-use Rattle.cdb_play.specs.Races.{bytes_of}
-use Rattle.cdb_play.proofs.RaceTexts.{beginning_of_race}
-use Rattle.cdb_play.proofs.RunningFaults.{of_race}
+use Rattle.std.proofs.Common.{Ok, refl, sym, subst}
+use Rattle.std.proofs.lemmas.Result.{err_from_is_err_and, IfErr-weaker}
+use Rattle.cdb_run.specs.Agreement.{HasMajorityIfNeeded}
+use Rattle.cdb_play.specs.Races.{bytes_of, IsTextOnSetup, IsTextOfRace}
+use Rattle.cdb_play.proofs.Ending.{race_unwritten_setup, race_writes_weaker}
+use Rattle.cdb_play.proofs.RunningFaults.{of_race, of_setup_read}
+use Rattle.cdb_play.proofs.Told.{not_of_setup, told_of_race, told_of_setup}
+use Rattle.cdb_play.proofs.SeatsFit.{same_setup}
 use Rattle.cdb_play.proofs.races.race_with.Goals as goal
 
-pub returns-clause-beginning : goal.returns-clause-beginning
-returns-clause-beginning g c =
-    let read = c.in_ok-parts.ensures in
-    on_err_weaker c.run_race.result (beginning_of_race c.args.setup.now c.in_ok-parts.parts c.args.turns (bytes_of c.args.scripts.now) c.in_ok-parts.commands.items _ _ read.setup read.scripts) (rw c.as_slice.ensures.value at c.run_race.ensures.beginning)
+pub returns-in_err-parts-clause-wrote : goal.returns-in_err-parts-clause-wrote
+returns-in_err-parts-clause-wrote g c =
+    let p = err_from_is_err_and c.from_residual.result c.from_residual.ensures.1 in
+    rw (p.1, p.2) (race_unwritten_setup _ _ (Unit {0}) _ _ c.in_err-parts.field-0.0)
+
+pub returns-clause-wrote : goal.returns-clause-wrote
+returns-clause-wrote g c =
+    let parts = c.in_ok-parts.parts in
+    let scripts = bytes_of c.args.scripts.now in
+    race_writes_weaker g.W.Sink.contents g.W.Sink.failures _ (IsTextOnSetup parts c.args.turns scripts) c.race_on_with.result c.args.out.now c.race_on_with.new.out (IsTextOfRace c.args.setup.now c.args.turns scripts)
+    (λ text is. (parts, c.in_ok-parts.ensures.found, is)) c.race_on_with.ensures.wrote
 
 pub returns-clause-fault : goal.returns-clause-fault
 returns-clause-fault g c =
-    let read = c.in_ok-parts.ensures in
-    IfErr-weaker c.run_race.result _ _ (of_race c.args.setup.now c.in_ok-parts.parts c.in_ok-parts.commands.items (bytes_of c.args.scripts.now) read.setup read.scripts) (rw c.as_slice.ensures.value at c.run_race.ensures.fault)
+    IfErr-weaker c.race_on_with.result _ _ (of_race c.args.setup.now c.in_ok-parts.parts (bytes_of c.args.scripts.now) c.in_ok-parts.ensures.found) c.race_on_with.ensures.fault
+
+pub returns-in_err-parts-clause-fault : goal.returns-in_err-parts-clause-fault
+returns-in_err-parts-clause-fault g c =
+    let p = err_from_is_err_and c.from_residual.result c.from_residual.ensures.1 in
+    rw (p.1, p.2) (of_setup_read c.args.setup.now (bytes_of c.args.scripts.now) c.in_err-parts.field-0.0 c.in_err-parts.ensures.fault)
+
+pub returns-in_err-parts-clause-agree : goal.returns-in_err-parts-clause-agree
+returns-in_err-parts-clause-agree g c = λ parts stands majority.
+    let p = err_from_is_err_and c.from_residual.result c.from_residual.ensures.1 in
+    rw p.1 tt
+
+pub returns-in_err-parts-clause-told : goal.returns-in_err-parts-clause-told
+returns-in_err-parts-clause-told g c =
+    let p = err_from_is_err_and c.from_residual.result c.from_residual.ensures.1 in
+    rw (p.1, p.2) (told_of_setup g.G.Gate.heard g.G.Gate.passes c.args.turns c.args.gates.items c.args.setup.now (bytes_of c.args.scripts.now) c.in_err-parts.field-0.0)
+
+pub returns-clause-agree : goal.returns-clause-agree
+returns-clause-agree g c = λ parts stands majority.
+    let found = c.in_ok-parts.parts in
+    c.race_on_with.ensures.agree (subst HasMajorityIfNeeded (sym (same_setup (Ok found) found parts refl (c.in_ok-parts.ensures.only parts stands))) majority)
+
+pub returns-clause-told : goal.returns-clause-told
+returns-clause-told g c = IfErr-weaker c.race_on_with.result _ _ (told_of_race g.G.Gate.heard g.G.Gate.passes c.args.turns c.args.gates.items c.args.setup.now c.in_ok-parts.parts (bytes_of c.args.scripts.now) c.in_ok-parts.ensures.found) c.race_on_with.ensures.told
+
+pub returns-in_err-parts-clause-passes : goal.returns-in_err-parts-clause-passes
+returns-in_err-parts-clause-passes g c = λ all.
+    let p = err_from_is_err_and c.from_residual.result c.from_residual.ensures.1 in
+    rw (p.1, p.2) (not_of_setup c.in_err-parts.field-0.0)

@@ -1,37 +1,80 @@
-use Rattle.std.proofs.Common.{◌≡◌, inr, ap, subst, ◌∙◌}
-use Rattle.std.proofs.lemmas.Result.{err_from_is_err_and, on_ok_weaker, on_err_weaker}
-use Rattle.std.specs.Io.KnownBytes.{append_known}
+use Rattle.std.proofs.Common.{◌≡◌, ◌∙◌, ap, Err}
+use Rattle.std.proofs.lemmas.Result.{err_from_is_err_and}
 use Rattle.cdb_race.specs.Races.{all_told}
-use Rattle.cdb_play.specs.Races.{race_fault_of_threads}
-use Rattle.cdb_play.specs.Streams.{AddsBeginning}
-use Rattle.cdb_play.specs.declared.fault.RaceFault.TheVariants.{Write}
+use Rattle.cdb_race.specs.declared.threads.RaceFault.{RaceFault as ThreadFault}
+use Rattle.cdb_play.specs.Races.{last_decisions, IsTextOfCommands}
+use Rattle.cdb_play.proofs.Ending.{race_unwritten_threads, race_wrote}
 use Rattle.cdb_play.proofs.RaceTexts.{text_of_replies}
-use Rattle.cdb_play.proofs.RunningFaults.{of_threads, not_written}
+use Rattle.cdb_play.proofs.RunningFaults.{of_threads, of_writing}
+use Rattle.cdb_play.proofs.Agreeing.{agrees, ends_in_agreement}
+use Rattle.cdb_play.proofs.Told.{not_of_threads, not_of_writing, told_of_threads, told_of_writing}
 use Rattle.cdb_play.proofs.races.run_race.Goals as goal
 
-pub returns-clause-ok : goal.returns-clause-ok
-returns-clause-ok g c =
-    let raced = c.in_ok-raced.raced in
-    let same =
-    text_of_replies c.args.setup c.args.turns c.args.scripts.now raced.control raced.replies.items c.deref.result.now c.from-processes.result c.deref.ensures.value (c.from-processes.ensures ∙ c.n.ensures.value) c.in_ok-raced.ensures.raced in
-    on_ok_weaker c.write_race.result (λ wrote. (raced.control, all_told raced.replies.items, c.in_ok-raced.ensures.raced, wrote ∙ ap (append_known (g.W.Sink.contents c.args.out.now)) same)) c.write_race.ensures.ok
-
-pub returns-clause-beginning : goal.returns-clause-beginning
-returns-clause-beginning g c =
-    let raced = c.in_ok-raced.raced in
-    let same =
-    text_of_replies c.args.setup c.args.turns c.args.scripts.now raced.control raced.replies.items c.deref.result.now c.from-processes.result c.deref.ensures.value (c.from-processes.ensures ∙ c.n.ensures.value) c.in_ok-raced.ensures.raced in
-    on_err_weaker c.write_race.result
-    (λ added. inr (raced.control, all_told raced.replies.items, c.in_ok-raced.ensures.raced, subst (AddsBeginning (g.W.Sink.contents c.args.out.now) (g.W.Sink.contents c.write_race.new.out)) same added)) c.write_race.ensures.err
+pub returns-in_err-raced-clause-wrote : goal.returns-in_err-raced-clause-wrote
+returns-in_err-raced-clause-wrote g c =
+    let p = err_from_is_err_and c.from_residual-in_err-raced.result c.from_residual-in_err-raced.ensures.1 in
+    rw (p.1, p.2) (race_unwritten_threads _ _ (Unit {0}) _ _ c.in_err-raced.field-0.0)
 
 pub returns-in_err-raced-clause-fault : goal.returns-in_err-raced-clause-fault
 returns-in_err-raced-clause-fault g c =
-    let p = err_from_is_err_and c.from_residual.result c.from_residual.ensures.1 in
+    let p = err_from_is_err_and c.from_residual-in_err-raced.result c.from_residual-in_err-raced.ensures.1 in
     rw (p.1, p.2) (of_threads _ c.in_err-raced.field-0.0 c.in_err-raced.ensures.fault)
 
-pub returns-in_err-raced-clause-write : goal.returns-in_err-raced-clause-write
-returns-in_err-raced-clause-write g c =
-    let p = err_from_is_err_and c.from_residual.result c.from_residual.ensures.1 in
-    λ wrong.
-    let is : race_fault_of_threads c.in_err-raced.field-0.0 ≡ Write = cc in
-    absurd (not_written c.in_err-raced.field-0.0 is)
+pub returns-in_err-write_race-clause-wrote : goal.returns-in_err-write_race-clause-wrote
+returns-in_err-write_race-clause-wrote g c =
+    let p = err_from_is_err_and c.from_residual-in_err-write_race.result c.from_residual-in_err-write_race.ensures.1 in
+    let raced = c.in_ok-raced.raced in
+    let same =
+    text_of_replies c.args.setup c.args.turns c.args.scripts.now raced.control raced.replies.items c.deref.result.now c.from-processes.result c.deref.ensures.value (c.from-processes.ensures ∙ c.n.ensures.value) c.in_ok-raced.ensures.raced in
+    rw (p.1, p.2)
+    (race_wrote g.W.Sink.contents g.W.Sink.failures (Unit {0}) (IsTextOfCommands c.args.setup c.args.turns c.args.scripts.now) c.in_err-write_race.field-0.0 c.args.out.now c.write_race.new.out _ (raced.control, all_told raced.replies.items, c.in_ok-raced.ensures.raced, same) c.in_err-write_race.ensures)
+
+pub returns-in_err-write_race-clause-fault : goal.returns-in_err-write_race-clause-fault
+returns-in_err-write_race-clause-fault g c =
+    let p = err_from_is_err_and c.from_residual-in_err-write_race.result c.from_residual-in_err-write_race.ensures.1 in
+    rw (p.1, p.2) (of_writing _ c.in_err-write_race.field-0.0)
+
+pub returns-clause-wrote : goal.returns-clause-wrote
+returns-clause-wrote g c =
+    let raced = c.in_ok-raced.raced in
+    let same =
+    text_of_replies c.args.setup c.args.turns c.args.scripts.now raced.control raced.replies.items c.deref.result.now c.from-processes.result c.deref.ensures.value (c.from-processes.ensures ∙ c.n.ensures.value) c.in_ok-raced.ensures.raced in
+    (_, (raced.control, all_told raced.replies.items, c.in_ok-raced.ensures.raced, same), c.in_ok-write_race.ensures)
+
+pub returns-clause-agree : goal.returns-clause-agree
+returns-clause-agree g c = λ majority.
+    let raced = c.in_ok-raced.raced in
+    let said = c.in_ok-raced.ensures in
+    (_, ends_in_agreement _ (last_decisions raced.control) (agrees raced.control c.args.setup said.raced.setup_is said.headline majority), c.in_ok-write_race.ensures)
+
+pub returns-in_err-raced-clause-agree : goal.returns-in_err-raced-clause-agree
+returns-in_err-raced-clause-agree g c = λ majority.
+    let p = err_from_is_err_and c.from_residual-in_err-raced.result c.from_residual-in_err-raced.ensures.1 in
+    rw p.1 tt
+
+pub returns-in_err-write_race-clause-agree : goal.returns-in_err-write_race-clause-agree
+returns-in_err-write_race-clause-agree g c = λ majority.
+    let p = err_from_is_err_and c.from_residual-in_err-write_race.result c.from_residual-in_err-write_race.ensures.1 in
+    rw p.1 tt
+
+pub returns-in_err-raced-clause-told : goal.returns-in_err-raced-clause-told
+returns-in_err-raced-clause-told g c =
+    let p = err_from_is_err_and c.from_residual-in_err-raced.result c.from_residual-in_err-raced.ensures.1 in
+    let said = c.in_err-raced.ensures in
+    rw (p.1, p.2)
+    (told_of_threads g.G.Gate.heard g.G.Gate.passes c.args.turns c.args.gates.items c.args.setup c.args.scripts.now c.in_err-raced.field-0.0 (λ is. said.most (ap (λ (f : ThreadFault). Err f) is)) said.told)
+
+pub returns-in_err-write_race-clause-told : goal.returns-in_err-write_race-clause-told
+returns-in_err-write_race-clause-told g c =
+    let p = err_from_is_err_and c.from_residual-in_err-write_race.result c.from_residual-in_err-write_race.ensures.1 in
+    rw (p.1, p.2) (told_of_writing g.G.Gate.heard g.G.Gate.passes c.args.turns c.args.gates.items c.args.setup c.args.scripts.now c.in_err-write_race.field-0.0)
+
+pub returns-in_err-raced-clause-passes : goal.returns-in_err-raced-clause-passes
+returns-in_err-raced-clause-passes g c = λ all.
+    let p = err_from_is_err_and c.from_residual-in_err-raced.result c.from_residual-in_err-raced.ensures.1 in
+    rw (p.1, p.2) (not_of_threads c.in_err-raced.field-0.0 (c.in_err-raced.ensures.passes all))
+
+pub returns-in_err-write_race-clause-passes : goal.returns-in_err-write_race-clause-passes
+returns-in_err-write_race-clause-passes g c = λ all.
+    let p = err_from_is_err_and c.from_residual-in_err-write_race.result c.from_residual-in_err-write_race.ensures.1 in
+    rw (p.1, p.2) (not_of_writing c.in_err-write_race.field-0.0)

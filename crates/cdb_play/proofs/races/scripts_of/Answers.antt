@@ -1,6 +1,7 @@
-use Rattle.std.proofs.Common.{◌≡◌, ◌+◌, length, take, drop, refl, rules, arith}
-use Rattle.cdb_play.specs.Races.{bytes_of, IsScript}
-use Rattle.cdb_play.proofs.ScriptsRead.{bad_script, one_script, not_too_long, script_at, one_more_taken, so_many}
+use Rattle.std.proofs.Common.{◌≡◌, ◌+◌, length, take, drop, rules, arith}
+use Rattle.cdb_play.specs.Races.{bytes_of}
+use Rattle.cdb_play.specs.Scripts.{IsScript}
+use Rattle.cdb_play.proofs.ScriptsRead.{bad_script, one_script, script_at, one_more_taken, so_many}
 use Rattle.cdb_play.proofs.races.scripts_of.Goals as goal
 
 pub returns-in-Err-clause-fault : goal.returns-in-Err-clause-fault
@@ -14,7 +15,7 @@ returns-in-Err-clause-fault c =
     let place : c.len.result + 1 ≡ length before + 1 = omega (arith, c.len.ensures, c.loop-script.read.ok.0, so.count, so_many scripts i script c.script-item.is c.loop-script-test.true) in
     rw c.fault_of_script.ensures
     (bad_script c.loop-script.read.items before script.items (bytes_of (drop (i + 1) scripts)) (bytes_of scripts) (c.len.result + 1) (script_at scripts i script c.script-item.is c.loop-script-test.true) place so.read c.in-Err.fault
-    (λ line why is. rw c.as_slice.ensures.value at said.line line why (rw is refl)) ((λ is. rw c.as_slice.ensures.value at said.too_long.0 (rw is refl)), (λ more. let is = said.too_long.1 (rw c.as_slice.ensures.value more) in cc)))
+    (rw c.as_slice.ensures.value at said.fault))
 
 pub loop-script-preserved : goal.loop-script-preserved
 loop-script-preserved c =
@@ -23,7 +24,7 @@ loop-script-preserved c =
     let script = c.script-item.result in
     let so = c.loop-script.invariant in
     let said = c.in-Ok.ensures in
-    let is_script : IsScript c.in-Ok.commands.items script.items = (not_too_long script.items (λ more. let wrong = said.too_long.1 (rw c.as_slice.ensures.value more) in absurd cc), (rw c.as_slice.ensures.value at said.commands)) in
+    let is_script : IsScript c.in-Ok.commands.items script.items = (rw c.as_slice.ensures.value at said.short, (rw c.as_slice.ensures.value at said.commands)) in
     record {
       read =
           rw (c.push_reserved.ensures.items, c.new.ensures, one_more_taken scripts i script c.script-item.is c.loop-script-test.true)

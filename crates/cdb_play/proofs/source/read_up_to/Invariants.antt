@@ -1,11 +1,11 @@
 use Rattle.std.proofs.Common.{◌≡◌, ◌-◌, ◌≤◌, length}
-use Rattle.std.specs.Io.KnownBytes.{prepend_known}
+use Rattle.std.specs.Io.KnownBytes.{Consumes}
 use Rattle.cdb_play.proofs.source.read_up_to.Given as goal
 
 abbrev pub invariant-loop-buffer : goal.invariant-loop-buffer
 invariant-loop-buffer g l = record {
   within : length l.bytes.items ≤ l.most;
-  taken : g.R.Source.remaining l.initial.source ≡ prepend_known l.bytes.items (g.R.Source.remaining l.source);
+  taken : Consumes (g.R.Source.remaining l.initial.source) (g.R.Source.remaining l.source) l.bytes.items;
   failures : g.R.Source.failures l.source ≡ g.R.Source.failures l.initial.source;
 }
 

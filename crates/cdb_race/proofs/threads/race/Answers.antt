@@ -1,4 +1,4 @@
-use Rattle.std.proofs.Common.{◌≡◌, ◌+◌, ◌∙◌, ap, subst, arith, List, All, Some, None, Err, refl, length}
+use Rattle.std.proofs.Common.{◌≡◌, inr, ◌+◌, ◌∙◌, ap, subst, arith, List, All, Some, None, Err, refl, length}
 use Rattle.std.proofs.lemmas.List.{length-map}
 use Rattle.cdb_race.specs.Faults.{fault_in, IsAmongSeats, IsOfLeastSeat}
 use Rattle.cdb_race.specs.Plans.{seats_of}
@@ -8,7 +8,8 @@ use Rattle.cdb_race.specs.declared.threads.RaceFault.{RaceFault}
 use Rattle.cdb_race.specs.declared.threads.RaceFault.TheVariants as fault
 use Rattle.cdb_race.specs.declared.worker.Ran.{Ran}
 use Rattle.cdb_race.proofs.Outcomes.{fresh, all_ready, all_rest, raced}
-use Rattle.cdb_race.proofs.Stops.{of_least}
+use Rattle.cdb_race.proofs.Most.{few_calls}
+use Rattle.cdb_race.proofs.Stops.{of_least, told_passes}
 use Rattle.cdb_race.proofs.Underway.{same_fault, met_full, under_way, full_at}
 use Rattle.cdb_race.proofs.threads.race.Goals as goal
 
@@ -53,7 +54,7 @@ returns-in-None-clause-raced g c =
     let finished = got.each plan before.items (omega (arith, c.in_ok-rans.ensures.count, before.ok.0)) c.in_ok-rans.ensures.each clean in
     let many : length seats.items ≡ length before.items = omega (arith, got.count.0, c.in_ok-rans.ensures.count, seats.ok.0, before.ok.0) in
     let long : length (all_told replies.items) ≡ length seats.items = length-map replies.items _ ∙ omega (arith, got.count.0, got.count.1, replies.ok.0, seats.ok.0) in
-    raced c.in-Ok-open.shared plan c.args.setup c.finish-control.result before.items seats.items _ c.n-processes.ensures.value new (many ∙ new.many) finished c.finish-control.ensures c.n-processes.ensures.ranges.processes.0 long c.journal.ensures.seats
+    raced c.in-Ok-open.shared plan c.args.setup c.finish-control.result before.items seats.items _ c.n-processes.ensures.value new (many ∙ new.many) finished c.finish-control.ensures.known c.n-processes.ensures.ranges.processes.0 long c.journal.ensures.seats
 
 pub returns-in-Some-clause-fault : goal.returns-in-Some-clause-fault
 returns-in-Some-clause-fault g c =
@@ -82,7 +83,43 @@ returns-in-Some-clause-full g c = λ full.
     let same : why ≡ fault.JournalFull = same_fault (Err why) (Err fault.JournalFull) why fault.JournalFull refl refl full in
     let met = met_full least.its.seat.number least.its.end (least.has ∙ ap (λ (f : RaceFault). Some f) same) in
     let final = c.finish-control.result in
-    let so_far = under_way c.in-Ok-open.shared plan c.args.setup final before.items rans.items least.its c.n-processes.ensures.value new many c.in_ok-rans.ensures.each seats.items long got.seats c.finish-control.ensures c.n-processes.ensures.ranges.processes.0 c.journal.ensures.seats in
+    let so_far = under_way c.in-Ok-open.shared plan c.args.setup final before.items rans.items least.its c.n-processes.ensures.value new many c.in_ok-rans.ensures.each seats.items long got.seats c.finish-control.ensures.known c.n-processes.ensures.ranges.processes.0 c.journal.ensures.seats in
     let whole =
-    full_at c.in-Ok-open.shared plan c.args.setup final before.items rans.items least.its c.n-processes.ensures.value new many c.in_ok-rans.ensures.each seats.items long got.seats c.finish-control.ensures least.place least.within (ap (λ (r : Ran). r.end) least.at ∙ met) c.journal.ensures.limit in
+    full_at c.in-Ok-open.shared plan c.args.setup final before.items rans.items least.its c.n-processes.ensures.value new many c.in_ok-rans.ensures.each seats.items long got.seats c.finish-control.ensures.known least.place least.within (ap (λ (r : Ran). r.end) least.at ∙ met) c.journal.ensures.limit in
     (final, so_far, whole)
+
+pub returns-in-Some-clause-told : goal.returns-in-Some-clause-told
+returns-in-Some-clause-told g c =
+    let plan : Plan = record { processes = c.n-processes.result; turns = c.args.turns; scripts = c.args.scripts } in
+    let new = fresh c.in-Ok-open.shared c.args.setup plan _ _ _ c.in-Ok.ensures.opened (omega arith) c.in-Ok-open.ensures.opened in
+    let rans = c.in_ok-rans.rans in
+    let before = c.in-Ok-open.seats in
+    let why = c.in-Some.fault in
+    let least : IsOfLeastSeat why rans.items = subst (IsOfLeastSeat why) c.as_slice.ensures.value c.in-Some.ensures in
+    let many : length rans.items ≡ seats_of plan = omega (arith, c.in_ok-rans.ensures.count, new.many, rans.ok.0, before.ok.0) in
+    inr (record {
+      plan = plan;
+      processes_are = c.n-processes.ensures.value;
+      turns_are = refl;
+      scripts_are = refl;
+      shared = c.in-Ok-open.shared;
+      seats = before.items;
+      new = new;
+      rans = rans.items;
+      many = many;
+      ran = c.in_ok-rans.ensures.each;
+      ended = c.in_ok-rans.ensures.ended;
+      least = least;
+    })
+
+pub returns-in-Some-clause-most : goal.returns-in-Some-clause-most
+returns-in-Some-clause-most g c = λ full.
+    let it = returns-in-Some-clause-full g c full in
+    let few = few_calls c.args.setup c.args.turns c.args.scripts.now it.0 it.1 in
+    omega (arith, few, it.2)
+
+pub returns-in-Some-clause-passes : goal.returns-in-Some-clause-passes
+returns-in-Some-clause-passes g c = λ all.
+    let why = c.in-Some.fault in
+    let many : length c.args.gates.items ≡ c.args.setup.processes + length c.args.scripts.now = omega (arith, c.requires.gates, c.args.gates.ok.0) in
+    told_passes g.G.Gate.heard g.G.Gate.passes c.args.setup c.args.turns c.args.scripts.now c.args.gates.items why many (returns-in-Some-clause-told g c) all

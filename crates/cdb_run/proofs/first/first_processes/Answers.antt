@@ -7,7 +7,7 @@ use Rattle.cdb_run.proofs.first.first_processes.Goals as goal
 pub loop-i-preserved : goal.loop-i-preserved
 loop-i-preserved g c =
     let setup = c.args.setup.now in
-    let first = g.P.Process.first in
+    let first = g.P.Process.table.first in
     first_added first setup.processes setup.quorum c.loop-i.i c.new-p.result c.input.result setup.inputs c.in_ok-local.local
     c.loop-i.processes.items c.push.new.self.items (map fresh_progress (first_states first 1 setup.processes setup.quorum setup.inputs))
     c.new-p.ensures.value

@@ -1,7 +1,7 @@
 use Rattle.std.proofs.Common.{map, ◌∙◌}
 use Rattle.std.proofs.lemmas.List.{length-map}
 use Rattle.serde_json.specs.View.{view}
-use Rattle.cdb_setup.proofs.Turns.{lists_first_fault}
+use Rattle.cdb_setup.proofs.Ranks.{lists_first_fault}
 use Rattle.cdb_setup.proofs.answers.answers_of.Goals as goal
 
 pub returns-clause-fault : goal.returns-clause-fault

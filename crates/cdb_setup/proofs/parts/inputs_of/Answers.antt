@@ -1,6 +1,6 @@
 use Rattle.std.proofs.Common.{map}
 use Rattle.serde_json.specs.View.{view}
-use Rattle.cdb_setup.proofs.Turns.{inputs_first_fault}
+use Rattle.cdb_setup.proofs.Ranks.{inputs_first_fault}
 use Rattle.cdb_setup.proofs.parts.inputs_of.Goals as goal
 
 pub returns-clause-fault : goal.returns-clause-fault

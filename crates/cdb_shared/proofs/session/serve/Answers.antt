@@ -1,9 +1,37 @@
-use Rattle.std.proofs.Common.{◌≡◌, ◌+◌, ◌∙◌, ap, arith, [], ◌∷◌, ◌++◌, length-take, map, take}
+use Rattle.std.proofs.Common.{◌≡◌, inl, inr, ◌+◌, ◌∙◌, rules, refl, sym, ap, arith, true, false, List, [], ◌∷◌, ◌++◌, length, length-take, map, take}
 use Rattle.std.proofs.lemmas.List.{map-append}
 use Rattle.cdb_control.specs.Answer.{told}
+use Rattle.cdb_shared.specs.Gates.{Asked, heard_more, heard_of}
 use Rattle.cdb_shared.specs.Sessions.{calls_of, replies_to}
-use Rattle.cdb_shared.proofs.Steps.{IsLater-trans, calls_of-call, replies_to-call, replies_to-fault, append_one, take_one_more, few_calls}
+use Rattle.cdb_shared.proofs.Hears.{heard_asked, heard_told, hears_asked, hears_fault}
+use Rattle.cdb_shared.proofs.Steps.{IsLater-trans, calls_of-call, calls_of-fault, replies_to-call, replies_to-fault, append_one, take_one_more, few_calls}
 use Rattle.cdb_shared.proofs.session.serve.Goals as goal
+
+pub returns-then-is_err-clause-gate : goal.returns-then-is_err-clause-gate
+returns-then-is_err-clause-gate g c = (c.args.gate, inr (refl, refl, refl))
+
+pub returns-then-not-before-clause-gate : goal.returns-then-not-before-clause-gate
+returns-then-not-before-clause-gate g c =
+    let was = c.loop-command.invariant in
+    let index = c.loop-command.command-index in
+    let answered = take index c.args.commands.now in
+    let refused : c.before-in-loop-command.result ≡ false = search rules in
+    let count : c.loop-command.number + 1 ≡ length answered + 1 = omega (arith, length-take index c.args.commands.now, was.number) in
+    let asked = heard_asked (g.G.Gate.heard c.args.gate) (g.G.Gate.heard c.loop-command.gate) (g.G.Gate.heard c.before-in-loop-command.new.self) (calls_of c.args.seat) answered (calls_of c.loop-command.seat) (c.loop-command.number + 1) false was.heard was.calls count
+    (c.before-in-loop-command.ensures.heard ∙ ap (λ b. heard_more (g.G.Gate.heard c.loop-command.gate) (Asked (c.loop-command.number + 1) (calls_of c.loop-command.seat) b ∷ [])) refused) in
+    (c.before-in-loop-command.new.self, inl (hears_asked _ _ c.args.seat c.loop-command.seat answered _ false was.calls refl asked))
+
+pub returns-in-Err-clause-gate : goal.returns-in-Err-clause-gate
+returns-in-Err-clause-gate g c =
+    let was = c.loop-command.invariant in
+    let index = c.loop-command.command-index in
+    let answered = take index c.args.commands.now in
+    let passed : c.before-in-loop-command.result ≡ true = search rules in
+    let count : c.loop-command.number + 1 ≡ length answered + 1 = omega (arith, length-take index c.args.commands.now, was.number) in
+    let asked = heard_asked (g.G.Gate.heard c.args.gate) (g.G.Gate.heard c.loop-command.gate) (g.G.Gate.heard c.before-in-loop-command.new.self) (calls_of c.args.seat) answered (calls_of c.loop-command.seat) (c.loop-command.number + 1) true was.heard was.calls count
+    (c.before-in-loop-command.ensures.heard ∙ ap (λ b. heard_more (g.G.Gate.heard c.loop-command.gate) (Asked (c.loop-command.number + 1) (calls_of c.loop-command.seat) b ∷ [])) passed) in
+    let calls = calls_of-fault c.loop-command.seat c.call.new.seat c.call.ensures.seat c.in-Err.ensures.fault ∙ was.calls in
+    (c.before-in-loop-command.new.self, inl (hears_fault _ _ c.args.seat c.call.new.seat answered c.in-Err.fault _ c.ended_by.ensures calls asked))
 
 pub returns-in-Err-clause-replies : goal.returns-in-Err-clause-replies
 returns-in-Err-clause-replies g c = replies_to-fault c.loop-command.seat c.call.new.seat c.call.ensures.seat c.in-Err.ensures.fault ∙ c.loop-command.invariant.replies
@@ -16,6 +44,14 @@ loop-command-preserved g c =
     let index = c.loop-command.command-index in
     let calls : calls_of now ≡ calls_of c.args.seat ++ take (index + 1) commands =
     append_one (calls_of c.loop-command.seat) (calls_of now) (calls_of c.args.seat) _ _ _ was.calls (calls_of-call c.loop-command.seat now _ _ c.call.ensures.seat c.in-Ok.ensures.call) (take_one_more commands index c.command-item.result (omega arith) c.command-item.is) in
+    let before = take index commands in
+    let passed : c.before-in-loop-command.result ≡ true = search rules in
+    let count_is : c.loop-command.number + 1 ≡ length before + 1 = omega (arith, length-take index commands, was.number) in
+    let asked = heard_asked (g.G.Gate.heard c.args.gate) (g.G.Gate.heard c.loop-command.gate) (g.G.Gate.heard c.before-in-loop-command.new.self) (calls_of c.args.seat) before (calls_of c.loop-command.seat) (c.loop-command.number + 1) true was.heard was.calls count_is
+    (c.before-in-loop-command.ensures.heard ∙ ap (λ b. heard_more (g.G.Gate.heard c.loop-command.gate) (Asked (c.loop-command.number + 1) (calls_of c.loop-command.seat) b ∷ [])) passed) in
+    let one_more = calls_of-call c.loop-command.seat now _ _ c.call.ensures.seat c.in-Ok.ensures.call ∙ ap (λ l. l ++ c.command-item.result ∷ []) was.calls in
+    let told_it = heard_told (g.G.Gate.heard c.args.gate) (g.G.Gate.heard c.before-in-loop-command.new.self) (g.G.Gate.heard c.after.new.self) (calls_of c.args.seat) before (calls_of now) c.command-item.result (c.loop-command.number + 1) asked one_more count_is c.after.ensures.heard in
+    let heard = told_it ∙ ap (λ l. heard_more (g.G.Gate.heard c.args.gate) (heard_of 1 (calls_of c.args.seat) l)) (sym (take_one_more commands index c.command-item.result (omega arith) c.command-item.is)) in
     let few = few_calls c.args.seat now (take (index + 1) commands) calls c.call.ensures.limit in
     let answered = ap (map told) c.push_reserved.ensures.items ∙ map-append told c.loop-command.replies.items (c.in-Ok.reply ∷ []) in
     record {
@@ -26,4 +62,6 @@ loop-command-preserved g c =
       number = omega arith;
       limit = omega (arith, length-take (index + 1) commands);
       room = omega arith;
+      heard = heard;
+      passes = λ always. c.after.ensures.passes (c.before-in-loop-command.ensures.passes (was.passes always)).1;
     }

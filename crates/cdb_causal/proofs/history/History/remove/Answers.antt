@@ -5,7 +5,7 @@ use Rattle.cdb_base.specs.declared.event.Event.{Event}
 use Rattle.cdb_causal.specs.Rollback.{without}
 use Rattle.cdb_causal.specs.Indexed.{IsIndexed}
 use Rattle.cdb_causal.proofs.Keeping.{standing_without}
-use Rattle.cdb_causal.proofs.Bounding.{within_without, steps_without}
+use Rattle.cdb_causal.proofs.Bounding.{within_without}
 use Rattle.cdb_causal.proofs.Lists.{remove-without, nth_before}
 use Rattle.cdb_causal.proofs.history.History.remove.Goals as goal
 
@@ -17,11 +17,10 @@ pub invariant_of-self : goal.invariant_of-self
 invariant_of-self c =
     let items : List Event = c.self.inside.events.items in
     let gone : ℕ = c.args.at - 1 in
-    subst (λ l. IsIndexed l c.self.inside.bounds c.self.inside.places.bounds.items) (sym (c.remove.ensures.items ∙ remove-without items gone))
+    subst (λ l. IsIndexed l c.self.inside.bounds) (sym (c.remove.ensures.items ∙ remove-without items gone))
     (record {
       standing = standing_without items gone c.self.invariant.standing;
       within = within_without c.self.inside.bounds items gone c.self.invariant.within;
-      steps_within = steps_without c.self.inside.places.bounds.items items gone c.self.invariant.steps_within;
     })
 
 pub returns-clause-event : goal.returns-clause-event

@@ -1,7 +1,9 @@
-use Rattle.std.proofs.Common.{IsTrue, IsSome, subst, sym, true≢false}
+use Rattle.std.proofs.Common.{◌≡◌, Ok, IsTrue, IsSome, subst, sym, true≢false}
 use Rattle.cdb_control.proofs.Nameable.{can_name}
 use Rattle.cdb_run.specs.Algorithms.{rules as rules_of_setup}
 use Rattle.cdb_run.specs.Current.{RunView}
+use Rattle.cdb_run.specs.EventRefs.{name_of}
+use Rattle.cdb_run.specs.Runs.{causes_in}
 use Rattle.cdb_setup.specs.Parts.{AreInRange}
 use Rattle.cdb_control.proofs.any_run.RunOfSetupRuns.explain.Goals as goal
 
@@ -10,5 +12,6 @@ unreachable-requires c =
     let now = c.args.self.now in
     let range : AreInRange now.setup = subst (λ (s : RunView). AreInRange s.setup) c.self.view_is (subst AreInRange c.setup.ensures c.n-ranges.ensures.ranges) in
     let valid = subst (λ (s : RunView). IsTrue ((rules_of_setup s.setup).valid s.history)) c.self.view_is c.history-valid.ensures.valid in
-    let named = c.id.ensures.some (can_name now.setup range now.history valid c.in_ok-causes.causes.items c.args.name.now c.in_ok-causes.ensures) in
+    let causes = subst (λ (s : RunView). causes_in s (name_of c.args.name) ≡ Ok c.in_ok-causes.causes.items) c.self.view_is c.in_ok-causes.ensures in
+    let named = c.id.ensures.some (can_name now.setup range now.history valid c.in_ok-causes.causes.items c.args.name causes) in
     true≢false (sym (subst IsSome c.in-None.is named))

@@ -1,10 +1,16 @@
-use Rattle.std.proofs.Common.{sym, ◌∙◌, arith}
+use Rattle.std.proofs.Common.{◌≡◌, Ok, sym, subst, ◌∙◌, arith}
 use Rattle.cdb_control.proofs.Removed.{few-removed}
-use Rattle.cdb_control.specs.Named.{name_of}
+use Rattle.cdb_run.specs.Current.{RunView}
+use Rattle.cdb_run.specs.EventRefs.{name_of}
+use Rattle.cdb_run.specs.Runs.{rollback_answer}
+use Rattle.cdb_run.specs.Undo.{number_removed}
 use Rattle.cdb_control.proofs.any_run.RunOfSetupRuns.rollback.Goals as goal
 
 pub overflow_cast-result : goal.overflow_cast-result
 overflow_cast-result c =
     let now = c.args.self.now in
-    let few = few-removed now.setup.processes now.history (name_of c.args.name.now) c.in-Ok.count 999999 c.requires (sym c.in_ok-count.ensures.answer ∙ c.in-Ok.is) in
+    let removed =
+    subst (λ (run : RunView). number_removed (rollback_answer run (name_of c.args.name)) ≡ Ok c.in-Ok.count) c.self.view_is
+    (sym c.in_ok-count.ensures.rolled_back.answer ∙ c.in-Ok.is) in
+    let few = few-removed now.setup.processes now.history (name_of c.args.name) c.in-Ok.count 999999 c.requires removed in
     omega (arith, few)

@@ -1,13 +1,15 @@
-use Rattle.std.proofs.Common.{ℕ, ◌+◌, ◌-◌, ◌<◌, arith, ap, ◌∙◌, sym, subst, List, [], ◌∷◌, ◌++◌, length, vec_len, vec_capacity}
+use Rattle.std.proofs.Common.{ℕ, ◌+◌, ◌-◌, ◌<◌, arith, ap, ◌∙◌, sym, subst, List, [], ◌∷◌, ◌++◌, length, vec_len, vec_capacity, true≢false}
 use Rattle.std.proofs.lemmas.List.{length-map}
-use Rattle.cdb_control.specs.Answer.{told}
+use Rattle.cdb_control.specs.Answer.{told, is_refused}
 use Rattle.cdb_control.specs.declared.control.Entry.{Entry}
 use Rattle.cdb_control.specs.Commands.{Outcome, answer, outcome}
-use Rattle.cdb_control.specs.Journal.{Journaled, entry, extended}
+use Rattle.cdb_control.specs.Headline.{Headline}
+use Rattle.cdb_control.specs.Journal.{Journaled, IsReplayed, entry, extended, state_of}
 use Rattle.cdb_control.specs.Room.{HasRoom, cost, lowered, rooms_at}
 use Rattle.cdb_control.specs.State.{State}
 use Rattle.cdb_control.proofs.Along.{obey-setup, IsReplayed-next}
-use Rattle.cdb_control.proofs.Room.{HasRoom-next, cost-one, rooms-lowered, spends}
+use Rattle.cdb_control.proofs.Headline.{replayed-headline}
+use Rattle.cdb_control.proofs.Room.{HasRoom-kept, HasRoom-next, cost-one, rooms-lowered, spends}
 use Rattle.cdb_control.proofs.control.Control.execute.Goals as goal
 
 pub invariant_of-self-2 : goal.invariant_of-self-2
@@ -76,3 +78,59 @@ returns-clause-journal g c =
 
 pub returns-clause-spared : goal.returns-clause-spared
 returns-clause-spared g c = λ spared some same. cc
+
+pub invariant_of-self-in_default : goal.invariant_of-self-in_default
+invariant_of-self-in_default g c =
+    let rules = g.R.Runs.rules in
+    let i = c.self.inside in
+    let was = c.self.invariant in
+    let next = c.perform.new.self in
+    let marks = i.marks.items in
+    let n = vec_len i.journal in
+    let same = c.in_default.ensures.err in
+    let room = HasRoom-kept n (vec_capacity i.journal) (vec_capacity c.reserve.new.self) (rooms_at n marks) i.state next was.1 c.reserve.ensures.capacity same c.perform.ensures.capacities in (
+      subst (λ (t : State). IsReplayed (rules t.setup) t.setup i.seats c.reserve.new.self.items t) (sym same)
+          (subst (λ (l : List Entry). IsReplayed (rules i.state.state.setup) i.state.state.setup i.seats l i.state.state) (sym c.reserve.ensures.items) was.0),
+      subst (λ (m : ℕ). HasRoom m (vec_capacity c.reserve.new.self) (rooms_at m marks) next) (sym c.reserve.ensures.len) room,
+    )
+
+pub returns-then-len-clause-headline : goal.returns-then-len-clause-headline
+returns-then-len-clause-headline g c =
+    let run = g.R.Runs in
+    let laws = g.met.R.Runs in
+    let i = c.self.inside in
+    subst (λ (v : Journaled). Headline run.rules run.same_state v.setup v.seats v.journal) c.self.view_is
+    (replayed-headline run.rules run.same_state laws.lawful laws.histories i.state.state.setup i.seats i.journal.items i.state.state c.self.invariant.0)
+
+pub returns-then-is_err-clause-headline : goal.returns-then-is_err-clause-headline
+returns-then-is_err-clause-headline g c =
+    let run = g.R.Runs in
+    let laws = g.met.R.Runs in
+    let i = c.self.inside in
+    subst (λ (l : List Entry). Headline run.rules run.same_state i.state.state.setup i.seats l) (sym c.reserve.ensures.items)
+    (replayed-headline run.rules run.same_state laws.lawful laws.histories i.state.state.setup i.seats i.journal.items i.state.state c.self.invariant.0)
+
+pub returns-in_default-clause-headline : goal.returns-in_default-clause-headline
+returns-in_default-clause-headline g c =
+    let run = g.R.Runs in
+    let laws = g.met.R.Runs in
+    let next = c.perform.new.self.state in
+    replayed-headline run.rules run.same_state laws.lawful laws.histories next.setup c.self.inside.seats c.reserve.new.self.items next (invariant_of-self-in_default g c).0
+
+pub returns-clause-headline : goal.returns-clause-headline
+returns-clause-headline g c =
+    let run = g.R.Runs in
+    let laws = g.met.R.Runs in
+    let next = c.perform.new.self.state in
+    replayed-headline run.rules run.same_state laws.lawful laws.histories next.setup c.self.inside.seats c.push_entry.new.journal.items next (invariant_of-self-2 g c).0
+
+pub returns-in_default-clause-refusal : goal.returns-in_default-clause-refusal
+returns-in_default-clause-refusal g c = λ some refused same.
+    let i = c.self.inside in
+    let rules = g.R.Runs.rules in
+    let seat = c.args.seat in
+    let command = c.args.command in
+    let as_shown =
+    ap (λ (t : State). is_refused (answer (rules i.state.state.setup) t seat command)) (sym c.self.invariant.0.replayed)
+    ∙ ap (λ (v : Journaled). is_refused (answer (rules v.setup) (state_of (rules v.setup) v) seat command)) c.self.view_is in
+    absurd (true≢false (sym refused ∙ sym as_shown ∙ c.in_default.ensures.memory))

@@ -2,6 +2,7 @@ use Rattle.std.proofs.Common.{ℕ, arith, ap, ◌∙◌, List, [], length}
 use Rattle.std.proofs.lemmas.List.{length-replicate}
 use Rattle.cdb_base.specs.declared.event.Event.{Event}
 use Rattle.cdb_control.proofs.Along.{IsReplayed-first}
+use Rattle.cdb_control.proofs.Headline.{replayed-headline}
 use Rattle.cdb_control.proofs.Room.{HasRoom-first, rooms-none}
 use Rattle.cdb_control.specs.Journal.{Journaled}
 use Rattle.cdb_control.specs.Room.{rooms_at}
@@ -19,3 +20,10 @@ pub returns-clause-opened : goal.returns-clause-opened
 returns-clause-opened g c =
     let rooms = ap (λ (n : ℕ). rooms_at n c.in-Ok-no_marks.marks.items) c.new.ensures.len ∙ ap (λ (marks : List ℕ). rooms_at 0 marks) c.in-Ok-no_marks.ensures ∙ rooms-none c.args.seats in
     λ j. let opened : Journaled = record { setup = (c.in-Ok.ensures j).setup; seats = c.args.seats; journal = c.new.ensures.items j; rooms = rooms j } in opened
+
+pub returns-clause-headline : goal.returns-clause-headline
+returns-clause-headline g c =
+    let run = g.R.Runs in
+    let laws = g.met.R.Runs in
+    let made = c.in-Ok.state.state in
+    replayed-headline run.rules run.same_state laws.lawful laws.histories made.setup c.args.seats c.new.result.items made (invariant_of-result g c).0

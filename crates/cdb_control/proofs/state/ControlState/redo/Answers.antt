@@ -1,10 +1,11 @@
-use Rattle.std.proofs.Common.{arith, ◌-◌, ap, ◌∙◌, sym, subst, [], List, set}
+use Rattle.std.proofs.Common.{IsOk, rules, arith, ◌-◌, ap, ◌∙◌, sym, subst, [], List, set}
 use Rattle.std.specs.List.{AllByRecursion}
+use Rattle.std.proofs.lemmas.Grind.{common_steps}
 use Rattle.cdb_base.specs.Places.{without_last}
 use Rattle.cdb_base.specs.declared.event.Event.{Event}
 use Rattle.cdb_control.proofs.Alls.{all-get_or, all-slice_get}
 use Rattle.cdb_control.proofs.Room.{swap}
-use Rattle.cdb_control.proofs.Steps.{redone-as}
+use Rattle.cdb_control.proofs.Steps.{redone-as, redo_taken}
 use Rattle.cdb_control.specs.Commands.{decides}
 use Rattle.cdb_control.specs.Room.{StoredState, StoredList}
 use Rattle.cdb_control.specs.State.{State, redo_of, last_of}
@@ -32,11 +33,11 @@ returns-in-Ok-clause-ok g c =
     let answer = did.answer ∙ ap (λ (v : StoredState). (g.R.Runs.rules v.state.setup).again v.state.history c.in-Some.undone) c.self.view_is in
     let list = w.put ∙ ap (λ (l : StoredList). set now.state.redo (c.args.seat - 1) l.events) c.drop_last.ensures ∙ ap (λ (l : List Event). set now.state.redo (c.args.seat - 1) (without_last l)) (sym w.at) in
     let after =
-    (λ j. let u : State = record { setup = did.setup j; history = did.history j; stops = c.self.inside.breakpoints.stops; next = c.self.inside.breakpoints.next; pause = c.self.inside.pause; redo = list j } in u)
+    (λ j. let u : State = record { setup = (did.after j).setup; history = (did.after j).history; stops = c.self.inside.breakpoints.stops; next = c.self.inside.breakpoints.next; pause = c.self.inside.pause; redo = list j } in u)
     ∙ ap (λ (v : StoredState). let u : State = record v.state { history = with_taken v.state.history r; redo = set now.state.redo (c.args.seat - 1) (without_last (redo_of now.state c.args.seat)) } in u) c.self.view_is in
     let tells =
     c.decides-decides.ensures
-    ∙ (λ j. decides (g.R.Runs.rules (did.setup j)) (did.history j) event)
+    ∙ (λ j. decides (g.R.Runs.rules (did.after j).setup) (did.after j).history event)
     ∙ ap (λ (v : StoredState). decides (g.R.Runs.rules v.state.setup) (with_taken v.state.history r) event) c.self.view_is in
     redone-as rules now.state _ c.args.seat c.in-Some.undone event c.decides-decides.result r last answer after tells c.in-Ok.is
 
@@ -46,3 +47,13 @@ returns-in-Ok-clause-capacities g c =
     let w = swap now c.self.inside.redo.items c.args.seat c.index_mut-list.result.now c.drop_last.new.self (ap (λ (v : StoredState). v.state.redo) c.self.view_is) (ap (λ (v : StoredState). v.capacities) c.self.view_is) c.requires.from_one c.requires.to_last c.index_mut-list.ensures.value in
     let same = ap (λ (l : StoredList). l.capacity) c.drop_last.ensures in
     w.grown (omega (arith, same))
+
+pub returns-in_err-event-clause-memory : goal.returns-in_err-event-clause-memory
+returns-in_err-event-clause-memory g c =
+    let now = c.args.self.now in
+    let w = swap now c.self.inside.redo.items c.args.seat c.index_mut-list.result.now c.index_mut-list.result.now (ap (λ (v : StoredState). v.state.redo) c.self.view_is) (ap (λ (v : StoredState). v.capacities) c.self.view_is) c.requires.from_one c.requires.to_last c.index_mut-list.ensures.value in
+    let last = c.in-Some.ensures ∙ ap last_of (sym w.at) in
+    let taken =
+    redo_taken (g.R.Runs.rules now.state.setup) now.state c.args.seat c.in-Some.undone last
+    (subst (λ (v : StoredState). IsOk ((g.R.Runs.rules v.state.setup).again v.state.history c.in-Some.undone)) c.self.view_is c.in_err-event.ensures.memory) in
+    first_of (search (rules, taken), grind (arith, common_steps, taken))

@@ -1,9 +1,12 @@
-use Rattle.std.proofs.Common.{rules, arith, ◌-◌, ap, ◌∙◌, sym, List, set, map}
+use Rattle.std.proofs.Common.{◌≡◌, false, length, rules, refl, subst, IsOk, arith, ◌-◌, ap, ◌∙◌, sym, List, set, map}
 use Rattle.std.proofs.lemmas.Grind.{common_steps}
 use Rattle.cdb_base.specs.declared.event.Event.{Event}
-use Rattle.cdb_control.proofs.Steps.{unchanged, rolled_back-as, rollback_refused-as}
+use Rattle.cdb_control.specs.Answer.{is_refused}
+use Rattle.cdb_control.specs.Answer as reply
+use Rattle.cdb_control.specs.Commands.{rollback, taken_back}
+use Rattle.cdb_control.proofs.Steps.{unchanged, rolled_back-as, rollback_refused-as, granted_taken, answered_ok}
 use Rattle.cdb_control.proofs.Room.{swap}
-use Rattle.cdb_control.specs.Named.{name_of}
+use Rattle.cdb_run.specs.EventRefs.{name_of}
 use Rattle.cdb_control.specs.Room.{StoredState, StoredList}
 use Rattle.cdb_control.specs.State.{State, redo_of}
 use Rattle.cdb_run.specs.Undo.{rollback_of, answered, left_by, number_removed, with_removed}
@@ -13,17 +16,17 @@ use Rattle.cdb_control.proofs.state.ControlState.rollback.Goals.{in-Ok, in-Err}
 pub returns-clause-ok : goal.returns-clause-ok
 returns-clause-ok g c =
     let now = c.args.self.now in
-    let name = name_of c.args.name.now in
+    let name = name_of c.args.name in
     let w = swap now c.self.inside.redo.items c.args.seat c.index_mut-list.result.now c.rollback.new.self (ap (λ (v : StoredState). v.state.redo) c.self.view_is) (ap (λ (v : StoredState). v.capacities) c.self.view_is) c.requires.from_one c.requires.to_last c.index_mut-list.ensures.value in
     let x = rollback_of now.state.setup.processes now.state.history name in
-    let x0 = rollback_of (g.R.Runs.setup c.self.inside.run).processes (g.R.Runs.history c.self.inside.run) name in
+    let x0 = rollback_of (g.R.Runs.run c.self.inside.run).setup.processes (g.R.Runs.run c.self.inside.run).history name in
     let r = c.in_ok-count.field-0 in
-    let did = c.in_ok-count.ensures in
+    let did = c.in_ok-count.ensures.rolled_back in
     let answer = did.answer ∙ ap (λ (v : StoredState). number_removed (answered (rollback_of v.state.setup.processes v.state.history name))) c.self.view_is in
     let lists = map (λ (l : StoredList). l.events) (set c.self.inside.redo.items (c.args.seat - 1) c.rollback.new.self) in
     let list = w.put ∙ ap (λ (l : List Event). set now.state.redo (c.args.seat - 1) l) (did.list ∙ ap (λ (l : List Event). with_removed l (answered x0)) (sym w.at) ∙ ap (λ (v : StoredState). with_removed (redo_of now.state c.args.seat) (answered (rollback_of v.state.setup.processes v.state.history name))) c.self.view_is) in
     let after =
-    (λ j. let u : State = record { setup = did.setup j; history = did.history j; stops = c.self.inside.breakpoints.stops; next = c.self.inside.breakpoints.next; pause = c.self.inside.pause; redo = list j } in u)
+    (λ j. let u : State = record { setup = (did.after j).setup; history = (did.after j).history; stops = c.self.inside.breakpoints.stops; next = c.self.inside.breakpoints.next; pause = c.self.inside.pause; redo = list j } in u)
     ∙ ap (λ (v : StoredState). let u : State = record v.state { history = left_by v.state.history (rollback_of v.state.setup.processes v.state.history name); redo = set now.state.redo (c.args.seat - 1) (with_removed (redo_of now.state c.args.seat) (answered x)) } in u) c.self.view_is in
     elim c.match-branch-2.branch [
       | in-Ok w ↦ rw w.result-is (rolled_back-as now.state _ c.args.seat x r w.in-Ok.count answer after w.in-Ok.is)
@@ -40,10 +43,10 @@ pub returns-in_err-count-clause-err : goal.returns-in_err-count-clause-err
 returns-in_err-count-clause-err g c =
     let now = c.args.self.now in
     let w = swap now c.self.inside.redo.items c.args.seat c.index_mut-list.result.now c.rollback.new.self (ap (λ (v : StoredState). v.state.redo) c.self.view_is) (ap (λ (v : StoredState). v.capacities) c.self.view_is) c.requires.from_one c.requires.to_last c.index_mut-list.ensures.value in
-    let did = c.in_err-count.ensures in
+    let did = c.in_err-count.ensures.rolled_back in
     let list = w.put ∙ ap (λ (l : List Event). set now.state.redo (c.args.seat - 1) l) (did.list_err ∙ sym w.at) in
     let after =
-    (λ j. let u : State = record { setup = did.setup j; history = did.err j; stops = c.self.inside.breakpoints.stops; next = c.self.inside.breakpoints.next; pause = c.self.inside.pause; redo = list j } in u)
+    (λ j. let u : State = record { setup = (did.err j).setup; history = (did.err j).history; stops = c.self.inside.breakpoints.stops; next = c.self.inside.breakpoints.next; pause = c.self.inside.pause; redo = list j } in u)
     ∙ ap (λ (v : StoredState). let u : State = record v.state { redo = set now.state.redo (c.args.seat - 1) (redo_of now.state c.args.seat) } in u) c.self.view_is
     ∙ unchanged now.state c.args.seat in
     first_of (search (rules, after), grind (arith, common_steps, after))
@@ -53,3 +56,14 @@ returns-in_err-count-clause-capacities g c =
     let now = c.args.self.now in
     let w = swap now c.self.inside.redo.items c.args.seat c.index_mut-list.result.now c.rollback.new.self (ap (λ (v : StoredState). v.state.redo) c.self.view_is) (ap (λ (v : StoredState). v.capacities) c.self.view_is) c.requires.from_one c.requires.to_last c.index_mut-list.ensures.value in
     w.grown c.rollback.ensures.capacity
+
+pub returns-in_err-count-clause-memory : goal.returns-in_err-count-clause-memory
+returns-in_err-count-clause-memory g c =
+    let now = c.args.self.now in
+    let name = name_of c.args.name in
+    let removed = rollback_of now.state.setup.processes now.state.history name in
+    let taken : is_refused (rollback now.state c.args.seat name).reply ≡ false =
+    granted_taken removed now.state (λ (done : List Event × List Event). record { reply = reply.RolledBack (length done.0); after = taken_back now.state c.args.seat done.0 done.1 })
+    (answered_ok removed (subst (λ (v : StoredState). IsOk (answered (rollback_of v.state.setup.processes v.state.history name))) c.self.view_is c.in_err-count.ensures.rolled_back.memory))
+    (λ done. refl) in
+    first_of (search (rules, taken), grind (arith, common_steps, taken))

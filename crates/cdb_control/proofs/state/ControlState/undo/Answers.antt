@@ -1,9 +1,12 @@
-use Rattle.std.proofs.Common.{refl, rules, arith, ◌-◌, ap, ◌∙◌, sym, length, List, set, map}
+use Rattle.std.proofs.Common.{◌≡◌, false, [], ◌∷◌, refl, rules, subst, IsOk, arith, ◌-◌, ap, ◌∙◌, sym, length, List, set, map}
 use Rattle.std.proofs.lemmas.Grind.{common_steps}
 use Rattle.cdb_base.specs.declared.event.Event.{Event}
-use Rattle.cdb_control.proofs.Steps.{unchanged, undone-as, undo_refused-as}
+use Rattle.cdb_control.specs.Answer.{is_refused}
+use Rattle.cdb_control.specs.Answer as reply
+use Rattle.cdb_control.specs.Commands.{undo, taken_back}
+use Rattle.cdb_control.proofs.Steps.{unchanged, undone-as, undo_refused-as, granted_taken, answered_ok}
 use Rattle.cdb_control.proofs.Room.{swap}
-use Rattle.cdb_control.specs.Named.{name_of}
+use Rattle.cdb_run.specs.EventRefs.{name_of}
 use Rattle.cdb_control.specs.Room.{StoredState, StoredList}
 use Rattle.cdb_control.specs.State.{State, redo_of}
 use Rattle.cdb_run.specs.Refusals.{with_taken}
@@ -14,7 +17,7 @@ use Rattle.cdb_control.proofs.state.ControlState.undo.Goals.{in-Ok, in-Err}
 pub returns-clause-ok : goal.returns-clause-ok
 returns-clause-ok g c =
     let now = c.args.self.now in
-    let name = name_of c.args.name.now in
+    let name = name_of c.args.name in
     let w = swap now c.self.inside.redo.items c.args.seat c.index_mut-list.result.now c.undo.new.self (ap (λ (v : StoredState). v.state.redo) c.self.view_is) (ap (λ (v : StoredState). v.capacities) c.self.view_is) c.requires.from_one c.requires.to_last c.index_mut-list.ensures.value in
     let x = undo_of now.state.setup.processes now.state.history name in
     let r = c.in_ok-event.field-0 in
@@ -23,7 +26,7 @@ returns-clause-ok g c =
     let lists = map (λ (l : StoredList). l.events) (set c.self.inside.redo.items (c.args.seat - 1) c.undo.new.self) in
     let list = w.put ∙ ap (λ (l : List Event). set now.state.redo (c.args.seat - 1) l) (did.list ∙ ap (λ (l : List Event). with_taken l r) (sym w.at)) in
     let after =
-    (λ j. let u : State = record { setup = did.setup j; history = did.history j; stops = c.self.inside.breakpoints.stops; next = c.self.inside.breakpoints.next; pause = c.self.inside.pause; redo = list j } in u)
+    (λ j. let u : State = record { setup = (did.after j).setup; history = (did.after j).history; stops = c.self.inside.breakpoints.stops; next = c.self.inside.breakpoints.next; pause = c.self.inside.pause; redo = list j } in u)
     ∙ ap (λ (v : StoredState). let u : State = record v.state { history = left_by v.state.history (undo_of v.state.setup.processes v.state.history name); redo = set now.state.redo (c.args.seat - 1) (with_taken (redo_of now.state c.args.seat) r) } in u) c.self.view_is in
     elim c.match-branch-2.branch [
       | in-Ok w ↦ rw w.result-is (undone-as now.state _ c.args.seat x r w.in-Ok.event answer after w.in-Ok.is)
@@ -58,7 +61,7 @@ returns-in_err-event-clause-err g c =
     let did = c.in_err-event.ensures in
     let list = w.put ∙ ap (λ (l : List Event). set now.state.redo (c.args.seat - 1) l) (did.list_err ∙ sym w.at) in
     let after =
-    (λ j. let u : State = record { setup = did.setup j; history = did.err j; stops = c.self.inside.breakpoints.stops; next = c.self.inside.breakpoints.next; pause = c.self.inside.pause; redo = list j } in u)
+    (λ j. let u : State = record { setup = (did.err j).setup; history = (did.err j).history; stops = c.self.inside.breakpoints.stops; next = c.self.inside.breakpoints.next; pause = c.self.inside.pause; redo = list j } in u)
     ∙ ap (λ (v : StoredState). let u : State = record v.state { redo = set now.state.redo (c.args.seat - 1) (redo_of now.state c.args.seat) } in u) c.self.view_is
     ∙ unchanged now.state c.args.seat in
     first_of (search (rules, after), grind (arith, common_steps, after))
@@ -68,3 +71,14 @@ returns-in_err-event-clause-capacities g c =
     let now = c.args.self.now in
     let w = swap now c.self.inside.redo.items c.args.seat c.index_mut-list.result.now c.undo.new.self (ap (λ (v : StoredState). v.state.redo) c.self.view_is) (ap (λ (v : StoredState). v.capacities) c.self.view_is) c.requires.from_one c.requires.to_last c.index_mut-list.ensures.value in
     w.grown c.undo.ensures.capacity
+
+pub returns-in_err-event-clause-memory : goal.returns-in_err-event-clause-memory
+returns-in_err-event-clause-memory g c =
+    let now = c.args.self.now in
+    let name = name_of c.args.name in
+    let undone = undo_of now.state.setup.processes now.state.history name in
+    let taken : is_refused (undo now.state c.args.seat name).reply ≡ false =
+    granted_taken undone now.state (λ (done : Event × List Event). record { reply = reply.Undone done.0; after = taken_back now.state c.args.seat (done.0 ∷ []) done.1 })
+    (answered_ok undone (subst (λ (v : StoredState). IsOk (answered (undo_of v.state.setup.processes v.state.history name))) c.self.view_is c.in_err-event.ensures.memory))
+    (λ done. refl) in
+    first_of (search (rules, taken), grind (arith, common_steps, taken))

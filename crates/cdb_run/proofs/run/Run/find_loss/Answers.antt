@@ -18,7 +18,7 @@ pub returns-in_default-try_from-clause-found : goal.returns-in_default-try_from-
 returns-in_default-try_from-clause-found g c =
     let process = g.P.Process in
     let standing = c.args.self.now in
-    let machine = machine_of process.first process.next process.wish process.place process.last_place standing.setup in
+    let machine = machine_of process.table standing.setup in
     let sender = c.in-Some.ensures.number in
     let receiver = c.in-Some-process.ensures.number in
     let name = loss_name c.args.s c.args.m c.args.p in

@@ -14,7 +14,7 @@ pub returns-in_default-try_from-clause-found : goal.returns-in_default-try_from-
 returns-in_default-try_from-clause-found g c =
     let process = g.P.Process in
     let standing = c.args.self.now in
-    let machine = machine_of process.first process.next process.wish process.place process.last_place standing.setup in
+    let machine = machine_of process.table standing.setup in
     let there = c.in-Some.ensures.number in
     let name = step_name c.args.p c.args.k in
     let great = c.in_default-try_from.ensures in

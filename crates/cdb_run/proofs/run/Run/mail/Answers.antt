@@ -1,8 +1,6 @@
 use Rattle.std.proofs.Common.{◌≡◌, length, ap, ◌∙◌}
 use Rattle.cdb_run.specs.Current.{RunView}
-use Rattle.cdb_run.specs.Machines.{machine_of}
-use Rattle.cdb_run.specs.Mail.{mail_of}
-use Rattle.cdb_run.specs.Step.{state_of}
+use Rattle.cdb_run.specs.Runs.{mail_in}
 use Rattle.cdb_run.proofs.Starting.{length-first_states}
 use Rattle.cdb_run.proofs.Views.{mail_shown, receivers_shown}
 use Rattle.cdb_run.proofs.run.Run.mail.Goals as goal
@@ -11,11 +9,11 @@ pub returns-clause-mail : goal.returns-clause-mail
 returns-clause-mail g c =
     let process = g.P.Process in
     mail_shown c.self.invariant
-    ∙ ap (λ (s : RunView). mail_of (state_of (machine_of process.first process.next process.wish process.place process.last_place s.setup) s.history)) c.self.view_is
+    ∙ ap (λ (s : RunView). mail_in process.table s) c.self.view_is
 
 pub returns-clause-receivers : goal.returns-clause-receivers
 returns-clause-receivers g c =
     let setup = c.self.inside.setup in
     let inputs : length setup.inputs ≡ setup.processes = c.n-ranges.ensures.ranges.an_input_each in
-    receivers_shown c.self.invariant ∙ length-first_states g.P.Process.first 1 setup.processes setup.quorum setup.inputs ∙ inputs
+    receivers_shown c.self.invariant ∙ length-first_states g.P.Process.table.first 1 setup.processes setup.quorum setup.inputs ∙ inputs
     ∙ ap (λ (s : RunView). s.setup.processes) c.self.view_is

@@ -15,22 +15,22 @@ plan_loss-requires g c =
     let process = g.P.Process in
     let setup = c.self.inside.setup in
     let inputs : length setup.inputs ≡ setup.processes = c.n-ranges.ensures.ranges.an_input_each in
-    receivers_shown c.self.invariant ∙ length-first_states process.first 1 setup.processes setup.quorum setup.inputs ∙ inputs
+    receivers_shown c.self.invariant ∙ length-first_states process.table.first 1 setup.processes setup.quorum setup.inputs ∙ inputs
 
 pub returns-clause-answer : goal.returns-clause-answer
 returns-clause-answer g c =
     let process = g.P.Process in
     loss_shown c.self.invariant c.self.inside.setup (message_name c.args.s c.args.m) c.args.p c.plan_loss.result c.plan_loss.ensures
-    ∙ ap (λ (s : RunView). let machine = machine_of process.first process.next process.wish process.place process.last_place s.setup in lose_answer s.setup (state_of machine s.history) (message_name c.args.s c.args.m) c.args.p) c.self.view_is
+    ∙ ap (λ (s : RunView). let machine = machine_of process.table s.setup in lose_answer s.setup (state_of machine s.history) (message_name c.args.s c.args.m) c.args.p) c.self.view_is
 
 pub returns-clause-enabled : goal.returns-clause-enabled
 returns-clause-enabled g c =
     let process = g.P.Process in
     let setup = c.self.inside.setup in
     let inputs : length setup.inputs ≡ setup.processes = c.n-ranges.ensures.ranges.an_input_each in
-    let number = length-first_states process.first 1 setup.processes setup.quorum setup.inputs ∙ inputs in
-    let machine = machine_of process.first process.next process.wish process.place process.last_place setup in
-    subst (λ (s : RunView). let machine = machine_of process.first process.next process.wish process.place process.last_place s.setup in IfOk c.plan_loss.result (λ event. IsSome (after machine (state_of machine s.history) event))) c.self.view_is
+    let number = length-first_states process.table.first 1 setup.processes setup.quorum setup.inputs ∙ inputs in
+    let machine = machine_of process.table setup in
+    subst (λ (s : RunView). let machine = machine_of process.table s.setup in IfOk c.plan_loss.result (λ event. IsSome (after machine (state_of machine s.history) event))) c.self.view_is
     (subst (λ answer. IfOk answer (λ event. IsSome (after machine (state_of machine (events_of c.self.inside.records)) event)))
     (sym (loss_shown c.self.invariant setup (message_name c.args.s c.args.m) c.args.p c.plan_loss.result c.plan_loss.ensures))
     (lose_enabled machine setup number refl (state_of machine (events_of c.self.inside.records)) (message_name c.args.s c.args.m) c.args.p))

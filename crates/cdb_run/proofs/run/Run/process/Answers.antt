@@ -1,8 +1,7 @@
 use Rattle.std.proofs.Common.{◌≡◌, ◌≤◌, length, None, false, MatchOption, ◌∙◌, ap, subst}
-use Rattle.cdb_base.specs.Places.{nth}
 use Rattle.cdb_run.specs.Current.{RunView}
-use Rattle.cdb_run.specs.Machines.{machine_of}
-use Rattle.cdb_run.specs.Step.{is_among, state_of}
+use Rattle.cdb_run.specs.Runs.{process_in}
+use Rattle.cdb_run.specs.Step.{is_among}
 use Rattle.cdb_run.proofs.Finding.{among_some, among_none}
 use Rattle.cdb_run.proofs.Starting.{length-first_states}
 use Rattle.cdb_run.proofs.Views.{process_none}
@@ -19,7 +18,7 @@ returns-clause-none g c =
     let process = g.P.Process in
     let setup = c.self.inside.setup in
     let inputs : length setup.inputs ≡ setup.processes = c.n.ensures.ranges.an_input_each in
-    let number = length-first_states process.first 1 setup.processes setup.quorum setup.inputs ∙ inputs in
+    let number = length-first_states process.table.first 1 setup.processes setup.quorum setup.inputs ∙ inputs in
     among_none c.n.result c.args.p c.process_among.result c.process_among.ensures
-    (λ absent. subst (λ (s : RunView). nth (state_of (machine_of process.first process.next process.wish process.place process.last_place s.setup) s.history).processes c.args.p ≡ None) c.self.view_is
+    (λ absent. subst (λ (s : RunView). process_in process.table s c.args.p ≡ None) c.self.view_is
     (process_none c.self.invariant setup.processes number c.args.p (subst (λ m. is_among m c.args.p ≡ false) c.n.ensures.value absent)))

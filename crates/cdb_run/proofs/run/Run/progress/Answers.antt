@@ -1,9 +1,7 @@
-use Rattle.std.proofs.Common.{rules, ◌≡◌, ◌<◌, ◌≤◌, length, Some, option_map, ◌∙◌, sym, subst, arith}
+use Rattle.std.proofs.Common.{rules, ◌≡◌, ◌<◌, ◌≤◌, length, Some, ◌∙◌, sym, subst, arith}
 use Rattle.std.proofs.lemmas.Grind.{common_steps}
-use Rattle.cdb_base.specs.Places.{nth}
 use Rattle.cdb_run.specs.Current.{RunView}
-use Rattle.cdb_run.specs.Machines.{machine_of}
-use Rattle.cdb_run.specs.Step.{state_of}
+use Rattle.cdb_run.specs.Runs.{progress_in}
 use Rattle.cdb_run.proofs.Starting.{length-first_states}
 use Rattle.cdb_run.proofs.Views.{index_below, progress_shown}
 use Rattle.cdb_run.proofs.run.Run.progress.Goals as goal
@@ -12,7 +10,7 @@ pub index-requires-2 : goal.index-requires-2
 index-requires-2 g c =
     let setup = c.self.inside.setup in
     let inputs : length setup.inputs ≡ setup.processes = c.n-ranges.ensures.ranges.an_input_each in
-    let number = length-first_states g.P.Process.first 1 setup.processes setup.quorum setup.inputs ∙ inputs in
+    let number = length-first_states g.P.Process.table.first 1 setup.processes setup.quorum setup.inputs ∙ inputs in
     let last = subst (λ (s : RunView). c.args.p ≤ s.setup.processes) (sym c.self.view_is) c.requires in
     let below : c.index.result < length c.self.inside.processes.items = index_below c.self.invariant setup.processes number c.index.result c.args.p c.index.ensures.value last in
     first_of (search (rules, below), grind (arith, below, common_steps))
@@ -22,7 +20,7 @@ returns g c =
     let process = g.P.Process in
     let setup = c.self.inside.setup in
     let inputs : length setup.inputs ≡ setup.processes = c.n-ranges.ensures.ranges.an_input_each in
-    let number = length-first_states process.first 1 setup.processes setup.quorum setup.inputs ∙ inputs in
+    let number = length-first_states process.table.first 1 setup.processes setup.quorum setup.inputs ∙ inputs in
     let last = subst (λ (s : RunView). c.args.p ≤ s.setup.processes) (sym c.self.view_is) c.requires in
-    subst (λ (s : RunView). option_map (λ shown. shown.progress) (nth (state_of (machine_of process.first process.next process.wish process.place process.last_place s.setup) s.history).processes c.args.p) ≡ Some c.index-2.result.now) c.self.view_is
+    subst (λ (s : RunView). progress_in process.table s c.args.p ≡ Some c.index-2.result.now) c.self.view_is
     (progress_shown c.self.invariant setup.processes number c.index.result c.args.p c.index-2.result.now c.index.ensures.value last c.index-2.ensures)

@@ -11,7 +11,7 @@ pub invariant_of-result : goal.invariant_of-result
 invariant_of-result g c =
     let setup = c.args.setup in
     let process = g.P.Process in
-    let machine = machine_of process.first process.next process.wish process.place process.last_place setup in
+    let machine = machine_of process.table setup in
     let n = c.n-n.ensures.value in
     let with_registers : c.match-algorithm.with_registers ≡ (if uses_registers setup.algorithm then setup.processes else 0) =
     elim c.match-algorithm.branch [
@@ -20,7 +20,7 @@ invariant_of-result g c =
     ]
     in
     current_at_start machine process.before setup.processes c.in_ok-processes.processes.items c.in_ok-mail.mail c.in_ok-registers.registers (events_of c.new-3.result) c.new-3.result
-    (length-first_states process.first 1 setup.processes setup.quorum setup.inputs ∙ c.n-n.ensures.ranges.an_input_each)
+    (length-first_states process.table.first 1 setup.processes setup.quorum setup.inputs ∙ c.n-n.ensures.ranges.an_input_each)
     c.in_ok-processes.ensures
     (c.in_ok-mail.ensures ∙ ap first_mail n)
     (c.in_ok-registers.ensures ∙ ap fresh_registers with_registers)

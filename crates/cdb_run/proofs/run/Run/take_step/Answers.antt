@@ -1,11 +1,10 @@
-use Rattle.std.proofs.Common.{rules, ◌<◌, length, None, IsSome, sym, ap, ◌∙◌, subst, arith}
+use Rattle.std.proofs.Common.{rules, ◌<◌, length, None, sym, ap, ◌∙◌, subst, arith}
 use Rattle.std.proofs.lemmas.Grind.{common_steps}
 use Rattle.cdb_base.specs.declared.event.Event.TheVariants.{Step}
 use Rattle.cdb_record.specs.Entries.{events_of}
 use Rattle.cdb_record.proofs.Seams.{events_push}
 use Rattle.cdb_run.specs.Current.{RunView}
-use Rattle.cdb_run.specs.Machines.{machine_of}
-use Rattle.cdb_run.specs.Step.{after, state_of}
+use Rattle.cdb_run.specs.Runs.{IsNext}
 use Rattle.cdb_run.proofs.Admitting.{enabled_standing}
 use Rattle.cdb_run.proofs.Held.{within, held_there, steps_few, queries_few, accepted_input, may_post, may_write, current_same, current_stepped}
 use Rattle.cdb_run.proofs.Starting.{length-first_states}
@@ -15,10 +14,10 @@ pub admit-requires : goal.admit-requires
 admit-requires g c =
     let process = g.P.Process in
     let event = Step c.args.p c.args.k c.args.kind.now in
-    let enabled = subst (λ (s : RunView). let machine = machine_of process.first process.next process.wish process.place process.last_place s.setup in IsSome (after machine (state_of machine s.history) event)) (sym c.self.view_is) c.requires in
+    let enabled = subst (λ (s : RunView). IsNext process.table s event) (sym c.self.view_is) c.requires in
     let setup = c.self.inside.setup in
     let ranges = c.n-ranges.ensures.ranges in
-    let number = length-first_states process.first 1 setup.processes setup.quorum setup.inputs in
+    let number = length-first_states process.table.first 1 setup.processes setup.quorum setup.inputs in
     let inputs = ranges.an_input_each in
     let few = ranges.processes.1 in
     enabled_standing c.self.invariant event enabled (omega (arith, number, inputs, few))
@@ -26,7 +25,7 @@ admit-requires g c =
 pub index_mut-progress-requires : goal.index_mut-progress-requires
 index_mut-progress-requires g c =
     let process = g.P.Process in
-    let enabled = subst (λ (s : RunView). let machine = machine_of process.first process.next process.wish process.place process.last_place s.setup in IsSome (after machine (state_of machine s.history) (Step c.args.p c.args.k c.args.kind.now))) (sym c.self.view_is) c.requires in
+    let enabled = subst (λ (s : RunView). IsNext process.table s (Step c.args.p c.args.k c.args.kind.now)) (sym c.self.view_is) c.requires in
     let here_within = within c.self.invariant c.args.p c.args.k c.args.kind.now enabled in
     let place = c.index.ensures.value in
     let below : c.index.result < length c.self.inside.processes.items = omega (arith, here_within, place) in
@@ -35,7 +34,7 @@ index_mut-progress-requires g c =
 pub change-requires-clause-steps : goal.change-requires-clause-steps
 change-requires-clause-steps g c =
     let process = g.P.Process in
-    let enabled = subst (λ (s : RunView). let machine = machine_of process.first process.next process.wish process.place process.last_place s.setup in IsSome (after machine (state_of machine s.history) (Step c.args.p c.args.k c.args.kind.now))) (sym c.self.view_is) c.requires in
+    let enabled = subst (λ (s : RunView). IsNext process.table s (Step c.args.p c.args.k c.args.kind.now)) (sym c.self.view_is) c.requires in
     let progress = c.index_mut-progress.result.now in
     let held = held_there c.self.invariant c.args.p c.args.k c.args.kind.now enabled c.index.result progress c.index.ensures.value c.index_mut-progress.ensures.value in
     steps_few c.self.invariant c.args.p c.args.k c.args.kind.now enabled progress held
@@ -43,7 +42,7 @@ change-requires-clause-steps g c =
 pub change-requires-clause-queries : goal.change-requires-clause-queries
 change-requires-clause-queries g c =
     let process = g.P.Process in
-    let enabled = subst (λ (s : RunView). let machine = machine_of process.first process.next process.wish process.place process.last_place s.setup in IsSome (after machine (state_of machine s.history) (Step c.args.p c.args.k c.args.kind.now))) (sym c.self.view_is) c.requires in
+    let enabled = subst (λ (s : RunView). IsNext process.table s (Step c.args.p c.args.k c.args.kind.now)) (sym c.self.view_is) c.requires in
     let progress = c.index_mut-progress.result.now in
     let held = held_there c.self.invariant c.args.p c.args.k c.args.kind.now enabled c.index.result progress c.index.ensures.value c.index_mut-progress.ensures.value in
     queries_few c.self.invariant c.args.p c.args.k c.args.kind.now enabled progress held
@@ -51,7 +50,7 @@ change-requires-clause-queries g c =
 pub change-requires-clause-accepted : goal.change-requires-clause-accepted
 change-requires-clause-accepted g c =
     let process = g.P.Process in
-    let enabled = subst (λ (s : RunView). let machine = machine_of process.first process.next process.wish process.place process.last_place s.setup in IsSome (after machine (state_of machine s.history) (Step c.args.p c.args.k c.args.kind.now))) (sym c.self.view_is) c.requires in
+    let enabled = subst (λ (s : RunView). IsNext process.table s (Step c.args.p c.args.k c.args.kind.now)) (sym c.self.view_is) c.requires in
     let progress = c.index_mut-progress.result.now in
     let held = held_there c.self.invariant c.args.p c.args.k c.args.kind.now enabled c.index.result progress c.index.ensures.value c.index_mut-progress.ensures.value in
     accepted_input c.self.invariant c.args.p c.args.k c.args.kind.now enabled progress held
@@ -59,7 +58,7 @@ change-requires-clause-accepted g c =
 pub change-requires-clause-postable : goal.change-requires-clause-postable
 change-requires-clause-postable g c =
     let process = g.P.Process in
-    let enabled = subst (λ (s : RunView). let machine = machine_of process.first process.next process.wish process.place process.last_place s.setup in IsSome (after machine (state_of machine s.history) (Step c.args.p c.args.k c.args.kind.now))) (sym c.self.view_is) c.requires in
+    let enabled = subst (λ (s : RunView). IsNext process.table s (Step c.args.p c.args.k c.args.kind.now)) (sym c.self.view_is) c.requires in
     let progress = c.index_mut-progress.result.now in
     let held = held_there c.self.invariant c.args.p c.args.k c.args.kind.now enabled c.index.result progress c.index.ensures.value c.index_mut-progress.ensures.value in
     may_post c.self.invariant c.args.p c.args.k c.args.kind.now enabled progress held
@@ -67,12 +66,12 @@ change-requires-clause-postable g c =
 pub change-requires-clause-writable : goal.change-requires-clause-writable
 change-requires-clause-writable g c =
     let process = g.P.Process in
-    let enabled = subst (λ (s : RunView). let machine = machine_of process.first process.next process.wish process.place process.last_place s.setup in IsSome (after machine (state_of machine s.history) (Step c.args.p c.args.k c.args.kind.now))) (sym c.self.view_is) c.requires in
+    let enabled = subst (λ (s : RunView). IsNext process.table s (Step c.args.p c.args.k c.args.kind.now)) (sym c.self.view_is) c.requires in
     let progress = c.index_mut-progress.result.now in
     let held = held_there c.self.invariant c.args.p c.args.k c.args.kind.now enabled c.index.result progress c.index.ensures.value c.index_mut-progress.ensures.value in
     let setup = c.self.inside.setup in
     let ranges = c.n-ranges.ensures.ranges in
-    let number = length-first_states process.first 1 setup.processes setup.quorum setup.inputs in
+    let number = length-first_states process.table.first 1 setup.processes setup.quorum setup.inputs in
     let inputs = ranges.an_input_each in
     let few = ranges.processes.1 in
     may_write c.self.invariant c.args.p c.args.k c.args.kind.now enabled progress held (omega (arith, number, inputs, few))
@@ -80,7 +79,7 @@ change-requires-clause-writable g c =
 pub invariant_of-self-in-Err : goal.invariant_of-self-in-Err
 invariant_of-self-in-Err g c =
     let process = g.P.Process in
-    let enabled = subst (λ (s : RunView). let machine = machine_of process.first process.next process.wish process.place process.last_place s.setup in IsSome (after machine (state_of machine s.history) (Step c.args.p c.args.k c.args.kind.now))) (sym c.self.view_is) c.requires in
+    let enabled = subst (λ (s : RunView). IsNext process.table s (Step c.args.p c.args.k c.args.kind.now)) (sym c.self.view_is) c.requires in
     let progress = c.index_mut-progress.result.now in
     let held = held_there c.self.invariant c.args.p c.args.k c.args.kind.now enabled c.index.result progress c.index.ensures.value c.index_mut-progress.ensures.value in
     let event = Step c.args.p c.args.k c.args.kind.now in
@@ -93,7 +92,7 @@ invariant_of-self-in-Err g c =
 pub invariant_of-self-in-Ok : goal.invariant_of-self-in-Ok
 invariant_of-self-in-Ok g c =
     let process = g.P.Process in
-    let enabled = subst (λ (s : RunView). let machine = machine_of process.first process.next process.wish process.place process.last_place s.setup in IsSome (after machine (state_of machine s.history) (Step c.args.p c.args.k c.args.kind.now))) (sym c.self.view_is) c.requires in
+    let enabled = subst (λ (s : RunView). IsNext process.table s (Step c.args.p c.args.k c.args.kind.now)) (sym c.self.view_is) c.requires in
     let progress = c.index_mut-progress.result.now in
     let held = held_there c.self.invariant c.args.p c.args.k c.args.kind.now enabled c.index.result progress c.index.ensures.value c.index_mut-progress.ensures.value in
     let ok = c.in-Ok.ensures in

@@ -1,7 +1,8 @@
 use Rattle.std.proofs.Common.{◌∙◌}
 use Rattle.crossbeam_queue.specs.Passes.{view}
-use Rattle.cdb_shared.specs.Seats.{place_of}
-use Rattle.cdb_shared.proofs.Calls.{knows_one, may_give, begins_after, later, is_call}
+use Rattle.cdb_shared.specs.Passes.{place_of}
+use Rattle.cdb_shared.specs.Turn.{story}
+use Rattle.cdb_shared.proofs.Calls.{knows_one, may_give, begins_after, later, is_call, sees_headline}
 use Rattle.cdb_shared.proofs.shared.Shared.call.Goals as goal
 
 pub give-requires-clause-control : goal.give-requires-clause-control
@@ -17,10 +18,15 @@ returns-clause-seat g c =
     let after = c.execute-reply.new.self in
     let done = c.execute-reply.ensures in
     let taken = c.take-control.ensures.taken in
-    let known = knows_one number v control c.seat.invariant.1 taken.1 in
+    let known = knows_one number v (story control) c.seat.invariant.1 taken.1 in
     (later number _ _ v _ _ control after _ c.seat.view_is (c.give.ensures.queue.0 ∙ c.take-control.ensures.queue.0) c.seat.invariant.1 taken c.give.ensures.given
     (begins_after control after number c.args.command c.execute-reply.result (place_of v.places).seen done.journal done.fault known.begins))
 
 pub returns-clause-call : goal.returns-clause-call
 returns-clause-call g c =
     is_call c.seat.inside.number _ c.give.new.pass.table_id (view c.seat.inside.pass) _ _ c.take-control.result c.execute-reply.new.self c.args.command c.execute-reply.result _ c.seat.view_is c.seat.invariant.1 c.take-control.ensures.taken c.give.ensures.given c.execute-reply.ensures.reply c.execute-reply.ensures.journal
+
+pub returns-clause-headline : goal.returns-clause-headline
+returns-clause-headline g c =
+    let done = c.execute-reply.ensures in
+    sees_headline c.seat.inside.number c.give.new.pass.table_id (view c.seat.inside.pass) _ _ c.take-control.result c.execute-reply.new.self c.args.command c.execute-reply.result c.seat.invariant.1 c.take-control.ensures.taken c.give.ensures.given done.journal done.fault done.headline

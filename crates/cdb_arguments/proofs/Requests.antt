@@ -1,0 +1,115 @@
+-- The requests of command lines whose texts are no options.
+use Rattle.std.proofs.Common.{◌≡◌, ◌≢◌, ◌∙◌, ◌≤◌, ℕ, Bool, true, false, List, [], ◌∷◌, Option, Some, None, refl, ap, sym, subst, codes, length, pos, arith, w64}
+use Rattle.std.specs.Prelude.{Result, IfOk, IfErr, unwrap_or}
+use Rattle.std.specs.Str.{bytes_eq}
+use Rattle.std.specs.Str.Parse.{digits_value, starts_with_minus, without_leading_plus}
+use Rattle.std.proofs.lemmas.Bool.{false≢true}
+use Rattle.std.proofs.lemmas.Int.{fits_signed_from_abs}
+use Rattle.std.proofs.Math.Dec.{le→leb}
+use Rattle.std.proofs.lemmas.Option.{none-some}
+use Rattle.clap.specs.Values.{IsSignedIn}
+use Rattle.cdb_arguments.proofs.PlainWords.{is_no_hyphen}
+use Rattle.std.proofs.lemmas.Result.{IfOk-weaker}
+use Rattle.clap.specs.ValueTests.{accepts}
+use Rattle.clap.specs.Words.{Row, Text, first_of, all_of, subcommand_of, takes}
+use Rattle.clap.specs.declared.builder.value_parser.ValueParser.TheVariants as vp
+use Rattle.clap.proofs.ValueTestLemmas.{Accepts-accepts}
+use Rattle.cdb_arguments.specs.Asking.{Asks, IsAnswer, IsPlayOf, IsRaceOf, IsTurns, text_at, texts, texts_at}
+use Rattle.cdb_arguments.specs.CommandLine.{program}
+use Rattle.cdb_arguments.specs.Plain.{IsNameAlone, IsNumberOfTurns, IsPlain, IsPlayLine, IsRaceLine, ArePlain}
+use Rattle.cdb_arguments.specs.declared.request.AskFault.{AskFault}
+use Rattle.cdb_arguments.specs.declared.request.AskFault.TheVariants.{NoMemory}
+use Rattle.cdb_arguments.specs.declared.request.Asked.{Asked}
+use Rattle.cdb_arguments.specs.declared.request.Asked.TheVariants.{Script, Play, Race}
+use Rattle.cdb_arguments.proofs.Lines.{nothing_asked, nothing_taken, play_asked, play_taken, PlayRows, race_asked, race_taken, RaceRows, AcceptsTurns}
+
+-- ---- what is asked for where clap has these matches
+
+script_is : (found : Option (Text × List Row)) (asked : Asked) → found ≡ None → Asks found asked → asked ≡ Script
+script_is found Script none asks = refl
+script_is found (Play a b) none asks = absurd (none-some _ (sym none ∙ asks.1))
+script_is found (Race a n b) none asks = absurd (none-some _ (sym none ∙ asks.1))
+
+some_same : {X : Type 0} (a b : X) → Some a ≡ Some b → a ≡ b
+some_same a b same = ap (λ found. unwrap_or found a) same
+
+same_rows : (found : Option (Text × List Row)) (name other : Text) (rows more : List Row) → found ≡ Some (name, rows) → found ≡ Some (other, more) → more ≡ rows
+same_rows found name other rows more a b = ap (λ p. p.1) (some_same (other, more) (name, rows) (sym b ∙ a))
+
+same_names : (found : Option (Text × List Row)) (name other : Text) (rows more : List Row) → found ≡ Some (name, rows) → found ≡ Some (other, more) → other ≡ name
+same_names found name other rows more a b = ap (λ p. p.0) (some_same (other, more) (name, rows) (sym b ∙ a))
+
+no_play_races : codes "play" ≡ codes "race" → ⊥
+no_play_races same = false≢true (ap (λ text. bytes_eq text (codes "race")) same)
+
+play_is : (found : Option (Text × List Row)) (rows : List Row) (setup script : Text) (asked : Asked) → found ≡ Some (codes "play", rows)
+    → PlayRows setup script rows → Asks found asked → IsPlayOf setup script asked
+play_is found rows setup script Script is have asks = absurd (none-some _ (sym asks ∙ is))
+play_is found rows setup script (Play a b) is have asks =
+    let same = same_rows found (codes "play") (codes "play") rows asks.0 is asks.1 in (
+      asks.2 ∙ ap (text_at (codes "SETUP")) same ∙ ap (λ text. unwrap_or text []) have.0,
+      asks.3 ∙ ap (text_at (codes "SCRIPT")) same ∙ ap (λ text. unwrap_or text []) have.1,
+    )
+play_is found rows setup script (Race a n b) is have asks =
+    absurd (no_play_races (same_names found (codes "race") (codes "play") asks.0 rows asks.1 is))
+
+race_is : (found : Option (Text × List Row)) (rows : List Row) (setup text : Text) (turns : ℕ) (scripts : List Text) (asked : Asked)
+    → found ≡ Some (codes "race", rows) → RaceRows setup text scripts rows → IsNumberOfTurns text turns → Asks found asked → IsRaceOf setup turns scripts asked
+race_is found rows setup text turns scripts Script is have number asks = absurd (none-some _ (sym asks ∙ is))
+race_is found rows setup text turns scripts (Play a b) is have number asks =
+    absurd (no_play_races (same_names found (codes "race") (codes "play") rows asks.0 is asks.1))
+race_is found rows setup text turns scripts (Race a n b) is have number asks =
+    let same = same_rows found (codes "race") (codes "race") rows asks.0 is asks.1 in
+    let its_text : text_at (codes "TURNS") asks.0 ≡ text = ap (text_at (codes "TURNS")) same ∙ ap (λ t. unwrap_or t []) have.1 in
+    let its_turns = subst (λ t. IsTurns t n) its_text asks.3 in (
+      asks.2 ∙ ap (text_at (codes "SETUP")) same ∙ ap (λ t. unwrap_or t []) have.0,
+      its_turns.1 number.0 (subst (λ m. m ≤ 99999) (sym number.1) number.2) ∙ number.1,
+      asks.4 ∙ ap (texts_at (codes "SCRIPT")) same ∙ ap (λ ts. unwrap_or ts []) have.2,
+    )
+
+-- ---- the answers
+
+pub script_answered : (words : List Text) (result : Result Asked AskFault) → IfOk result (Asks (subcommand_of program words))
+    → (takes program words ≡ true → IfErr result (λ fault. fault ≡ NoMemory)) → IsNameAlone words → IsAnswer result (λ asked. asked ≡ Script)
+script_answered words result ok taken alone =
+    let (name, is) = alone in (
+      IfOk-weaker result _ _ (λ asked asks. script_is _ asked (ap (subcommand_of program) is ∙ nothing_asked name) asks) ok,
+      taken (ap (takes program) is ∙ nothing_taken name),
+    )
+
+pub play_answered : (words : List Text) (result : Result Asked AskFault) → IfOk result (Asks (subcommand_of program words))
+    → (takes program words ≡ true → IfErr result (λ fault. fault ≡ NoMemory)) → (setup script : Text) → IsPlayLine words setup script
+    → IsAnswer result (IsPlayOf setup script)
+play_answered words result ok taken setup script line =
+    let its = play_asked line.0.0 setup script line.1.0 line.1.1.0 in (
+      IfOk-weaker result _ _ (λ asked asks. play_is _ its.0 setup script asked (ap (subcommand_of program) line.0.1 ∙ its.1) its.2 asks) ok,
+      taken (ap (takes program) line.0.1 ∙ play_taken line.0.0 setup script line.1.0 line.1.1.0),
+    )
+
+is_no_minus : (text : Text) → IsPlain text → starts_with_minus text ≡ false
+is_no_minus [] plain = refl
+is_no_minus (first ∷ rest) plain = is_no_hyphen first plain
+
+is_signed : (text : Text) (turns : ℕ) → IsPlain text → IsNumberOfTurns text turns → IsSignedIn (pos 0) (pos 99999) text
+is_signed text turns plain number =
+    let value = digits_value 10 (without_leading_plus text) in
+    let small : value ≤ 99999 = subst (λ n. n ≤ 99999) (sym number.1) number.2 in
+    rw (is_no_minus text plain) (number.0, fits_signed_from_abs w64 (pos value) (omega arith), omega (arith, le→leb), omega (arith, le→leb))
+
+-- the text of a number of turns is one that clap takes
+accepts_turns : (text : Text) (turns : ℕ) → IsPlain text → IsNumberOfTurns text turns → AcceptsTurns text
+accepts_turns text turns plain number = Accepts-accepts false (vp.Signed (pos 0) (pos 99999)) text (is_signed text turns plain number)
+
+pub race_answered : (words : List Text) (result : Result Asked AskFault) → IfOk result (Asks (subcommand_of program words))
+    → (takes program words ≡ true → IfErr result (λ fault. fault ≡ NoMemory)) → (setup : Text) (turns : ℕ) (script : Text) (more : List Text)
+    → IsRaceLine words setup turns script more → IsAnswer result (IsRaceOf setup turns (script ∷ more))
+race_answered words result ok taken setup turns script more line =
+    let name = line.0.0 in
+    let text = line.0.1 in
+    let is = line.0.2 in
+    let number = line.0.3 in
+    let plain = line.0.4 in
+    let its = race_asked name setup text script more plain in (
+      IfOk-weaker result _ _ (λ asked asks. race_is _ its.0 setup text turns (script ∷ more) asked (ap (subcommand_of program) is ∙ its.1) its.2 number asks) ok,
+      taken (ap (takes program) is ∙ race_taken name setup text script more plain (accepts_turns text turns plain.1.0 number) line.1),
+    )

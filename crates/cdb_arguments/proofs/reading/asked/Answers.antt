@@ -1,0 +1,12 @@
+use Rattle.cdb_arguments.proofs.Requests.{script_answered, play_answered, race_answered}
+use Rattle.cdb_arguments.specs.Asking.{texts}
+use Rattle.cdb_arguments.proofs.reading.asked.Goals as goal
+
+pub returns-clause-script : goal.returns-clause-script
+returns-clause-script c = script_answered (texts c.args.words.now) c.read.result c.read.ensures.ok c.read.ensures.taken
+
+pub returns-clause-play : goal.returns-clause-play
+returns-clause-play c = play_answered (texts c.args.words.now) c.read.result c.read.ensures.ok c.read.ensures.taken
+
+pub returns-clause-race : goal.returns-clause-race
+returns-clause-race c = race_answered (texts c.args.words.now) c.read.result c.read.ensures.ok c.read.ensures.taken

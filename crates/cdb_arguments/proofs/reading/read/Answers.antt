@@ -1,0 +1,7 @@
+use Rattle.std.proofs.Common.{sym, subst}
+use Rattle.cdb_arguments.specs.Asking.{NamesOne, texts}
+use Rattle.cdb_arguments.proofs.CommandLine.{names_one}
+use Rattle.cdb_arguments.proofs.reading.read.Goals as goal
+
+pub asked_by-requires : goal.asked_by-requires
+asked_by-requires c = subst NamesOne (sym c.in_ok-matches.ensures.ok) (names_one (texts c.args.words.now))

@@ -1,0 +1,72 @@
+-- What the arguments ask for.
+use Rattle.std.specs.Prelude.{◌≡◌, ◌⊎◌, ℕ, ◌≤◌, List, [], codes, map, Option, Some, None, unwrap_or, Result, IfOk, IfErr}
+use Rattle.std.specs.Borrow.{Bor}
+use Rattle.std.specs.Str.Parse.{IsNumeral, digits_value, without_leading_plus}
+use Rattle.clap.specs.Words.{Kinds, IsAmong, Row, Text, first_of, all_of, kind_of}
+use Rattle.clap.specs.declared.error.kind.ErrorKind.{ErrorKind}
+use Rattle.clap.specs.declared.error.kind.ErrorKind.TheVariants.{DisplayHelp, DisplayVersion}
+use Rattle.cdb_arguments.specs.declared.request.AskFault.{AskFault}
+use Rattle.cdb_arguments.specs.declared.request.AskFault.TheVariants.{Words, NoMemory}
+use Rattle.cdb_arguments.specs.declared.request.Asked.{Asked}
+use Rattle.cdb_arguments.specs.declared.request.Asked.TheVariants.{Script, Play, Race}
+
+-- the texts of the arguments
+abbrev pub texts : List (Bor Text) → List Text
+texts = map (λ text. text.now)
+
+-- one of the two subcommands, or none
+abbrev pub NamesOne : Option (Text × List Row) → Type 0
+NamesOne None = Unit {0}
+NamesOne (Some found) = (found.0 ≡ codes "play") ⊎ (found.0 ≡ codes "race")
+
+-- the text of an argument, which is empty where the matches have none
+abbrev pub text_at : Text → List Row → Text
+text_at id rows = unwrap_or (first_of id rows) []
+
+-- the texts of an argument, of which there are none where the matches have none
+abbrev pub texts_at : Text → List Row → List Text
+texts_at id rows = unwrap_or (all_of id rows) []
+
+-- a number of 0 to 99,999, and the one that the text's digits write, after a plus or not
+abbrev pub IsTurns : Text → ℕ → Type 0
+IsTurns text turns =
+    (turns ≤ 99999)
+    × (IsNumeral 10 (without_leading_plus text) → digits_value 10 (without_leading_plus text) ≤ 99999 → turns ≡ digits_value 10 (without_leading_plus text))
+
+-- the subcommand that the matches name, with its texts in their order
+abbrev pub Asks : Option (Text × List Row) → Asked → Type 0
+Asks found Script = found ≡ None
+Asks found (Play setup script) = (rows : List Row) × (found ≡ Some (codes "play", rows)) × (setup.now ≡ text_at (codes "SETUP") rows) × (script.now ≡ text_at (codes "SCRIPT") rows)
+Asks found (Race setup turns scripts) =
+    (rows : List Row) × (found ≡ Some (codes "race", rows)) × (setup.now ≡ text_at (codes "SETUP") rows) × IsTurns (text_at (codes "TURNS") rows) turns
+    × (map (λ script. script.now) scripts.items ≡ texts_at (codes "SCRIPT") rows)
+
+-- a play of these two files
+abbrev pub IsPlayOf : Text → Text → Asked → Type 0
+IsPlayOf setup script (Play its_setup its_script) = (its_setup.now ≡ setup) × (its_script.now ≡ script)
+IsPlayOf setup script asked = ⊥
+
+-- a race of these files, in this order
+abbrev pub IsRaceOf : Text → ℕ → List Text → Asked → Type 0
+IsRaceOf setup turns scripts (Race its_setup its_turns its_scripts) =
+    (its_setup.now ≡ setup) × (its_turns ≡ turns) × (texts its_scripts.items ≡ scripts)
+IsRaceOf setup turns scripts asked = ⊥
+
+-- what was asked for, or no memory to say it
+abbrev pub IsAnswer : Result Asked AskFault → (Asked → Type 0) → Type 0
+IsAnswer result IsIt = IfOk result IsIt × IfErr result (λ fault. fault ≡ NoMemory)
+
+-- out of memory, or an error of one of the kinds
+abbrev pub IsOfKinds : Kinds → AskFault → Type 0
+IsOfKinds kinds (Words error) = IsAmong (kind_of error) kinds
+IsOfKinds kinds NoMemory = Unit {0}
+
+-- help and the version are no mistakes; other arguments are
+abbrev pub words_status : ErrorKind → ℕ
+words_status DisplayHelp = 0
+words_status DisplayVersion = 0
+words_status kind = 2
+
+abbrev pub ask_status_of : AskFault → ℕ
+ask_status_of (Words error) = words_status (kind_of error)
+ask_status_of NoMemory = 6

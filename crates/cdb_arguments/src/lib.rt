@@ -1,0 +1,11 @@
+//! The command line of `revdbg`: what its arguments ask for, read by `clap`.
+#![tactic(auto)]
+
+mod reading;
+mod request;
+
+pub use reading::{ask_status, asked};
+pub use request::{AskFault, Asked};
+
+#[cfg(test)]
+mod tests;

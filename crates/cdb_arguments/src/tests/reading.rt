@@ -1,0 +1,71 @@
+//! The words of the command line.
+
+use crate::reading::{ask_status, asked};
+use crate::request::Asked;
+use std::process::Abort;
+
+#[test]
+fn no_words_ask_for_the_script(rt: HostRuntime) {
+    let answer = asked(rt.alloc(), &["revdbg"]);
+    assert!(rt; matches!(answer, Ok(Asked::Script)));
+}
+
+#[test]
+fn words_of_a_play(rt: HostRuntime) {
+    let Ok(Asked::Play { setup, script }) = asked(rt.alloc(), &["revdbg", "play", "a", "b"]) else {
+        panic!(rt; "these words ask for a play");
+    };
+    assert_eq!(rt; setup, "a");
+    assert_eq!(rt; script, "b");
+}
+
+#[test]
+fn words_of_a_race(rt: HostRuntime) {
+    let words = ["revdbg", "race", "a", "8", "b", "c"];
+    let Ok(
+        Asked::Race {
+            setup,
+            turns,
+            scripts,
+        },
+    ) = asked(rt.alloc(), &words)
+    else {
+        panic!(rt; "these words ask for a race");
+    };
+    assert_eq!(rt; setup, "a");
+    assert_eq!(rt; turns, 8);
+    assert_eq!(rt; scripts.as_slice(), ["b", "c"].as_slice());
+}
+
+#[test]
+fn the_most_turns(rt: HostRuntime) {
+    let words = ["revdbg", "race", "a", "99999", "b"];
+    let Ok(Asked::Race { turns, .. }) = asked(rt.alloc(), &words) else {
+        panic!(rt; "these words ask for a race");
+    };
+    assert_eq!(rt; turns, 99_999);
+}
+
+/// The words are refused, and this is the status.
+fn check_refused(rt: &(impl Abort + AllocGlobal), words: &[&str], status: u8) {
+    let Err(fault) = asked(rt.alloc(), words) else {
+        panic!(rt; "these words ask for nothing");
+    };
+    assert_eq!(rt; ask_status(&fault), status);
+}
+
+#[test]
+fn help_is_no_mistake(rt: HostRuntime) {
+    check_refused(&rt, &["revdbg", "--help"], 0);
+    check_refused(&rt, &["revdbg", "play", "-h"], 0);
+}
+
+#[test]
+fn refused_words(rt: HostRuntime) {
+    check_refused(&rt, &["revdbg", "jump"], 2);
+    check_refused(&rt, &["revdbg", "play", "a"], 2);
+    check_refused(&rt, &["revdbg", "play", "a", "b", "c"], 2);
+    check_refused(&rt, &["revdbg", "race", "a", "8"], 2);
+    check_refused(&rt, &["revdbg", "race", "a", "100000", "b"], 2);
+    check_refused(&rt, &["revdbg", "race", "a", "-1", "b"], 2);
+}

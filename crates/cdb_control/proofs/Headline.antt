@@ -1,0 +1,433 @@
+-- The headline holds of every journal.
+use Rattle.std.proofs.Common.{◌≡◌, ◌⊎◌, ⊎_elim, ℕ, zero, suc, ◌-◌, ◌<◌, ◌≤◌, Bool, true, false, not, List, [], ◌∷◌, ◌++◌, length, reverse, get_or, take, Option, Some, None, Result, Ok, Err, IsTrue, slice_get, nat_eq, nat_le, is_some, refl, sym, ap, ◌∙◌, subst, arith, append-nil, append_assoc, length-append}
+use Rattle.std.specs.List.{AllByRecursion}
+use Rattle.std.specs.Map.{lookup}
+use Rattle.std.proofs.lemmas.List.{get_or-set_same, length-replicate, length-reverse, reverse-append}
+use Rattle.cdb_base.specs.Event.{event_name}
+use Rattle.cdb_base.specs.Places.{without_last}
+use Rattle.cdb_base.specs.declared.act.Act.{Act}
+use Rattle.cdb_base.specs.declared.event.Event.{Event}
+use Rattle.cdb_base.specs.declared.name.StepId.{StepId}
+use Rattle.cdb_base.specs.declared.name.StepId.TheVariants as id
+use Rattle.cdb_base.specs.declared.refusal.Refusal.{Refusal}
+use Rattle.cdb_base.specs.declared.refusal.Refusal.TheVariants.{NoProcess, NothingToRedo, NoBreak, BreakLimit, NeededBy}
+use Rattle.cdb_causal.specs.Causality.{IsFree}
+use Rattle.cdb_causal.specs.Dependence.{depends}
+use Rattle.cdb_causal.specs.Exchange.{IsExchanged}
+use Rattle.cdb_causal.specs.Names.{IsFirstDependent}
+use Rattle.cdb_causal.specs.Rollback.{IsParted, IsRolledBack, without, remaining, rolled_back}
+use Rattle.cdb_causal.proofs.Chains.{parted}
+use Rattle.cdb_causal.proofs.Dependents.{get_push_back, last_free, without_push_back}
+use Rattle.cdb_causal.proofs.Exchanges.{free_to_end, rollback_to_end}
+use Rattle.cdb_control.specs.Answer.{Answer}
+use Rattle.cdb_control.specs.Answer as reply
+use Rattle.cdb_control.specs.Auto.{choice}
+use Rattle.cdb_control.specs.Commands.{Outcome, refused, unless, granted, found, unpaused, stepped, step, lost, taken_back, undo, rollback, why, redone, shown, outcome, answer, obey}
+use Rattle.cdb_control.specs.Headline.{undoing, rolling_back, TellsTaken, TellsRedone, IsUndoneWhereFree, IsUndoneNext, RedosLeadBack, IsRolledBackAndForth, HoldsAt, Headline}
+use Rattle.cdb_control.specs.Journal.{replay_from, replay, AreOfSeats, IsReplayed}
+use Rattle.cdb_run.specs.EventRefs.{name_of}
+use Rattle.cdb_control.specs.State.{State, first_state, redo_of, last_of, AreOfRun}
+use Rattle.cdb_control.specs.Stops.{names_none_of}
+use Rattle.cdb_control.specs.declared.command.Command.{Command}
+use Rattle.cdb_control.specs.declared.command.Command.TheVariants.{Step, Auto, Lose, Undo, UndoLost, Redo, Forget, Rollback, RollbackLost, Why, WhyLost, Break, Unbreak, Resume, Show, Decisions}
+use Rattle.cdb_control.specs.declared.command.View.{View}
+use Rattle.cdb_control.specs.declared.command.View.TheVariants as view
+use Rattle.cdb_control.specs.declared.control.Entry.{Entry}
+use Rattle.cdb_run.specs.declared.event_ref.EventRef.TheVariants as named
+use Rattle.cdb_control.proofs.Alls.{all-get_or, all-replicate, all-slice_get}
+use Rattle.cdb_control.proofs.FirstDependent.{free_or_needed}
+use Rattle.cdb_control.proofs.Table.{obey-adds}
+use Rattle.cdb_message.specs.Mail.{message_name}
+use Rattle.cdb_run.specs.Agreement.{AllAgree, HasMajorityIfNeeded}
+use Rattle.cdb_run.specs.Lawful.{AreLawful, KeepHistories}
+use Rattle.cdb_run.specs.Refusals.{IsOfRun}
+use Rattle.cdb_run.specs.Rules.{Rules}
+use Rattle.cdb_run.specs.Undo.{undo_of, rollback_of, causes_of}
+use Rattle.cdb_run.proofs.Answered.{undone_free, rolled_back_answered}
+use Rattle.cdb_run.proofs.Standing.{free_undone, needed_refused, standing_rolled_back}
+use Rattle.cdb_setup.specs.Parts.{Parts, IsWithin, AreInRange}
+
+-- ---- what one command does to a valid history
+
+module _ (rules : Rules) (SameState : List Event → List Event → Type 0) (t : State) (lawful : AreLawful rules t.setup) (keeps : KeepHistories rules SameState t.setup) (of_run : AreOfRun t) (valid : IsTrue (rules.valid t.history)) where
+  -- the history stays valid, the setup stays, and an event that the reply tells as taken is one more event at the end
+  pub record Keeps (o : Outcome) : Type 0 where
+    pub valid_after : IsTrue (rules.valid o.after.history)
+    pub setup : o.after.setup ≡ t.setup
+    pub taken : (event : Event) → TellsTaken o.reply event → o.after.history ≡ t.history ++ event ∷ []
+
+  -- nothing is taken, and the history stays
+  quiet : (o : Outcome) → o.after.history ≡ t.history → o.after.setup ≡ t.setup → ((event : Event) → TellsTaken o.reply event → ⊥) → Keeps o
+  quiet o same setup none =
+      record {
+        valid_after = subst (λ (h : List Event). IsTrue (rules.valid h)) (sym same) valid;
+        setup = setup;
+        taken = λ event tells. absurd (none event tells);
+      }
+
+  refused-keeps : (why : Refusal) → Keeps (refused t why)
+  refused-keeps why = quiet (refused t why) refl refl (λ event tells. tells)
+
+  unless-keeps : (b : Bool) (why : Refusal) (go : Outcome) → Keeps go → Keeps (unless b why t go)
+  unless-keeps true why go h = refused-keeps why
+  unless-keeps false why go h = h
+
+  granted-keeps : {A : Type 0} (x : Result A Refusal) (go : A → Outcome) → ((a : A) → x ≡ Ok a → Keeps (go a)) → Keeps (granted x t go)
+  granted-keeps (Ok a) go h = h a refl
+  granted-keeps (Err why) go h = refused-keeps why
+
+  found-keeps : {A : Type 0} (x : Option A) (why : Refusal) (go : A → Outcome) → ((a : A) → x ≡ Some a → Keeps (go a)) → Keeps (found x why t go)
+  found-keeps (Some a) why go h = h a refl
+  found-keeps None why go h = refused-keeps why
+
+  unpaused-keeps : (x : Option ℕ) (go : Outcome) → Keeps go → Keeps (unpaused x t go)
+  unpaused-keeps (Some b) go h = refused-keeps _
+  unpaused-keeps None go h = h
+
+  -- one event more
+  one_more : (e : Event) (o : Outcome) → IsTrue (rules.valid (t.history ++ e ∷ [])) → o.after.history ≡ t.history ++ e ∷ [] → o.after.setup ≡ t.setup → ((event : Event) → TellsTaken o.reply event → e ≡ event) → Keeps o
+  one_more e o longer is setup tells =
+      record {
+        valid_after = subst (λ (h : List Event). IsTrue (rules.valid h)) (sym is) longer;
+        setup = setup;
+        taken = λ event told. is ∙ ap (λ (x : Event). t.history ++ x ∷ []) (tells event told);
+      }
+
+  step-keeps : (p : ℕ) (act : Act) → Keeps (step rules t p act)
+  step-keeps p act =
+      granted-keeps (rules.step t.history p act) (stepped rules t p)
+      (λ e h. one_more e (stepped rules t p e) (keeps.step t.history valid p act e h) refl refl (λ event told. told))
+
+  undo-keeps : (seat : ℕ) (name : StepId) → Keeps (undo t seat name)
+  undo-keeps seat name =
+      granted-keeps (undo_of t.setup.processes t.history name) _
+      (λ undone h.
+      let u = undone_free t.setup.processes t.history name undone.0 undone.1 h in
+      let longer = keeps.exchanged t.history (without t.history u.0 ++ undone.0 ∷ []) (free_to_end depends t.history u.0 undone.0 u.2 u.3) valid in
+      record {
+        valid_after = subst (λ (l : List Event). IsTrue (rules.valid l)) (sym u.4) (keeps.beginning (without t.history u.0) (undone.0 ∷ []) longer);
+        setup = refl;
+        taken = λ event tells. absurd tells;
+      })
+
+  rollback-keeps : (seat : ℕ) (name : StepId) → Keeps (rollback t seat name)
+  rollback-keeps seat name =
+      granted-keeps (rollback_of t.setup.processes t.history name) _
+      (λ removed h.
+      let u = rolled_back_answered t.setup.processes t.history name removed.0 removed.1 h in
+      let longer = keeps.exchanged t.history (remaining depends t.history u.0 ++ rolled_back depends t.history u.0) (rollback_to_end depends t.history u.0) valid in
+      record {
+        valid_after = subst (λ (l : List Event). IsTrue (rules.valid l)) (sym u.5) (keeps.beginning (remaining depends t.history u.0) (rolled_back depends t.history u.0) longer);
+        setup = refl;
+        taken = λ event tells. absurd tells;
+      })
+
+  redo-keeps : (seat : ℕ) → Keeps (outcome rules t seat Redo)
+  unfolding outcome
+  redo-keeps seat =
+      found-keeps (last_of (redo_of t seat)) NothingToRedo _
+      (λ e last. granted-keeps (rules.again t.history e) (redone rules t seat)
+      (λ taken h.
+      let same = lawful.again t.history e taken h in
+      let waits = all-slice_get (IsOfRun t.setup) (redo_of t seat) _ e (all-get_or (AllByRecursion (IsOfRun t.setup)) t.redo (seat - 1) [] of_run.1 tt) last in
+      let again = subst (λ (x : Event). rules.again t.history e ≡ Ok x) same h in
+      let longer = subst (λ (x : Event). IsTrue (rules.valid (t.history ++ x ∷ []))) (sym same) (keeps.again t.history valid e waits again) in
+      one_more taken (redone rules t seat taken) longer refl refl (λ event told. told)))
+
+  why-keeps : (name : StepId) → Keeps (why t name)
+  why-keeps name = granted-keeps (causes_of t.setup.processes t.history name) _ (λ causes h. quiet _ refl refl (λ event tells. tells))
+
+  shown-keeps : (v : View) → Keeps (shown rules t v)
+  shown-keeps (view.Proc p) = found-keeps (rules.process t.history p) NoProcess _ (λ process h. quiet _ refl refl (λ event tells. tells))
+  shown-keeps view.Regs = quiet _ refl refl (λ event tells. tells)
+  shown-keeps view.Mail = quiet _ refl refl (λ event tells. tells)
+  shown-keeps view.History = quiet _ refl refl (λ event tells. tells)
+
+  pub obeyed-keeps : (seat : ℕ) (command : Command) → Keeps (outcome rules t seat command)
+  unfolding outcome
+  obeyed-keeps seat (Step p act) = step-keeps p act
+  obeyed-keeps seat (Auto p) = granted-keeps (choice rules t.history p) _ (λ act h. unpaused-keeps t.pause _ (step-keeps p act))
+  obeyed-keeps seat (Lose s m p) =
+      granted-keeps (rules.lose t.history (message_name s m) p) (lost t)
+      (λ e h. one_more e (lost t e) (keeps.lose t.history valid (message_name s m) p e h) refl refl (λ event told. told))
+  obeyed-keeps seat (Undo p k) = undo-keeps seat (name_of (named.Step p k))
+  obeyed-keeps seat (UndoLost s m p) = undo-keeps seat (name_of (named.Lost s m p))
+  obeyed-keeps seat Redo = redo-keeps seat
+  obeyed-keeps seat Forget = quiet _ refl refl (λ event tells. tells)
+  obeyed-keeps seat (Rollback p k) = rollback-keeps seat (name_of (named.Step p k))
+  obeyed-keeps seat (RollbackLost s m p) = rollback-keeps seat (name_of (named.Lost s m p))
+  obeyed-keeps seat (Why p k) = why-keeps (name_of (named.Step p k))
+  obeyed-keeps seat (WhyLost s m p) = why-keeps (name_of (named.Lost s m p))
+  obeyed-keeps seat (Break stop) =
+      unless-keeps (names_none_of t.setup.processes stop) NoProcess _
+      (unless-keeps (nat_le 99 (length t.stops)) BreakLimit _ (quiet _ refl refl (λ event tells. tells)))
+  obeyed-keeps seat (Unbreak number) =
+      unless-keeps (not (is_some (lookup (nat_eq number) t.stops))) NoBreak _ (quiet _ refl refl (λ event tells. tells))
+  obeyed-keeps seat Resume = quiet _ refl refl (λ event tells. tells)
+  obeyed-keeps seat (Show v) = shown-keeps v
+  obeyed-keeps seat Decisions = quiet _ refl refl (λ event tells. tells)
+
+-- ---- the commands that undo, roll back and redo
+
+abbrev undone_to : State → ℕ → Event × List Event → Outcome
+undone_to t seat done = record { reply = reply.Undone done.0; after = taken_back t seat (done.0 ∷ []) done.1 }
+
+abbrev rolled_to : State → ℕ → List Event × List Event → Outcome
+rolled_to t seat removed = record { reply = reply.RolledBack (length removed.0); after = taken_back t seat removed.0 removed.1 }
+
+undoing-is : (rules : Rules) (t : State) (seat : ℕ) (name : StepId) → outcome rules t seat (undoing name) ≡ undo t seat name
+unfolding outcome
+undoing-is rules t seat (id.Step step) = refl
+undoing-is rules t seat (id.Lost copy) = refl
+
+rolling-is : (rules : Rules) (t : State) (seat : ℕ) (name : StepId) → outcome rules t seat (rolling_back name) ≡ rollback t seat name
+unfolding outcome
+rolling-is rules t seat (id.Step step) = refl
+rolling-is rules t seat (id.Lost copy) = refl
+
+undone-is : (rules : Rules) (t : State) (seat : ℕ) (name : StepId) (r : Result (Event × List Event) Refusal) → undo_of t.setup.processes t.history name ≡ r → outcome rules t seat (undoing name) ≡ granted r t (undone_to t seat)
+undone-is rules t seat name r is = undoing-is rules t seat name ∙ ap (λ x. granted x t (undone_to t seat)) is
+
+rolled-is : (rules : Rules) (t : State) (seat : ℕ) (name : StepId) (r : Result (List Event × List Event) Refusal) → rollback_of t.setup.processes t.history name ≡ r → outcome rules t seat (rolling_back name) ≡ granted r t (rolled_to t seat)
+rolled-is rules t seat name r is = rolling-is rules t seat name ∙ ap (λ x. granted x t (rolled_to t seat)) is
+
+redone-is : (rules : Rules) (t : State) (seat : ℕ) (event : Event) → last_of (redo_of t seat) ≡ Some event → rules.again t.history event ≡ Ok event → outcome rules t seat Redo ≡ redone rules t seat event
+unfolding outcome
+redone-is rules t seat event last again =
+    ap (λ o. found o NothingToRedo t (λ e. granted (rules.again t.history e) t (redone rules t seat))) last
+    ∙ ap (λ r. granted r t (redone rules t seat)) again
+
+decisions-are : (rules : Rules) (t : State) (seat : ℕ) → answer rules t seat Decisions ≡ reply.Decisions (rules.decisions t.history)
+unfolding outcome
+decisions-are rules t seat = refl
+
+-- ---- an undo
+
+not_undone : {A : Type 0} (event : Event) (why : Refusal) → reply.Refused why ≡ reply.Undone event → A
+not_undone event why h = absurd (cc)
+
+same_needed : (one other : StepId) → reply.Refused (NeededBy one) ≡ reply.Refused (NeededBy other) → one ≡ other
+same_needed one other h = cc
+
+same_undone : (one other : Event) → reply.Undone one ≡ reply.Undone other → one ≡ other
+same_undone one other h = cc
+
+module _ (rules : Rules) (SameState : List Event → List Event → Type 0) (t : State) (keeps : KeepHistories rules SameState t.setup) (valid : IsTrue (rules.valid t.history)) where
+  module _ (seat i : ℕ) (event : Event) (at : slice_get t.history i ≡ Some event) where
+    abbrev name : StepId
+    name = event_name event
+
+    told_free : IsFree depends t.history i → outcome rules t seat (undoing name) ≡ undone_to t seat (event, without t.history i)
+    told_free free = undone-is rules t seat name _ (free_undone t.setup.processes t.history name i event (keeps.named t.history valid i event at) free)
+
+    told_needed : (later : StepId) → IsFirstDependent t.history i later → outcome rules t seat (undoing name) ≡ refused t (NeededBy later)
+    told_needed later first = undone-is rules t seat name _ (needed_refused t.setup.processes t.history name i event (keeps.named t.history valid i event at) later first)
+
+    pub undone_where_free : IsUndoneWhereFree rules t seat i event
+    undone_where_free =
+        record {
+          exactly = (
+            λ told. ⊎_elim (λ free. free) (λ later. not_undone event (NeededBy later.0) (sym (ap (λ (o : Outcome). o.reply) (told_needed later.0 later.1)) ∙ told)) either,
+            λ free. ap (λ (o : Outcome). o.reply) (told_free free),
+          );
+          needed = λ later. (
+            λ told. ⊎_elim
+                (λ free. not_undone event (NeededBy later) (sym told ∙ ap (λ (o : Outcome). o.reply) (told_free free)))
+                (λ first. subst (IsFirstDependent t.history i) (same_needed first.0 later (sym (ap (λ (o : Outcome). o.reply) (told_needed first.0 first.1)) ∙ told)) first.1)
+                either,
+            λ first. ap (λ (o : Outcome). o.reply) (told_needed later first),
+          );
+          either = either;
+          loss = λ copy is. keeps.losses_free t.history valid i copy (at ∙ ap Some is);
+          left = λ free. ap (λ (o : Outcome). o.after.history) (told_free free);
+        }
+      where
+        either : IsFree depends t.history i ⊎ ((later : StepId) × IsFirstDependent t.history i later)
+        either = free_or_needed t.history i event at
+
+-- what stands last is undone next
+pub undone_last : (rules : Rules) (SameState : List Event → List Event → Type 0) (before after : State) (event : Event) (seat : ℕ)
+    → KeepHistories rules SameState after.setup → IsTrue (rules.valid after.history) → after.history ≡ before.history ++ event ∷ [] → IsUndoneNext rules before after event seat
+undone_last rules SameState before after event seat keeps valid is =
+    let i = length before.history in
+    let at = ap (λ (h : List Event). slice_get h i) is ∙ get_push_back before.history event in
+    let free = subst (λ (h : List Event). IsFree depends h i) (sym is) (last_free depends before.history event) in
+    let told = told_free rules SameState after keeps valid seat i event at free in
+    record {
+      undone = ap (λ (o : Outcome). o.reply) told;
+      left = ap (λ (o : Outcome). o.after.history) told ∙ ap (λ (h : List Event). without h i) is ∙ without_push_back before.history event;
+    }
+
+-- ---- redos
+
+last_pushed : (xs : List Event) (x : Event) → last_of (xs ++ x ∷ []) ≡ Some x
+last_pushed xs x =
+    let long = length-append xs (x ∷ []) in
+    let place : length (xs ++ x ∷ []) - 1 ≡ length xs = omega (arith, long) in
+    ap (slice_get (xs ++ x ∷ [])) place ∙ get_push_back xs x
+
+front_pushed : (xs : List Event) (x : Event) → without_last (xs ++ x ∷ []) ≡ xs
+front_pushed xs x =
+    let long = length-append xs (x ∷ []) in
+    let place : length (xs ++ x ∷ []) - 1 ≡ length xs = omega (arith, long) in
+    ap (λ n. take n (xs ++ x ∷ [])) place ∙ taken xs x
+  where
+    taken : (xs : List Event) (x : Event) → take (length xs) (xs ++ x ∷ []) ≡ xs
+    taken [] x = refl
+    taken (y ∷ ys) x = ap (λ l. y ∷ l) (taken ys x)
+
+-- a list that holds an event is one of the lists
+within_lists : (lists : List (List Event)) (i : ℕ) (xs : List Event) (x : Event) → get_or lists i [] ≡ xs ++ x ∷ [] → i < length lists
+within_lists [] i xs x is = absurd (omega (arith, ap length is, length-append xs (x ∷ [])))
+within_lists (l ∷ more) zero xs x is = omega arith
+within_lists (l ∷ more) (suc i) xs x is = omega (arith, within_lists more i xs x is)
+
+module _ (rules : Rules) (SameState : List Event → List Event → Type 0) (setup : Parts) (keeps : KeepHistories rules SameState setup) (before : State) (seat : ℕ) where
+  pub lead_back : (events : List Event) (t : State) → IsTrue (rules.valid (t.history ++ events)) → redo_of t seat ≡ redo_of before seat ++ reverse events → SameState (t.history ++ events) before.history → RedosLeadBack rules SameState before seat t events
+  lead_back [] t valid list same = (subst (λ (h : List Event). SameState h before.history) (append-nil t.history) same, list ∙ append-nil (redo_of before seat))
+  lead_back (event ∷ events) t valid list same =
+      λ between stays waits.
+      let now = replay_from rules t between in
+      let old = redo_of before seat ++ reverse events in
+      let pushed : redo_of t seat ≡ old ++ event ∷ [] =
+      list ∙ ap (λ l. redo_of before seat ++ l) (reverse-append (event ∷ []) events) ∙ sym (append_assoc (redo_of before seat) (reverse events) (event ∷ [])) in
+      let list_now : redo_of now seat ≡ old ++ event ∷ [] = waits ∙ pushed in
+      let joined : t.history ++ event ∷ events ≡ (t.history ++ event ∷ []) ++ events = sym (append_assoc t.history (event ∷ []) events) in
+      let valid_joined = subst (λ (h : List Event). IsTrue (rules.valid h)) joined valid in
+      let again = subst (λ (h : List Event). rules.again h event ≡ Ok event) (sym stays) (keeps.last_again t.history event (keeps.beginning (t.history ++ event ∷ []) events valid_joined)) in
+      let is = redone-is rules now seat event (ap last_of list_now ∙ last_pushed old event) again in
+      let history : (obey rules now seat Redo).history ≡ t.history ++ event ∷ [] = ap (λ (o : Outcome). o.after.history) is ∙ ap (λ (h : List Event). h ++ event ∷ []) stays in
+      let low = within_lists now.redo (seat - 1) old event list_now in
+      let list_after : redo_of (obey rules now seat Redo) seat ≡ old =
+      ap (λ (o : Outcome). redo_of o.after seat) is
+      ∙ get_or-set_same now.redo (seat - 1) (without_last (redo_of now seat)) [] low
+      ∙ ap without_last list_now
+      ∙ front_pushed old event in (
+        subst (λ (r : Answer). TellsRedone r event) (sym (ap (λ (o : Outcome). o.reply) is)) refl,
+        lead_back events (obey rules now seat Redo)
+            (subst (λ (h : List Event). IsTrue (rules.valid (h ++ events))) (sym history) valid_joined)
+            list_after
+            (subst (λ (h : List Event). SameState (h ++ events) before.history) (sym history) (subst (λ (h : List Event). SameState h before.history) joined same)),
+      )
+
+-- ---- the headline of one state
+
+module _ (rules : Rules) (SameState : List Event → List Event → Type 0) (t : State) (lawful : AreLawful rules t.setup) (keeps : KeepHistories rules SameState t.setup) (of_run : AreOfRun t) (valid : IsTrue (rules.valid t.history)) where
+  then_undone : (seat : ℕ) (command : Command) (event : Event) → TellsTaken (answer rules t seat command) event → (other : ℕ) → IsUndoneNext rules t (obey rules t seat command) event other
+  then_undone seat command event tells other =
+      let kept = obeyed-keeps rules SameState t lawful keeps of_run valid seat command in
+      undone_last rules SameState t (obey rules t seat command) event other
+      (subst (KeepHistories rules SameState) (sym kept.setup) keeps) kept.valid_after (kept.taken event tells)
+
+  module _ (seat : ℕ) (low : seat - 1 < length t.redo) where
+    list_after : (events history : List Event) → redo_of (taken_back t seat events history) seat ≡ redo_of t seat ++ events
+    list_after events history = get_or-set_same t.redo (seat - 1) (redo_of t seat ++ events) [] low
+
+    redone_after : (events left : List Event) (after : State) → IsExchanged depends t.history (left ++ events) → after ≡ taken_back t seat (reverse events) left → RedosLeadBack rules SameState t seat after events
+    redone_after events left after exchanged is =
+        lead_back rules SameState t.setup keeps t seat events after
+        (subst (λ (s : State). IsTrue (rules.valid (s.history ++ events))) (sym is) (keeps.exchanged t.history (left ++ events) exchanged valid))
+        (ap (λ (s : State). redo_of s seat) is ∙ list_after (reverse events) left)
+        (subst (λ (s : State). SameState (s.history ++ events) t.history) (sym is) (keeps.same_state t.history (left ++ events) exchanged))
+
+    then_redone : (name : StepId) (event : Event) → answer rules t seat (undoing name) ≡ reply.Undone event → RedosLeadBack rules SameState t seat (obey rules t seat (undoing name)) (event ∷ [])
+    then_redone name event told = go (undo_of t.setup.processes t.history name) refl
+      where
+        go : (r : Result (Event × List Event) Refusal) → undo_of t.setup.processes t.history name ≡ r → RedosLeadBack rules SameState t seat (obey rules t seat (undoing name)) (event ∷ [])
+        go (Err refusal) is = not_undone event refusal (sym (ap (λ (o : Outcome). o.reply) (undone-is rules t seat name (Err refusal) is)) ∙ told)
+        go (Ok done) is =
+            let out = undone-is rules t seat name (Ok done) is in
+            let same = same_undone done.0 event (sym (ap (λ (o : Outcome). o.reply) out) ∙ told) in
+            let u = undone_free t.setup.processes t.history name done.0 done.1 is in
+            let exchanged = subst (λ (l : List Event). IsExchanged depends t.history (l ++ done.0 ∷ [])) (sym u.4) (free_to_end depends t.history u.0 done.0 u.2 u.3) in
+            redone_after (event ∷ []) done.1 (obey rules t seat (undoing name))
+            (subst (λ (e : Event). IsExchanged depends t.history (done.1 ++ e ∷ [])) same exchanged)
+            (ap (λ (o : Outcome). o.after) out ∙ ap (λ (e : Event). taken_back t seat (e ∷ []) done.1) same)
+
+    back_and_forth : (i : ℕ) (event : Event) → slice_get t.history i ≡ Some event → IsRolledBackAndForth rules SameState t seat i event
+    back_and_forth i event at =
+        let gone = rolled_back depends t.history i in
+        let left = remaining depends t.history i in
+        let name = event_name event in
+        let out = rolled-is rules t seat name (Ok (reverse gone, left)) (standing_rolled_back t.setup.processes t.history name i event (keeps.named t.history valid i event at)) in
+        record {
+          gone = gone;
+          told = ap (λ (o : Outcome). o.reply) out ∙ ap (λ (n : ℕ). reply.RolledBack n) (length-reverse gone);
+          exactly = subst (λ (o : Outcome). IsParted (IsRolledBack depends t.history i) 0 t.history o.after.history gone) (sym out) (parted depends t.history i);
+          back = redone_after gone left (obey rules t seat (rolling_back name)) (rollback_to_end depends t.history i) (ap (λ (o : Outcome). o.after) out);
+        }
+
+  agreed : HasMajorityIfNeeded t.setup → (seat : ℕ) (pairs : List (ℕ × ℕ)) → answer rules t seat Decisions ≡ reply.Decisions pairs → AllAgree pairs
+  agreed majority seat pairs told =
+      subst AllAgree (same_told (rules.decisions t.history) pairs (sym (decisions-are rules t seat) ∙ told)) (keeps.agreement majority t.history valid)
+    where
+      same_told : (one other : List (ℕ × ℕ)) → reply.Decisions one ≡ reply.Decisions other → one ≡ other
+      same_told one other h = cc
+
+  pub holds_at : (seats : ℕ) → length t.redo ≡ seats → HoldsAt rules SameState t.setup seats t
+  holds_at seats lists =
+      record {
+        reached = valid;
+        undone_where_free = λ seat i event at. undone_where_free rules SameState t keeps valid seat i event at;
+        step_then_undo = λ seat other command event tells. then_undone seat command event tells other;
+        undo_then_redo = λ seat event within told. then_redone seat (among seat within) (event_name event) event told;
+        rolled_back = λ seat i event within at. back_and_forth seat (among seat within) i event at;
+        agreement = λ seat pairs majority told. agreed majority seat pairs told;
+      }
+    where
+      among : (seat : ℕ) → IsWithin 1 seats seat → seat - 1 < length t.redo
+      among seat within = let low = within.0 in let high = within.1 in omega (arith, low, high, lists)
+
+-- ---- along a journal
+
+module _ (rules : Rules) (SameState : List Event → List Event → Type 0) (setup : Parts) (lawful : AreLawful rules setup) (keeps : KeepHistories rules SameState setup) (seats : ℕ) where
+  record IsSound (t : State) : Type 0 where
+    setup_is : t.setup ≡ setup
+    lists : length t.redo ≡ seats
+    of_run : AreOfRun t
+    valid : IsTrue (rules.valid t.history)
+
+  obeyed-sound : (t : State) (e : Entry) → IsSound t → (1 ≤ e.seat) × (e.seat ≤ seats) → IsSound (obey rules t e.seat e.command)
+  obeyed-sound t e sound among =
+      let lawful_here = subst (AreLawful rules) (sym sound.setup_is) lawful in
+      let keeps_here = subst (KeepHistories rules SameState) (sym sound.setup_is) keeps in
+      let high = among.1 in
+      let lists = sound.lists in
+      let adds = obey-adds rules t lawful_here e.seat e.command among.0 (omega (arith, high, lists)) in
+      let kept = obeyed-keeps rules SameState t lawful_here keeps_here sound.of_run sound.valid e.seat e.command in
+      record {
+        setup_is = kept.setup ∙ sound.setup_is;
+        lists = adds.lists ∙ sound.lists;
+        of_run = adds.of_run sound.of_run;
+        valid = kept.valid_after;
+      }
+
+  replayed-sound : (journal : List Entry) (t : State) → IsSound t → AreOfSeats seats journal → IsSound (replay_from rules t journal)
+  replayed-sound [] t sound all = sound
+  replayed-sound (e ∷ es) t sound all = replayed-sound es (obey rules t e.seat e.command) (obeyed-sound t e sound all.0) all.1
+
+  first-sound : IsSound (first_state setup seats)
+  first-sound = record { setup_is = refl; lists = length-replicate seats []; of_run = (tt, all-replicate (AllByRecursion (IsOfRun setup)) seats [] tt); valid = keeps.nothing }
+
+  replay-sound : (journal : List Entry) → AreOfSeats seats journal → IsSound (replay rules setup seats journal)
+  unfolding replay
+  replay-sound journal all = replayed-sound journal (first_state setup seats) first-sound all
+
+  pub holds : (journal : List Entry) → AreOfSeats seats journal → HoldsAt rules SameState setup seats (replay rules setup seats journal)
+  holds journal all =
+      let t = replay rules setup seats journal in
+      let sound = replay-sound journal all in
+      subst (λ (s : Parts). HoldsAt rules SameState s seats t) sound.setup_is
+      (holds_at rules SameState t (subst (AreLawful rules) (sym sound.setup_is) lawful) (subst (KeepHistories rules SameState) (sym sound.setup_is) keeps) sound.of_run sound.valid seats sound.lists)
+
+-- the same, where the rules are those of the setup
+pub headline_holds : (rules : Parts → Rules) (same_state : Parts → List Event → List Event → Type 0)
+    → ((given : Parts) → AreInRange given → AreLawful (rules given) given) → ((given : Parts) → AreInRange given → KeepHistories (rules given) (same_state given) given)
+    → (setup : Parts) → AreInRange setup → (seats : ℕ) (journal : List Entry) → AreOfSeats seats journal → Headline rules same_state setup seats journal
+headline_holds rules same_state lawful keeps setup range seats journal all = holds (rules setup) (same_state setup) setup (lawful setup range) (keeps setup range) seats journal all
+
+-- and for a control, which keeps to its journal
+pub replayed-headline : (rules : Parts → Rules) (same_state : Parts → List Event → List Event → Type 0)
+    → ((given : Parts) → AreInRange given → AreLawful (rules given) given) → ((given : Parts) → AreInRange given → KeepHistories (rules given) (same_state given) given)
+    → (setup : Parts) (seats : ℕ) (journal : List Entry) (t : State) → IsReplayed (rules setup) setup seats journal t → Headline rules same_state setup seats journal
+replayed-headline rules same_state lawful keeps setup seats journal t is = headline_holds rules same_state lawful keeps setup is.in_range seats journal is.of_seats

@@ -1,0 +1,124 @@
+-- The headline: what holds after any list of commands, of any number of sessions.
+use Rattle.std.specs.Prelude.{◌≡◌, ◌↔◌, ◌⊎◌, ℕ, List, [], ◌∷◌, Some, IsTrue, length, slice_get}
+use Rattle.cdb_base.specs.Event.{event_name}
+use Rattle.cdb_base.specs.declared.event.Event.{Event}
+use Rattle.cdb_base.specs.declared.event.Event.TheVariants.{Lost}
+use Rattle.cdb_base.specs.declared.name.CopyName.{CopyName}
+use Rattle.cdb_base.specs.declared.name.StepId.{StepId}
+use Rattle.cdb_base.specs.declared.name.StepId.TheVariants as named
+use Rattle.cdb_base.specs.declared.refusal.Refusal.TheVariants.{NeededBy}
+use Rattle.cdb_causal.specs.Causality.{IsFree}
+use Rattle.cdb_causal.specs.Dependence.{depends}
+use Rattle.cdb_causal.specs.Names.{IsFirstDependent}
+use Rattle.cdb_causal.specs.Rollback.{IsParted, IsRolledBack, without}
+use Rattle.cdb_control.specs.Answer.{Answer, Stepped, Undone, Redone, RolledBack, Refused}
+use Rattle.cdb_control.specs.Answer as reply
+use Rattle.cdb_control.specs.Commands.{answer, obey}
+use Rattle.cdb_control.specs.Journal.{replay_from, replay}
+use Rattle.cdb_control.specs.State.{State, redo_of}
+use Rattle.cdb_control.specs.declared.command.Command.{Command}
+use Rattle.cdb_control.specs.declared.command.Command.TheVariants.{Undo, UndoLost, Redo, Rollback, RollbackLost, Decisions}
+use Rattle.cdb_control.specs.declared.control.Entry.{Entry}
+use Rattle.cdb_run.specs.Agreement.{AllAgree, HasMajorityIfNeeded}
+use Rattle.cdb_run.specs.Rules.{Rules}
+use Rattle.cdb_setup.specs.Parts.{Parts, IsWithin}
+
+-- ---- words
+
+-- the command that undoes an event, what a seat that gives it is answered, and the control state that it leaves
+abbrev pub undoing : StepId → Command
+undoing (named.Step step) = Undo step.p step.k
+undoing (named.Lost copy) = UndoLost copy.msg.s copy.msg.m copy.to
+
+abbrev pub undo_reply : Rules → State → ℕ → Event → Answer
+undo_reply rules t seat event = answer rules t seat (undoing (event_name event))
+
+abbrev pub after_undo : Rules → State → ℕ → Event → State
+after_undo rules t seat event = obey rules t seat (undoing (event_name event))
+
+-- the same of a rollback
+abbrev pub rolling_back : StepId → Command
+rolling_back (named.Step step) = Rollback step.p step.k
+rolling_back (named.Lost copy) = RollbackLost copy.msg.s copy.msg.m copy.to
+
+abbrev pub rollback_reply : Rules → State → ℕ → Event → Answer
+rollback_reply rules t seat event = answer rules t seat (rolling_back (event_name event))
+
+abbrev pub after_rollback : Rules → State → ℕ → Event → State
+after_rollback rules t seat event = obey rules t seat (rolling_back (event_name event))
+
+-- the reply tells that the event was taken, or taken again
+abbrev pub TellsTaken : Answer → Event → Type 0
+TellsTaken (Stepped event decides paused) taken = event ≡ taken
+TellsTaken (Redone event decides) taken = event ≡ taken
+TellsTaken _ taken = ⊥
+
+-- the reply tells that the event was taken again
+abbrev pub TellsRedone : Answer → Event → Type 0
+TellsRedone (Redone event decides) taken = event ≡ taken
+TellsRedone _ taken = ⊥
+
+-- ---- the claims, of a control state t
+
+-- The undo of the event at place i is answered Undone exactly where no standing event depends on it, and else NeededBy
+-- the first later event that does. No event depends on a loss. After it the history is the one before without the event.
+pub record IsUndoneWhereFree (rules : Rules) (t : State) (seat i : ℕ) (event : Event) : Type 0 where
+  pub exactly : (undo_reply rules t seat event ≡ Undone event) ↔ IsFree depends t.history i
+  pub needed : (later : StepId)
+      → (undo_reply rules t seat event ≡ Refused (NeededBy later)) ↔ IsFirstDependent t.history i later
+  pub either : IsFree depends t.history i ⊎ ((later : StepId) × IsFirstDependent t.history i later)
+  pub loss : (copy : CopyName) → event ≡ Lost copy → IsFree depends t.history i
+  pub left : IsFree depends t.history i → (after_undo rules t seat event).history ≡ without t.history i
+
+-- After a command that took the event, its undo is answered Undone, and leaves the history, and so the run state, from
+-- before the command.
+pub record IsUndoneNext (rules : Rules) (before after : State) (event : Event) (seat : ℕ) : Type 0 where
+  pub undone : undo_reply rules after seat event ≡ Undone event
+  pub left : (after_undo rules after seat event).history ≡ before.history
+
+-- From t the seat's redos, one for each of the events, take these again in order, whatever commands come between that
+-- leave the history and the seat's redo list as they are. Then the run is in the state from before, and the list as it
+-- was. SameState says of two histories that they reach one state.
+abbrev pub RedosLeadBack : Rules → (List Event → List Event → Type 0) → State → ℕ → State → List Event → Type 0
+RedosLeadBack rules SameState before seat t [] =
+    SameState t.history before.history × (redo_of t seat ≡ redo_of before seat)
+RedosLeadBack rules SameState before seat t (event ∷ events) =
+    (between : List Entry) → let now = replay_from rules t between in
+    now.history ≡ t.history → redo_of now seat ≡ redo_of t seat
+    → TellsRedone (answer rules now seat Redo) event
+    × RedosLeadBack rules SameState before seat (obey rules now seat Redo) events
+
+-- The event at place i is taken back with exactly its consequences, the reply tells how many events that are, and as many
+-- redos lead back.
+pub record IsRolledBackAndForth (rules : Rules) (SameState : List Event → List Event → Type 0) (t : State) (seat i : ℕ) (event : Event) : Type 0 where
+  pub gone : List Event
+  pub told : rollback_reply rules t seat event ≡ RolledBack (length gone)
+  pub exactly : IsParted (IsRolledBack depends t.history i) 0 t.history (after_rollback rules t seat event).history gone
+  pub back : RedosLeadBack rules SameState t seat (after_rollback rules t seat event) gone
+
+-- ---- the headline
+
+-- Of the control state t of so many seats.
+pub record HoldsAt (rules : Rules) (SameState : List Event → List Event → Type 0) (setup : Parts) (seats : ℕ) (t : State) : Type 0 where
+  -- each standing event was enabled in its turn: the run state is what the standing events alone reach from the start
+  pub reached : IsTrue (rules.valid t.history)
+  -- an undo is taken exactly where no standing event depends on its event
+  pub undone_where_free : (seat i : ℕ) (event : Event) → slice_get t.history i ≡ Some event
+      → IsUndoneWhereFree rules t seat i event
+  -- step then undo is the identity, whoever steps and whoever undoes
+  pub step_then_undo : (seat other : ℕ) (command : Command) (event : Event) → TellsTaken (answer rules t seat command) event
+      → IsUndoneNext rules t (obey rules t seat command) event other
+  -- undo then redo is the identity
+  pub undo_then_redo : (seat : ℕ) (event : Event) → IsWithin 1 seats seat → undo_reply rules t seat event ≡ Undone event
+      → RedosLeadBack rules SameState t seat (after_undo rules t seat event) (event ∷ [])
+  -- a rollback removes an event with exactly its consequences, and as many redos lead back
+  pub rolled_back : (seat i : ℕ) (event : Event) → IsWithin 1 seats seat → slice_get t.history i ≡ Some event
+      → IsRolledBackAndForth rules SameState t seat i event
+  -- where a quorum is a majority, or in Alpha, no two decisions that are told differ
+  pub agreement : (seat : ℕ) (pairs : List (ℕ × ℕ)) → HasMajorityIfNeeded setup
+      → answer rules t seat Decisions ≡ reply.Decisions pairs → AllAgree pairs
+
+-- It holds of the control state that a journal leads to.
+abbrev pub Headline : (Parts → Rules) → (Parts → List Event → List Event → Type 0) → Parts → ℕ → List Entry → Type 0
+Headline rules same_state setup seats journal =
+    HoldsAt (rules setup) (same_state setup) setup seats (replay (rules setup) setup seats journal)

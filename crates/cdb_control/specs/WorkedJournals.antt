@@ -1,0 +1,35 @@
+-- Short journals of two seats, over one process of the leader-based algorithm that proposes 7 and is a quorum alone.
+use Rattle.std.specs.Prelude.{ℕ, List, [], ◌∷◌, Some}
+use Rattle.cdb_base.specs.declared.act.Act.TheVariants.{Go, Query}
+use Rattle.cdb_base.specs.declared.event.Event.{Event}
+use Rattle.cdb_base.specs.declared.event.Event.TheVariants as event
+use Rattle.cdb_base.specs.declared.event.Kind.TheVariants as kind
+use Rattle.cdb_control.specs.Answer.{Answer}
+use Rattle.cdb_control.specs.Journal.{entry, replies_of}
+use Rattle.cdb_control.specs.declared.command.Command.TheVariants.{Step, Undo, Redo, Rollback, Show, Decisions}
+use Rattle.cdb_control.specs.declared.command.View.TheVariants.{History}
+use Rattle.cdb_control.specs.declared.control.Entry.{Entry}
+use Rattle.cdb_run.specs.Algorithms.{rules}
+use Rattle.cdb_run.specs.WorkedRuns.{alone}
+use Rattle.cdb_setup.specs.declared.setup.Algorithm.TheVariants.{Leader}
+
+-- what a seat is answered along such a journal
+abbrev pub replies : ℕ → List Entry → List Answer
+replies seat journal = replies_of (rules (alone Leader (7 ∷ []))) (alone Leader (7 ∷ [])) 2 seat journal
+
+-- the first two steps of the process
+abbrev pub query : Event
+query = event.Step 1 1 (kind.Query 1)
+
+abbrev pub send : Event
+send = event.Step 1 2 (kind.Send 1)
+
+-- seat 1 steps; seat 2 undoes the step and, after a redo of seat 1 that is refused, takes it again
+abbrev pub undone_and_redone : List Entry
+undone_and_redone = entry 1 (Step 1 (Query (Some 1))) ∷ entry 2 (Undo 1 1) ∷ entry 1 Redo ∷ entry 2 Redo ∷ []
+
+-- seat 1 takes two steps; seat 2 rolls the first back, and takes both again, while seat 1 asks and is refused an undo
+abbrev pub rolled_back_and_redone : List Entry
+rolled_back_and_redone =
+    entry 1 (Step 1 (Query (Some 1))) ∷ entry 1 (Step 1 Go) ∷ entry 2 (Rollback 1 1) ∷ entry 2 Redo ∷ entry 1 Decisions
+    ∷ entry 2 Redo ∷ entry 1 (Undo 1 1) ∷ entry 1 (Show History) ∷ []

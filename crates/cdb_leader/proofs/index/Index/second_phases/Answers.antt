@@ -1,0 +1,7 @@
+use Rattle.std.proofs.Common.{sym}
+use Rattle.cdb_leader.proofs.IndexLaws.{second_of_none}
+use Rattle.cdb_leader.proofs.index.Index.second_phases.Goals as goal
+
+pub returns-in-None : goal.returns-in-None
+returns-in-None c = λ inbox h.
+    second_of_none c.args.round inbox _ (sym c.in-None.ensures.value) (h.rounds c.args.round) c.new.result c.new.ensures

@@ -1,0 +1,115 @@
+-- Where in an inbox the first messages of each kind stand.
+use Rattle.std.specs.Prelude.{◌≡◌, ℕ, zero, suc, ◌==◌, Bool, true, false, not, List, [], ◌∷◌, Option, Some, None, is_some, nat_eq, nat_le, count_by, if◌then◌else◌}
+use Rattle.std.specs.Option.{option_or, option_map, option_flatten}
+use Rattle.std.specs.HashMap.{get}
+use Rattle.cdb_base.specs.declared.payload.Payload.{Payload}
+use Rattle.cdb_base.specs.declared.payload.Payload.TheVariants.{P1, P2, D}
+use Rattle.cdb_base.specs.Places.{nth}
+use Rattle.cdb_base.specs.Processes.{all_processes}
+use Rattle.cdb_leader.specs.declared.inbox.Entry.{Entry}
+use Rattle.cdb_leader.specs.declared.inbox.FirstPhase.{FirstPhase}
+use Rattle.cdb_leader.specs.declared.first_phases.FirstPhases.{FirstPhases}
+use Rattle.cdb_leader.specs.declared.firsts.Firsts.{Firsts}
+use Rattle.cdb_leader.specs.declared.row.Row.{Row}
+use Rattle.cdb_leader.specs.declared.index.Index.{Index}
+use Rattle.cdb_leader.specs.Inbox.{first_given, if_from, names, first_phase, second_phase, decision_in}
+
+-- the round of a first-phase or second-phase message
+abbrev pub round_of : Payload → Option ℕ
+round_of (P1 round est lead) = Some round
+round_of (P2 round aux) = Some round
+round_of (D est) = None
+
+-- ---- positions
+
+-- the position of the first element that passes
+abbrev pub first_position : {X : Type 0} → (X → Bool) → List X → Option ℕ
+first_position test [] = None
+first_position test (x ∷ xs) = if test x then Some zero else option_map suc (first_position test xs)
+
+-- a position is noted where there is none
+abbrev pub noted : ℕ → Option ℕ → Option ℕ
+noted i o = option_or o (Some i)
+
+-- that position is forgotten
+abbrev pub forgotten : ℕ → Option ℕ → Option ℕ
+forgotten i None = None
+forgotten i (Some j) = if j == i then None else Some j
+
+-- ---- by sender
+
+-- the position that is kept for s
+unfoldable pub position_from : ℕ → Firsts → Option ℕ
+position_from s kept = option_flatten (nth kept.positions s)
+
+-- only what is kept for s changes
+abbrev pub ChangesFrom : ℕ → (Option ℕ → Option ℕ) → Firsts → Firsts → Type 0
+ChangesFrom s change old new =
+    (t : ℕ) → position_from t new ≡ (if s == t then change (position_from t old) else position_from t old)
+
+-- the entry came from s and reads as something
+abbrev pub reads_from : {A : Type 0} → ℕ → (Payload → Option A) → Entry → Bool
+reads_from s reading e = is_some (if_from s reading e)
+
+-- for each sender the position of its first entry that reads as something
+abbrev pub AreFirsts : {A : Type 0} → (Payload → Option A) → Firsts → List Entry → Type 0
+AreFirsts reading kept inbox =
+    (s : ℕ) → position_from s kept ≡ first_position (reads_from s reading) inbox
+
+-- ---- the first phase of one round
+
+-- the message from s
+unfoldable pub said_by : ℕ → FirstPhases → Option FirstPhase
+said_by s said = option_flatten (nth said.by_sender s)
+
+-- how many senders name m as leader
+abbrev pub backers_among : ℕ → FirstPhases → ℕ
+backers_among m said = count_by (λ s. names m (said_by s said)) all_processes
+
+-- the message of the least process that sent one and that at least q senders name as leader
+abbrev pub agreed_among : ℕ → FirstPhases → Option FirstPhase
+agreed_among q said =
+    first_given
+    (λ m. if nat_le q (backers_among m said) then said_by m said else None) all_processes
+
+-- ---- by round
+
+-- what the first second-phase message of round r carries, whoever sent it
+abbrev pub answer_in : ℕ → List Entry → Option (Option ℕ)
+answer_in r inbox = first_given (λ e. second_phase r e.payload) inbox
+
+-- both are there, and they carry different things
+abbrev pub are_different : Option (Option ℕ) → Option (Option ℕ) → Bool
+are_different None y = false
+are_different (Some x) None = false
+are_different (Some None) (Some None) = false
+are_different (Some None) (Some (Some w)) = true
+are_different (Some (Some v)) (Some None) = true
+are_different (Some (Some v)) (Some (Some w)) = not (v == w)
+
+-- the row says where in the inbox the first messages of round r stand: those of each sender, the
+-- first answer, and the first that carries something else than that
+pub record IsRowOf (r : ℕ) (row : Row) (inbox : List Entry) : Type 0 where
+  pub first_phases : AreFirsts (first_phase r) row.first_phases inbox
+  pub second_phases : AreFirsts (second_phase r) row.second_phases inbox
+  pub answer : row.answer ≡ first_position (λ e. is_some (second_phase r e.payload)) inbox
+  pub other_answer : row.other_answer
+      ≡ first_position (λ e. are_different (answer_in r inbox) (second_phase r e.payload)) inbox
+
+-- the row keeps nothing
+pub record IsEmptyRow (row : Row) : Type 0 where
+  pub first_phases : (s : ℕ) → position_from s row.first_phases ≡ None
+  pub second_phases : (s : ℕ) → position_from s row.second_phases ≡ None
+  pub answer : row.answer ≡ None
+  pub other_answer : row.other_answer ≡ None
+
+-- a round that has no row needs an empty one
+abbrev pub IsRoundOf : ℕ → Option Row → List Entry → Type 0
+IsRoundOf r (Some row) inbox = IsRowOf r row inbox
+IsRoundOf r None inbox = (row : Row) → IsEmptyRow row → IsRowOf r row inbox
+
+-- ---- the index of an inbox
+
+pub record IsIndexOf (index : Index) (inbox : List Entry) : Type 0 where
+  pub rounds : (r : ℕ) → IsRoundOf r (get nat_eq index.rows r) inbox
+  pub decisions : AreFirsts decision_in index.decisions inbox

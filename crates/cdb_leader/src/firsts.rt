@@ -1,0 +1,78 @@
+ghost use Rattle.std.specs.Prelude.{◌≡◌, ℕ, ◌==◌, None, count_by, is_some, if◌then◌else◌};
+ghost use Rattle.cdb_base.specs.Processes.{all_processes};
+ghost use Rattle.cdb_leader.specs.Index.{position_from, noted, forgotten, ChangesFrom};
+
+use cdb_base::Proc;
+
+/// The position that is kept, or that one where none is.
+pub(crate) fn noted(kept: Option<usize>, position: usize) -> Option<usize>
+    ensures { result ≡ noted position kept }
+{
+    kept.or(Some(position))
+}
+
+/// The position that is kept, unless it is that one.
+pub(crate) fn forgotten(kept: Option<usize>, position: usize) -> Option<usize>
+    ensures { result ≡ forgotten position kept }
+{
+    kept.filter(|i| *i != position)
+}
+
+/// For each sender where in an inbox its first message of one kind stands.
+#[derive(Clone, Copy)]
+pub struct Firsts {
+    positions: [Option<usize>; 9],
+}
+
+impl Firsts {
+    /// Nothing is kept.
+    #[tactic(auto, unfolding(crate::specs::Index::position_from))]
+    pub(crate) fn new() -> Self
+        ensures { (s : ℕ) → position_from s result ≡ None }
+    {
+        Firsts {
+            positions: [None; 9],
+        }
+    }
+
+    /// The position that is kept for that sender.
+    #[tactic(auto, unfolding(crate::specs::Index::position_from))]
+    pub(crate) fn get(&self, sender: Proc) -> Option<usize>
+        ensures { result ≡ position_from sender self.now }
+    {
+        self.positions[sender.index()]
+    }
+
+    /// For how many senders a position is kept.
+    pub(crate) fn count(&self) -> usize
+        ensures { result ≡ count_by (λ s. is_some (position_from s self.now)) all_processes }
+    {
+        Proc::all()
+            .iter()
+            .filter(|sender| self.get(**sender).is_some())
+            .count()
+    }
+
+    #[tactic(auto, unfolding(crate::specs::Index::position_from))]
+    fn set(&mut self, sender: Proc, kept: Option<usize>)
+        ensures { ChangesFrom sender (λ _. kept) self.old self.new }
+    {
+        self.positions[sender.index()] = kept;
+    }
+
+    /// Keeps the position for that sender, where none is kept.
+    pub(crate) fn note(&mut self, sender: Proc, position: usize)
+        ensures { ChangesFrom sender (noted position) self.old self.new }
+    {
+        let kept = self.get(sender);
+        self.set(sender, noted(kept, position));
+    }
+
+    /// Keeps that position no longer for that sender.
+    pub(crate) fn forget(&mut self, sender: Proc, position: usize)
+        ensures { ChangesFrom sender (forgotten position) self.old self.new }
+    {
+        let kept = self.get(sender);
+        self.set(sender, forgotten(kept, position));
+    }
+}

@@ -1,0 +1,107 @@
+ghost use Rattle.std.specs.Prelude.{◌≡◌, List, [], ◌∷◌, ◌++◌, OnOk, OnErr};
+ghost use Rattle.cdb_leader.specs.declared.inbox.Entry.{Entry};
+ghost use Rattle.cdb_leader.specs.Inbox.{first_phase, second_phase, decision_in};
+ghost use Rattle.cdb_leader.specs.Index.{position_from, AreFirsts, IsRowOf, IsIndexOf};
+
+use crate::firsts::Firsts;
+use crate::inbox::Entry;
+use crate::row::Row;
+use cdb_base::{NoMemory, Proc};
+use std::alloc::Global;
+use std::collections::HashMap;
+
+/// Where in an inbox the first messages of each kind stand: a row for each round that one came of,
+/// and the first decisions.
+#[derive(Drop)]
+pub struct Index {
+    rows: HashMap<u32, Row>,
+    decisions: Firsts,
+}
+
+impl Index {
+    /// The index of an empty inbox.
+    pub(crate) fn new(alloc: Global) -> Self
+        ensures { IsIndexOf result [] }
+    {
+        Index {
+            rows: HashMap::new(alloc),
+            decisions: Firsts::new(),
+        }
+    }
+
+    /// What is kept for that round.
+    pub(crate) fn row(&self, round: u32) -> Row
+        ensures { (inbox : List Entry) → IsIndexOf self.now inbox → IsRowOf round result inbox }
+    {
+        match self.rows.get(&round) {
+            Some(row) => *row,
+            None => Row::new(),
+        }
+    }
+
+    /// What is kept of that round's first phase.
+    pub(crate) fn first_phases(&self, round: u32) -> Firsts
+        ensures { (inbox : List Entry) → IsIndexOf self.now inbox
+            → AreFirsts (first_phase round) result inbox }
+    {
+        match self.rows.get(&round) {
+            Some(row) => row.first_phases,
+            None => Firsts::new(),
+        }
+    }
+
+    /// What is kept of that round's second phase.
+    pub(crate) fn second_phases(&self, round: u32) -> Firsts
+        ensures { (inbox : List Entry) → IsIndexOf self.now inbox
+            → AreFirsts (second_phase round) result inbox }
+    {
+        match self.rows.get(&round) {
+            Some(row) => row.second_phases,
+            None => Firsts::new(),
+        }
+    }
+
+    /// Where the decision of that sender stands.
+    pub(crate) fn decision(&self, sender: Proc) -> Option<usize>
+        ensures { result ≡ position_from sender self.now.decisions }
+    {
+        self.decisions.get(sender)
+    }
+
+    /// Notes the entry that comes after those. Where an allocation fails, the index is as it was.
+    pub(crate) fn note(&mut self, entries: &[Entry], entry: &Entry) -> Result<(), NoMemory>
+        ensures ok { IsIndexOf self.old entries.now
+            → OnOk result (IsIndexOf self.new (entries.now ++ entry.now ∷ [])) }
+        ensures err { IsIndexOf self.old entries.now
+            → OnErr result (IsIndexOf self.new entries.now) }
+    {
+        match entry.round() {
+            Some(round) => {
+                if let Some(row) = self.rows.get_mut(&round) {
+                    row.note(round, entries, entry);
+                    return Ok(());
+                }
+                let mut row = Row::new();
+                row.note(round, entries, entry);
+                self.rows.insert(round, row)?;
+            }
+            None => self.decisions.note(entry.from, entries.len()),
+        }
+        Ok(())
+    }
+
+    /// Forgets the entry that came after those. It allocates nothing.
+    pub(crate) fn forget(&mut self, entries: &[Entry], entry: &Entry)
+        ensures { IsIndexOf self.old (entries.now ++ entry.now ∷ [])
+            → IsIndexOf self.new entries.now }
+    {
+        match entry.round() {
+            Some(round) => {
+                if let Some(row) = self.rows.get_mut(&round) {
+                    row.forget(round, entries, entry);
+                }
+            }
+            None => self.decisions.forget(entry.from, entries.len()),
+        }
+    }
+}

@@ -1,0 +1,3 @@
+pub mod Marking
+pub mod Prefixes
+pub mod Walk

@@ -1,0 +1,134 @@
+//! A buffer between what is put and a writer.
+
+ghost use Rattle.std.specs.Prelude.{◌≡◌, ◌↔◌, ℕ, ◌<◌, ◌≤◌, List, [], ◌++◌, take, length, vec_capacity, IsTrue, IfOk, OnOk, OnErr};
+
+use crate::sink::{Failed, Sink, write_all};
+use cdb_base::NoMemory;
+use std::alloc::{AllocError, Global};
+use std::marker::Model;
+
+/// How many bytes are handed on at a time.
+const PIECE: usize = 65_536;
+
+/// Why not all was written.
+#[derive(Clone, Copy, Debug, PartialEq, Eq)]
+pub enum OutputFault {
+    /// The writer failed in this call.
+    Write,
+    NoMemory,
+}
+
+impl From<Failed> for OutputFault {
+    ghost use Rattle.std.specs.Prelude.{◌≡◌};
+    ghost use Rattle.cdb_play.specs.declared.buffer.OutputFault.TheVariants.{Write as write};
+
+    ghost from_gives = { λ _ made. made ≡ write };
+
+    fn from(_error: Failed) -> Self {
+        OutputFault::Write
+    }
+}
+
+impl From<NoMemory> for OutputFault {
+    ghost use Rattle.std.specs.Prelude.{◌≡◌};
+    ghost use Rattle.cdb_play.specs.declared.buffer.OutputFault.TheVariants.{NoMemory as no_memory};
+
+    ghost from_gives = { λ _ made. made ≡ no_memory };
+
+    fn from(_error: NoMemory) -> Self {
+        OutputFault::NoMemory
+    }
+}
+
+impl From<AllocError> for OutputFault {
+    ghost use Rattle.std.specs.Prelude.{◌≡◌};
+    ghost use Rattle.cdb_play.specs.declared.buffer.OutputFault.TheVariants.{NoMemory as no_memory};
+
+    ghost from_gives = { λ _ made. made ≡ no_memory };
+
+    fn from(_error: AllocError) -> Self {
+        OutputFault::NoMemory
+    }
+}
+
+/// Bytes on their way to a writer, at most a piece of them.
+#[derive(Drop)]
+pub struct Buffer {
+    held: Vec<u8>,
+}
+
+impl Model for Buffer {
+    ghost Value = { List ℕ };
+
+    ghost view = { λ buffer. buffer.held.items };
+
+    ghost invariant = { λ buffer. (length buffer.held.items ≤ 65536) × (65536 ≤ vec_capacity buffer.held) };
+}
+
+impl Buffer {
+    ghost use Rattle.cdb_play.specs.Buffers.{IsPut};
+    ghost use Rattle.cdb_play.specs.Streams.{Fails, Writes};
+
+    /// An empty buffer, which has all the memory that it will need.
+    pub fn new(alloc: Global) -> Result<Self, AllocError>
+        ensures { IfOk result (λ buffer. buffer ≡ []) }
+    {
+        let held = Vec::with_capacity(alloc, PIECE)?;
+        Ok(Buffer { held })
+    }
+
+    fn is_full(&self) -> bool
+        ensures full { IsTrue result ↔ (length self.now ≡ 65536) }
+        ensures within { length self.now ≤ 65536 }
+    {
+        self.held.len() == PIECE
+    }
+
+    /// Holds a beginning of the bytes too, as many as there is room for, and returns how many.
+    fn fill(&mut self, bytes: &[u8]) -> usize
+        ensures within { result ≤ length bytes.now }
+        ensures held { self.new ≡ self.old ++ take result bytes.now }
+        ensures some { length self.old < 65536 → 0 < length bytes.now → 0 < result }
+    {
+        let count = bytes.len().min(PIECE - self.held.len());
+        match self.held.extend_from_slice(&bytes[..count]) {
+            Ok(()) => count,
+            Err(_) => unreachable!(),
+        }
+    }
+
+    /// Writes what is held, and holds nothing then.
+    pub fn flush<W: Sink>(&mut self, out: &mut W) -> Result<(), Failed>
+        ensures written { Writes W.contents W.failures result out.old out.new self.old }
+        ensures emptied { OnOk result (self.new ≡ []) }
+    {
+        write_all(out, self.held.as_slice())?;
+        self.held.clear();
+        Ok(())
+    }
+
+    /// Writes what is held if it is a full piece. So there is room then.
+    fn make_room<W: Sink>(&mut self, out: &mut W) -> Result<(), Failed>
+        ensures put { OnOk result (IsPut W.contents W.failures out.old self.old out.new self.new []) }
+        ensures room { OnOk result (length self.new < 65536) }
+        ensures err { OnErr result (Fails W.contents W.failures out.old out.new self.old) }
+    {
+        if self.is_full() {
+            self.flush(out)?;
+        }
+        Ok(())
+    }
+
+    /// Puts the bytes after those that are held. Each full piece is written before there is more to hold.
+    pub fn put<W: Sink>(&mut self, out: &mut W, bytes: &[u8]) -> Result<(), Failed>
+        ensures ok { OnOk result (IsPut W.contents W.failures out.old self.old out.new self.new bytes.now) }
+        ensures err { OnErr result (Fails W.contents W.failures out.old out.new (self.old ++ bytes.now)) }
+    {
+        let mut done = 0;
+        while done < bytes.len() {
+            self.make_room(out)?;
+            done += self.fill(&bytes[done..]);
+        }
+        Ok(())
+    }
+}

@@ -1,0 +1,35 @@
+use Rattle.std.proofs.Common.{sym, ap, ◌∙◌, subst}
+use Rattle.std.proofs.lemmas.Result.{on_ok_weaker}
+use Rattle.cdb_run.specs.Current.{RunView}
+use Rattle.cdb_run.specs.Machines.{machine_of}
+use Rattle.cdb_run.specs.Runs.{with_event, IsJustTaken}
+use Rattle.cdb_run.proofs.Starting.{length-first_states}
+use Rattle.cdb_run.proofs.TakenBack.{just_taken}
+use Rattle.cdb_setup.specs.Parts.{AreInRange}
+use Rattle.cdb_run.proofs.run.Run.take.Goals as goal
+
+pub returns-in-Step-clause-undoable : goal.returns-in-Step-clause-undoable
+returns-in-Step-clause-undoable g c =
+    let table = g.P.Process.table in
+    let run = c.args.self.now in
+    let setup = run.setup in
+    let number =
+    length-first_states table.first 1 setup.processes setup.quorum setup.inputs ∙ (subst AreInRange c.setup.ensures c.n-ranges.ensures.ranges).an_input_each in
+    let event = c.args.event.now in
+    on_ok_weaker c.take_step.result
+    (λ after. subst (λ (v : RunView). IsJustTaken v event run) (sym (after ∙ ap (with_event run) (sym c.in-Step.is)))
+    (just_taken (machine_of table setup) setup.processes number run.history c.history-valid.ensures.valid event c.requires))
+    c.take_step.ensures.ok
+
+pub returns-in-Lost-clause-undoable : goal.returns-in-Lost-clause-undoable
+returns-in-Lost-clause-undoable g c =
+    let table = g.P.Process.table in
+    let run = c.args.self.now in
+    let setup = run.setup in
+    let number =
+    length-first_states table.first 1 setup.processes setup.quorum setup.inputs ∙ (subst AreInRange c.setup.ensures c.n-ranges.ensures.ranges).an_input_each in
+    let event = c.args.event.now in
+    on_ok_weaker c.take_loss.result
+    (λ after. subst (λ (v : RunView). IsJustTaken v event run) (sym (after ∙ ap (with_event run) (sym c.in-Lost.is)))
+    (just_taken (machine_of table setup) setup.processes number run.history c.history-valid.ensures.valid event c.requires))
+    c.take_loss.ensures.ok

@@ -1,0 +1,63 @@
+-- What a step of one process is answered and changes, by its progress, the mail and the registers as they stand.
+use Rattle.std.specs.Prelude.{ℕ, ◌+◌, not, nat_le, [], ◌∷◌, length, Option, Result, Ok, Err, if◌then◌else◌}
+use Rattle.cdb_base.specs.declared.act.Act.{Act}
+use Rattle.cdb_base.specs.declared.event.Event.{Event}
+use Rattle.cdb_base.specs.declared.event.Event.TheVariants.{Step}
+use Rattle.cdb_base.specs.declared.event.Kind.{Kind}
+use Rattle.cdb_base.specs.declared.name.MsgName.{MsgName}
+use Rattle.cdb_base.specs.declared.payload.Payload.{Payload}
+use Rattle.cdb_base.specs.declared.refusal.Refusal.{Refusal}
+use Rattle.cdb_base.specs.declared.refusal.Refusal.TheVariants as refusal
+use Rattle.cdb_base.specs.declared.register.Cell.{Cell}
+use Rattle.cdb_message.specs.Mail.{MailState, copy_name, sent_by, is_sent, is_received, is_lost}
+use Rattle.cdb_process.specs.Table.{Table}
+use Rattle.cdb_register.specs.Registers.{RegisterStates}
+use Rattle.cdb_run.specs.Machines.{machine_of}
+use Rattle.cdb_run.specs.Refusals.{first_refusal, accepts_kind, planned, planned_again, again_checks}
+use Rattle.cdb_run.specs.Step.{sight, input_of, taken_local, wished_payload, wished_cell}
+use Rattle.cdb_run.specs.declared.progress.Progress.{Progress}
+use Rattle.cdb_setup.specs.Parts.{Parts}
+
+-- the first refusal that holds, else the event that the act names
+abbrev pub plan_at : {L : Type 0} → Table L → Parts → MailState → RegisterStates → Progress L → ℕ → Act → Result Event Refusal
+plan_at table setup mail registers progress p do_act = planned (machine_of table setup) setup mail registers progress p do_act
+
+-- the same for a step that was undone
+abbrev pub plan_again_at : {L : Type 0} → Table L → Parts → MailState → RegisterStates → Progress L → ℕ → ℕ → Kind → Result Event Refusal
+plan_again_at table setup mail registers progress p k kind = planned_again (machine_of table setup) mail registers progress p k kind
+
+abbrev pub refusal_again_at : {L : Type 0} → Table L → Parts → MailState → RegisterStates → Progress L → ℕ → ℕ → Kind → Option Refusal
+refusal_again_at table setup mail registers progress p k kind =
+    first_refusal (again_checks (machine_of table setup) mail registers progress p k kind)
+
+-- why the copy of a message for process p can be neither received nor lost
+abbrev pub copy_refusal : MailState → ℕ → MsgName → Option Refusal
+copy_refusal mail p name =
+    first_refusal (
+    (not (is_sent mail name), refusal.NoMessage)
+    ∷ (is_received mail p name, refusal.Taken)
+    ∷ (is_lost mail (copy_name name p), refusal.Lost)
+    ∷ []
+    )
+
+-- the next step of process p, where it has fewer than it may have
+abbrev pub next_step_of : {L : Type 0} → Progress L → ℕ → Kind → Result Event Refusal
+next_step_of progress p kind = if nat_le 9999 progress.steps then Err refusal.StepLimit else Ok (Step p (progress.steps + 1) kind)
+
+-- the same where the machine accepts a step of that kind
+abbrev pub step_if_accepted : {L : Type 0} → Table L → MailState → RegisterStates → Progress L → ℕ → Kind → Result Event Refusal
+step_if_accepted table mail registers progress p kind =
+    if accepts_kind table.next progress.local (length (sent_by mail p)) registers kind
+    then next_step_of progress p kind
+    else Err refusal.NotNow
+
+-- the local state after a step of that kind, where the machine accepts it
+abbrev pub local_after : {L : Type 0} → Table L → Progress L → MailState → RegisterStates → ℕ → Kind → Option L
+local_after table progress mail registers p kind = taken_local table.next progress.local (input_of kind (sight mail registers p kind))
+
+-- the payload that the process would send, and the cell that it would write
+abbrev pub payload_due : {L : Type 0} → Table L → Progress L → Option Payload
+payload_due table progress = wished_payload (table.wish progress.local)
+
+abbrev pub cell_due : {L : Type 0} → Table L → Progress L → Option Cell
+cell_due table progress = wished_cell (table.wish progress.local)

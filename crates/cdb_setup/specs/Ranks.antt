@@ -1,0 +1,20 @@
+-- The first fault of a JSON value, by the ranks of faults.
+use Rattle.std.specs.Prelude.{◌≡◌, ℕ, ◌<◌}
+use Rattle.serde_json.specs.Data.{Data}
+use Rattle.cdb_setup.specs.declared.fault.SetupFault.{SetupFault}
+use Rattle.cdb_setup.specs.Faults.{Holds}
+use Rattle.cdb_setup.specs.Order.{rank, IsBefore, IsFirst}
+
+-- the fault holds of the JSON value, is of this rank, and none of this rank before it holds
+pub record IsFirstOfRank (at : ℕ) (fault : SetupFault) (json : Data) : Type 0 where
+  pub in_rank : rank fault ≡ at
+  pub holds : Holds fault json
+  pub first : (other : SetupFault) → rank other ≡ at → IsBefore other fault → ¬ Holds other json
+
+-- no fault of an earlier rank holds of the JSON value
+abbrev pub IsClearBelow : ℕ → Data → Type 0
+IsClearBelow at json = (other : SetupFault) → rank other < at → ¬ Holds other json
+
+-- the fault is the first that holds of the JSON value
+abbrev pub IsFirstOf : SetupFault → Data → Type 0
+IsFirstOf fault json = IsFirst (λ f. Holds f json) fault

@@ -1,0 +1,7 @@
+-- What a function that writes to the end of a text does.
+use Rattle.std.specs.Prelude.{◌≡◌, ℕ, List, ◌++◌, String, string_bytes, Result, OnOk}
+use Rattle.std.specs.Global.{Global}
+
+-- unless memory runs out, these bytes stand at the end of the text that there was
+abbrev pub Pushes : {A E : Type 0} → Result A E → String Global → String Global → List ℕ → Type 0
+Pushes result old new bytes = OnOk result (string_bytes new ≡ string_bytes old ++ bytes)
