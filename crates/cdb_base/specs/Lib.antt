@@ -1,3 +1,4 @@
+-- what a reader of the contracts believes: names of events, places and registers, and the refusals
 pub mod Event
 pub mod Places
 pub mod Processes
