@@ -15,7 +15,8 @@ use std::alloc::Global;
 /// The first event that depends on the one at place `i`, from 0.
 fn first_linked(events: &[Event], i: usize) -> Option<StepId>
     requires { i < length events.now }
-    ensures { MatchOption result (IsFree depends_of events.now i) (λ name. IsFirstDependent events.now i name) }
+    ensures { MatchOption result (IsFree depends_of events.now i)
+        (λ name. IsFirstDependent events.now i name) }
 {
     for j in i + 1..events.len() {
         let event = &events[j];
@@ -31,7 +32,8 @@ fn first_linked(events: &[Event], i: usize) -> Option<StepId>
 pub fn first_dependent(history: &History, at: usize) -> Option<StepId>
     requires from_one { 1 ≤ at }
     requires to_len { at ≤ length history.now }
-    ensures { MatchOption result (IsFree depends_of history.now (at - 1)) (λ name. IsFirstDependent history.now (at - 1) name) }
+    ensures { MatchOption result (IsFree depends_of history.now (at - 1))
+        (λ name. IsFirstDependent history.now (at - 1) name) }
 {
     first_linked(history.as_slice(), at - 1)
 }
@@ -75,7 +77,8 @@ fn names(alloc: Global, events: &[Event]) -> Result<Vec<StepId>, NoMemory>
 pub fn consequences(alloc: Global, history: &History, at: usize) -> Result<Vec<StepId>, NoMemory>
     requires from_one { 1 ≤ at }
     requires to_len { at ≤ length history.now }
-    ensures { IfOk result (λ names. names.items ≡ map event_name (consequences_of depends_of history.now (at - 1))) }
+    ensures { IfOk result
+        (λ names. names.items ≡ map event_name (consequences_of depends_of history.now (at - 1))) }
 {
     let taken = rolled_back_events(alloc, history.as_slice(), at - 1)?;
     names(alloc, &taken[1..])

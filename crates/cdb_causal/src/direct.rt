@@ -39,7 +39,8 @@ fn is_cause(event: &Event, effect: &Event, slot: usize) -> bool
 fn last_cause(events: &[Event], j: usize, slot: usize, end: usize) -> Option<usize>
     requires within { j < length events.now }
     requires end { (i : ℕ) (l : IsLink depends_of events.now i j) → IsSlot l.cause slot → i < end }
-    ensures { MatchOption result (IsNoCause events.now j slot) (λ i. IsLastCause events.now j slot i) }
+    ensures { MatchOption result (IsNoCause events.now j slot)
+        (λ i. IsLastCause events.now j slot i) }
 {
     for i in (0..end.min(j)).rev() {
         if is_cause(&events[i], &events[j], slot) {
@@ -51,7 +52,8 @@ fn last_cause(events: &[Event], j: usize, slot: usize, end: usize) -> Option<usi
 
 /// Whether the event depends on the first and the last one on it.
 fn leads_on(first: &Event, event: &Event, last: &Event) -> bool
-    ensures { IsTrue result ↔ ((depends_of first.now event.now ≡ true) × (depends_of event.now last.now ≡ true)) }
+    ensures { IsTrue result
+        ↔ ((depends_of first.now event.now ≡ true) × (depends_of event.now last.now ≡ true)) }
 {
     depends(first, event) && depends(event, last)
 }
@@ -61,8 +63,10 @@ fn leads_on(first: &Event, event: &Event, last: &Event) -> bool
 fn is_direct(events: &[Event], i: usize, j: usize, end: usize) -> bool
     requires order { i < j }
     requires within { j < length events.now }
-    requires end { (k : ℕ) → IsLink depends_of events.now i k → IsLink depends_of events.now k j → k < end }
-    ensures { IsTrue result ↔ ((k : ℕ) → IsLink depends_of events.now i k → IsLink depends_of events.now k j → ⊥) }
+    requires end { (k : ℕ) → IsLink depends_of events.now i k → IsLink depends_of events.now k j →
+        k < end }
+    ensures { IsTrue result
+        ↔ ((k : ℕ) → IsLink depends_of events.now i k → IsLink depends_of events.now k j → ⊥) }
 {
     for k in i + 1..end.min(j) {
         if leads_on(&events[i], &events[k], &events[j]) {

@@ -59,7 +59,8 @@ fn is_named(event: &Event, name: &StepId) -> bool
 fn place_of(events: &[Event], name: &StepId, end: usize) -> Option<usize>
     requires standing { IsStanding events.now }
     requires end { (i : ℕ) → IsNamedAt events.now i name.now → i < end }
-    ensures { MatchOption result (IsNewName events.now name.now) (λ at. IsPlaceOf events.now name.now at) }
+    ensures { MatchOption result (IsNewName events.now name.now)
+        (λ at. IsPlaceOf events.now name.now at) }
 {
     for i in (0..end.min(events.len())).rev() {
         if is_named(&events[i], name) {
@@ -116,7 +117,8 @@ impl History {
     pub(crate) fn end_between(&self, i: usize, j: usize) -> usize
         requires order { i < j }
         requires within { j < length self.now }
-        ensures { (k : ℕ) → IsLink depends_of self.now i k → IsLink depends_of self.now k j → k < result }
+        ensures { (k : ℕ) → IsLink depends_of self.now i k → IsLink depends_of self.now k j →
+            k < result }
     {
         self.bounds.end_between(&self.events[i], &self.events[j], j)
     }

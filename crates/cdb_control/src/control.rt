@@ -100,14 +100,17 @@ impl<R: Runs> Control<R> {
         requires from_one { 1 ≤ seat }
         requires to_last { seat ≤ self.old.seats }
         ensures reply { IfOk result (λ r. told r ≡ answer (R.rules self.old.setup) (state_of (R.rules self.old.setup) self.old) seat command) }
-        ensures journal { IfOk result (λ _. self.new ≡ extended (R.rules self.old.setup) self.old seat command) }
+        ensures journal { IfOk result
+            (λ _. self.new ≡ extended (R.rules self.old.setup) self.old seat command) }
         ensures fault { OnErr result (self.new ≡ self.old) }
-        ensures full { (result ≡ Err CallFault.JournalFull) ↔ (length self.old.journal ≡ MAX_ENTRIES) }
+        ensures full { (result ≡ Err CallFault.JournalFull)
+            ↔ (length self.old.journal ≡ MAX_ENTRIES) }
         ensures limit { length self.new.journal ≤ MAX_ENTRIES }
         ensures headline { Headline R.rules R.same_state
             self.new.setup self.new.seats self.new.journal }
         ensures refusal { 0 < room_of self.old.rooms seat → is_refused (answer (R.rules self.old.setup) (state_of (R.rules self.old.setup) self.old) seat command) ≡ true → result ≢ Err CallFault.NoMemory }
-        ensures spared { is_spared command ≡ true → 0 < room_of self.old.rooms seat → result ≢ Err CallFault.NoMemory }
+        ensures spared { is_spared command ≡ true → 0 < room_of self.old.rooms seat →
+            result ≢ Err CallFault.NoMemory }
     {
         if self.journal.len() >= MAX_ENTRIES as usize {
             return Err(CallFault::JournalFull);
@@ -130,7 +133,8 @@ impl<R: Runs> Control<R> {
         requires from_one { 1 ≤ seat }
         requires to_last { seat ≤ self.old.seats }
         requires few { count ≤ 999999 }
-        ensures ok { OnOk result (self.new ≡ record self.old { rooms = raised self.old.rooms seat count }) }
+        ensures ok { OnOk result
+            (self.new ≡ record self.old { rooms = raised self.old.rooms seat count }) }
         ensures err { OnErr result (self.new ≡ self.old) }
     {
         self.journal.reserve(count as usize)?;
@@ -159,7 +163,8 @@ impl<R: Runs> Control<R> {
     /// The run that the journal leads to.
     pub fn run(&self) -> &R
         ensures setup { (R.run result.now).setup ≡ self.now.setup }
-        ensures history { (R.run result.now).history ≡ (state_of (R.rules self.now.setup) self.now).history }
+        ensures history { (R.run result.now).history
+            ≡ (state_of (R.rules self.now.setup) self.now).history }
     {
         self.state.run()
     }
@@ -194,7 +199,9 @@ fn no_marks(alloc: Global, seats: u8) -> Result<Vec<u32>, NoMemory>
 fn lower(marks: &mut Vec<u32>, seat: u8, reply: &Reply)
     requires from_one { 1 ≤ seat }
     requires to_last { seat ≤ length marks.old.items }
-    ensures { marks.new.items ≡ with_room marks.old.items seat (room_of marks.old.items seat - (cost (told reply.now) - 1)) }
+    ensures { marks.new.items
+        ≡ with_room marks.old.items seat
+        (room_of marks.old.items seat - (cost (told reply.now) - 1)) }
 {
     if let Reply::RolledBack(count) = reply {
         let mark = &mut marks[seat as usize - 1];
@@ -206,7 +213,8 @@ fn lower(marks: &mut Vec<u32>, seat: u8, reply: &Reply)
 fn raise(marks: &mut Vec<u32>, seat: u8, mark: u32)
     requires from_one { 1 ≤ seat }
     requires to_last { seat ≤ length marks.old.items }
-    ensures { marks.new.items ≡ with_room marks.old.items seat (max mark (room_of marks.old.items seat)) }
+    ensures { marks.new.items
+        ≡ with_room marks.old.items seat (max mark (room_of marks.old.items seat)) }
 {
     let old = &mut marks[seat as usize - 1];
     *old = mark.max(*old);

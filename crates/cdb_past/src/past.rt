@@ -27,7 +27,8 @@ pub fn history_of(alloc: Global, events: &[Event]) -> Result<History, NoMemory>
 fn mark(history: &History, name: StepId, marks: &mut Vec<bool>)
     requires a_mark_each { length marks.old.items ≡ length history.now }
     requires stands { (i : ℕ) × IsNamedAt history.now i name }
-    ensures { (i : ℕ) → IsNamedAt history.now i name → marks.new.items ≡ slice_set marks.old.items i true }
+    ensures { (i : ℕ) → IsNamedAt history.now i name →
+        marks.new.items ≡ slice_set marks.old.items i true }
 {
     match history.position(name) {
         Some(at) => marks[at - 1] = true,

@@ -100,7 +100,8 @@ fn run_all<G: Gate + Drop + Send, R: Threads + Wait + Sync>(
     requires gates { vec_len gates ≡ vec_len seats }
     ensures count { IfOk result (λ rans. vec_len rans ≡ vec_len seats) }
     ensures each { IfOk result (λ rans. AllRan plan.entry seats.items rans.items) }
-    ensures ended { IfOk result (λ rans. AllEnded G.heard G.passes gates.items seats.items rans.items) }
+    ensures ended { IfOk result
+        (λ rans. AllEnded G.heard G.passes gates.items seats.items rans.items) }
     ensures fault { IfErr result IsFaultOfThreads }
 {
     thread::scope(

@@ -38,10 +38,13 @@ impl Change {
 /// Changes how many direct dependents are counted of each of the events named.
 pub fn change_counts(history: &History, accounts: &mut [Account], names: &[StepId], change: Change)
     requires few { length accounts.old ≤ 4294967295 }
-    requires within { (i : ℕ) → IsNamedByOne history.now i names.now (length names.now) → i < length accounts.old }
+    requires within { (i : ℕ) → IsNamedByOne history.now i names.now (length names.now) →
+        i < length accounts.old }
     requires different { AreDifferent names.now }
-    requires room { (i : ℕ) (account : AnAccount) → slice_get accounts.old i ≡ Some account → IsNamedByOne history.now i names.now (length names.now) → HasRoomFor change account.count }
-    ensures { AreChanged (changed_by change) history.now names.now (length names.now) accounts.old accounts.new }
+    requires room { (i : ℕ) (account : AnAccount) → slice_get accounts.old i ≡ Some account →
+        IsNamedByOne history.now i names.now (length names.now) → HasRoomFor change account.count }
+    ensures { AreChanged (changed_by change) history.now names.now
+        (length names.now) accounts.old accounts.new }
 {
     for name in names {
         if let Some(at) = history.position(*name) {

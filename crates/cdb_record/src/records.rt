@@ -67,8 +67,10 @@ impl<B: Drop> Records<B> {
     /// How many standing events have the event of that name as a direct cause: 0 exactly where none
     /// depends on it, and 0 where no event has the name.
     pub fn count_of(&self, name: StepId) -> u32
-        ensures count { (i : ℕ) (event : AnEvent) → slice_get (events_of self.now) i ≡ Some event → event_name event ≡ name → result ≡ dependents_at (events_of self.now) i event }
-        ensures free { (i : ℕ) → IsNamedAt (events_of self.now) i name → (result ≡ 0) ↔ IsFree depends_of (events_of self.now) i }
+        ensures count { (i : ℕ) (event : AnEvent) → slice_get (events_of self.now) i ≡ Some event →
+            event_name event ≡ name → result ≡ dependents_at (events_of self.now) i event }
+        ensures free { (i : ℕ) → IsNamedAt (events_of self.now) i name →
+            (result ≡ 0) ↔ IsFree depends_of (events_of self.now) i }
         ensures none { IsNewName (events_of self.now) name → result ≡ 0 }
     {
         match self.history.position(name) {
@@ -108,7 +110,10 @@ impl<B: Drop> Records<B> {
     /// Sets what it takes to take the last event back. It takes no memory.
     pub fn set_last(&mut self, back: Option<B>, overwritten: Option<Cell>)
         requires { 1 ≤ length self.old }
-        ensures { (earlier : List (AnEntry B)) (last : AnEntry B) → self.old ≡ earlier ++ last ∷ [] → self.new ≡ earlier ++ record { event = last.event; back = back; overwritten = overwritten } ∷ [] }
+        ensures { (earlier : List (AnEntry B)) (last : AnEntry B) →
+            self.old ≡ earlier ++ last ∷ [] →
+            self.new ≡ earlier
+            ++ record { event = last.event; back = back; overwritten = overwritten } ∷ [] }
     {
         let last = self.entries.len() - 1;
         let event = self.entries[last].event;
@@ -142,7 +147,8 @@ impl<B: Drop> Records<B> {
     /// Takes the last event out again, which is free. It takes no memory.
     pub fn withdraw(&mut self) -> Entry<B>
         requires { 1 ≤ length self.old }
-        ensures { (earlier : List (AnEntry B)) (last : AnEntry B) → self.old ≡ earlier ++ last ∷ [] → (result ≡ last) × (self.new ≡ earlier) }
+        ensures { (earlier : List (AnEntry B)) (last : AnEntry B) →
+            self.old ≡ earlier ++ last ∷ [] → (result ≡ last) × (self.new ≡ earlier) }
     {
         let last = self.entries.len();
         self.take_out(last)
@@ -181,7 +187,8 @@ impl<B: Drop> Records<B> {
 
 /// The place, from 1, of the last step of a process.
 fn last_of(history: &History, p: Proc) -> Option<usize>
-    ensures { MatchOption result ((i : ℕ) → IsStepOf history.now p i → ⊥) (λ at. (1 ≤ at) × IsLastStepOf history.now p (at - 1)) }
+    ensures { MatchOption result ((i : ℕ) → IsStepOf history.now p i → ⊥)
+        (λ at. (1 ≤ at) × IsLastStepOf history.now p (at - 1)) }
 {
     let events = history.as_slice();
     for i in (0..events.len()).rev() {

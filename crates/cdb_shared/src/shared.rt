@@ -138,9 +138,11 @@ impl Shared {
 /// A pass for each seat, by the numbers from 1 on.
 fn deal(turn: &Turn, mut pass: TurnPass, count: u8, mut seats: Vec<Seat>) -> Vec<Seat>
     requires queue { IsPassOf turn.now pass }
-    requires all { (c : Journaled) × (view pass ≡ resting (places_from (story c) 1 count)) × (count ≤ c.seats) }
+    requires all { (c : Journaled) × (view pass ≡ resting (places_from (story c) 1 count))
+        × (count ≤ c.seats) }
     requires room { (seats.items ≡ []) × (count ≤ vec_capacity seats) }
-    ensures { (c : Journaled) → view pass ≡ resting (places_from (story c) 1 count) → result.items ≡ fresh_seats turn.now.table.shared.table_id c 1 count }
+    ensures { (c : Journaled) → view pass ≡ resting (places_from (story c) 1 count) →
+        result.items ≡ fresh_seats turn.now.table.shared.table_id c 1 count }
 {
     for dealt in 0..count {
         let alone = turn.another::<FirstPlace>(&mut pass);
@@ -158,7 +160,8 @@ fn gather(turn: &Turn, mut seats: Vec<Seat>) -> TurnPass
     requires rest { All (λ seat. RestsAt turn.now.table.shared.table_id seat) seats.items }
     ensures queue { IsPassOf turn.now result }
     ensures rests { (view result).stage ≡ Stage.Resting }
-    ensures seats { (c : Journaled) → AllKnow (story c) (view result).places → All (λ seat. IsKnownBy c seat) seats.items }
+    ensures seats { (c : Journaled) → AllKnow (story c) (view result).places →
+        All (λ seat. IsKnownBy c seat) seats.items }
 {
     let Some(last) = seats.pop() else {
         unreachable!()
