@@ -1,11 +1,14 @@
+-- what a reader of the contracts believes: the table of the commands, journals, and the headline over them
 pub mod Answer
 pub mod Auto
 pub mod Stops
 pub mod Views
 pub mod State
 pub mod Commands
-pub mod Done
-pub mod Room
 pub mod Journal
 pub mod Headline
+-- the room that a control has, and what a call leaves
+pub mod Room
+pub mod Done
+-- the worked journals, as the table of the commands gives them
 pub mod WorkedJournals
