@@ -33,6 +33,13 @@ replay rules setup seats journal = replay_from rules (first_state setup seats) j
 abbrev pub state_of : Rules → Journaled → State
 state_of rules c = replay rules c.setup c.seats c.journal
 
+-- that state by the rules of its own setup, and the reply that a command of a seat gets in it
+abbrev pub state_in : (Parts → Rules) → Journaled → State
+state_in rules c = state_of (rules c.setup) c
+
+abbrev pub reply_in : (Parts → Rules) → Journaled → ℕ → Command → Answer
+reply_in rules c seat command = answer (rules c.setup) (state_in rules c) seat command
+
 -- one entry more
 abbrev pub extended : Rules → Journaled → ℕ → Command → Journaled
 extended rules c seat command =

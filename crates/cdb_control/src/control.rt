@@ -3,9 +3,8 @@ ghost use Rattle.std.specs.Prelude.{◌≡◌, ◌≢◌, ◌+◌, ◌-◌, ◌<
 ghost use Rattle.std.specs.Result.{result_ok};
 ghost use Rattle.cdb_control.specs.Answer.{told, is_refused};
 ghost use Rattle.cdb_control.specs.Auto.{choice};
-ghost use Rattle.cdb_control.specs.Commands.{answer};
 ghost use Rattle.cdb_control.specs.Headline.{Headline};
-ghost use Rattle.cdb_control.specs.Journal.{entry, opened, extended, state_of, AreOfSeats};
+ghost use Rattle.cdb_control.specs.Journal.{entry, opened, extended, reply_in, state_in, AreOfSeats};
 ghost use Rattle.cdb_control.specs.Room.{is_spared, cost, room_of, with_room, raised};
 
 use crate::command::{Command, Stop, View};
@@ -99,7 +98,7 @@ impl<R: Runs> Control<R> {
     pub fn execute(&mut self, alloc: Global, seat: u8, command: Command) -> Result<Reply, CallFault>
         requires from_one { 1 ≤ seat }
         requires to_last { seat ≤ self.old.seats }
-        ensures reply { IfOk result (λ r. told r ≡ answer (R.rules self.old.setup) (state_of (R.rules self.old.setup) self.old) seat command) }
+        ensures reply { IfOk result (λ r. told r ≡ reply_in R.rules self.old seat command) }
         ensures journal { IfOk result
             (λ _. self.new ≡ extended (R.rules self.old.setup) self.old seat command) }
         ensures fault { OnErr result (self.new ≡ self.old) }
@@ -108,7 +107,9 @@ impl<R: Runs> Control<R> {
         ensures limit { length self.new.journal ≤ MAX_ENTRIES }
         ensures headline { Headline R.rules R.same_state
             self.new.setup self.new.seats self.new.journal }
-        ensures refusal { 0 < room_of self.old.rooms seat → is_refused (answer (R.rules self.old.setup) (state_of (R.rules self.old.setup) self.old) seat command) ≡ true → result ≢ Err CallFault.NoMemory }
+        ensures refusal { 0 < room_of self.old.rooms seat →
+            is_refused (reply_in R.rules self.old seat command) ≡ true →
+            result ≢ Err CallFault.NoMemory }
         ensures spared { is_spared command ≡ true → 0 < room_of self.old.rooms seat →
             result ≢ Err CallFault.NoMemory }
     {
@@ -155,7 +156,7 @@ impl<R: Runs> Control<R> {
 
     /// What `auto` would do for a process, whether or not a pause stands; nothing where it would be refused.
     pub fn pick(&self, p: u32) -> Option<Act>
-        ensures { result ≡ result_ok (choice (R.rules self.now.setup) (state_of (R.rules self.now.setup) self.now).history p) }
+        ensures { result ≡ result_ok (choice (R.rules self.now.setup) (state_in R.rules self.now).history p) }
     {
         self.state.choose(p).ok()
     }
@@ -163,8 +164,7 @@ impl<R: Runs> Control<R> {
     /// The run that the journal leads to.
     pub fn run(&self) -> &R
         ensures setup { (R.run result.now).setup ≡ self.now.setup }
-        ensures history { (R.run result.now).history
-            ≡ (state_of (R.rules self.now.setup) self.now).history }
+        ensures history { (R.run result.now).history ≡ (state_in R.rules self.now).history }
     {
         self.state.run()
     }
