@@ -22,9 +22,9 @@ use Rattle.cdb_register.specs.declared.RegisterState.{RegisterState}
 use Rattle.cdb_alpha.specs.LocalState.{LocalState, first_state}
 use Rattle.cdb_alpha.specs.Place.{place_number}
 use Rattle.cdb_alpha.specs.Table as table
-use Rattle.cdb_alpha.proofs.Steps.{Traced, Step, stay}
-use Rattle.cdb_alpha.proofs.TableSteps.{traced_of, Holds, Taken, each_input_is_a_step}
-use Rattle.cdb_alpha.proofs.TableSteps as steps
+use Rattle.cdb_alpha.specs.Steps.{Traced, Step, stay, traced_of, Holds, Taken}
+use Rattle.cdb_alpha.specs.Steps as steps
+use Rattle.cdb_alpha.proofs.Promised.{each_input_is_a_step}
 use Rattle.cdb_setup.specs.Parts.{Parts, AreInRange}
 use Rattle.cdb_run.specs.Agreement.{AllAgree}
 use Rattle.cdb_run.specs.Algorithms.{alpha_machine}
