@@ -10,7 +10,6 @@ use Rattle.cdb_base.specs.declared.register.Cell.{Cell}
 use Rattle.cdb_base.specs.declared.register.Reg.{Reg}
 use Rattle.cdb_base.specs.declared.register.Reg.TheVariants.{R, Dec}
 use Rattle.cdb_process.specs.declared.Input.{Input}
-use Rattle.cdb_process.specs.declared.Wish.{Wish}
 use Rattle.cdb_process.specs.declared.Input.TheVariants as input
 use Rattle.cdb_process.specs.declared.Wish.TheVariants as wished
 use Rattle.cdb_alpha.specs.declared.place.Place.{Place}
@@ -19,7 +18,7 @@ use Rattle.cdb_alpha.specs.Place.{place_number}
 use Rattle.cdb_alpha.specs.LocalState.{LocalState}
 use Rattle.cdb_alpha.specs.Seen.{chosen_value, is_overtaken}
 use Rattle.cdb_alpha.specs.Choice.{IsLatest}
-use Rattle.cdb_alpha.specs.Table.{row_at, wish_by, wish_of, next_state, next_round, next_register, see_decision, entered, with_value, begin_pass, decision_cell}
+use Rattle.cdb_alpha.specs.Table.{row_at, wish_by, wish_of, next_round, next_register, see_decision, entered, with_value, begin_pass, decision_cell}
 use Rattle.cdb_alpha.proofs.Leads.{Leads, leads}
 use Rattle.cdb_alpha.proofs.Choice.{chooses_the_latest_write}
 use Rattle.cdb_process.proofs.Members.{IsIn, contained_in, in_contained}
