@@ -1,10 +1,10 @@
 -- What each step of one process of the Alpha machine keeps.
-use Rattle.std.specs.Prelude.{◌≡◌, ℕ, suc, ◌+◌, ◌*◌, ◌<◌, ◌≤◌, List, [], ◌∷◌, ◌++◌, length, Option, Some, None, ◌⊎◌, refl}
+use Rattle.std.specs.Prelude.{◌≡◌, ℕ, suc, ◌+◌, ◌*◌, ◌<◌, ◌≤◌, [], ◌∷◌, ◌++◌, length, Option, Some, None, ◌⊎◌, refl}
 use Rattle.std.proofs.Common.{inl, inr, arith, sym, ◌∙◌, ap, subst, length-append}
 use Rattle.cdb_base.specs.declared.register.Cell.{Cell}
 use Rattle.cdb_alpha.specs.LocalState.{first_cell}
 use Rattle.cdb_process.proofs.Members.{IsIn, in_push, in_push_new}
-use Rattle.cdb_alpha.specs.Steps.{Traced, ValueBasis, PassPlace, Row, after_row, Step, stay, decide, look, lead, follow, enter, read, give_up, settle, write, read_again, fail, carry, publish}
+use Rattle.cdb_alpha.specs.Steps.{Traced, PassPlace, Row, after_row, Step, stay, decide, look, lead, follow, enter, read, give_up, settle, write, read_again, fail, carry, publish}
 
 -- before its first step
 abbrev pub first_traced : ℕ → ℕ → Traced

@@ -1,8 +1,7 @@
 -- The states that valid histories of the leader machine reach, seen as runs of its steps.
-use Rattle.std.proofs.Common.{◌≡◌, ℕ, zero, suc, ◌+◌, ◌*◌, ◌<◌, ◌≤◌, Bool, true, false, List, [], ◌∷◌, ◌++◌, length, Contains, Option, Some, None, is_some, option_map, option_to_list, unwrap_or, slice_index, if◌then◌else◌, ◌⊎◌, inl, inr, refl, sym, ap, subst, ◌∙◌, append-nil, arith, true≢false}
+use Rattle.std.proofs.Common.{◌≡◌, ℕ, zero, suc, ◌+◌, ◌*◌, ◌<◌, ◌≤◌, Bool, true, false, List, [], ◌∷◌, ◌++◌, length, Contains, Option, Some, None, is_some, option_map, option_to_list, unwrap_or, slice_index, if◌then◌else◌, inl, inr, refl, sym, ap, subst, ◌∙◌, append-nil, arith, true≢false}
 use Rattle.std.specs.FinSet as set
 use Rattle.std.specs.Option.{option_or}
-use Rattle.std.proofs.lemmas.Bool.{cases_eq}
 use Rattle.std.proofs.lemmas.Option.{none-some, same_Some}
 use Rattle.cdb_base.specs.Places.{nth}
 use Rattle.cdb_base.specs.declared.event.Event.{Event}
@@ -21,7 +20,7 @@ use Rattle.cdb_register.specs.Registers.{register_of}
 use Rattle.cdb_register.specs.declared.RegisterState.{RegisterState}
 use Rattle.cdb_leader.specs.LocalState.{LocalState, first_state}
 use Rattle.cdb_leader.specs.Table as table
-use Rattle.cdb_leader.specs.Trace.{sent_of, IsHeard}
+use Rattle.cdb_leader.specs.Trace.{sent_of}
 use Rattle.cdb_setup.specs.Parts.{Parts, AreInRange}
 use Rattle.cdb_run.specs.Agreement.{AllAgree}
 use Rattle.cdb_run.specs.Algorithms.{leader_machine}

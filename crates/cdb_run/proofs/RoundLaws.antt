@@ -1,5 +1,5 @@
 -- What the rounds of both algorithms keep to, from the laws of the runs that valid histories are.
-use Rattle.std.proofs.Common.{◌≡◌, ℕ, zero, suc, ◌+◌, ◌*◌, ◌<◌, ◌≤◌, List, [], ◌∷◌, length, Contains, Option, Some, None, ◌⊎◌, inl, inr, refl, sym, ap, subst, ◌∙◌, arith}
+use Rattle.std.proofs.Common.{◌≡◌, ℕ, suc, ◌+◌, ◌*◌, ◌<◌, ◌≤◌, List, length, Contains, Option, Some, None, ◌⊎◌, inl, inr, refl, sym, ap, subst, ◌∙◌, arith}
 use Rattle.std.proofs.lemmas.Bool.{cases_lt}
 use Rattle.cdb_base.specs.Places.{nth}
 use Rattle.cdb_base.specs.declared.event.Event.{Event}
@@ -19,7 +19,7 @@ use Rattle.cdb_run.specs.Rounds.{HasSent, HasReceived, IsDecided, LeaderMessages
 use Rattle.cdb_run.specs.State.{ProcessState, RunState}
 use Rattle.cdb_run.specs.Step.{fold}
 use Rattle.cdb_run.proofs.AlphaHistories as alpha
-use Rattle.cdb_run.proofs.AlphaRuns.{Run, RunLaws, Settled, Dead, one_value, carried_not_dead}
+use Rattle.cdb_run.proofs.AlphaRuns.{Run, Settled, Dead, one_value, carried_not_dead}
 use Rattle.cdb_run.proofs.LeaderHistories as leader
 use Rattle.cdb_run.proofs.LeaderLaws.{Chosen, JointLaws, one_aux, locked, one_chosen}
 use Rattle.cdb_run.proofs.LeaderRuns.{joint_laws}
