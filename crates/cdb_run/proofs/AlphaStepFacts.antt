@@ -70,6 +70,13 @@ module _ (n j : ℕ) (some_process : 1 ≤ n) (somebody : ℕ → ℕ → Type 0
   pub lre_up : (k : Traced) (published : Option ℕ) → Step n own dec l k published → l.own.lre ≤ k.own.lre
   lre_up k published step = along (λ x. l.own.lre ≤ x.own.lre) k step.is (rows_lre_up step.row)
 
+  rows_lrww_up : (row : Row n own dec l) → l.own.lrww ≤ (after_row n own dec l row).own.lrww
+  rows_lrww_up (write here) = let order = laws.order in omega arith
+  rows_lrww_up _ = omega arith
+
+  pub lrww_up : (k : Traced) (published : Option ℕ) → Step n own dec l k published → l.own.lrww ≤ k.own.lrww
+  lrww_up k published step = along (λ x. l.own.lrww ≤ x.own.lrww) k step.is (rows_lrww_up step.row)
+
   -- the trace only grows
 
   rows_written : (row : Row n own dec l) → Grows l.written (after_row n own dec l row).written
