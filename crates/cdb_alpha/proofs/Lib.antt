@@ -4,6 +4,5 @@ pub mod Rounds
 pub mod Written
 pub mod SameCells
 pub mod Reached
-pub mod Steps
-pub mod StepFacts
 pub mod TableSteps
+pub mod Promised

@@ -10,7 +10,6 @@ use Rattle.cdb_base.specs.declared.register.Cell.{Cell}
 use Rattle.cdb_base.specs.declared.register.Reg.{Reg}
 use Rattle.cdb_base.specs.declared.register.Reg.TheVariants.{R, Dec}
 use Rattle.cdb_process.specs.declared.Input.{Input}
-use Rattle.cdb_process.specs.declared.Wish.{Wish}
 use Rattle.cdb_process.specs.declared.Input.TheVariants as input
 use Rattle.cdb_process.specs.declared.Wish.TheVariants as wished
 use Rattle.cdb_alpha.specs.declared.place.Place.{Place}
@@ -19,11 +18,11 @@ use Rattle.cdb_alpha.specs.Place.{place_number}
 use Rattle.cdb_alpha.specs.LocalState.{LocalState}
 use Rattle.cdb_alpha.specs.Seen.{chosen_value, is_overtaken}
 use Rattle.cdb_alpha.specs.Choice.{IsLatest}
-use Rattle.cdb_alpha.specs.Table.{row_at, wish_by, wish_of, next_state, next_round, next_register, see_decision, entered, with_value, begin_pass, decision_cell}
+use Rattle.cdb_alpha.specs.Table.{row_at, wish_by, wish_of, next_round, next_register, see_decision, entered, with_value, begin_pass, decision_cell}
 use Rattle.cdb_alpha.proofs.Leads.{Leads, leads}
 use Rattle.cdb_alpha.proofs.Choice.{chooses_the_latest_write}
-use Rattle.cdb_process.proofs.Members.{IsIn}
-use Rattle.cdb_alpha.proofs.Steps.{Traced, ValueBasis, PassPlace, Step, decide, look, lead, follow, enter, read, give_up, settle, write, read_again, fail, carry, publish}
+use Rattle.cdb_process.proofs.Members.{IsIn, contained_in, in_contained}
+use Rattle.cdb_alpha.specs.Steps.{Traced, ValueBasis, PassPlace, Step, traced_of, Holds, wished_cell, Taken, EachInputIsAStep, decide, look, lead, follow, enter, read, give_up, settle, write, read_again, fail, carry, publish}
 
 -- ---- the value of a pass
 
@@ -63,14 +62,14 @@ value_rests given (d ∷ ds) some = go (chooses_the_latest_write given (d ∷ ds
         → ValueBasis (d ∷ ds) (chosen_value given (d ∷ ds))
     go (inl none) = record {
       top = d;
-      is_seen = inl refl;
-      greatest = λ c here. let zero : c.lrww ≡ 0 = each_in (λ (e : Cell). e.lrww ≡ 0) (d ∷ ds) c none.0 here in omega arith;
+      is_seen = in_contained (d ∷ ds) d (inl refl);
+      greatest = λ c here. let zero : c.lrww ≡ 0 = each_in (λ (e : Cell). e.lrww ≡ 0) (d ∷ ds) c none.0 (contained_in (d ∷ ds) c here) in omega arith;
       taken = λ x positive val. let zero : d.lrww ≡ 0 = each_in (λ (e : Cell). e.lrww ≡ 0) (d ∷ ds) d none.0 (inl refl) in absurd (omega arith);
     }
     go (inr one) = record {
       top = one.0;
-      is_seen = subst (λ xs. IsIn one.0 xs) (sym one.1.split) (middle_in one.1.before one.1.after one.0);
-      greatest = latest_is_greatest (d ∷ ds) one.0 one.1;
+      is_seen = in_contained (d ∷ ds) one.0 (subst (λ xs. IsIn one.0 xs) (sym one.1.split) (middle_in one.1.before one.1.after one.0));
+      greatest = λ c here. latest_is_greatest (d ∷ ds) one.0 one.1 c (contained_in (d ∷ ds) c here);
       taken = λ x positive val. one.3 ∙ ap (λ o. unwrap_or o given) val;
     }
 
@@ -82,51 +81,6 @@ none_passes {X} test (z ∷ zs) is x here = go (test z) refl is here (λ it. non
     go true at it any later = absurd (cc)
     go false at it (inl same) later = ap test same ∙ at
     go false at it (inr there) later = later it there
-
--- ---- the local state, as the laws on agreement see it
-
-abbrev pub traced_of : LocalState → List (ℕ × ℕ) → List ℕ → Traced
-traced_of s written carried = record {
-  place = place_number s.place;
-  round = s.round;
-  value = s.value;
-  own = s.own;
-  seen = s.seen;
-  decision = s.decision;
-  written = written;
-  carried = carried;
-}
-
--- what a read gives is what the register holds
-abbrev pub Holds : (ℕ → Cell) → Option ℕ → Input → Type 0
-Holds own dec (input.Read (R j) c) = c ≡ own j
-Holds own dec (input.Read Dec c) = c.val ≡ dec
-Holds own dec i = Unit {0}
-
-abbrev pub wished_cell : Option Wish → Option Cell
-wished_cell (Some (wished.Write r c)) = Some c
-wished_cell w = None
-
--- what an input leaves in the registers
-abbrev pub Leaves : Option ℕ → LocalState → LocalState → Option ℕ → Input → Type 0
-Leaves dec s t published (input.Write (R j)) = (j ≡ s.me) × (wished_cell (wish_of s) ≡ Some t.own) × (published ≡ dec)
-Leaves dec s t published (input.Write Dec) = (t.own ≡ s.own) × (c : Cell) × (wished_cell (wish_of s) ≡ Some c) × (published ≡ c.val)
-Leaves dec s t published i = (t.own ≡ s.own) × (published ≡ dec)
-
--- the step that an input is, with the trace and the register of the decision that it leaves
-pub record Taken (own : ℕ → Cell) (dec : Option ℕ) (s t : LocalState) (written : List (ℕ × ℕ)) (carried : List ℕ) (i : Input) : Type 0 where
-  pub written_after : List (ℕ × ℕ)
-  pub carried_after : List ℕ
-  pub published : Option ℕ
-  pub step : Step s.processes own dec (traced_of s written carried) (traced_of t written_after carried_after) published
-  pub leaves : Leaves dec s t published i
-  pub same_me : t.me ≡ s.me
-  pub same_processes : t.processes ≡ s.processes
-
-abbrev pub EachInputIsAStep : Type 0
-EachInputIsAStep =
-    (own : ℕ → Cell) (dec : Option ℕ) (s t : LocalState) (written : List (ℕ × ℕ)) (carried : List ℕ) (i : Input)
-    → (place_number s.place ≡ 4 → 1 ≤ length s.seen) → Holds own dec i → next_state s i ≡ Some t → Taken own dec s t written carried i
 
 module _ (own : ℕ → Cell) (dec : Option ℕ) (s : LocalState) (written : List (ℕ × ℕ)) (carried : List ℕ) where
   abbrev Is : Input → LocalState → Type 0
@@ -247,7 +201,7 @@ module _ (own : ℕ → Cell) (dec : Option ℕ) (s : LocalState) (written : Lis
             published = dec;
             same_me = refl;
             same_processes = refl;
-            step = record { row = carry (ap place_number here) (λ c in_it. ltb-false s.round c.lre (none_passes (λ (x : Cell). nat_lt s.round x.lre) s.seen over c in_it)); is = refl; same = refl };
+            step = record { row = carry (ap place_number here) (λ c in_it. ltb-false s.round c.lre (none_passes (λ (x : Cell). nat_lt s.round x.lre) s.seen over c (contained_in s.seen c in_it))); is = refl; same = refl };
             leaves = (refl, refl);
           })
   row_taken A8 i t here passed holds h = by_row_of i (input.Write Dec) t t h.0 refl (next (input.Write Dec) t h.1

@@ -6,3 +6,4 @@ pub mod TableSteps
 pub mod IndexLaws
 pub mod LookUps
 pub mod Trace
+pub mod Promised

@@ -6,7 +6,6 @@ use Rattle.cdb_base.specs.declared.payload.Payload.TheVariants.{P1, P2, D}
 use Rattle.cdb_leader.specs.declared.inbox.Entry.{Entry}
 use Rattle.cdb_leader.specs.Bases.{AuxBasis, Carried, LeaveBasis, Answered, AnsweredAlike, DecisionBasis}
 use Rattle.cdb_leader.specs.Quorum.{IsQuorum}
-use Rattle.cdb_leader.proofs.Quorum.{quorum_follows}
 use Rattle.cdb_process.proofs.Members.{IsIn, Grows, same_grows, push_grows, in_push, in_push_new, in_push_other}
 
 abbrev pub Inbox : Type 0
@@ -92,6 +91,10 @@ pub record LocalLaws (q : ℕ) (l : Local) (sent : List Payload) : Type 0 where
   pub announced : (v : ℕ) → l.decision ≡ Some v → IsIn (D v) sent
 
 -- what rests on what was heard and sent rests on more of it
+
+-- a property that follows from another holds of the same quorum
+quorum_follows : (q : ℕ) (P R : ℕ → Type 0) → ((s : ℕ) → P s → R s) → IsQuorum q P → IsQuorum q R
+quorum_follows q P R follows one = (one.0, one.1, λ s low high passes. follows s (one.2 s low high passes))
 
 module _ (q : ℕ) (sent posted : Payload → Type 0) (heard more : ℕ → Payload → Type 0) (more_sent : (x : Payload) → sent x → posted x) (more_heard : (s : ℕ) (x : Payload) → heard s x → more s x) where
   pub aux_follows : (r v : ℕ) → AuxBasis q heard r v → AuxBasis q more r v

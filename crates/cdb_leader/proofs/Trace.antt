@@ -1,39 +1,27 @@
 -- What a process sends, for the inputs that it takes in turn, keeps the laws.
-use Rattle.std.proofs.Common.{◌≡◌, ℕ, zero, suc, List, [], ◌∷◌, ◌++◌, Contains, Option, Some, None, inl, inr, refl, sym, ◌∙◌, subst, append_assoc, append-nil, arith}
+use Rattle.std.proofs.Common.{◌≡◌, ℕ, suc, ◌==◌, Bool, true, false, if◌then◌else◌, ◌⊎◌, List, [], ◌∷◌, ◌++◌, Contains, Option, Some, None, inl, inr, refl, sym, ◌∙◌, subst, append_assoc, append-nil, eq-eqb, eqb-true}
 use Rattle.std.specs.Option.{option_map_or}
 use Rattle.cdb_base.specs.declared.payload.Payload.{Payload}
 use Rattle.cdb_base.specs.declared.payload.Payload.TheVariants.{P1, P2, D}
 use Rattle.cdb_process.specs.declared.Input.{Input}
 use Rattle.cdb_process.specs.declared.Input.TheVariants as input
-use Rattle.cdb_process.proofs.Members.{IsIn}
+use Rattle.cdb_process.proofs.Members.{IsIn, contained_in, in_contained}
 use Rattle.cdb_process.specs.Walk.{state_along}
 use Rattle.cdb_leader.specs.LocalState.{LocalState, first_state}
 use Rattle.cdb_leader.specs.Table.{next_state}
-use Rattle.cdb_leader.specs.Trace.{sent_of, sent_along, IsHeard, IsFounded, SentMessagesAreFounded}
-use Rattle.cdb_leader.proofs.Steps.{Heard, SentIn, Step, LocalLaws, entry, first_laws, step_keeps, aux_follows, decision_follows, first_or_leave_follows}
+use Rattle.cdb_leader.specs.Trace.{sent_of, sent_along, IsHeard, IsFounded, SentMessagesAreFounded, ReceivedIsBrought}
+use Rattle.cdb_leader.proofs.Steps.{Heard, SentIn, Step, LocalLaws, entry, first_laws, step_keeps, step_delivers, aux_follows, decision_follows, first_or_leave_follows}
 use Rattle.cdb_leader.proofs.TableSteps.{local_of, posted_by, WasSent, table_step}
-
--- ---- two ways to say that something is in a list
-
-contained_in : {X : Type 0} (xs : List X) (x : X) → Contains xs x → IsIn x xs
-contained_in [] x (k, low, is) = absurd (omega arith)
-contained_in (y ∷ ys) x (zero, low, is) = inl (sym is)
-contained_in (y ∷ ys) x (suc k, low, is) = inr (contained_in ys x (k, omega arith, is))
-
-in_contained : {X : Type 0} (xs : List X) (x : X) → IsIn x xs → Contains xs x
-in_contained [] x none = elim none [ ]
-in_contained (y ∷ ys) x (inl same) = (0, omega arith, sym same)
-in_contained (y ∷ ys) x (inr later) = let rest = in_contained ys x later in let low = rest.1 in (suc rest.0, omega arith, rest.2)
 
 -- ---- one input after another
 
 -- what was sent to the process by the others, as far as the input tells
 abbrev mail_of : Input → ℕ → List Payload
-mail_of (input.Recv p x) o = x ∷ []
+mail_of (input.Recv p x) o = if o == p then x ∷ [] else []
 mail_of i o = []
 
 known : (i : Input) → WasSent (mail_of i) i
-known (input.Recv p x) = inl refl
+known (input.Recv p x) = subst (λ b. IsIn x (if b then x ∷ [] else [])) (sym (eq-eqb p p refl)) (inl refl)
 known (input.Query l) = tt
 known input.Send = tt
 known (input.Read r c) = tt
@@ -78,6 +66,7 @@ module _ (q : ℕ) where
   founded : (s : LocalState) (sent : List Payload) → LocalLaws q (local_of s) sent → IsFounded q s sent
   founded s sent laws = record {
     one_proposal = λ r e f k l a b. laws.one_proposal r e k f l (contained_in sent (P1 r e k) a) (contained_in sent (P1 r f l) b);
+    from_one = λ r a it. (laws.answers_below r a (contained_in sent (P2 r a) it)).0;
     one_answer = λ r a b x y. laws.one_answer r a b (contained_in sent (P2 r a) x) (contained_in sent (P2 r b) y);
     estimate = λ r e k it.
         first_or_leave_follows q (SentIn sent) (Contains sent) (Heard s.inbox) (IsHeard s.inbox) (in_contained sent) (λ o x h. in_contained s.inbox (entry o x) h) r e
@@ -94,3 +83,27 @@ module _ (q : ℕ) where
 pub sent_messages_are_founded : SentMessagesAreFounded
 sent_messages_are_founded q input is =
     founded q (state_along next_state (first_state q input) is) (sent_along (first_state q input) is) (keeps_along q (first_state q input) [] refl (first_laws q input) is)
+
+-- what the input carries, where it has that payload for the process
+carried : (i : Input) (from : ℕ) (x : Payload) → IsIn x (mail_of i from) → i ≡ input.Recv from x
+carried (input.Recv p y) from x it = go (from == p) refl it
+  where
+    go : (b : Bool) → (from == p) ≡ b → IsIn x (if b then y ∷ [] else []) → input.Recv p y ≡ input.Recv from x
+    go true same (inl is) = let is_p = eqb-true from p same in cc
+    go true same (inr none) = elim none [ ]
+    go false other none = elim none [ ]
+carried (input.Query l) from x none = elim none [ ]
+carried input.Send from x none = elim none [ ]
+carried (input.Read r c) from x none = elim none [ ]
+carried (input.Write r) from x none = elim none [ ]
+carried input.Local from x none = elim none [ ]
+carried input.Learn from x none = elim none [ ]
+
+pub received_is_brought : ReceivedIsBrought
+received_is_brought s t i taken from x here =
+    let step = table_step (mail_of i) s t [] i (known i) taken in
+    go (step_delivers s.quorum (mail_of i) (local_of s) [] (local_of t) (posted_by s i []) step.0 from x (contained_in t.inbox (entry from x) here))
+  where
+    go : Heard s.inbox from x ⊎ IsIn x (mail_of i from) → IsHeard s.inbox from x ⊎ (i ≡ input.Recv from x)
+    go (inl old) = inl (in_contained s.inbox (entry from x) old)
+    go (inr new) = inr (carried i from x new)

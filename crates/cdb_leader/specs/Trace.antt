@@ -1,11 +1,11 @@
 -- What one process of the leader machine sends and adopts, for the inputs that it takes in turn, up to the first that
 -- it does not accept.
-use Rattle.std.specs.Prelude.{◌≡◌, ℕ, suc, List, [], Contains, Option, Some, ◌⊎◌}
+use Rattle.std.specs.Prelude.{◌≡◌, ℕ, suc, ◌≤◌, List, [], Contains, Option, Some, ◌⊎◌}
 use Rattle.std.specs.Option.{option_to_list}
 use Rattle.cdb_base.specs.declared.payload.Payload.{Payload}
 use Rattle.cdb_base.specs.declared.payload.Payload.TheVariants.{P1, P2, D}
 use Rattle.cdb_process.specs.declared.Input.{Input}
-use Rattle.cdb_process.specs.declared.Input.TheVariants.{Send}
+use Rattle.cdb_process.specs.declared.Input.TheVariants.{Send, Recv}
 use Rattle.cdb_process.specs.Walk.{state_along, along}
 use Rattle.cdb_leader.specs.declared.inbox.Entry.{Entry}
 use Rattle.cdb_leader.specs.Bases.{AuxBasis, LeaveBasis, DecisionBasis}
@@ -27,9 +27,10 @@ IsHeard inbox from payload = Contains inbox (record { from = from; payload = pay
 
 -- what a process with quorum q has sent, and on what of its inbox that rests
 pub record IsFounded (q : ℕ) (s : LocalState) (sent : List Payload) : Type 0 where
-  -- one first-phase and one second-phase message a round
+  -- one first-phase and one second-phase message a round, and rounds begin at 1
   pub one_proposal : (r e f k l : ℕ) → Contains sent (P1 r e k) → Contains sent (P1 r f l) → (e ≡ f) × (k ≡ l)
   pub one_answer : (r : ℕ) (a b : Option ℕ) → Contains sent (P2 r a) → Contains sent (P2 r b) → a ≡ b
+  pub from_one : (r : ℕ) (a : Option ℕ) → Contains sent (P2 r a) → 1 ≤ r
   -- an estimate rests on the answers of the round before, an answer with a value on a quorum for one leader, a
   -- decision on answers that were alike, or on a decision that was received
   pub estimate : (r e k : ℕ) → Contains sent (P1 (suc r) e k) → (r ≡ 0) ⊎ LeaveBasis q (Contains sent) (IsHeard s.inbox) r e
@@ -41,3 +42,9 @@ pub record IsFounded (q : ℕ) (s : LocalState) (sent : List Payload) : Type 0 w
 -- whatever inputs a process takes in turn
 abbrev pub SentMessagesAreFounded : Type 0
 SentMessagesAreFounded = (q input : ℕ) (is : List Input) → IsFounded q (state_along next_state (first_state q input) is) (sent_along (first_state q input) is)
+
+-- what a process has received after an input it had received before, or the input brought it
+abbrev pub ReceivedIsBrought : Type 0
+ReceivedIsBrought =
+    (s t : LocalState) (i : Input) → next_state s i ≡ Some t → (from : ℕ) (payload : Payload)
+    → IsHeard t.inbox from payload → IsHeard s.inbox from payload ⊎ (i ≡ Recv from payload)

@@ -1,11 +1,22 @@
-//! What a process has sent in a round and what it adopted, for the inputs that it takes in turn from its first
-//! local state.
+//! What a process has sent in a round, received and adopted, for the inputs that it takes in turn from its first
+//! local state, and what quorums are for. Each function does nothing: its contract is the law.
 
-ghost use Rattle.cdb_leader.specs.Trace.{SentMessagesAreFounded};
+ghost use Rattle.cdb_leader.specs.Quorum.{MajoritiesMeet};
+ghost use Rattle.cdb_leader.specs.Trace.{SentMessagesAreFounded, ReceivedIsBrought};
 
 /// A process sends one first-phase and one second-phase message a round. Its estimate of a later round rests on
 /// the answers of the round before, its answer with a value on a quorum that named one leader, and its decision on a
 /// quorum of answers with that value, or on a decision that it received.
 pub fn sent_messages_are_founded()
     ensures { SentMessagesAreFounded }
+{}
+
+/// What a process has received after an input it had received before, or the input brought it.
+pub fn received_messages_are_brought()
+    ensures { ReceivedIsBrought }
+{}
+
+/// Two quorums share a process, where a quorum is more than half of the processes.
+pub fn majorities_meet()
+    ensures { MajoritiesMeet }
 {}

@@ -22,9 +22,9 @@ use Rattle.cdb_register.specs.declared.RegisterState.{RegisterState}
 use Rattle.cdb_alpha.specs.LocalState.{LocalState, first_state}
 use Rattle.cdb_alpha.specs.Place.{place_number}
 use Rattle.cdb_alpha.specs.Table as table
-use Rattle.cdb_alpha.proofs.Steps.{Traced, Step, stay}
-use Rattle.cdb_alpha.proofs.TableSteps.{traced_of, Holds, Taken, each_input_is_a_step}
-use Rattle.cdb_alpha.proofs.TableSteps as steps
+use Rattle.cdb_alpha.specs.Steps.{Traced, Step, stay, traced_of, Holds, Taken}
+use Rattle.cdb_alpha.specs.Steps as steps
+use Rattle.cdb_alpha.proofs.Promised.{each_input_is_a_step}
 use Rattle.cdb_setup.specs.Parts.{Parts, AreInRange}
 use Rattle.cdb_run.specs.Agreement.{AllAgree}
 use Rattle.cdb_run.specs.Algorithms.{alpha_machine}
@@ -32,7 +32,7 @@ use Rattle.cdb_run.specs.Decisions.{decisions_of}
 use Rattle.cdb_run.specs.Mail.{mail_of}
 use Rattle.cdb_run.specs.State.{ProcessState, RunState, start, fresh_process}
 use Rattle.cdb_run.specs.Step.{sight_in, arriving, wished_cell, taken_local, input_of, meets, may_lose, process_after, registers_after, state_after, after, fold}
-use Rattle.cdb_run.proofs.AlphaRuns.{Run, first_run, own_of, RunStep, RunLaws, first_run_laws, run_step_keeps, laws_agree}
+use Rattle.cdb_run.proofs.AlphaRuns.{Run, first_run, own_of, RunStep, RunLaws, first_run_laws, cells_rise, run_step_keeps, laws_agree}
 use Rattle.cdb_run.proofs.Bounds.{length-set_nth}
 use Rattle.cdb_run.proofs.Decided.{HasDecided, agreeing}
 use Rattle.cdb_run.proofs.Firsts.{length-firsts, first_at}
@@ -326,6 +326,14 @@ module _ (n : ℕ) (setup : Parts) (t : RunState LocalState) (lawful : Lawful n 
             inl (same, sym (ap (λ (z : ProcessState LocalState). z.progress.local) is_left))
         go (inr other) = inr (other, sym (nth-set_nth_other t.processes p o left (λ same. other (sym same))) ∙ is_y)
 
+    -- what the registers hold after the step
+    holds_after : (o : ℕ) (r : RegisterState) → nth to.registers.of_processes o ≡ Some r → (o ≡ p) ⊎ (o ≡ p → ⊥) → r.cell ≡ (run_left.traced o).own
+    holds_after o r is_r (inl same) =
+        let here = subst (λ i. nth to.registers.of_processes i ≡ Some r) (same ∙ sym is_me) is_r in
+        kinded.own_cell r here ∙ sym (ap (λ (l : Traced). l.own) (ap run_left.traced same ∙ traced_here))
+    holds_after o r is_r (inr other) =
+        kinded.other_cells o r (λ same. other (same ∙ is_me)) is_r ∙ sym (ap (λ (l : Traced). l.own) (traced_other o other))
+
     lawful_left : Lawful n to
     lawful_left = record {
       run = run_left;
@@ -356,12 +364,18 @@ module _ (n : ℕ) (setup : Parts) (t : RunState LocalState) (lawful : Lawful n 
             let P : Traced → Type 0 = λ l. l ≡ traced_of y.progress.local l.written l.carried in
             subst P (sym (traced_other o other.0)) (lawful.tied o y other.1)
 
-        holds_after : (o : ℕ) (r : RegisterState) → nth to.registers.of_processes o ≡ Some r → (o ≡ p) ⊎ (o ≡ p → ⊥) → r.cell ≡ (run_left.traced o).own
-        holds_after o r is_r (inl same) =
-            let here = subst (λ i. nth to.registers.of_processes i ≡ Some r) (same ∙ sym is_me) is_r in
-            kinded.own_cell r here ∙ sym (ap (λ (l : Traced). l.own) (ap run_left.traced same ∙ traced_here))
-        holds_after o r is_r (inr other) =
-            kinded.other_cells o r (λ same. other (same ∙ is_me)) is_r ∙ sym (ap (λ (l : Traced). l.own) (traced_other o other))
+    -- the rounds in the registers never fall
+    rising : (o : ℕ) (before later : RegisterState) → nth t.registers.of_processes o ≡ Some before → nth to.registers.of_processes o ≡ Some later
+        → (before.cell.lre ≤ later.cell.lre) × (before.cell.lrww ≤ later.cell.lrww)
+    rising o before later was is_later =
+        let old = lawful.holds o before was in
+        let new = holds_after o later is_later (cases_eq o p) in
+        let up = cells_rise n lawful.run run_left lawful.laws moves o in
+        let old_entry = ap (λ (c : Cell). c.lre) old in
+        let new_entry = ap (λ (c : Cell). c.lre) new in
+        let old_write = ap (λ (c : Cell). c.lrww) old in
+        let new_write = ap (λ (c : Cell). c.lrww) new in
+        (omega (arith, up.0, old_entry, new_entry), omega (arith, up.1, old_write, new_write))
 
   -- register i is written by process i alone
   pub writes_alone : (p k i : ℕ) (to : RunState LocalState) → after (alpha_machine setup) t (happening.Step p k (Write (R i))) ≡ Some to → p ≡ i
@@ -377,6 +391,21 @@ module _ (n : ℕ) (setup : Parts) (t : RunState LocalState) (lawful : Lawful n 
           let me = lawful.me p x at in
           let wrote = takes x (subst (λ o. nth t.processes o ≡ Some x) (sym me) at) s (input.Write (R i)) tt it in
           sym (wrote.leaves.0 ∙ me)
+
+  -- whatever event comes next, the rounds in the registers never fall
+  pub rises : (event : Event) (to : RunState LocalState) → after (alpha_machine setup) t event ≡ Some to → (i : ℕ) (before later : RegisterState)
+      → nth t.registers.of_processes i ≡ Some before → nth to.registers.of_processes i ≡ Some later
+      → (before.cell.lre ≤ later.cell.lre) × (before.cell.lrww ≤ later.cell.lrww)
+  rises (happening.Step p k kind) to is i before later at there =
+      let taken = taken_from (alpha_machine setup) t to p k kind is in
+      let accepted = parts (alpha_machine setup) t to p k kind taken in
+      rising p k kind taken.process taken.next taken.at_process accepted.met accepted.takes i before later at
+      (subst (λ (z : RunState LocalState). nth z.registers.of_processes i ≡ Some later) (sym taken.leads_to) there)
+  rises (happening.Lost copy) to is i before later at there =
+      let lost = where_true (may_lose (alpha_machine setup) (mail_of t) copy) (Some (record t { lost = set.insert t.lost copy })) to is in
+      let same = same_Some (record t { lost = set.insert t.lost copy }) to lost.1 in
+      let here = subst (λ (z : RunState LocalState). nth z.registers.of_processes i ≡ Some later) (sym same) there in
+      subst (λ (r : RegisterState). (before.cell.lre ≤ r.cell.lre) × (before.cell.lrww ≤ r.cell.lrww)) (same_Some before later (sym at ∙ here)) (omega arith, omega arith)
 
   -- an enabled event keeps the laws
   pub after_lawful : (event : Event) (to : RunState LocalState) → after (alpha_machine setup) t event ≡ Some to → Lawful n to

@@ -3,9 +3,10 @@ use Rattle.std.specs.Prelude.{◌≡◌, ℕ, zero, suc, ◌+◌, ◌*◌, ◌<�
 use Rattle.std.proofs.Common.{inl, inr, arith, sym, ◌∙◌, ap, subst, length-append}
 use Rattle.std.proofs.lemmas.Bool.{cases_eq, cases_lt}
 use Rattle.cdb_base.specs.declared.register.Cell.{Cell}
-use Rattle.cdb_process.proofs.Members.{IsIn, Grows, same_grows, in_push_old, in_push_new}
-use Rattle.cdb_alpha.proofs.Steps.{Traced, first_traced, ValueBasis, KnownCell, Step, TracedLaws, first_traced_laws, laws_follow, step_keeps}
-use Rattle.cdb_alpha.proofs.StepFacts.{DeadAt, Doomed, dead_own_up, Wrote, PassFrom, ValueFrom, lre_up, written_grows, carried_grows, written_from, published_from, pass_from, value_from, dead_moves}
+use Rattle.cdb_process.proofs.Members.{IsIn, Grows, same_grows, in_push_old, in_push_new, contained_in, in_contained}
+use Rattle.cdb_alpha.specs.Steps.{Traced, ValueBasis, Step}
+use Rattle.cdb_run.proofs.AlphaSteps.{first_traced, KnownCell, TracedLaws, first_traced_laws, laws_follow, step_keeps}
+use Rattle.cdb_run.proofs.AlphaStepFacts.{DeadAt, Doomed, dead_own_up, Wrote, PassFrom, ValueFrom, lre_up, lrww_up, written_grows, carried_grows, written_from, published_from, pass_from, value_from, dead_moves}
 
 -- the local state of each process with its trace, and what the register of the decision holds. Register i holds process i's own cell
 pub record Run : Type 0 where
@@ -125,6 +126,15 @@ module _ (n : ℕ) (t u : Run) (laws : RunLaws n t) (run_step : RunStep n t u) w
       by_process (λ o. (t.traced o).own.lre ≤ (u.traced o).own.lre) p
       (lre_up n run_step.process some_process (Somebody n t) (Settled n t) (own_of t) t.dec mover_before mine mover_after u.dec run_step.step)
       (λ other. unmoved (λ x. (t.traced p).own.lre ≤ x.own.lre) p other (omega arith))
+
+  -- the rounds in the cells never fall
+  pub cells_rise : (p : ℕ) → ((t.traced p).own.lre ≤ (u.traced p).own.lre) × ((t.traced p).own.lrww ≤ (u.traced p).own.lrww)
+  cells_rise p = (
+    all_lre p,
+    by_process (λ o. (t.traced o).own.lrww ≤ (u.traced o).own.lrww) p
+        (lrww_up n run_step.process some_process (Somebody n t) (Settled n t) (own_of t) t.dec mover_before mine mover_after u.dec run_step.step)
+        (λ other. unmoved (λ x. (t.traced p).own.lrww ≤ x.own.lrww) p other (omega arith)),
+  )
 
   somebody_still : (r v : ℕ) → Somebody n t r v → Somebody n u r v
   somebody_still r v it = (it.0, it.1, it.2, all_written it.0 (r, v) it.3)
@@ -310,13 +320,13 @@ module _ (n : ℕ) (t u : Run) (laws : RunLaws n t) (run_step : RunStep n t u) w
                   by_round (cases_lt r settles.1.top.lrww)
                 where
                   reaches : r ≤ settles.1.top.lrww
-                  reaches = let bound = settles.1.greatest later.0 later.1 in let is = later.2 in omega arith
+                  reaches = let bound = settles.1.greatest later.0 (in_contained mover_before.seen later.0 later.1) in let is = later.2 in omega arith
 
                   positive : 1 ≤ r
                   positive = ((laws.each i il ih).written_low r v old).0
 
                   known : (x : ℕ) × (settles.1.top.val ≡ Some x) × Somebody n t settles.1.top.lrww x
-                  known = let a = reaches in let b = positive in (mine.seen_known settles.1.top settles.1.is_seen).known (omega arith)
+                  known = let a = reaches in let b = positive in (mine.seen_known settles.1.top (contained_in mover_before.seen settles.1.top settles.1.is_seen)).known (omega arith)
 
                   taken : mover_after.value ≡ known.0
                   taken = let a = reaches in let b = positive in settles.1.taken known.0 (omega arith) known.1

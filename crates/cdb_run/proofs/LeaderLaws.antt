@@ -9,7 +9,7 @@ use Rattle.cdb_base.specs.declared.payload.Payload.{Payload}
 use Rattle.cdb_base.specs.declared.payload.Payload.TheVariants.{P1, P2, D}
 use Rattle.cdb_leader.specs.Bases.{AuxBasis, Carried, Answered, LeaveBasis}
 use Rattle.cdb_leader.specs.Quorum.{IsQuorum}
-use Rattle.cdb_leader.proofs.Quorum.{quorums_meet}
+use Rattle.cdb_run.proofs.Quorums.{quorums_meet}
 
 -- what one process keeps to
 pub record ProcessLaws (q : ℕ) (sent : Payload → Type 0) (heard : ℕ → Payload → Type 0) : Type 0 where

@@ -33,9 +33,12 @@ pub mod RollingBack
 pub mod FoldKeeps
 pub mod Firsts
 pub mod Decided
+pub mod Quorums
 pub mod LeaderLaws
 pub mod LeaderRuns
 pub mod LeaderHistories
+pub mod AlphaSteps
+pub mod AlphaStepFacts
 pub mod AlphaRuns
 pub mod AlphaHistories
 pub mod Agreed

@@ -1,5 +1,5 @@
 -- What the rounds of both algorithms keep to, from the laws of the runs that valid histories are.
-use Rattle.std.proofs.Common.{◌≡◌, ℕ, zero, suc, ◌+◌, ◌*◌, ◌<◌, ◌≤◌, List, [], ◌∷◌, length, Contains, Option, Some, None, ◌⊎◌, inl, inr, refl, sym, ap, subst, ◌∙◌, arith}
+use Rattle.std.proofs.Common.{◌≡◌, ℕ, suc, ◌+◌, ◌*◌, ◌<◌, ◌≤◌, List, length, Contains, Option, Some, None, ◌⊎◌, inl, inr, refl, sym, ap, subst, ◌∙◌, arith}
 use Rattle.std.proofs.lemmas.Bool.{cases_lt}
 use Rattle.cdb_base.specs.Places.{nth}
 use Rattle.cdb_base.specs.declared.event.Event.{Event}
@@ -10,61 +10,48 @@ use Rattle.cdb_process.proofs.Members.{IsIn}
 use Rattle.cdb_register.specs.declared.RegisterState.{RegisterState}
 use Rattle.cdb_alpha.specs.LocalState.{LocalState as AlphaState}
 use Rattle.cdb_alpha.specs.Place.{place_number}
-use Rattle.cdb_alpha.proofs.Steps.{Traced}
+use Rattle.cdb_alpha.specs.Steps.{Traced}
 use Rattle.cdb_leader.specs.LocalState.{LocalState as LeaderState}
-use Rattle.cdb_leader.proofs.Quorum.{quorum_follows}
-use Rattle.cdb_leader.proofs.Steps.{Heard, SentIn, entry}
+use Rattle.cdb_leader.specs.Trace.{IsHeard}
 use Rattle.cdb_setup.specs.Parts.{Parts, AreInRange}
 use Rattle.cdb_run.specs.Algorithms.{leader_machine, alpha_machine}
 use Rattle.cdb_run.specs.Rounds.{HasSent, HasReceived, IsDecided, LeaderMessages, LeaderRounds, AlphaRounds}
 use Rattle.cdb_run.specs.State.{ProcessState, RunState}
 use Rattle.cdb_run.specs.Step.{fold}
 use Rattle.cdb_run.proofs.AlphaHistories as alpha
-use Rattle.cdb_run.proofs.AlphaRuns.{Run, RunLaws, Settled, Dead, one_value, carried_not_dead}
+use Rattle.cdb_run.proofs.AlphaRuns.{Run, Settled, Dead, one_value, carried_not_dead}
 use Rattle.cdb_run.proofs.LeaderHistories as leader
 use Rattle.cdb_run.proofs.LeaderLaws.{Chosen, JointLaws, one_aux, locked, one_chosen}
 use Rattle.cdb_run.proofs.LeaderRuns.{joint_laws}
 use Rattle.cdb_run.proofs.Places.{nth_within}
-
--- ---- two ways to say that something is in a list
-
-contained_in : {X : Type 0} (xs : List X) (x : X) → Contains xs x → IsIn x xs
-contained_in [] x (k, low, is) = absurd (omega arith)
-contained_in (y ∷ ys) x (zero, low, is) = inl (sym is)
-contained_in (y ∷ ys) x (suc k, low, is) = inr (contained_in ys x (k, omega arith, is))
-
-in_contained : {X : Type 0} (xs : List X) (x : X) → IsIn x xs → Contains xs x
-in_contained [] x none = elim none [ ]
-in_contained (y ∷ ys) x (inl same) = (0, omega arith, sym same)
-in_contained (y ∷ ys) x (inr later) = let rest = in_contained ys x later in let low = rest.1 in (suc rest.0, omega arith, rest.2)
+use Rattle.cdb_run.proofs.Quorums.{quorum_follows}
 
 -- ---- the leader-based algorithm
 
 module _ (n q : ℕ) (t : RunState LeaderState) (lawful : leader.Lawful n q t) where
   -- what a process has sent and received, as the laws see it
 
-  sent_in : (p : ℕ) (x : Payload) → HasSent t p x → SentIn ((leader.run_of t).sent p) x
-  sent_in p x (process, at, has) = subst (λ o. IsIn x (leader.sent_in o)) (sym at) (contained_in process.sent x has)
-
-  has_sent : (p : ℕ) (x : Payload) → SentIn ((leader.run_of t).sent p) x → HasSent t p x
-  has_sent p x it = go (nth t.processes p) refl it
-    where
-      go : (o : Option (ProcessState LeaderState)) → nth t.processes p ≡ o → IsIn x (leader.sent_in o) → HasSent t p x
-      go None at none = elim none [ ]
-      go (Some process) at here = (process, at, in_contained process.sent x here)
-
-  heard_in : (p s : ℕ) (x : Payload) → HasReceived t p s x → Heard ((leader.run_of t).local p).inbox s x
-  heard_in p s x (process, at, has) =
-      subst (λ o. IsIn (entry s x) (leader.local_in o).inbox) (sym at) (contained_in process.progress.local.inbox (entry s x) has)
-
   abbrev sent : ℕ → Payload → Type 0
-  sent p = SentIn ((leader.run_of t).sent p)
+  sent p = Contains ((leader.run_of q t).sent p)
 
   abbrev heard : ℕ → ℕ → Payload → Type 0
-  heard p = Heard ((leader.run_of t).local p).inbox
+  heard p = IsHeard ((leader.run_of q t).local p).inbox
+
+  sent_in : (p : ℕ) (x : Payload) → HasSent t p x → sent p x
+  sent_in p x (process, at, has) = subst (λ o. Contains (leader.sent_in o) x) (sym at) has
+
+  has_sent : (p : ℕ) (x : Payload) → sent p x → HasSent t p x
+  has_sent p x it = go (nth t.processes p) refl it
+    where
+      go : (o : Option (ProcessState LeaderState)) → nth t.processes p ≡ o → Contains (leader.sent_in o) x → HasSent t p x
+      go None at none = let low = none.1 in absurd (omega arith)
+      go (Some process) at here = (process, at, here)
+
+  heard_in : (p s : ℕ) (x : Payload) → HasReceived t p s x → heard p s x
+  heard_in p s x (process, at, has) = subst (λ o. IsHeard (leader.local_in q o).inbox s x) (sym at) has
 
   joint : JointLaws n q sent heard
-  joint = joint_laws n q (leader.run_of t) lawful.laws
+  joint = joint_laws n q (leader.run_of q t) lawful.laws
 
   chosen : (r v : ℕ) → IsDecided q t r v → Chosen q sent r v
   chosen r v it = quorum_follows q (λ s. HasSent t s (P2 r (Some v))) (λ s. sent s (P2 r (Some v))) (λ s has. sent_in s (P2 r (Some v)) has) it
@@ -196,6 +183,7 @@ alpha_rounds setup ranges history t is =
     record {
       writer = λ p k i next taken. alpha.writes_alone n setup t lawful p k i next taken;
       shown = λ i process register at is. shows n t lawful i process at register is;
+      rising = λ event next taken i before later at there. alpha.rises n setup t lawful event next taken i before later at there;
       own_round = λ p process at. own_round n t lawful p process at;
       pass = λ p process at. passed n t lawful p process at;
       decided = λ p v process at is. decided n t lawful p process at v is;

@@ -3,6 +3,7 @@ use Rattle.std.specs.Prelude.{◌≡◌, ℕ, suc, ◌+◌, ◌*◌, ◌≤◌, 
 use Rattle.cdb_alpha.specs.LocalState.{LocalState as AlphaState}
 use Rattle.cdb_alpha.specs.Place.{place_number}
 use Rattle.cdb_base.specs.Places.{nth}
+use Rattle.cdb_base.specs.declared.event.Event.{Event}
 use Rattle.cdb_base.specs.declared.event.Event.TheVariants.{Step}
 use Rattle.cdb_base.specs.declared.event.Kind.TheVariants.{Write}
 use Rattle.cdb_base.specs.declared.payload.Payload.{Payload}
@@ -66,6 +67,9 @@ pub record AlphaRounds (machine : Machine AlphaState) (n : ℕ) (t : RunState Al
   -- it shows the cell that the process wrote last: the last write is of an entry, and that is of the process's round or earlier
   pub shown : (i : ℕ) (process : ProcessState AlphaState) (register : RegisterState) → IsProcess t i process → IsRegister t i register
       → let cell = register.cell in (cell ≡ process.progress.local.own) × (cell.lrww ≤ cell.lre) × (cell.lre ≤ process.progress.local.round)
+  -- and whatever event comes next, neither round in a register falls
+  pub rising : (event : Event) (next : RunState AlphaState) → after machine t event ≡ Some next → (i : ℕ) (before later : RegisterState)
+      → IsRegister t i before → IsRegister next i later → (before.cell.lre ≤ later.cell.lre) × (before.cell.lrww ≤ later.cell.lrww)
   -- a round is of one process: its number, and some times n
   pub own_round : (p : ℕ) (process : ProcessState AlphaState) → IsProcess t p process → (a : ℕ) × (process.progress.local.round ≡ p + a * n)
   -- whoever settles the value that it writes has read every register after it entered the round

@@ -62,7 +62,7 @@ pub fn leader_rounds()
 {}
 
 /// In each state that a valid history of Alpha reaches, register i is written by process i alone and shows what it
-/// wrote last, rounds are of one process, whoever settles a value has read every register in its round, and what is
+/// wrote last, no round in it ever falls, rounds are of one process, whoever settles a value has read every register in its round, and what is
 /// decided is what every write of a later round wrote.
 pub fn alpha_rounds()
     ensures { (setup : Parts) → AreInRange setup →

@@ -4,6 +4,7 @@ mod causal_twins;
 mod entries;
 mod events;
 mod history;
+mod laws;
 mod leader;
 mod machine;
 mod mail;

@@ -4,6 +4,7 @@ mod alpha;
 mod causes;
 mod example;
 mod generated;
+mod laws;
 mod leader;
 mod losses;
 mod memory;

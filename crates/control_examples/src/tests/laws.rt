@@ -1,6 +1,7 @@
-//! The laws of commands and journals.
+//! The laws of commands, journals and lines.
 
 use cdb_control::laws;
+use cdb_text::laws as lines;
 
 /// Each law holds of the runs of every setup.
 #[test]
@@ -12,4 +13,10 @@ fn laws_of_commands() {
     laws::others_add_no_reply();
     laws::headline();
     laws::worked_journals();
+}
+
+/// A command and its line are one and the same.
+#[test]
+fn laws_of_lines() {
+    lines::each_command_has_one_line();
 }

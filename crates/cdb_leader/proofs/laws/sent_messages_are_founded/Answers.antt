@@ -1,4 +1,4 @@
-use Rattle.cdb_leader.proofs.Trace.{sent_messages_are_founded}
+use Rattle.cdb_leader.proofs.Promised.{sent_messages_are_founded}
 use Rattle.cdb_leader.proofs.laws.sent_messages_are_founded.Goals as goal
 
 pub returns : goal.returns

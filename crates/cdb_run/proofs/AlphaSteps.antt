@@ -1,84 +1,15 @@
--- The steps of one process of the Alpha machine, as far as agreement hangs on them, and what each keeps.
---
--- Beside its local state a process has a trace, for the proof alone: the rounds and values of its second writes, and the rounds
--- that it carried through to the write of the decision.
-use Rattle.std.specs.Prelude.{◌≡◌, ℕ, suc, ◌+◌, ◌*◌, ◌<◌, ◌≤◌, List, [], ◌∷◌, ◌++◌, length, Option, Some, None, ◌⊎◌, refl}
+-- What each step of one process of the Alpha machine keeps.
+use Rattle.std.specs.Prelude.{◌≡◌, ℕ, suc, ◌+◌, ◌*◌, ◌<◌, ◌≤◌, [], ◌∷◌, ◌++◌, length, Option, Some, None, ◌⊎◌, refl}
 use Rattle.std.proofs.Common.{inl, inr, arith, sym, ◌∙◌, ap, subst, length-append}
 use Rattle.cdb_base.specs.declared.register.Cell.{Cell}
 use Rattle.cdb_alpha.specs.LocalState.{first_cell}
 use Rattle.cdb_process.proofs.Members.{IsIn, in_push, in_push_new}
+use Rattle.cdb_alpha.specs.Steps.{Traced, PassPlace, Row, after_row, Step, stay, decide, look, lead, follow, enter, read, give_up, settle, write, read_again, fail, carry, publish}
 
--- the local state of one process, and its trace
-pub record Traced : Type 0 where
-  pub place : ℕ
-  pub round : ℕ
-  pub value : ℕ
-  pub own : Cell
-  pub seen : List Cell
-  pub decision : Option ℕ
-  pub written : List (ℕ × ℕ)
-  pub carried : List ℕ
-
+-- before its first step
 abbrev pub first_traced : ℕ → ℕ → Traced
 first_traced me input =
     record { place = 0; round = me; value = input; own = first_cell; seen = []; decision = None; written = []; carried = [] }
-
--- the value that the cells seen give: that of a cell with the greatest round of a write, where such a cell has one
-pub record ValueBasis (seen : List Cell) (v : ℕ) : Type 0 where
-  pub top : Cell
-  pub is_seen : IsIn top seen
-  pub greatest : (c : Cell) → IsIn c seen → c.lrww ≤ top.lrww
-  pub taken : (x : ℕ) → 0 < top.lrww → top.val ≡ Some x → v ≡ x
-
--- the pass goes on or is over
-abbrev pub PassPlace : ℕ → ℕ → ℕ → ℕ → Type 0
-PassPlace n seen reading place = ((place ≡ reading) × (suc seen < n)) ⊎ ((place ≡ suc reading) × (suc seen ≡ n))
-
--- one row of the table, with what it rests on. `own` is what each register holds, `dec` the register of the decision
-pub data Row (n : ℕ) (own : ℕ → Cell) (dec : Option ℕ) (l : Traced) : Type 0 where
-  stay : Row n own dec l
-  decide : (v : ℕ) → l.place ≡ 0 → dec ≡ Some v → Row n own dec l
-  look : l.place ≡ 0 → Row n own dec l
-  lead : l.place ≡ 1 → Row n own dec l
-  follow : l.place ≡ 1 → Row n own dec l
-  enter : l.place ≡ 2 → Row n own dec l
-  read : (p : ℕ) → l.place ≡ 3 → PassPlace n (length l.seen) 3 p → Row n own dec l
-  give_up : l.place ≡ 4 → Row n own dec l
-  settle : (v : ℕ) → l.place ≡ 4 → ValueBasis l.seen v → Row n own dec l
-  write : l.place ≡ 5 → Row n own dec l
-  read_again : (p : ℕ) → l.place ≡ 6 → PassPlace n (length l.seen) 6 p → Row n own dec l
-  fail : l.place ≡ 7 → Row n own dec l
-  carry : l.place ≡ 7 → ((c : Cell) → IsIn c l.seen → c.lre ≤ l.round) → Row n own dec l
-  publish : l.place ≡ 8 → Row n own dec l
-
--- the state that a row leaves
-abbrev pub after_row : (n : ℕ) (own : ℕ → Cell) (dec : Option ℕ) (l : Traced) → Row n own dec l → Traced
-after_row n own dec l stay = l
-after_row n own dec l (decide v here found) = record l { place = 9; decision = Some v }
-after_row n own dec l (look here) = record l { place = 1 }
-after_row n own dec l (lead here) = record l { place = 2 }
-after_row n own dec l (follow here) = record l { place = 0 }
-after_row n own dec l (enter here) = record l { place = 3; own = record { lre = l.round; lrww = l.own.lrww; val = l.own.val }; seen = [] }
-after_row n own dec l (read p here pass) = record l { place = p; seen = l.seen ++ own (suc (length l.seen)) ∷ [] }
-after_row n own dec l (give_up here) = record l { place = 0; round = l.round + n }
-after_row n own dec l (settle v here basis) = record l { place = 5; value = v }
-after_row n own dec l (write here) =
-    record l { place = 6; own = record { lre = l.round; lrww = l.round; val = Some l.value }; seen = []; written = l.written ++ (l.round, l.value) ∷ [] }
-after_row n own dec l (read_again p here pass) = record l { place = p; seen = l.seen ++ own (suc (length l.seen)) ∷ [] }
-after_row n own dec l (fail here) = record l { place = 0; round = l.round + n }
-after_row n own dec l (carry here low) = record l { place = 8; carried = l.carried ++ l.round ∷ [] }
-after_row n own dec l (publish here) = record l { place = 0; round = l.round + n }
-
--- what the register of the decision holds after a row
-abbrev pub published_by : (n : ℕ) (own : ℕ → Cell) (dec : Option ℕ) (l : Traced) → Row n own dec l → Option ℕ
-published_by n own dec l (publish here) = Some l.value
-published_by n own dec l _ = dec
-
--- one step of a process, from l to k
-pub record Step (n : ℕ) (own : ℕ → Cell) (dec : Option ℕ) (l : Traced) (k : Traced) (published : Option ℕ) : Type 0 where
-  pub row : Row n own dec l
-  pub is : k ≡ after_row n own dec l row
-  pub same : published ≡ published_by n own dec l row
 
 -- the cell was written in its round, if in any
 pub record KnownCell (somebody : ℕ → ℕ → Type 0) (c : Cell) : Type 0 where

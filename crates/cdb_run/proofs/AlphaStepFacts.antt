@@ -1,10 +1,11 @@
 -- What one step of a process of the Alpha machine changes, fact by fact, and when a round can't be carried through any more.
-use Rattle.std.specs.Prelude.{◌≡◌, ℕ, suc, ◌<◌, ◌≤◌, [], ◌∷◌, ◌++◌, length, Option, Some, ◌⊎◌, refl}
+use Rattle.std.specs.Prelude.{◌≡◌, ℕ, suc, ◌<◌, ◌≤◌, [], ◌∷◌, ◌++◌, length, Contains, Option, Some, ◌⊎◌, refl}
 use Rattle.std.proofs.Common.{inl, inr, arith, sym, ap, subst, length-append, ◌∙◌}
 use Rattle.std.proofs.lemmas.Bool.{cases_eq}
 use Rattle.cdb_base.specs.declared.register.Cell.{Cell}
-use Rattle.cdb_process.proofs.Members.{IsIn, Grows, same_grows, push_grows, in_push, in_push_old, in_push_new}
-use Rattle.cdb_alpha.proofs.Steps.{Traced, ValueBasis, PassPlace, Row, after_row, published_by, Step, TracedLaws, stay, decide, look, lead, follow, enter, read, give_up, settle, write, read_again, fail, carry, publish}
+use Rattle.cdb_process.proofs.Members.{IsIn, Grows, same_grows, push_grows, in_push, in_push_old, in_push_new, in_contained}
+use Rattle.cdb_run.proofs.AlphaSteps.{TracedLaws}
+use Rattle.cdb_alpha.specs.Steps.{Traced, ValueBasis, PassPlace, Row, after_row, published_by, Step, stay, decide, look, lead, follow, enter, read, give_up, settle, write, read_again, fail, carry, publish}
 
 -- of a process that is in its second pass of round r: a cell that it has seen, or will read, was entered in a later round
 abbrev pub Doomed : ℕ → (ℕ → Cell) → Traced → ℕ → Type 0
@@ -68,6 +69,13 @@ module _ (n j : ℕ) (some_process : 1 ≤ n) (somebody : ℕ → ℕ → Type 0
 
   pub lre_up : (k : Traced) (published : Option ℕ) → Step n own dec l k published → l.own.lre ≤ k.own.lre
   lre_up k published step = along (λ x. l.own.lre ≤ x.own.lre) k step.is (rows_lre_up step.row)
+
+  rows_lrww_up : (row : Row n own dec l) → l.own.lrww ≤ (after_row n own dec l row).own.lrww
+  rows_lrww_up (write here) = let order = laws.order in omega arith
+  rows_lrww_up _ = omega arith
+
+  pub lrww_up : (k : Traced) (published : Option ℕ) → Step n own dec l k published → l.own.lrww ≤ k.own.lrww
+  lrww_up k published step = along (λ x. l.own.lrww ≤ x.own.lrww) k step.is (rows_lrww_up step.row)
 
   -- the trace only grows
 
@@ -216,8 +224,8 @@ module _ (n j : ℕ) (some_process : 1 ≤ n) (somebody : ℕ → ℕ → Type 0
               let within = ahead.3 in
               absurd (omega arith)
 
-      refuse : l.place ≡ 7 → ((c : Cell) → IsIn c l.seen → c.lre ≤ l.round) → l.round ≡ r → Doomed n own l r → ⊥
-      refuse here low at (inl seen) = let bound = low seen.2 seen.3 in let above = seen.4 in omega arith
+      refuse : l.place ≡ 7 → ((c : Cell) → Contains l.seen c → c.lre ≤ l.round) → l.round ≡ r → Doomed n own l r → ⊥
+      refuse here low at (inl seen) = let bound = low seen.2 (in_contained l.seen seen.2 seen.3) in let above = seen.4 in omega arith
       refuse here low at (inr ahead) = let six = ahead.0 in omega arith
 
       by_row : l.round ≡ r → Doomed n own l r → (row : Row n own dec l) → DeadAt n own (after_row n own dec l row) r
