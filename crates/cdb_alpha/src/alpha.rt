@@ -134,7 +134,8 @@ impl Alpha {
     }
 
     fn has_same_cells(&self, other: &Self) -> bool
-        ensures { IsTrue result ↔ ((self.now.own ≡ other.now.own) × (self.now.seen ≡ other.now.seen)) }
+        ensures { IsTrue result
+            ↔ ((self.now.own ≡ other.now.own) × (self.now.seen ≡ other.now.seen)) }
     {
         self.own == other.own && are_same(&self.seen, &other.seen)
     }
@@ -227,7 +228,8 @@ impl Alpha {
     /// Takes the cell that a register holds.
     fn read(&mut self, register: Reg, cell: Cell) -> Result<Back, NoMemory>
         requires { IsSome (next_state self.old (Input.Read register cell)) }
-        ensures after { IfOk result (λ _. next_state self.old (Input.Read register cell) ≡ Some self.new) }
+        ensures after { IfOk result
+            (λ _. next_state self.old (Input.Read register cell) ≡ Some self.new) }
         ensures back { IfOk result (λ b. state_before self.new b ≡ self.old) }
         ensures unchanged { OnErr result (self.new ≡ self.old) }
     {

@@ -153,10 +153,13 @@ fn program<'a>(alloc: Global) -> Result<Command<'a>, AllocError>
 
 /// The matches of the words.
 fn matches_of<'a>(alloc: Global, words: &'a [&'a str]) -> Result<ArgMatches<'a>, AskFault>
-    ensures ok { IfOk result (λ m. subcommand_rows_of m ≡ subcommand_of program (texts words.entry.now)) }
-    ensures taken { takes program (texts words.entry.now) ≡ true → IfErr result (λ fault. fault ≡ AskFault.NoMemory) }
+    ensures ok { IfOk result
+        (λ m. subcommand_rows_of m ≡ subcommand_of program (texts words.entry.now)) }
+    ensures taken { takes program (texts words.entry.now) ≡ true →
+        IfErr result (λ fault. fault ≡ AskFault.NoMemory) }
     ensures right { OnOk result (fault_of program (texts words.entry.now) ≡ []) }
-    ensures refused { IfErr result (λ fault. IsOfKinds (fault_of program (texts words.entry.now)) fault) }
+    ensures refused { IfErr result
+        (λ fault. IsOfKinds (fault_of program (texts words.entry.now)) fault) }
 {
     let program = match program(alloc) {
         Ok(program) => program,
@@ -256,9 +259,11 @@ fn status_of_words(error: &Error) -> u8
 /// What `clap` makes of the arguments, as a request.
 fn read<'a>(alloc: Global, words: &'a [&'a str]) -> Result<Asked<'a>, AskFault>
     ensures ok { IfOk result (λ asked. Asks (subcommand_of program (texts words.entry.now)) asked) }
-    ensures taken { takes program (texts words.entry.now) ≡ true → IfErr result (λ fault. fault ≡ AskFault.NoMemory) }
+    ensures taken { takes program (texts words.entry.now) ≡ true →
+        IfErr result (λ fault. fault ≡ AskFault.NoMemory) }
     ensures right { OnOk result (fault_of program (texts words.entry.now) ≡ []) }
-    ensures refused { IfErr result (λ fault. IsOfKinds (fault_of program (texts words.entry.now)) fault) }
+    ensures refused { IfErr result
+        (λ fault. IsOfKinds (fault_of program (texts words.entry.now)) fault) }
 {
     let matches = matches_of(alloc, words)?;
     asked_by(alloc, &matches).map_err(|_| AskFault::NoMemory)
@@ -272,12 +277,18 @@ fn read<'a>(alloc: Global, words: &'a [&'a str]) -> Result<Asked<'a>, AskFault>
 /// help or the version where these were asked for. `NoMemory` where an allocation fails.
 pub fn asked<'a>(alloc: Global, words: &'a [&'a str]) -> Result<Asked<'a>, AskFault>
     ensures ok { IfOk result (λ asked. Asks (subcommand_of program (texts words.entry.now)) asked) }
-    ensures taken { takes program (texts words.entry.now) ≡ true → IfErr result (λ fault. fault ≡ AskFault.NoMemory) }
+    ensures taken { takes program (texts words.entry.now) ≡ true →
+        IfErr result (λ fault. fault ≡ AskFault.NoMemory) }
     ensures right { OnOk result (fault_of program (texts words.entry.now) ≡ []) }
-    ensures refused { IfErr result (λ fault. IsOfKinds (fault_of program (texts words.entry.now)) fault) }
-    ensures script { IsNameAlone (texts words.entry.now) → IsAnswer result (λ asked. asked ≡ Asked.Script) }
-    ensures play { (setup script : Text) → IsPlayLine (texts words.entry.now) setup script → IsAnswer result (IsPlayOf setup script) }
-    ensures race { (setup : Text) (turns : ℕ) (script : Text) (more : List Text) → IsRaceLine (texts words.entry.now) setup turns script more → IsAnswer result (IsRaceOf setup turns (script ∷ more)) }
+    ensures refused { IfErr result
+        (λ fault. IsOfKinds (fault_of program (texts words.entry.now)) fault) }
+    ensures script { IsNameAlone (texts words.entry.now) →
+        IsAnswer result (λ asked. asked ≡ Asked.Script) }
+    ensures play { (setup script : Text) → IsPlayLine (texts words.entry.now) setup script →
+        IsAnswer result (IsPlayOf setup script) }
+    ensures race { (setup : Text) (turns : ℕ) (script : Text) (more : List Text) →
+        IsRaceLine (texts words.entry.now) setup turns script more →
+        IsAnswer result (IsRaceOf setup turns (script ∷ more)) }
 {
     read(alloc, words)
 }

@@ -256,7 +256,8 @@ impl Leader {
     /// Adds an entry to the inbox.
     fn receive(&mut self, from: Proc, payload: Payload) -> Result<(), NoMemory>
         requires { IsSome (recv_at self.old.place self.old from payload) }
-        ensures after { IfOk result (λ _. recv_at self.old.place self.old from payload ≡ Some self.new) }
+        ensures after { IfOk result
+            (λ _. recv_at self.old.place self.old from payload ≡ Some self.new) }
         ensures quorum { self.new.quorum ≡ self.old.quorum }
         ensures inbox { IfOk result (λ _. without_last self.new.inbox ≡ self.old.inbox) }
         ensures unchanged { OnErr result (self.new ≡ self.old) }

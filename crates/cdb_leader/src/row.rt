@@ -53,7 +53,8 @@ impl Row {
 
     fn note_answer(&mut self, sender: Proc, position: usize, other: bool)
         ensures first_phases { self.new.first_phases ≡ self.old.first_phases }
-        ensures second_phases { ChangesFrom sender (noted position) self.old.second_phases self.new.second_phases }
+        ensures second_phases { ChangesFrom sender
+            (noted position) self.old.second_phases self.new.second_phases }
         ensures answer { self.new.answer ≡ noted position self.old.answer }
         ensures other_answer { self.new.other_answer
             ≡ (if other then noted position self.old.other_answer else self.old.other_answer) }
@@ -67,7 +68,8 @@ impl Row {
 
     fn forget_answer(&mut self, sender: Proc, position: usize)
         ensures first_phases { self.new.first_phases ≡ self.old.first_phases }
-        ensures second_phases { ChangesFrom sender (forgotten position) self.old.second_phases self.new.second_phases }
+        ensures second_phases { ChangesFrom sender
+            (forgotten position) self.old.second_phases self.new.second_phases }
         ensures answer { self.new.answer ≡ forgotten position self.old.answer }
         ensures other_answer { self.new.other_answer ≡ forgotten position self.old.other_answer }
     {
