@@ -1,3 +1,5 @@
+//! What a session can ask of a process.
+
 /// What a process is asked to do in a step. The numbers are as a session gave them: whether they name
 /// anything is checked when the step is taken.
 #[derive(Clone, Copy, Debug, PartialEq, Eq)]

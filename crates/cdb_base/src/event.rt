@@ -1,3 +1,5 @@
+//! Events of a run: steps of processes, and losses of copies.
+
 ghost use Rattle.std.specs.Prelude.{◌≡◌};
 ghost use Rattle.cdb_base.specs.Event.{event_name, is_step_of};
 

@@ -1,4 +1,10 @@
 //! Names, values, events and refusals of the debugger: plain types with their ranges.
+//!
+//! ```text
+//! let process = Proc::new(2);
+//! let step = StepName { p: process, k: 11 };
+//! let value = Val::new(5);
+//! ```
 #![tactic(auto)]
 
 pub mod act;

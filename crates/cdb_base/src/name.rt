@@ -1,3 +1,5 @@
+//! Names: of processes, steps, messages and copies.
+
 ghost use Rattle.std.specs.Prelude.{◌≡◌, ℕ, ◌+◌, ◌≤◌, ◌↔◌, IsSome, IfSome};
 ghost use Rattle.cdb_base.specs.Processes.{all_processes};
 

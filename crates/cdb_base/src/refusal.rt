@@ -1,3 +1,5 @@
+//! Why a command is refused.
+
 ghost use Rattle.std.specs.Prelude.{◌≡◌};
 ghost use Rattle.cdb_base.specs.Refusal.{refusal_number};
 

@@ -1,3 +1,5 @@
+//! Values that are proposed and decided.
+
 ghost use Rattle.std.specs.Prelude.{◌≡◌, ℕ, ◌≤◌, ◌↔◌, IsSome, IfSome};
 
 use crate::limits::MAX_VALUE;

@@ -1,4 +1,4 @@
--- Dependence does not hang on the order of the two events.
+-- Dependence is symmetric: the order of the two events does not matter.
 use Rattle.std.proofs.Common.{◌≡◌, ℕ, Bool, true, false, ◌||◌, nat_eq, refl, sym, ap₂, ◌∙◌, true≢false, eq-eqb, eqb-true}
 use Rattle.std.specs.Cmp.{both_ways}
 use Rattle.cdb_base.specs.declared.event.Event.{Event}

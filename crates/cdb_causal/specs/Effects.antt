@@ -1,4 +1,4 @@
--- Dependence told by what a step affects, as the code tests it.
+-- Dependence in terms of what a step affects, as the code tests it.
 use Rattle.std.specs.Prelude.{ℕ, Bool, false, ◌&&◌, nat_eq}
 use Rattle.cdb_base.specs.declared.event.Event.{Event}
 use Rattle.cdb_base.specs.declared.event.Event.TheVariants.{Step, Lost}

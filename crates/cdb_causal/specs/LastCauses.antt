@@ -1,5 +1,5 @@
 -- The last event of each process on which an event depends, as a search for direct causes finds it: steps are sought in a slot of
--- their process, losses in a slot behind those.
+-- their process, losses in a slot after those.
 use Rattle.std.specs.Prelude.{◌≡◌, ℕ, ◌+◌, ◌≤◌, List}
 use Rattle.cdb_base.specs.Event.{event_name}
 use Rattle.cdb_base.specs.declared.event.Event.{Event}

@@ -73,7 +73,7 @@ fn names(alloc: Global, events: &[Event]) -> Result<Vec<StepId>, NoMemory>
 
 /// The names of the consequences of the event at a place, from 1 to the number of events: of the
 /// later events to which a chain of dependences leads from it, in the order of the history. It can
-/// fail only for want of memory.
+/// fail only where memory is out.
 pub fn consequences(alloc: Global, history: &History, at: usize) -> Result<Vec<StepId>, NoMemory>
     requires from_one { 1 ≤ at }
     requires to_len { at ≤ length history.now }

@@ -9,7 +9,7 @@ ghost use Rattle.cdb_causal.specs.Exchange.{IsExchanged, IsEachOnce, HaveSameEve
 ghost use Rattle.cdb_causal.specs.Reach.{reached, IsCommuting, IsSymmetric};
 ghost use Rattle.cdb_causal.specs.Rollback.{IsParted, IsRolledBack, without, place_before, remaining, rolled_back, consequences};
 
-/// Dependence does not hang on the order of the two events.
+/// Dependence is symmetric: the order of the two events does not matter.
 #[tactic(auto, using(crate::proofs::Symmetry::symmetric))]
 pub fn dependence_is_symmetric()
     ensures { IsSymmetric depends_of }

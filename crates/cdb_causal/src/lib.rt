@@ -1,4 +1,10 @@
-//! Dependence of events, and the history of a run.
+//! Dependence of events, and the history of a run: which events depend on which, directly or through others.
+//!
+//! ```text
+//! history.push(event)?;
+//! let first = first_dependent(&history, 1);
+//! let all = consequences(alloc, &history, 1)?;
+//! ```
 #![tactic(auto)]
 
 mod bounds;

@@ -1,4 +1,4 @@
--- What a reply tells: the reply, with lists where the program has vectors.
+-- What a reply holds: the reply, with lists where the program has vectors.
 use Rattle.std.specs.Prelude.{ℕ, Bool, true, false, List, Option}
 use Rattle.cdb_base.specs.declared.event.Event.{Event}
 use Rattle.cdb_base.specs.declared.name.MsgName.{MsgName}

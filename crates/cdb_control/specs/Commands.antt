@@ -1,4 +1,4 @@
--- What each command does and what it is answered.
+-- What each command does, and its reply.
 use Rattle.std.specs.Prelude.{ℕ, ◌+◌, nat_le, nat_eq, Bool, true, false, not, List, [], ◌∷◌, ◌++◌, length, Option, Some, None, Result, Ok, Err, is_some}
 use Rattle.std.specs.Map.{lookup, remove_entry}
 use Rattle.std.specs.Option.{option_or}

@@ -25,7 +25,7 @@ use Rattle.cdb_setup.specs.Parts.{Parts, IsWithin}
 
 -- ---- words
 
--- the command that undoes an event, what a seat that gives it is answered, and the control state that it leaves
+-- the command that undoes an event, its reply to the seat that gives it, and the control state that it leaves
 abbrev pub undoing : StepId → Command
 undoing (named.Step step) = Undo step.p step.k
 undoing (named.Lost copy) = UndoLost copy.msg.s copy.msg.m copy.to
@@ -47,20 +47,20 @@ rollback_reply rules t seat event = answer rules t seat (rolling_back (event_nam
 abbrev pub after_rollback : Rules → State → ℕ → Event → State
 after_rollback rules t seat event = obey rules t seat (rolling_back (event_name event))
 
--- the reply tells that the event was taken, or taken again
+-- the reply says that the event was taken, or taken again
 abbrev pub TellsTaken : Answer → Event → Type 0
 TellsTaken (Stepped event decides paused) taken = event ≡ taken
 TellsTaken (Redone event decides) taken = event ≡ taken
 TellsTaken _ taken = ⊥
 
--- the reply tells that the event was taken again
+-- the reply says that the event was taken again
 abbrev pub TellsRedone : Answer → Event → Type 0
 TellsRedone (Redone event decides) taken = event ≡ taken
 TellsRedone _ taken = ⊥
 
 -- ---- the claims, of a control state t
 
--- The undo of the event at place i is answered Undone exactly where no standing event depends on it, and else NeededBy
+-- The reply to the undo of the event at place i is Undone exactly where no standing event depends on it, and else NeededBy
 -- the first later event that does. No event depends on a loss. After it the history is the one before without the event.
 pub record IsUndoneWhereFree (rules : Rules) (t : State) (seat i : ℕ) (event : Event) : Type 0 where
   pub exactly : (undo_reply rules t seat event ≡ Undone event) ↔ IsFree depends t.history i
@@ -70,7 +70,7 @@ pub record IsUndoneWhereFree (rules : Rules) (t : State) (seat i : ℕ) (event :
   pub loss : (copy : CopyName) → event ≡ Lost copy → IsFree depends t.history i
   pub left : IsFree depends t.history i → (after_undo rules t seat event).history ≡ without t.history i
 
--- After a command that took the event, its undo is answered Undone, and leaves the history, and so the run state, from
+-- After a command that took the event, the reply to its undo is Undone, and it leaves the history, and so the run state, from
 -- before the command.
 pub record IsUndoneNext (rules : Rules) (before after : State) (event : Event) (seat : ℕ) : Type 0 where
   pub undone : undo_reply rules after seat event ≡ Undone event
@@ -88,7 +88,7 @@ RedosLeadBack rules SameState before seat t (event ∷ events) =
     → TellsRedone (answer rules now seat Redo) event
     × RedosLeadBack rules SameState before seat (obey rules now seat Redo) events
 
--- The event at place i is taken back with exactly its consequences, the reply tells how many events that are, and as many
+-- The event at place i is taken back with exactly its consequences, the reply says how many events that are, and as many
 -- redos lead back.
 pub record IsRolledBackAndForth (rules : Rules) (SameState : List Event → List Event → Type 0) (t : State) (seat i : ℕ) (event : Event) : Type 0 where
   pub gone : List Event
@@ -114,7 +114,7 @@ pub record HoldsAt (rules : Rules) (SameState : List Event → List Event → Ty
   -- a rollback removes an event with exactly its consequences, and as many redos lead back
   pub rolled_back : (seat i : ℕ) (event : Event) → IsWithin 1 seats seat → slice_get t.history i ≡ Some event
       → IsRolledBackAndForth rules SameState t seat i event
-  -- where a quorum is a majority, or in Alpha, no two decisions that are told differ
+  -- where a quorum is a majority, or in Alpha, no two decisions that are reported differ
   pub agreement : (seat : ℕ) (pairs : List (ℕ × ℕ)) → HasMajorityIfNeeded setup
       → answer rules t seat Decisions ≡ reply.Decisions pairs → AllAgree pairs
 

@@ -50,7 +50,7 @@ abbrev pub own : ℕ → List Entry → List Command
 own seat [] = []
 own seat (e ∷ es) = if e.seat == seat then (e.command ∷ own seat es) else own seat es
 
--- the answers to a seat's commands, along the journal
+-- the replies to a seat's commands, along the journal
 abbrev pub replies_from : Rules → State → ℕ → List Entry → List Answer
 replies_from rules t seat [] = []
 replies_from rules t seat (e ∷ es) =

@@ -27,7 +27,7 @@ room_of rooms seat = slice_index_or rooms (seat - 1) 0
 abbrev pub with_room : List ℕ → ℕ → ℕ → List ℕ
 with_room rooms seat room = slice_set rooms (seat - 1) room
 
--- the rooms after a command of a seat that was answered so: one less for each other seat
+-- the rooms after a command of a seat with this reply: one less for each other seat
 abbrev pub lowered : List ℕ → ℕ → Answer → List ℕ
 lowered rooms seat answer = with_room (map (λ room. room - 1) rooms) seat (room_of rooms seat - cost answer)
 

@@ -13,7 +13,7 @@ use Rattle.cdb_run.specs.Algorithms.{rules}
 use Rattle.cdb_run.specs.WorkedRuns.{alone}
 use Rattle.cdb_setup.specs.declared.setup.Algorithm.TheVariants.{Leader}
 
--- what a seat is answered along such a journal
+-- the replies to a seat along such a journal
 abbrev pub replies : ℕ → List Entry → List Answer
 replies seat journal = replies_of (rules (alone Leader (7 ∷ []))) (alone Leader (7 ∷ [])) 2 seat journal
 

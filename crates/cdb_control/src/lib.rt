@@ -1,5 +1,11 @@
-//! Commands and replies of a session; breakpoints, redo lists and the journal; the control, which is the
-//! replay of its journal.
+//! Commands and replies of sessions on one run, with breakpoints, redo lists and the journal of all
+//! commands. The state of a control is the replay of its journal.
+//!
+//! ```text
+//! let mut control: Control<RunOfSetup> = Control::open(alloc, setup, 1)?;
+//! let reply = control.execute(alloc, 1, Command::Auto(1))?;
+//! let journal = control.journal();
+//! ```
 #![tactic(auto)]
 
 mod any_run;

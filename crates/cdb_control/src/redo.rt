@@ -109,7 +109,7 @@ impl RedoList {
     }
 
     /// Takes an event of a run back with its consequences, adds them at the end, the last first, and
-    /// answers how many they are. After a refusal and after `NoMemory` both are as they were.
+    /// returns how many they are. After a refusal and after `NoMemory` both are as they were.
     pub fn rollback<R: Runs>(
         &mut self,
         alloc: Global,

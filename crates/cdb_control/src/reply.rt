@@ -1,4 +1,4 @@
-//! What a session is answered.
+//! The replies to a session's commands.
 
 use cdb_base::{Cell, Event, MsgName, Payload, Proc, Refusal, StepId, Val};
 use smallvec::SmallVec;

@@ -23,9 +23,9 @@ use smallvec::SmallVec;
 use std::alloc::Global;
 
 /// A run. Of its state, for which `Self` stands in the contracts, the control layer reads the setup and
-/// the standing events; all else that it answers and shows is what the rules of the setup say of these.
+/// the standing events; all else that it returns and shows is what the rules of the setup say of these.
 pub trait Runs: Sized + Drop {
-    // What a run of a setup answers and shows.
+    // What a run of a setup returns and shows.
     ghost rules: { Parts → Rules };
 
     // Whether two histories of a setup reach one state.
@@ -38,7 +38,7 @@ pub trait Runs: Sized + Drop {
     fn start(alloc: Global, given: Setup) -> Result<Self, NoMemory>
         ensures { IfOk result (λ made. run made ≡ record { setup = given; history = [] }) };
 
-    /// Takes the step of process `p` that an act names, or answers the first refusal that holds. After
+    /// Takes the step of process `p` that an act names, or returns the first refusal that holds. After
     /// a refusal and after `NoMemory` the run is as it was.
     fn step(&mut self, alloc: Global, p: u32, act: Act) -> Result<Result<Event, Refusal>, NoMemory>
         ensures answer { IfOk result (λ r. r ≡ answer_to_step rules (run self.old) p act) }
@@ -46,7 +46,7 @@ pub trait Runs: Sized + Drop {
         ensures err { OnErr result (run self.new ≡ run self.old) }
         ensures memory { OnErr result (IsOk (answer_to_step rules (run self.old) p act)) };
 
-    /// Loses the copy of the `m`-th message of process `s` for process `p`, or answers the first
+    /// Loses the copy of the `m`-th message of process `s` for process `p`, or returns the first
     /// refusal that holds. After a refusal and after `NoMemory` the run is as it was.
     fn lose(
         &mut self,
@@ -60,7 +60,7 @@ pub trait Runs: Sized + Drop {
         ensures err { OnErr result (run self.new ≡ run self.old) }
         ensures memory { OnErr result (IsOk (answer_to_loss rules (run self.old) s m p)) };
 
-    /// Takes an undone event of the run again, or answers the first refusal that holds. After a refusal
+    /// Takes an undone event of the run again, or returns the first refusal that holds. After a refusal
     /// and after `NoMemory` the run is as it was.
     fn again(&mut self, alloc: Global, event: &Event) -> Result<Result<Event, Refusal>, NoMemory>
         requires { IsOfRun (run self.old).setup event.now }
@@ -69,7 +69,7 @@ pub trait Runs: Sized + Drop {
         ensures err { OnErr result (run self.new ≡ run self.old) }
         ensures memory { OnErr result (IsOk (answer_to_again rules (run self.old) event.now)) };
 
-    /// Takes a standing event back on which no standing event depends, or answers the first refusal
+    /// Takes a standing event back on which no standing event depends, or returns the first refusal
     /// that holds, and then the run is as it was.
     fn undo(&mut self, name: EventRef) -> Result<Event, Refusal>
         ensures answer { result ≡ undo_answer (run self.old) (name_of name) }
@@ -80,7 +80,7 @@ pub trait Runs: Sized + Drop {
         ensures { result ≡ result_err (undo_answer (run self.now) (name_of name)) };
 
     /// Takes a standing event back with its consequences, adds them to a list, the last first, and
-    /// answers how many they are. After a refusal and after `NoMemory` run and list are as they were.
+    /// returns how many they are. After a refusal and after `NoMemory` run and list are as they were.
     fn rollback(
         &mut self,
         alloc: Global,

@@ -356,7 +356,7 @@ impl<R: Runs> ControlState<R> {
         }
     }
 
-    /// Tells the direct causes of an event.
+    /// Returns the direct causes of an event.
     pub fn why(&self, alloc: Global, name: EventRef) -> Reply
         ensures { came_out result self.now.state ≡ why self.now.state (name_of name) }
     {

@@ -1,5 +1,12 @@
-//! What a machine of one process is to a run: a function of its local state and of one input, with
-//! an inverse. A run knows no more of a machine than this trait says.
+//! The trait of a machine of one process: a function of its local state and of one input, with an
+//! inverse. A run knows no more of a machine than this trait says.
+//!
+//! ```text
+//! if machine.accepts(&input) {
+//!     let back = machine.take(alloc, input)?;
+//!     machine.put_back(back);
+//! }
+//! ```
 #![tactic(auto)]
 
 ghost use Rattle.std.specs.Prelude.{◌≡◌, ℕ, ◌↔◌, ◌≤◌, Option, Some, IsTrue, IsSome, IfOk, OnErr};
@@ -43,7 +50,7 @@ pub enum Wish {
     Local,
 }
 
-/// The machine of one process. `Self` stands for its local state in the contracts.
+/// The machine of one process. In the contracts `Self` is its local state.
 pub trait Process: Sized + Drop {
     /// What an input consumed or overwrote, for going back.
     type Back: Drop;
@@ -69,7 +76,7 @@ pub trait Process: Sized + Drop {
     fn accepts(&self, i: &Input) -> bool
         ensures { IsTrue result ↔ IsSome (table.next self.now i.now) };
 
-    /// Takes an input that is accepted, and answers what `put_back` needs to undo it. After `NoMemory`
+    /// Takes an input that is accepted, and returns what `put_back` needs to undo it. After `NoMemory`
     /// the local state is as it was.
     fn take(&mut self, alloc: Global, i: Input) -> Result<Self::Back, NoMemory>
         requires { IsSome (table.next self.old i) }
@@ -77,7 +84,7 @@ pub trait Process: Sized + Drop {
         ensures back { IfOk result (λ b. before self.new b ≡ self.old) }
         ensures unchanged { OnErr result (self.new ≡ self.old) };
 
-    /// Goes back by what a `take` answered. On the state that this `take` left, it gives the state
+    /// Goes back by what a `take` returned. On the state that this `take` left, it gives the state
     /// before. It takes no memory.
     fn put_back(&mut self, b: Self::Back)
         ensures { self.new ≡ before self.old b };

@@ -1,4 +1,4 @@
--- Which fault a race answers.
+-- Which fault a race returns.
 use Rattle.std.specs.Prelude.{◌≡◌, ◌⊎◌, ℕ, ◌+◌, ◌<◌, Bool, List, All, length, slice_index_or, Option, Some, None, Vec, vec_len}
 use Rattle.std.specs.Global.{Global}
 use Rattle.atomic_table.specs.Seated.{TableId}

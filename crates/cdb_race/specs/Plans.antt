@@ -9,7 +9,7 @@ use Rattle.cdb_shared.specs.Seats.{SeatView, RestsAt}
 abbrev pub seats_of : Plan → ℕ
 seats_of plan = plan.processes + length plan.scripts.now
 
--- the script of a seat behind those of the processes
+-- the script of a seat after those of the processes
 abbrev pub script_of : Plan → ℕ → List Command
 script_of plan seat = slice_index_or plan.scripts.now (seat - plan.processes - 1) []
 

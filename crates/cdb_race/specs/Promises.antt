@@ -12,7 +12,7 @@ use Rattle.cdb_shared.specs.Seats.{SeatView}
 use Rattle.cdb_shared.specs.declared.session.End.{End}
 use Rattle.cdb_shared.specs.declared.session.End.TheVariants.{Stopped}
 
--- a promise of this seat, behind this gate, by this plan
+-- a promise of this seat, with this gate, by this plan
 pub record IsPromise {G : Type 0} (plan : Plan) (seat : SeatView) (gate : G) (promise : SeatPromise G) : Type 0 where
   pub plan_is : promise.plan ≡ plan
   pub seat_is : promise.seat.value ≡ seat

@@ -17,7 +17,7 @@ use Rattle.cdb_setup.specs.Parts.{Parts}
 use Rattle.cdb_shared.specs.Gates.{Heard}
 use Rattle.cdb_shared.specs.Seats.{SeatView}
 
--- what lists of replies tell
+-- what lists of replies hold
 abbrev pub all_told : List (Vec Reply Global) → List (List Answer)
 all_told replies = map (λ list. map told list.items) replies
 
@@ -40,17 +40,17 @@ AllPass passes gates = All (λ gate. passes gate ≡ true) gates
 abbrev pub AreSeatsOf : List SeatView → List Ran → Type 0
 AreSeatsOf seats rans = (k : ℕ) (seat : SeatView) (ran : Ran) → k < length rans → slice_index_or seats k seat ≡ (slice_index_or rans (length rans - 1 - k) ran).seat
 
--- each of these seats has finished, and each has its answers
+-- each of these seats has finished, and each has its replies
 abbrev pub AllFinished : Plan → List SeatView → List SeatView → List (List Answer) → Type 0
 AllFinished plan before seats answers =
     (k : ℕ) (seat : SeatView) (list : List Answer) → k < length seats
     → (b : SeatView) → HasFinished plan (slice_index_or before k b) (slice_index_or seats k seat) (slice_index_or answers k list)
 
--- the answers to a seat's commands in the journal of a control
+-- the replies to a seat's commands in the journal of a control
 abbrev pub answers_to : ℕ → Journaled → List Answer
 answers_to seat c = replies_of (rules c.setup) c.setup c.seats seat c.journal
 
--- the final control and the answers of each seat: each process was driven by its seat, each script was served by its seat, and the journal has no other entries
+-- the final control and the replies of each seat: each process was driven by its seat, each script was served by its seat, and the journal has no other entries
 pub record IsRaced (setup : Parts) (turns : ℕ) (scripts : List (List Command)) (c : Journaled) (answers : List (List Answer)) : Type 0 where
   pub setup_is : c.setup ≡ setup
   pub seats_are : c.seats ≡ setup.processes + length scripts

@@ -35,7 +35,7 @@ pub record HasRun (plan : Plan) (before seat : SeatView) (answered : List Answer
 abbrev pub EndsWell : End → Type 0
 EndsWell end = (end ≡ All) ⊎ (end ≡ Done)
 
--- the steps of a process by `auto`: all its turns, none answered that it was done; or fewer or as many, the last alone answered so
+-- the steps of a process by `auto`: all its turns, none refused as it was done; or fewer or as many, the last alone refused so
 pub record IsDrivenOut (process turns : ℕ) (calls : List Command) (answered : List Answer) : Type 0 where
   pub count : ℕ
   pub few : count ≤ turns

@@ -1,4 +1,10 @@
 //! A race: one thread for each process and one for each script, over one shared control.
+//!
+//! ```text
+//! let scripts = [Script::new(first), Script::new(second)];
+//! let raced = race(rt, alloc, setup, 50, &scripts, gates)?;
+//! let journal = raced.control.journal();
+//! ```
 #![tactic(auto)]
 
 mod plan;

@@ -46,7 +46,7 @@ pub(crate) struct Plan<'a> {
 }
 
 impl<'a> Plan<'a> {
-    /// The script of a seat behind those of the processes.
+    /// The script of a seat after those of the processes.
     pub(crate) fn script(&self, seat: u8) -> &'a Script
         requires behind { self.now.processes < seat }
         requires planned { seat ≤ seats_of self.now }

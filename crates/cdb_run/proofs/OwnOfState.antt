@@ -22,7 +22,7 @@ use Rattle.cdb_run.proofs.Members.{Reaches, first_step, nth-fresh}
 use Rattle.cdb_run.proofs.Numbers.{of_register, writes_of, access_noted, write_counts}
 use Rattle.cdb_run.proofs.Taken.{IsTaken, taken_from}
 
--- what is noted hangs on the counts of the registers alone
+-- what is noted depends on the counts of the registers alone
 pub noted_same : (writes others : Reg → ℕ) → ((register : Reg) → writes register ≡ others register) → (events : List Event) → noted writes events ≡ noted others events
 noted_same writes others same [] = refl
 noted_same writes others same (event ∷ events) =

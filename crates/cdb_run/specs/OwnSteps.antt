@@ -48,7 +48,7 @@ abbrev pub is_lost_too : MailState → Event → Bool
 is_lost_too mail (Step p k kind) = true
 is_lost_too mail (Lost copy) = is_lost mail copy
 
--- two histories, each with its mail, tell of each process the same steps, and each has lost what the other loses
+-- two histories, each with its mail, have for each process the same steps, and each has lost what the other loses
 abbrev pub AreAlike : List Event → MailState → List Event → MailState → Type 0
 AreAlike history mail other other_mail =
     All (λ p. own_steps p history ≡ own_steps p other) all_processes

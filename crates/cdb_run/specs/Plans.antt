@@ -1,4 +1,4 @@
--- What a step of one process is answered and changes, by its progress, the mail and the registers as they stand.
+-- What a step of one process returns and changes, by its progress, the mail and the registers as they stand.
 use Rattle.std.specs.Prelude.{ℕ, ◌+◌, not, nat_le, [], ◌∷◌, length, Option, Result, Ok, Err, if◌then◌else◌}
 use Rattle.cdb_base.specs.declared.act.Act.{Act}
 use Rattle.cdb_base.specs.declared.event.Event.{Event}

@@ -104,7 +104,7 @@ unless_refused (Some why) event = Err why
 unless_refused None (Some event) = Ok event
 unless_refused None None = Err refusal.NotNow
 
--- what a step of process p is answered, where that is the process's progress: the first refusal that holds, else
+-- what a step of process p returns, where that is the process's progress: the first refusal that holds, else
 -- the event that the act names
 abbrev pub planned : {L : Type 0} → Machine L → Parts → MailState → RegisterStates → Progress L → ℕ → Act → Result Event Refusal
 planned machine setup mail registers progress p do_act =
@@ -149,7 +149,7 @@ planned_loss setup mail name p = unless_refused (first_refusal (lose_checks setu
 abbrev pub lose_answer : {L : Type 0} → Parts → RunState L → MsgName → ℕ → Result Event Refusal
 lose_answer setup state name p = planned_loss setup (mail_of state) name p
 
--- what it is answered to take an undone event again: the first refusal that holds, else the event
+-- what taking an undone event again returns: the first refusal that holds, else the event
 abbrev pub planned_again : {L : Type 0} → Machine L → MailState → RegisterStates → Progress L → ℕ → ℕ → Kind → Result Event Refusal
 planned_again machine mail registers progress p k kind =
     unless_refused (first_refusal (again_checks machine mail registers progress p k kind)) (Some (Step p k kind))
@@ -171,7 +171,7 @@ abbrev pub IsOfRun : Parts → Event → Type 0
 IsOfRun setup (Step p k kind) = (p ≤ setup.processes) × IsWithin 1 9999 k × NamesProcess setup.processes kind
 IsOfRun setup (Lost copy) = (setup.version ≡ 2) × (copy.to ≤ setup.processes)
 
--- the history after an answer
+-- the history after a result
 abbrev pub with_taken : List Event → Result Event Refusal → List Event
 with_taken history (Ok event) = history ++ event ∷ []
 with_taken history (Err why) = history

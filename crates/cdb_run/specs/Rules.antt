@@ -1,4 +1,4 @@
--- What a run answers and shows, at one setup, by its history alone: one record for both algorithms.
+-- What a run returns and shows, at one setup, by its history alone: one record for both algorithms.
 use Rattle.std.specs.Prelude.{ℕ, Bool, List, Option, Result, is_some, option_map}
 use Rattle.cdb_base.specs.Places.{nth}
 use Rattle.cdb_base.specs.declared.act.Act.{Act}
@@ -29,7 +29,7 @@ pub record Rules : Type 0 where
   -- the histories that a run can have, and the events that can come next
   pub valid : List Event → Bool
   pub enabled : List Event → Event → Bool
-  -- what a step, a loss, and an undone event taken again are answered: the first refusal that holds, else the event
+  -- what a step, a loss, and an undone event taken again return: the first refusal that holds, else the event
   pub step : List Event → ℕ → Act → Result Event Refusal
   pub lose : List Event → MsgName → ℕ → Result Event Refusal
   pub again : List Event → Event → Result Event Refusal

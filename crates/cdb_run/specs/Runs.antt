@@ -122,11 +122,11 @@ with_history run history = record run { history = history }
 abbrev pub with_event : RunView → Event → RunView
 with_event run event = with_history run (run.history ++ event ∷ [])
 
--- with the event that was answered, if there is one
+-- with the event that was returned, if there is one
 abbrev pub with_answer : RunView → Result Event Refusal → RunView
 with_answer run answer = with_history run (with_taken run.history answer)
 
--- ---- what is taken back: the answer, and the history that is left
+-- ---- what is undone: the result, and the history that is left
 
 -- the standing event of the name, and where it stands
 abbrev pub found_in : RunView → StepId → Result Found Refusal
@@ -138,7 +138,7 @@ undo_in run name = undo_of run.setup.processes run.history name
 abbrev pub rollback_in : RunView → StepId → Result (List Event × List Event) Refusal
 rollback_in run name = rollback_of run.setup.processes run.history name
 
--- what an undo and a rollback answer
+-- what an undo and a rollback return
 abbrev pub undo_answer : RunView → StepId → Result Event Refusal
 undo_answer run name = answered (undo_in run name)
 
@@ -158,7 +158,7 @@ undo_at_place run place = for_standing (found_at_place run place) (undo_found ru
 abbrev pub rolled_back_at : RunView → ℕ → List Event
 rolled_back_at run place = rolled_back depends run.history place
 
--- the run that such an answer leaves; a refusal leaves it as it was
+-- the run that such a result leaves; a refusal leaves it as it was
 abbrev pub with_left : {A : Type 0} → RunView → Result (A × List Event) Refusal → RunView
 with_left run answer = with_history run (left_by run.history answer)
 
@@ -171,11 +171,11 @@ after_rollback run name = with_left run (rollback_in run name)
 abbrev pub after_rollback_at : RunView → ℕ → RunView
 after_rollback_at run place = with_history run (remaining depends run.history place)
 
--- the answer tells that, through a view of what it holds
+-- the result says that, through a view of what it holds
 abbrev pub Tells : {A B : Type 0} → (A → B) → Result A Refusal → Result B Refusal → Type 0
 Tells view answer told = MatchResult answer (λ a. told ≡ Ok (view a)) (λ why. told ≡ Err why)
 
--- the answer is the place, from 1, of the event of the name, or why there is none
+-- the result is the place, from 1, of the event of the name, or why there is none
 abbrev pub IsPlaceFound : RunView → StepId → Result ℕ Refusal → Type 0
 IsPlaceFound run name answer =
     MatchResult answer (λ at. found_in run name ≡ found_at_place run (at - 1)) (λ why. found_in run name ≡ Err why)

@@ -52,7 +52,7 @@ abbrev pub event_named : ℕ → List Event → StepId → Result Found Refusal
 event_named n history name =
     if names_processes n name then option_map_or (found_at history) (position (has_name name) history) (Err refusal.NoStep) else Err refusal.NoProcess
 
--- the answer for a standing event, or the refusal
+-- the result for a standing event, or the refusal
 abbrev pub for_standing : {A : Type 0} → Result Found Refusal → (Found → Result A Refusal) → Result A Refusal
 for_standing (Ok found) answer = answer found
 for_standing (Err why) answer = Err why
@@ -70,12 +70,12 @@ undo_found history found =
 abbrev pub undo_of : ℕ → List Event → StepId → Result (Event × List Event) Refusal
 undo_of n history name = for_standing (event_named n history name) (undo_found history)
 
--- what is answered of an answer that also says which history it leaves
+-- the result alone, of one that comes with the history that it leaves
 abbrev pub answered : {A : Type 0} → Result (A × List Event) Refusal → Result A Refusal
 answered (Ok done) = Ok done.0
 answered (Err why) = Err why
 
--- the history that an answer leaves; a refusal leaves it as it was
+-- the history that a result leaves; a refusal leaves it as it was
 abbrev pub left_by : {A : Type 0} → List Event → Result (A × List Event) Refusal → List Event
 left_by history (Ok done) = done.1
 left_by history (Err why) = history

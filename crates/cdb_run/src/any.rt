@@ -29,7 +29,7 @@ use smallvec::SmallVec;
 use std::alloc::Global;
 
 /// A run of the algorithm that its setup names. A contract sees its setup and its standing events, and
-/// what it answers and shows is what the rules of the setup say of these events, one set of rules for
+/// what it returns and shows is what the rules of the setup say of these events, one set of rules for
 /// both algorithms.
 #[derive(Drop)]
 pub enum AnyRun {
@@ -49,7 +49,7 @@ impl AnyRun {
         }
     }
 
-    /// Takes the step of process `p` that an act names, or answers the first refusal that holds:
+    /// Takes the step of process `p` that an act names, or returns the first refusal that holds:
     /// `NoProcess`, `Crashed`, `Done`, `NotNow`, `NoMessage`, `Taken`, `BadLeader`, `NoAnswer`,
     /// `StepLimit` or `Lost`, in this order. After a refusal and after `NoMemory` the run is as it was.
     pub fn step(
@@ -84,7 +84,7 @@ impl AnyRun {
         }
     }
 
-    /// Takes an undone event of the run again, at the end of the history, or answers the first
+    /// Takes an undone event of the run again, at the end of the history, or returns the first
     /// refusal that holds: of a step `Moved`, `Crashed`, `Done`, `NotNow`, `NoMessage`, `Taken` or
     /// `Lost`, of a loss `NoMessage`, `Taken` or `Lost`, in this order. A step reads what stands now.
     /// After a refusal and after `NoMemory` the run is as it was.
@@ -111,7 +111,7 @@ impl AnyRun {
         }
     }
 
-    /// Loses the copy of the `m`-th message of process `s` for process `p`, or answers the first
+    /// Loses the copy of the `m`-th message of process `s` for process `p`, or returns the first
     /// refusal that holds: `NoLoss`, `NoProcess` of `p`, `NoMessage`, `Taken` or `Lost`, in this
     /// order. After a refusal and after `NoMemory` the run is as it was.
     pub fn lose(
@@ -211,7 +211,7 @@ impl AnyRun {
     }
 
     /// Takes the loss of the copy for process `p` of the `m`-th message of process `s` back with its
-    /// consequences, and returns what was taken back, the last first; or answers the first refusal
+    /// consequences, and returns what was taken back, the last first; or returns the first refusal
     /// that holds: `NoProcess` of `s` or `p`, or `NoStep`. After a refusal and after `NoMemory` the run
     /// is as it was.
     pub fn rollback_lost(

@@ -82,7 +82,7 @@ fn post(
     }
 }
 
-/// Writes what a step writes, and answers the cell that it overwrote.
+/// Writes what a step writes, and returns the cell that it overwrote.
 fn write(registers: &mut Registers, kind: &Kind, wish: &Option<Wish>) -> Option<Cell>
     requires { IsWritable registers.old kind.now wish.now }
     ensures after { registers.new ≡ registers_after registers.old kind.now (wished_cell wish.now) }

@@ -66,7 +66,7 @@ pub fn undo<L>()
 
 /// A standing event is taken back exactly where no standing event depends on it; else the first that
 /// does is named. A name that does not stand is refused, and so is one with a process that is not
-/// there. What an answered undo leaves is valid, and the event, taken again, leads back to the state
+/// there. What a granted undo leaves is valid, and the event, taken again, leads back to the state
 /// that the history reached.
 #[tactic(auto, using(crate::proofs::Answered::undone_free))]
 pub fn answered_undo<L>()
@@ -131,7 +131,7 @@ pub fn answered_rollback<L>()
 {}
 
 /// An event that was just taken is free, and the history without it is the one before it: where its
-/// name is new, its undo is answered with just that.
+/// name is new, its undo returns just that.
 #[tactic(auto, using(cdb_causal::proofs::Dependents::last_free, cdb_causal::proofs::Dependents::without_push_back))]
 pub fn step_then_undo()
     ensures free { (history : List Event) (event : Event) →
@@ -166,7 +166,7 @@ pub fn valid_histories_stand<L>()
         length machine.firsts ≤ 9 → IsStanding history }
 {}
 
-/// In a valid history the loss of a copy stands behind the send of its message, and no receive of
+/// In a valid history the loss of a copy comes after the send of its message, and no receive of
 /// that copy stands anywhere.
 #[tactic(auto, using(crate::proofs::Naming::lost_after_send, crate::proofs::Naming::lost_unreceived))]
 pub fn losses<L>()
@@ -188,7 +188,7 @@ pub fn same_state_exchanged<L>()
 {}
 
 /// The own events of a process, in the state that a history reaches, are its steps as the history
-/// alone tells them: each read and write of a register with the number of writes before it.
+/// alone determines them: each read and write of a register with the number of writes before it.
 #[tactic(auto, using(crate::proofs::OwnOfState::own_of_history))]
 pub fn own_events<L>()
     ensures { (machine : Machine L) (history : List Event) (state : RunState L) →

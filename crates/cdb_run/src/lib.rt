@@ -1,4 +1,10 @@
-//! The run of a machine: its states, its steps, and what stands of it.
+//! A run of either algorithm: its steps, their undo and rollback, and what it shows.
+//!
+//! ```text
+//! let mut run = AnyRun::start(alloc, setup)?;
+//! let event = run.step(alloc, 1, Act::Query(None))?;
+//! let undone = run.undo(1, 1);
+//! ```
 #![tactic(auto)]
 
 pub mod agreement;

@@ -1,4 +1,4 @@
-//! The steps of one process as a history alone tells them, each access with the number of writes
+//! The steps of one process as a history alone determines them, each access with the number of writes
 //! before it.
 
 ghost use Rattle.std.specs.Prelude.{◌≡◌, ◌+◌, ◌<◌, ◌^◌, ◌↔◌, length, IsTrue};
@@ -141,7 +141,7 @@ impl<'a> Iterator for Noted<'a> {
     }
 }
 
-/// Whether process `p` takes the same steps in both histories, each access behind as many writes.
+/// Whether process `p` takes the same steps in both histories, each access after as many writes.
 pub(crate) fn same_steps(p: Proc, history: &[Event], other: &[Event]) -> bool
     ensures { IsTrue result ↔ (own_steps p history.now ≡ own_steps p other.now) }
 {

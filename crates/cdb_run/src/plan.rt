@@ -119,7 +119,7 @@ fn plan_query<P: Process>(
     next_step(progress, p, Kind::Query(leader))
 }
 
-/// Process `p` asks the oracle, and is answered that leader.
+/// Process `p` asks the oracle, which names that leader.
 fn plan_answer<P: Process>(
     setup: &Setup,
     mail: &Mail,
@@ -175,7 +175,7 @@ fn plan_recv<P: Process>(
     Ok(step)
 }
 
-/// What a step of process `p` is answered: the first refusal that holds, else the event that the act
+/// What a step of process `p` returns: the first refusal that holds, else the event that the act
 /// names.
 pub(crate) fn plan<P: Process>(
     setup: &Setup,
@@ -222,7 +222,7 @@ fn refuses_copy(mail: &Mail, p: Proc, name: &MsgName) -> Option<Refusal>
     None
 }
 
-/// What it is answered to lose the copy of the `m`-th message of process `s` for process `p`.
+/// What losing the copy of the `m`-th message of process `s` for process `p` returns.
 pub(crate) fn plan_loss(
     setup: &Setup,
     mail: &Mail,
@@ -281,7 +281,7 @@ fn refuses_again<P: Process>(
     }
 }
 
-/// What it is answered to take the `k`-th step of process `p` again.
+/// What taking the `k`-th step of process `p` again returns.
 pub(crate) fn plan_again<P: Process>(
     setup: &Setup,
     mail: &Mail,
@@ -302,7 +302,7 @@ pub(crate) fn plan_again<P: Process>(
     }
 }
 
-/// What it is answered to lose a copy for a process of the run again, where copies can be lost.
+/// What losing a copy again for a process of the run returns, where copies can be lost.
 pub(crate) fn plan_loss_again(setup: &Setup, mail: &Mail, copy: &CopyName) -> Result<Event, Refusal>
     requires loses { setup.now.version ≡ 2 }
     requires among { copy.now.to ≤ setup.now.processes }

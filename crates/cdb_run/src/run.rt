@@ -166,7 +166,7 @@ impl<P: Process> Run<P> {
         &self.processes[p.index()]
     }
 
-    /// What a step of process `p` is answered.
+    /// What a step of process `p` returns.
     fn plan(&self, p: u32, act: Act) -> Result<Event, Refusal>
         ensures answer { result ≡ answer_to_step P.table self.now p act }
         ensures enabled { IfOk result (λ event. IsNext P.table self.now event) }
@@ -193,7 +193,7 @@ impl<P: Process> Run<P> {
         self.plan(p, act).err()
     }
 
-    /// Takes the step of process `p` that an act names, or answers the first refusal that holds:
+    /// Takes the step of process `p` that an act names, or returns the first refusal that holds:
     /// `NoProcess`, `Crashed`, `Done`, `NotNow`, `NoMessage`, `Taken`, `BadLeader`, `NoAnswer`,
     /// `StepLimit` or `Lost`, in this order. After a refusal and after `NoMemory` the run is as it was.
     pub fn step(
@@ -217,7 +217,7 @@ impl<P: Process> Run<P> {
         }
     }
 
-    /// What it is answered to take an undone event again.
+    /// What taking an undone event again returns.
     fn plan_again(&self, event: &Event) -> Result<Event, Refusal>
         requires { IsOfRun self.now.setup event.now }
         ensures answer { result ≡ answer_to_again P.table self.now event.now }
@@ -242,7 +242,7 @@ impl<P: Process> Run<P> {
         }
     }
 
-    /// Takes an undone event of the run again, at the end of the history, or answers the first
+    /// Takes an undone event of the run again, at the end of the history, or returns the first
     /// refusal that holds: of a step `Moved`, `Crashed`, `Done`, `NotNow`, `NoMessage`, `Taken` or
     /// `Lost`, of a loss `NoMessage`, `Taken` or `Lost`, in this order. A step reads what stands now.
     /// After a refusal and after `NoMemory` the run is as it was.
@@ -266,7 +266,7 @@ impl<P: Process> Run<P> {
         Ok(answer)
     }
 
-    /// Loses the copy of the `m`-th message of process `s` for process `p`, or answers the first
+    /// Loses the copy of the `m`-th message of process `s` for process `p`, or returns the first
     /// refusal that holds: `NoLoss`, `NoProcess` of `p`, `NoMessage`, `Taken` or `Lost`, in this
     /// order. After a refusal and after `NoMemory` the run is as it was.
     pub fn lose(
@@ -291,7 +291,7 @@ impl<P: Process> Run<P> {
         }
     }
 
-    /// What it is answered to lose a copy.
+    /// What losing a copy returns.
     fn plan_loss(&self, s: u32, m: u32, p: u32) -> Result<Event, Refusal>
         ensures answer { result ≡ answer_to_loss P.table self.now s m p }
         ensures enabled { IfOk result (λ event. IsNext P.table self.now event) }

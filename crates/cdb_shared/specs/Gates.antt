@@ -1,4 +1,4 @@
--- What a gate hears of a session: it is asked before each call, and told after each answer.
+-- The calls of a gate by a session: it is asked before each call, and notified after each reply.
 use Rattle.std.specs.Prelude.{◌≡◌, ◌⊎◌, ℕ, ◌+◌, Bool, true, false, List, [], ◌∷◌, ◌++◌, length, Option, Some, None}
 use Rattle.cdb_control.specs.declared.command.Command.{Command}
 use Rattle.cdb_shared.specs.Seats.{SeatView}
@@ -6,7 +6,7 @@ use Rattle.cdb_shared.specs.Sessions.{calls_of}
 use Rattle.cdb_shared.specs.declared.session.End.{End}
 use Rattle.cdb_shared.specs.declared.session.End.TheVariants.{All, Done, Stopped, NoMemory, JournalFull}
 
--- Asked before the call of this number, and whether it let it go on; or told after it. Beside the number stand
+-- Asked before the call of this number, and whether it let it go on; or notified after it. Beside the number stand
 -- the calls that the seat had made then.
 pub data Heard : Type 0 where
   Asked : ℕ → List Command → Bool → Heard
@@ -21,21 +21,21 @@ heard_more (Some heard) more = Some (heard ++ more)
 abbrev pub Adds : Option (List Heard) → Option (List Heard) → Heard → Type 0
 Adds old new one = new ≡ heard_more old (one ∷ [])
 
--- and that it was asked, or told, of a call of the seat
+-- and that it was asked, or notified, of a call of the seat
 abbrev pub HearsAsked : Option (List Heard) → Option (List Heard) → ℕ → SeatView → Bool → Type 0
 HearsAsked old new call seat goes_on = Adds old new (Asked call (calls_of seat) goes_on)
 
 abbrev pub HearsTold : Option (List Heard) → Option (List Heard) → ℕ → SeatView → Type 0
 HearsTold old new call seat = Adds old new (Told call (calls_of seat))
 
--- of answered calls, numbered from this one on, after those made before: asked for each, which goes on, and told of it
+-- of calls with replies, numbered from this one on, after those made before: asked for each, which goes on, and notified of it
 abbrev pub heard_of : ℕ → List Command → List Command → List Heard
 heard_of number made [] = []
 heard_of number made (command ∷ rest) =
     let all = made ++ command ∷ [] in
     Asked number made true ∷ Told number all ∷ heard_of (number + 1) all rest
 
--- of the call that a session ended at: it was asked for, and there was nothing to tell
+-- of the call that a session ended at: it was asked for, and there was nothing to notify of
 abbrev pub heard_last : End → ℕ → List Command → List Heard
 heard_last All number made = []
 heard_last Done number made = []
@@ -43,7 +43,7 @@ heard_last Stopped number made = Asked number made false ∷ []
 heard_last NoMemory number made = Asked number made true ∷ []
 heard_last JournalFull number made = Asked number made true ∷ []
 
--- of a session whose answered calls are these, numbered from 1
+-- of a session whose calls with replies are these, numbered from 1
 abbrev pub heard_in : List Command → List Command → End → List Heard
 heard_in made answered end =
     heard_of 1 made answered ++ heard_last end (length answered + 1) (made ++ answered)

@@ -49,13 +49,13 @@ pub record IsLater (old new : SeatView) : Type 0 where
 abbrev pub SameCalls : SeatView → List Entry → Type 0
 SameCalls seat journal = own seat.number journal ≡ own seat.number seat.seen
 
--- the answer to a command of the seat at a journal
+-- the reply to a command of the seat at a journal
 abbrev pub answer_at : SeatView → List Entry → Command → Answer
 answer_at seat journal command =
     let rules_of = rules seat.setup in
     answer rules_of (replay rules_of seat.setup seat.seats journal) seat.number command
 
--- one call: before it the others had made the journal what it was, and the reply is the answer there
+-- one call: before it the others had made the journal what it was, and the reply is the one there
 pub record IsCall (old : SeatView) (command : Command) (answered : Answer) (new : SeatView) : Type 0 where
   pub journal : List Entry
   pub begins : Begins old.seen journal

@@ -16,7 +16,7 @@ use Rattle.cdb_shared.specs.Seats.{SeatView}
 abbrev pub calls_of : SeatView → List Command
 calls_of seat = own seat.number seat.seen
 
--- the answers to them
+-- the replies to them
 abbrev pub replies_to : SeatView → List Answer
 replies_to seat = replies_of (rules seat.setup) seat.setup seat.seats seat.number seat.seen
 

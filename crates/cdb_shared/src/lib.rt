@@ -1,5 +1,11 @@
-//! One control for the sessions of many threads. Each session has a seat; whoever has the turn carries
-//! a command out, and one journal explains what all seats were answered.
+//! One control for the sessions of many threads. Each session has a seat; whoever has the turn executes
+//! a command, and one journal explains the replies of all seats.
+//!
+//! ```text
+//! let (shared, seats) = Shared::open(rt, alloc, control)?;
+//! let reply = shared.call(rt, alloc, &mut seat, Command::Auto(1))?;
+//! let control = shared.finish(rt, seats);
+//! ```
 #![tactic(auto)]
 
 mod knowledge;

@@ -1,4 +1,4 @@
-//! Sessions: a seat's calls in order, each behind a gate.
+//! Sessions: a seat's calls in order, each after its gate was asked.
 ghost use Rattle.std.specs.Prelude.{◌≡◌, ◌≢◌, ◌++◌, ◌≤◌, ◌↔◌, ◌⊎◌, length, map, take, replicate, vec_len, List, Bool, true, false, Option, None, IsTrue};
 ghost use Rattle.cdb_control.specs.Answer.{Refused, told};
 ghost use Rattle.cdb_shared.specs.Gates.{Heard, HearsAsked, HearsTold, Hears, HearsServed};
@@ -12,7 +12,7 @@ use cdb_control::{CallFault, Command, Reply};
 use std::alloc::Global;
 use std::sync::Wait;
 
-/// What is asked before each call of a session, and told after each answer. The calls are numbered from 1, and
+/// What is asked before each call of a session, and notified after each reply. The calls are numbered from 1, and
 /// the seat that is shown rests.
 pub trait Gate {
     // What it has heard of calls, in order, where that is known.
@@ -27,7 +27,7 @@ pub trait Gate {
         ensures heard { HearsAsked (heard self.old) (heard self.new) call seat.now result }
         ensures passes { passes self.old ≡ true → (result ≡ true) × (passes self.new ≡ true) };
 
-    /// This call was answered.
+    /// This call has had its reply.
     fn after(&mut self, call: u32, seat: &Seat)
         requires rests { seat.now.rests ≡ true }
         ensures heard { HearsTold (heard self.old) (heard self.new) call seat.now }
@@ -37,7 +37,7 @@ pub trait Gate {
 /// Why a session ended.
 #[derive(Debug, Clone, Copy, PartialEq)]
 pub enum End {
-    /// Each command was answered, or each turn was used up.
+    /// Each command has had its reply, or each turn was used up.
     All,
     /// The process was done.
     Done,
@@ -64,7 +64,7 @@ fn is_done(reply: &Reply) -> bool
     matches!(reply, Reply::Refused(Refusal::Done))
 }
 
-/// Makes a session's calls in order, each behind the gate, and hands the seat back with the replies. It
+/// Makes a session's calls in order, each after the gate was asked, and hands the seat back with the replies. It
 /// ends with `Stopped` where the gate says so, and with `JournalFull` or `NoMemory` where a call meets
 /// that; the replies are those before. Room for all of them is reserved first.
 pub fn serve<G: Gate + Drop, R: Wait>(
@@ -106,7 +106,7 @@ pub fn serve<G: Gate + Drop, R: Wait>(
     (seat, replies, End::All)
 }
 
-/// Steps a process by `auto`, each call behind the gate, until one is answered that the process is done
+/// Steps a process by `auto`, each call after the gate was asked, until one is refused as the process is done
 /// or the turns are used up, and hands the seat back with the number of calls. It ends with `Done` at that
 /// answer, also at the last turn, and with `Stopped`, `JournalFull` and `NoMemory` as `serve` does.
 pub fn drive<G: Gate + Drop, R: Wait>(

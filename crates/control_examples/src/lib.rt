@@ -1,4 +1,4 @@
-//! Worked examples as commands of sessions, with ample memory and with want of it; examples of lines and of the
+//! Worked examples as commands of sessions, with ample memory and where allocations fail; examples of lines and of the
 //! texts of replies.
 #![tactic(auto)]
 

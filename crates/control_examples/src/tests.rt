@@ -1,3 +1,5 @@
+//! Tests.
+
 mod alpha;
 mod breakpoints;
 mod laws;

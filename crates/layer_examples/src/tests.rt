@@ -1,3 +1,5 @@
+//! Tests.
+
 mod alpha;
 mod causal;
 mod causal_twins;

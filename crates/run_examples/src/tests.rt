@@ -1,4 +1,4 @@
-//! What the calls of a run answer and show.
+//! What the calls of a run return and show.
 
 mod alpha;
 mod causes;

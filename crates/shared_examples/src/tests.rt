@@ -1,3 +1,5 @@
+//! Tests.
+
 mod gates;
 mod limits;
 mod memory;

@@ -45,7 +45,7 @@ impl<P: Process> Run<P> {
     }
 
     /// Takes the event at a place, from 1, back with its consequences, from the last of them back, and
-    /// adds each to the end of a list. Answers how many events that are.
+    /// adds each to the end of a list. Returns how many events that are.
     fn roll_back(
         &mut self,
         alloc: Global,

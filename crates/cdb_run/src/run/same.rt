@@ -32,7 +32,7 @@ fn losses_are_lost(mail: &Mail, history: &[Event]) -> bool
     })
 }
 
-/// Whether two histories, each with the mail that it leads to, tell the same of each process and of
+/// Whether two histories, each with the mail that it leads to, say the same of each process and of
 /// what is lost.
 fn are_alike(history: &[Event], mail: &Mail, other: &[Event], other_mail: &Mail) -> bool
     ensures { IsTrue result ↔ AreAlike history.now mail.now other.now other_mail.now }
@@ -43,7 +43,7 @@ fn are_alike(history: &[Event], mail: &Mail, other: &[Event], other_mail: &Mail)
 }
 
 impl<P: Process> Run<P> {
-    /// Whether both runs are in the same state: each process has the same events, each access behind
+    /// Whether both runs are in the same state: each process has the same events, each access after
     /// as many writes of its register, and the same copies are lost. The histories are then equal up
     /// to exchange of neighbours that do not depend on each other. It takes no memory.
     pub fn same_run(&self, other: &Run<P>) -> bool

@@ -1,4 +1,4 @@
-//! Want of memory: a command that is refused it changes nothing, and is answered as ever when it is given
+//! Out of memory: a command whose allocation fails changes nothing, and has its usual reply when it is given
 //! again. To see it, let each allocation of these tests fail in turn.
 
 use super::pair::{Line, check_in_pair};

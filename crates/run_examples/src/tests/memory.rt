@@ -1,4 +1,4 @@
-//! Want of memory: a run is as it was, and answers the same when it is asked again. To see it, let each
+//! Out of memory: a run is as it was, and returns the same when it is asked again. To see it, let each
 //! allocation of these tests fail in turn.
 
 use super::example::Example;

@@ -1,4 +1,4 @@
-//! Want of memory in a session: it ends there, with what came before, and its next calls are answered as
+//! Out of memory in a session: it ends there, with what came before, and its next calls have the replies as
 //! if nothing had happened. To see it, let each allocation of these tests fail in turn.
 
 use super::gates::OPEN;
