@@ -1,8 +1,11 @@
 -- What is taken out of a list of entries.
-use Rattle.std.specs.Prelude.{◌≡◌, ℕ, ◌≤◌, IsTrue, List, Some, slice_get}
+use Rattle.std.specs.Prelude.{◌≡◌, ℕ, ◌≤◌, IsTrue, List, Option, Some, MatchOption, slice_get}
 use Rattle.cdb_base.specs.Event.{is_step_of}
 use Rattle.cdb_base.specs.declared.event.Event.{Event}
+use Rattle.cdb_causal.specs.Causality.{IsFree}
+use Rattle.cdb_causal.specs.Dependence.{depends}
 use Rattle.cdb_causal.specs.Rollback.{without}
+use Rattle.cdb_record.specs.Entries.{events_of}
 use Rattle.cdb_record.specs.declared.entry.Entry.{Entry}
 
 -- the entry stood at place i, and the others are left
@@ -16,3 +19,18 @@ IsStepOf history p i = (event : Event) × (slice_get history i ≡ Some event) �
 -- of the steps of process p, the one at place i is the last
 abbrev pub IsLastStepOf : List Event → ℕ → ℕ → Type 0
 IsLastStepOf history p i = IsStepOf history p i × ((j : ℕ) → IsStepOf history p j → j ≤ i)
+
+-- the event at place i is not free, and nothing has changed
+abbrev pub IsKept : {B : Type 0} → List (Entry B) → ℕ → List (Entry B) → Type 0
+IsKept old i new = (IsFree depends (events_of old) i → ⊥) × (new ≡ old)
+
+-- it was free, and it was taken out
+abbrev pub IsTakenFree : {B : Type 0} → List (Entry B) → ℕ → Entry B → List (Entry B) → Type 0
+IsTakenFree old i entry new = IsFree depends (events_of old) i × IsTakenOut old i entry new
+
+-- an event of that description is taken out where one stands free; where none does, nothing has changed
+abbrev pub TakesWhereFree : {B : Type 0} → (List Event → ℕ → Type 0) → Option (Entry B) → List (Entry B) → List (Entry B) → Type 0
+TakesWhereFree Is result old new =
+    MatchOption result
+    (((i : ℕ) → Is (events_of old) i → IsFree depends (events_of old) i → ⊥) × (new ≡ old))
+    (λ entry. (i : ℕ) × Is (events_of old) i × IsFree depends (events_of old) i × IsTakenOut old i entry new)

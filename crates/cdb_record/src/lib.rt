@@ -1,11 +1,4 @@
-//! Records of the standing events: what restores the state before each, its direct causes, and how many
-//! events have it as one.
-//!
-//! ```text
-//! records.push(alloc, event)?;
-//! records.set_last(back, overwritten);
-//! let is_free = records.count_of(name) == 0;
-//! ```
+//! Records of standing events, by which they are taken back.
 #![tactic(auto)]
 
 mod accounts;

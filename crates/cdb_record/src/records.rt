@@ -12,7 +12,7 @@ ghost use Rattle.cdb_causal.specs.Rollback.{without};
 ghost use Rattle.cdb_causal.specs.Standing.{HasNoLostCopy};
 ghost use Rattle.cdb_record.specs.Accounts.{dependents_at};
 ghost use Rattle.cdb_record.specs.Entries.{events_of};
-ghost use Rattle.cdb_record.specs.Taken.{IsTakenOut, IsStepOf, IsLastStepOf};
+ghost use Rattle.cdb_record.specs.Taken.{IsKept, IsTakenFree, IsTakenOut, IsStepOf, IsLastStepOf, TakesWhereFree};
 ghost use Rattle.cdb_record.specs.declared.entry.Entry.{Entry as AnEntry};
 
 use crate::accounts::{Account, Change, change_counts};
@@ -86,7 +86,8 @@ impl<B: Drop> Records<B> {
     pub fn push(&mut self, alloc: Global, event: Event) -> Result<(), NoMemory>
         requires new_name { IsNewName (events_of self.old) (event_name event) }
         requires not_lost { HasNoLostCopy (events_of self.old) event }
-        ensures ok { OnOk result (self.new ≡ self.old ++ record { event = event; back = None; overwritten = None } ∷ []) }
+        ensures ok { OnOk result (self.new
+            ≡ self.old ++ record { event = event; back = None; overwritten = None } ∷ []) }
         ensures err { OnErr result (self.new ≡ self.old) }
     {
         if self.entries.len() >= u32::MAX as usize {
@@ -158,7 +159,8 @@ impl<B: Drop> Records<B> {
     fn take_free(&mut self, at: usize) -> Option<Entry<B>>
         requires from_one { 1 ≤ at }
         requires to_len { at ≤ length self.old }
-        ensures { MatchOption result ((IsFree depends_of (events_of self.old) (at - 1) → ⊥) × (self.new ≡ self.old)) (λ entry. IsFree depends_of (events_of self.old) (at - 1) × IsTakenOut self.old (at - 1) entry self.new) }
+        ensures { MatchOption result (IsKept self.old (at - 1) self.new)
+            (λ entry. IsTakenFree self.old (at - 1) entry self.new) }
     {
         if self.accounts[at - 1].count > 0 {
             return None;
@@ -169,7 +171,7 @@ impl<B: Drop> Records<B> {
     /// Takes the last step of a process out, where one stands and no event depends on it; else
     /// nothing changes. It takes no memory.
     pub fn take_last_of(&mut self, p: Proc) -> Option<Entry<B>>
-        ensures { MatchOption result (((i : ℕ) → IsLastStepOf (events_of self.old) p i → IsFree depends_of (events_of self.old) i → ⊥) × (self.new ≡ self.old)) (λ entry. (i : ℕ) × IsLastStepOf (events_of self.old) p i × IsFree depends_of (events_of self.old) i × IsTakenOut self.old i entry self.new) }
+        ensures { TakesWhereFree (λ history i. IsLastStepOf history p i) result self.old self.new }
     {
         let at = last_of(&self.history, p)?;
         self.take_free(at)
@@ -178,7 +180,8 @@ impl<B: Drop> Records<B> {
     /// Takes the loss of a copy out, where it stands and no event depends on it; else nothing
     /// changes. It takes no memory.
     pub fn take_lost(&mut self, copy: CopyName) -> Option<Entry<B>>
-        ensures { MatchOption result (((i : ℕ) → IsNamedAt (events_of self.old) i (named.Lost copy) → IsFree depends_of (events_of self.old) i → ⊥) × (self.new ≡ self.old)) (λ entry. (i : ℕ) × IsNamedAt (events_of self.old) i (named.Lost copy) × IsFree depends_of (events_of self.old) i × IsTakenOut self.old i entry self.new) }
+        ensures { TakesWhereFree (λ history i. IsNamedAt history i (named.Lost copy)) result
+            self.old self.new }
     {
         let at = self.history.position(StepId::Lost(copy))?;
         self.take_free(at)
