@@ -9,6 +9,7 @@ use Rattle.cdb_play.specs.Written.{PlayWrites, RaceWrites}
 use Rattle.cdb_play.specs.declared.buffer.OutputFault.{OutputFault}
 use Rattle.cdb_play.specs.declared.buffer.OutputFault.TheVariants as output
 use Rattle.cdb_play.specs.declared.fault.PlayFault.{PlayFault}
+use Rattle.cdb_play.specs.declared.fault.PlayFault.TheVariants as play
 use Rattle.cdb_play.specs.declared.fault.RaceFault.{RaceFault}
 use Rattle.cdb_play.specs.declared.fault.RaceFault.TheVariants.{Setup, Line, ScriptTooLong, Write, NoMemory, JournalFull, Spawn, Stopped}
 use Rattle.cdb_play.specs.declared.script.ScriptFault.{ScriptFault}
@@ -72,3 +73,13 @@ module _ {W : Type 0} (contents : W → Option (List ℕ)) (failures : W → ℕ
   race_writes_weaker (Err JournalFull) old new Other weaker wrote = wrote
   race_writes_weaker (Err Spawn) old new Other weaker wrote = wrote
   race_writes_weaker (Err (Stopped seat)) old new Other weaker wrote = wrote
+
+  pub play_writes_weaker : (outcome : Result A PlayFault) (old new : W) (Other : List ℕ → Type 0) → ((text : List ℕ) → IsText text → Other text) → PlayWrites contents failures outcome old new IsText → PlayWrites contents failures outcome old new Other
+  play_writes_weaker (Ok done) old new Other weaker wrote = (wrote.0, weaker wrote.0 wrote.1, wrote.2)
+  play_writes_weaker (Err play.Write) old new Other weaker wrote = (wrote.0, weaker wrote.0 wrote.1, wrote.2)
+  play_writes_weaker (Err play.NoMemory) old new Other weaker (inl same) = inl same
+  play_writes_weaker (Err play.NoMemory) old new Other weaker (inr wrote) = inr (wrote.0, weaker wrote.0 wrote.1, wrote.2)
+  play_writes_weaker (Err (play.Setup fault)) old new Other weaker wrote = wrote
+  play_writes_weaker (Err (play.Line script line fault)) old new Other weaker wrote = wrote
+  play_writes_weaker (Err (play.ScriptTooLong script)) old new Other weaker wrote = wrote
+  play_writes_weaker (Err play.Read) old new Other weaker wrote = wrote

@@ -12,3 +12,4 @@ pub mod SeatsFit
 pub mod RunningFaults
 pub mod Agreeing
 pub mod Told
+pub mod OnHeadline

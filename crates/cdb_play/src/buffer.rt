@@ -109,7 +109,8 @@ impl Buffer {
 
     /// Writes what is held if it is a full piece. So there is room then.
     fn make_room<W: Sink>(&mut self, out: &mut W) -> Result<(), Failed>
-        ensures put { OnOk result (IsPut W.contents W.failures out.old self.old out.new self.new []) }
+        ensures put { OnOk result
+            (IsPut W.contents W.failures out.old self.old out.new self.new []) }
         ensures room { OnOk result (length self.new < 65536) }
         ensures err { OnErr result (Fails W.contents W.failures out.old out.new self.old) }
     {
@@ -121,8 +122,10 @@ impl Buffer {
 
     /// Puts the bytes after those that are held. Each full piece is written before there is more to hold.
     pub fn put<W: Sink>(&mut self, out: &mut W, bytes: &[u8]) -> Result<(), Failed>
-        ensures ok { OnOk result (IsPut W.contents W.failures out.old self.old out.new self.new bytes.now) }
-        ensures err { OnErr result (Fails W.contents W.failures out.old out.new (self.old ++ bytes.now)) }
+        ensures ok { OnOk result
+            (IsPut W.contents W.failures out.old self.old out.new self.new bytes.now) }
+        ensures err { OnErr result
+            (Fails W.contents W.failures out.old out.new (self.old ++ bytes.now)) }
     {
         let mut done = 0;
         while done < bytes.len() {

@@ -25,7 +25,8 @@ fn detail_of(
     Piece<'static>,
     Piece<'static>,
 )
-    ensures { pieces_text (result.0 ∷ result.1 ∷ result.2 ∷ result.3 ∷ []) ≡ setup_detail fault.now }
+    ensures { pieces_text (result.0 ∷ result.1 ∷ result.2 ∷ result.3 ∷ [])
+        ≡ setup_detail fault.now }
 {
     let (space, nothing) = (Text(" "), Text(""));
     match fault {
@@ -38,7 +39,8 @@ fn detail_of(
 
 /// A fault of a setup that has this number.
 fn write_numbered<W: Sink>(number: u8, fault: &SetupFault, err: &mut W) -> Result<(), Failed>
-    ensures { Writes W.contents W.failures result err.old err.new (numbered_text (Some number) fault.now) }
+    ensures { Writes W.contents W.failures result err.old err.new
+        (numbered_text (Some number) fault.now) }
 {
     let number = Number(usize::from(number));
     let name = Text(fault.name());
@@ -72,7 +74,8 @@ fn write_line_fault<W: Sink>(
     fault: LineFault,
     err: &mut W,
 ) -> Result<(), Failed>
-    ensures { Writes W.contents W.failures result err.old err.new (line_fault_text script line fault) }
+    ensures { Writes W.contents W.failures result err.old err.new
+        (line_fault_text script line fault) }
 {
     let (script, line) = (Number(script), Number(line));
     let (number, name) = (Number(usize::from(fault.number())), Text(fault.name()));
@@ -99,7 +102,8 @@ fn write_too_long<W: Sink>(script: usize, err: &mut W) -> Result<(), Failed>
 /// Writes the text of a fault. The name is that of what could not be read. Where the writer fails, what was
 /// written is a beginning of the text.
 pub fn write_fault<W: Sink>(fault: &PlayFault, name: &str, err: &mut W) -> Result<(), Failed>
-    ensures { Writes W.contents W.failures result err.old err.new (play_fault_text fault.now name.now) }
+    ensures { Writes W.contents W.failures result err.old err.new
+        (play_fault_text fault.now name.now) }
 {
     match fault {
         PlayFault::Setup(fault) => write_setup_fault(fault, err),

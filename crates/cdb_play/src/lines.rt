@@ -8,7 +8,8 @@ pub fn first_line(script: &[u8]) -> (&[u8], &[u8])
     requires { 0 < length script.now }
     ensures lines { lines_of script.now ≡ result.0.now ∷ lines_of result.1.now }
     ensures shorter { length result.0.now + length result.1.now ≤ length script.now }
-    ensures newline { result.1.now ≢ [] → length result.0.now + length result.1.now < length script.now }
+    ensures newline { result.1.now ≢ [] →
+        length result.0.now + length result.1.now < length script.now }
 {
     match script.iter().position(|byte| *byte == b'\n') {
         Some(end) => (&script[..end], &script[end + 1..]),

@@ -7,7 +7,7 @@ ghost use Rattle.cdb_setup.specs.declared.fault.SetupFault.{SetupFault as SetupF
 ghost use Rattle.cdb_play.specs.Buffers.{Puts, Wrote};
 ghost use Rattle.cdb_play.specs.Faults.{IsFaultOfPlay};
 ghost use Rattle.cdb_play.specs.Streams.{FailsWhere};
-ghost use Rattle.cdb_play.specs.Transcripts.{reply_to, transcript, Plays};
+ghost use Rattle.cdb_play.specs.Transcripts.{reply_to, transcript, Plays, RestsOnHeadline};
 ghost use Rattle.cdb_play.specs.Written.{PlayWrites};
 
 use crate::buffer::{Buffer, OutputFault};
@@ -16,7 +16,7 @@ use crate::script::commands_of;
 use crate::sink::Sink;
 use crate::source::{Source, read_up_to};
 use cdb_base::limits::MAX_BYTES;
-use cdb_control::{CallFault, Command, Control, RunOfSetup, Runs};
+use cdb_control::{CallFault, Command, Control, RunOfSetup, Runs, laws};
 use cdb_setup::Setup;
 use cdb_text::reply_text;
 use std::alloc::Global;
@@ -31,7 +31,8 @@ fn perform<T: Runs, W: Sink>(
 ) -> Result<(), OutputFault>
     requires seats { control.old.seats ≡ 1 }
     requires room { length control.old.journal < 999999 }
-    ensures done { OnOk result (control.new ≡ extended (T.rules control.old.setup) control.old 1 command) }
+    ensures done { OnOk result
+        (control.new ≡ extended (T.rules control.old.setup) control.old 1 command) }
     ensures put { Puts W.contents W.failures result out.old buffer.old out.new buffer.new
         (reply_to T.rules control.old command) }
 {
@@ -75,7 +76,8 @@ fn write_transcript<T: Runs, W: Sink>(
     out: &mut W,
 ) -> Result<(), OutputFault>
     requires { length commands.now < 999999 }
-    ensures { Wrote W.contents W.failures result out.old out.new (transcript (T.rules setup) setup commands.now) }
+    ensures { Wrote W.contents W.failures result out.old out.new
+        (transcript (T.rules setup) setup commands.now) }
 {
     let mut buffer = Buffer::new(alloc)?;
     perform_all::<T, W>(alloc, setup, commands, &mut buffer, out)?;
@@ -94,7 +96,8 @@ fn play_by<T: Runs, R: Source, W: Sink>(
         (Plays T.rules setup.now (R.remaining script.old) (R.remaining script.new)) }
     ensures fault { IfErr result (λ fault.
         IsFaultOfPlay fault setup.now (R.remaining script.old) (R.remaining script.new)) }
-    ensures unread { (fault : SetupFaultName) → result ≡ Err (PlayFault.Setup fault) → script.new ≡ script.old }
+    ensures unread { (fault : SetupFaultName) → result ≡ Err (PlayFault.Setup fault) →
+        script.new ≡ script.old }
     ensures read { FailsWhere R.failures (result ≡ Err PlayFault.Read) script.old script.new }
 {
     let setup = Setup::read(alloc, setup)?;
@@ -110,6 +113,8 @@ fn play_by<T: Runs, R: Source, W: Sink>(
 /// and after `Setup`, `Read`, `ScriptTooLong` and `Line` nothing was written. After `Write` what was written is a
 /// beginning of the transcript, and after `NoMemory` one of whole pieces of 65,536 bytes. `Read` and `Write` come
 /// only where the reader or the writer failed in this call.
+///
+/// The replies in the transcript are those to a journal of which the headline holds.
 pub fn play<R: Source, W: Sink>(
     alloc: Global,
     setup: &[u8],
@@ -118,10 +123,15 @@ pub fn play<R: Source, W: Sink>(
 ) -> Result<(), PlayFault>
     ensures wrote { PlayWrites W.contents W.failures result out.old out.new
         (Plays rules setup.now (R.remaining script.old) (R.remaining script.new)) }
+    ensures headline { PlayWrites W.contents W.failures result out.old out.new
+        (RestsOnHeadline setup.now (R.remaining script.old) (R.remaining script.new)) }
     ensures fault { IfErr result (λ fault.
         IsFaultOfPlay fault setup.now (R.remaining script.old) (R.remaining script.new)) }
-    ensures unread { (fault : SetupFaultName) → result ≡ Err (PlayFault.Setup fault) → script.new ≡ script.old }
+    ensures unread { (fault : SetupFaultName) → result ≡ Err (PlayFault.Setup fault) →
+        script.new ≡ script.old }
     ensures read { FailsWhere R.failures (result ≡ Err PlayFault.Read) script.old script.new }
 {
+    // Its clause says that the headline holds of every journal.
+    laws::headline();
     play_by::<RunOfSetup, R, W>(alloc, setup, script, out)
 }

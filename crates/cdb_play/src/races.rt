@@ -236,7 +236,8 @@ pub fn race_with<G: Gate + Drop + Send, R: Threads + Wait + Sync, W: Sink>(
     out: &mut W,
 ) -> Result<(), RaceFault>
     requires turns { turns ≤ 99999 }
-    requires fits { (parts : Parts) → StandsFor setup.now parts → parts.processes + length scripts.now ≤ 64 }
+    requires fits { (parts : Parts) → StandsFor setup.now parts →
+        parts.processes + length scripts.now ≤ 64 }
     requires gates { (parts : Parts) → StandsFor setup.now parts
         → vec_len gates ≡ parts.processes + length scripts.now }
     ensures wrote { RaceWrites W.contents W.failures result out.old out.new
@@ -262,7 +263,8 @@ pub fn race<R: Threads + Wait + Sync, W: Sink>(
     out: &mut W,
 ) -> Result<(), RaceFault>
     requires turns { turns ≤ 99999 }
-    requires fits { (parts : Parts) → StandsFor setup.now parts → parts.processes + length scripts.now ≤ 64 }
+    requires fits { (parts : Parts) → StandsFor setup.now parts →
+        parts.processes + length scripts.now ≤ 64 }
     ensures wrote { RaceWrites W.contents W.failures result out.old out.new
         (IsTextOfRace setup.now turns (bytes_of scripts.now)) }
     ensures agree { (parts : Parts) → StandsFor setup.now parts → HasMajorityIfNeeded parts

@@ -48,7 +48,8 @@ fn push_command(commands: &mut Vec<Command>, command: Command) -> Result<(), All
 /// The commands of the lines of a script, in their order. Where a line is no command, the first such line is
 /// named with its first fault.
 pub fn commands_of(alloc: Global, script: &[u8]) -> Result<Vec<Command>, ScriptFault>
-    ensures commands { IfOk result (λ commands. AreCommandsOf commands.items (lines_of script.now)) }
+    ensures commands { IfOk result
+        (λ commands. AreCommandsOf commands.items (lines_of script.now)) }
     // No line is empty, so two bytes at least stand for each but the last.
     ensures few { IfOk result (λ commands. 2 * length commands.items ≤ length script.now + 1) }
     ensures short { IfOk result (λ _. length script.now ≤ longest) }

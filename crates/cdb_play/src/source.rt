@@ -64,9 +64,11 @@ pub fn read_up_to<R: Source>(
     source: &mut R,
     most: usize,
 ) -> Result<Vec<u8>, ReadFault>
-    ensures taken { IfOk result (λ bytes. Consumes (R.remaining source.old) (R.remaining source.new) bytes.items) }
+    ensures taken { IfOk result
+        (λ bytes. Consumes (R.remaining source.old) (R.remaining source.new) bytes.items) }
     ensures most { IfOk result (λ bytes. length bytes.items ≤ most) }
-    ensures end { IfOk result (λ bytes. length bytes.items < most → IsAtEnd (R.remaining source.new)) }
+    ensures end { IfOk result
+        (λ bytes. length bytes.items < most → IsAtEnd (R.remaining source.new)) }
     ensures failed { FailsWhere R.failures (result ≡ Err ReadFault.Failed) source.old source.new }
 {
     let mut bytes = Vec::new(alloc);

@@ -49,7 +49,8 @@ fn put_replies<W: Sink>(
 
 /// Puts the line with the number of a seat.
 fn put_line<W: Sink>(seat: usize, buffer: &mut Buffer, out: &mut W) -> Result<(), OutputFault>
-    ensures { Puts W.contents W.failures result out.old buffer.old out.new buffer.new (seat_line seat) }
+    ensures { Puts W.contents W.failures result out.old buffer.old out.new buffer.new
+        (seat_line seat) }
 {
     let mut digits = Digits::new();
     buffer.put(out, b"seat ")?;
