@@ -1,0 +1,6 @@
+//! What led to a step, as text.
+#![tactic(auto)]
+
+mod asked;
+
+pub use asked::place_of_step;
