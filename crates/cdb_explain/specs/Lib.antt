@@ -1,2 +1,3 @@
 -- ---- what the public contracts name
 pub mod Asked
+pub mod Marked

@@ -1,0 +1,42 @@
+-- The marked places grow by one place after the other.
+use Rattle.std.proofs.Common.{◌≡◌, ℕ, zero, suc, ◌+◌, Bool, true, false, List, [], ◌∷◌, ◌++◌, filter, length, Some, slice_get, if◌then◌else◌, refl, sym, ap, ◌∙◌, append-nil, length-append, arith}
+use Rattle.std.specs.List.{flat_map, range_with_len}
+use Rattle.std.proofs.lemmas.Grind.{flat_map-append}
+use Rattle.std.proofs.lemmas.List.Elements.{filter-append}
+use Rattle.cdb_explain.specs.Marked.{is_marked, marked_of_first}
+
+range_more : (a n : ℕ) → range_with_len a (suc n) ≡ range_with_len a n ++ (a + n) ∷ []
+range_more a zero = let e : a ≡ a + 0 = omega arith in ap (λ (x : ℕ). x ∷ []) e
+range_more a (suc n) =
+    let e : (a + 1) + n ≡ a + suc n = omega arith in
+    ap (λ (xs : List ℕ). a ∷ xs) (range_more (a + 1) n ∙ ap (λ (x : ℕ). range_with_len (a + 1) n ++ x ∷ []) e)
+
+single_in : (p : ℕ → Bool) (i : ℕ) → p i ≡ true → filter p (i ∷ []) ≡ i ∷ []
+single_in p i is = ap (λ (b : Bool). if b then i ∷ [] else []) is
+
+single_out : (p : ℕ → Bool) (i : ℕ) → p i ≡ false → filter p (i ∷ []) ≡ []
+single_out p i is = ap (λ (b : Bool). if b then i ∷ [] else []) is
+
+one_more : (marks : List Bool) (i : ℕ) → marked_of_first (i + 1) marks ≡ marked_of_first i marks ++ filter (is_marked marks) (i ∷ [])
+one_more marks i =
+    let next : i + 1 ≡ suc i = omega arith in
+    let same : 0 + i ≡ i = omega arith in
+    ap (λ (n : ℕ). marked_of_first n marks) next
+    ∙ ap (filter (is_marked marks)) (range_more 0 i ∙ ap (λ (x : ℕ). range_with_len 0 i ++ x ∷ []) same)
+    ∙ filter-append (is_marked marks) (range_with_len 0 i) (i ∷ [])
+
+pub marked_more : (marks : List Bool) (i : ℕ) → is_marked marks i ≡ true → marked_of_first (i + 1) marks ≡ marked_of_first i marks ++ i ∷ []
+marked_more marks i is = one_more marks i ∙ ap (λ (xs : List ℕ). marked_of_first i marks ++ xs) (single_in (is_marked marks) i is)
+
+pub unmarked_more : (marks : List Bool) (i : ℕ) → is_marked marks i ≡ false → marked_of_first (i + 1) marks ≡ marked_of_first i marks
+unmarked_more marks i is =
+    one_more marks i ∙ ap (λ (xs : List ℕ). marked_of_first i marks ++ xs) (single_out (is_marked marks) i is) ∙ append-nil (marked_of_first i marks)
+
+-- a text for each marked place grows by that of one more
+pub lines_more : (line : ℕ → List ℕ) (marks : List Bool) (i : ℕ) → is_marked marks i ≡ true → flat_map line (marked_of_first (i + 1) marks) ≡ flat_map line (marked_of_first i marks) ++ line i
+lines_more line marks i is =
+    ap (flat_map line) (marked_more marks i is) ∙ flat_map-append line (marked_of_first i marks) (i ∷ [])
+    ∙ ap (λ (t : List ℕ). flat_map line (marked_of_first i marks) ++ t) (append-nil (line i))
+
+pub count_more : (marks : List Bool) (i : ℕ) → is_marked marks i ≡ true → length (marked_of_first (i + 1) marks) ≡ length (marked_of_first i marks) + 1
+count_more marks i is = ap length (marked_more marks i is) ∙ length-append (marked_of_first i marks) (i ∷ [])
