@@ -1,5 +1,5 @@
 -- A run that is played again takes each event of its valid history.
-use Rattle.std.proofs.Common.{◌≡◌, ℕ, suc, ◌+◌, ◌<◌, ◌≤◌, Bool, true, false, not, ◌&&◌, ◌==◌, List, [], ◌∷◌, ◌++◌, length, nat_le, Option, Some, None, IsSome, IsTrue, option_and_then, slice_get, refl, sym, ap, ◌∙◌, subst, if◌then◌else◌, arith}
+use Rattle.std.proofs.Common.{◌≡◌, ℕ, suc, ◌+◌, ◌<◌, ◌≤◌, Bool, true, false, not, ◌&&◌, ◌==◌, List, [], ◌∷◌, ◌++◌, length, nat_le, Option, Some, None, IsSome, IsTrue, Ok, option_and_then, slice_get, refl, sym, ap, ◌∙◌, subst, if◌then◌else◌, arith}
 use Rattle.std.proofs.lemmas.Bool.Decides.{nat_tests}
 use Rattle.std.specs.FinSet as set
 use Rattle.cdb_alpha.specs.Machine.{alpha_table}
@@ -121,3 +121,7 @@ next_of_run setup range history event valid =
 -- what look-ups over histories ask for holds of a valid one
 pub valid_stands : (setup : Parts) → AreInRange setup → (history : List Event) → IsTrue ((rules setup).valid history) → IsStanding history
 valid_stands setup range history valid = stands_by setup range setup.algorithm history valid
+
+-- the last event of a valid history is taken again, where it was undone
+pub taken_again : (setup : Parts) → AreInRange setup → (history : List Event) (event : Event) → IsTrue ((rules setup).valid (history ++ event ∷ [])) → (rules setup).again history event ≡ Ok event
+taken_again setup range history event valid = (rules_keep_histories setup range).last_again history event valid

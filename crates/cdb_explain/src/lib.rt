@@ -2,5 +2,6 @@
 #![tactic(auto)]
 
 mod asked;
+mod replay;
 
 pub use asked::place_of_step;
