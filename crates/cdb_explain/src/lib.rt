@@ -2,6 +2,7 @@
 #![tactic(auto)]
 
 mod asked;
+mod past;
 mod replay;
 
 pub use asked::place_of_step;
