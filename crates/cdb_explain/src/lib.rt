@@ -2,7 +2,11 @@
 #![tactic(auto)]
 
 mod asked;
+mod detail;
+mod line;
+mod lines;
 mod past;
 mod replay;
 
 pub use asked::place_of_step;
+pub use lines::explanation;

@@ -1,0 +1,70 @@
+//! The lines of the marked events.
+
+ghost use Rattle.cdb_explain.specs.Explanations.{line_at, lines_text, IsExplanation};
+ghost use Rattle.cdb_explain.specs.Marked.{marked_of_first};
+ghost use Rattle.cdb_run.specs.Algorithms.{rules};
+ghost use Rattle.cdb_text.specs.Pushes.{Pushes};
+ghost use Rattle.std.specs.List.{flat_map};
+ghost use Rattle.std.specs.Prelude.{◌≡◌, ◌<◌, length, IfOk};
+
+use crate::line::push_line;
+use crate::past::past_of;
+use crate::replay::{fresh, take_next};
+use cdb_base::NoMemory;
+use cdb_control::RunOfSetup;
+use std::alloc::Global;
+
+/// Adds the lines of the marked events, in the order of the history, and returns how many they are.
+/// It plays the run again, event by event, and looks at it after each one.
+fn push_lines(
+    alloc: Global,
+    text: &mut String,
+    run: &RunOfSetup,
+    marks: &[bool],
+) -> Result<usize, NoMemory>
+    requires { length marks.now ≡ length run.now.history }
+    ensures lines { Pushes result text.old text.new
+        (flat_map (line_at rules run.now) (marked_of_first (length run.now.history) marks.now)) }
+    ensures count { IfOk result (λ count.
+        count ≡ length (marked_of_first (length run.now.history) marks.now)) }
+{
+    let mut again = fresh(alloc, run)?;
+    let history = run.any().history();
+    let mut count = 0;
+    for i in 0..history.len() {
+        take_next(alloc, &mut again, &history[i])?;
+        if marks[i] {
+            push_line(alloc, text, run, &again, &history[i])?;
+            count += 1;
+        }
+    }
+    Ok(count)
+}
+
+/// Adds the lines of the marked events, and then how many they are of how many.
+fn push_all(
+    alloc: Global,
+    text: &mut String,
+    run: &RunOfSetup,
+    marks: &[bool],
+) -> Result<(), NoMemory>
+    requires { length marks.now ≡ length run.now.history }
+    ensures { Pushes result text.old text.new (lines_text rules run.now marks.now) }
+{
+    let count = push_lines(alloc, text, run, marks)?;
+    let all = run.any().history().len();
+    writeln!(text, "{count} of {all} standing events")?;
+    Ok(())
+}
+
+/// The explanation of the event at a place of the history, from 0: a line for each event that led to it, in
+/// the order of the history, and then how many they are. `NoMemory` if an allocation fails.
+pub fn explanation(alloc: Global, run: &RunOfSetup, place: usize) -> Result<Vec<u8>, NoMemory>
+    requires { place < length run.now.history }
+    ensures { IfOk result (λ text. IsExplanation rules run.now place text.items) }
+{
+    let marks = past_of(alloc, run, place)?;
+    let mut text = String::new(alloc);
+    push_all(alloc, &mut text, run, marks.as_slice())?;
+    Ok(text.into_bytes())
+}
