@@ -1,8 +1,9 @@
 -- The marked places grow by one place after the other.
-use Rattle.std.proofs.Common.{◌≡◌, ℕ, zero, suc, ◌+◌, Bool, true, false, List, [], ◌∷◌, ◌++◌, filter, length, Some, slice_get, if◌then◌else◌, refl, sym, ap, ◌∙◌, append-nil, length-append, arith}
+use Rattle.std.proofs.Common.{◌≡◌, ℕ, zero, suc, ◌+◌, Bool, true, false, List, [], ◌∷◌, ◌++◌, filter, length, Some, slice_get, if◌then◌else◌, refl, sym, ap, ◌∙◌, append-nil, append_assoc, length-append, arith, ◌<◌, get_or, unwrap_or}
 use Rattle.std.specs.List.{flat_map, range_with_len}
 use Rattle.std.proofs.lemmas.Grind.{flat_map-append}
 use Rattle.std.proofs.lemmas.List.Elements.{filter-append}
+use Rattle.std.proofs.lemmas.Option.{slice_get-get_or}
 use Rattle.cdb_explain.specs.Marked.{is_marked, marked_of_first}
 
 range_more : (a n : ℕ) → range_with_len a (suc n) ≡ range_with_len a n ++ (a + n) ∷ []
@@ -40,3 +41,20 @@ lines_more line marks i is =
 
 pub count_more : (marks : List Bool) (i : ℕ) → is_marked marks i ≡ true → length (marked_of_first (i + 1) marks) ≡ length (marked_of_first i marks) + 1
 count_more marks i is = ap length (marked_more marks i is) ∙ length-append (marked_of_first i marks) (i ∷ [])
+
+-- the mark that is read at a place
+pub mark_read : (marks : List Bool) (i : ℕ) (d b : Bool) → i < length marks → get_or marks i d ≡ b → is_marked marks i ≡ b
+mark_read marks i d b within is = ap (λ o. unwrap_or o false) (slice_get-get_or marks i d within) ∙ is
+
+-- the text that was there, the lines so far, and that of one marked place more
+pub text_more : (line : ℕ → List ℕ) (marks : List Bool) (i : ℕ) (start now later one : List ℕ) → now ≡ start ++ flat_map line (marked_of_first i marks) → later ≡ now ++ one → line i ≡ one → is_marked marks i ≡ true
+    → later ≡ start ++ flat_map line (marked_of_first (i + 1) marks)
+text_more line marks i start now later one now_is later_is line_is is =
+    let so_far = flat_map line (marked_of_first i marks) in
+    later_is ∙ ap (λ (t : List ℕ). t ++ one) now_is ∙ append_assoc start so_far one
+    ∙ ap (λ (t : List ℕ). start ++ t) (ap (λ (t : List ℕ). so_far ++ t) (sym line_is) ∙ sym (lines_more line marks i is))
+
+-- an unmarked place adds nothing
+pub text_same : (line : ℕ → List ℕ) (marks : List Bool) (i : ℕ) (start now : List ℕ) → now ≡ start ++ flat_map line (marked_of_first i marks) → is_marked marks i ≡ false
+    → now ≡ start ++ flat_map line (marked_of_first (i + 1) marks)
+text_same line marks i start now now_is is = now_is ∙ ap (λ (xs : List ℕ). start ++ flat_map line xs) (sym (unmarked_more marks i is))

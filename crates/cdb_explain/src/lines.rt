@@ -57,6 +57,16 @@ fn push_all(
     Ok(())
 }
 
+/// The lines of the marked events, and then how many they are of how many.
+fn text_of_marked(alloc: Global, run: &RunOfSetup, marks: &[bool]) -> Result<Vec<u8>, NoMemory>
+    requires { length marks.now ≡ length run.now.history }
+    ensures { IfOk result (λ text. text.items ≡ lines_text rules run.now marks.now) }
+{
+    let mut text = String::new(alloc);
+    push_all(alloc, &mut text, run, marks)?;
+    Ok(text.into_bytes())
+}
+
 /// The explanation of the event at a place of the history, from 0: a line for each event that led to it, in
 /// the order of the history, and then how many they are. `NoMemory` if an allocation fails.
 pub fn explanation(alloc: Global, run: &RunOfSetup, place: usize) -> Result<Vec<u8>, NoMemory>
@@ -64,7 +74,6 @@ pub fn explanation(alloc: Global, run: &RunOfSetup, place: usize) -> Result<Vec<
     ensures { IfOk result (λ text. IsExplanation rules run.now place text.items) }
 {
     let marks = past_of(alloc, run, place)?;
-    let mut text = String::new(alloc);
-    push_all(alloc, &mut text, run, marks.as_slice())?;
-    Ok(text.into_bytes())
+    let text = text_of_marked(alloc, run, marks.as_slice())?;
+    Ok(text)
 }
