@@ -78,7 +78,8 @@ line_at rules run i = option_map_or (line_text rules run (run_after run i)) (sli
 
 -- `N of M standing events`
 abbrev pub count_text : ℕ → ℕ → List ℕ
-count_text count all = decimal count ++ codes " of " ++ decimal all ++ codes " standing events\n"
+count_text count all =
+    decimal count ++ codes " of " ++ decimal all ++ codes " standing" ++ codes " events\n"
 
 -- the lines of the marked events, in the order of the history, and then how many they are of how many
 abbrev pub lines_text : (Parts → Rules) → RunView → List Bool → List ℕ

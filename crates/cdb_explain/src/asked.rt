@@ -10,9 +10,11 @@ fn is_asked(event: &Event, p: u32, k: Option<u32>) -> bool
     ensures { result ≡ is_asked p k event.now }
 {
     match *event {
-        Event::Step { p: q, k: number, .. } => {
-            u32::from(q.number()) == p && k.is_none_or(|k| u32::from(number) == k)
-        }
+        Event::Step {
+            p: q,
+            k: number,
+            ..
+        } => { u32::from(q.number()) == p && k.is_none_or(|k| u32::from(number) == k) }
         Event::Lost(_) => false,
     }
 }

@@ -79,7 +79,11 @@ fn push_kind(text: &mut String, run: &RunOfSetup, p: Proc, kind: Kind) -> Result
 }
 
 /// Adds what the last event of the run sent or received, read or wrote. Only out of memory is an error.
-pub(crate) fn push_detail(text: &mut String, run: &RunOfSetup, event: &Event) -> Result<(), AllocError>
+pub(crate) fn push_detail(
+    text: &mut String,
+    run: &RunOfSetup,
+    event: &Event,
+) -> Result<(), AllocError>
     ensures { Pushes result text.old text.new
         (detail_text rules run.now event.now) }
 {

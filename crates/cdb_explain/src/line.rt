@@ -21,10 +21,12 @@ fn reference(event: &Event) -> EventRef
 {
     match *event {
         Event::Step { p, k, .. } => EventRef::Step(u32::from(p.number()), u32::from(k)),
-        Event::Lost(CopyName {
-            msg: MsgName { s, m },
-            to,
-        }) => EventRef::Lost(u32::from(s.number()), u32::from(m), u32::from(to.number())),
+        Event::Lost(
+            CopyName {
+                msg: MsgName { s, m },
+                to,
+            },
+        ) => EventRef::Lost(u32::from(s.number()), u32::from(m), u32::from(to.number())),
     }
 }
 

@@ -1,6 +1,6 @@
 //! The lines of the marked events.
 
-ghost use Rattle.cdb_explain.specs.Explanations.{line_at, lines_text, IsExplanation};
+ghost use Rattle.cdb_explain.specs.Explanations.{count_text, line_at, lines_text, IsExplanation};
 ghost use Rattle.cdb_explain.specs.Marked.{marked_of_first};
 ghost use Rattle.cdb_run.specs.Algorithms.{rules};
 ghost use Rattle.cdb_text.specs.Pushes.{Pushes};
@@ -12,7 +12,7 @@ use crate::past::past_of;
 use crate::replay::{fresh, take_next};
 use cdb_base::NoMemory;
 use cdb_control::RunOfSetup;
-use std::alloc::Global;
+use std::alloc::{AllocError, Global};
 
 /// Adds the lines of the marked events, in the order of the history, and returns how many they are.
 /// It plays the run again, event by event, and looks at it after each one.
@@ -41,6 +41,16 @@ fn push_lines(
     Ok(count)
 }
 
+/// Adds how many of how many events.
+fn push_count(text: &mut String, count: usize, all: usize) -> Result<(), AllocError>
+    ensures { Pushes result text.old text.new (count_text count all) }
+{
+    write!(text, "{count} of {all}")?;
+    // In two, since the search for the proof stops at a longer text.
+    text.push_str(" standing")?;
+    text.push_str(" events\n")
+}
+
 /// Adds the lines of the marked events, and then how many they are of how many.
 fn push_all(
     alloc: Global,
@@ -52,8 +62,8 @@ fn push_all(
     ensures { Pushes result text.old text.new (lines_text rules run.now marks.now) }
 {
     let count = push_lines(alloc, text, run, marks)?;
-    let all = run.any().history().len();
-    writeln!(text, "{count} of {all} standing events")?;
+    let history = run.any().history();
+    push_count(text, count, history.len())?;
     Ok(())
 }
 

@@ -40,27 +40,27 @@ loop-i-preserved c =
     let along = next_along run i event at c.loop-i.again so.again later c.in_ok-take_next.ensures in
     elim c.if-marks-i.branch [
       | then-marks-i+in_ok-push_line w ↦
-      let here : Event = w.index-history-i-then-marks-i.result in
-      let again = slice_get_read history (length history) i here refl c.loop-i-test.true w.index-history-i-then-marks-i.is in
-      let one : event ≡ here = same_Some event here (sym read ∙ again) in
-      let line = its_line run i event at c.loop-i.again so.again later c.in_ok-take_next.ensures ∙ ap (line_text rules run later) one in
-      let is = mark_read marks i _ true within w.if-marks-i.true in
-      let counted = w.count-is in
-      let few = so.few in
-      record {
-        again = along;
-        text = text_more (line_at rules run) marks i (string_bytes c.args.text.now) (string_bytes c.loop-i.text) (string_bytes c.if-marks-i.text) (line_text rules run later here) so.text (ap string_bytes w.text-is ∙ w.in_ok-push_line.ensures) line is;
-        count = w.count-is ∙ ap (λ (n : ℕ). n + 1) so.count ∙ sym (count_more marks i is);
-        few = omega (arith, counted, few);
-      }
+          let here : Event = w.index-history-i-then-marks-i.result in
+          let again = slice_get_read history (length history) i here refl c.loop-i-test.true w.index-history-i-then-marks-i.is in
+          let one : event ≡ here = same_Some event here (sym read ∙ again) in
+          let line = its_line run i event at c.loop-i.again so.again later c.in_ok-take_next.ensures ∙ ap (line_text rules run later) one in
+          let is = mark_read marks i _ true within w.if-marks-i.true in
+          let counted = w.count-is in
+          let few = so.few in
+          record {
+            again = along;
+            text = text_more (line_at rules run) marks i (string_bytes c.args.text.now) (string_bytes c.loop-i.text) (string_bytes c.if-marks-i.text) (line_text rules run later here) so.text (ap string_bytes w.text-is ∙ w.in_ok-push_line.ensures) line is;
+            count = w.count-is ∙ ap (λ (n : ℕ). n + 1) so.count ∙ sym (count_more marks i is);
+            few = omega (arith, counted, few);
+          }
       | else-marks-i w ↦
-      let is = mark_read marks i _ false within w.if-marks-i.false in
-      let counted = w.count-is in
-      let few = so.few in
-      record {
-        again = along;
-        text = ap string_bytes w.text-is ∙ text_same (line_at rules run) marks i (string_bytes c.args.text.now) (string_bytes c.loop-i.text) so.text is;
-        count = w.count-is ∙ so.count ∙ ap length (sym (unmarked_more marks i is));
-        few = omega (arith, counted, few);
-      }
+          let is = mark_read marks i _ false within w.if-marks-i.false in
+          let counted = w.count-is in
+          let few = so.few in
+          record {
+            again = along;
+            text = ap string_bytes w.text-is ∙ text_same (line_at rules run) marks i (string_bytes c.args.text.now) (string_bytes c.loop-i.text) so.text is;
+            count = w.count-is ∙ so.count ∙ ap length (sym (unmarked_more marks i is));
+            few = omega (arith, counted, few);
+          }
     ]
