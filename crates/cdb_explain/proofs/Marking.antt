@@ -1,5 +1,5 @@
 -- The marked places grow by one place after the other.
-use Rattle.std.proofs.Common.{◌≡◌, ℕ, zero, suc, ◌+◌, Bool, true, false, List, [], ◌∷◌, ◌++◌, filter, length, Some, slice_get, if◌then◌else◌, refl, sym, ap, ◌∙◌, append-nil, append_assoc, length-append, arith, ◌<◌, get_or, unwrap_or}
+use Rattle.std.proofs.Common.{◌≡◌, ℕ, zero, suc, ◌+◌, Bool, true, false, List, [], ◌∷◌, ◌++◌, filter, length, if◌then◌else◌, sym, ap, ◌∙◌, append-nil, append_assoc, length-append, arith, ◌<◌, get_or, unwrap_or}
 use Rattle.std.specs.List.{flat_map, range_with_len}
 use Rattle.std.proofs.lemmas.Grind.{flat_map-append}
 use Rattle.std.proofs.lemmas.List.Elements.{filter-append}

@@ -1,7 +1,6 @@
 -- A run that is played again takes each event of its valid history.
-use Rattle.std.proofs.Common.{◌≡◌, ℕ, suc, ◌+◌, ◌<◌, ◌≤◌, Bool, true, false, not, ◌&&◌, ◌==◌, List, [], ◌∷◌, ◌++◌, length, nat_le, Option, Some, None, IsSome, IsTrue, Ok, option_and_then, slice_get, refl, sym, ap, ◌∙◌, subst, if◌then◌else◌, arith}
+use Rattle.std.proofs.Common.{◌≡◌, ℕ, ◌≤◌, true, not, ◌&&◌, ◌==◌, List, [], ◌∷◌, ◌++◌, length, Some, IsSome, IsTrue, Ok, option_and_then, slice_get, refl, ap, ◌∙◌, subst, arith}
 use Rattle.std.proofs.lemmas.Bool.Decides.{nat_tests}
-use Rattle.std.specs.FinSet as set
 use Rattle.cdb_alpha.specs.Machine.{alpha_table}
 use Rattle.cdb_base.specs.Event.{event_name}
 use Rattle.cdb_base.specs.declared.event.Event.{Event}
@@ -14,13 +13,11 @@ use Rattle.cdb_leader.specs.Machine.{leader_table}
 use Rattle.cdb_message.specs.Mail.{is_sent, is_received, is_lost}
 use Rattle.cdb_process.specs.Table.{Table}
 use Rattle.cdb_run.specs.Algorithms.{rules, rules_by}
-use Rattle.cdb_run.specs.Lawful.{KeepHistories}
 use Rattle.cdb_run.specs.Machines.{machine_of}
 use Rattle.cdb_run.specs.Mail.{mail_of}
 use Rattle.cdb_run.specs.Refusals.{IsOfRun, NamesProcess}
-use Rattle.cdb_run.specs.Rules.{rules_of}
-use Rattle.cdb_run.specs.State.{Machine, ProcessState, RunState, start}
-use Rattle.cdb_run.specs.Step.{after, fold, is_among, is_due, may_lose, state_of, IsEnabled, IsValid}
+use Rattle.cdb_run.specs.State.{Machine, ProcessState, start}
+use Rattle.cdb_run.specs.Step.{after, is_among, is_due, state_of, IsEnabled, IsValid}
 use Rattle.cdb_run.specs.Undo.{names_processes}
 use Rattle.cdb_run.proofs.Commutes.{lost_from}
 use Rattle.cdb_run.proofs.Histories.{reached_state}
@@ -28,7 +25,7 @@ use Rattle.cdb_run.proofs.KeptHistories.{rules_keep_histories}
 use Rattle.cdb_run.proofs.Naming.{valid_standing}
 use Rattle.cdb_run.proofs.Starting.{length-first_states}
 use Rattle.cdb_run.proofs.Taken.{both, parts, some_of, taken_from}
-use Rattle.cdb_setup.specs.Parts.{Parts, AreInRange, IsWithin}
+use Rattle.cdb_setup.specs.Parts.{Parts, AreInRange}
 use Rattle.cdb_setup.specs.declared.setup.Algorithm.{Algorithm}
 use Rattle.cdb_setup.specs.declared.setup.Algorithm.TheVariants.{Leader, Alpha}
 

@@ -14,7 +14,8 @@ pub record IsStepAsked (history : List Event) (p : ℕ) (k : Option ℕ) (i : �
   pub event : Event
   pub at : slice_get history i ≡ Some event
   pub asked : is_asked p k event ≡ true
-  pub last : (j : ℕ) (later : Event) → i < j → slice_get history j ≡ Some later → is_asked p k later ≡ false
+  pub last : (j : ℕ) (later : Event) → i < j → slice_get history j ≡ Some later
+      → is_asked p k later ≡ false
 
 -- no such step stands
 abbrev pub StandsNoStep : List Event → ℕ → Option ℕ → Type 0

@@ -64,8 +64,8 @@ because_text (Err why) = []
 abbrev pub run_after : RunView → ℕ → RunView
 run_after run i = with_history run (take (i + 1) run.history)
 
--- an event, where the run stands so after it: as `show history` prints it, what it carries and decides, and its
--- direct causes
+-- an event, where the run stands so after it: as `show history` prints it, what it carries and decides,
+-- and its direct causes
 abbrev pub line_text : (Parts → Rules) → RunView → RunView → Event → List ℕ
 line_text rules run after event =
     event_text event ++ detail_text rules after event
@@ -87,8 +87,8 @@ lines_text rules run marks =
     let places = marked_of_first (length run.history) marks in
     flat_map (line_at rules run) places ++ count_text (length places) (length run.history)
 
--- The text is that of what led to the event at place j, from 0: of that event, and of each from which a chain of
--- dependences leads to it.
+-- The text is that of what led to the event at place j, from 0: of that event, and of each from which a
+-- chain of dependences leads to it.
 abbrev pub IsExplanation : (Parts → Rules) → RunView → ℕ → List ℕ → Type 0
 IsExplanation rules run j text =
     (marks : List Bool) × MarkPast run.history j marks × (text ≡ lines_text rules run marks)

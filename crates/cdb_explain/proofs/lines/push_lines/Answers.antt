@@ -3,7 +3,6 @@ use Rattle.std.proofs.lemmas.Option.{slice_get_read, same_Some}
 use Rattle.cdb_base.specs.declared.event.Event.{Event}
 use Rattle.cdb_run.specs.Algorithms.{rules}
 use Rattle.cdb_run.specs.Current.{RunView}
-use Rattle.cdb_run.specs.Runs.{with_event}
 use Rattle.cdb_explain.specs.Explanations.{line_at, line_text}
 use Rattle.cdb_explain.proofs.Along.{next_valid, next_along, its_line}
 use Rattle.cdb_explain.proofs.Marking.{count_more, mark_read, text_more, text_same, unmarked_more}

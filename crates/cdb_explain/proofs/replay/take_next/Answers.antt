@@ -1,4 +1,4 @@
-use Rattle.std.proofs.Common.{◌≡◌, sym, ap, ◌∙◌, subst, is_ok, true≢false}
+use Rattle.std.proofs.Common.{sym, ap, ◌∙◌, subst, is_ok, true≢false}
 use Rattle.cdb_setup.specs.Parts.{AreInRange}
 use Rattle.cdb_run.specs.Runs.{with_answer}
 use Rattle.cdb_explain.proofs.OfRun.{next_of_run, taken_again}
