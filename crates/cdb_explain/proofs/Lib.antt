@@ -1,0 +1,3 @@
+pub mod OfRun
+pub mod Marking
+pub mod Along

@@ -1,0 +1,23 @@
+-- The step that is asked for.
+use Rattle.std.specs.Prelude.{◌≡◌, ℕ, ◌<◌, ◌&&◌, ◌==◌, Bool, true, false, List, Option, Some, None, slice_get}
+use Rattle.cdb_base.specs.declared.event.Event.{Event}
+use Rattle.cdb_base.specs.declared.event.Event.TheVariants.{Step, Lost}
+
+-- the event is a step of process p, the k-th where a number is given
+abbrev pub is_asked : ℕ → Option ℕ → Event → Bool
+is_asked p None (Step q number kind) = q == p
+is_asked p (Some k) (Step q number kind) = (q == p) && (number == k)
+is_asked p k (Lost copy) = false
+
+-- the step stands at place i, from 0: p.k, or without k the last standing step of p
+pub record IsStepAsked (history : List Event) (p : ℕ) (k : Option ℕ) (i : ℕ) : Type 0 where
+  pub event : Event
+  pub at : slice_get history i ≡ Some event
+  pub asked : is_asked p k event ≡ true
+  pub last : (j : ℕ) (later : Event) → i < j → slice_get history j ≡ Some later
+      → is_asked p k later ≡ false
+
+-- no such step stands
+abbrev pub StandsNoStep : List Event → ℕ → Option ℕ → Type 0
+StandsNoStep history p k =
+    (j : ℕ) (event : Event) → slice_get history j ≡ Some event → is_asked p k event ≡ false

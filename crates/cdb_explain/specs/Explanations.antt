@@ -1,0 +1,94 @@
+-- The explanation of a step: what led to it, as text.
+use Rattle.std.specs.Prelude.{◌≡◌, ℕ, ◌+◌, List, [], ◌++◌, codes, decimal, length, take, slice_get, Option, Some, None, Result, Ok, Err, Bool}
+use Rattle.std.specs.List.{flat_map}
+use Rattle.std.specs.Option.{option_map_or}
+use Rattle.cdb_base.specs.Event.{event_name}
+use Rattle.cdb_base.specs.declared.event.Event.{Event}
+use Rattle.cdb_base.specs.declared.event.Event.TheVariants.{Step, Lost}
+use Rattle.cdb_base.specs.declared.event.Kind.{Kind}
+use Rattle.cdb_base.specs.declared.event.Kind.TheVariants.{Send, Recv, Read, Write}
+use Rattle.cdb_base.specs.declared.name.StepId.{StepId}
+use Rattle.cdb_base.specs.declared.payload.Payload.{Payload}
+use Rattle.cdb_base.specs.declared.refusal.Refusal.{Refusal}
+use Rattle.cdb_base.specs.declared.register.Cell.{Cell}
+use Rattle.cdb_base.specs.declared.register.Reg.{Reg}
+use Rattle.cdb_base.specs.declared.register.Reg.TheVariants.{R, Dec}
+use Rattle.cdb_control.specs.Commands.{decides}
+use Rattle.cdb_explain.specs.Marked.{marked_of_first}
+use Rattle.cdb_message.specs.Mail.{message_name, payload_of}
+use Rattle.cdb_past.specs.Marks.{MarkPast}
+use Rattle.cdb_run.specs.ByRules.{cell_in, mail_in}
+use Rattle.cdb_run.specs.Current.{RunView}
+use Rattle.cdb_run.specs.Rules.{Rules}
+use Rattle.cdb_run.specs.Runs.{causes_in, with_history}
+use Rattle.cdb_setup.specs.Parts.{Parts}
+use Rattle.cdb_text.specs.Events.{event_text}
+use Rattle.cdb_text.specs.Reports.{causes_text, payload_text, value_text}
+use Rattle.cdb_text.specs.Texts.{decides_text}
+
+-- ---- what a step carries
+
+-- the payload of a message, after a space
+abbrev pub message_detail : Option Payload → List ℕ
+message_detail None = []
+message_detail (Some payload) = codes " " ++ payload_text payload
+
+-- what a register holds, after a space, as `show regs` prints it
+abbrev pub cell_detail : Reg → Option Cell → List ℕ
+cell_detail register None = []
+cell_detail (R p) (Some cell) =
+    codes " lre " ++ decimal cell.lre ++ codes " lrww " ++ decimal cell.lrww
+    ++ codes " val " ++ value_text cell.val
+cell_detail Dec (Some cell) = codes " " ++ value_text cell.val
+
+-- what a step of process p of that kind sent or received, read or wrote, where the run stands after it
+abbrev pub kind_detail : (Parts → Rules) → RunView → ℕ → Kind → List ℕ
+kind_detail rules run p (Send m) = message_detail (payload_of (mail_in rules run) (message_name p m))
+kind_detail rules run p (Recv s m) = message_detail (payload_of (mail_in rules run) (message_name s m))
+kind_detail rules run p (Read register) = cell_detail register (cell_in rules run register)
+kind_detail rules run p (Write register) = cell_detail register (cell_in rules run register)
+kind_detail rules run p kind = []
+
+abbrev pub detail_text : (Parts → Rules) → RunView → Event → List ℕ
+detail_text rules run (Step p k kind) = kind_detail rules run p kind
+detail_text rules run (Lost copy) = []
+
+-- the direct causes of a standing event, as `why` prints them
+abbrev pub because_text : Result (List StepId) Refusal → List ℕ
+because_text (Ok causes) = codes " because" ++ causes_text causes
+because_text (Err why) = []
+
+-- ---- a line for each event
+
+-- the run once it had come to the event at place i, from 0
+abbrev pub run_after : RunView → ℕ → RunView
+run_after run i = with_history run (take (i + 1) run.history)
+
+-- an event, where the run stands so after it: as `show history` prints it, what it carries and decides,
+-- and its direct causes
+abbrev pub line_text : (Parts → Rules) → RunView → RunView → Event → List ℕ
+line_text rules run after event =
+    event_text event ++ detail_text rules after event
+    ++ decides_text (decides (rules after.setup) after.history event)
+    ++ because_text (causes_in run (event_name event)) ++ codes "\n"
+
+-- the line of the event at place i, where one stands there
+abbrev pub line_at : (Parts → Rules) → RunView → ℕ → List ℕ
+line_at rules run i = option_map_or (line_text rules run (run_after run i)) (slice_get run.history i) []
+
+-- `N of M standing events`
+abbrev pub count_text : ℕ → ℕ → List ℕ
+count_text count all =
+    decimal count ++ codes " of " ++ decimal all ++ codes " standing" ++ codes " events\n"
+
+-- the lines of the marked events, in the order of the history, and then how many they are of how many
+abbrev pub lines_text : (Parts → Rules) → RunView → List Bool → List ℕ
+lines_text rules run marks =
+    let places = marked_of_first (length run.history) marks in
+    flat_map (line_at rules run) places ++ count_text (length places) (length run.history)
+
+-- The text is that of what led to the event at place j, from 0: of that event, and of each from which a
+-- chain of dependences leads to it.
+abbrev pub IsExplanation : (Parts → Rules) → RunView → ℕ → List ℕ → Type 0
+IsExplanation rules run j text =
+    (marks : List Bool) × MarkPast run.history j marks × (text ≡ lines_text rules run marks)

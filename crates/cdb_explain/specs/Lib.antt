@@ -1,0 +1,4 @@
+-- ---- what the public contracts name
+pub mod Asked
+pub mod Marked
+pub mod Explanations

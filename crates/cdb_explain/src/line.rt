@@ -1,0 +1,78 @@
+//! The line of an event: the event, what it carries and decides, and its direct causes.
+
+ghost use Rattle.cdb_base.specs.Event.{event_name};
+ghost use Rattle.cdb_control.specs.Commands.{decides};
+ghost use Rattle.cdb_explain.specs.Explanations.{because_text, line_text};
+ghost use Rattle.cdb_run.specs.Algorithms.{rules};
+ghost use Rattle.cdb_run.specs.EventRefs.{name_of};
+ghost use Rattle.cdb_run.specs.Runs.{causes_in};
+ghost use Rattle.cdb_text.specs.Pushes.{Pushes};
+ghost use Rattle.std.specs.Prelude.{◌≡◌};
+
+use crate::detail::push_detail;
+use cdb_base::{CopyName, Event, MsgName, Val};
+use cdb_control::{EventRef, RunOfSetup, Runs};
+use cdb_text::{push_causes, push_decides, push_event};
+use std::alloc::{AllocError, Global};
+
+/// The numbers under which a command names the event.
+fn reference(event: &Event) -> EventRef
+    ensures { name_of result ≡ event_name event.now }
+{
+    match *event {
+        Event::Step { p, k, .. } => EventRef::Step(u32::from(p.number()), u32::from(k)),
+        Event::Lost(
+            CopyName {
+                msg: MsgName { s, m },
+                to,
+            },
+        ) => EventRef::Lost(u32::from(s.number()), u32::from(m), u32::from(to.number())),
+    }
+}
+
+/// The decision that the last event of the run gave its process.
+fn decision_by(run: &RunOfSetup, event: &Event) -> Option<Val>
+    ensures { result ≡ decides (rules run.now.setup) run.now.history event.now }
+{
+    match *event {
+        Event::Step { p, .. } => run.view(u32::from(p.number()))?.decision,
+        Event::Lost(_) => None,
+    }
+}
+
+/// Adds the direct causes of a standing event, as `why` prints them.
+fn push_because(
+    alloc: Global,
+    text: &mut String,
+    run: &RunOfSetup,
+    event: &Event,
+) -> Result<(), AllocError>
+    ensures { Pushes result text.old text.new
+        (because_text (causes_in run.now (event_name event.now))) }
+{
+    match run.explain(alloc, reference(event)) {
+        Ok((_, causes)) => {
+            text.push_str(" because")?;
+            push_causes(text, causes.as_slice())
+        }
+        Err(_) => Ok(()),
+    }
+}
+
+/// Adds the line of a standing event, where `after` is the run once it had come to that event. Only out of
+/// memory is an error.
+pub(crate) fn push_line(
+    alloc: Global,
+    text: &mut String,
+    run: &RunOfSetup,
+    after: &RunOfSetup,
+    event: &Event,
+) -> Result<(), AllocError>
+    ensures { Pushes result text.old text.new (line_text rules run.now after.now event.now) }
+{
+    push_event(text, event)?;
+    push_detail(text, after, event)?;
+    push_decides(text, decision_by(after, event))?;
+    push_because(alloc, text, run, event)?;
+    text.push_str("\n")
+}

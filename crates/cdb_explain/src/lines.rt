@@ -1,0 +1,89 @@
+//! The lines of the marked events.
+
+ghost use Rattle.cdb_explain.specs.Explanations.{count_text, line_at, lines_text, IsExplanation};
+ghost use Rattle.cdb_explain.specs.Marked.{marked_of_first};
+ghost use Rattle.cdb_run.specs.Algorithms.{rules};
+ghost use Rattle.cdb_text.specs.Pushes.{Pushes};
+ghost use Rattle.std.specs.List.{flat_map};
+ghost use Rattle.std.specs.Prelude.{◌≡◌, ◌<◌, length, IfOk};
+
+use crate::line::push_line;
+use crate::past::past_of;
+use crate::replay::{fresh, take_next};
+use cdb_base::NoMemory;
+use cdb_control::RunOfSetup;
+use std::alloc::{AllocError, Global};
+
+/// Adds the lines of the marked events, in the order of the history, and returns how many they are.
+/// It plays the run again, event by event, and looks at it after each one.
+fn push_lines(
+    alloc: Global,
+    text: &mut String,
+    run: &RunOfSetup,
+    marks: &[bool],
+) -> Result<usize, NoMemory>
+    requires { length marks.now ≡ length run.now.history }
+    ensures lines { Pushes result text.old text.new
+        (flat_map (line_at rules run.now) (marked_of_first (length run.now.history) marks.now)) }
+    ensures count { IfOk result (λ count.
+        count ≡ length (marked_of_first (length run.now.history) marks.now)) }
+{
+    let mut again = fresh(alloc, run)?;
+    let history = run.any().history();
+    let mut count = 0;
+    for i in 0..history.len() {
+        take_next(alloc, &mut again, &history[i])?;
+        if marks[i] {
+            push_line(alloc, text, run, &again, &history[i])?;
+            count += 1;
+        }
+    }
+    Ok(count)
+}
+
+/// Adds how many of how many events.
+fn push_count(text: &mut String, count: usize, all: usize) -> Result<(), AllocError>
+    ensures { Pushes result text.old text.new (count_text count all) }
+{
+    write!(text, "{count} of {all}")?;
+    // In two, since the search for the proof stops at a longer text.
+    text.push_str(" standing")?;
+    text.push_str(" events\n")
+}
+
+/// Adds the lines of the marked events, and then how many they are of how many.
+fn push_all(
+    alloc: Global,
+    text: &mut String,
+    run: &RunOfSetup,
+    marks: &[bool],
+) -> Result<(), NoMemory>
+    requires { length marks.now ≡ length run.now.history }
+    ensures { Pushes result text.old text.new (lines_text rules run.now marks.now) }
+{
+    let count = push_lines(alloc, text, run, marks)?;
+    let history = run.any().history();
+    push_count(text, count, history.len())?;
+    Ok(())
+}
+
+/// The lines of the marked events, and then how many they are of how many.
+fn text_of_marked(alloc: Global, run: &RunOfSetup, marks: &[bool]) -> Result<Vec<u8>, NoMemory>
+    requires { length marks.now ≡ length run.now.history }
+    ensures { IfOk result (λ text. text.items ≡ lines_text rules run.now marks.now) }
+{
+    let mut text = String::new(alloc);
+    push_all(alloc, &mut text, run, marks)?;
+    Ok(text.into_bytes())
+}
+
+/// The explanation of the event at a place of the history, from 0: a line for each event that led to it, in
+/// the order of the history, and then how many they are. `NoMemory` if an allocation fails.
+pub fn explanation(alloc: Global, run: &RunOfSetup, place: usize) -> Result<Vec<u8>, NoMemory>
+    requires { place < length run.now.history }
+    ensures { IfOk result (λ text. IsExplanation rules run.now place text.items) }
+{
+    let marks = past_of(alloc, run, place)?;
+    let text = text_of_marked(alloc, run, marks.as_slice())?;
+    Ok(text)
+}
