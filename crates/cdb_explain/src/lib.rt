@@ -10,3 +10,6 @@ mod replay;
 
 pub use asked::place_of_step;
 pub use lines::explanation;
+
+#[cfg(test)]
+mod tests;
