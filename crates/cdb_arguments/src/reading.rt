@@ -258,7 +258,8 @@ fn status_of_words(error: &Error) -> u8
 
 /// What `clap` makes of the arguments, as a request.
 fn read<'a>(alloc: Global, words: &'a [&'a str]) -> Result<Asked<'a>, AskFault>
-    ensures ok { IfOk result (λ asked. Asks (subcommand_of program (texts words.entry.now)) asked) }
+    ensures ok { IfOk result
+        (λ asked. Asks (subcommand_of program (texts words.entry.now)) asked) }
     ensures taken { takes program (texts words.entry.now) ≡ true →
         IfErr result (λ fault. fault ≡ AskFault.NoMemory) }
     ensures right { OnOk result (fault_of program (texts words.entry.now) ≡ []) }
@@ -276,7 +277,8 @@ fn read<'a>(alloc: Global, words: &'a [&'a str]) -> Result<Asked<'a>, AskFault>
 /// `Words` with `clap`'s error for arguments that the command line does not take, and for those alone; the error is
 /// help or the version where these were asked for. `NoMemory` where an allocation fails.
 pub fn asked<'a>(alloc: Global, words: &'a [&'a str]) -> Result<Asked<'a>, AskFault>
-    ensures ok { IfOk result (λ asked. Asks (subcommand_of program (texts words.entry.now)) asked) }
+    ensures ok { IfOk result
+        (λ asked. Asks (subcommand_of program (texts words.entry.now)) asked) }
     ensures taken { takes program (texts words.entry.now) ≡ true →
         IfErr result (λ fault. fault ≡ AskFault.NoMemory) }
     ensures right { OnOk result (fault_of program (texts words.entry.now) ≡ []) }

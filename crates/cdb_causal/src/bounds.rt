@@ -189,7 +189,8 @@ impl Bounds {
         requires room { HasRoom self.old event.now }
         ensures others { AreRaised self.old self.new }
         ensures within { IsWithin self.new place event.now }
-        ensures process { (p k : ℕ) (kind : AKind) → event.now ≡ Step p k kind → (1 ≤ p) × (p ≤ 9) }
+        ensures process { (p k : ℕ) (kind : AKind) → event.now ≡ Step p k kind →
+            (1 ≤ p) × (p ≤ 9) }
     {
         match event {
             Event::Step { p, k, kind } => {

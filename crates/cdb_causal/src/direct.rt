@@ -29,7 +29,8 @@ fn slot_of(event: &Event) -> usize
 
 /// Whether the event is one in the slot on which the effect depends.
 fn is_cause(event: &Event, effect: &Event, slot: usize) -> bool
-    ensures { IsTrue result ↔ (IsSlot event.now slot × (depends_of event.now effect.now ≡ true)) }
+    ensures { IsTrue result
+        ↔ (IsSlot event.now slot × (depends_of event.now effect.now ≡ true)) }
 {
     slot_of(event) == slot && depends(event, effect)
 }
@@ -38,7 +39,8 @@ fn is_cause(event: &Event, effect: &Event, slot: usize) -> bool
 /// below the end.
 fn last_cause(events: &[Event], j: usize, slot: usize, end: usize) -> Option<usize>
     requires within { j < length events.now }
-    requires end { (i : ℕ) (l : IsLink depends_of events.now i j) → IsSlot l.cause slot → i < end }
+    requires end { (i : ℕ) (l : IsLink depends_of events.now i j) → IsSlot l.cause slot →
+        i < end }
     ensures { MatchOption result (IsNoCause events.now j slot)
         (λ i. IsLastCause events.now j slot i) }
 {

@@ -107,7 +107,8 @@ impl History {
     pub(crate) fn end_of_causes(&self, j: usize, slot: usize) -> usize
         requires within { j < length self.now }
         requires slot { slot < 10 }
-        ensures { (i : ℕ) (l : IsLink depends_of self.now i j) → IsSlot l.cause slot → i < result }
+        ensures { (i : ℕ) (l : IsLink depends_of self.now i j) → IsSlot l.cause slot →
+            i < result }
     {
         self.bounds.end(&self.events[j], j, slot)
     }

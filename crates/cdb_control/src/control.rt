@@ -156,7 +156,8 @@ impl<R: Runs> Control<R> {
 
     /// What `auto` would do for a process, whether or not a pause stands; nothing where it would be refused.
     pub fn pick(&self, p: u32) -> Option<Act>
-        ensures { result ≡ result_ok (choice (R.rules self.now.setup) (state_in R.rules self.now).history p) }
+        ensures { result
+            ≡ result_ok (choice (R.rules self.now.setup) (state_in R.rules self.now).history p) }
     {
         self.state.choose(p).ok()
     }

@@ -64,7 +64,8 @@ pub fn headline()
 /// By the table of the commands: what one seat undoes or rolls back it takes again, whatever the other
 /// seat asks in between.
 pub fn worked_journals()
-    ensures undone_for_2 { replies 2 undone_and_redone ≡ Undone query ∷ Redone query None ∷ [] }
+    ensures undone_for_2 { replies 2 undone_and_redone
+        ≡ Undone query ∷ Redone query None ∷ [] }
     ensures undone_for_1 { replies 1 undone_and_redone
         ≡ Stepped query None None ∷ Refused NothingToRedo ∷ [] }
     ensures rolled_back_for_2 { replies 2 rolled_back_and_redone

@@ -46,7 +46,8 @@ impl<R: Runs> Model for ControlState<R> {
 
 /// An empty redo list for each seat.
 fn empty_lists(alloc: Global, seats: u8) -> Result<Vec<RedoList>, NoMemory>
-    ensures { IfOk result (λ lists. map (λ list. list.events) lists.items ≡ replicate seats []) }
+    ensures { IfOk result
+        (λ lists. map (λ list. list.events) lists.items ≡ replicate seats []) }
 {
     let mut lists = Vec::new(alloc);
     for _ in 0..seats {
@@ -236,7 +237,8 @@ impl<R: Runs> ControlState<R> {
 
     /// The decision that an event which stands last gave its process.
     fn decides(&self, event: &Event) -> Option<Val>
-        ensures { result ≡ decides (R.rules self.now.state.setup) self.now.state.history event.now }
+        ensures { result
+            ≡ decides (R.rules self.now.state.setup) self.now.state.history event.now }
     {
         match event {
             Event::Step { p, .. } => self.decision_of(u32::from(p.number())),

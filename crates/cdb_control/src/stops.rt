@@ -43,7 +43,8 @@ impl Taken {
     }
 
     fn enters(&self, round: u32) -> bool
-        ensures { result ≡ (self.now.round_after == round && not (self.now.round_before == round)) }
+        ensures { result
+            ≡ (self.now.round_after == round && not (self.now.round_before == round)) }
     {
         self.round_after == round && self.round_before != round
     }

@@ -57,7 +57,8 @@ fn cell_of(run: &RunOfSetup, register: Reg) -> Option<Cell>
 
 /// Adds what a register holds after a space, where the run has it.
 fn push_register(text: &mut String, run: &RunOfSetup, register: Reg) -> Result<(), AllocError>
-    ensures { Pushes result text.old text.new (cell_detail register (cell_in rules run.now register)) }
+    ensures { Pushes result text.old text.new
+        (cell_detail register (cell_in rules run.now register)) }
 {
     let again = register;
     match cell_of(run, again) {

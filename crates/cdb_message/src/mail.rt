@@ -106,7 +106,8 @@ impl Mail {
     pub fn take_back_send(&mut self, p: Proc)
         requires among { p ≤ length self.old.sent }
         requires sent { 0 < length (sent_by self.old p) }
-        requires not_received { (q : ℕ) → is_received self.old q (last_name self.old p) ≡ false }
+        requires not_received { (q : ℕ) →
+            is_received self.old q (last_name self.old p) ≡ false }
         requires not_lost { (q : ℕ)
             → is_lost self.old (copy_name (last_name self.old p) q) ≡ false }
         ensures after { self.new ≡ remove_send self.old p }

@@ -42,7 +42,8 @@ fn mark_causes(alloc: Global, history: &History, j: usize, marks: &mut Vec<bool>
     requires a_mark_each { length marks.old.items ≡ length history.now }
     ensures length { length marks.new.items ≡ length marks.old.items }
     ensures kept { (i : ℕ) → IsMarked marks.old.items i → IsMarked marks.new.items i }
-    ensures each { (i : ℕ) → IsDirectCause depends history.now i j → IsMarked marks.new.items i }
+    ensures each { (i : ℕ) → IsDirectCause depends history.now i j →
+        IsMarked marks.new.items i }
     ensures only { (i : ℕ) → IsMarked marks.new.items i →
         IsMarked marks.old.items i ⊎ IsDirectCause depends history.now i j }
 {

@@ -152,7 +152,8 @@ fn first_fault(rans: &[Ran]) -> Option<RaceFault>
 /// The seats and their replies, the first seat's first.
 fn collect(alloc: Global, mut rans: Vec<Ran>) -> Result<(Vec<Seat>, Vec<Vec<Reply>>), RaceFault>
     ensures fault { IfErr result (λ fault. fault ≡ RaceFault.NoMemory) }
-    ensures count { IfOk result (λ r. (vec_len r.0 ≡ vec_len rans) × (vec_len r.1 ≡ vec_len rans)) }
+    ensures count { IfOk result
+        (λ r. (vec_len r.0 ≡ vec_len rans) × (vec_len r.1 ≡ vec_len rans)) }
     ensures seats { IfOk result (λ r. AreSeatsOf r.0.items rans.items) }
     ensures each { IfOk result (λ r. HaveFinished rans r.0 r.1) }
 {

@@ -40,7 +40,8 @@ pub enum AnyRun {
 impl AnyRun {
     /// The run of a setup in which nothing has happened. After `NoMemory` the setup is given up.
     pub fn start(alloc: Global, setup: Setup) -> Result<AnyRun, NoMemory>
-        ensures fresh { IfOk result (λ run. run_view run ≡ record { setup = setup; history = [] }) }
+        ensures fresh { IfOk result
+            (λ run. run_view run ≡ record { setup = setup; history = [] }) }
         ensures true_to_setup { IfOk result IsTrueToSetup }
     {
         match setup.algorithm() {
@@ -60,7 +61,8 @@ impl AnyRun {
     ) -> Result<Result<Event, Refusal>, NoMemory>
         requires { IsTrueToSetup self.old }
         ensures answer { IfOk result (λ r. r ≡ answer_to_step rules (run_view self.old) p act) }
-        ensures after { IfOk result (λ r. run_view self.new ≡ with_answer (run_view self.old) r) }
+        ensures after { IfOk result
+            (λ r. run_view self.new ≡ with_answer (run_view self.old) r) }
         ensures undoable { IfOk result
             (λ r. IfOk r (λ event. IsJustTaken (run_view self.new) event (run_view self.old))) }
         ensures err { OnErr result (self.new ≡ self.old) }
@@ -98,7 +100,8 @@ impl AnyRun {
         ensures answer { IfOk result
             (λ r. r ≡ answer_to_again rules (run_view self.old) event.now) }
         ensures taken { IfOk result (λ r. IsOk r ↔ IsNext rules (run_view self.old) event.now) }
-        ensures after { IfOk result (λ r. run_view self.new ≡ with_answer (run_view self.old) r) }
+        ensures after { IfOk result
+            (λ r. run_view self.new ≡ with_answer (run_view self.old) r) }
         ensures undoable { IfOk result
             (λ r. IfOk r (λ event. IsJustTaken (run_view self.new) event (run_view self.old))) }
         ensures err { OnErr result (self.new ≡ self.old) }
@@ -123,7 +126,8 @@ impl AnyRun {
     ) -> Result<Result<Event, Refusal>, NoMemory>
         requires { IsTrueToSetup self.old }
         ensures answer { IfOk result (λ r. r ≡ answer_to_loss rules (run_view self.old) s m p) }
-        ensures after { IfOk result (λ r. run_view self.new ≡ with_answer (run_view self.old) r) }
+        ensures after { IfOk result
+            (λ r. run_view self.new ≡ with_answer (run_view self.old) r) }
         ensures undoable { IfOk result
             (λ r. IfOk r (λ event. IsJustTaken (run_view self.new) event (run_view self.old))) }
         ensures err { OnErr result (self.new ≡ self.old) }

@@ -69,7 +69,8 @@ fn post(
     wish: &Option<Wish>,
 ) -> Result<(), NoMemory>
     requires { IsPostable mail.old p kind.now }
-    ensures ok { OnOk result (mail.new ≡ mail_after mail.old p kind.now (wished_payload wish.now)) }
+    ensures ok { OnOk result
+        (mail.new ≡ mail_after mail.old p kind.now (wished_payload wish.now)) }
     ensures err { OnErr result (mail.new ≡ mail.old) }
 {
     match (*kind, *wish) {
@@ -85,7 +86,8 @@ fn post(
 /// Writes what a step writes, and returns the cell that it overwrote.
 fn write(registers: &mut Registers, kind: &Kind, wish: &Option<Wish>) -> Option<Cell>
     requires { IsWritable registers.old kind.now wish.now }
-    ensures after { registers.new ≡ registers_after registers.old kind.now (wished_cell wish.now) }
+    ensures after { registers.new
+        ≡ registers_after registers.old kind.now (wished_cell wish.now) }
     ensures overwritten { result ≡ overwritten_cell registers.old kind.now }
 {
     match (*kind, *wish) {

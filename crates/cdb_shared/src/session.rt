@@ -120,7 +120,8 @@ pub fn drive<G: Gate + Drop, R: Wait>(
 ) -> (Seat, u32, End)
     requires { RestsAt shared.now seat }
     ensures seat { IsLater seat result.0 }
-    ensures calls { calls_of result.0 ≡ calls_of seat ++ replicate result.1 (Command.Auto process) }
+    ensures calls { calls_of result.0 ≡ calls_of seat
+        ++ replicate result.1 (Command.Auto process) }
     ensures turns { result.1 ≤ turns }
     ensures replies { IsDrivenFrom seat result.0 result.2 result.1 turns }
     ensures full { result.2 ≡ End.JournalFull → SeesFull result.0 }

@@ -156,8 +156,10 @@ fn command(mut words: Words<'_>) -> Result<Command, LineFault>
 /// The command of a line of a script, which is given without the byte 10 at its end; else the first
 /// fault of the line, read from the left. It allocates nothing.
 pub fn parse_line(line: &[u8]) -> Result<Command, LineFault>
-    ensures command { (command : CommandName) → (result ≡ Ok command) ↔ IsLineOf command line.now }
-    ensures fault { (fault : LineFaultName) → (result ≡ Err fault) ↔ IsFaultOf fault line.now }
+    ensures command { (command : CommandName) →
+        (result ≡ Ok command) ↔ IsLineOf command line.now }
+    ensures fault { (fault : LineFaultName) →
+        (result ≡ Err fault) ↔ IsFaultOf fault line.now }
 {
     if line.is_empty() {
         return Err(LineFault::Empty);

@@ -49,7 +49,8 @@ impl<P: Process> Run<P> {
     pub fn same_run(&self, other: &Run<P>) -> bool
         requires { self.now.setup ≡ other.now.setup }
         ensures state { IsTrue result ↔ AreInSameState P.table self.now other.now }
-        ensures exchange { IsTrue result ↔ IsExchanged depends self.now.history other.now.history }
+        ensures exchange { IsTrue result
+            ↔ IsExchanged depends self.now.history other.now.history }
     {
         let _ranges = self.setup().n();
         are_alike(self.history(), self.mail(), other.history(), other.mail())
