@@ -171,7 +171,7 @@ fn matches_of<'a>(alloc: Global, words: &'a [&'a str]) -> Result<ArgMatches<'a>,
     }
 }
 
-/// What an error of `clap` is here: want of memory apart from the other errors.
+/// What an error of `clap` is here: out of memory apart from the other errors.
 fn ask_fault(error: Error) -> AskFault
     ensures memory { kind_of error ≡ ErrorKind.OutOfMemory → result ≡ AskFault.NoMemory }
     ensures words { (kinds : Kinds) → HasKind kinds error → IsOfKinds kinds result }

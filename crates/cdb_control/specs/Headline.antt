@@ -98,7 +98,7 @@ pub record IsRolledBackAndForth (rules : Rules) (SameState : List Event → List
 
 -- ---- the headline
 
--- Of the control state t of so many seats.
+-- Of the control state t, which has that number of seats.
 pub record HoldsAt (rules : Rules) (SameState : List Event → List Event → Type 0) (setup : Parts) (seats : ℕ) (t : State) : Type 0 where
   -- each standing event was enabled in its turn: the run state is what the standing events alone reach from the start
   pub reached : IsTrue (rules.valid t.history)

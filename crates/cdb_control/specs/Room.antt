@@ -31,7 +31,7 @@ with_room rooms seat room = slice_set rooms (seat - 1) room
 abbrev pub lowered : List ℕ → ℕ → Answer → List ℕ
 lowered rooms seat answer = with_room (map (λ room. room - 1) rooms) seat (room_of rooms seat - cost answer)
 
--- the rooms after room was made for so many commands of a seat
+-- the rooms after room was made for this many commands of a seat
 abbrev pub raised : List ℕ → ℕ → ℕ → List ℕ
 raised rooms seat count = with_room rooms seat (max count (room_of rooms seat))
 

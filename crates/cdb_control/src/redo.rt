@@ -65,7 +65,7 @@ impl RedoList {
         self.events.clear();
     }
 
-    /// Makes room for so many events more. After `NoMemory` the list is as it was.
+    /// Makes room for this many events more. After `NoMemory` the list is as it was.
     pub fn reserve(&mut self, additional: usize) -> Result<(), NoMemory>
         ensures events { self.new.events ≡ self.old.events }
         ensures ok { OnOk result (length self.old.events + additional ≤ self.new.capacity) }

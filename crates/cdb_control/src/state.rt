@@ -141,7 +141,7 @@ impl<R: Runs> ControlState<R> {
         Reply::Forgot(count as u32)
     }
 
-    /// Makes room in a seat's redo list for so many events more. After `NoMemory` there is as much as
+    /// Makes room in a seat's redo list for this many events more. After `NoMemory` there is as much as
     /// there was.
     pub fn reserve(&mut self, seat: u8, additional: usize) -> Result<(), NoMemory>
         requires from_one { 1 ≤ seat }

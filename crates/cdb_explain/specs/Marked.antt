@@ -6,6 +6,6 @@ use Rattle.std.specs.List.{range_with_len}
 abbrev pub is_marked : List Bool → ℕ → Bool
 is_marked marks i = unwrap_or (slice_get marks i) false
 
--- the marked ones of the first places, so many, in order
+-- of the first places, count of them, those that are marked, in order
 abbrev pub marked_of_first : ℕ → List Bool → List ℕ
 marked_of_first count marks = filter (is_marked marks) (range_with_len 0 count)

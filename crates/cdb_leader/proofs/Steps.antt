@@ -1,4 +1,4 @@
--- The steps of one process of the leader machine, as far as agreement hangs on them, and that each keeps the process's laws.
+-- The steps of one process of the leader machine, as far as agreement depends on them, and that each keeps the process's laws.
 use Rattle.std.specs.Prelude.{◌≡◌, ℕ, suc, ◌+◌, ◌≤◌, List, [], ◌∷◌, ◌++◌, Option, Some, None, ◌⊎◌, refl}
 use Rattle.std.proofs.Common.{inl, inr, arith, sym, ap, subst}
 use Rattle.cdb_base.specs.declared.payload.Payload.{Payload}

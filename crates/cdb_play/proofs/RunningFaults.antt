@@ -52,7 +52,7 @@ of_reading setup scripts (ScriptTooLong place) is = is
 of_reading setup scripts NoMemory is = tt
 of_reading setup scripts fault is = absurd is
 
--- and on the setup that a text stands for
+-- and on the setup that a text encodes
 pub of_race : (json : List ℕ) (setup : Parts) (scripts : List (List ℕ)) → StandsFor json setup → (fault : RaceFault) → IsFaultOnSetup fault setup scripts → IsFaultOfRace fault json scripts
 of_race json setup scripts stands (Setup fault) is = absurd is
 of_race json setup scripts stands NoMemory is = tt

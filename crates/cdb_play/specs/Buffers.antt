@@ -8,7 +8,7 @@ use Rattle.cdb_play.specs.declared.buffer.OutputFault.TheVariants.{Write, NoMemo
 abbrev pub piece : ℕ
 piece = 65536
 
--- so many bytes are whole pieces
+-- a number of bytes that is a number of whole pieces
 abbrev pub AreWholePieces : List ℕ → Type 0
 AreWholePieces bytes = (count : ℕ) × (length bytes ≡ count * piece)
 
@@ -17,7 +17,7 @@ module _ {W : Type 0} (contents : W → Option (List ℕ)) (failures : W → ℕ
   abbrev pub TakesPieces : W → W → List ℕ → Type 0
   TakesPieces old new text = (written rest : List ℕ) × (text ≡ written ++ rest) × AreWholePieces written × Takes contents failures old new written
 
-  -- The text was written, by how that ended; after want of memory what was left in the buffer is not written
+  -- The text was written, by how that ended; where an allocation failed, what was left in the buffer is not written
   abbrev pub Wrote : {A : Type 0} → Result A OutputFault → W → W → List ℕ → Type 0
   Wrote (Ok done) old new text = Takes contents failures old new text
   Wrote (Err Write) old new text = Fails contents failures old new text

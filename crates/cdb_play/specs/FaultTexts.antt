@@ -21,7 +21,7 @@ setup_detail (BadInput place) = codes " " ++ decimal place
 setup_detail (BadOracle process place) = codes " " ++ decimal process ++ codes " " ++ decimal place
 setup_detail other = []
 
--- want of memory is the one fault without a number
+-- out of memory is the one fault without a number
 abbrev pub numbered_text : Option ℕ → SetupFault → List ℕ
 numbered_text (Some n) fault = codes "setup fault " ++ decimal n ++ codes " " ++ fault_name fault ++ setup_detail fault ++ codes "\n"
 numbered_text None fault = no_memory_text

@@ -17,7 +17,7 @@ use Rattle.cdb_play.specs.declared.script.ScriptFault.TheVariants as script
 use Rattle.cdb_play.specs.declared.source.ReadFault.{ReadFault}
 use Rattle.cdb_play.specs.declared.source.ReadFault.TheVariants as reading
 
--- ---- which fault of a play each fault of its parts is; want of memory is one fault
+-- ---- which fault of a play each fault of its parts is; out of memory is one fault
 
 abbrev pub of_setup : SetupFault → PlayFault
 of_setup setup.NoMemory = NoMemory

@@ -89,7 +89,7 @@ IsFirstBad place fault scripts =
 abbrev pub AreAllRead : List (List ℕ) → Type 0
 AreAllRead scripts = (read : List (List Command)) × AreScripts read scripts
 
--- the text is that of a race of these scripts on a setup, each process with so many turns
+-- the text is that of a race of these scripts on a setup, each process with this many turns
 pub record IsTextOnSetup (setup : Parts) (turns : ℕ) (scripts : List (List ℕ)) (text : List ℕ) : Type 0 where
   pub commands : List (List Command)
   pub control : Journaled
@@ -98,11 +98,11 @@ pub record IsTextOnSetup (setup : Parts) (turns : ℕ) (scripts : List (List ℕ
   pub raced : IsRaced setup turns commands control answers
   pub is : text ≡ race_text control
 
--- the same on the setup that a text of JSON stands for
+-- the same on the setup that a text of JSON encodes
 abbrev pub IsTextOfRace : List ℕ → ℕ → List (List ℕ) → List ℕ → Type 0
 IsTextOfRace json turns scripts text = (setup : Parts) × StandsFor json setup × IsTextOnSetup setup turns scripts text
 
--- ---- which fault of a race each fault of its parts is; want of memory is one fault
+-- ---- which fault of a race each fault of its parts is; out of memory is one fault
 
 abbrev pub race_fault_of_setup : SetupFault → RaceFault
 race_fault_of_setup setup.NoMemory = NoMemory
@@ -138,7 +138,7 @@ IsFaultOnSetup (Stopped seat) setup scripts = AreAllRead scripts × IsWithin 1 (
 IsFaultOnSetup Write setup scripts = AreAllRead scripts
 IsFaultOnSetup NoMemory setup scripts = Unit {0}
 
--- the same of a race on the setup that a text of JSON stands for: a fault of the setup comes before all others
+-- the same of a race on the setup that a text of JSON encodes: a fault of the setup comes before all others
 abbrev pub IsFaultOfRace : RaceFault → List ℕ → List (List ℕ) → Type 0
 IsFaultOfRace (Setup fault) json scripts = IsFirstFault fault json
 IsFaultOfRace NoMemory json scripts = Unit {0}
@@ -157,7 +157,7 @@ IsToldOnSetup heard passes setup turns scripts gates (Stopped seat) =
     × IsFaultOfSeats heard passes setup turns commands gates (threads.Stopped seat)
 IsToldOnSetup heard passes setup turns scripts gates other = Unit {0}
 
--- the same on the setup that a text of JSON stands for
+-- the same on the setup that a text of JSON encodes
 abbrev pub IsToldOfRace : {G : Type 0} → (G → Option (List Heard)) → (G → Bool) → List ℕ → ℕ → List (List ℕ) → List G → RaceFault → Type 0
 IsToldOfRace heard passes json turns scripts gates JournalFull =
     (setup : Parts) × StandsFor json setup × IsToldOnSetup heard passes setup turns scripts gates JournalFull
@@ -204,7 +204,7 @@ IsFaultOfScripts (ScriptTooLong place) scripts = IsFirstBad place script.TooLong
 IsFaultOfScripts NoMemory scripts = Unit {0}
 IsFaultOfScripts fault scripts = ⊥
 
--- a fault of what was read, with so many seats
+-- a fault of what was read, with this many seats
 abbrev pub IsFaultOfRunning : ℕ → RaceFault → Type 0
 IsFaultOfRunning seats (Setup fault) = ⊥
 IsFaultOfRunning seats (Line place line fault) = ⊥

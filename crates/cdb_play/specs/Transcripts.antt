@@ -28,7 +28,7 @@ journal_of commands = map (entry 1) commands
 unfoldable pub transcript : Rules → Parts → List Command → List ℕ
 transcript rules setup commands = flat_map text_of (replies_of rules setup 1 1 (journal_of commands))
 
--- the text is the transcript of a script, by the rules of the setup that a text of JSON stands for
+-- the text is the transcript of a script, by the rules of the setup that a text of JSON encodes
 pub record IsTranscriptOf (rules : Parts → Rules) (json script text : List ℕ) : Type 0 where
   pub setup : Parts
   pub commands : List Command

@@ -9,7 +9,7 @@ use cdb_text::LineFault;
 /// Why a play ended early. Scripts and lines count from 1, and a play has one script.
 #[derive(Clone, Copy, Debug, PartialEq, Eq)]
 pub enum PlayFault {
-    /// The setup's first fault, which is never want of memory.
+    /// The setup's first fault, which is never out of memory.
     Setup(SetupFault),
     /// Of this script this line is no command: the first such line, with its first fault.
     Line(usize, usize, LineFault),
@@ -25,7 +25,7 @@ pub enum PlayFault {
 /// Why a race ended early. Scripts, lines and seats count from 1.
 #[derive(Clone, Copy, Debug, PartialEq, Eq)]
 pub enum RaceFault {
-    /// The setup's first fault, which is never want of memory.
+    /// The setup's first fault, which is never out of memory.
     Setup(SetupFault),
     /// Of this script this line is no command: the first such line, with its first fault.
     Line(usize, usize, LineFault),

@@ -96,7 +96,7 @@ impl Gate for Open {
     fn after(&mut self, _call: u32, _seat: &Seat) {}
 }
 
-/// So many gates that always pass.
+/// This many gates that always pass.
 fn open_gates(alloc: Global, count: usize) -> Result<Vec<Open>, AllocError>
     ensures { IfOk result (λ gates. vec_len gates ≡ count) }
 {
@@ -164,7 +164,7 @@ fn run_race<G: Gate + Drop + Send, R: Threads + Wait + Sync, W: Sink>(
     Ok(())
 }
 
-/// Runs a race on a setup: each process is driven for so many turns by a seat of its own, and each script is served
+/// Runs a race on a setup: each process is driven for this many turns by a seat of its own, and each script is served
 /// by a seat of its own, after the gate of that seat. Then the text of the race is written: for each script
 /// its seat and its replies, then the decisions of the last state, and whether they agree.
 ///
@@ -224,7 +224,7 @@ pub fn race_on<R: Threads + Wait + Sync, W: Sink>(
     run_race(rt, alloc, setup, turns, commands.as_slice(), gates, out)
 }
 
-/// Runs a race as `race_on_with` does, on the setup that a text of JSON stands for. The setup is read first: after
+/// Runs a race as `race_on_with` does, on the setup that a text of JSON encodes. The setup is read first: after
 /// `Setup` nothing was written.
 pub fn race_with<G: Gate + Drop + Send, R: Threads + Wait + Sync, W: Sink>(
     rt: &R,

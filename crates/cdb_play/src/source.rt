@@ -57,7 +57,7 @@ impl From<AllocError> for ReadFault {
 /// How many bytes are asked for at a time.
 const PIECE: usize = 4096;
 
-/// Reads to the end, or so many bytes where the reader has more. No byte is read twice, and nothing is tried
+/// Reads to the end, or this many bytes where the reader has more. No byte is read twice, and nothing is tried
 /// again. After an error what was read is given up.
 pub fn read_up_to<R: Source>(
     alloc: Global,

@@ -10,7 +10,7 @@ use Rattle.cdb_control.specs.declared.control.Entry.{Entry}
 use Rattle.cdb_race.specs.Races.{IsUnderWay, most_calls}
 use Rattle.cdb_setup.specs.Parts.{Parts}
 
--- the entries of the first so many seats
+-- the entries of the first seats, this many of them
 abbrev pub of_first : ℕ → List Entry → ℕ
 of_first zero es = 0
 of_first (suc n) es = of_first n es + length (own (suc n) es)

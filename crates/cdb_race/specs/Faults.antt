@@ -48,7 +48,7 @@ pub record IsOfLeastSeat (fault : RaceFault) (rans : List Ran) : Type 0 where
   pub has : fault_in its ≡ Some fault
   pub least : (k : ℕ) (ran : Ran) → place < k → k < length rans → fault_in (slice_index_or rans k ran) ≡ None
 
--- a stopped seat is one of so many
+-- a stopped seat is one of this many
 abbrev pub IsAmongSeats : ℕ → RaceFault → Type 0
 IsAmongSeats seats (fault.Stopped seat) = IsWithin 1 seats seat
 IsAmongSeats seats other = Unit {0}

@@ -36,7 +36,7 @@ impl Script {
     }
 }
 
-/// What the seats of a race are to do: each of the first drives the process of its number for so many
+/// What the seats of a race are to do: each of the first drives the process of its number for this many
 /// turns, and each of the others serves a script.
 #[derive(Clone, Copy)]
 pub(crate) struct Plan<'a> {

@@ -182,7 +182,7 @@ pub struct Raced {
     pub replies: Vec<Vec<Reply>>,
 }
 
-/// Drives each process by so many turns and serves each script, each in a thread of its own, and joins
+/// Drives each process by this many turns and serves each script, each in a thread of its own, and joins
 /// them all. The seats and the gates of the processes come first, and then those of the scripts; there
 /// are at most 64. Of several faults of sessions the one of the least seat is returned, and the race leaves nothing
 /// then. `Stopped` comes only from a gate that did not let a call go on, and `JournalFull` only where these processes

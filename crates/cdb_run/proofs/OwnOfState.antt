@@ -38,7 +38,7 @@ noted_same writes others same (event ∷ events) =
     with_same (Step p k _) register = same register
     with_same (Lost copy) register = same register
 
--- the steps of process p among the events, where so many writes of each register stand before them
+-- the steps of process p among the events, where this many writes of each register stand before them
 abbrev steps_behind : (Reg → ℕ) → ℕ → List Event → List OwnEvent
 steps_behind writes p events = filter (λ own. is_step_of p own.event) (noted writes events)
 

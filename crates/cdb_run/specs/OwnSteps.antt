@@ -30,7 +30,7 @@ writes_met writes (Step p k (Read register)) = Some (writes register)
 writes_met writes (Step p k (Write register)) = Some (writes register)
 writes_met writes event = None
 
--- the events, each with the writes that it meets, where so many of each register stand before them
+-- the events, each with the writes that it meets, where this many of each register stand before them
 abbrev pub noted : (Reg → ℕ) → List Event → List OwnEvent
 noted writes [] = []
 noted writes (event ∷ events) = record { event = event; writes_before = writes_met writes event } ∷ noted (writes_with writes event) events

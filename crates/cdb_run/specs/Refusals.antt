@@ -30,14 +30,14 @@ first_refusal checks = option_map (λ check. check.1) (find (λ check. check.0) 
 
 -- What a process is asked to do.
 
--- the kind of step that a wish names, after so many sends
+-- the kind of step that a wish names, after this many sends
 abbrev pub wished_kind : ℕ → Wish → Kind
 wished_kind sends (wished.Send payload) = Send (sends + 1)
 wished_kind sends (wished.Read register) = Read register
 wished_kind sends (wished.Write register cell) = Write register
 wished_kind sends wished.Local = Local
 
--- the kind of step that an act names, where the machine wishes this, after so many sends, with that as the oracle's next answer
+-- the kind of step that an act names, where the machine wishes this, after this many sends, with that as the oracle's next answer
 abbrev pub named_kind : Option Wish → ℕ → Option ℕ → Act → Option Kind
 named_kind wish sends answer act.Go = option_map (wished_kind sends) wish
 named_kind wish sends answer act.Learn = Some Learn

@@ -14,7 +14,7 @@ use cdb_process::{Input, Process, Wish, accepts_query, accepts_receive};
 use cdb_register::Registers;
 use cdb_setup::Setup;
 
-/// The kind of step that a wish names, after so many sends.
+/// The kind of step that a wish names, after this many sends.
 fn kind_of_wish(wish: &Wish, sends: u16) -> Kind
     requires { sends ≤ 9999 }
     ensures { result ≡ wished_kind sends wish.now }

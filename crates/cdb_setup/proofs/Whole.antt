@@ -1,4 +1,4 @@
--- The bytes as a whole: what stands for a setup has no fault, and stands for no other.
+-- The bytes as a whole: what encodes a setup has no fault, and encodes no other.
 use Rattle.std.proofs.Common.{◌≡◌, ◌≢◌, ◌⊎◌, ℕ, ◌<◌, ◌≤◌, List, [], ◌∷◌, length, map, Some, None, refl, sym, ap, subst, ◌∙◌, arith, inl, inr}
 use Rattle.std.specs.Prelude.{Result, Ok, Err, IfOk, IfErr}
 use Rattle.std.specs.Str.{IsUtf8}
@@ -62,7 +62,7 @@ not_json bytes short none = record {
   first = λ other before. before_not_json other bytes short before;
 }
 
--- ---- what stands for a setup has no fault
+-- ---- what encodes a setup has no fault
 
 same_at : {A : Type 0} {a b : A} → Some a ≡ Some b → a ≡ b
 same_at e = cc
@@ -99,7 +99,7 @@ no_setup NoMemory json parts is holds = holds
 no_setup_of_bytes : (fault : SetupFault) (bytes : List ℕ) (parts : Parts) → StandsFor bytes parts → ¬ HoldsOf fault bytes
 no_setup_of_bytes fault bytes parts stands holds = no_setup fault stands.1 parts stands.3 (from_bytes fault bytes stands.1 stands.0 stands.2 holds)
 
--- ---- what stands for a setup stands for no other
+-- ---- what encodes a setup encodes no other
 
 same_name : (a b : Algorithm) → string (algorithm_name a) ≡ string (algorithm_name b) → a ≡ b
 same_name Leader Leader e = refl
@@ -136,7 +136,7 @@ same_parts json s t a b =
 pub one_setup : (bytes : List ℕ) (s t : Parts) → StandsFor bytes s → StandsFor bytes t → s ≡ t
 one_setup bytes s t a b = same_parts a.1 s t a.3 (subst (λ (d : Data). IsSetupOf d t) (one_value bytes b.1 a.1 b.2 a.2) b.3)
 
--- what stands for a setup is answered, unless memory runs out
+-- what encodes a setup is answered, unless memory runs out
 pub only : (result : Result Parts SetupFault) (bytes : List ℕ) → IfOk result (λ setup. StandsFor bytes setup) → IfErr result (λ fault. fault ≢ NoMemory → IsFirstFault fault bytes)
     → (setup : Parts) → StandsFor bytes setup → (result ≡ Ok setup) ⊎ (result ≡ Err NoMemory)
 only (Ok found) bytes stands faults setup other = inl (ap Ok (one_setup bytes found setup stands other))

@@ -77,6 +77,6 @@ take_one_more xs i x low is = take_more xs i x low ∙ ap (λ y. take i xs ++ y 
 pub replicate-push : {A : Type 0} (n : ℕ) (x : A) → replicate (n + 1) x ≡ replicate n x ++ x ∷ []
 replicate-push n x = sym (replicate-append-replicate n 1 x)
 
--- a seat that made so many calls has seen as many entries
+-- a seat that made this many calls has seen as many entries
 pub few_calls : (old new : SeatView) (made : List Command) → calls_of new ≡ calls_of old ++ made → length new.seen ≤ 999999 → length made ≤ 999999
 few_calls old new made is low = omega (arith, length-own new.number new.seen, ap length is, length-append (calls_of old) made)

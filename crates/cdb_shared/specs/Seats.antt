@@ -32,7 +32,7 @@ abbrev pub fresh_seat : TableId → Journaled → ℕ → SeatView
 fresh_seat shared c number =
     record { home = shared; setup = c.setup; seats = c.seats; number = number; seen = c.journal; rests = true }
 
--- so many of them, with the numbers from this one on
+-- this many of them, with the numbers from this one on
 abbrev pub fresh_seats : TableId → Journaled → ℕ → ℕ → List SeatView
 fresh_seats shared c first n = map (fresh_seat shared c) (range_with_len first n)
 

@@ -29,7 +29,7 @@ end_at NoMemory = Short
 abbrev pub NoneDone : List Answer → Type 0
 NoneDone replies = AllByRecursion (λ r. r ≢ Refused refusal.Done) replies
 
--- how a driven seat ended, after so many turns of those allowed, by its replies
+-- how a driven seat ended, after this many turns of those allowed, by its replies
 abbrev pub IsDriven : End → ℕ → ℕ → List Answer → Type 0
 IsDriven Done count turns replies =
     (front : List Answer) × (replies ≡ front ++ Refused refusal.Done ∷ []) × NoneDone front

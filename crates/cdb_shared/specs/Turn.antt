@@ -95,7 +95,7 @@ IsRuled items views = ((items ≡ []) × (views ≡ opening ∷ [])) ⊎ Turns i
 abbrev pub place_at : Story → ℕ → Place
 place_at c number = record { number = number; setup = c.setup; seats = c.seats; seen = c.journal }
 
--- so many seats, with the numbers from this one on
+-- this many seats, with the numbers from this one on
 abbrev pub places_from : Story → ℕ → ℕ → List Place
 places_from c first n = map (place_at c) (range_with_len first n)
 

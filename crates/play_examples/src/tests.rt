@@ -16,7 +16,7 @@ use setups::ONE_PROCESS;
 use std::process::Abort;
 use std::test::Fail;
 
-/// A writer over memory that takes `most` bytes a call. After so many good calls one takes none, or fails.
+/// A writer over memory that takes `most` bytes a call. After this many good calls one takes none, or fails.
 #[derive(Drop)]
 struct Memory {
     held: Vec<u8>,
@@ -77,7 +77,7 @@ impl<'a> Source for Halting<'a> {
     }
 }
 
-/// A writer that takes so many bytes a call, and never fails.
+/// A writer that takes this many bytes a call, and never fails.
 fn writer(rt: &impl AllocGlobal, most: usize) -> Memory {
     Memory {
         held: Vec::new(rt.alloc()),

@@ -7,7 +7,7 @@ use Rattle.cdb_play.specs.declared.fault.RaceFault.{RaceFault}
 use Rattle.cdb_setup.specs.Format.{StandsFor}
 use Rattle.cdb_setup.specs.Parts.{Parts}
 
--- the setup's processes and so many scripts need more seats than there are
+-- the setup's processes and this many scripts need more seats than there are
 abbrev pub NeedsTooManySeats : List ℕ → ℕ → Type 0
 NeedsTooManySeats json scripts = (setup : Parts) × StandsFor json setup × (64 < setup.processes + scripts)
 

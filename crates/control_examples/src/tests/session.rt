@@ -14,11 +14,11 @@ pub enum Turn {
     Give(Command, &'static str),
     /// A command of the seat of that number, and the text of the reply.
     GiveAs(u8, Command, &'static str),
-    /// A command of the first seat, given so many times, and the text of the last reply.
+    /// A command of the first seat, given this many times, and the text of the last reply.
     Repeat(u32, Command, &'static str),
-    /// Two commands of the first seat, given in turn, so many times each, whatever is answered.
+    /// Two commands of the first seat, given in turn, this many times each, whatever is answered.
     Alternate(u32, Command, Command),
-    /// Room is made for so many commands of a seat.
+    /// Room is made for this many commands of a seat.
     Reserve(u8, u32),
     /// The rooms of the first two seats are looked at.
     Rooms(u32, u32),
@@ -36,7 +36,7 @@ pub fn compare_line<R: Abort>(rt: &R, text: &[u8], expected: &str) {
     assert!(rt; is_line(text, expected), "{expected}");
 }
 
-/// The text of a reply, at the second try where memory was wanting.
+/// The text of a reply, at the second try where an allocation failed.
 pub fn text_of<R: Abort + AllocGlobal>(rt: &R, reply: &Reply) -> Vec<u8> {
     match reply_text(rt.alloc(), reply) {
         Ok(text) => text,
@@ -77,7 +77,7 @@ impl Session {
         Some(Session { control })
     }
 
-    /// The same, at the second try where memory was wanting.
+    /// The same, at the second try where an allocation failed.
     pub fn open<R: Abort + AllocGlobal>(rt: &R, setup: &str, seats: u8) -> Session {
         match Session::open_once(rt, setup, seats) {
             Some(session) => session,
@@ -97,7 +97,7 @@ impl Session {
         self.control.execute(rt.alloc(), seat, *command)
     }
 
-    /// The same, at the second try where memory was wanting.
+    /// The same, at the second try where an allocation failed.
     pub fn execute<R: Abort + AllocGlobal>(
         &mut self,
         rt: &R,
@@ -124,7 +124,7 @@ impl Session {
         assert!(rt; self.last_seat() == Some(seat));
     }
 
-    /// Gives a command of the first seat so many times, and compares the text of the last reply.
+    /// Gives a command of the first seat this many times, and compares the text of the last reply.
     fn repeat<R: Abort + AllocGlobal>(
         &mut self,
         rt: &R,
@@ -138,7 +138,7 @@ impl Session {
         self.give(rt, 1, command, expected);
     }
 
-    /// Gives two commands of the first seat in turn, so many times each.
+    /// Gives two commands of the first seat in turn, this many times each.
     fn alternate<R: Abort + AllocGlobal>(
         &mut self,
         rt: &R,
@@ -164,7 +164,7 @@ impl Session {
         self.control.reserve(rt.alloc(), seat, count)
     }
 
-    /// Makes room for so many commands of a seat, at the second try where memory was wanting.
+    /// Makes room for this many commands of a seat, at the second try where an allocation failed.
     fn reserve<R: Abort + AllocGlobal>(&mut self, rt: &R, seat: u8, count: u32) {
         if self.reserve_once(rt, seat, count).is_err() {
             assert!(rt; self.reserve_once(rt, seat, count).is_ok());
@@ -236,7 +236,7 @@ fn after<R: Abort + AllocGlobal>(rt: &R, setup: &str, seats: u8, turns: &[Turn])
     session
 }
 
-/// Takes the turns in a session of the setup with so many seats.
+/// Takes the turns in a session of the setup with this many seats.
 pub fn check<R: Abort + AllocGlobal>(rt: &R, setup: &str, seats: u8, turns: &[Turn]) {
     let _session = after(rt, setup, seats, turns);
 }

@@ -67,7 +67,7 @@ fn wishes_to_go_on() -> Turn {
     Turn::Wishes(Some(Wish::Local))
 }
 
-/// Process 1 of so many, with so many as its quorum and with this input.
+/// Process 1 of this many, with this many as its quorum and with this input.
 fn process_one(n: u8, quorum: u8, input: u32) -> Start {
     Start {
         me: 1,
@@ -248,7 +248,7 @@ fn next_input(alpha: &Machine<Alpha>, me: Proc, registers: &mut [Cell]) -> Optio
     }
 }
 
-/// Takes so many steps over the registers.
+/// Takes this many steps over the registers.
 fn steps<R: Abort + AllocGlobal>(
     rt: &R,
     alpha: &mut Machine<Alpha>,

@@ -72,7 +72,7 @@ impl ExampleSetup {
         self.setup == other.setup
     }
 
-    /// Whether the text stands for this setup.
+    /// Whether the text encodes this setup.
     pub fn is_of(&self, alloc: Global, bytes: &[u8]) -> Result<bool, SetupFault> {
         let other = ExampleSetup::read(alloc, bytes)?;
         Ok(self.is_equal(&other))

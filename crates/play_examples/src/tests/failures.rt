@@ -60,7 +60,7 @@ fn a_reader_that_comes_to_its_end(rt: HostRuntime) {
     );
 }
 
-/// A writer that takes seven bytes a call, and stops after so many calls.
+/// A writer that takes seven bytes a call, and stops after this many calls.
 fn stopping(rt: &impl AllocGlobal, good_calls: usize, takes_none: bool) -> Memory {
     Memory {
         held: Vec::new(rt.alloc()),

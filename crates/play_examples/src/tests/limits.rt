@@ -6,7 +6,7 @@ use cdb_play::{Bytes, MAX_BYTES, PlayFault, play};
 use std::alloc::{AllocError, Global};
 use std::test::Fail;
 
-/// The text so many times.
+/// The text this many times.
 fn repeated(alloc: Global, text: &str, count: usize) -> Result<String, AllocError> {
     let mut all = String::new(alloc);
     for _ in 0..count {

@@ -16,7 +16,7 @@ use std::thread::{self, Threads};
 
 const AGREE: &str = "decisions agree\n";
 
-/// So many scripts of this text.
+/// This many scripts of this text.
 fn scripts(alloc: Global, text: &str, count: usize) -> Result<Vec<Vec<u8>>, AllocError> {
     let mut scripts = Vec::new(alloc);
     for _ in 0..count {

@@ -6,7 +6,7 @@ use Rattle.cdb_setup.specs.declared.fault.SetupFault.{SetupFault}
 use Rattle.cdb_setup.specs.declared.fault.SetupFault.TheVariants.{NoMemory}
 use Rattle.revdbg.proofs.race_scripts.Goals as goal
 
--- bytes that stand for a setup have no fault but want of memory
+-- bytes that encode a setup have no fault but out of memory
 memory_alone : (read : Result Parts SetupFault) (fault : SetupFault) (parts : Parts) → read ≡ Err fault → (read ≡ Ok parts) ⊎ (read ≡ Err NoMemory) → fault ≡ NoMemory
 memory_alone read fault parts is (inl e) = absurd cc
 memory_alone read fault parts is (inr e) = cc

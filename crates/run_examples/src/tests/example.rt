@@ -60,7 +60,7 @@ impl Model for Example {
 }
 
 impl Example {
-    /// The run of a setup in which nothing has happened, at the second try where memory was wanting.
+    /// The run of a setup in which nothing has happened, at the second try where an allocation failed.
     pub fn start<R: Abort + AllocGlobal>(rt: &R, setup: &str) -> Example {
         match Example::try_start(rt.alloc(), setup) {
             Some(run) => run,

@@ -115,7 +115,7 @@ fn repeat<R: Abort + AllocGlobal>(rt: &R, run: &Example, setup: &str) {
     assert!(rt; look_same(&again, run));
 }
 
-/// Makes the moves in a run of the setup, of which so many events then stand, and takes these again in
+/// Makes the moves in a run of the setup, of which this many events then stand, and takes these again in
 /// another; asks again where memory was wanting.
 fn check<R: Abort + AllocGlobal>(rt: &R, setup: &str, moves: &[Move], standing: usize) {
     let mut run = Example::start(rt, setup);

@@ -10,7 +10,7 @@ use std::process::Abort;
 /// How often a move is made, and the move.
 type Repeated = (u32, Move);
 
-/// Makes the moves, each so many times.
+/// Makes the moves, each this many times.
 fn make_each<R: Abort + AllocGlobal>(rt: &R, run: &mut Example, moves: &[Repeated]) {
     for (times, asked) in moves {
         for _ in 0..*times {
@@ -27,7 +27,7 @@ fn take_each_back<R: Abort + AllocGlobal>(rt: &R, run: &Example) {
     }
 }
 
-/// Takes each event back of the run of a setup after some moves, in which so many events stand.
+/// Takes each event back of the run of a setup after some moves, in which this many events stand.
 fn check<R: Abort + AllocGlobal>(rt: &R, setup: &str, moves: &[Repeated], standing: usize) {
     let mut run = Example::start(rt, setup);
     make_each(rt, &mut run, moves);

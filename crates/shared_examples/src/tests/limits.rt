@@ -10,7 +10,7 @@ use cdb_shared::End;
 use std::alloc::Global;
 use std::test::Fail;
 
-/// Gives so many commands that change nothing.
+/// Gives this many commands that change nothing.
 fn fill(alloc: Global, control: &mut Control<RunOfSetup>, count: u32) -> Result<(), CallFault> {
     for _ in 0..count {
         // For its clause: there is a first seat.
@@ -20,7 +20,7 @@ fn fill(alloc: Global, control: &mut Control<RunOfSetup>, count: u32) -> Result<
     Ok(())
 }
 
-/// A control in which so many commands have changed nothing.
+/// A control in which this many commands have changed nothing.
 fn filled<R: AllocGlobal>(rt: &R, setup: &str, count: u32) -> Result<Control<RunOfSetup>, Fail> {
     let mut control = control_of(rt, setup)?;
     fill(rt.alloc(), &mut control, count)?;

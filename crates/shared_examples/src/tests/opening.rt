@@ -1,4 +1,4 @@
-//! The setups of the examples, shared controls over them, and texts of replies. What wants memory here is
+//! The setups of the examples, shared controls over them, and texts of replies. What allocates here is
 //! tried a second time.
 
 ghost use Rattle.std.specs.Prelude.{◌≡◌, ◌≤◌, All, IfOk};

@@ -97,7 +97,7 @@ impl Pair {
         }
     }
 
-    /// Drives process 1 from the first seat for so many turns, up to the call at which the gate stops it.
+    /// Drives process 1 from the first seat for this many turns, up to the call at which the gate stops it.
     pub fn drive<R: Wait + AllocGlobal>(self, rt: &R, stop: u32, turns: u32) -> (Pair, u32, End) {
         let Pair {
             shared,
@@ -208,7 +208,7 @@ fn ask_twice<R: Wait>(shared: &Shared, rt: &R, alloc: Global, seat: Seat, gate: 
     end
 }
 
-/// Room for both seats, at the second try if the first wants memory.
+/// Room for both seats, at the second try if an allocation fails in the first.
 fn room_for_two<R: AllocGlobal>(rt: &R) -> Result<Vec<Seat>, Fail>
     ensures { IfOk result (λ seats. (seats.items ≡ []) × (2 ≤ vec_capacity seats)) }
 {

@@ -65,7 +65,7 @@ fn raced<R: Threads + Wait + Sync + Abort + AllocGlobal>(
     outcome_of(rt.alloc(), &raced)
 }
 
-/// So many scripts of these commands.
+/// This many scripts of these commands.
 fn scripts(alloc: Global, commands: &[Command], count: u32) -> Result<Vec<Script>, AllocError> {
     let mut scripts = Vec::new(alloc);
     for _ in 0..count {
