@@ -1,7 +1,7 @@
 use Rattle.std.proofs.Common.{length, ap, ◌∙◌}
 use Rattle.cdb_message.specs.Mail.{MailState, message_name, copy_name, sent_by, is_received, is_lost}
-use Rattle.layer_examples.proofs.NoCopies.{nothing_received, nothing_lost}
-use Rattle.layer_examples.proofs.tests.mailbox.ExampleMail.with_a_send_taken_back.Goals as goal
+use Rattle.layer_tests.proofs.NoCopies.{nothing_received, nothing_lost}
+use Rattle.layer_tests.proofs.tests.mailbox.ExampleMail.with_a_send_taken_back.Goals as goal
 
 pub take_back_send-requires-clause-not_received : goal.take_back_send-requires-clause-not_received
 take_back_send-requires-clause-not_received c = λ q.
