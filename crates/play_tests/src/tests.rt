@@ -6,6 +6,7 @@ mod faults;
 mod leader;
 mod limits;
 mod losses;
+mod out_of_memory;
 mod races;
 mod rollback;
 mod setups;

@@ -479,10 +479,10 @@ fn compare_made<R: Abort>(rt: &R, alloc: Global, setup: &ExampleSetup) -> Result
     Ok(())
 }
 
-/// Where a request for memory is refused, the call says so, and given again it does its work. Run
-/// it with each request refused in turn.
+/// Where an allocation fails, the call says so, and made again it does its work. To see it, let each allocation of
+/// this test fail in turn.
 #[test]
-fn want_of_memory(rt: HostRuntime) -> Result<(), Fail> {
+fn setups_without_memory(rt: HostRuntime) -> Result<(), Fail> {
     let setup = read_again(&rt, rt.alloc())?;
     compare_copy(&rt, rt.alloc(), &setup)?;
     compare_made(&rt, rt.alloc(), &setup)?;
