@@ -106,6 +106,21 @@ module _ (P : Event → Type 0) where
             left = parted.left;
           }
 
+-- a rollback removes one event at least
+rolled-one : (history : List Event) (i : ℕ) (event : Event) → slice_get history i ≡ Some event → 1 ≤ length (rolled_back depends history i)
+rolled-one [] i event at = absurd (none-some event at)
+rolled-one (x ∷ xs) zero event at = omega arith
+rolled-one (x ∷ xs) (suc i) event at = rolled-one xs i event at
+
+pub removed-one : (n : ℕ) (history : List Event) (name : StepId) (removed : List Event × List Event) → rollback_of n history name ≡ Ok removed → 1 ≤ length removed.0
+removed-one n history name removed h =
+    result_cases (1 ≤ length removed.0) (event_named n history name)
+    (λ found is. let f : rollback_of n history name ≡ Ok removed → 1 ≤ length removed.0 =
+    rw is (λ k. subst (λ (r : List Event × List Event). 1 ≤ length r.0) (ok_same _ removed k)
+    (omega (arith, length-reverse (rolled_back depends history found.place), rolled-one history found.place found.event (standing-at n history name found is)))) in
+    f h)
+    (λ why is. let f : rollback_of n history name ≡ Ok removed → 1 ≤ length removed.0 = rw is (λ k. absurd (cc)) in f h)
+
 -- no more events are removed than stood
 pub few-removed : (n : ℕ) (history : List Event) (name : StepId) (count most : ℕ) → length history ≤ most → number_removed (answered (rollback_of n history name)) ≡ Ok count → count ≤ most
 few-removed n history name count most few counted = go (rollback_of n history name) refl counted

@@ -14,6 +14,7 @@ use Rattle.cdb_control.specs.Auto.{choice}
 use Rattle.cdb_control.specs.Commands.{Outcome, unless, granted, found, unpaused, stepped, step, lost, undo, rollback, why, redone, shown, outcome}
 use Rattle.cdb_control.specs.Done.{NoneShrinks}
 use Rattle.cdb_run.specs.EventRefs.{name_of}
+use Rattle.cdb_control.proofs.Removed.{removed-one}
 use Rattle.cdb_control.specs.Room.{StoredList, StoredState, HasRoom, cost, room_of, lowered, raised, rooms_at}
 use Rattle.cdb_control.specs.State.{State, redo_of, last_of}
 use Rattle.cdb_control.specs.Stops.{names_none_of}
@@ -96,58 +97,49 @@ no-rooms zero i = refl
 no-rooms (suc n) zero = refl
 no-rooms (suc n) (suc i) = no-rooms n i
 
-pub cost-one : (a : Answer) → 1 ≤ cost a
-cost-one (reply.Stepped event decides paused) = omega arith
-cost-one (reply.Undone event) = omega arith
-cost-one (reply.Redone event decides) = omega arith
-cost-one (reply.RolledBack count) = omega arith
-cost-one (reply.Because name causes) = omega arith
-cost-one (reply.BreakSet number) = omega arith
-cost-one (reply.BreakGone number) = omega arith
-cost-one reply.Resumed = omega arith
-cost-one (reply.Forgot count) = omega arith
-cost-one (reply.Proc shown) = omega arith
-cost-one (reply.Regs cells) = omega arith
-cost-one (reply.Mail copies) = omega arith
-cost-one (reply.History events) = omega arith
-cost-one (reply.Decisions pairs) = omega arith
-cost-one (reply.Refused refusal) = omega arith
-
 -- ---- how much longer a command makes the redo lists
 
 pub record Spends (seat : ℕ) (t : State) (o : Outcome) : Type 0 where
+  pub one : 1 ≤ cost o.reply
   pub own : length (redo_of o.after seat) ≤ length (redo_of t seat) + cost o.reply
   pub others : (i : ℕ) → i ≢ seat - 1 → get_or o.after.redo i [] ≡ get_or t.redo i []
 
 -- the lists are as they were
-kept : (seat : ℕ) (t : State) (o : Outcome) → o.after.redo ≡ t.redo → Spends seat t o
-kept seat t o same =
+kept : (seat : ℕ) (t : State) (o : Outcome) → o.after.redo ≡ t.redo → 1 ≤ cost o.reply → Spends seat t o
+kept seat t o same one =
     record {
+      one = one;
       own = (let long = ap (λ (lists : List (List Event)). length (get_or lists (seat - 1) [])) same in omega (arith, long));
       others = λ i apart. ap (λ (lists : List (List Event)). get_or lists i []) same;
     }
 
 unless-kept : (seat : ℕ) (b : Bool) (r : Refusal) (t : State) (go : Outcome) → Spends seat t go → Spends seat t (unless b r t go)
-unless-kept seat true r t go h = kept seat t _ refl
+unless-kept seat true r t go h = kept seat t _ refl (omega arith)
 unless-kept seat false r t go h = h
 
 granted-kept : (seat : ℕ) {A : Type 0} (x : Result A Refusal) (t : State) (go : A → Outcome) → ((a : A) → Spends seat t (go a)) → Spends seat t (granted x t go)
 granted-kept seat (Ok a) t go h = h a
-granted-kept seat (Err r) t go h = kept seat t _ refl
+granted-kept seat (Err r) t go h = kept seat t _ refl (omega arith)
+
+-- the same where what is granted is known
+granted-where : (seat : ℕ) {A : Type 0} (x : Result A Refusal) (t : State) (go : A → Outcome) → ((a : A) → x ≡ Ok a → Spends seat t (go a)) → Spends seat t (granted x t go)
+granted-where seat (Ok a) t go h = h a refl
+granted-where seat (Err r) t go h = kept seat t _ refl (omega arith)
 
 found-kept : (seat : ℕ) {A : Type 0} (x : Option A) (r : Refusal) (t : State) (go : A → Outcome) → ((a : A) → Spends seat t (go a)) → Spends seat t (found x r t go)
 found-kept seat (Some a) r t go h = h a
-found-kept seat None r t go h = kept seat t _ refl
+found-kept seat None r t go h = kept seat t _ refl (omega arith)
 
 unpaused-kept : (seat : ℕ) (x : Option ℕ) (t : State) (go : Outcome) → Spends seat t go → Spends seat t (unpaused x t go)
-unpaused-kept seat (Some b) t go h = kept seat t _ refl
+unpaused-kept seat (Some b) t go h = kept seat t _ refl (omega arith)
 unpaused-kept seat None t go h = h
 
 module _ (rules : Rules) (t : State) (seat : ℕ) (low : seat - 1 < length t.redo) where
   -- the seat's list is another, no longer than it was by more than what the command takes
-  becomes : (o : Outcome) (events : List Event) → o.after.redo ≡ set t.redo (seat - 1) events → length events ≤ length (redo_of t seat) + cost o.reply → Spends seat t o
-  becomes o events is long =
+  becomes : (o : Outcome) (events : List Event) → o.after.redo ≡ set t.redo (seat - 1) events → length events ≤ length (redo_of t seat) + cost o.reply → 1 ≤ cost o.reply → Spends seat t o
+  becomes o events is long one =
       record {
+        one = one;
         own = (let here = ap (λ (lists : List (List Event)). length (get_or lists (seat - 1) [])) is in let there = ap (λ (l : List Event). length l) (get_or-set_same t.redo (seat - 1) events [] low) in omega (arith, long, here, there));
         others = λ i apart. ap (λ (lists : List (List Event)). get_or lists i []) is ∙ get_or-set_other t.redo (seat - 1) i events [] apart;
       }
@@ -155,41 +147,42 @@ module _ (rules : Rules) (t : State) (seat : ℕ) (low : seat - 1 < length t.red
   undo-spends : (name : StepId) → Spends seat t (undo t seat name)
   undo-spends name =
       granted-kept seat (undo_of t.setup.processes t.history name) t _
-      (λ undone. becomes _ (redo_of t seat ++ undone.0 ∷ []) refl (omega (arith, length-append (redo_of t seat) (undone.0 ∷ []))))
+      (λ undone. becomes _ (redo_of t seat ++ undone.0 ∷ []) refl (omega (arith, length-append (redo_of t seat) (undone.0 ∷ []))) (omega arith))
 
   rollback-spends : (name : StepId) → Spends seat t (rollback t seat name)
   rollback-spends name =
-      granted-kept seat (rollback_of t.setup.processes t.history name) t _
-      (λ removed. becomes _ (redo_of t seat ++ removed.0) refl (omega (arith, length-append (redo_of t seat) removed.0)))
+      granted-where seat (rollback_of t.setup.processes t.history name) t _
+      (λ removed is. becomes _ (redo_of t seat ++ removed.0) refl (omega (arith, length-append (redo_of t seat) removed.0))
+      (removed-one t.setup.processes t.history name removed is))
 
   redo-spends : Spends seat t (outcome rules t seat Redo)
   unfolding outcome
   redo-spends =
       found-kept seat (last_of (redo_of t seat)) NothingToRedo t _
       (λ e. granted-kept seat (rules.again t.history e) t (redone rules t seat)
-      (λ taken. becomes _ (without_last (redo_of t seat)) refl (omega (arith, length-take (length (redo_of t seat) - 1) (redo_of t seat)))))
+      (λ taken. becomes _ (without_last (redo_of t seat)) refl (omega (arith, length-take (length (redo_of t seat) - 1) (redo_of t seat))) (omega arith)))
 
   forget-spends : Spends seat t (outcome rules t seat Forget)
   unfolding outcome
-  forget-spends = becomes _ [] refl (omega arith)
+  forget-spends = becomes _ [] refl (omega arith) (omega arith)
 
   why-spends : (name : StepId) → Spends seat t (why t name)
-  why-spends name = granted-kept seat (causes_of t.setup.processes t.history name) t _ (λ causes. kept seat t _ refl)
+  why-spends name = granted-kept seat (causes_of t.setup.processes t.history name) t _ (λ causes. kept seat t _ refl (omega arith))
 
   shown-spends : (v : View) → Spends seat t (shown rules t v)
-  shown-spends (view.Proc p) = found-kept seat (rules.process t.history p) NoProcess t _ (λ process. kept seat t _ refl)
-  shown-spends view.Regs = kept seat t _ refl
-  shown-spends view.Mail = kept seat t _ refl
-  shown-spends view.History = kept seat t _ refl
+  shown-spends (view.Proc p) = found-kept seat (rules.process t.history p) NoProcess t _ (λ process. kept seat t _ refl (omega arith))
+  shown-spends view.Regs = kept seat t _ refl (omega arith)
+  shown-spends view.Mail = kept seat t _ refl (omega arith)
+  shown-spends view.History = kept seat t _ refl (omega arith)
 
   step-spends : (p : ℕ) (act : Act) → Spends seat t (step rules t p act)
-  step-spends p act = granted-kept seat (rules.step t.history p act) t (stepped rules t p) (λ e. kept seat t _ refl)
+  step-spends p act = granted-kept seat (rules.step t.history p act) t (stepped rules t p) (λ e. kept seat t _ refl (omega arith))
 
   pub spends : (command : Command) → Spends seat t (outcome rules t seat command)
   unfolding outcome
   spends (Step p act) = step-spends p act
   spends (Auto p) = granted-kept seat (choice rules t.history p) t _ (λ act. unpaused-kept seat t.pause t _ (step-spends p act))
-  spends (Lose s m p) = granted-kept seat (rules.lose t.history (message_name s m) p) t (lost t) (λ e. kept seat t _ refl)
+  spends (Lose s m p) = granted-kept seat (rules.lose t.history (message_name s m) p) t (lost t) (λ e. kept seat t _ refl (omega arith))
   spends (Undo p k) = undo-spends (name_of (named.Step p k))
   spends (UndoLost s m p) = undo-spends (name_of (named.Lost s m p))
   spends Redo = redo-spends
@@ -200,11 +193,11 @@ module _ (rules : Rules) (t : State) (seat : ℕ) (low : seat - 1 < length t.red
   spends (WhyLost s m p) = why-spends (name_of (named.Lost s m p))
   spends (Break stop) =
       unless-kept seat (names_none_of t.setup.processes stop) NoProcess t _
-      (unless-kept seat (nat_le 99 (length t.stops)) BreakLimit t _ (kept seat t _ refl))
-  spends (Unbreak number) = unless-kept seat (not (is_some (lookup (nat_eq number) t.stops))) NoBreak t _ (kept seat t _ refl)
-  spends Resume = kept seat t _ refl
+      (unless-kept seat (nat_le 99 (length t.stops)) BreakLimit t _ (kept seat t _ refl (omega arith)))
+  spends (Unbreak number) = unless-kept seat (not (is_some (lookup (nat_eq number) t.stops))) NoBreak t _ (kept seat t _ refl (omega arith))
+  spends Resume = kept seat t _ refl (omega arith)
   spends (Show v) = shown-spends v
-  spends Decisions = kept seat t _ refl
+  spends Decisions = kept seat t _ refl (omega arith)
 
 -- ---- what is promised stays in memory
 
@@ -227,7 +220,7 @@ pub HasRoom-next : (n places places' : ℕ) (rooms : List ℕ) (seat : ℕ) (was
 HasRoom-next n places places' rooms seat was next o room low spends after long grown more =
     let seats = room.seats in
     let many = length-map rooms (λ r. r - 1) in
-    let one = cost-one o.reply in
+    let one = spends.one in
     let own = ap (λ (t : State). length (redo_of t seat)) after in
     record {
       seats = length-set (map (λ r. r - 1) rooms) (seat - 1) _ ∙ many ∙ seats ∙ sym long;

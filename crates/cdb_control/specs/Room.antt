@@ -15,9 +15,9 @@ is_spared (Unbreak number) = true
 is_spared Resume = true
 is_spared _ = false
 
--- what a command takes of its own seat's room: a rollback as many as it took back, which is one at least; all else one
+-- what a command takes of its own seat's room: a rollback as many as it took back, all else one
 abbrev pub cost : Answer → ℕ
-cost (RolledBack count) = max 1 count
+cost (RolledBack count) = count
 cost _ = 1
 
 -- the room of a seat

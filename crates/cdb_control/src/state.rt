@@ -235,6 +235,19 @@ impl<R: Runs> ControlState<R> {
         self.run.view(p)?.decision
     }
 
+    /// Both, asked at once.
+    fn decision_and_round_of(&self, p: u32) -> (Option<Val>, u32)
+        ensures decision { result.0
+            ≡ decision_of (R.rules self.now.state.setup) self.now.state.history p }
+        ensures round { result.1
+            ≡ round_of (R.rules self.now.state.setup) self.now.state.history p }
+    {
+        match self.run.view(p) {
+            Some(process) => (process.decision, process.round),
+            None => (None, 0),
+        }
+    }
+
     /// The decision that an event which stands last gave its process.
     fn decides(&self, event: &Event) -> Option<Val>
         ensures { result
@@ -273,11 +286,12 @@ impl<R: Runs> ControlState<R> {
         let round_before = self.round_of(p);
         match self.run.step(alloc, p, act)? {
             Ok(event) => {
+                let (decides, round_after) = self.decision_and_round_of(p);
                 let taken = Taken {
                     event,
-                    decides: self.decision_of(p),
+                    decides,
                     round_before,
-                    round_after: self.round_of(p),
+                    round_after,
                 };
                 let paused = self.fire(&taken);
                 Ok(Reply::Stepped {

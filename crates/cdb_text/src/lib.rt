@@ -18,4 +18,7 @@ mod words;
 
 pub use fault::LineFault;
 pub use line::parse_line;
-pub use text::{push_causes, push_decides, push_event, push_payload, push_value, reply_text};
+pub use text::{
+    push_causes, push_decides, push_event, push_number, push_payload, push_reply, push_value,
+    reply_text,
+};

@@ -1,6 +1,6 @@
 //! The texts of replies.
 
-ghost use Rattle.std.specs.Prelude.{◌≡◌, ◌++◌, IfOk, codes};
+ghost use Rattle.std.specs.Prelude.{◌≡◌, ◌++◌, IfOk, codes, decimal};
 ghost use Rattle.cdb_text.specs.Pushes.{Pushes};
 ghost use Rattle.cdb_control.specs.Answer.{told};
 ghost use Rattle.cdb_text.specs.Events.{event_text};
@@ -10,6 +10,7 @@ ghost use Rattle.cdb_text.specs.Texts.{decides_text, break_text, text_of};
 
 mod event;
 mod name;
+mod number;
 mod refusal;
 mod report;
 
@@ -17,10 +18,14 @@ use cdb_base::{Event, NoMemory, StepId, Val};
 use cdb_control::Reply;
 pub use event::push_event;
 use name::push_name;
+pub use number::push_number;
 use refusal::push_refusal;
 pub use report::{push_causes, push_payload, push_value};
 use report::{push_decisions, push_history, push_mail, push_process, push_registers};
 use std::alloc::{AllocError, Global};
+
+/// As many bytes as all replies but reports have, so that their texts need one allocation.
+const MOST_REPLIES: usize = 64;
 
 /// Adds ` decides V` at the end of a text where a decision was given, and nothing where none was. Only
 /// out of memory is an error.
@@ -29,8 +34,8 @@ pub fn push_decides(text: &mut String, decides: Option<Val>) -> Result<(), Alloc
 {
     match decides {
         Some(value) => {
-            let number = value.number();
-            write!(text, " decides {number}")
+            text.push_str(" decides ")?;
+            push_number(text, value.number())
         }
         None => Ok(()),
     }
@@ -40,7 +45,10 @@ fn push_break(text: &mut String, paused: Option<u32>) -> Result<(), AllocError>
     ensures { Pushes result text.old text.new (break_text paused) }
 {
     match paused {
-        Some(number) => write!(text, " break {number}"),
+        Some(number) => {
+            text.push_str(" break ")?;
+            push_number(text, number)
+        }
         None => Ok(()),
     }
 }
@@ -63,7 +71,18 @@ fn push_because(text: &mut String, name: StepId, causes: &[StepId]) -> Result<()
     push_causes(text, causes)
 }
 
-fn push_reply(text: &mut String, reply: &Reply) -> Result<(), AllocError>
+/// A word and a number, in a line.
+fn push_counted(text: &mut String, words: &str, number: u32) -> Result<(), AllocError>
+    ensures { Pushes result text.old text.new (words.now ++ decimal number ++ codes "\n") }
+{
+    text.push_str(words)?;
+    push_number(text, number)?;
+    text.push_str("\n")
+}
+
+/// Adds the text of a reply at the end of a text: its lines, each of which ends with byte 10. Only out of memory
+/// is an error.
+pub fn push_reply(text: &mut String, reply: &Reply) -> Result<(), AllocError>
     ensures { Pushes result text.old text.new (text_of (told reply.now)) }
 {
     match reply {
@@ -86,15 +105,15 @@ fn push_reply(text: &mut String, reply: &Reply) -> Result<(), AllocError>
             push_taken(text, event, *decides)?;
             text.push_str("\n")
         }
-        Reply::RolledBack(count) => writeln!(text, "rolled back {count}"),
+        Reply::RolledBack(count) => push_counted(text, "rolled back ", *count),
         Reply::Because(name, causes) => {
             push_because(text, *name, causes.as_slice())?;
             text.push_str("\n")
         }
-        Reply::BreakSet(number) => writeln!(text, "break {number}"),
-        Reply::BreakGone(number) => writeln!(text, "unbreak {number}"),
+        Reply::BreakSet(number) => push_counted(text, "break ", *number),
+        Reply::BreakGone(number) => push_counted(text, "unbreak ", *number),
         Reply::Resumed => text.push_str("resumed\n"),
-        Reply::Forgot(count) => writeln!(text, "forgot {count}"),
+        Reply::Forgot(count) => push_counted(text, "forgot ", *count),
         Reply::Proc(view) => push_process(text, view),
         Reply::Regs(cells) => push_registers(text, cells.as_slice()),
         Reply::Mail(copies) => push_mail(text, copies.as_slice()),
@@ -111,7 +130,7 @@ fn push_reply(text: &mut String, reply: &Reply) -> Result<(), AllocError>
 pub fn reply_text(alloc: Global, reply: &Reply) -> Result<Vec<u8>, NoMemory>
     ensures { IfOk result (λ bytes. bytes.items ≡ text_of (told reply.now)) }
 {
-    let mut text = String::new(alloc);
+    let mut text = String::with_capacity(alloc, MOST_REPLIES)?;
     push_reply(&mut text, reply)?;
     Ok(text.into_bytes())
 }

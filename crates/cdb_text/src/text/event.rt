@@ -4,6 +4,7 @@ ghost use Rattle.cdb_text.specs.Pushes.{Pushes};
 ghost use Rattle.cdb_text.specs.Events.{kind_text, event_text};
 
 use super::name::{push_loss, push_message, push_register, push_step};
+use super::number::push_number;
 use cdb_base::{Event, Kind, MsgName, Proc};
 use std::alloc::AllocError;
 
@@ -12,8 +13,8 @@ fn push_kind(text: &mut String, p: Proc, kind: Kind) -> Result<(), AllocError>
 {
     match kind {
         Kind::Query(leader) => {
-            let number = leader.number();
-            write!(text, "query {number}")
+            text.push_str("query ")?;
+            push_number(text, u32::from(leader.number()))
         }
         Kind::Send(m) => {
             text.push_str("send ")?;

@@ -4,22 +4,24 @@ ghost use Rattle.cdb_text.specs.Pushes.{Pushes};
 ghost use Rattle.cdb_text.specs.Names.{step_text, message_text, loss_text};
 ghost use Rattle.cdb_text.specs.Names.{name_text, register_text};
 
+use super::number::push_number;
 use cdb_base::{CopyName, MsgName, Proc, Reg, StepId, StepName};
 use std::alloc::AllocError;
 
 pub(super) fn push_step(text: &mut String, p: Proc, k: u16) -> Result<(), AllocError>
     ensures { Pushes result text.old text.new (step_text p k) }
 {
-    let p = p.number();
-    write!(text, "{p}.{k}")
+    push_number(text, u32::from(p.number()))?;
+    text.push_str(".")?;
+    push_number(text, u32::from(k))
 }
 
 pub(super) fn push_message(text: &mut String, name: MsgName) -> Result<(), AllocError>
     ensures { Pushes result text.old text.new (message_text name.s name.m) }
 {
-    let s = name.s.number();
-    let m = name.m;
-    write!(text, "{s}#{m}")
+    push_number(text, u32::from(name.s.number()))?;
+    text.push_str("#")?;
+    push_number(text, u32::from(name.m))
 }
 
 pub(super) fn push_loss(text: &mut String, copy: CopyName) -> Result<(), AllocError>
@@ -27,8 +29,8 @@ pub(super) fn push_loss(text: &mut String, copy: CopyName) -> Result<(), AllocEr
 {
     text.push_str("lost ")?;
     push_message(text, copy.msg)?;
-    let to = copy.to.number();
-    write!(text, " to {to}")
+    text.push_str(" to ")?;
+    push_number(text, u32::from(copy.to.number()))
 }
 
 pub(super) fn push_name(text: &mut String, name: StepId) -> Result<(), AllocError>
@@ -45,8 +47,8 @@ pub(super) fn push_register(text: &mut String, register: Reg) -> Result<(), Allo
 {
     match register {
         Reg::R(p) => {
-            let number = p.number();
-            write!(text, "r{number}")
+            text.push_str("r")?;
+            push_number(text, u32::from(p.number()))
         }
         Reg::Dec => text.push_str("dec"),
     }

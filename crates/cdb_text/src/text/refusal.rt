@@ -5,6 +5,7 @@ ghost use Rattle.cdb_text.specs.Pushes.{Pushes};
 ghost use Rattle.cdb_text.specs.Refusals.{refusal_name, refusal_detail, refusal_text};
 
 use super::name::push_name;
+use super::number::push_number;
 use cdb_base::Refusal;
 use std::alloc::AllocError;
 
@@ -42,7 +43,10 @@ fn push_detail(text: &mut String, refusal: &Refusal) -> Result<(), AllocError>
             text.push_str(" ")?;
             push_name(text, *name)
         }
-        Refusal::Paused(number) => write!(text, " {number}"),
+        Refusal::Paused(number) => {
+            text.push_str(" ")?;
+            push_number(text, *number)
+        }
         _ => Ok(()),
     }
 }
@@ -50,8 +54,9 @@ fn push_detail(text: &mut String, refusal: &Refusal) -> Result<(), AllocError>
 pub(super) fn push_refusal(text: &mut String, refusal: &Refusal) -> Result<(), AllocError>
     ensures { Pushes result text.old text.new (refusal_text refusal.now) }
 {
-    let number = refusal.number();
-    let name = refusal_name(refusal);
-    write!(text, "refused {number} {name}")?;
+    text.push_str("refused ")?;
+    push_number(text, u32::from(refusal.number()))?;
+    text.push_str(" ")?;
+    text.push_str(refusal_name(refusal))?;
     push_detail(text, refusal)
 }

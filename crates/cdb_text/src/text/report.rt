@@ -1,6 +1,6 @@
 //! The texts of what is shown: processes, registers, mail, history and decisions.
 
-ghost use Rattle.std.specs.Prelude.{◌≡◌};
+ghost use Rattle.std.specs.Prelude.{◌≡◌, ◌++◌, codes, decimal};
 ghost use Rattle.cdb_text.specs.Pushes.{Pushes};
 ghost use Rattle.std.specs.List.{flat_map};
 ghost use Rattle.cdb_text.specs.Reports.{value_text, payload_text, machine_letter, life_word};
@@ -11,6 +11,7 @@ ghost use Rattle.cdb_text.specs.Reports.{register_line, decision_line, registers
 
 use super::event::push_event;
 use super::name::{push_message, push_name};
+use super::number::push_number;
 use cdb_base::{Cell, Event, MsgName, Payload, Proc, StepId, Val};
 use cdb_control::ProcView;
 use std::alloc::AllocError;
@@ -20,12 +21,18 @@ pub fn push_value(text: &mut String, value: Option<Val>) -> Result<(), AllocErro
     ensures { Pushes result text.old text.new (value_text value) }
 {
     match value {
-        Some(value) => {
-            let number = value.number();
-            write!(text, "{number}")
-        }
+        Some(value) => { push_number(text, value.number()) }
         None => text.push_str("none"),
     }
+}
+
+/// A phase and its round, each with a space after it.
+fn push_phase(text: &mut String, phase: &str, round: u32) -> Result<(), AllocError>
+    ensures { Pushes result text.old text.new (phase.now ++ decimal round ++ codes " ") }
+{
+    text.push_str(phase)?;
+    push_number(text, round)?;
+    text.push_str(" ")
 }
 
 /// Adds a payload at the end of a text, as `show mail` prints it. Only out of memory is an error.
@@ -34,17 +41,18 @@ pub fn push_payload(text: &mut String, payload: &Payload) -> Result<(), AllocErr
 {
     match *payload {
         Payload::P1 { round, est, lead } => {
-            let est = est.number();
-            let lead = lead.number();
-            write!(text, "p1 {round} {est} {lead}")
+            push_phase(text, "p1 ", round)?;
+            push_number(text, est.number())?;
+            text.push_str(" ")?;
+            push_number(text, u32::from(lead.number()))
         }
         Payload::P2 { round, aux } => {
-            write!(text, "p2 {round} ")?;
+            push_phase(text, "p2 ", round)?;
             push_value(text, aux)
         }
         Payload::D { est } => {
-            let est = est.number();
-            write!(text, "d {est}")
+            text.push_str("d ")?;
+            push_number(text, est.number())
         }
     }
 }
@@ -138,8 +146,9 @@ fn push_copy(
 ) -> Result<(), AllocError>
     ensures { Pushes result text.old text.new (copy_line (receiver, name, payload.now)) }
 {
-    let receiver = receiver.number();
-    write!(text, "to {receiver} ")?;
+    text.push_str("to ")?;
+    push_number(text, u32::from(receiver.number()))?;
+    text.push_str(" ")?;
     push_message(text, name)?;
     text.push_str(" ")?;
     push_payload(text, payload)?;
@@ -163,9 +172,10 @@ fn push_each_decision(text: &mut String, decisions: &[(Proc, Val)]) -> Result<()
     ensures { Pushes result text.old text.new (flat_map decision_text decisions.now) }
 {
     for (p, value) in decisions {
-        let p = p.number();
-        let value = value.number();
-        write!(text, " {p}={value}")?;
+        text.push_str(" ")?;
+        push_number(text, u32::from(p.number()))?;
+        text.push_str("=")?;
+        push_number(text, value.number())?;
     }
     Ok(())
 }

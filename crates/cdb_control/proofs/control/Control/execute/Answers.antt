@@ -1,4 +1,4 @@
-use Rattle.std.proofs.Common.{ℕ, ◌+◌, ◌-◌, ◌<◌, arith, ap, ◌∙◌, sym, subst, List, [], ◌∷◌, ◌++◌, length, vec_len, vec_capacity, true≢false}
+use Rattle.std.proofs.Common.{ℕ, ◌+◌, ◌-◌, ◌<◌, ◌≤◌, arith, ap, ◌∙◌, sym, subst, List, [], ◌∷◌, ◌++◌, length, vec_len, vec_capacity, true≢false}
 use Rattle.std.proofs.lemmas.List.{length-map}
 use Rattle.cdb_control.specs.Answer.{told, is_refused}
 use Rattle.cdb_control.specs.declared.control.Entry.{Entry}
@@ -9,7 +9,7 @@ use Rattle.cdb_control.specs.Room.{HasRoom, cost, lowered, rooms_at}
 use Rattle.cdb_control.specs.State.{State}
 use Rattle.cdb_control.proofs.Along.{obey-setup, IsReplayed-next}
 use Rattle.cdb_control.proofs.Headline.{replayed-headline}
-use Rattle.cdb_control.proofs.Room.{HasRoom-kept, HasRoom-next, cost-one, rooms-lowered, spends}
+use Rattle.cdb_control.proofs.Room.{HasRoom-kept, HasRoom-next, rooms-lowered, spends}
 use Rattle.cdb_control.proofs.control.Control.execute.Goals as goal
 
 pub invariant_of-self-2 : goal.invariant_of-self-2
@@ -34,14 +34,16 @@ invariant_of-self-2 g c =
     let many = length-map marks (λ mark. mark - n) in
     let seats = was.1.seats in
     let done = outcome rules i.state.state seat c.args.command in
+    let spent = spends rules i.state.state seat low c.args.command in
+    let one_at_least = subst (λ (o : Outcome). 1 ≤ cost o.reply) (sym c.in-Ok.ensures.ok) spent.one in
     let rooms =
     ap (λ (l : List ℕ). rooms_at (n + 1) l) c.lower.ensures
-    ∙ sym (rooms-lowered marks (seat - 1) n (cost (told c.in-Ok.reply)) (cost-one (told c.in-Ok.reply)) (omega (arith, many, seats, low)))
+    ∙ sym (rooms-lowered marks (seat - 1) n (cost (told c.in-Ok.reply)) one_at_least (omega (arith, many, seats, low)))
     ∙ ap (λ (o : Outcome). lowered (rooms_at n marks) seat o.reply) c.in-Ok.ensures.ok in
     let more = c.reserve.ensures.capacity in
     let room =
     HasRoom-next n (vec_capacity i.journal) (vec_capacity c.reserve.new.self) (rooms_at n marks) seat i.state next done was.1 low
-    (spends rules i.state.state seat low c.args.command) (sym after) (replayed.lists ∙ sym lists) c.perform.ensures.capacities more in
+    spent (sym after) (replayed.lists ∙ sym lists) c.perform.ensures.capacities more in
     let long = c.push_entry.ensures.len ∙ ap (λ (m : ℕ). m + 1) c.reserve.ensures.len in (
       replayed,
       subst (λ (m : ℕ). HasRoom m (vec_capacity c.push_entry.new.journal) (rooms_at m c.lower.new.marks.items) next) (sym long)
@@ -67,10 +69,13 @@ returns-clause-journal g c =
     let many = length-map marks (λ mark. mark - n) in
     let seats = was.1.seats in
     let long = c.push_entry.ensures.len ∙ ap (λ (m : ℕ). m + 1) c.reserve.ensures.len in
+    let low : seat - 1 < length i.state.state.redo = omega (arith, high, to_last, from_one, lists) in
+    let spent = spends rules i.state.state seat low c.args.command in
+    let one_at_least = subst (λ (o : Outcome). 1 ≤ cost o.reply) (sym c.in-Ok.ensures.ok) spent.one in
     let rooms =
     ap (λ (m : ℕ). rooms_at m c.lower.new.marks.items) long
     ∙ ap (λ (l : List ℕ). rooms_at (n + 1) l) c.lower.ensures
-    ∙ sym (rooms-lowered marks (seat - 1) n (cost (told c.in-Ok.reply)) (cost-one (told c.in-Ok.reply)) (omega (arith, many, seats, high, to_last, from_one, lists)))
+    ∙ sym (rooms-lowered marks (seat - 1) n (cost (told c.in-Ok.reply)) one_at_least (omega (arith, many, seats, high, to_last, from_one, lists)))
     ∙ ap (λ (o : Outcome). lowered (rooms_at n marks) seat o.reply) c.in-Ok.ensures.ok
     ∙ ap (λ (t : State). lowered (rooms_at n marks) seat (answer rules t seat c.args.command)) (sym was.0.replayed) in
     (λ j. let v : Journaled = record { setup = same j; seats = i.seats; journal = added j; rooms = rooms j } in v)

@@ -1,0 +1,15 @@
+//! The texts of numbers.
+
+ghost use Rattle.std.specs.Prelude.{decimal};
+ghost use Rattle.cdb_text.specs.Pushes.{Pushes};
+
+use itoa::Buffer;
+use std::alloc::AllocError;
+
+/// Adds a number in decimal at the end of a text. Only out of memory is an error.
+pub fn push_number(text: &mut String, number: u32) -> Result<(), AllocError>
+    ensures { Pushes result text.old text.new (decimal number) }
+{
+    let mut digits = Buffer::new();
+    text.push_str(digits.format(number))
+}
