@@ -1,5 +1,5 @@
 -- The command line of the program, and what its words ask for.
-use Rattle.std.specs.Prelude.{codes, Some, true, pos}
+use Rattle.std.specs.Prelude.{codes, fold, List, [], ◌∷◌, Some, true, pos}
 use Rattle.clap.specs.Lexer.{usize_max}
 use Rattle.clap.specs.Simple.{on_top}
 use Rattle.clap.specs.Words.{App, Rule, Text, new_app, new_rule, with_rule, with_subcommand}
@@ -13,18 +13,44 @@ required_rule id = record (new_rule id) { required = true }
 abbrev pub turns_rule : Rule
 turns_rule = record (required_rule (codes "TURNS")) { parser = Some (vp.Signed (pos 0) (pos 99999)) }
 
--- one value or more
-abbrev pub scripts_rule : Rule
-scripts_rule = record (required_rule (codes "SCRIPT")) { range = Some (record { start_inclusive = 1; end_inclusive = usize_max }) }
+-- a number of 1 to 999,999, which may be left out
+abbrev pub number_rule : Text → Rule
+number_rule id = record (new_rule id) { parser = Some (vp.Signed (pos 1) (pos 999999)) }
+
+-- one value or more, as many as a machine's word counts
+abbrev pub several : Rule → Rule
+several rule = record rule { range = Some (record { start_inclusive = 1; end_inclusive = usize_max }) }
+
+-- a subcommand with these arguments, in their places
+abbrev pub with_arguments : Text → List Rule → App
+with_arguments name = fold with_rule (new_app name)
 
 -- `play SETUP SCRIPT`
 abbrev pub play_app : App
-play_app = with_rule (with_rule (new_app (codes "play")) (required_rule (codes "SETUP"))) (required_rule (codes "SCRIPT"))
+play_app = with_arguments (codes "play") (required_rule (codes "SETUP") ∷ required_rule (codes "SCRIPT") ∷ [])
 
 -- `race SETUP TURNS SCRIPT..`
 abbrev pub race_app : App
-race_app = with_rule (with_rule (with_rule (new_app (codes "race")) (required_rule (codes "SETUP"))) turns_rule) scripts_rule
+race_app = with_arguments (codes "race") (required_rule (codes "SETUP") ∷ turns_rule ∷ several (required_rule (codes "SCRIPT")) ∷ [])
 
--- the program with its version, with the two subcommands and none for help
+-- `explain SETUP SCRIPT P [K]`
+abbrev pub explain_app : App
+explain_app = with_arguments (codes "explain")
+    (required_rule (codes "SETUP") ∷ required_rule (codes "SCRIPT") ∷ record (number_rule (codes "P")) { required = true } ∷ number_rule (codes "K") ∷ [])
+
+-- `draw SETUP SCRIPT [P [K]]`
+abbrev pub draw_app : App
+draw_app = with_arguments (codes "draw")
+    (required_rule (codes "SETUP") ∷ required_rule (codes "SCRIPT") ∷ number_rule (codes "P") ∷ number_rule (codes "K") ∷ [])
+
+-- `debug SETUP [SEAT..]`
+abbrev pub debug_app : App
+debug_app = with_arguments (codes "debug") (required_rule (codes "SETUP") ∷ several (new_rule (codes "SEAT")) ∷ [])
+
+-- the program with its version
+abbrev pub program_alone : App
+program_alone = on_top (λ s. record s { has_version = true; disable_help_subcommand = true }) (new_app (codes "revdbg"))
+
+-- the program with its subcommands, and none for help
 unfoldable pub program : App
-program = with_subcommand (with_subcommand (on_top (λ s. record s { has_version = true; disable_help_subcommand = true }) (new_app (codes "revdbg"))) play_app.top) race_app.top
+program = fold (λ app sub. with_subcommand app sub.top) program_alone (play_app ∷ race_app ∷ explain_app ∷ draw_app ∷ debug_app ∷ [])
