@@ -212,7 +212,7 @@ play_taken name setup script a b =
     ∙ and_from _ _ (play_level (setup ∷ script ∷ []) ∙ play_passes setup script a b) (play_above name (setup ∷ script ∷ [])))
 
 -- the scripts pass one after the other
-all_texts_pass : (texts : List Text) → list_all (λ text. accepts false vp.String text) texts ≡ true
+pub all_texts_pass : (texts : List Text) → list_all (λ text. accepts false vp.String text) texts ≡ true
 all_texts_pass [] = refl
 all_texts_pass (text ∷ texts) = all_texts_pass texts
 

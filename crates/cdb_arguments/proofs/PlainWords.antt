@@ -3,6 +3,7 @@ use Rattle.std.proofs.Common.{◌≡◌, ◌≢◌, ◌∙◌, ℕ, ◌==◌, �
 use Rattle.std.specs.Prelude.{if◌then◌else◌, option_and_then}
 use Rattle.std.specs.Option.{option_map_or}
 use Rattle.std.specs.Str.{bytes_eq}
+use Rattle.std.specs.Str.Parse.{starts_with_minus}
 use Rattle.std.proofs.lemmas.Bool.Decides.{eqb_tells}
 use Rattle.clap.specs.Lexer.{long_of, long_of_rest, short_of, short_of_rest, strip_byte}
 use Rattle.clap.specs.Simple.{Shape}
@@ -76,3 +77,7 @@ is_no_refused_option shape word held plain =
     ap (λ dashes. dashes || flag_word_passes shape.rules shape.args_override_self (long_of word) word held) (is_not_two_hyphens word plain)
     ∙ ap (λ long. flag_word_passes shape.rules shape.args_override_self long word held) (is_no_long_option word plain)
     ∙ ap (λ short. option_map_or (λ flags. bundle_passes shape.rules shape.args_override_self flags held) short true) (is_no_short_option word plain)
+
+pub is_no_minus : (text : Text) → IsPlain text → starts_with_minus text ≡ false
+is_no_minus [] plain = refl
+is_no_minus (first ∷ rest) plain = is_no_hyphen first plain

@@ -1,6 +1,6 @@
 //! Reading the words of the command line.
 
-ghost use Rattle.std.specs.Prelude.{◌≡◌, ◌∷◌, ℕ, List, IfOk, OnOk, IfErr, [], false, true, map, codes};
+ghost use Rattle.std.specs.Prelude.{◌≡◌, ◌∷◌, ℕ, List, Option, IfOk, OnOk, IfErr, [], false, true, map, codes};
 ghost use Rattle.clap.specs.Words.{Kinds, Text, HasKind, app_of, rule_of, fault_of, found_of, kind_of, rows_of, subcommand_of, subcommand_rows_of, takes};
 ghost use Rattle.clap.specs.declared.builder.command.Command.TheViews.{out-Command};
 ghost use Rattle.cdb_arguments.specs.CommandLine.{required_rule, turns_rule, number_rule, several, play_app, race_app, explain_app, draw_app, debug_app, program};
