@@ -1,5 +1,5 @@
 -- What clap makes of a word that is no option.
-use Rattle.std.proofs.Common.{◌≡◌, ◌≢◌, ◌∙◌, ℕ, ◌==◌, ◌&&◌, ◌||◌, Bool, true, false, List, [], ◌∷◌, Option, Some, None, refl, ap, inl, inr}
+use Rattle.std.proofs.Common.{◌≡◌, ◌≢◌, ◌∙◌, ℕ, ◌==◌, ◌||◌, true, false, List, [], ◌∷◌, Some, None, refl, ap, inl, inr}
 use Rattle.std.specs.Prelude.{if◌then◌else◌, option_and_then}
 use Rattle.std.specs.Option.{option_map_or}
 use Rattle.std.specs.Str.{bytes_eq}
@@ -7,8 +7,8 @@ use Rattle.std.specs.Str.Parse.{starts_with_minus}
 use Rattle.std.proofs.lemmas.Bool.Decides.{eqb_tells}
 use Rattle.clap.specs.Lexer.{long_of, long_of_rest, short_of, short_of_rest, strip_byte}
 use Rattle.clap.specs.Simple.{Shape}
-use Rattle.clap.specs.Takes.{bundle_passes, flag_word_passes, other_passes, step_passes, turn_passes, word_passes}
-use Rattle.clap.specs.Walk.{Held, Rule, Text, Waiting, idle, option, positional, Step, value, trailing, Walk, walked, word_met, long_or_other, short_or_plain, after_step, arg_by_index, to_positional}
+use Rattle.clap.specs.Takes.{bundle_passes, flag_word_passes, other_passes}
+use Rattle.clap.specs.Walk.{Held, Rule, Text, Waiting, idle, option, positional, value, trailing, Walk, walked, word_met, long_or_other, short_or_plain, after_step, arg_by_index, to_positional}
 use Rattle.cdb_arguments.specs.Plain.{IsPlain}
 
 -- a first character that is no hyphen, as a test

@@ -1,5 +1,5 @@
 -- The requests of command lines whose texts are no options.
-use Rattle.std.proofs.Common.{◌≡◌, ◌≢◌, ◌∙◌, ◌≤◌, ℕ, Bool, true, false, List, [], ◌∷◌, Option, Some, None, refl, ap, sym, subst, codes, length, pos, arith, w64}
+use Rattle.std.proofs.Common.{◌≡◌, ◌∙◌, ◌≤◌, ℕ, true, false, List, [], ◌∷◌, Option, Some, None, refl, ap, sym, subst, codes, pos, arith, w64}
 use Rattle.std.specs.Prelude.{Result, IfOk, IfErr, unwrap_or}
 use Rattle.std.specs.Str.{bytes_eq}
 use Rattle.std.specs.Str.Parse.{digits_value, without_leading_plus}
@@ -10,13 +10,12 @@ use Rattle.std.proofs.lemmas.Option.{none-some}
 use Rattle.clap.specs.Values.{IsSignedIn}
 use Rattle.cdb_arguments.proofs.PlainWords.{is_no_minus}
 use Rattle.std.proofs.lemmas.Result.{IfOk-weaker}
-use Rattle.clap.specs.ValueTests.{accepts}
-use Rattle.clap.specs.Words.{Row, Text, first_of, all_of, subcommand_of, takes}
+use Rattle.clap.specs.Words.{Row, Text, first_of, subcommand_of, takes}
 use Rattle.clap.specs.declared.builder.value_parser.ValueParser.TheVariants as vp
 use Rattle.clap.proofs.ValueTestLemmas.{Accepts-accepts}
-use Rattle.cdb_arguments.specs.Asking.{Asks, IsAnswer, IsPlayOf, IsRaceOf, IsExplainOf, IsDrawOf, IsDebugOf, IsTurns, IsNumber, IsNumberOf, text_at, texts, texts_at}
+use Rattle.cdb_arguments.specs.Asking.{Asks, IsAnswer, IsPlayOf, IsRaceOf, IsExplainOf, IsDrawOf, IsDebugOf, IsTurns, IsNumber, IsNumberOf, text_at, texts_at}
 use Rattle.cdb_arguments.specs.CommandLine.{program}
-use Rattle.cdb_arguments.specs.Plain.{IsNameAlone, IsNumberOfTurns, IsPlain, IsPlayLine, IsRaceLine, IsExplainLine, IsDrawLine, IsDebugLine, ArePlain}
+use Rattle.cdb_arguments.specs.Plain.{IsNameAlone, IsNumberOfTurns, IsPlain, IsPlayLine, IsRaceLine, IsExplainLine, IsDrawLine, IsDebugLine}
 use Rattle.cdb_arguments.specs.declared.request.AskFault.{AskFault}
 use Rattle.cdb_arguments.specs.declared.request.AskFault.TheVariants.{NoMemory}
 use Rattle.cdb_arguments.specs.declared.request.Asked.{Asked}
@@ -179,9 +178,8 @@ pub explain_answered : (words : List Text) (result : Result Asked AskFault) → 
     → (takes program words ≡ true → IfErr result (λ fault. fault ≡ NoMemory)) → (setup script : Text) (p : ℕ) (k : Option ℕ) → IsExplainLine words setup script p k
     → IsAnswer result (IsExplainOf setup script p k)
 explain_answered words result ok taken setup script p k line =
-    let (texts, writes, (name, is), plain) = line in
-    let its = explain_line name setup script texts p k writes plain in
-    let its_words : StepLine (codes "explain") setup script (Some p) k words = subst (StepLine (codes "explain") setup script (Some p) k) (sym is) its in (
+    let its = explain_line line.2.0.0 setup script line.0 p k line.1 line.2.1 in
+    let its_words : StepLine (codes "explain") setup script (Some p) k words = subst (StepLine (codes "explain") setup script (Some p) k) (sym line.2.0.1) its in (
       IfOk-weaker result _ _ (λ asked asks. explain_is setup script p k words asked its_words asks) ok,
       taken its_words.taken,
     )
@@ -190,9 +188,8 @@ pub draw_answered : (words : List Text) (result : Result Asked AskFault) → IfO
     → (takes program words ≡ true → IfErr result (λ fault. fault ≡ NoMemory)) → (setup script : Text) (p k : Option ℕ) → IsDrawLine words setup script p k
     → IsAnswer result (IsDrawOf setup script p k)
 draw_answered words result ok taken setup script p k line =
-    let (texts, writes, (name, is), plain) = line in
-    let its = draw_line name setup script texts p k writes plain in
-    let its_words : StepLine (codes "draw") setup script p k words = subst (StepLine (codes "draw") setup script p k) (sym is) its in (
+    let its = draw_line line.2.0.0 setup script line.0 p k line.1 line.2.1 in
+    let its_words : StepLine (codes "draw") setup script p k words = subst (StepLine (codes "draw") setup script p k) (sym line.2.0.1) its in (
       IfOk-weaker result _ _ (λ asked asks. draw_is setup script p k words asked its_words asks) ok,
       taken its_words.taken,
     )

@@ -1,5 +1,5 @@
 -- What clap makes of the lines of an explanation and of a picture, whose last texts may be left out.
-use Rattle.std.proofs.Common.{◌≡◌, ◌∙◌, ◌≤◌, ℕ, true, List, [], ◌∷◌, Option, Some, None, refl, ap, sym, subst, codes, pos, arith, w64}
+use Rattle.std.proofs.Common.{◌≡◌, ◌∙◌, ◌≤◌, ℕ, true, false, List, [], ◌∷◌, Option, Some, None, refl, ap, sym, subst, codes, pos, arith, w64}
 use Rattle.std.specs.Prelude.{fold, unwrap_or, slice_get}
 use Rattle.std.specs.Str.Parse.{digits_value, without_leading_plus}
 use Rattle.std.proofs.lemmas.Int.{fits_signed_from_abs}
@@ -13,7 +13,7 @@ use Rattle.clap.specs.declared.builder.value_parser.ValueParser.TheVariants as v
 use Rattle.clap.proofs.OnLiterals.{clap_on_literals}
 use Rattle.clap.proofs.ValueTestLemmas.{Accepts-accepts}
 use Rattle.cdb_arguments.specs.CommandLine.{program}
-use Rattle.cdb_arguments.specs.Plain.{IsPlain, ArePlain, Writes, WritesOption, WritesStep}
+use Rattle.cdb_arguments.specs.Plain.{IsPlain, ArePlain, Writes, WritesStep}
 use Rattle.cdb_arguments.proofs.PlainWords.{with_value, is_no_minus}
 use Rattle.cdb_arguments.proofs.Subcommands.{IsSub, line_asked, line_taken}
 use Rattle.cdb_arguments.proofs.Values.{ValuesPass, EndPasses}

@@ -13,9 +13,9 @@ required_rule id = record (new_rule id) { required = true }
 abbrev pub turns_rule : Rule
 turns_rule = record (required_rule (codes "TURNS")) { parser = Some (vp.Signed (pos 0) (pos 99999)) }
 
--- a number of 1 to 999,999, which may be left out
-abbrev pub number_rule : Text → Rule
-number_rule id = record (new_rule id) { parser = Some (vp.Signed (pos 1) (pos 999999)) }
+-- a number of 1 to 999,999
+abbrev pub numbered : Rule → Rule
+numbered rule = record rule { parser = Some (vp.Signed (pos 1) (pos 999999)) }
 
 -- one value or more, as many as a machine's word counts
 abbrev pub several : Rule → Rule
@@ -25,9 +25,13 @@ several rule = record rule { range = Some (record { start_inclusive = 1; end_inc
 abbrev pub with_arguments : Text → List Rule → App
 with_arguments name = fold with_rule (new_app name)
 
+-- a subcommand with the files of a setup and of a script, and then these arguments
+abbrev pub on_files : Text → List Rule → App
+on_files name more = with_arguments name (required_rule (codes "SETUP") ∷ required_rule (codes "SCRIPT") ∷ more)
+
 -- `play SETUP SCRIPT`
 abbrev pub play_app : App
-play_app = with_arguments (codes "play") (required_rule (codes "SETUP") ∷ required_rule (codes "SCRIPT") ∷ [])
+play_app = on_files (codes "play") []
 
 -- `race SETUP TURNS SCRIPT..`
 abbrev pub race_app : App
@@ -35,22 +39,24 @@ race_app = with_arguments (codes "race") (required_rule (codes "SETUP") ∷ turn
 
 -- `explain SETUP SCRIPT P [K]`
 abbrev pub explain_app : App
-explain_app = with_arguments (codes "explain")
-    (required_rule (codes "SETUP") ∷ required_rule (codes "SCRIPT") ∷ record (number_rule (codes "P")) { required = true } ∷ number_rule (codes "K") ∷ [])
+explain_app = on_files (codes "explain") (numbered (required_rule (codes "P")) ∷ numbered (new_rule (codes "K")) ∷ [])
 
 -- `draw SETUP SCRIPT [P [K]]`
 abbrev pub draw_app : App
-draw_app = with_arguments (codes "draw")
-    (required_rule (codes "SETUP") ∷ required_rule (codes "SCRIPT") ∷ number_rule (codes "P") ∷ number_rule (codes "K") ∷ [])
+draw_app = on_files (codes "draw") (numbered (new_rule (codes "P")) ∷ numbered (new_rule (codes "K")) ∷ [])
 
 -- `debug SETUP [SEAT..]`
 abbrev pub debug_app : App
 debug_app = with_arguments (codes "debug") (required_rule (codes "SETUP") ∷ several (new_rule (codes "SEAT")) ∷ [])
 
--- the program with its version
-abbrev pub program_alone : App
-program_alone = on_top (λ s. record s { has_version = true; disable_help_subcommand = true }) (new_app (codes "revdbg"))
+-- the program with these subcommands too
+abbrev pub with_subcommands : App → List App → App
+with_subcommands = fold (λ app sub. with_subcommand app sub.top)
 
--- the program with its subcommands, and none for help
+-- the program with its version and none for help, with the subcommands that print the replies of scripts
+abbrev pub playing : App
+playing = with_subcommands (on_top (λ s. record s { has_version = true; disable_help_subcommand = true }) (new_app (codes "revdbg"))) (play_app ∷ race_app ∷ [])
+
+-- the program with its subcommands
 unfoldable pub program : App
-program = fold (λ app sub. with_subcommand app sub.top) program_alone (play_app ∷ race_app ∷ explain_app ∷ draw_app ∷ debug_app ∷ [])
+program = with_subcommands playing (explain_app ∷ draw_app ∷ debug_app ∷ [])

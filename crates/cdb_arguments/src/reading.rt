@@ -1,9 +1,9 @@
 //! Reading the words of the command line.
 
 ghost use Rattle.std.specs.Prelude.{◌≡◌, ◌∷◌, ℕ, List, Option, IfOk, OnOk, IfErr, [], false, true, map, codes};
-ghost use Rattle.clap.specs.Words.{Kinds, Text, HasKind, app_of, rule_of, fault_of, found_of, kind_of, rows_of, subcommand_of, subcommand_rows_of, takes};
+ghost use Rattle.clap.specs.Words.{Kinds, Text, HasKind, app_of, new_rule, rule_of, fault_of, found_of, kind_of, rows_of, subcommand_of, subcommand_rows_of, takes};
 ghost use Rattle.clap.specs.declared.builder.command.Command.TheViews.{out-Command};
-ghost use Rattle.cdb_arguments.specs.CommandLine.{required_rule, turns_rule, number_rule, several, play_app, race_app, explain_app, draw_app, debug_app, program};
+ghost use Rattle.cdb_arguments.specs.CommandLine.{required_rule, turns_rule, numbered, several, on_files, play_app, race_app, explain_app, draw_app, debug_app, playing, program};
 ghost use Rattle.cdb_arguments.specs.Asking.{NamesOne, IsTurns, IsNumber, IsNumberAt, text_at, texts, texts_at, Asks, IsOfKinds, IsAnswer, IsPlayOf, IsRaceOf, IsExplainOf, IsDrawOf, IsDebugOf, ask_status_of, words_status};
 ghost use Rattle.cdb_arguments.specs.Plain.{IsNameAlone, IsPlayLine, IsRaceLine, IsExplainLine, IsDrawLine, IsDebugLine};
 
@@ -111,22 +111,21 @@ fn turns<'a>(alloc: Global) -> Arg<'a>
     turns.value_parser(clap::value_parser!(u32).range(0..100_000))
 }
 
-/// A number of 1 to 999,999, which may be left out.
-fn number<'a>(alloc: Global, name: &'a str, help: &'a str) -> Arg<'a>
-    ensures rule { rule_of result ≡ number_rule name.entry.now }
-    ensures local { result.global ≡ false }
+/// The argument takes a number of 1 to 999,999.
+fn numbered<'a>(arg: Arg<'a>) -> Arg<'a>
+    ensures rule { rule_of result ≡ numbered (rule_of arg.entry) }
+    ensures local { result.global ≡ arg.entry.global }
 {
-    let number = Arg::new(alloc, name).help(help);
-    number.value_parser(clap::value_parser!(u32).range(1..1_000_000))
+    arg.value_parser(clap::value_parser!(u32).range(1..1_000_000))
 }
 
 /// The step of a process, which may be left out.
 fn step<'a>(alloc: Global) -> Arg<'a>
-    ensures rule { rule_of result ≡ number_rule (codes "K") }
+    ensures rule { rule_of result ≡ numbered (new_rule (codes "K")) }
     ensures local { result.global ≡ false }
 {
     let help = "Which of its standing steps, 1 to 999999; left out: its last one";
-    number(alloc, "K", help)
+    numbered(Arg::new(alloc, "K").help(help))
 }
 
 /// The argument takes one text or more.
@@ -146,16 +145,24 @@ fn scripts<'a>(alloc: Global) -> Arg<'a>
     many(required(alloc, "SCRIPT", help))
 }
 
+/// A subcommand with the files of a setup and of a script.
+fn on_files<'a>(alloc: Global, name: &'a str, about: &'a str) -> Result<Command<'a>, AllocError>
+    ensures app { IfOk result (λ command. app_of command ≡ on_files name.entry.now []) }
+    ensures local { IfOk result (λ command. (out-Command command).has_globals ≡ false) }
+{
+    let command = Command::new(alloc, name)
+        .about(about)
+        .after_help(SETUPS)
+        .arg(setup(alloc))?;
+    command.arg(script(alloc))
+}
+
 /// `play SETUP SCRIPT`.
 fn play<'a>(alloc: Global) -> Result<Command<'a>, AllocError>
     ensures app { IfOk result (λ command. app_of command ≡ play_app) }
     ensures local { IfOk result (λ command. (out-Command command).has_globals ≡ false) }
 {
-    let command = Command::new(alloc, "play")
-        .about(PLAY)
-        .after_help(SETUPS)
-        .arg(setup(alloc))?;
-    command.arg(script(alloc))
+    on_files(alloc, "play", PLAY)
 }
 
 /// `race SETUP TURNS SCRIPT..`.
@@ -176,13 +183,9 @@ fn explain<'a>(alloc: Global) -> Result<Command<'a>, AllocError>
     ensures app { IfOk result (λ command. app_of command ≡ explain_app) }
     ensures local { IfOk result (λ command. (out-Command command).has_globals ≡ false) }
 {
-    let command = Command::new(alloc, "explain")
-        .about(EXPLAIN)
-        .after_help(SETUPS)
-        .arg(setup(alloc))?;
-    let command = command.arg(script(alloc))?;
-    let process = number(alloc, "P", "The process, 1 to 999999");
-    let command = command.arg(process.required(true))?;
+    let command = on_files(alloc, "explain", EXPLAIN)?;
+    let process = required(alloc, "P", "The process, 1 to 999999");
+    let command = command.arg(numbered(process))?;
     command.arg(step(alloc))
 }
 
@@ -191,13 +194,10 @@ fn draw<'a>(alloc: Global) -> Result<Command<'a>, AllocError>
     ensures app { IfOk result (λ command. app_of command ≡ draw_app) }
     ensures local { IfOk result (λ command. (out-Command command).has_globals ≡ false) }
 {
-    let command = Command::new(alloc, "draw")
-        .about(DRAW)
-        .after_help(SETUPS)
-        .arg(setup(alloc))?;
-    let command = command.arg(script(alloc))?;
+    let command = on_files(alloc, "draw", DRAW)?;
     let help = "The process whose step stands out, 1 to 999999; left out: all stands out";
-    let command = command.arg(number(alloc, "P", help))?;
+    let process = Arg::new(alloc, "P").help(help);
+    let command = command.arg(numbered(process))?;
     command.arg(step(alloc))
 }
 
@@ -215,10 +215,9 @@ fn debug<'a>(alloc: Global) -> Result<Command<'a>, AllocError>
     command.arg(many(Arg::new(alloc, "SEAT").help(help)))
 }
 
-/// The program with its subcommands.
-#[tactic(auto, unfolding(crate::specs::CommandLine::program))]
-fn program<'a>(alloc: Global) -> Result<Command<'a>, AllocError>
-    ensures { IfOk result (λ command. app_of command ≡ program) }
+/// The program with the subcommands that print the replies of scripts.
+fn playing<'a>(alloc: Global) -> Result<Command<'a>, AllocError>
+    ensures { IfOk result (λ command. app_of command ≡ playing) }
 {
     let command = Command::new(alloc, "revdbg")
         .version(VERSION)
@@ -226,7 +225,15 @@ fn program<'a>(alloc: Global) -> Result<Command<'a>, AllocError>
         .after_help(LINES)
         .disable_help_subcommand(true)
         .subcommand(play(alloc)?)?;
-    let command = command.subcommand(race(alloc)?)?;
+    command.subcommand(race(alloc)?)
+}
+
+/// The program with its subcommands.
+#[tactic(auto, unfolding(crate::specs::CommandLine::program))]
+fn program<'a>(alloc: Global) -> Result<Command<'a>, AllocError>
+    ensures { IfOk result (λ command. app_of command ≡ program) }
+{
+    let command = playing(alloc)?;
     let command = command.subcommand(explain(alloc)?)?;
     let command = command.subcommand(draw(alloc)?)?;
     command.subcommand(debug(alloc)?)
