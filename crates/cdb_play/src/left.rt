@@ -18,7 +18,7 @@ use crate::sink::Sink;
 use crate::source::{Source, read_up_to};
 use cdb_base::NoMemory;
 use cdb_base::limits::MAX_BYTES;
-use cdb_control::{CallFault, Command, Control, RunOfSetup, laws};
+use cdb_control::{CallFault, Command, Control, RunOfSetup};
 use cdb_setup::Setup;
 use std::alloc::Global;
 
@@ -78,12 +78,13 @@ pub fn left_by<R: Source>(
         script.new ≡ script.old }
     ensures read { FailsWhere R.failures (result ≡ Err PlayFault.Read) script.old script.new }
 {
-    // Its clause says that the headline holds of every journal.
-    laws::headline();
     let setup = Setup::read(alloc, setup)?;
     let bytes = read_up_to(alloc, script, MAX_BYTES + 1)?;
     let commands = commands_of(alloc, bytes.as_slice())?;
-    Ok(control_after(alloc, setup, commands.as_slice())?)
+    let control = control_after(alloc, setup, commands.as_slice())?;
+    // Its clause says that the headline holds of the journal.
+    let _journal = control.journal();
+    Ok(control)
 }
 
 /// Writes a text, in pieces of 65,536 bytes. After `Write` what was written is a beginning of the text, and
