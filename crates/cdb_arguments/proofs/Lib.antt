@@ -3,4 +3,7 @@ pub mod Given
 pub mod PlainWords
 pub mod Values
 pub mod Lines
+pub mod Subcommands
+pub mod StepLines
+pub mod SeatLines
 pub mod Requests

@@ -1,15 +1,14 @@
 -- What clap makes of the command lines of the program: of the name alone, of a play and of a race.
-use Rattle.std.proofs.Common.{◌≡◌, ◌∙◌, ◌≤◌, ℕ, Bool, true, false, List, [], ◌∷◌, ◌++◌, Option, Some, None, refl, ap, sym, codes, pos, length, subst, ◌⊎◌, inl, inr, arith}
-use Rattle.std.specs.Prelude.{fold, unwrap_or, option_map, slice_get, is_some, ◌&&◌, find}
+use Rattle.std.proofs.Common.{◌≡◌, ◌∙◌, ◌≤◌, true, false, List, [], ◌∷◌, ◌++◌, Some, None, refl, ap, sym, codes, pos, length, subst, ◌⊎◌, inl, inr, arith}
+use Rattle.std.specs.Prelude.{fold, unwrap_or, slice_get, is_some, ◌&&◌}
 use Rattle.std.specs.List.{list_all}
-use Rattle.std.specs.Option.{option_map_or}
 use Rattle.std.proofs.lemmas.Bool.{and_from, le-leb}
 use Rattle.std.proofs.lemmas.List.{append_assoc, append-nil}
 use Rattle.clap.specs.Lexer.{usize_max}
 use Rattle.clap.specs.Simple.{Shape, new_shape, argument_words, built, entered, names_of}
 use Rattle.clap.specs.Takes.{step_passes, walk_passes, level_passes, settle_passes, default_passes, is_valid, entered_passes}
 use Rattle.clap.specs.ValueTests.{accepts}
-use Rattle.clap.specs.Walk.{Held, Rule, Row, Text, Walk, value, walk, walked, walk_from, nothing_held, finished, rows_after, stop_after, positional}
+use Rattle.clap.specs.Walk.{Row, Text, Walk, value, walk, walk_from, nothing_held, finished, rows_after, stop_after, positional}
 use Rattle.clap.specs.Words.{first_of, all_of, subcommand_of, takes}
 use Rattle.clap.specs.declared.builder.value_parser.ValueParser.TheVariants as vp
 use Rattle.clap.proofs.OnLiterals.{clap_on_literals}
@@ -212,7 +211,7 @@ play_taken name setup script a b =
     ∙ and_from _ _ (play_level (setup ∷ script ∷ []) ∙ play_passes setup script a b) (play_above name (setup ∷ script ∷ [])))
 
 -- the scripts pass one after the other
-all_texts_pass : (texts : List Text) → list_all (λ text. accepts false vp.String text) texts ≡ true
+pub all_texts_pass : (texts : List Text) → list_all (λ text. accepts false vp.String text) texts ≡ true
 all_texts_pass [] = refl
 all_texts_pass (text ∷ texts) = all_texts_pass texts
 

@@ -1,13 +1,14 @@
 -- What clap makes of a word that is no option.
-use Rattle.std.proofs.Common.{◌≡◌, ◌≢◌, ◌∙◌, ℕ, ◌==◌, ◌&&◌, ◌||◌, Bool, true, false, List, [], ◌∷◌, Option, Some, None, refl, ap, inl, inr}
+use Rattle.std.proofs.Common.{◌≡◌, ◌≢◌, ◌∙◌, ℕ, ◌==◌, ◌||◌, true, false, List, [], ◌∷◌, Some, None, refl, ap, inl, inr}
 use Rattle.std.specs.Prelude.{if◌then◌else◌, option_and_then}
 use Rattle.std.specs.Option.{option_map_or}
 use Rattle.std.specs.Str.{bytes_eq}
+use Rattle.std.specs.Str.Parse.{starts_with_minus}
 use Rattle.std.proofs.lemmas.Bool.Decides.{eqb_tells}
 use Rattle.clap.specs.Lexer.{long_of, long_of_rest, short_of, short_of_rest, strip_byte}
 use Rattle.clap.specs.Simple.{Shape}
-use Rattle.clap.specs.Takes.{bundle_passes, flag_word_passes, other_passes, step_passes, turn_passes, word_passes}
-use Rattle.clap.specs.Walk.{Held, Rule, Text, Waiting, idle, option, positional, Step, value, trailing, Walk, walked, word_met, long_or_other, short_or_plain, after_step, arg_by_index, to_positional}
+use Rattle.clap.specs.Takes.{bundle_passes, flag_word_passes, other_passes}
+use Rattle.clap.specs.Walk.{Held, Rule, Text, Waiting, idle, option, positional, value, trailing, Walk, walked, word_met, long_or_other, short_or_plain, after_step, arg_by_index, to_positional}
 use Rattle.cdb_arguments.specs.Plain.{IsPlain}
 
 -- a first character that is no hyphen, as a test
@@ -76,3 +77,7 @@ is_no_refused_option shape word held plain =
     ap (λ dashes. dashes || flag_word_passes shape.rules shape.args_override_self (long_of word) word held) (is_not_two_hyphens word plain)
     ∙ ap (λ long. flag_word_passes shape.rules shape.args_override_self long word held) (is_no_long_option word plain)
     ∙ ap (λ short. option_map_or (λ flags. bundle_passes shape.rules shape.args_override_self flags held) short true) (is_no_short_option word plain)
+
+pub is_no_minus : (text : Text) → IsPlain text → starts_with_minus text ≡ false
+is_no_minus [] plain = refl
+is_no_minus (first ∷ rest) plain = is_no_hyphen first plain

@@ -1,26 +1,27 @@
 -- The requests of command lines whose texts are no options.
-use Rattle.std.proofs.Common.{◌≡◌, ◌≢◌, ◌∙◌, ◌≤◌, ℕ, Bool, true, false, List, [], ◌∷◌, Option, Some, None, refl, ap, sym, subst, codes, length, pos, arith, w64}
+use Rattle.std.proofs.Common.{◌≡◌, ◌∙◌, ◌≤◌, ℕ, true, false, List, [], ◌∷◌, Option, Some, None, refl, ap, sym, subst, codes, pos, arith, w64}
 use Rattle.std.specs.Prelude.{Result, IfOk, IfErr, unwrap_or}
 use Rattle.std.specs.Str.{bytes_eq}
-use Rattle.std.specs.Str.Parse.{digits_value, starts_with_minus, without_leading_plus}
+use Rattle.std.specs.Str.Parse.{digits_value, without_leading_plus}
 use Rattle.std.proofs.lemmas.Bool.{false≢true}
 use Rattle.std.proofs.lemmas.Int.{fits_signed_from_abs}
 use Rattle.std.proofs.Math.Dec.{le→leb}
 use Rattle.std.proofs.lemmas.Option.{none-some}
 use Rattle.clap.specs.Values.{IsSignedIn}
-use Rattle.cdb_arguments.proofs.PlainWords.{is_no_hyphen}
+use Rattle.cdb_arguments.proofs.PlainWords.{is_no_minus}
 use Rattle.std.proofs.lemmas.Result.{IfOk-weaker}
-use Rattle.clap.specs.ValueTests.{accepts}
-use Rattle.clap.specs.Words.{Row, Text, first_of, all_of, subcommand_of, takes}
+use Rattle.clap.specs.Words.{Row, Text, first_of, subcommand_of, takes}
 use Rattle.clap.specs.declared.builder.value_parser.ValueParser.TheVariants as vp
 use Rattle.clap.proofs.ValueTestLemmas.{Accepts-accepts}
-use Rattle.cdb_arguments.specs.Asking.{Asks, IsAnswer, IsPlayOf, IsRaceOf, IsTurns, text_at, texts, texts_at}
+use Rattle.cdb_arguments.specs.Asking.{Asks, IsAnswer, IsPlayOf, IsRaceOf, IsExplainOf, IsDrawOf, IsDebugOf, IsTurns, IsNumber, IsNumberOf, text_at, texts_at}
 use Rattle.cdb_arguments.specs.CommandLine.{program}
-use Rattle.cdb_arguments.specs.Plain.{IsNameAlone, IsNumberOfTurns, IsPlain, IsPlayLine, IsRaceLine, ArePlain}
+use Rattle.cdb_arguments.specs.Plain.{IsNameAlone, IsNumberOfTurns, IsPlain, IsPlayLine, IsRaceLine, IsExplainLine, IsDrawLine, IsDebugLine}
 use Rattle.cdb_arguments.specs.declared.request.AskFault.{AskFault}
 use Rattle.cdb_arguments.specs.declared.request.AskFault.TheVariants.{NoMemory}
 use Rattle.cdb_arguments.specs.declared.request.Asked.{Asked}
-use Rattle.cdb_arguments.specs.declared.request.Asked.TheVariants.{Script, Play, Race}
+use Rattle.cdb_arguments.specs.declared.request.Asked.TheVariants.{Script, Play, Race, Explain, Draw, Debug}
+use Rattle.cdb_arguments.proofs.StepLines.{OptionWrites, StepLine, explain_line, draw_line}
+use Rattle.cdb_arguments.proofs.SeatLines.{SeatLine, debug_line}
 use Rattle.cdb_arguments.proofs.Lines.{nothing_asked, nothing_taken, play_asked, play_taken, PlayRows, race_asked, race_taken, RaceRows, AcceptsTurns}
 
 -- ---- what is asked for where clap has these matches
@@ -29,6 +30,9 @@ script_is : (found : Option (Text × List Row)) (asked : Asked) → found ≡ No
 script_is found Script none asks = refl
 script_is found (Play a b) none asks = absurd (none-some _ (sym none ∙ asks.1))
 script_is found (Race a n b) none asks = absurd (none-some _ (sym none ∙ asks.1))
+script_is found (Explain a b p k) none asks = absurd (none-some _ (sym none ∙ asks.1))
+script_is found (Draw a b p k) none asks = absurd (none-some _ (sym none ∙ asks.1))
+script_is found (Debug a b) none asks = absurd (none-some _ (sym none ∙ asks.1))
 
 some_same : {X : Type 0} (a b : X) → Some a ≡ Some b → a ≡ b
 some_same a b same = ap (λ found. unwrap_or found a) same
@@ -39,8 +43,11 @@ same_rows found name other rows more a b = ap (λ p. p.1) (some_same (other, mor
 same_names : (found : Option (Text × List Row)) (name other : Text) (rows more : List Row) → found ≡ Some (name, rows) → found ≡ Some (other, more) → other ≡ name
 same_names found name other rows more a b = ap (λ p. p.0) (some_same (other, more) (name, rows) (sym b ∙ a))
 
-no_play_races : codes "play" ≡ codes "race" → ⊥
-no_play_races same = false≢true (ap (λ text. bytes_eq text (codes "race")) same)
+-- the matches name one subcommand
+other_name : (found : Option (Text × List Row)) (name other : Text) (rows more : List Row) → found ≡ Some (name, rows) → found ≡ Some (other, more)
+    → bytes_eq other name ≡ false → bytes_eq name name ≡ true → ⊥
+other_name found name other rows more a b differ same =
+    false≢true (sym differ ∙ ap (λ text. bytes_eq text name) (same_names found name other rows more a b) ∙ same)
 
 play_is : (found : Option (Text × List Row)) (rows : List Row) (setup script : Text) (asked : Asked) → found ≡ Some (codes "play", rows)
     → PlayRows setup script rows → Asks found asked → IsPlayOf setup script asked
@@ -50,14 +57,18 @@ play_is found rows setup script (Play a b) is have asks =
       asks.2 ∙ ap (text_at (codes "SETUP")) same ∙ ap (λ text. unwrap_or text []) have.0,
       asks.3 ∙ ap (text_at (codes "SCRIPT")) same ∙ ap (λ text. unwrap_or text []) have.1,
     )
-play_is found rows setup script (Race a n b) is have asks =
-    absurd (no_play_races (same_names found (codes "race") (codes "play") asks.0 rows asks.1 is))
+play_is found rows setup script (Race a n b) is have asks = absurd (other_name found _ (codes "race") rows asks.0 is asks.1 refl refl)
+play_is found rows setup script (Explain a b p k) is have asks = absurd (other_name found _ (codes "explain") rows asks.0 is asks.1 refl refl)
+play_is found rows setup script (Draw a b p k) is have asks = absurd (other_name found _ (codes "draw") rows asks.0 is asks.1 refl refl)
+play_is found rows setup script (Debug a b) is have asks = absurd (other_name found _ (codes "debug") rows asks.0 is asks.1 refl refl)
 
 race_is : (found : Option (Text × List Row)) (rows : List Row) (setup text : Text) (turns : ℕ) (scripts : List Text) (asked : Asked)
     → found ≡ Some (codes "race", rows) → RaceRows setup text scripts rows → IsNumberOfTurns text turns → Asks found asked → IsRaceOf setup turns scripts asked
 race_is found rows setup text turns scripts Script is have number asks = absurd (none-some _ (sym asks ∙ is))
-race_is found rows setup text turns scripts (Play a b) is have number asks =
-    absurd (no_play_races (same_names found (codes "race") (codes "play") rows asks.0 is asks.1))
+race_is found rows setup text turns scripts (Play a b) is have number asks = absurd (other_name found _ (codes "play") rows asks.0 is asks.1 refl refl)
+race_is found rows setup text turns scripts (Explain a b p k) is have number asks = absurd (other_name found _ (codes "explain") rows asks.0 is asks.1 refl refl)
+race_is found rows setup text turns scripts (Draw a b p k) is have number asks = absurd (other_name found _ (codes "draw") rows asks.0 is asks.1 refl refl)
+race_is found rows setup text turns scripts (Debug a b) is have number asks = absurd (other_name found _ (codes "debug") rows asks.0 is asks.1 refl refl)
 race_is found rows setup text turns scripts (Race a n b) is have number asks =
     let same = same_rows found (codes "race") (codes "race") rows asks.0 is asks.1 in
     let its_text : text_at (codes "TURNS") asks.0 ≡ text = ap (text_at (codes "TURNS")) same ∙ ap (λ t. unwrap_or t []) have.1 in
@@ -65,6 +76,59 @@ race_is found rows setup text turns scripts (Race a n b) is have number asks =
       asks.2 ∙ ap (text_at (codes "SETUP")) same ∙ ap (λ t. unwrap_or t []) have.0,
       its_turns.1 number.0 (subst (λ m. m ≤ 99999) (sym number.1) number.2) ∙ number.1,
       asks.4 ∙ ap (texts_at (codes "SCRIPT")) same ∙ ap (λ ts. unwrap_or ts []) have.2,
+    )
+
+number_is : (text : Option Text) (k its : Option ℕ) → OptionWrites text k → IsNumberOf text its → its ≡ k
+number_is None None its writes is = is
+number_is None (Some k) its writes is = absurd writes
+number_is (Some text) None its writes is = absurd writes
+number_is (Some text) (Some k) its writes is = is.1 ∙ ap (λ n. let found : Option ℕ = Some n in found) (is.2.2 k writes)
+
+own_number : (text : Option Text) (p its : ℕ) → OptionWrites text (Some p) → IsNumber (unwrap_or text []) its → its ≡ p
+own_number None p its writes is = absurd writes
+own_number (Some text) p its writes is = is.2 p writes
+
+explain_is : (setup script : Text) (p : ℕ) (k : Option ℕ) (words : List Text) (asked : Asked) → StepLine (codes "explain") setup script (Some p) k words
+    → Asks (subcommand_of program words) asked → IsExplainOf setup script p k asked
+explain_is setup script p k words Script line asks = absurd (none-some _ (sym asks ∙ line.asked))
+explain_is setup script p k words (Play a b) line asks = absurd (other_name _ _ (codes "play") line.rows asks.0 line.asked asks.1 refl refl)
+explain_is setup script p k words (Race a n b) line asks = absurd (other_name _ _ (codes "race") line.rows asks.0 line.asked asks.1 refl refl)
+explain_is setup script p k words (Draw a b q l) line asks = absurd (other_name _ _ (codes "draw") line.rows asks.0 line.asked asks.1 refl refl)
+explain_is setup script p k words (Debug a b) line asks = absurd (other_name _ _ (codes "debug") line.rows asks.0 line.asked asks.1 refl refl)
+explain_is setup script p k words (Explain a b q l) line asks =
+    let same = same_rows _ (codes "explain") (codes "explain") line.rows asks.0 line.asked asks.1 in
+    let p_text : text_at (codes "P") asks.0 ≡ unwrap_or line.p_text [] = ap (text_at (codes "P")) same ∙ ap (λ t. unwrap_or t []) line.p_at in (
+      asks.2 ∙ ap (text_at (codes "SETUP")) same ∙ ap (λ t. unwrap_or t []) line.setup_at,
+      asks.3 ∙ ap (text_at (codes "SCRIPT")) same ∙ ap (λ t. unwrap_or t []) line.script_at,
+      own_number line.p_text p q line.p_written (subst (λ t. IsNumber t q) p_text asks.4),
+      number_is line.k_text k l line.k_written (subst (λ t. IsNumberOf t l) (ap (first_of (codes "K")) same ∙ line.k_at) asks.5),
+    )
+
+draw_is : (setup script : Text) (p k : Option ℕ) (words : List Text) (asked : Asked) → StepLine (codes "draw") setup script p k words
+    → Asks (subcommand_of program words) asked → IsDrawOf setup script p k asked
+draw_is setup script p k words Script line asks = absurd (none-some _ (sym asks ∙ line.asked))
+draw_is setup script p k words (Play a b) line asks = absurd (other_name _ _ (codes "play") line.rows asks.0 line.asked asks.1 refl refl)
+draw_is setup script p k words (Race a n b) line asks = absurd (other_name _ _ (codes "race") line.rows asks.0 line.asked asks.1 refl refl)
+draw_is setup script p k words (Explain a b q l) line asks = absurd (other_name _ _ (codes "explain") line.rows asks.0 line.asked asks.1 refl refl)
+draw_is setup script p k words (Debug a b) line asks = absurd (other_name _ _ (codes "debug") line.rows asks.0 line.asked asks.1 refl refl)
+draw_is setup script p k words (Draw a b q l) line asks =
+    let same = same_rows _ (codes "draw") (codes "draw") line.rows asks.0 line.asked asks.1 in (
+      asks.2 ∙ ap (text_at (codes "SETUP")) same ∙ ap (λ t. unwrap_or t []) line.setup_at,
+      asks.3 ∙ ap (text_at (codes "SCRIPT")) same ∙ ap (λ t. unwrap_or t []) line.script_at,
+      number_is line.p_text p q line.p_written (subst (λ t. IsNumberOf t q) (ap (first_of (codes "P")) same ∙ line.p_at) asks.4),
+      number_is line.k_text k l line.k_written (subst (λ t. IsNumberOf t l) (ap (first_of (codes "K")) same ∙ line.k_at) asks.5),
+    )
+
+debug_is : (setup : Text) (seats words : List Text) (asked : Asked) → SeatLine setup seats words → Asks (subcommand_of program words) asked → IsDebugOf setup seats asked
+debug_is setup seats words Script line asks = absurd (none-some _ (sym asks ∙ line.asked))
+debug_is setup seats words (Play a b) line asks = absurd (other_name _ _ (codes "play") line.rows asks.0 line.asked asks.1 refl refl)
+debug_is setup seats words (Race a n b) line asks = absurd (other_name _ _ (codes "race") line.rows asks.0 line.asked asks.1 refl refl)
+debug_is setup seats words (Explain a b q l) line asks = absurd (other_name _ _ (codes "explain") line.rows asks.0 line.asked asks.1 refl refl)
+debug_is setup seats words (Draw a b q l) line asks = absurd (other_name _ _ (codes "draw") line.rows asks.0 line.asked asks.1 refl refl)
+debug_is setup seats words (Debug a b) line asks =
+    let same = same_rows _ (codes "debug") (codes "debug") line.rows asks.0 line.asked asks.1 in (
+      asks.2 ∙ ap (text_at (codes "SETUP")) same ∙ ap (λ t. unwrap_or t []) line.setup_at,
+      asks.3 ∙ ap (texts_at (codes "SEAT")) same ∙ line.seats_at,
     )
 
 -- ---- the answers
@@ -85,10 +149,6 @@ play_answered words result ok taken setup script line =
       IfOk-weaker result _ _ (λ asked asks. play_is _ its.0 setup script asked (ap (subcommand_of program) line.0.1 ∙ its.1) its.2 asks) ok,
       taken (ap (takes program) line.0.1 ∙ play_taken line.0.0 setup script line.1.0 line.1.1.0),
     )
-
-is_no_minus : (text : Text) → IsPlain text → starts_with_minus text ≡ false
-is_no_minus [] plain = refl
-is_no_minus (first ∷ rest) plain = is_no_hyphen first plain
 
 is_signed : (text : Text) (turns : ℕ) → IsPlain text → IsNumberOfTurns text turns → IsSignedIn (pos 0) (pos 99999) text
 is_signed text turns plain number =
@@ -112,4 +172,34 @@ race_answered words result ok taken setup turns script more line =
     let its = race_asked name setup text script more plain in (
       IfOk-weaker result _ _ (λ asked asks. race_is _ its.0 setup text turns (script ∷ more) asked (ap (subcommand_of program) is ∙ its.1) its.2 number asks) ok,
       taken (ap (takes program) is ∙ race_taken name setup text script more plain (accepts_turns text turns plain.1.0 number) line.1),
+    )
+
+pub explain_answered : (words : List Text) (result : Result Asked AskFault) → IfOk result (Asks (subcommand_of program words))
+    → (takes program words ≡ true → IfErr result (λ fault. fault ≡ NoMemory)) → (setup script : Text) (p : ℕ) (k : Option ℕ) → IsExplainLine words setup script p k
+    → IsAnswer result (IsExplainOf setup script p k)
+explain_answered words result ok taken setup script p k line =
+    let its = explain_line line.2.0.0 setup script line.0 p k line.1 line.2.1 in
+    let its_words : StepLine (codes "explain") setup script (Some p) k words = subst (StepLine (codes "explain") setup script (Some p) k) (sym line.2.0.1) its in (
+      IfOk-weaker result _ _ (λ asked asks. explain_is setup script p k words asked its_words asks) ok,
+      taken its_words.taken,
+    )
+
+pub draw_answered : (words : List Text) (result : Result Asked AskFault) → IfOk result (Asks (subcommand_of program words))
+    → (takes program words ≡ true → IfErr result (λ fault. fault ≡ NoMemory)) → (setup script : Text) (p k : Option ℕ) → IsDrawLine words setup script p k
+    → IsAnswer result (IsDrawOf setup script p k)
+draw_answered words result ok taken setup script p k line =
+    let its = draw_line line.2.0.0 setup script line.0 p k line.1 line.2.1 in
+    let its_words : StepLine (codes "draw") setup script p k words = subst (StepLine (codes "draw") setup script p k) (sym line.2.0.1) its in (
+      IfOk-weaker result _ _ (λ asked asks. draw_is setup script p k words asked its_words asks) ok,
+      taken its_words.taken,
+    )
+
+pub debug_answered : (words : List Text) (result : Result Asked AskFault) → IfOk result (Asks (subcommand_of program words))
+    → (takes program words ≡ true → IfErr result (λ fault. fault ≡ NoMemory)) → (setup : Text) (seats : List Text) → IsDebugLine words setup seats
+    → IsAnswer result (IsDebugOf setup seats)
+debug_answered words result ok taken setup seats line =
+    let its = debug_line line.0.0.0 setup seats line.0.1 line.1 in
+    let its_words : SeatLine setup seats words = subst (SeatLine setup seats) (sym line.0.0.1) its in (
+      IfOk-weaker result _ _ (λ asked asks. debug_is setup seats words asked its_words asks) ok,
+      taken its_words.taken,
     )

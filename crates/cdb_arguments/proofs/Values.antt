@@ -1,11 +1,11 @@
 -- What clap makes of several words that are no options.
-use Rattle.std.proofs.Common.{◌≡◌, ◌∙◌, ◌&&◌, ◌||◌, Bool, true, false, List, [], ◌∷◌, Option, Some, None, refl, ap, sym, ℕ, ◌++◌}
-use Rattle.std.specs.Prelude.{fold, drop, is_some}
+use Rattle.std.proofs.Common.{◌≡◌, ◌∙◌, ◌&&◌, true, false, List, [], ◌∷◌, Some, None, refl, ap, sym, ℕ, ◌++◌}
+use Rattle.std.specs.Prelude.{fold}
 use Rattle.std.proofs.lemmas.Bool.{and_from}
 use Rattle.std.proofs.lemmas.List.{append_assoc, append-nil}
 use Rattle.clap.specs.Simple.{Shape}
-use Rattle.clap.specs.Takes.{step_passes, turn_passes, walk_passes, level_passes, settle_passes, default_passes, is_valid, word_passes}
-use Rattle.clap.specs.Walk.{Held, Rule, Text, Walk, Names, value, walk, walked, walk_from, nothing_held, finished, rows_after, word_met, Waiting, idle, positional, option}
+use Rattle.clap.specs.Takes.{step_passes, turn_passes, walk_passes, level_passes, settle_passes, default_passes, is_valid}
+use Rattle.clap.specs.Walk.{Held, Rule, Text, Walk, Names, value, walked, walk_from, nothing_held, finished, rows_after, Waiting, idle, positional, option}
 use Rattle.std.specs.List.{list_all}
 use Rattle.cdb_arguments.specs.Plain.{IsPlain, ArePlain}
 use Rattle.cdb_arguments.proofs.PlainWords.{TakesValue, WaitsForNone, with_value, walked_value, is_no_refused_option, is_value}
@@ -28,7 +28,7 @@ ValuesPass shape w [] = Unit {0}
 ValuesPass shape w (word ∷ words) =
     TakesValue w × (step_passes shape w.position w.held value ≡ true) × ValuesPass shape (with_value shape.rules w word) words
 
-takes_of : (shape : Shape) (w : Walk) (words : List Text) → ValuesPass shape w words → TakesValues shape.rules w words
+pub takes_of : (shape : Shape) (w : Walk) (words : List Text) → ValuesPass shape w words → TakesValues shape.rules w words
 takes_of shape w [] pass = tt
 takes_of shape w (word ∷ words) pass = (pass.0, takes_of shape (with_value shape.rules w word) words pass.2)
 

@@ -8,16 +8,18 @@ use Rattle.clap.specs.declared.error.kind.ErrorKind.TheVariants.{DisplayHelp, Di
 use Rattle.cdb_arguments.specs.declared.request.AskFault.{AskFault}
 use Rattle.cdb_arguments.specs.declared.request.AskFault.TheVariants.{Words, NoMemory}
 use Rattle.cdb_arguments.specs.declared.request.Asked.{Asked}
-use Rattle.cdb_arguments.specs.declared.request.Asked.TheVariants.{Script, Play, Race}
+use Rattle.cdb_arguments.specs.declared.request.Asked.TheVariants.{Script, Play, Race, Explain, Draw, Debug}
+use Rattle.cdb_arguments.specs.Plain.{Writes}
 
 -- the texts of the arguments
 abbrev pub texts : List (Bor Text) → List Text
 texts = map (λ text. text.now)
 
--- one of the two subcommands, or none
+-- one of the subcommands, or none
 abbrev pub NamesOne : Option (Text × List Row) → Type 0
 NamesOne None = Unit {0}
-NamesOne (Some found) = (found.0 ≡ codes "play") ⊎ (found.0 ≡ codes "race")
+NamesOne (Some found) = (found.0 ≡ codes "play") ⊎ ((found.0 ≡ codes "race")
+    ⊎ ((found.0 ≡ codes "explain") ⊎ ((found.0 ≡ codes "draw") ⊎ (found.0 ≡ codes "debug"))))
 
 -- the text of an argument, which is empty where the matches have none
 abbrev pub text_at : Text → List Row → Text
@@ -33,6 +35,18 @@ IsTurns text turns =
     (turns ≤ 99999)
     × (IsNumeral 10 (without_leading_plus text) → digits_value 10 (without_leading_plus text) ≤ 99999 → turns ≡ digits_value 10 (without_leading_plus text))
 
+-- a number of 1 to 999,999, and the one that the text writes where it writes one
+abbrev pub IsNumber : Text → ℕ → Type 0
+IsNumber text number = (1 ≤ number) × (number ≤ 999999) × ((written : ℕ) → Writes text written → number ≡ written)
+
+-- the number of an argument, and none where the matches have none
+abbrev pub IsNumberOf : Option Text → Option ℕ → Type 0
+IsNumberOf None found = found ≡ None
+IsNumberOf (Some text) found = (number : ℕ) × (found ≡ Some number) × IsNumber text number
+
+abbrev pub IsNumberAt : Text → List Row → Option ℕ → Type 0
+IsNumberAt id rows = IsNumberOf (first_of id rows)
+
 -- the subcommand that the matches name, with its texts in their order
 abbrev pub Asks : Option (Text × List Row) → Asked → Type 0
 Asks found Script = found ≡ None
@@ -40,6 +54,15 @@ Asks found (Play setup script) = (rows : List Row) × (found ≡ Some (codes "pl
 Asks found (Race setup turns scripts) =
     (rows : List Row) × (found ≡ Some (codes "race", rows)) × (setup.now ≡ text_at (codes "SETUP") rows) × IsTurns (text_at (codes "TURNS") rows) turns
     × (map (λ script. script.now) scripts.items ≡ texts_at (codes "SCRIPT") rows)
+Asks found (Explain setup script p k) =
+    (rows : List Row) × (found ≡ Some (codes "explain", rows)) × (setup.now ≡ text_at (codes "SETUP") rows) × (script.now ≡ text_at (codes "SCRIPT") rows)
+    × IsNumber (text_at (codes "P") rows) p × IsNumberAt (codes "K") rows k
+Asks found (Draw setup script p k) =
+    (rows : List Row) × (found ≡ Some (codes "draw", rows)) × (setup.now ≡ text_at (codes "SETUP") rows) × (script.now ≡ text_at (codes "SCRIPT") rows)
+    × IsNumberAt (codes "P") rows p × IsNumberAt (codes "K") rows k
+Asks found (Debug setup seats) =
+    (rows : List Row) × (found ≡ Some (codes "debug", rows)) × (setup.now ≡ text_at (codes "SETUP") rows)
+    × (map (λ seat. seat.now) seats.items ≡ texts_at (codes "SEAT") rows)
 
 -- a play of these two files
 abbrev pub IsPlayOf : Text → Text → Asked → Type 0
@@ -51,6 +74,23 @@ abbrev pub IsRaceOf : Text → ℕ → List Text → Asked → Type 0
 IsRaceOf setup turns scripts (Race its_setup its_turns its_scripts) =
     (its_setup.now ≡ setup) × (its_turns ≡ turns) × (texts its_scripts.items ≡ scripts)
 IsRaceOf setup turns scripts asked = ⊥
+
+-- the explanation of this step of the run of these two files
+abbrev pub IsExplainOf : Text → Text → ℕ → Option ℕ → Asked → Type 0
+IsExplainOf setup script p k (Explain its_setup its_script its_p its_k) =
+    (its_setup.now ≡ setup) × (its_script.now ≡ script) × (its_p ≡ p) × (its_k ≡ k)
+IsExplainOf setup script p k asked = ⊥
+
+-- the picture of the run of these two files, in which what led to this step stands out
+abbrev pub IsDrawOf : Text → Text → Option ℕ → Option ℕ → Asked → Type 0
+IsDrawOf setup script p k (Draw its_setup its_script its_p its_k) =
+    (its_setup.now ≡ setup) × (its_script.now ≡ script) × (its_p ≡ p) × (its_k ≡ k)
+IsDrawOf setup script p k asked = ⊥
+
+-- a session for each of these seats, in this order
+abbrev pub IsDebugOf : Text → List Text → Asked → Type 0
+IsDebugOf setup seats (Debug its_setup its_seats) = (its_setup.now ≡ setup) × (texts its_seats.items ≡ seats)
+IsDebugOf setup seats asked = ⊥
 
 -- what was asked for, or no memory to say it
 abbrev pub IsAnswer : Result Asked AskFault → (Asked → Type 0) → Type 0

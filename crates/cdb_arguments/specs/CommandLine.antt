@@ -1,5 +1,5 @@
 -- The command line of the program, and what its words ask for.
-use Rattle.std.specs.Prelude.{codes, Some, true, pos}
+use Rattle.std.specs.Prelude.{codes, fold, List, [], ◌∷◌, Some, true, pos}
 use Rattle.clap.specs.Lexer.{usize_max}
 use Rattle.clap.specs.Simple.{on_top}
 use Rattle.clap.specs.Words.{App, Rule, Text, new_app, new_rule, with_rule, with_subcommand}
@@ -13,18 +13,50 @@ required_rule id = record (new_rule id) { required = true }
 abbrev pub turns_rule : Rule
 turns_rule = record (required_rule (codes "TURNS")) { parser = Some (vp.Signed (pos 0) (pos 99999)) }
 
--- one value or more
-abbrev pub scripts_rule : Rule
-scripts_rule = record (required_rule (codes "SCRIPT")) { range = Some (record { start_inclusive = 1; end_inclusive = usize_max }) }
+-- a number of 1 to 999,999
+abbrev pub numbered : Rule → Rule
+numbered rule = record rule { parser = Some (vp.Signed (pos 1) (pos 999999)) }
+
+-- one value or more, as many as a machine's word counts
+abbrev pub several : Rule → Rule
+several rule = record rule { range = Some (record { start_inclusive = 1; end_inclusive = usize_max }) }
+
+-- a subcommand with these arguments, in their places
+abbrev pub with_arguments : Text → List Rule → App
+with_arguments name = fold with_rule (new_app name)
+
+-- a subcommand with the files of a setup and of a script, and then these arguments
+abbrev pub on_files : Text → List Rule → App
+on_files name more = with_arguments name (required_rule (codes "SETUP") ∷ required_rule (codes "SCRIPT") ∷ more)
 
 -- `play SETUP SCRIPT`
 abbrev pub play_app : App
-play_app = with_rule (with_rule (new_app (codes "play")) (required_rule (codes "SETUP"))) (required_rule (codes "SCRIPT"))
+play_app = on_files (codes "play") []
 
 -- `race SETUP TURNS SCRIPT..`
 abbrev pub race_app : App
-race_app = with_rule (with_rule (with_rule (new_app (codes "race")) (required_rule (codes "SETUP"))) turns_rule) scripts_rule
+race_app = with_arguments (codes "race") (required_rule (codes "SETUP") ∷ turns_rule ∷ several (required_rule (codes "SCRIPT")) ∷ [])
 
--- the program with its version, with the two subcommands and none for help
+-- `explain SETUP SCRIPT P [K]`
+abbrev pub explain_app : App
+explain_app = on_files (codes "explain") (numbered (required_rule (codes "P")) ∷ numbered (new_rule (codes "K")) ∷ [])
+
+-- `draw SETUP SCRIPT [P [K]]`
+abbrev pub draw_app : App
+draw_app = on_files (codes "draw") (numbered (new_rule (codes "P")) ∷ numbered (new_rule (codes "K")) ∷ [])
+
+-- `debug SETUP [SEAT..]`
+abbrev pub debug_app : App
+debug_app = with_arguments (codes "debug") (required_rule (codes "SETUP") ∷ several (new_rule (codes "SEAT")) ∷ [])
+
+-- the program with these subcommands too
+abbrev pub with_subcommands : App → List App → App
+with_subcommands = fold (λ app sub. with_subcommand app sub.top)
+
+-- the program with its version and none for help, with the subcommands that print the replies of scripts
+abbrev pub playing : App
+playing = with_subcommands (on_top (λ s. record s { has_version = true; disable_help_subcommand = true }) (new_app (codes "revdbg"))) (play_app ∷ race_app ∷ [])
+
+-- the program with its subcommands
 unfoldable pub program : App
-program = with_subcommand (with_subcommand (on_top (λ s. record s { has_version = true; disable_help_subcommand = true }) (new_app (codes "revdbg"))) play_app.top) race_app.top
+program = with_subcommands playing (explain_app ∷ draw_app ∷ debug_app ∷ [])

@@ -1,5 +1,5 @@
 -- Command lines whose texts are no options.
-use Rattle.std.specs.Prelude.{◌≡◌, ◌≢◌, ℕ, ◌≤◌, List, [], ◌∷◌, codes, length}
+use Rattle.std.specs.Prelude.{◌≡◌, ◌≢◌, ℕ, ◌≤◌, List, [], ◌∷◌, codes, length, Option, Some, None}
 use Rattle.std.specs.List.{AllByRecursion}
 use Rattle.std.specs.Str.Parse.{IsNumeral, digits_value, without_leading_plus}
 use Rattle.clap.specs.Lexer.{usize_max}
@@ -19,17 +19,50 @@ abbrev pub IsNumberOfTurns : Text → ℕ → Type 0
 IsNumberOfTurns text turns =
     IsNumeral 10 (without_leading_plus text) × (digits_value 10 (without_leading_plus text) ≡ turns) × (turns ≤ 99999)
 
+-- a number of 1 to 999,999 in digits, after a plus or not
+abbrev pub Writes : Text → ℕ → Type 0
+Writes text number =
+    IsNumeral 10 (without_leading_plus text) × (digits_value 10 (without_leading_plus text) ≡ number) × (1 ≤ number) × (number ≤ 999999)
+
+-- the texts of a number, none where there is no number
+abbrev pub WritesOption : List Text → Option ℕ → Type 0
+WritesOption texts None = texts ≡ []
+WritesOption texts (Some number) = (text : Text) × (texts ≡ text ∷ []) × Writes text number
+
+-- the texts of a number and of a second one, which stands only after a first
+abbrev pub WritesStep : List Text → Option ℕ → Option ℕ → Type 0
+WritesStep texts None None = texts ≡ []
+WritesStep texts None (Some k) = ⊥
+WritesStep texts (Some p) k = (text : Text) × (more : List Text) × (texts ≡ text ∷ more) × Writes text p × WritesOption more k
+
 -- the program's name alone
 abbrev pub IsNameAlone : List Text → Type 0
 IsNameAlone words = (name : Text) × (words ≡ name ∷ [])
 
+-- the program's name, a subcommand, and these texts, none of which is an option
+abbrev pub IsLineOf : Text → List Text → List Text → Type 0
+IsLineOf command arguments words = ((name : Text) × (words ≡ name ∷ command ∷ arguments)) × ArePlain arguments
+
 -- `play SETUP SCRIPT`
 abbrev pub IsPlayLine : List Text → Text → Text → Type 0
-IsPlayLine words setup script =
-    ((name : Text) × (words ≡ name ∷ codes "play" ∷ setup ∷ script ∷ [])) × ArePlain (setup ∷ script ∷ [])
+IsPlayLine words setup script = IsLineOf (codes "play") (setup ∷ script ∷ []) words
 
 -- `race SETUP TURNS SCRIPT..`, with one script or more, as many as a machine's word counts
 abbrev pub IsRaceLine : List Text → Text → ℕ → Text → List Text → Type 0
 IsRaceLine words setup turns script more =
     ((name : Text) × (text : Text) × (words ≡ name ∷ codes "race" ∷ setup ∷ text ∷ script ∷ more)
     × IsNumberOfTurns text turns × ArePlain (setup ∷ text ∷ script ∷ more)) × (length (script ∷ more) ≤ usize_max)
+
+-- `explain SETUP SCRIPT P [K]`
+abbrev pub IsExplainLine : List Text → Text → Text → ℕ → Option ℕ → Type 0
+IsExplainLine words setup script p k =
+    (texts : List Text) × WritesStep texts (Some p) k × IsLineOf (codes "explain") (setup ∷ script ∷ texts) words
+
+-- `draw SETUP SCRIPT [P [K]]`
+abbrev pub IsDrawLine : List Text → Text → Text → Option ℕ → Option ℕ → Type 0
+IsDrawLine words setup script p k =
+    (texts : List Text) × WritesStep texts p k × IsLineOf (codes "draw") (setup ∷ script ∷ texts) words
+
+-- `debug SETUP [SEAT..]`, with as many seats as a machine's word counts
+abbrev pub IsDebugLine : List Text → Text → List Text → Type 0
+IsDebugLine words setup seats = IsLineOf (codes "debug") (setup ∷ seats) words × (length seats ≤ usize_max)

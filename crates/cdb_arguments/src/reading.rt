@@ -1,11 +1,11 @@
 //! Reading the words of the command line.
 
-ghost use Rattle.std.specs.Prelude.{◌≡◌, ◌∷◌, ℕ, List, IfOk, OnOk, IfErr, [], false, true, map, codes};
-ghost use Rattle.clap.specs.Words.{Kinds, Text, HasKind, app_of, rule_of, fault_of, found_of, kind_of, rows_of, subcommand_of, subcommand_rows_of, takes};
+ghost use Rattle.std.specs.Prelude.{◌≡◌, ◌∷◌, ℕ, List, Option, IfOk, OnOk, IfErr, [], false, true, map, codes};
+ghost use Rattle.clap.specs.Words.{Kinds, Text, HasKind, app_of, new_rule, rule_of, fault_of, found_of, kind_of, rows_of, subcommand_of, subcommand_rows_of, takes};
 ghost use Rattle.clap.specs.declared.builder.command.Command.TheViews.{out-Command};
-ghost use Rattle.cdb_arguments.specs.CommandLine.{required_rule, turns_rule, scripts_rule, play_app, race_app, program};
-ghost use Rattle.cdb_arguments.specs.Asking.{NamesOne, IsTurns, text_at, texts, texts_at, Asks, IsOfKinds, IsAnswer, IsPlayOf, IsRaceOf, ask_status_of, words_status};
-ghost use Rattle.cdb_arguments.specs.Plain.{IsNameAlone, IsPlayLine, IsRaceLine};
+ghost use Rattle.cdb_arguments.specs.CommandLine.{required_rule, turns_rule, numbered, several, on_files, play_app, race_app, explain_app, draw_app, debug_app, playing, program};
+ghost use Rattle.cdb_arguments.specs.Asking.{NamesOne, IsTurns, IsNumber, IsNumberAt, text_at, texts, texts_at, Asks, IsOfKinds, IsAnswer, IsPlayOf, IsRaceOf, IsExplainOf, IsDrawOf, IsDebugOf, ask_status_of, words_status};
+ghost use Rattle.cdb_arguments.specs.Plain.{IsNameAlone, IsPlayLine, IsRaceLine, IsExplainLine, IsDrawLine, IsDebugLine};
 
 use crate::request::{AskFault, Asked};
 use clap::error::ErrorKind;
@@ -23,6 +23,14 @@ const PLAY: &str = "Plays a script, one command after the other";
 
 const RACE: &str =
     "Plays each script and drives each process, each in a thread of its own, all on one run";
+
+const EXPLAIN: &str =
+    "Plays a script, and prints what led to a step: the events, with their causes";
+
+const DRAW: &str =
+    "Plays a script, and prints a picture of the run in SVG; what led to a step stands out";
+
+const DEBUG: &str = "Carries each command out before the next is read, for one user or for several";
 
 const LINES: &str =
     "Without a subcommand it plays the script on standard input, on one process that proposes 7.
@@ -103,13 +111,50 @@ fn turns<'a>(alloc: Global) -> Arg<'a>
     turns.value_parser(clap::value_parser!(u32).range(0..100_000))
 }
 
+/// The argument takes a number of 1 to 999,999.
+fn numbered<'a>(arg: Arg<'a>) -> Arg<'a>
+    ensures rule { rule_of result ≡ numbered (rule_of arg.entry) }
+    ensures local { result.global ≡ arg.entry.global }
+{
+    arg.value_parser(clap::value_parser!(u32).range(1..1_000_000))
+}
+
+/// The step of a process, which may be left out.
+fn step<'a>(alloc: Global) -> Arg<'a>
+    ensures rule { rule_of result ≡ numbered (new_rule (codes "K")) }
+    ensures local { result.global ≡ false }
+{
+    let help = "Which of its standing steps, 1 to 999999; left out: its last one";
+    numbered(Arg::new(alloc, "K").help(help))
+}
+
+/// The argument takes one text or more.
+fn many<'a>(arg: Arg<'a>) -> Arg<'a>
+    ensures rule { rule_of result ≡ several (rule_of arg.entry) }
+    ensures local { result.global ≡ arg.entry.global }
+{
+    arg.num_args(1..)
+}
+
 /// One script or more.
 fn scripts<'a>(alloc: Global) -> Arg<'a>
-    ensures rule { rule_of result ≡ scripts_rule }
+    ensures rule { rule_of result ≡ several (required_rule (codes "SCRIPT")) }
     ensures local { result.global ≡ false }
 {
     let help = "The files of the scripts, one for each session";
-    required(alloc, "SCRIPT", help).num_args(1..)
+    many(required(alloc, "SCRIPT", help))
+}
+
+/// A subcommand with the files of a setup and of a script.
+fn on_files<'a>(alloc: Global, name: &'a str, about: &'a str) -> Result<Command<'a>, AllocError>
+    ensures app { IfOk result (λ command. app_of command ≡ on_files name.entry.now []) }
+    ensures local { IfOk result (λ command. (out-Command command).has_globals ≡ false) }
+{
+    let command = Command::new(alloc, name)
+        .about(about)
+        .after_help(SETUPS)
+        .arg(setup(alloc))?;
+    command.arg(script(alloc))
 }
 
 /// `play SETUP SCRIPT`.
@@ -117,11 +162,7 @@ fn play<'a>(alloc: Global) -> Result<Command<'a>, AllocError>
     ensures app { IfOk result (λ command. app_of command ≡ play_app) }
     ensures local { IfOk result (λ command. (out-Command command).has_globals ≡ false) }
 {
-    let command = Command::new(alloc, "play")
-        .about(PLAY)
-        .after_help(SETUPS)
-        .arg(setup(alloc))?;
-    command.arg(script(alloc))
+    on_files(alloc, "play", PLAY)
 }
 
 /// `race SETUP TURNS SCRIPT..`.
@@ -137,10 +178,46 @@ fn race<'a>(alloc: Global) -> Result<Command<'a>, AllocError>
     command.arg(scripts(alloc))
 }
 
-/// The program with its two subcommands.
-#[tactic(auto, unfolding(crate::specs::CommandLine::program))]
-fn program<'a>(alloc: Global) -> Result<Command<'a>, AllocError>
-    ensures { IfOk result (λ command. app_of command ≡ program) }
+/// `explain SETUP SCRIPT P [K]`.
+fn explain<'a>(alloc: Global) -> Result<Command<'a>, AllocError>
+    ensures app { IfOk result (λ command. app_of command ≡ explain_app) }
+    ensures local { IfOk result (λ command. (out-Command command).has_globals ≡ false) }
+{
+    let command = on_files(alloc, "explain", EXPLAIN)?;
+    let process = required(alloc, "P", "The process, 1 to 999999");
+    let command = command.arg(numbered(process))?;
+    command.arg(step(alloc))
+}
+
+/// `draw SETUP SCRIPT [P [K]]`.
+fn draw<'a>(alloc: Global) -> Result<Command<'a>, AllocError>
+    ensures app { IfOk result (λ command. app_of command ≡ draw_app) }
+    ensures local { IfOk result (λ command. (out-Command command).has_globals ≡ false) }
+{
+    let command = on_files(alloc, "draw", DRAW)?;
+    let help = "The process whose step stands out, 1 to 999999; left out: all stands out";
+    let process = Arg::new(alloc, "P").help(help);
+    let command = command.arg(numbered(process))?;
+    command.arg(step(alloc))
+}
+
+/// `debug SETUP [SEAT..]`.
+fn debug<'a>(alloc: Global) -> Result<Command<'a>, AllocError>
+    ensures app { IfOk result (λ command. app_of command ≡ debug_app) }
+    ensures local { IfOk result (λ command. (out-Command command).has_globals ≡ false) }
+{
+    let command = Command::new(alloc, "debug")
+        .about(DEBUG)
+        .after_help(SETUPS)
+        .arg(setup(alloc))?;
+    let help =
+        "A terminal device, or IN:OUT, two files or pipes, for each user; left out: the one here";
+    command.arg(many(Arg::new(alloc, "SEAT").help(help)))
+}
+
+/// The program with the subcommands that print the replies of scripts.
+fn playing<'a>(alloc: Global) -> Result<Command<'a>, AllocError>
+    ensures { IfOk result (λ command. app_of command ≡ playing) }
 {
     let command = Command::new(alloc, "revdbg")
         .version(VERSION)
@@ -149,6 +226,17 @@ fn program<'a>(alloc: Global) -> Result<Command<'a>, AllocError>
         .disable_help_subcommand(true)
         .subcommand(play(alloc)?)?;
     command.subcommand(race(alloc)?)
+}
+
+/// The program with its subcommands.
+#[tactic(auto, unfolding(crate::specs::CommandLine::program))]
+fn program<'a>(alloc: Global) -> Result<Command<'a>, AllocError>
+    ensures { IfOk result (λ command. app_of command ≡ program) }
+{
+    let command = playing(alloc)?;
+    let command = command.subcommand(explain(alloc)?)?;
+    let command = command.subcommand(draw(alloc)?)?;
+    command.subcommand(debug(alloc)?)
 }
 
 /// The matches of the words.
@@ -193,6 +281,30 @@ fn turns_of(text: &str) -> u32
     }
 }
 
+/// The number of 1 to 999,999 that the text is.
+fn number_of(text: &str) -> u32
+    ensures { IsNumber text.now result }
+{
+    let Ok(number) = text.parse::<u32>() else {
+        return 1;
+    };
+    if 1 <= number && number <= 999_999 {
+        number
+    } else {
+        1
+    }
+}
+
+/// The number of an argument that may be left out.
+fn number_at(matches: &ArgMatches, id: &str) -> Option<u32>
+    ensures { IsNumberAt id.now (rows_of (found_of matches.now)) result }
+{
+    match matches.get_str(id) {
+        Some(text) => Some(number_of(text)),
+        None => None,
+    }
+}
+
 /// The text of an argument.
 fn text_of<'a>(matches: &ArgMatches<'a>, id: &str) -> &'a str
     ensures { result.now ≡ text_at id.now (rows_of (found_of matches.now)) }
@@ -228,6 +340,30 @@ fn asked_by<'a>(alloc: Global, matches: &ArgMatches<'a>) -> Result<Asked<'a>, Al
             setup,
             script: text_of(found, "SCRIPT"),
         });
+    }
+    if name == "explain" {
+        let script = text_of(found, "SCRIPT");
+        return Ok(Asked::Explain {
+            setup,
+            script,
+            p: number_of(text_of(found, "P")),
+            k: number_at(found, "K"),
+        });
+    }
+    if name == "draw" {
+        let script = text_of(found, "SCRIPT");
+        let p = number_at(found, "P");
+        let k = number_at(found, "K");
+        return Ok(Asked::Draw {
+            setup,
+            script,
+            p,
+            k,
+        });
+    }
+    if name == "debug" {
+        let seats = texts_of(alloc, found, "SEAT")?;
+        return Ok(Asked::Debug { setup, seats });
     }
     Ok(Asked::Race {
         setup,
@@ -271,7 +407,9 @@ fn read<'a>(alloc: Global, words: &'a [&'a str]) -> Result<Asked<'a>, AskFault>
 }
 
 /// What the arguments of the command line ask for; the first is the program's name. The name alone asks for the
-/// script on standard input, `play SETUP SCRIPT` for a play, `race SETUP TURNS SCRIPT..` for a race.
+/// script on standard input, `play SETUP SCRIPT` for a play, `race SETUP TURNS SCRIPT..` for a race,
+/// `explain SETUP SCRIPT P [K]` for what led to a step, `draw SETUP SCRIPT [P [K]]` for a picture,
+/// `debug SETUP [SEAT..]` for a session that goes on line by line. P and K are numbers of 1 to 999,999.
 ///
 /// # Errors
 /// `Words` with `clap`'s error for arguments that the command line does not take, and for those alone; the error is
@@ -291,6 +429,15 @@ pub fn asked<'a>(alloc: Global, words: &'a [&'a str]) -> Result<Asked<'a>, AskFa
     ensures race { (setup : Text) (turns : ℕ) (script : Text) (more : List Text) →
         IsRaceLine (texts words.entry.now) setup turns script more →
         IsAnswer result (IsRaceOf setup turns (script ∷ more)) }
+    ensures explain { (setup script : Text) (p : ℕ) (k : Option ℕ) →
+        IsExplainLine (texts words.entry.now) setup script p k →
+        IsAnswer result (IsExplainOf setup script p k) }
+    ensures draw { (setup script : Text) (p k : Option ℕ) →
+        IsDrawLine (texts words.entry.now) setup script p k →
+        IsAnswer result (IsDrawOf setup script p k) }
+    ensures debug { (setup : Text) (seats : List Text) →
+        IsDebugLine (texts words.entry.now) setup seats →
+        IsAnswer result (IsDebugOf setup seats) }
 {
     read(alloc, words)
 }

@@ -14,6 +14,7 @@ use Rattle.cdb_base.specs.declared.register.Cell.{Cell}
 use Rattle.cdb_base.specs.declared.register.Reg.{Reg}
 use Rattle.cdb_base.specs.declared.register.Reg.TheVariants.{R, Dec}
 use Rattle.cdb_control.specs.Commands.{decides}
+use Rattle.cdb_explain.specs.Asked.{IsStepAsked}
 use Rattle.cdb_explain.specs.Marked.{marked_of_first}
 use Rattle.cdb_message.specs.Mail.{message_name, payload_of}
 use Rattle.cdb_past.specs.Marks.{MarkPast}
@@ -64,13 +65,17 @@ because_text (Err why) = []
 abbrev pub run_after : RunView → ℕ → RunView
 run_after run i = with_history run (take (i + 1) run.history)
 
--- an event, where the run stands so after it: as `show history` prints it, what it carries and decides,
--- and its direct causes
-abbrev pub line_text : (Parts → Rules) → RunView → RunView → Event → List ℕ
-line_text rules run after event =
+-- the whole text of an event, where the run stands so after it: as `show history` prints it, what it carries
+-- and decides, and its direct causes
+abbrev pub whole_text : (Parts → Rules) → RunView → RunView → Event → List ℕ
+whole_text rules run after event =
     event_text event ++ detail_text rules after event
     ++ decides_text (decides (rules after.setup) after.history event)
-    ++ because_text (causes_in run (event_name event)) ++ codes "\n"
+    ++ because_text (causes_in run (event_name event))
+
+-- the same as a line
+abbrev pub line_text : (Parts → Rules) → RunView → RunView → Event → List ℕ
+line_text rules run after event = whole_text rules run after event ++ codes "\n"
 
 -- the line of the event at place i, where one stands there
 abbrev pub line_at : (Parts → Rules) → RunView → ℕ → List ℕ
@@ -92,3 +97,8 @@ lines_text rules run marks =
 abbrev pub IsExplanation : (Parts → Rules) → RunView → ℕ → List ℕ → Type 0
 IsExplanation rules run j text =
     (marks : List Bool) × MarkPast run.history j marks × (text ≡ lines_text rules run marks)
+
+-- the text is the explanation of that step: of p.k, or without k of the last standing step of p
+abbrev pub IsStepExplained : (Parts → Rules) → RunView → ℕ → Option ℕ → List ℕ → Type 0
+IsStepExplained rules run p k text =
+    (place : ℕ) × IsStepAsked run.history p k place × IsExplanation rules run place text

@@ -2,3 +2,5 @@
 pub mod Asked
 pub mod Marked
 pub mod Explanations
+pub mod Explained
+pub mod Statuses

@@ -3,13 +3,22 @@
 
 mod asked;
 mod detail;
+mod explains;
+mod fault;
 mod line;
 mod lines;
 mod past;
 mod replay;
+mod step;
 
 pub use asked::place_of_step;
+pub use explains::explain;
+pub use fault::{ExplainFault, explain_status_of};
+pub use line::{decision_by, push_whole};
 pub use lines::explanation;
+pub use past::past_of;
+pub use replay::{fresh, take_next};
+pub use step::explain_step;
 
 #[cfg(test)]
 mod tests;

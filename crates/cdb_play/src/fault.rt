@@ -3,6 +3,7 @@
 use crate::buffer::OutputFault;
 use crate::script::ScriptFault;
 use crate::source::ReadFault;
+use cdb_base::NoMemory;
 use cdb_setup::SetupFault;
 use cdb_text::LineFault;
 
@@ -83,6 +84,17 @@ impl From<ReadFault> for PlayFault {
             ReadFault::Failed => PlayFault::Read,
             ReadFault::NoMemory => PlayFault::NoMemory,
         }
+    }
+}
+
+impl From<NoMemory> for PlayFault {
+    ghost use Rattle.std.specs.Prelude.{◌≡◌};
+    ghost use Rattle.cdb_play.specs.declared.fault.PlayFault.TheVariants.{NoMemory as no_memory};
+
+    ghost from_gives = { λ _ made. made ≡ no_memory };
+
+    fn from(_error: NoMemory) -> Self {
+        PlayFault::NoMemory
     }
 }
 

@@ -217,6 +217,8 @@ fn run<R: Threads + Wait + Sync>(rt: &HostRuntime, threads: &R, words: &[&str]) 
             Ok(status) => status,
             Err(named) => ended(Err(named), &mut err),
         },
+        // Until these requests are served.
+        Ok(Asked::Explain { .. } | Asked::Draw { .. } | Asked::Debug { .. }) => USAGE,
         Err(fault) => refused(rt, &fault),
     }
 }

@@ -46,6 +46,54 @@ fn the_most_turns(rt: HostRuntime) {
     assert_eq!(rt; turns, 99_999);
 }
 
+#[test]
+fn words_of_an_explanation(rt: HostRuntime) {
+    let Ok(
+        Asked::Explain {
+            setup,
+            script,
+            p,
+            k,
+        },
+    ) = asked(rt.alloc(), &["revdbg", "explain", "a", "b", "2", "11"])
+    else {
+        panic!(rt; "these words ask for an explanation");
+    };
+    assert_eq!(rt; setup, "a");
+    assert_eq!(rt; script, "b");
+    assert_eq!(rt; p, 2);
+    assert_eq!(rt; k, Some(11));
+}
+
+#[test]
+fn words_of_a_picture_without_a_number(rt: HostRuntime) {
+    let Ok(
+        Asked::Draw {
+            setup,
+            script,
+            p,
+            k,
+        },
+    ) = asked(rt.alloc(), &["revdbg", "draw", "a", "b", "3"])
+    else {
+        panic!(rt; "these words ask for a picture");
+    };
+    assert_eq!(rt; setup, "a");
+    assert_eq!(rt; script, "b");
+    assert_eq!(rt; p, Some(3));
+    assert_eq!(rt; k, None);
+}
+
+#[test]
+fn words_of_a_session(rt: HostRuntime) {
+    let words = ["revdbg", "debug", "a", "in:out", "/dev/tty2"];
+    let Ok(Asked::Debug { setup, seats }) = asked(rt.alloc(), &words) else {
+        panic!(rt; "these words ask for a session");
+    };
+    assert_eq!(rt; setup, "a");
+    assert_eq!(rt; seats.as_slice(), ["in:out", "/dev/tty2"].as_slice());
+}
+
 /// The words are refused, and this is the status.
 fn check_refused(rt: &(impl Abort + AllocGlobal), words: &[&str], status: u8) {
     let Err(fault) = asked(rt.alloc(), words) else {
@@ -68,4 +116,9 @@ fn refused_words(rt: HostRuntime) {
     check_refused(&rt, &["revdbg", "race", "a", "8"], 2);
     check_refused(&rt, &["revdbg", "race", "a", "100000", "b"], 2);
     check_refused(&rt, &["revdbg", "race", "a", "-1", "b"], 2);
+    check_refused(&rt, &["revdbg", "explain", "a", "b"], 2);
+    check_refused(&rt, &["revdbg", "explain", "a", "b", "0"], 2);
+    check_refused(&rt, &["revdbg", "explain", "a", "b", "1", "1000000"], 2);
+    check_refused(&rt, &["revdbg", "draw", "a", "b", "1", "2", "3"], 2);
+    check_refused(&rt, &["revdbg", "debug"], 2);
 }

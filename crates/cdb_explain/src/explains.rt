@@ -1,0 +1,46 @@
+//! A script is carried out without its replies, and a step of the run that it leaves is explained.
+
+ghost use Rattle.std.specs.Prelude.{◌≡◌, Err, IfErr};
+ghost use Rattle.cdb_explain.specs.Explained.{Explains, ExplainWrites, IsFaultOfExplain};
+ghost use Rattle.cdb_explain.specs.declared.fault.ExplainFault.TheVariants.{Play as of_play};
+ghost use Rattle.cdb_play.specs.Streams.{FailsWhere};
+ghost use Rattle.cdb_play.specs.declared.fault.PlayFault.TheVariants as play;
+ghost use Rattle.cdb_run.specs.Algorithms.{rules};
+ghost use Rattle.cdb_setup.specs.declared.fault.SetupFault.{SetupFault as SetupFaultName};
+
+use crate::fault::ExplainFault;
+use crate::step::explain_step;
+use cdb_play::{Sink, Source, left_by, write_text};
+use std::alloc::Global;
+
+/// Explains a step of the run that a script leaves, and writes the explanation: of the `k`-th standing step of
+/// process `p`; without `k` of its last one.
+///
+/// The setup is read first, then the whole script, then all its lines; the explanation is whole before any of
+/// it is written. So after `Write` what was written is a beginning of the explanation, and after any other
+/// fault nothing was written. After `Setup` the script is not read; `Read` comes only where the reader failed in
+/// this call, and `Write` only where the writer did.
+pub fn explain<R: Source, W: Sink>(
+    alloc: Global,
+    setup: &[u8],
+    script: &mut R,
+    p: u32,
+    k: Option<u32>,
+    out: &mut W,
+) -> Result<(), ExplainFault>
+    ensures wrote { ExplainWrites W.contents W.failures result out.old out.new
+        (Explains rules setup.now p k (R.remaining script.old) (R.remaining script.new)) }
+    ensures fault { IfErr result (λ fault. IsFaultOfExplain fault rules setup.now p k
+        (R.remaining script.old) (R.remaining script.new)) }
+    ensures unread { (fault : SetupFaultName) →
+        result ≡ Err (of_play (play.Setup fault)) → script.new ≡ script.old }
+    ensures read { FailsWhere R.failures (result ≡ Err (of_play play.Read)) script.old script.new }
+{
+    let control = left_by(alloc, setup, script)?;
+    let run = control.run();
+    let Some(text) = explain_step(alloc, run, p, k)? else {
+        return Err(ExplainFault::NoStep);
+    };
+    write_text(alloc, text.as_slice(), out)?;
+    Ok(())
+}

@@ -1,0 +1,33 @@
+-- The run that a script leaves.
+use Rattle.std.specs.Prelude.{◌≡◌, ℕ, ◌≤◌, List, [], ◌∷◌, length, Option}
+use Rattle.cdb_control.specs.declared.command.Command.{Command}
+use Rattle.cdb_control.specs.Journal.{Journaled, state_in}
+use Rattle.cdb_run.specs.Current.{RunView}
+use Rattle.cdb_run.specs.Rules.{Rules}
+use Rattle.cdb_setup.specs.Format.{StandsFor, longest}
+use Rattle.cdb_setup.specs.Parts.{Parts}
+use Rattle.cdb_play.specs.Lines.{lines_of}
+use Rattle.cdb_play.specs.Scripts.{AreCommandsOf}
+use Rattle.cdb_play.specs.Streams.{IsReadToEnd}
+use Rattle.cdb_play.specs.Transcripts.{journal_of}
+
+-- a control of one seat, without room, that has carried these commands out
+abbrev pub carried_out : Parts → List Command → Journaled
+carried_out setup commands = record { setup = setup; seats = 1; journal = journal_of commands; rooms = 0 ∷ [] }
+
+-- the run of a control: its setup and its standing events
+abbrev pub run_of : (Parts → Rules) → Journaled → RunView
+run_of rules control = record { setup = control.setup; history = (state_in rules control).history }
+
+-- the run is the one that a script leaves, on the setup that a text of JSON encodes
+pub record IsRunLeft (rules : Parts → Rules) (json script : List ℕ) (run : RunView) : Type 0 where
+  pub setup : Parts
+  pub commands : List Command
+  pub stands : StandsFor json setup
+  pub short : length script ≤ longest
+  pub lines : AreCommandsOf commands (lines_of script)
+  pub is : run ≡ run_of rules (carried_out setup commands)
+
+-- a reader was read to its end, and the run is the one that the script leaves that it gave
+abbrev pub Leaves : (Parts → Rules) → List ℕ → Option (List ℕ) → Option (List ℕ) → RunView → Type 0
+Leaves rules json old new run = (script : List ℕ) × IsReadToEnd old script new × IsRunLeft rules json script run

@@ -1,0 +1,100 @@
+//! The run that a script leaves: its commands are carried out one after the other, without their replies.
+
+ghost use Rattle.std.specs.Prelude.{◌≡◌, ◌<◌, length, Err, IfErr, IfOk, OnOk};
+ghost use Rattle.cdb_control.specs.Headline.{Headline};
+ghost use Rattle.cdb_control.specs.Journal.{extended};
+ghost use Rattle.cdb_run.specs.Algorithms.{rules};
+ghost use Rattle.cdb_run.specs.SameState.{ReachSameState};
+ghost use Rattle.cdb_setup.specs.declared.fault.SetupFault.{SetupFault as SetupFaultName};
+ghost use Rattle.cdb_play.specs.Buffers.{Wrote};
+ghost use Rattle.cdb_play.specs.Faults.{IsFaultOfPlay};
+ghost use Rattle.cdb_play.specs.Left.{carried_out, run_of, Leaves};
+ghost use Rattle.cdb_play.specs.Streams.{FailsWhere};
+
+use crate::buffer::{Buffer, OutputFault};
+use crate::fault::PlayFault;
+use crate::script::commands_of;
+use crate::sink::Sink;
+use crate::source::{Source, read_up_to};
+use cdb_base::NoMemory;
+use cdb_base::limits::MAX_BYTES;
+use cdb_control::{CallFault, Command, Control, RunOfSetup};
+use cdb_setup::Setup;
+use std::alloc::Global;
+
+/// Carries a command out for the only seat.
+fn carry_out(
+    alloc: Global,
+    control: &mut Control<RunOfSetup>,
+    command: Command,
+) -> Result<(), NoMemory>
+    requires seats { control.old.seats ≡ 1 }
+    requires room { length control.old.journal < 999999 }
+    ensures { OnOk result
+        (control.new ≡ extended (rules control.old.setup) control.old 1 command) }
+{
+    match control.execute(alloc, 1, command) {
+        Ok(_) => Ok(()),
+        Err(CallFault::JournalFull) => unreachable!(),
+        Err(CallFault::NoMemory) => Err(NoMemory),
+    }
+}
+
+/// A control that has carried the commands out, one after the other.
+fn control_after(
+    alloc: Global,
+    setup: Setup,
+    commands: &[Command],
+) -> Result<Control<RunOfSetup>, NoMemory>
+    requires { length commands.now < 999999 }
+    ensures { IfOk result (λ control. control ≡ carried_out setup commands.now) }
+{
+    let Ok(mut control) = Control::<RunOfSetup>::open(alloc, setup, 1) else {
+        return Err(NoMemory);
+    };
+    for command in commands {
+        carry_out(alloc, &mut control, *command)?;
+    }
+    Ok(control)
+}
+
+/// The control that a script leaves: its commands were carried out by seat 1 of one seat, as `play` does, and no
+/// reply was written.
+///
+/// The setup is read first, then the whole script, then all its lines. The faults are those of a play, without
+/// `Write`; after `Setup` the script is not read, and `Read` comes only where the reader failed in this call.
+pub fn left_by<R: Source>(
+    alloc: Global,
+    setup: &[u8],
+    script: &mut R,
+) -> Result<Control<RunOfSetup>, PlayFault>
+    ensures left { IfOk result (λ control. Leaves rules setup.now
+        (R.remaining script.old) (R.remaining script.new) (run_of rules control)) }
+    ensures headline { IfOk result (λ control.
+        Headline rules ReachSameState control.setup control.seats control.journal) }
+    ensures fault { IfErr result (λ fault.
+        IsFaultOfPlay fault setup.now (R.remaining script.old) (R.remaining script.new)) }
+    ensures unread { (fault : SetupFaultName) → result ≡ Err (PlayFault.Setup fault) →
+        script.new ≡ script.old }
+    ensures read { FailsWhere R.failures (result ≡ Err PlayFault.Read) script.old script.new }
+{
+    let setup = Setup::read(alloc, setup)?;
+    let bytes = read_up_to(alloc, script, MAX_BYTES + 1)?;
+    let commands = commands_of(alloc, bytes.as_slice())?;
+    let control = control_after(alloc, setup, commands.as_slice())?;
+    // Its clause says that the headline holds of the journal.
+    let _journal = control.journal();
+    Ok(control)
+}
+
+/// Writes a text, in pieces of 65,536 bytes. After `Write` what was written is a beginning of the text, and
+/// after `NoMemory` nothing was.
+pub fn write_text<W: Sink>(alloc: Global, text: &[u8], out: &mut W) -> Result<(), OutputFault>
+    ensures wrote { Wrote W.contents W.failures result out.old out.new text.now }
+    ensures unwritten { result ≡ Err OutputFault.NoMemory → out.new ≡ out.old }
+{
+    let mut buffer = Buffer::new(alloc)?;
+    buffer.put(out, text)?;
+    buffer.flush(out)?;
+    Ok(())
+}
