@@ -26,6 +26,6 @@ pub use output::Output;
 pub use plays::play;
 pub use races::{race, race_on, race_on_with, race_with};
 pub use script::{ScriptFault, commands_of};
-pub use sink::{Failed, Sink};
+pub use sink::{Failed, Sink, write_all};
 pub use source::{ReadFault, Source, read_up_to};
 pub use status::{fits, race_status_of, status_of};

@@ -1,4 +1,1 @@
-pub mod Telling
-pub mod Playing
-pub mod Racing
-pub mod Refusing
+pub mod Requested

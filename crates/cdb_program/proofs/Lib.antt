@@ -1,0 +1,4 @@
+pub mod Opening
+pub mod Seen
+pub mod Raced
+pub mod Reported

@@ -1,0 +1,51 @@
+-- What a race on a setup says of the text that was read as this setup.
+use Rattle.std.proofs.Common.{◌≡◌, ◌≢◌, ◌⊎◌, inl, inr, ℕ, ◌+◌, ◌≤◌, List, length, Option, Result, Ok, Err, sym, ap, subst}
+use Rattle.std.specs.Prelude.{IfErr}
+use Rattle.std.proofs.lemmas.Result.{IfErr-weaker}
+use Rattle.cdb_play.proofs.Ending.{race_unwritten_setup, race_writes_weaker}
+use Rattle.cdb_play.proofs.RunningFaults.{of_race, of_setup_read}
+use Rattle.cdb_play.proofs.Told.{unstopped_of_race, unstopped_of_setup}
+use Rattle.cdb_play.specs.Races.{race_fault_of_setup, IsFaultOnSetup, IsTextOfRace, IsTextOnSetup, IsUnstoppedOnSetup}
+use Rattle.cdb_play.specs.Written.{AgreesAtEnd, RaceWrites}
+use Rattle.cdb_play.specs.declared.fault.RaceFault.{RaceFault}
+use Rattle.cdb_run.specs.Agreement.{HasMajorityIfNeeded}
+use Rattle.cdb_setup.specs.Format.{StandsFor}
+use Rattle.cdb_setup.specs.Order.{IsFirstFault}
+use Rattle.cdb_setup.specs.Parts.{Parts}
+use Rattle.cdb_setup.specs.declared.fault.SetupFault.{SetupFault}
+use Rattle.cdb_setup.specs.declared.fault.SetupFault.TheVariants as setup
+use Rattle.cdb_program.specs.Known.{Stream, contents, failures}
+use Rattle.cdb_program.specs.Racing.{IsRace}
+use Rattle.cdb_program.specs.Streaming.{stream_of}
+use Rattle.cdb_program.proofs.Seen.{race_wrote}
+
+-- the race ran on the setup that the text stands for
+pub race_seen : {W : Type 0} (held : W → Option (List ℕ)) (failed : W → ℕ) (json : List ℕ) (turns : ℕ) (parts : Parts) (scripts : List (List ℕ)) (raced : Result (Unit {0}) RaceFault) (old new : W) → StandsFor json parts
+    → ((other : Parts) → StandsFor json other → parts ≡ other) → parts.processes + length scripts ≤ 64 → RaceWrites held failed raced old new (IsTextOnSetup parts turns scripts)
+    → (HasMajorityIfNeeded parts → AgreesAtEnd held failed raced old new) → IfErr raced (λ fault. IsFaultOnSetup fault parts scripts) → IfErr raced (IsUnstoppedOnSetup parts turns scripts)
+    → IsRace json turns scripts raced (stream_of held failed old) (stream_of held failed new)
+race_seen held failed json turns parts scripts raced old new stands only few wrote agree fault told = record {
+  fits = λ ended other its. subst (λ (p : Parts). p.processes + length scripts ≤ 64) (only other its) few;
+  wrote =
+      race_wrote held failed (IsTextOfRace json turns scripts) raced old new
+      (race_writes_weaker held failed (Unit {0}) (IsTextOnSetup parts turns scripts) raced old new (IsTextOfRace json turns scripts) (λ text is. (parts, stands, is)) wrote);
+  agree = λ other its majority. agree (subst HasMajorityIfNeeded (sym (only other its)) majority);
+  fault = IfErr-weaker raced _ _ (of_race json parts scripts stands) fault;
+  told = IfErr-weaker raced _ _ (unstopped_of_race json parts turns scripts stands) told;
+}
+
+-- the text was not read as a setup
+pub race_unread : (json : List ℕ) (turns : ℕ) (scripts : List (List ℕ)) (fault : SetupFault) (out : Stream) → (fault ≢ setup.NoMemory → IsFirstFault fault json) → ((other : Parts) → StandsFor json other → fault ≡ setup.NoMemory)
+    → IsRace json turns scripts (Err (race_fault_of_setup fault)) out out
+race_unread json turns scripts fault out said only = record {
+  fits = λ ended other its. absurd (ended (ap (λ (f : SetupFault). Err (race_fault_of_setup f)) (only other its)));
+  wrote = race_unwritten_setup contents failures (Unit {0}) (IsTextOfRace json turns scripts) out fault;
+  agree = λ other its majority. tt;
+  fault = of_setup_read json scripts fault said;
+  told = unstopped_of_setup json turns scripts fault;
+}
+
+-- what was read is the only setup that the text stands for
+pub memory_alone : (read : Result Parts SetupFault) (fault : SetupFault) (parts : Parts) → read ≡ Err fault → (read ≡ Ok parts) ⊎ (read ≡ Err setup.NoMemory) → fault ≡ setup.NoMemory
+memory_alone read fault parts is (inl e) = absurd cc
+memory_alone read fault parts is (inr e) = cc

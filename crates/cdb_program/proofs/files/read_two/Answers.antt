@@ -1,0 +1,18 @@
+use Rattle.std.proofs.Common.{◌∷◌, []}
+use Rattle.std.proofs.lemmas.Result.{err_from_is_err_and}
+use Rattle.cdb_program.proofs.Opening.{fails_before, fails_then, read_then}
+use Rattle.cdb_program.proofs.files.read_two.Goals as goal
+
+pub returns-in_err-json-clause-fault : goal.returns-in_err-json-clause-fault
+returns-in_err-json-clause-fault g c =
+    let p = err_from_is_err_and c.from_residual.result c.from_residual.ensures.1 in
+    rw (p.1, p.2) (fails_before _ _ (c.args.setup.now ∷ []) (c.args.script.now ∷ []) c.in_err-json.field-0.0 c.in_err-json.ensures.fault)
+
+pub returns-in_err-bytes-clause-fault : goal.returns-in_err-bytes-clause-fault
+returns-in_err-bytes-clause-fault g c =
+    let p = err_from_is_err_and c.from_residual-in_err-bytes.result c.from_residual-in_err-bytes.ensures.1 in
+    rw (p.1, p.2) (fails_then _ _ _ (c.args.setup.now ∷ []) (c.args.script.now ∷ []) (c.in_ok-json.json.items ∷ []) c.in_err-bytes.field-0.0 c.in_ok-json.ensures.read c.in_err-bytes.ensures.fault)
+
+pub returns-clause-read : goal.returns-clause-read
+returns-clause-read g c =
+    read_then _ _ _ (c.args.setup.now ∷ []) (c.args.script.now ∷ []) (c.in_ok-json.json.items ∷ []) (c.in_ok-bytes.bytes.items ∷ []) c.in_ok-json.ensures.read c.in_ok-bytes.ensures.read

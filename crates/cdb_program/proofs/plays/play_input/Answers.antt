@@ -1,0 +1,15 @@
+use Rattle.std.proofs.Common.{refl}
+use Rattle.cdb_program.proofs.Seen.{play_seen}
+use Rattle.cdb_program.proofs.plays.play_input.Goals as goal
+
+pub returns-clause-does : goal.returns-clause-does
+returns-clause-does g c =
+    let said = c.play-played.ensures in
+    rw (← c.outside.view_is) (
+      refl,
+      (
+        c.play-played.result,
+        c.of_play.ensures,
+        play_seen g.I.Source.remaining g.I.Source.failures g.O.Sink.contents g.O.Sink.failures _ c.play-played.result _ _ _ _ said.wrote said.headline said.fault said.unread said.read,
+      ),
+    )

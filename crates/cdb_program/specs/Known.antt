@@ -1,0 +1,43 @@
+-- What is known of the outside of the program.
+use Rattle.std.specs.Prelude.{ℕ, List, ◌++◌, Option, option_map, bytes_eq}
+use Rattle.std.specs.List.{find}
+use Rattle.cdb_play.specs.Streams.{one_more}
+
+-- A stream: of standard input the bytes that are left, of an output those that it holds, where they are known; and how many
+-- of its calls failed, in 64 bits
+pub record Stream : Type 0 where
+  pub bytes : Option (List ℕ)
+  pub failures : ℕ
+
+-- Files: those that are known, each a name and its bytes; the names of those that were opened, in order, where these are known;
+-- and how many could not be read, in 64 bits
+pub record FilesSeen : Type 0 where
+  pub known : List (List ℕ × List ℕ)
+  pub opened : Option (List (List ℕ))
+  pub failures : ℕ
+
+-- all of the outside
+pub record Seen : Type 0 where
+  pub files : FilesSeen
+  pub input : Stream
+  pub output : Stream
+  pub error : Stream
+
+-- a stream's parts
+abbrev pub contents : Stream → Option (List ℕ)
+contents stream = stream.bytes
+
+abbrev pub failures : Stream → ℕ
+failures stream = stream.failures
+
+-- the bytes of the file of this name, where they are known
+abbrev pub content_of : FilesSeen → List ℕ → Option (List ℕ)
+content_of files name = option_map (λ file. file.1) (find (λ file. bytes_eq file.0 name) files.known)
+
+-- files once these were opened too, one after the other
+abbrev pub after_opening : FilesSeen → List (List ℕ) → FilesSeen
+after_opening files names = record files { opened = option_map (λ before. before ++ names) files.opened }
+
+-- and once the last of them could not be read
+abbrev pub after_failing : FilesSeen → List (List ℕ) → FilesSeen
+after_failing files names = record (after_opening files names) { failures = one_more files.failures }

@@ -1,0 +1,11 @@
+-- what is known of the outside
+pub mod Known
+-- what a request does there
+pub mod Outcomes
+pub mod Reading
+pub mod Reports
+pub mod Playing
+pub mod Racing
+pub mod Requests
+-- what the code keeps for itself
+pub mod Streaming

@@ -1,0 +1,22 @@
+-- How requests end.
+use Rattle.std.specs.Prelude.{◌≡◌, ℕ, List, Result, Ok, Err}
+use Rattle.cdb_play.specs.declared.fault.PlayFault.{PlayFault}
+use Rattle.cdb_play.specs.declared.fault.RaceFault.{RaceFault}
+use Rattle.cdb_program.specs.declared.fault.Fault.{Fault}
+use Rattle.cdb_program.specs.declared.fault.Fault.TheVariants.{Play, Race}
+
+-- how a request ended
+abbrev pub Outcome : Type 0
+Outcome = Result (Unit {0}) Fault
+
+-- it ended as the play did, whose fault has the name of the script
+abbrev pub IsOfPlay : List ℕ → Result (Unit {0}) PlayFault → Outcome → Type 0
+IsOfPlay name (Ok done) (Ok its_done) = Unit {0}
+IsOfPlay name (Err fault) (Err (Play its_fault its_name)) = (its_fault ≡ fault) × (its_name.now ≡ name)
+IsOfPlay name played outcome = ⊥
+
+-- it ended as the race did
+abbrev pub IsOfRace : Result (Unit {0}) RaceFault → Outcome → Type 0
+IsOfRace (Ok done) (Ok its_done) = Unit {0}
+IsOfRace (Err fault) (Err (Race its_fault)) = its_fault ≡ fault
+IsOfRace raced outcome = ⊥

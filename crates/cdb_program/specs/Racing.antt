@@ -1,0 +1,41 @@
+-- What races do.
+use Rattle.std.specs.Prelude.{◌≡◌, ◌≢◌, ◌⊎◌, ℕ, ◌+◌, ◌<◌, ◌≤◌, List, [], ◌∷◌, length, Result, Err, IfErr}
+use Rattle.cdb_play.specs.Races.{IsTextOfRace, IsFaultOfRace, IsUnstoppedOfRace}
+use Rattle.cdb_play.specs.Written.{AgreesAtEnd, RaceWrites}
+use Rattle.cdb_play.specs.declared.fault.RaceFault.{RaceFault}
+use Rattle.cdb_play.specs.declared.fault.RaceFault.TheVariants.{NoMemory}
+use Rattle.cdb_run.specs.Agreement.{HasMajorityIfNeeded}
+use Rattle.cdb_setup.specs.Format.{StandsFor}
+use Rattle.cdb_setup.specs.Parts.{Parts}
+use Rattle.cdb_program.specs.Known.{Stream, Seen, contents, failures}
+use Rattle.cdb_program.specs.Outcomes.{Outcome, IsOfRace}
+use Rattle.cdb_program.specs.Reading.{ReadsThen}
+use Rattle.cdb_program.specs.declared.fault.Fault.TheVariants.{TooManySeats}
+
+-- the setup's processes and this many scripts need more seats than there are
+abbrev pub NeedsTooManySeats : List ℕ → ℕ → Type 0
+NeedsTooManySeats json scripts = (setup : Parts) × StandsFor json setup × (64 < setup.processes + scripts)
+
+-- A race of scripts on the setup of this text ended so. The output is seen before and after.
+pub record IsRace (json : List ℕ) (turns : ℕ) (scripts : List (List ℕ)) (raced : Result (Unit {0}) RaceFault) (old new : Stream) : Type 0 where
+  pub fits : raced ≢ Err NoMemory → (setup : Parts) → StandsFor json setup → setup.processes + length scripts ≤ 64
+  pub wrote : RaceWrites contents failures raced old new (IsTextOfRace json turns scripts)
+  pub agree : (setup : Parts) → StandsFor json setup → HasMajorityIfNeeded setup → AgreesAtEnd contents failures raced old new
+  pub fault : IfErr raced (λ fault. IsFaultOfRace fault json scripts)
+  pub told : IfErr raced (IsUnstoppedOfRace json turns scripts)
+
+-- a race of the scripts on the setup, or too many seats for it, and then nothing is written
+abbrev pub RacesOn : List ℕ → ℕ → List (List ℕ) → Stream → Stream → Outcome → Type 0
+RacesOn json turns scripts old new outcome =
+    ((raced : Result (Unit {0}) RaceFault) × IsOfRace raced outcome × IsRace json turns scripts raced old new)
+    ⊎ ((outcome ≡ Err TooManySeats) × NeedsTooManySeats json (length scripts) × (new ≡ old))
+
+-- the bytes of a setup and of scripts, and the scripts race on the setup
+abbrev pub RacesBytes : ℕ → Stream → Stream → Outcome → List (List ℕ) → Type 0
+RacesBytes turns old new outcome (json ∷ scripts) = RacesOn json turns scripts old new outcome
+RacesBytes turns old new outcome [] = ⊥
+
+-- the file of the setup and then those of the scripts are read, in order, and the scripts race on the setup
+abbrev pub RacesFiles : List ℕ → ℕ → List (List ℕ) → Seen → Seen → Outcome → Type 0
+RacesFiles setup turns scripts old new outcome =
+    ReadsThen (setup ∷ scripts) old new outcome (RacesBytes turns old.output new.output outcome)

@@ -1,0 +1,41 @@
+-- What the program does with a request.
+use Rattle.std.specs.Prelude.{◌≡◌, ℕ, ◌≤◌, List, Ok, Err}
+use Rattle.cdb_play.specs.Streams.{Takes, Fails}
+use Rattle.cdb_play.specs.declared.fault.PlayFault.TheVariants.{Write}
+use Rattle.cdb_program.specs.Known.{Seen, Stream, contents, failures}
+use Rattle.cdb_program.specs.Outcomes.{Outcome}
+use Rattle.cdb_program.specs.Playing.{PlaysInput, PlaysFiles}
+use Rattle.cdb_program.specs.Racing.{RacesFiles}
+use Rattle.cdb_program.specs.Reading.{texts}
+use Rattle.cdb_program.specs.Reports.{IsReported}
+use Rattle.cdb_program.specs.declared.fault.Fault.TheVariants.{Play}
+use Rattle.cdb_program.specs.declared.request.Request.{Request}
+use Rattle.cdb_program.specs.declared.request.Request.TheVariants as request
+
+-- no file is opened, and standard input is left as it is
+abbrev pub ReadsNothing : Seen → Seen → Type 0
+ReadsNothing old new = (new.files ≡ old.files) × (new.input ≡ old.input)
+
+-- the text is written, or the outcome is that output failed
+abbrev pub Prints : List ℕ → Stream → Stream → Outcome → Type 0
+Prints text old new (Ok done) = Takes contents failures old new text
+Prints text old new (Err (Play Write name)) = Fails contents failures old new text
+Prints text old new (Err other) = ⊥
+
+-- a race has turns that its threads can count: 0 to 99,999
+abbrev pub HasTurns : Request → Type 0
+HasTurns (request.Race setup turns scripts) = turns ≤ 99999
+HasTurns other = Unit {0}
+
+-- what is done with a request, but for what is reported of a fault
+abbrev pub Does : Request → Seen → Seen → Outcome → Type 0
+Does request.Script old new outcome = PlaysInput old new outcome
+Does (request.Play setup script) old new outcome = PlaysFiles setup.now script.now old new outcome
+Does (request.Race setup turns scripts) old new outcome = RacesFiles setup.now turns (texts scripts.now) old new outcome
+Does (request.Print text) old new outcome = ReadsNothing old new × Prints text.now old.output new.output outcome
+Does (request.Refuse fault) old new outcome = ReadsNothing old new × (new.output ≡ old.output) × (outcome ≡ Err fault)
+
+-- the request was carried out, and how it ended was reported
+abbrev pub Performs : Request → Seen → Seen → ℕ → Type 0
+Performs request old new status =
+    (outcome : Outcome) × Does request old new outcome × IsReported outcome old.error new.error status

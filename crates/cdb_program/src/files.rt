@@ -1,0 +1,93 @@
+//! Files, which are read by their names.
+
+ghost use Rattle.std.specs.Prelude.{[], ◌∷◌, IfOk, IfErr};
+ghost use Rattle.cdb_play.specs.Races.{bytes_of};
+ghost use Rattle.cdb_program.specs.Known.{FilesSeen};
+ghost use Rattle.cdb_program.specs.Reading.{texts, ReadsFile, HasRead, FailsToRead};
+
+use crate::fault::Fault;
+use cdb_play::{MAX_BYTES, PlayFault, ReadFault};
+use std::alloc::Global;
+
+/// How many bytes of a file are read: one more than a setup or a script may have, which shows that it is too long.
+const MOST_READ: usize = MAX_BYTES + 1;
+
+/// Files that can be read by their names.
+pub trait Files {
+    /// What is known of the files: their bytes, the names of those that were opened, and how many could not be read.
+    ghost seen: { Self → FilesSeen };
+
+    /// Reads the file of this name to its end, or this many bytes where it has more.
+    ///
+    /// # Errors
+    /// `Failed` where the file can't be opened or read, and `NoMemory` where an allocation fails, which counts as if
+    /// the file had not been opened.
+    fn read(&mut self, alloc: Global, name: &str, most: usize) -> Result<Vec<u8>, ReadFault>
+        ensures { ReadsFile (seen self.old) (seen self.new) name.now most result };
+}
+
+/// The bytes of the file of this name, at most 1,048,577 of them.
+///
+/// # Errors
+/// `Play(Read, name)` where the file can't be read, and `Play(NoMemory, name)` where an allocation fails.
+pub fn read_file<'a, F: Files>(
+    alloc: Global,
+    files: &mut F,
+    name: &'a str,
+) -> Result<Vec<u8>, Fault<'a>>
+    ensures read { IfOk result (λ bytes.
+        HasRead (F.seen files.old) (F.seen files.new) (name.entry.now ∷ []) (bytes.items ∷ [])) }
+    ensures fault { IfErr result
+        (FailsToRead (F.seen files.old) (F.seen files.new) (name.entry.now ∷ [])) }
+{
+    match files.read(alloc, name, MOST_READ) {
+        Ok(bytes) => Ok(bytes),
+        Err(fault) => Err(Fault::Play(PlayFault::from(fault), name)),
+    }
+}
+
+/// The bytes of the file of a setup and then of that of a script.
+///
+/// # Errors
+/// Those of `read_file`, of the first file that can't be read; the one after it is not opened.
+pub fn read_two<'a, F: Files>(
+    alloc: Global,
+    files: &mut F,
+    setup: &'a str,
+    script: &'a str,
+) -> Result<(Vec<u8>, Vec<u8>), Fault<'a>>
+    ensures read { IfOk result (λ two.
+        HasRead (F.seen files.old) (F.seen files.new) (setup.entry.now ∷ script.entry.now ∷ [])
+        (two.0.items ∷ two.1.items ∷ [])) }
+    ensures fault { IfErr result (FailsToRead (F.seen files.old) (F.seen files.new)
+        (setup.entry.now ∷ script.entry.now ∷ [])) }
+{
+    let json = read_file(alloc, files, setup)?;
+    let bytes = read_file(alloc, files, script)?;
+    Ok((json, bytes))
+}
+
+/// The bytes of the files of these names, which are read one after the other as `read_file` does.
+///
+/// # Errors
+/// `Play(Read, name)` with the name of the first file that can't be read; those after it are not opened.
+/// `Play(NoMemory, _)` where an allocation fails.
+pub fn read_each<'a, F: Files>(
+    alloc: Global,
+    files: &mut F,
+    names: &[&'a str],
+) -> Result<Vec<Vec<u8>>, Fault<'a>>
+    ensures read { IfOk result (λ contents.
+        HasRead (F.seen files.old) (F.seen files.new) (texts names.now) (bytes_of contents.items)) }
+    ensures fault { IfErr result
+        (FailsToRead (F.seen files.old) (F.seen files.new) (texts names.now)) }
+{
+    let mut contents = Vec::new(alloc);
+    for name in names {
+        let bytes = read_file(alloc, files, name)?;
+        if contents.push(bytes).is_err() {
+            return Err(Fault::Play(PlayFault::NoMemory, name));
+        }
+    }
+    Ok(contents)
+}

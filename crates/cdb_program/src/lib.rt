@@ -1,0 +1,15 @@
+//! What the program `revdbg` does with a request, over an outside of files, standard input and two outputs.
+#![tactic(auto)]
+
+mod fault;
+mod files;
+mod outside;
+mod plays;
+mod races;
+mod reports;
+mod request;
+
+pub use fault::Fault;
+pub use files::Files;
+pub use outside::Outside;
+pub use request::{Request, perform};

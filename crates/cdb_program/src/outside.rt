@@ -1,0 +1,28 @@
+//! The outside of the program: files, standard input, standard output and standard error.
+
+ghost use Rattle.cdb_program.specs.Known.{Seen};
+
+use crate::files::Files;
+use cdb_play::{Sink, Source};
+use std::marker::Model;
+
+/// The outside of the program. Contracts see it as what is known of its files and streams.
+#[derive(Drop)]
+pub struct Outside<F: Files + Drop, I: Source + Drop, O: Sink + Drop, E: Sink + Drop> {
+    pub files: F,
+    pub input: I,
+    pub output: O,
+    pub error: E,
+}
+
+impl<F: Files + Drop, I: Source + Drop, O: Sink + Drop, E: Sink + Drop> Model
+    for Outside<F, I, O, E> {
+    ghost Value = { Seen };
+
+    ghost view = { λ outside. record {
+      files = F.seen outside.files;
+      input = record { bytes = I.remaining outside.input; failures = I.failures outside.input };
+      output = record { bytes = O.contents outside.output; failures = O.failures outside.output };
+      error = record { bytes = E.contents outside.error; failures = E.failures outside.error };
+    } };
+}

@@ -1,0 +1,42 @@
+//! Plays of what is outside.
+
+ghost use Rattle.std.specs.Prelude.{◌≡◌};
+ghost use Rattle.cdb_program.specs.Playing.{PlaysInput, PlaysFiles};
+
+use crate::fault::{Fault, of_play};
+use crate::files::{Files, read_two};
+use crate::outside::Outside;
+use cdb_play::{Bytes, Sink, Source, play};
+use std::alloc::Global;
+
+/// The setup that a script from standard input is played on.
+const ONE_PROCESS: &[u8] =
+    b"{\"algorithm\":\"leader\",\"processes\":1,\"quorum\":1,\"inputs\":[7],\"oracle\":[[1]]}";
+
+/// Plays the script on standard input.
+pub fn play_input<F: Files + Drop, I: Source + Drop, O: Sink + Drop, E: Sink + Drop>(
+    alloc: Global,
+    outside: &mut Outside<F, I, O, E>,
+) -> Result<(), Fault<'static>>
+    ensures does { PlaysInput outside.old outside.new result }
+    ensures error { outside.new.error ≡ outside.old.error }
+{
+    let played = play(alloc, ONE_PROCESS, &mut outside.input, &mut outside.output);
+    of_play(played, "standard input")
+}
+
+/// Plays a script file on a run of a setup file.
+pub fn play_files<'a, F: Files + Drop, I: Source + Drop, O: Sink + Drop, E: Sink + Drop>(
+    alloc: Global,
+    setup: &'a str,
+    script: &'a str,
+    outside: &mut Outside<F, I, O, E>,
+) -> Result<(), Fault<'a>>
+    ensures does { PlaysFiles setup.entry.now script.entry.now outside.old outside.new result }
+    ensures error { outside.new.error ≡ outside.old.error }
+{
+    let (json, bytes) = read_two(alloc, &mut outside.files, setup, script)?;
+    let mut commands = Bytes::new(bytes.as_slice());
+    let played = play(alloc, json.as_slice(), &mut commands, &mut outside.output);
+    of_play(played, script)
+}

@@ -1,0 +1,72 @@
+//! Races of what is outside.
+
+ghost use Rattle.std.specs.Prelude.{◌≡◌, ◌≤◌};
+ghost use Rattle.cdb_play.specs.Races.{bytes_of};
+ghost use Rattle.cdb_program.specs.Racing.{RacesOn, RacesFiles};
+ghost use Rattle.cdb_program.specs.Reading.{texts};
+ghost use Rattle.cdb_program.specs.Streaming.{stream_of};
+
+use crate::fault::{Fault, of_race};
+use crate::files::{Files, read_each, read_file};
+use crate::outside::Outside;
+use cdb_play::{RaceFault, Sink, Source, fits, race_on};
+use cdb_setup::Setup;
+use std::alloc::Global;
+use std::sync::Wait;
+use std::thread::Threads;
+
+/// Runs a race of scripts, where it has seats enough.
+fn race_bytes<R: Threads + Wait + Sync, O: Sink>(
+    threads: &R,
+    alloc: Global,
+    setup: &[u8],
+    turns: u32,
+    scripts: &[Vec<u8>],
+    output: &mut O,
+) -> Result<(), Fault<'static>>
+    requires { turns ≤ 99999 }
+    ensures { RacesOn setup.now turns (bytes_of scripts.now)
+        (stream_of O.contents O.failures output.old) (stream_of O.contents O.failures output.new) result }
+{
+    let parts = match Setup::read(alloc, setup) {
+        Ok(parts) => parts,
+        Err(fault) => return of_race(Err(RaceFault::from(fault))),
+    };
+    if !fits(&parts, scripts.len()) {
+        return Err(Fault::TooManySeats);
+    }
+    let raced = race_on(threads, alloc, parts, turns, scripts, output);
+    of_race(raced)
+}
+
+/// Runs a race of script files on a run of a setup file.
+pub fn race_files<
+    'a,
+    R: Threads + Wait + Sync,
+    F: Files + Drop,
+    I: Source + Drop,
+    O: Sink + Drop,
+    E: Sink + Drop,
+>(
+    threads: &R,
+    alloc: Global,
+    setup: &'a str,
+    turns: u32,
+    scripts: &[&'a str],
+    outside: &mut Outside<F, I, O, E>,
+) -> Result<(), Fault<'a>>
+    requires { turns ≤ 99999 }
+    ensures does { RacesFiles setup.entry.now turns (texts scripts.now) outside.old outside.new result }
+    ensures error { outside.new.error ≡ outside.old.error }
+{
+    let json = read_file(alloc, &mut outside.files, setup)?;
+    let contents = read_each(alloc, &mut outside.files, scripts)?;
+    race_bytes(
+        threads,
+        alloc,
+        json.as_slice(),
+        turns,
+        contents.as_slice(),
+        &mut outside.output,
+    )
+}

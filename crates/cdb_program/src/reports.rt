@@ -1,0 +1,49 @@
+//! What is reported of how a request ended.
+
+ghost use Rattle.std.specs.Prelude.{◌≡◌};
+ghost use Rattle.cdb_program.specs.Reports.{fault_text, fault_status, IsReported};
+ghost use Rattle.cdb_program.specs.Streaming.{stream_of};
+ghost use Rattle.cdb_play.specs.Streams.{Writes};
+
+use crate::fault::Fault;
+use cdb_play::{Failed, Sink, race_status_of, status_of, write_all, write_fault, write_race_fault};
+
+/// The status after arguments that can't be carried out.
+const USAGE: u8 = 2;
+
+/// The status after this fault.
+fn status_after(fault: &Fault<'_>) -> u8
+    ensures { result ≡ fault_status fault.now }
+{
+    match fault {
+        Fault::Play(fault, _) => status_of(fault),
+        Fault::Race(fault) => race_status_of(fault),
+        Fault::TooManySeats | Fault::Refused(_) => USAGE,
+    }
+}
+
+/// Writes the text of a fault. Where the writer fails, what was written is a beginning of it.
+fn write_text<E: Sink>(fault: &Fault<'_>, error: &mut E) -> Result<(), Failed>
+    ensures { Writes E.contents E.failures result error.old error.new (fault_text fault.now) }
+{
+    match fault {
+        Fault::Play(fault, name) => write_fault(fault, name, error),
+        Fault::Race(fault) => write_race_fault(fault, error),
+        Fault::TooManySeats => write_all(error, b"too many seats\n"),
+        Fault::Refused(reason) => write_all(error, reason.as_bytes()),
+    }
+}
+
+/// Reports how a request ended, and returns the status.
+pub fn report<E: Sink>(outcome: Result<(), Fault<'_>>, error: &mut E) -> u8
+    ensures { IsReported outcome.entry
+        (stream_of E.contents E.failures error.old) (stream_of E.contents E.failures error.new) result }
+{
+    match outcome {
+        Ok(()) => 0,
+        Err(fault) => {
+            let _ = write_text(&fault, error);
+            status_after(&fault)
+        }
+    }
+}

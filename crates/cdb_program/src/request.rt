@@ -1,0 +1,93 @@
+//! What the program is asked to do, and that it does it.
+
+ghost use Rattle.std.specs.Prelude.{◌≡◌, ◌≤◌};
+ghost use Rattle.cdb_program.specs.Requests.{Does, Performs, Prints, HasTurns};
+ghost use Rattle.cdb_program.specs.Streaming.{stream_of};
+
+use crate::fault::Fault;
+use crate::files::Files;
+use crate::outside::Outside;
+use crate::plays::{play_files, play_input};
+use crate::races::race_files;
+use crate::reports::report;
+use cdb_play::{PlayFault, Sink, Source, write_all};
+use std::alloc::Global;
+use std::sync::Wait;
+use std::thread::Threads;
+
+/// What the program is asked to do.
+#[derive(Clone, Copy)]
+pub enum Request<'a> {
+    /// Plays the script on standard input, on one process that proposes 7.
+    Script,
+    /// Plays a script file on a run of a setup file.
+    Play {
+        setup: &'a str,
+        script: &'a str,
+    },
+    /// Runs a race of script files on a run of a setup file, with 0 to 99,999 turns for each process.
+    Race {
+        setup: &'a str,
+        turns: u32,
+        scripts: &'a [&'a str],
+    },
+    /// Writes a text to standard output.
+    Print(&'a str),
+    /// Does nothing, and reports this fault.
+    Refuse(Fault<'a>),
+}
+
+/// Writes a text to standard output.
+fn print<O: Sink>(text: &str, output: &mut O) -> Result<(), Fault<'static>>
+    ensures { Prints text.now (stream_of O.contents O.failures output.old)
+        (stream_of O.contents O.failures output.new) result }
+{
+    write_all(output, text.as_bytes()).map_err(|_| Fault::Play(PlayFault::Write, ""))
+}
+
+/// Carries a request out, and reports nothing.
+fn carry_out<
+    'a,
+    R: Threads + Wait + Sync,
+    F: Files + Drop,
+    I: Source + Drop,
+    O: Sink + Drop,
+    E: Sink + Drop,
+>(
+    threads: &R,
+    alloc: Global,
+    request: Request<'a>,
+    outside: &mut Outside<F, I, O, E>,
+) -> Result<(), Fault<'a>>
+    requires { HasTurns request }
+    ensures does { Does request.entry outside.old outside.new result }
+    ensures error { outside.new.error ≡ outside.old.error }
+{
+    match request {
+        Request::Script => play_input(alloc, outside),
+        Request::Play { setup, script } => play_files(alloc, setup, script, outside),
+        Request::Race {
+            setup,
+            turns,
+            scripts,
+        } => race_files(threads, alloc, setup, turns, scripts, outside),
+        Request::Print(text) => print(text, &mut outside.output),
+        Request::Refuse(fault) => Err(fault),
+    }
+}
+
+/// Carries a request out, reports on standard error how it ended, and returns the status with which the program
+/// ends: 0 where all went well, else 2 to 9. A fault has one line on standard error, and nothing else is written there.
+pub fn perform<
+    R: Threads + Wait + Sync,
+    F: Files + Drop,
+    I: Source + Drop,
+    O: Sink + Drop,
+    E: Sink + Drop,
+>(threads: &R, alloc: Global, request: Request<'_>, outside: &mut Outside<F, I, O, E>) -> u8
+    requires { HasTurns request }
+    ensures { Performs request.entry outside.old outside.new result }
+{
+    let outcome = carry_out(threads, alloc, request, outside);
+    report(outcome, &mut outside.error)
+}

@@ -1,0 +1,89 @@
+//! Files in memory.
+
+ghost use Rattle.std.specs.Prelude.{◌≡◌, option_map};
+ghost use Rattle.program_tests.specs.Files.{known, content_in};
+
+use cdb_play::ReadFault;
+use cdb_program::Files;
+use std::alloc::Global;
+
+/// A name and the bytes of the file of this name.
+type Named = (&'static str, &'static [u8]);
+
+/// The files of the tests.
+pub const FILES: &[Named] = &[
+    (
+        "one.json",
+        b"{\"algorithm\":\"leader\",\"processes\":1,\"quorum\":1,\"inputs\":[7],\"oracle\":[[1]]}",
+    ),
+    (
+        "two.json",
+        b"{\"algorithm\":\"leader\",\"processes\":2,\"quorum\":2,\"inputs\":[5,6],\"oracle\":[[1],[1]]}",
+    ),
+    (
+        "eight.txt",
+        b"auto 1\nauto 1\nauto 1\nauto 1\nauto 1\nauto 1\nauto 1\nauto 1\n",
+    ),
+    ("undo.txt", b"undo 3 1\n"),
+    ("redo.txt", b"redo"),
+    ("decisions.txt", b"decisions\n"),
+    ("number.txt", b"auto 1\nstep 01 go\n"),
+    ("list.json", b"[]"),
+];
+
+/// Files in memory, the names of those that were opened, and how many more can be read.
+#[derive(Drop)]
+pub struct Folder {
+    files: &'static [Named],
+    pub opened: Vec<Vec<u8>>,
+    good_reads: usize,
+    pub failures: u64,
+}
+
+impl Folder {
+    /// These files, of which none was opened.
+    pub fn new(alloc: Global, files: &'static [Named], good_reads: usize) -> Self {
+        Folder {
+            files,
+            opened: Vec::new(alloc),
+            good_reads,
+            failures: 0,
+        }
+    }
+}
+
+/// The bytes of the file of this name.
+fn content_of(files: &[Named], name: &str) -> Option<&'static [u8]>
+    ensures { option_map (λ bytes. bytes.now) result ≡ content_in (known files.now) name.now }
+{
+    files.iter().find(|file| file.0 == name).map(|file| file.1)
+}
+
+impl Files for Folder {
+    ghost use Rattle.std.specs.Prelude.{Some};
+    ghost use Rattle.cdb_play.specs.Races.{bytes_of};
+    ghost use Rattle.program_tests.specs.Files.{known};
+
+    ghost seen = { λ folder. record {
+      known = known folder.files.now;
+      opened = Some (bytes_of folder.opened.items);
+      failures = folder.failures;
+    } };
+
+    fn read(&mut self, alloc: Global, name: &str, most: usize) -> Result<Vec<u8>, ReadFault> {
+        let copy = Vec::from_slice(alloc, name.as_bytes())?;
+        let content = content_of(self.files, name);
+        let content = if self.good_reads == 0 { None } else { content };
+        let all = content.unwrap_or(&[]);
+        let bytes = Vec::from_slice(alloc, &all[..most.min(all.len())])?;
+        if self.opened.push(copy).is_err() {
+            return Err(ReadFault::NoMemory);
+        }
+        self.good_reads = self.good_reads.saturating_sub(1);
+        if content.is_none() {
+            self.failures = self.failures.wrapping_add(1);
+            return Err(ReadFault::Failed);
+        }
+        Ok(bytes)
+    }
+}

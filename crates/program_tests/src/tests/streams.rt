@@ -1,0 +1,83 @@
+//! A reader and a writer over memory, which move few bytes a call, and fail once their good calls are over.
+
+use cdb_play::{Failed, Sink, Source};
+use std::alloc::Global;
+
+/// How many bytes a call moves at most.
+const MOST: usize = 5;
+
+/// A reader over memory.
+#[derive(Drop)]
+pub struct Reader<'a> {
+    rest: &'a [u8],
+    good_calls: usize,
+    pub failures: u64,
+}
+
+impl<'a> Reader<'a> {
+    /// All the bytes are left, and this many calls go well.
+    pub fn new(rest: &'a [u8], good_calls: usize) -> Self {
+        Reader {
+            rest,
+            good_calls,
+            failures: 0,
+        }
+    }
+}
+
+impl<'a> Source for Reader<'a> {
+    ghost use Rattle.std.specs.Prelude.{Some};
+
+    ghost remaining = { λ source. Some source.rest.now };
+
+    ghost failures = { λ source. source.failures };
+
+    fn read(&mut self, buffer: &mut [u8]) -> Result<usize, Failed> {
+        if self.good_calls == 0 {
+            self.failures = self.failures.wrapping_add(1);
+            return Err(Failed);
+        }
+        self.good_calls -= 1;
+        let count = buffer.len().min(self.rest.len()).min(MOST);
+        buffer[..count].copy_from_slice(&self.rest[..count]);
+        self.rest = &self.rest[count..];
+        Ok(count)
+    }
+}
+
+/// A writer over memory.
+#[derive(Drop)]
+pub struct Writer {
+    pub held: Vec<u8>,
+    good_calls: usize,
+    pub failures: u64,
+}
+
+impl Writer {
+    /// It holds nothing, and this many calls go well.
+    pub fn new(alloc: Global, good_calls: usize) -> Self {
+        Writer {
+            held: Vec::new(alloc),
+            good_calls,
+            failures: 0,
+        }
+    }
+}
+
+impl Sink for Writer {
+    ghost use Rattle.std.specs.Prelude.{Some};
+
+    ghost contents = { λ out. Some out.held.items };
+
+    ghost failures = { λ out. out.failures };
+
+    fn write(&mut self, piece: &[u8]) -> Result<usize, Failed> {
+        let count = piece.len().min(MOST);
+        if self.good_calls == 0 || self.held.extend_from_slice(&piece[..count]).is_err() {
+            self.failures = self.failures.wrapping_add(1);
+            return Err(Failed);
+        }
+        self.good_calls -= 1;
+        Ok(count)
+    }
+}

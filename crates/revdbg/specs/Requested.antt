@@ -1,0 +1,49 @@
+-- What the arguments request, and that it is performed.
+use Rattle.std.specs.Prelude.{◌≡◌, ◌≢◌, ◌⊎◌, ℕ, List, Option}
+use Rattle.clap.specs.Words.{Kinds, IsAmong, Row, Text}
+use Rattle.clap.specs.declared.error.kind.ErrorKind.{ErrorKind}
+use Rattle.cdb_arguments.specs.Asking.{Asks, texts, words_status}
+use Rattle.cdb_arguments.specs.declared.request.Asked.{Asked}
+use Rattle.cdb_arguments.specs.declared.request.Asked.TheVariants as asked
+use Rattle.cdb_play.specs.declared.fault.PlayFault.TheVariants.{NoMemory}
+use Rattle.cdb_program.specs.Known.{Seen}
+use Rattle.cdb_program.specs.Requests.{Performs}
+use Rattle.cdb_program.specs.declared.fault.Fault.TheVariants as fault
+use Rattle.cdb_program.specs.declared.request.Request.{Request}
+use Rattle.cdb_program.specs.declared.request.Request.TheVariants.{Script, Play, Race, Print, Refuse}
+
+-- a play of these two files
+abbrev pub IsPlay : Text → Text → Request → Type 0
+IsPlay setup script (Play its_setup its_script) = (its_setup.now ≡ setup) × (its_script.now ≡ script)
+IsPlay setup script request = ⊥
+
+-- a race of these files, in this order
+abbrev pub IsRace : Text → ℕ → List Text → Request → Type 0
+IsRace setup turns scripts (Race its_setup its_turns its_scripts) =
+    (its_setup.now ≡ setup) × (its_turns ≡ turns) × (texts its_scripts.now ≡ scripts)
+IsRace setup turns scripts request = ⊥
+
+-- the request for what was asked for
+abbrev pub IsRequestOf : Asked → Request → Type 0
+IsRequestOf asked.Script request = request ≡ Script
+IsRequestOf (asked.Play setup script) request = IsPlay setup.now script.now request
+IsRequestOf (asked.Race setup turns scripts) request = IsRace setup.now turns (texts scripts.items) request
+
+-- the request for what the subcommand that `clap` found asks for
+abbrev pub IsRequested : Option (Text × List Row) → Request → Type 0
+IsRequested found request = (it : Asked) × Asks found it × IsRequestOf it request
+
+-- help or the version is printed where that was asked for, else the text of what is wrong is reported
+abbrev pub IsRefusal : Kinds → Request → Type 0
+IsRefusal kinds (Print text) = (kind : ErrorKind) × IsAmong kind kinds × (words_status kind ≡ 0)
+IsRefusal kinds (Refuse (fault.Refused text)) = (kind : ErrorKind) × IsAmong kind kinds × (words_status kind ≢ 0)
+IsRefusal kinds request = ⊥
+
+-- the report that an allocation failed
+abbrev pub IsOutOfMemory : Request → Type 0
+IsOutOfMemory (Refuse (fault.Play NoMemory name)) = Unit {0}
+IsOutOfMemory request = ⊥
+
+-- a request of this kind was performed, or an allocation failed before that was reported
+abbrev pub PerformsOne : (Request → Type 0) → Seen → Seen → ℕ → Type 0
+PerformsOne IsIt old new status = (request : Request) × (IsIt request ⊎ IsOutOfMemory request) × Performs request old new status
