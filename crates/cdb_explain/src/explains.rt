@@ -38,7 +38,8 @@ pub fn explain<R: Source, W: Sink>(
 {
     let control = left_by(alloc, setup, script)?;
     let run = control.run();
-    let Some(text) = explain_step(alloc, run, p, k)? else {
+    let answer = explain_step(alloc, run, p, k)?;
+    let Some(text) = answer else {
         return Err(ExplainFault::NoStep);
     };
     write_text(alloc, text.as_slice(), out)?;

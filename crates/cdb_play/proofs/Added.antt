@@ -1,5 +1,5 @@
 -- Bytes that are added one piece after the other.
-use Rattle.std.proofs.Common.{false, not, ◌&&◌, ◌==◌, ◌≡◌, ◌≢◌, ℕ, ◌+◌, ◌-◌, ◌<◌, List, [], ◌∷◌, ◌++◌, length, get_or, take, drop, add-one, append-nil, Option, Some, None, refl, sym, ap, subst, ◌∙◌, append_assoc, take-append-drop}
+use Rattle.std.proofs.Common.{false, not, ◌&&◌, ◌==◌, ◌≡◌, ◌≢◌, ℕ, ◌+◌, ◌-◌, ◌<◌, List, [], ◌∷◌, ◌++◌, length, get_or, take, drop, add-one, append-nil, Option, refl, sym, ap, subst, ◌∙◌, append_assoc, take-append-drop}
 use Rattle.std.specs.Prelude.{Ok}
 use Rattle.std.specs.List.{flat_map}
 use Rattle.std.specs.Io.KnownBytes.{Appends, Keeps}

@@ -1,5 +1,5 @@
 -- A race whose decisions agree ends with the line that says so.
-use Rattle.std.proofs.Common.{◌≡◌, ℕ, suc, ◌==◌, ◌&&◌, Bool, true, List, [], ◌∷◌, ◌++◌, Contains, codes, if◌then◌else◌, refl, sym, ap, ◌∙◌, subst, arith, append_assoc, eq-eqb}
+use Rattle.std.proofs.Common.{◌≡◌, ℕ, suc, ◌==◌, ◌&&◌, true, List, [], ◌∷◌, ◌++◌, Contains, codes, if◌then◌else◌, refl, sym, ap, ◌∙◌, subst, arith, append_assoc, eq-eqb}
 use Rattle.std.specs.List.{flat_map, list_all}
 use Rattle.cdb_control.specs.Commands.{outcome}
 use Rattle.cdb_control.specs.Journal.{Journaled}

@@ -13,3 +13,4 @@ pub mod RunningFaults
 pub mod Agreeing
 pub mod Told
 pub mod OnHeadline
+pub mod WholeTexts

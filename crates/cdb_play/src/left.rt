@@ -1,6 +1,6 @@
 //! The run that a script leaves: its commands are carried out one after the other, without their replies.
 
-ghost use Rattle.std.specs.Prelude.{◌≡◌, ◌<◌, length, Err, IfErr, IfOk, OnOk};
+ghost use Rattle.std.specs.Prelude.{◌≡◌, ◌≢◌, ◌<◌, length, Err, IfErr, IfOk, OnOk};
 ghost use Rattle.cdb_control.specs.Headline.{Headline};
 ghost use Rattle.cdb_control.specs.Journal.{extended};
 ghost use Rattle.cdb_run.specs.Algorithms.{rules};
@@ -74,6 +74,7 @@ pub fn left_by<R: Source>(
         Headline rules ReachSameState control.setup control.seats control.journal) }
     ensures fault { IfErr result (λ fault.
         IsFaultOfPlay fault setup.now (R.remaining script.old) (R.remaining script.new)) }
+    ensures written { result ≢ Err PlayFault.Write }
     ensures unread { (fault : SetupFaultName) → result ≡ Err (PlayFault.Setup fault) →
         script.new ≡ script.old }
     ensures read { FailsWhere R.failures (result ≡ Err PlayFault.Read) script.old script.new }

@@ -1,4 +1,4 @@
-use Rattle.std.proofs.Common.{◌∙◌, refl, take, drop, ap, ◌+◌, ◌++◌, ◌∷◌, [], sym, append-nil}
+use Rattle.std.proofs.Common.{◌∙◌, refl, take, drop, ap, ◌+◌}
 use Rattle.std.proofs.lemmas.Result.{err_from_is_err_and}
 use Rattle.std.proofs.KnownBytes.{Appends-nil}
 use Rattle.cdb_play.specs.Pieces.{piece_text, pieces_text}

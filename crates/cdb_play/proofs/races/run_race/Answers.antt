@@ -1,4 +1,4 @@
-use Rattle.std.proofs.Common.{◌≡◌, ◌∙◌, ap, Err}
+use Rattle.std.proofs.Common.{◌∙◌, ap, Err}
 use Rattle.std.proofs.lemmas.Result.{err_from_is_err_and}
 use Rattle.cdb_race.specs.Races.{all_told}
 use Rattle.cdb_race.specs.declared.threads.RaceFault.{RaceFault as ThreadFault}

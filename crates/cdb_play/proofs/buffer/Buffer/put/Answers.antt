@@ -1,4 +1,4 @@
-use Rattle.std.proofs.Common.{◌≡◌, ◌∙◌, refl, sym, ap, subst, arith, List, ℕ, [], length, take, drop, ◌-◌, ◌+◌, ◌++◌, take-append-drop}
+use Rattle.std.proofs.Common.{◌∙◌, refl, sym, ap, subst, arith, List, ℕ, [], length, take, drop, ◌-◌, ◌++◌, take-append-drop}
 use Rattle.std.proofs.lemmas.Result.{err_from_is_err_and}
 use Rattle.std.proofs.lemmas.List.{length-drop, length-take, take_rest}
 use Rattle.std.proofs.Math.Seq.{take-add}
