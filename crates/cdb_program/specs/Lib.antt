@@ -6,6 +6,7 @@ pub mod Reading
 pub mod Reports
 pub mod Playing
 pub mod Racing
+pub mod Explaining
 pub mod Requests
 -- what the code keeps for itself
 pub mod Streaming

@@ -1,9 +1,11 @@
 -- How requests end.
 use Rattle.std.specs.Prelude.{◌≡◌, ℕ, List, Result, Ok, Err}
+use Rattle.cdb_explain.specs.declared.fault.ExplainFault.{ExplainFault}
+use Rattle.cdb_explain.specs.declared.fault.ExplainFault.TheVariants as explained
 use Rattle.cdb_play.specs.declared.fault.PlayFault.{PlayFault}
 use Rattle.cdb_play.specs.declared.fault.RaceFault.{RaceFault}
 use Rattle.cdb_program.specs.declared.fault.Fault.{Fault}
-use Rattle.cdb_program.specs.declared.fault.Fault.TheVariants.{Play, Race}
+use Rattle.cdb_program.specs.declared.fault.Fault.TheVariants.{Play, Race, NoStep}
 
 -- how a request ended
 abbrev pub Outcome : Type 0
@@ -14,6 +16,13 @@ abbrev pub IsOfPlay : List ℕ → Result (Unit {0}) PlayFault → Outcome → T
 IsOfPlay name (Ok done) (Ok its_done) = Unit {0}
 IsOfPlay name (Err fault) (Err (Play its_fault its_name)) = (its_fault ≡ fault) × (its_name.now ≡ name)
 IsOfPlay name played outcome = ⊥
+
+-- it ended as the explanation did: a fault of its play has the name of the script
+abbrev pub IsOfExplanation : List ℕ → Result (Unit {0}) ExplainFault → Outcome → Type 0
+IsOfExplanation name (Ok done) (Ok its_done) = Unit {0}
+IsOfExplanation name (Err explained.NoStep) (Err NoStep) = Unit {0}
+IsOfExplanation name (Err (explained.Play fault)) (Err (Play its_fault its_name)) = (its_fault ≡ fault) × (its_name.now ≡ name)
+IsOfExplanation name ended outcome = ⊥
 
 -- it ended as the race did
 abbrev pub IsOfRace : Result (Unit {0}) RaceFault → Outcome → Type 0

@@ -5,11 +5,12 @@ use Rattle.cdb_play.specs.Statuses.{play_status, race_status}
 use Rattle.cdb_play.specs.Streams.{Takes, Fails}
 use Rattle.cdb_program.specs.Known.{Stream, contents, failures}
 use Rattle.cdb_program.specs.declared.fault.Fault.{Fault}
-use Rattle.cdb_program.specs.declared.fault.Fault.TheVariants.{Play, Race, TooManySeats, Refused}
+use Rattle.cdb_program.specs.declared.fault.Fault.TheVariants.{Play, Race, NoStep, TooManySeats, Refused}
 
 abbrev pub fault_text : Fault → List ℕ
 fault_text (Play fault name) = play_fault_text fault name.now
 fault_text (Race fault) = race_fault_text fault
+fault_text NoStep = codes "refused 10 NoStep\n"
 fault_text TooManySeats = codes "too many seats\n"
 fault_text (Refused reason) = reason.now
 
@@ -17,6 +18,7 @@ fault_text (Refused reason) = reason.now
 abbrev pub fault_status : Fault → ℕ
 fault_status (Play fault name) = play_status fault
 fault_status (Race fault) = race_status fault
+fault_status NoStep = 1
 fault_status TooManySeats = 2
 fault_status (Refused reason) = 2
 

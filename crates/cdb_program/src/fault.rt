@@ -1,7 +1,8 @@
 //! Why a request was not carried out to its end.
 
-ghost use Rattle.cdb_program.specs.Outcomes.{IsOfPlay, IsOfRace};
+ghost use Rattle.cdb_program.specs.Outcomes.{IsOfPlay, IsOfRace, IsOfExplanation};
 
+use cdb_explain::ExplainFault;
 use cdb_play::{PlayFault, RaceFault};
 
 /// Why a request was not carried out to its end.
@@ -10,6 +11,8 @@ pub enum Fault<'a> {
     /// A fault of a play, or of what was to be read for a play or a race, which has this name.
     Play(PlayFault, &'a str),
     Race(RaceFault),
+    /// The step that was to be explained does not stand.
+    NoStep,
     /// A race of more than 64 processes and scripts.
     TooManySeats,
     /// Nothing was asked for that can be done, and this text says why.
@@ -23,6 +26,17 @@ pub fn of_play<'a>(played: Result<(), PlayFault>, name: &'a str) -> Result<(), F
     match played {
         Ok(()) => Ok(()),
         Err(fault) => Err(Fault::Play(fault, name)),
+    }
+}
+
+/// How a request ended that was an explanation, for the script of this name.
+pub fn of_explanation<'a>(ended: Result<(), ExplainFault>, name: &'a str) -> Result<(), Fault<'a>>
+    ensures { IsOfExplanation name.entry.now ended result }
+{
+    match ended {
+        Ok(()) => Ok(()),
+        Err(ExplainFault::NoStep) => Err(Fault::NoStep),
+        Err(ExplainFault::Play(fault)) => Err(Fault::Play(fault, name)),
     }
 }
 

@@ -8,6 +8,9 @@ ghost use Rattle.cdb_play.specs.Streams.{Writes};
 use crate::fault::Fault;
 use cdb_play::{Failed, Sink, race_status_of, status_of, write_all, write_fault, write_race_fault};
 
+/// The status after a step that does not stand.
+const NO_STEP: u8 = 1;
+
 /// The status after arguments that can't be carried out.
 const USAGE: u8 = 2;
 
@@ -18,6 +21,7 @@ fn status_after(fault: &Fault<'_>) -> u8
     match fault {
         Fault::Play(fault, _) => status_of(fault),
         Fault::Race(fault) => race_status_of(fault),
+        Fault::NoStep => NO_STEP,
         Fault::TooManySeats | Fault::Refused(_) => USAGE,
     }
 }
@@ -29,6 +33,7 @@ fn write_text<E: Sink>(fault: &Fault<'_>, error: &mut E) -> Result<(), Failed>
     match fault {
         Fault::Play(fault, name) => write_fault(fault, name, error),
         Fault::Race(fault) => write_race_fault(fault, error),
+        Fault::NoStep => write_all(error, b"refused 10 NoStep\n"),
         Fault::TooManySeats => write_all(error, b"too many seats\n"),
         Fault::Refused(reason) => write_all(error, reason.as_bytes()),
     }

@@ -4,6 +4,7 @@ ghost use Rattle.std.specs.Prelude.{◌≡◌, ◌≤◌};
 ghost use Rattle.cdb_program.specs.Requests.{Does, Performs, Prints, HasTurns};
 ghost use Rattle.cdb_program.specs.Streaming.{stream_of};
 
+use crate::explains::explain_files;
 use crate::fault::Fault;
 use crate::files::Files;
 use crate::outside::Outside;
@@ -30,6 +31,14 @@ pub enum Request<'a> {
         setup: &'a str,
         turns: u32,
         scripts: &'a [&'a str],
+    },
+    /// Explains the `k`-th standing step of process `p`, without `k` its last one, of the run that a script file leaves
+    /// on a setup file.
+    Explain {
+        setup: &'a str,
+        script: &'a str,
+        p: u32,
+        k: Option<u32>,
     },
     /// Writes a text to standard output.
     Print(&'a str),
@@ -71,13 +80,19 @@ fn carry_out<
             turns,
             scripts,
         } => race_files(threads, alloc, setup, turns, scripts, outside),
+        Request::Explain {
+            setup,
+            script,
+            p,
+            k,
+        } => explain_files(alloc, setup, script, p, k, outside),
         Request::Print(text) => print(text, &mut outside.output),
         Request::Refuse(fault) => Err(fault),
     }
 }
 
 /// Carries a request out, reports on standard error how it ended, and returns the status with which the program
-/// ends: 0 where all went well, else 2 to 9. A fault has one line on standard error, and nothing else is written there.
+/// ends: 0 where all went well, else 1 to 9. A fault has one line on standard error, and nothing else is written there.
 pub fn perform<
     R: Threads + Wait + Sync,
     F: Files + Drop,

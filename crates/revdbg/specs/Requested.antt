@@ -10,7 +10,7 @@ use Rattle.cdb_program.specs.Known.{Seen}
 use Rattle.cdb_program.specs.Requests.{Performs}
 use Rattle.cdb_program.specs.declared.fault.Fault.TheVariants as fault
 use Rattle.cdb_program.specs.declared.request.Request.{Request}
-use Rattle.cdb_program.specs.declared.request.Request.TheVariants.{Script, Play, Race, Print, Refuse}
+use Rattle.cdb_program.specs.declared.request.Request.TheVariants.{Script, Play, Race, Explain, Print, Refuse}
 
 -- a play of these two files
 abbrev pub IsPlay : Text → Text → Request → Type 0
@@ -23,11 +23,18 @@ IsRace setup turns scripts (Race its_setup its_turns its_scripts) =
     (its_setup.now ≡ setup) × (its_turns ≡ turns) × (texts its_scripts.now ≡ scripts)
 IsRace setup turns scripts request = ⊥
 
+-- an explanation of this step of the run of these two files
+abbrev pub IsExplain : Text → Text → ℕ → Option ℕ → Request → Type 0
+IsExplain setup script p k (Explain its_setup its_script its_p its_k) =
+    (its_setup.now ≡ setup) × (its_script.now ≡ script) × (its_p ≡ p) × (its_k ≡ k)
+IsExplain setup script p k request = ⊥
+
 -- the request for what was asked for
 abbrev pub IsRequestOf : Asked → Request → Type 0
 IsRequestOf asked.Script request = request ≡ Script
 IsRequestOf (asked.Play setup script) request = IsPlay setup.now script.now request
 IsRequestOf (asked.Race setup turns scripts) request = IsRace setup.now turns (texts scripts.items) request
+IsRequestOf (asked.Explain setup script p k) request = IsExplain setup.now script.now p k request
 
 -- the request for what the subcommand that `clap` found asks for
 abbrev pub IsRequested : Option (Text × List Row) → Request → Type 0

@@ -4,9 +4,9 @@ ghost use Rattle.std.specs.Prelude.{◌≡◌, ◌≢◌, ◌⊎◌, ◌∷◌, 
 ghost use Rattle.clap.specs.Words.{Kinds, Row, Text, fault_of, subcommand_of};
 ghost use Rattle.cdb_arguments.specs.Asking.{Asks, IsOfKinds, texts};
 ghost use Rattle.cdb_arguments.specs.CommandLine.{program};
-ghost use Rattle.cdb_arguments.specs.Plain.{IsNameAlone, IsPlayLine, IsRaceLine};
+ghost use Rattle.cdb_arguments.specs.Plain.{IsNameAlone, IsPlayLine, IsRaceLine, IsExplainLine};
 ghost use Rattle.cdb_program.specs.Requests.{HasTurns};
-ghost use Rattle.revdbg.specs.Requested.{IsPlay, IsRace, IsRequestOf, IsRequested, IsRefusal, IsOutOfMemory, PerformsOne};
+ghost use Rattle.revdbg.specs.Requested.{IsPlay, IsRace, IsExplain, IsRequestOf, IsRequested, IsRefusal, IsOutOfMemory, PerformsOne};
 
 use cdb_arguments::{AskFault, Asked, ask_status, asked};
 use cdb_play::{PlayFault, Sink, Source};
@@ -38,6 +38,17 @@ fn request_of<'a>(asked: &'a Asked<'a>) -> Request<'a>
             setup,
             turns: *turns,
             scripts: scripts.as_slice(),
+        },
+        Asked::Explain {
+            setup,
+            script,
+            p,
+            k,
+        } => Request::Explain {
+            setup,
+            script,
+            p: *p,
+            k: *k,
         },
     }
 }
@@ -110,6 +121,9 @@ pub fn run<
     ensures race { (setup : Text) (turns : ℕ) (script : Text) (more : List Text) →
         IsRaceLine (texts words.entry.now) setup turns script more →
         PerformsOne (IsRace setup turns (script ∷ more)) outside.old outside.new result }
+    ensures explain { (setup script : Text) (p : ℕ) (k : Option ℕ) →
+        IsExplainLine (texts words.entry.now) setup script p k →
+        PerformsOne (IsExplain setup script p k) outside.old outside.new result }
     ensures taken { fault_of program (texts words.entry.now) ≡ [] →
         PerformsOne (IsRequested (subcommand_of program (texts words.entry.now)))
         outside.old outside.new result }

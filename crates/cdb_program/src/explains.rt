@@ -1,0 +1,38 @@
+//! Explanations of what is outside.
+
+ghost use Rattle.cdb_program.specs.Explaining.{ExplainsFiles};
+ghost use Rattle.std.specs.Prelude.{◌≡◌};
+
+use crate::fault::{Fault, of_explanation};
+use crate::files::{Files, read_two};
+use crate::outside::Outside;
+use cdb_explain::explain;
+use cdb_play::{Bytes, Sink, Source};
+use std::alloc::Global;
+
+/// Explains the `k`-th standing step of process `p`, without `k` its last one, of the run that a script file leaves on
+/// a setup file.
+pub fn explain_files<'a, F: Files + Drop, I: Source + Drop, O: Sink + Drop, E: Sink + Drop>(
+    alloc: Global,
+    setup: &'a str,
+    script: &'a str,
+    p: u32,
+    k: Option<u32>,
+    outside: &mut Outside<F, I, O, E>,
+) -> Result<(), Fault<'a>>
+    ensures does { ExplainsFiles setup.entry.now script.entry.now p k
+        outside.old outside.new result }
+    ensures error { outside.new.error ≡ outside.old.error }
+{
+    let (json, bytes) = read_two(alloc, &mut outside.files, setup, script)?;
+    let mut commands = Bytes::new(bytes.as_slice());
+    let ended = explain(
+        alloc,
+        json.as_slice(),
+        &mut commands,
+        p,
+        k,
+        &mut outside.output,
+    );
+    of_explanation(ended, script)
+}
