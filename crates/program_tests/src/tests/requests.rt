@@ -26,6 +26,13 @@ pub const RACE: Request<'static> = Request::Race {
     scripts: &["undo.txt", "redo.txt"],
 };
 
+pub const EXPLAIN: Request<'static> = Request::Explain {
+    setup: "one.json",
+    script: "eight.txt",
+    p: 1,
+    k: Some(2),
+};
+
 /// A race of 65 seats.
 const CROWD: Request<'static> = Request::Race {
     setup: "one.json",
@@ -68,6 +75,24 @@ fn a_script_on_standard_input(rt: HostRuntime) -> Result<(), Fail> {
 #[test]
 fn a_play(rt: HostRuntime) -> Result<(), Fail> {
     check(&rt, PLAY, 0, (EIGHT, ""), &["one.json", "eight.txt"])
+}
+
+#[test]
+fn an_explanation(rt: HostRuntime) -> Result<(), Fail> {
+    let text = "1.1 query 1 because none\n1.2 send 1#1 p1 1 7 1 because 1.1\n2 of 8 standing events\n";
+    check(&rt, EXPLAIN, 0, (text, ""), &["one.json", "eight.txt"])
+}
+
+#[test]
+fn an_explanation_of_a_step_that_does_not_stand(rt: HostRuntime) -> Result<(), Fail> {
+    let request = Request::Explain {
+        setup: "one.json",
+        script: "eight.txt",
+        p: 1,
+        k: Some(9),
+    };
+    let error = "refused 10 NoStep\n";
+    check(&rt, request, 1, ("", error), &["one.json", "eight.txt"])
 }
 
 #[test]
