@@ -2,7 +2,7 @@
 
 ghost use Rattle.cdb_program.specs.Requests.{HasTurns};
 
-use super::requests::{PLAY, RACE};
+use super::requests::{EXPLAIN, PLAY, RACE};
 use super::{ALL_GOOD, Ended, GoodCalls, performed};
 use cdb_program::{Fault, Request};
 use std::process::Abort;
@@ -95,10 +95,11 @@ fn fail_files<R: Threads + Wait + Sync + Abort + AllocGlobal>(
 
 #[test]
 fn each_write_of_output_fails_in_turn(rt: HostRuntime) {
-    // Texts of 37, 107, 90 and 5 bytes, 5 a call.
+    // Texts of 37, 107, 90, 82 and 5 bytes, 5 a call.
     assert_eq!(rt; fail_output(&rt, Request::Script), 8);
     assert_eq!(rt; fail_output(&rt, PLAY), 22);
     assert_eq!(rt; fail_output(&rt, RACE), 18);
+    assert_eq!(rt; fail_output(&rt, EXPLAIN), 17);
     assert_eq!(rt; fail_output(&rt, Request::Print("help\n")), 1);
 }
 
@@ -125,6 +126,7 @@ fn each_write_of_error_fails_in_turn(rt: HostRuntime) {
 fn each_file_can_not_be_read_in_turn(rt: HostRuntime) {
     let texts = ["cannot read one.json\n", "cannot read eight.txt\n"];
     fail_files(&rt, PLAY, &texts);
+    fail_files(&rt, EXPLAIN, &texts);
     let texts = [
         "cannot read two.json\n",
         "cannot read undo.txt\n",

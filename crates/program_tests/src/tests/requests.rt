@@ -79,7 +79,8 @@ fn a_play(rt: HostRuntime) -> Result<(), Fail> {
 
 #[test]
 fn an_explanation(rt: HostRuntime) -> Result<(), Fail> {
-    let text = "1.1 query 1 because none\n1.2 send 1#1 p1 1 7 1 because 1.1\n2 of 8 standing events\n";
+    let text =
+        "1.1 query 1 because none\n1.2 send 1#1 p1 1 7 1 because 1.1\n2 of 8 standing events\n";
     check(&rt, EXPLAIN, 0, (text, ""), &["one.json", "eight.txt"])
 }
 
