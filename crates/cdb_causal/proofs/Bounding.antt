@@ -9,6 +9,7 @@ use Rattle.cdb_base.specs.declared.name.StepId.TheVariants as named
 use Rattle.cdb_base.specs.declared.name.StepName.{StepName}
 use Rattle.cdb_base.specs.declared.event.Event.TheVariants.{Step, Lost}
 use Rattle.cdb_base.specs.declared.event.Kind.TheVariants.{Send, Recv, Read, Write}
+use Rattle.cdb_causal.specs.Alone.{AreAlone, Leaves}
 use Rattle.cdb_causal.specs.Bounds.{IsKindWithin, IsWithin, AreWithin, AreRaised}
 use Rattle.cdb_causal.specs.Cells.{register_cell, named_cell, copy_cell}
 use Rattle.cdb_causal.specs.Names.{IsNamedAt}
@@ -16,6 +17,7 @@ use Rattle.cdb_causal.specs.Rollback.{without, place_before}
 use Rattle.cdb_causal.specs.declared.bounds.Bounds.{Bounds}
 use Rattle.cdb_causal.proofs.Counting.{slice_get-without}
 use Rattle.cdb_causal.proofs.Lists.{push_cases}
+use Rattle.cdb_causal.proofs.Receives.{within_left}
 
 is_step : StepId → Bool
 is_step (named.Step step) = true
@@ -103,6 +105,14 @@ step_below bounds history within name step is_step i n = go n.0 n.1 (n.2 ∙ is_
     go (Step p k kind) at is = subst (λ (s : StepName). i < slice_index bounds.steps.items (named_cell s.p s.k)) (same_step is) (within i (Step p k kind) at).0
     go (Lost other) at is = absurd (no_loss (sym is))
 
-pub within_without : (bounds : Bounds) (history : List Event) (gone : ℕ) → AreWithin bounds history → AreWithin bounds (without history gone)
-within_without bounds history gone within i event at =
-    within_lower bounds i (place_before gone i) event (place_not_below gone i) (within (place_before gone i) event (sym (slice_get-without history gone i) ∙ at))
+place_not_gone : (gone i : ℕ) → place_before gone i ≡ gone → ⊥
+place_not_gone zero i h = omega arith
+place_not_gone (suc gone) zero h = omega arith
+place_not_gone (suc gone) (suc i) h = place_not_gone gone i (omega arith)
+
+pub within_without : (old new : Bounds) (history : List Event) (gone : ℕ) (event : Event) → slice_get history gone ≡ Some event → Leaves old new event → AreAlone old history → AreWithin old history
+    → AreWithin new (without history gone)
+within_without old new history gone event at_gone leaves alone within i one at =
+    let place = place_before gone i in
+    let stood = sym (slice_get-without history gone i) ∙ at in
+    within_lower new i place one (place_not_below gone i) (within_left old new history gone event at_gone leaves alone place one stood (place_not_gone gone i) (within place one stood))

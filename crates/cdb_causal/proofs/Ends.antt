@@ -5,6 +5,7 @@ use Rattle.cdb_base.specs.declared.event.Event.{Event}
 use Rattle.cdb_base.specs.declared.event.Event.TheVariants.{Step, Lost}
 use Rattle.cdb_base.specs.declared.event.Kind.{Kind}
 use Rattle.cdb_base.specs.declared.name.CopyName.{CopyName}
+use Rattle.cdb_causal.specs.Alone.{AreAlone, ShareCell}
 use Rattle.cdb_causal.specs.Bounds.{IsWithin, AreWithin}
 use Rattle.cdb_causal.specs.Causality.{IsLink}
 use Rattle.cdb_causal.specs.Standing.{IsStanding}
@@ -52,11 +53,12 @@ end_above history standing bounds within j slot result event at_j above i l in_s
     (subst (λ e. depends l.cause e ≡ true) (same_Some l.effect event (sym l.at_effect ∙ at_j)) l.linked)
 
 -- and the bound of what stands between two events, above each event through which a chain leads from the one to the other
-pub end_above_between : (history : List Event) (bounds : Bounds) → AreWithin bounds history → (i j result : ℕ) (cause effect : Event) → slice_get history i ≡ Some cause → slice_get history j ≡ Some effect
-    → ((k : ℕ) (between : Event) → k < j → IsWithin bounds k between → depends cause between ≡ true → depends between effect ≡ true → k < result)
+pub end_above_between : (history : List Event) (bounds : Bounds) → AreWithin bounds history → AreAlone bounds history → (i j result : ℕ) (cause effect : Event) → slice_get history i ≡ Some cause → slice_get history j ≡ Some effect
+    → ((k : ℕ) (between : Event) → k < j → IsWithin bounds k between → (ShareCell bounds between effect → ⊥) → depends cause between ≡ true → depends between effect ≡ true → k < result)
     → (k : ℕ) → IsLink depends history i k → IsLink depends history k j → k < result
-end_above_between history bounds within i j result cause effect at_i at_j above k one two =
+end_above_between history bounds within alone i j result cause effect at_i at_j above k one two =
     above k one.effect two.later (within k one.effect one.at_effect)
+    (λ share. let same = alone share.0 k j one.effect effect share.1 one.at_effect at_j share.2 share.3 in let later = two.later in omega arith)
     (subst (λ e. depends e one.effect ≡ true) (same_Some one.cause cause (sym one.at_cause ∙ at_i)) one.linked)
     (subst (λ e. depends one.effect e ≡ true) (same_Some two.effect effect (sym two.at_effect ∙ at_j))
     (subst (λ e. depends e two.effect ≡ true) (same_Some two.cause one.effect (sym two.at_cause ∙ one.at_effect)) two.linked))

@@ -8,6 +8,7 @@ pub mod Effects
 pub mod Ends
 pub mod Exchanges
 pub mod Keeping
+pub mod LastPlaces
 pub mod LeastSet
 pub mod Lists
 pub mod Orders
@@ -15,6 +16,8 @@ pub mod PastLaws
 pub mod Paths
 pub mod Reaches
 pub mod SlotsOfCauses
+pub mod Receives
 pub mod Symmetry
 pub mod Undone
+pub mod Waiting
 pub mod Walks

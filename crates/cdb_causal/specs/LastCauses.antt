@@ -1,6 +1,6 @@
 -- The last event of each process on which an event depends, as a search for direct causes finds it: steps are sought in a slot of
 -- their process, losses in a slot after those.
-use Rattle.std.specs.Prelude.{◌≡◌, ℕ, ◌+◌, ◌≤◌, List}
+use Rattle.std.specs.Prelude.{◌≡◌, ℕ, ◌+◌, ◌<◌, ◌≤◌, List, Option, None, MatchOption, get_or}
 use Rattle.cdb_base.specs.Event.{event_name}
 use Rattle.cdb_base.specs.declared.event.Event.{Event}
 use Rattle.cdb_base.specs.declared.event.Event.TheVariants.{Step, Lost}
@@ -22,6 +22,14 @@ pub record IsLastCause (history : List Event) (j slot i : ℕ) : Type 0 where
   pub link : IsLink depends history i j
   pub has_slot : IsSlot link.cause slot
   pub last : (k : ℕ) (l : IsLink depends history k j) → IsSlot l.cause slot → k ≤ i
+
+-- the place is that of the last cause in the slot; none says that there is no cause
+abbrev pub IsLastOrNone : List Event → ℕ → ℕ → Option ℕ → Type 0
+IsLastOrNone history j slot place = MatchOption place (IsNoCause history j slot) (λ i. IsLastCause history j slot i)
+
+-- the places are those of the last causes in the first n slots
+abbrev pub AreLastCauses : List Event → ℕ → ℕ → List (Option ℕ) → Type 0
+AreLastCauses history j n places = (slot : ℕ) → slot < n → IsLastOrNone history j slot (get_or places slot None)
 
 -- the name is that of a direct cause, in that slot, of the event at place j
 pub record NamesDirectCauseIn (history : List Event) (j slot : ℕ) (name : StepId) : Type 0 where

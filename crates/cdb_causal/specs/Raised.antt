@@ -1,6 +1,15 @@
 -- Tables of bounds, as they are raised.
-use Rattle.std.specs.Prelude.{ℕ, ◌≤◌, List, slice_index}
+use Rattle.std.specs.Prelude.{ℕ, ◌≤◌, ◌==◌, List, slice_index, if◌then◌else◌}
+use Rattle.cdb_causal.specs.declared.bounds.TheConstants.{SEVERAL}
 
 -- each bound is as high as it was, or higher
 abbrev pub IsRaised : List ℕ → List ℕ → Type 0
 IsRaised old new = (n : ℕ) → slice_index old n ≤ slice_index new n
+
+-- what becomes of the bound of a cell where an event joins it: of two events that may stand there, neither has it alone
+abbrev pub joined : ℕ → ℕ → ℕ
+joined old bound = if old == 0 then bound else SEVERAL
+
+-- and where an event leaves it
+abbrev pub left : ℕ → ℕ
+left old = if old == SEVERAL then SEVERAL else 0

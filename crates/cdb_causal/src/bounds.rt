@@ -2,7 +2,7 @@
 //! begins near it. A bound may be too high, never too low: so it stays right where events are taken
 //! out.
 
-ghost use Rattle.std.specs.Prelude.{◌≡◌, ℕ, ◌+◌, ◌-◌, ◌<◌, ◌≤◌, ◌||◌, [], OnOk, true, false, length, nat_eq, slice_index, replicate, vec_len};
+ghost use Rattle.std.specs.Prelude.{◌≡◌, ℕ, ◌+◌, ◌-◌, ◌<◌, ◌≤◌, ◌==◌, ◌||◌, [], OnOk, true, false, length, nat_eq, slice_index, replicate, vec_len, if◌then◌else◌};
 ghost use Rattle.cdb_base.specs.declared.event.Event.{Event as AnEvent};
 ghost use Rattle.cdb_base.specs.declared.event.Event.TheVariants.{Step, Lost};
 ghost use Rattle.cdb_base.specs.declared.event.Kind.{Kind as AKind};
@@ -12,13 +12,16 @@ ghost use Rattle.cdb_causal.specs.Cells.{row, register_cell as register_cell_of,
 ghost use Rattle.cdb_causal.specs.Dependence.{send_and_loss, depends as depends_of};
 ghost use Rattle.cdb_causal.specs.Effects.{kind_affects};
 ghost use Rattle.cdb_causal.specs.LastCauses.{IsSlot};
-ghost use Rattle.cdb_causal.specs.Raised.{IsRaised};
+ghost use Rattle.cdb_causal.specs.Raised.{IsRaised, joined, left};
 
 use cdb_base::{CopyName, Event, Kind, NoMemory, Proc, Reg};
 use std::alloc::Global;
 
 /// Cells of a table of the registers and processes.
 const REGISTER_CELLS: usize = 90;
+
+/// The bound of a copy that several standing events may receive.
+const SEVERAL: usize = usize::MAX;
 
 /// Each bound is one above the last place at which such an event stood.
 #[derive(Drop)]
@@ -27,7 +30,7 @@ pub struct Bounds {
     steps: Vec<usize>,
     /// By sender and number of the message sent.
     sends: Vec<usize>,
-    /// By copy received.
+    /// By copy received: 0 where no such event stands, and `SEVERAL` where more than one may.
     receives: Vec<usize>,
     /// By copy lost.
     losses: Vec<usize>,
@@ -77,7 +80,7 @@ fn copy_cell(s: Proc, m: u16, slot: usize) -> usize
 /// Makes room for a cell. The new cells are 0.
 fn grow(table: &mut Vec<usize>, cell: usize) -> Result<(), NoMemory>
     requires { cell < 9437184 }
-    ensures others { IsRaised table.old.items table.new.items }
+    ensures others { (n : ℕ) → slice_index table.new.items n ≡ slice_index table.old.items n }
     ensures room { OnOk result (cell < vec_len table.new) }
 {
     if table.len() <= cell {
@@ -95,6 +98,27 @@ fn raise(table: &mut [usize], cell: usize, bound: usize)
     table[cell] = table[cell].max(bound);
 }
 
+/// Gives a cell its bound, where it has none, or marks that several events may stand there.
+fn join(table: &mut [usize], cell: usize, bound: usize)
+    requires cell { cell < length table.old }
+    requires bound { bound ≤ SEVERAL }
+    ensures joined { (n : ℕ) → slice_index table.new n
+        ≡ (if n == cell then joined (slice_index table.old n) bound else slice_index table.old n) }
+    ensures raised { IsRaised table.old table.new }
+{
+    table[cell] = if table[cell] == 0 { bound } else { SEVERAL };
+}
+
+/// Takes the bound from a cell in which one event stands.
+fn leave(table: &mut [usize], cell: usize)
+    ensures { (n : ℕ) → slice_index table.new n
+        ≡ (if n == cell then left (slice_index table.old n) else slice_index table.old n) }
+{
+    if cell < table.len() && table[cell] != SEVERAL {
+        table[cell] = 0;
+    }
+}
+
 /// The bound in a cell; 0 beyond the end of the table.
 fn bound_in(table: &[usize], cell: usize) -> usize
     ensures { result ≡ slice_index table.now cell }
@@ -104,6 +128,7 @@ fn bound_in(table: &[usize], cell: usize) -> usize
 
 impl Bounds {
     ghost use Rattle.cdb_causal.specs.Bounds.{IsWithin, IsKindWithin, AreRaised, HasRoom, HasRoomFor};
+    ghost use Rattle.cdb_causal.specs.Alone.{Joins, Leaves, KeepsReceives, ShareCell};
 
     /// The bounds of a history without events.
     pub fn new(alloc: Global) -> Self
@@ -128,6 +153,7 @@ impl Bounds {
     fn reserve_kind(&mut self, p: Proc, kind: Kind) -> Result<(), NoMemory>
         ensures others { AreRaised self.old self.new }
         ensures steps { self.new.steps ≡ self.old.steps }
+        ensures receives { KeepsReceives self.old self.new }
         ensures room { OnOk result (HasRoomFor self.new p kind) }
     {
         match kind {
@@ -140,6 +166,7 @@ impl Bounds {
     /// Makes room for the bounds of an event.
     pub fn reserve(&mut self, event: &Event) -> Result<(), NoMemory>
         ensures others { AreRaised self.old self.new }
+        ensures receives { KeepsReceives self.old self.new }
         ensures room { OnOk result (HasRoom self.new event.now) }
     {
         match event {
@@ -162,11 +189,12 @@ impl Bounds {
         requires room { HasRoomFor self.old p kind }
         ensures others { AreRaised self.old self.new }
         ensures steps { self.new.steps ≡ self.old.steps }
+        ensures receives { (k : ℕ) → Joins self.old self.new (Step p k kind) }
         ensures within { IsKindWithin self.new place p kind }
     {
         match kind {
             Kind::Send(m) => raise(&mut self.sends, named_cell(p, m), place + 1),
-            Kind::Recv(s, m) => raise(&mut self.receives, copy_cell(s, m, p.index()), place + 1),
+            Kind::Recv(s, m) => join(&mut self.receives, copy_cell(s, m, p.index()), place + 1),
             Kind::Read(register) => {
                 raise(
                     &mut self.accesses,
@@ -188,6 +216,7 @@ impl Bounds {
         requires place { place < 18446744073709551615 }
         requires room { HasRoom self.old event.now }
         ensures others { AreRaised self.old self.new }
+        ensures receives { Joins self.old self.new event.now }
         ensures within { IsWithin self.new place event.now }
         ensures process { (p k : ℕ) (kind : AKind) → event.now ≡ Step p k kind →
             (1 ≤ p) × (p ≤ 9) }
@@ -202,6 +231,20 @@ impl Bounds {
                 let lost = copy_cell(copy.msg.s, copy.msg.m, copy.to.index());
                 raise(&mut self.losses, lost, place + 1);
             }
+        }
+    }
+
+    /// Takes away the bound of a receive that is taken out of the history.
+    pub fn forget(&mut self, event: &Event)
+        ensures { Leaves self.old self.new event.now }
+    {
+        if let Event::Step {
+            p,
+            kind: Kind::Recv(s, m),
+            ..
+        } = event
+        {
+            leave(&mut self.receives, copy_cell(*s, *m, p.index()));
         }
     }
 
@@ -258,13 +301,20 @@ impl Bounds {
         }
     }
 
-    /// Above all events on which the loss of the copy depends.
-    fn end_for_loss(&self, copy: &CopyName) -> usize
-        ensures { (i : ℕ) (cause : AnEvent) → IsWithin self.now i cause
+    /// Above all events in a slot on which the loss of the copy depends.
+    fn end_for_loss(&self, copy: &CopyName, slot: usize) -> usize
+        requires { slot < 10 }
+        ensures { (i : ℕ) (cause : AnEvent) → IsWithin self.now i cause → IsSlot cause slot
             → depends_of cause (Lost copy.now) ≡ true → i < result }
     {
-        let sent = self.end_of_sends(copy.msg.s, copy.msg.m);
-        sent.max(self.end_of_receives(copy.msg.s, copy.msg.m, copy.to.index()))
+        let mut end = 0;
+        if copy.msg.s.index() == slot {
+            end = self.end_of_sends(copy.msg.s, copy.msg.m);
+        }
+        if copy.to.index() == slot {
+            end = end.max(self.end_of_receives(copy.msg.s, copy.msg.m, slot));
+        }
+        end
     }
 
     /// Above all losses on which a step of process `p` of that kind depends that is no send of the
@@ -291,8 +341,21 @@ impl Bounds {
             Event::Step { p, kind, .. } if slot == 9 => self.end_of_lost_for(*p, *kind),
             Event::Step { p, .. } if p.index() == slot => j,
             Event::Step { p, kind, .. } => self.end_for_step(*p, *kind, slot),
-            Event::Lost(copy) => self.end_for_loss(copy),
+            Event::Lost(copy) => self.end_for_loss(copy, slot),
         }
+    }
+
+    /// Above all receives by process `p` of the m-th message of process `q`, but for the receive of the
+    /// r-th message of process `s` itself.
+    fn end_of_other_receives(&self, q: Proc, m: u16, p: Proc, s: Proc, r: u16) -> usize
+        ensures { (i k l : ℕ) → IsWithin self.now i (Step p k (Recv q m))
+            → (ShareCell self.now (Step p k (Recv q m)) (Step p l (Recv s r)) → ⊥) → i < result }
+    {
+        let end = self.end_of_receives(q, m, p.index());
+        if end != SEVERAL && q == s && m == r {
+            return 0;
+        }
+        end
     }
 
     /// Above all events that depend on the m-th send of process `q` and on which the receive, by
@@ -300,18 +363,20 @@ impl Bounds {
     fn end_of_waiting(&self, q: Proc, m: u16, p: Proc, s: Proc, r: u16) -> usize
         requires { nat_eq q p ≡ false }
         ensures { (i k l : ℕ) (between : AnEvent) → IsWithin self.now i between
+            → (ShareCell self.now between (Step p l (Recv s r)) → ⊥)
             → depends_of (Step q k (Send m)) between ≡ true
             → depends_of between (Step p l (Recv s r)) ≡ true → i < result }
     {
         let sent = self.end_of_sends(s, r);
         let lost = self.end_of_losses(s, r, p.index());
-        let received = self.end_of_receives(q, m, p.index());
+        let received = self.end_of_other_receives(q, m, p, s, r);
         sent.max(lost).max(received)
     }
 
     /// The same for steps of any kind of the processes `q` and `p`, the second at place `j`.
     fn end_between_steps(&self, q: Proc, sent: Kind, p: Proc, received: Kind, j: usize) -> usize
         ensures { (i k l : ℕ) (between : AnEvent) → i < j → IsWithin self.now i between
+            → (ShareCell self.now between (Step p l received) → ⊥)
             → depends_of (Step q k sent) between ≡ true
             → depends_of between (Step p l received) ≡ true → i < result }
     {
@@ -325,11 +390,12 @@ impl Bounds {
     /// depends.
     pub fn end_between(&self, cause: &Event, effect: &Event, j: usize) -> usize
         ensures { (i : ℕ) (between : AnEvent) → i < j → IsWithin self.now i between
+            → (ShareCell self.now between effect.now → ⊥)
             → depends_of cause.now between ≡ true
             → depends_of between effect.now ≡ true → i < result }
     {
         match effect {
-            Event::Lost(copy) => self.end_for_loss(copy),
+            Event::Lost(_) => j,
             Event::Step { p, kind, .. } => match cause {
                 Event::Step {
                     p: q,

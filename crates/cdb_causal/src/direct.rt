@@ -1,11 +1,11 @@
 //! The direct causes of an event of a history.
 
-ghost use Rattle.std.specs.Prelude.{◌≡◌, ℕ, ◌-◌, ◌<◌, ◌≤◌, ◌↔◌, length, MatchOption, IsTrue, true};
+ghost use Rattle.std.specs.Prelude.{◌≡◌, ℕ, ◌+◌, ◌-◌, ◌<◌, ◌≤◌, ◌↔◌, None, Some, length, get_or, MatchOption, IsTrue, true};
 ghost use Rattle.cdb_base.specs.declared.name.StepId.{StepId as AName};
 ghost use Rattle.cdb_causal.specs.Causality.{IsLink};
 ghost use Rattle.cdb_causal.specs.Dependence.{depends as depends_of};
 ghost use Rattle.cdb_causal.specs.DirectCauses.{AreDirectCauses};
-ghost use Rattle.cdb_causal.specs.LastCauses.{IsSlot, IsNoCause, IsLastCause, NamesDirectCauseIn};
+ghost use Rattle.cdb_causal.specs.LastCauses.{IsSlot, IsNoCause, IsLastCause, IsLastOrNone, AreLastCauses, NamesDirectCauseIn};
 ghost use Rattle.cdb_causal.specs.Standing.{IsStanding};
 
 use crate::dependence::depends;
@@ -78,16 +78,52 @@ fn is_direct(events: &[Event], i: usize, j: usize, end: usize) -> bool
     true
 }
 
-/// The name of the direct cause in a slot, if there is one.
-fn direct_cause(history: &History, j: usize, slot: usize) -> Option<StepId>
+/// The place of the last event in each slot on which the one at place `j` depends.
+fn last_causes(history: &History, j: usize) -> [Option<usize>; SLOTS]
+    requires { j < length history.now }
+    ensures last { AreLastCauses history.now j 10 result }
+    ensures below { (slot i : ℕ) → get_or result slot None ≡ Some i → i < j }
+{
+    let events = history.as_slice();
+    let mut causes = [None; SLOTS];
+    for slot in 0..SLOTS {
+        causes[slot] = last_cause(events, j, slot, history.end_of_causes(j, slot));
+    }
+    causes
+}
+
+/// A place above all of these, which are below place `j`.
+fn end_of(places: &[Option<usize>], j: usize) -> usize
+    requires { (slot i : ℕ) → get_or places.now slot None ≡ Some i → i < j }
+    ensures { (slot i : ℕ) → get_or places.now slot None ≡ Some i → i < result }
+{
+    let mut end = 0;
+    for place in places {
+        if let Some(place) = *place {
+            end = end.max(place + 1);
+        }
+    }
+    end
+}
+
+/// The name of the direct cause in a slot, if there is one. The place of the last cause there is
+/// given, and an end above all causes.
+fn direct_cause(
+    history: &History,
+    j: usize,
+    slot: usize,
+    last: Option<usize>,
+    end: usize,
+) -> Option<StepId>
     requires within { j < length history.now }
-    requires slot { slot < 10 }
+    requires last { IsLastOrNone history.now j slot last }
+    requires end { (k : ℕ) → IsLink depends_of history.now k j → k < end }
     ensures { MatchOption result ((name : AName) → NamesDirectCauseIn history.now j slot name → ⊥)
         (λ name. NamesDirectCauseIn history.now j slot name) }
 {
     let events = history.as_slice();
-    if let Some(i) = last_cause(events, j, slot, history.end_of_causes(j, slot)) {
-        if is_direct(events, i, j, history.end_between(i, j)) {
+    if let Some(i) = last {
+        if is_direct(events, i, j, end.min(history.end_between(i, j))) {
             return Some(events[i].name());
         }
     }
@@ -104,9 +140,11 @@ pub fn direct_causes(alloc: Global, history: &History, at: usize) -> SmallVec<St
     ensures { AreDirectCauses history.now (at - 1) result.items }
 {
     let _standing = history.as_slice();
+    let lasts = last_causes(history, at - 1);
+    let end = end_of(&lasts, at - 1);
     let mut causes = SmallVec::new(alloc);
     for slot in 0..SLOTS {
-        if let Some(name) = direct_cause(history, at - 1, slot) {
+        if let Some(name) = direct_cause(history, at - 1, slot, lasts[slot], end) {
             causes.push_reserved(name);
         }
     }

@@ -173,6 +173,8 @@ impl History {
         ensures event { nth self.old at ≡ Some result }
         ensures rest { self.new ≡ without self.old (at - 1) }
     {
-        self.events.remove(at - 1)
+        let event = self.events.remove(at - 1);
+        self.bounds.forget(&event);
+        event
     }
 }

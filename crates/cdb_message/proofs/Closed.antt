@@ -49,7 +49,7 @@ slice_get-set (x ∷ xs) (suc i) zero y = inr refl
 slice_get-set (x ∷ xs) (suc i) (suc j) y =
     elim (slice_get-set xs i j y) [ inl h ↦ inl ((λ k. suc (h.0 k)), h.1) | inr h ↦ inr h ]
 
-nth-set_nth : {A : Type 0} (xs : List A) (p q : ℕ) (y : A)
+pub nth-set_nth : {A : Type 0} (xs : List A) (p q : ℕ) (y : A)
     → ((q ≡ p) × (nth (set_nth xs p y) q ≡ Some y)) ⊎ (nth (set_nth xs p y) q ≡ nth xs q)
 nth-set_nth xs zero q y = inr refl
 nth-set_nth xs (suc i) zero y = inr refl

@@ -1,3 +1,4 @@
+pub mod Above
 pub mod MarkLaws
 pub mod Closed
 pub mod Pending

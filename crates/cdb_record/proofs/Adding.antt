@@ -19,7 +19,6 @@ use Rattle.cdb_record.specs.Accounts.{AreAccounts, dependents_at}
 use Rattle.cdb_record.specs.Changes.{IsNamedByOne, AreDifferent, AreChanged, changed_by}
 use Rattle.cdb_record.specs.declared.accounts.Account.{Account}
 use Rattle.cdb_record.specs.declared.accounts.Change.TheVariants.{Raise}
-use Rattle.cdb_record.proofs.Prefixes.{are_longer}
 
 not_itself : (name : StepId) → ComesBefore name name → ⊥
 not_itself (named.Step step) h = absurd (omega (arith, h))
@@ -59,12 +58,9 @@ count_few history accounts are i account at =
 pub as_before : (old : List Account) (i : ℕ) (other : Account) → i < length old → (account : Account) × (slice_get old i ≡ Some account)
 as_before old i other less = (get_or old i other, slice_get-get_or old i other less)
 
-module _ (history : List Event) (event : Event) (old raised : List Account) (account : Account) (standing : IsStanding (history ++ event ∷ [])) (few : length history < 4294967295) (causes : AreDirectCauses (history ++ event ∷ []) (length history) account.causes.items) (changed : AreChanged (changed_by Raise) (history ++ event ∷ []) account.causes.items (length account.causes.items) old raised) (zeros : account.count ≡ 0) (are : AreAccounts history old) where
+module _ (history : List Event) (event : Event) (old raised : List Account) (account : Account) (names : List StepId) (standing : IsStanding (history ++ event ∷ [])) (few : length history < 4294967295) (causes : AreDirectCauses (history ++ event ∷ []) (length history) names) (changed : AreChanged (changed_by Raise) (history ++ event ∷ []) names (length names) old raised) (zeros : account.count ≡ 0) (are : AreAccounts history old) where
   abbrev longer : List Event
   longer = history ++ event ∷ []
-
-  abbrev names : List StepId
-  names = account.causes.items
 
   module _ (i : ℕ) (cause : Event) (at : slice_get history i ≡ Some cause) where
     named_direct : IsNamedByOne longer i names (length names) → is_direct depends cause (drop (suc i) history) event ≡ true
@@ -108,20 +104,6 @@ module _ (history : List Event) (event : Event) (old raised : List Account) (acc
   first_at : (i : ℕ) (now : Account) → slice_get raised i ≡ Some now → (first : Account) × (slice_get old i ≡ Some first)
   first_at i now at = as_before old i now (subst (λ n. i < n) changed.same_length (slice_get_within raised i now at))
 
-  causes_at : (j : ℕ) (now : Account) → slice_get (raised ++ account ∷ []) j ≡ Some now → AreDirectCauses longer j now.causes.items
-  causes_at j now at =
-      ⊎_elim
-      (λ earlier.
-      let first = first_at j now earlier.0 in
-      let same = changed.causes j first.0 now first.1 earlier.0 in
-      let h = there_too history old j first.0 are.same_length first.1 in
-      subst (λ v. AreDirectCauses longer j v.items) (sym same)
-      (are_longer history (event ∷ []) j (slice_get_within history j h.0 h.1) first.0.causes.items (are.causes j first.0 first.1)))
-      (λ last.
-      let place : length history ≡ j = let a = last.1 in let b = changed.same_length in let c = are.same_length in omega (arith, a, b, c) in
-      subst (λ (a : Account). AreDirectCauses longer j a.causes.items) last.0 (subst (λ n. AreDirectCauses longer n names) place causes))
-      (push_cases raised account now j at)
-
   counts_at : (i : ℕ) (now : Account) (at_event : Event) → slice_get (raised ++ account ∷ []) i ≡ Some now → slice_get longer i ≡ Some at_event → now.count ≡ dependents_at longer i at_event
   counts_at i now at_event at at_longer =
       ⊎_elim
@@ -142,7 +124,6 @@ module _ (history : List Event) (event : Event) (old raised : List Account) (acc
         standing = standing;
         same_length = same_length;
         few = let n = length_push history event in omega (arith, n, few);
-        causes = causes_at;
         counts = counts_at;
       }
 

@@ -1,5 +1,5 @@
 -- Counts that are changed for one name after another.
-use Rattle.std.proofs.Common.{◌≡◌, ℕ, zero, suc, ◌-◌, ◌<◌, ◌⊎◌, inl, inr, ⊎_elim, List, [], ◌∷◌, length, Some, slice_get, slice_set, refl, sym, ap, ◌∙◌, subst, arith}
+use Rattle.std.proofs.Common.{◌≡◌, ℕ, zero, suc, ◌-◌, ◌<◌, ◌⊎◌, inl, inr, ⊎_elim, List, [], ◌∷◌, length, Some, slice_get, slice_set, set, refl, sym, ap, ◌∙◌, subst, arith}
 use Rattle.std.proofs.lemmas.Option.{same_Some, none-some, slice_get_within}
 use Rattle.cdb_base.specs.Event.{event_name}
 use Rattle.cdb_base.specs.declared.event.Event.{Event}
@@ -22,6 +22,11 @@ module _ {A : Type 0} where
   set_other (z ∷ zs) (suc i) zero x other = refl
   set_other (z ∷ zs) (suc i) (suc j) x other = set_other zs i j x (λ e. other (ap suc e))
 
+  pub set-slice_set : (xs : List A) (i : ℕ) (x : A) → set xs i x ≡ slice_set xs i x
+  set-slice_set [] i x = refl
+  set-slice_set (z ∷ zs) zero x = refl
+  set-slice_set (z ∷ zs) (suc i) x = ap (λ l. z ∷ l) (set-slice_set zs i x)
+
   length-set : (xs : List A) (i : ℕ) (x : A) → length (slice_set xs i x) ≡ length xs
   length-set [] i x = refl
   length-set (z ∷ zs) zero x = refl
@@ -37,7 +42,6 @@ pub unchanged : (change : ℕ → ℕ) (history : List Event) (names : List Step
 unchanged change history names accounts =
     record {
       same_length = refl;
-      causes = λ i account changed at at_changed. ap (λ (a : Account). a.causes) (same_Some changed account (sym at_changed ∙ at));
       named = λ i account changed at at_changed one. absurd (none_among names one.0 one.2);
       others = λ i account changed at at_changed none. ap (λ (a : Account). a.count) (same_Some changed account (sym at_changed ∙ at));
     }
@@ -65,7 +69,6 @@ module _ (change : ℕ → ℕ) (history : List Event) (names : List StepId) (ol
   changed_none new =
       record {
         same_length = so_far.same_length;
-        causes = so_far.causes;
         named = λ i account changed at at_changed one.
             ⊎_elim (so_far.named i account changed at at_changed) (λ here. absurd (new i here)) (named_before i one);
         others = λ i account changed at at_changed none. so_far.others i account changed at at_changed (λ one. none (named_more i one));
@@ -81,7 +84,7 @@ module _ (change : ℕ → ℕ) (history : List Event) (names : List StepId) (ol
     pub count_unchanged : (first account : Account) → slice_get old (place - 1) ≡ Some first → slice_get mid (place - 1) ≡ Some account → account.count ≡ first.count
     count_unchanged first account at_first at = so_far.others (place - 1) first account at_first at not_yet
 
-    module _ (account next : Account) (at_account : slice_get mid (place - 1) ≡ Some account) (same_causes : next.causes ≡ account.causes) (count_is : next.count ≡ change account.count) where
+    module _ (account next : Account) (at_account : slice_get mid (place - 1) ≡ Some account) (count_is : next.count ≡ change account.count) where
       is_next : (changed : Account) → slice_get (slice_set mid (place - 1) next) (place - 1) ≡ Some changed → changed ≡ next
       is_next changed at = same_Some changed next (sym at ∙ set_same mid (place - 1) next account at_account)
 
@@ -93,14 +96,6 @@ module _ (change : ℕ → ℕ) (history : List Event) (names : List StepId) (ol
       changed_one =
           record {
             same_length = length-set mid (place - 1) next ∙ so_far.same_length;
-            causes = λ i first changed at at_changed.
-                ⊎_elim
-                (λ here.
-                ap (λ (a : Account). a.causes) (is_next changed (subst (λ k. slice_get (slice_set mid (place - 1) next) k ≡ Some changed) here at_changed))
-                ∙ same_causes
-                ∙ so_far.causes (place - 1) first account (subst (λ k. slice_get old k ≡ Some first) here at) at_account)
-                (λ other. so_far.causes i first changed at (elsewhere i changed other at_changed))
-                (same_place (place - 1) i);
             named = λ i first changed at at_changed one.
                 ⊎_elim
                 (λ here.

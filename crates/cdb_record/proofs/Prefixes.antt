@@ -2,11 +2,8 @@
 use Rattle.std.proofs.Common.{◌≡◌, ℕ, zero, suc, ◌+◌, ◌<◌, Bool, true, ◌↔◌, List, [], ◌∷◌, ◌++◌, length, Some, slice_get, take, drop, refl, sym, ap, ◌∙◌, subst, arith}
 use Rattle.std.proofs.lemmas.Option.{same_Some, none-some}
 use Rattle.std.proofs.lemmas.List.{length_push, drop-take}
-use Rattle.cdb_base.specs.declared.event.Event.{Event}
-use Rattle.cdb_base.specs.declared.name.StepId.{StepId}
 use Rattle.cdb_causal.specs.Causality.{IsLink, IsDirectCause}
 use Rattle.cdb_causal.specs.Dependence.{depends}
-use Rattle.cdb_causal.specs.DirectCauses.{AreDirectCauses, NamesDirectCause}
 use Rattle.cdb_causal.specs.DirectDependents.{is_direct}
 use Rattle.cdb_causal.proofs.Dependents.{get_append_front}
 use Rattle.cdb_causal.proofs.DirectByList.{direct_between}
@@ -89,24 +86,3 @@ module _ {E : Type 0} (depends : E → E → Bool) (history : List E) (i k m : �
             subst (λ l. IsDirectCause depends l k i) whole
             (direct_longer depends long (drop (suc i) history) k i within (subst (IsDirectCause depends long k) n (by_list.1 (subst (λ l. is_direct depends cause l event ≡ true) (sym between) h))))),
       )
-
--- causes are those of another event, of another history, where the same names name them
-pub are_same : (history other : List Event) (j k : ℕ) (names : List StepId) → ((name : StepId) → NamesDirectCause history j name ↔ NamesDirectCause other k name) → AreDirectCauses history j names → AreDirectCauses other k names
-are_same history other j k names same are =
-    record {
-      only = λ n name at. (same name).0 (are.only n name at);
-      each = λ name named. are.each name ((same name).1 named);
-      in_order = are.in_order;
-    }
-
-module _ (history tail : List Event) (j : ℕ) (within : j < length history) where
-  names_longer : (name : StepId) → NamesDirectCause history j name ↔ NamesDirectCause (history ++ tail) j name
-  names_longer name = (
-    (λ n. (n.0, direct_longer depends history tail n.0 j within n.1, (n.2.0, get_append_front history tail n.0 n.2.0 n.2.1, n.2.2))),
-    (λ n.
-        let later = n.1.link.later in
-        (n.0, direct_shorter depends history tail n.0 j within n.1, (n.2.0, get_front history tail n.0 n.2.0 (omega (arith, within, later)) n.2.1, n.2.2))),
-  )
-
-  pub are_longer : (names : List StepId) → AreDirectCauses history j names → AreDirectCauses (history ++ tail) j names
-  are_longer names are = are_same history (history ++ tail) j j names names_longer are

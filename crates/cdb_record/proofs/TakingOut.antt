@@ -20,7 +20,7 @@ use Rattle.cdb_record.specs.declared.entry.Entry.{Entry}
 use Rattle.cdb_record.specs.declared.accounts.Account.{Account}
 use Rattle.cdb_record.specs.declared.accounts.Change.TheVariants.{Lower}
 use Rattle.cdb_record.proofs.Adding.{there_too, as_before}
-use Rattle.cdb_record.proofs.Prefixes.{direct_by_between, are_same}
+use Rattle.cdb_record.proofs.Prefixes.{direct_by_between}
 
 place_below : (i k : ℕ) → k < i → place_before i k ≡ k
 place_below zero k less = absurd (omega (arith, less))
@@ -79,15 +79,9 @@ module _ {E : Type 0} where
       free_behind depends (drop k xs) m x (get_drop xs k m ∙ at)
       (λ j other less at_other. behind_free depends xs (k + m) x at free (k + j) other (omega (arith, less)) (sym (get_drop xs k j) ∙ at_other))
 
-module _ (history : List Event) (accounts : List Account) (i : ℕ) (gone : Event) (account : Account) (at : slice_get history i ≡ Some gone) (at_account : slice_get accounts i ≡ Some account) (free : IsFree depends history i) (are : AreAccounts history accounts) where
+module _ (history : List Event) (accounts : List Account) (i : ℕ) (gone : Event) (names : List StepId) (at : slice_get history i ≡ Some gone) (causes : AreDirectCauses history i names) (free : IsFree depends history i) (are : AreAccounts history accounts) where
   abbrev rest : List Event
   rest = without history i
-
-  abbrev names : List StepId
-  names = account.causes.items
-
-  causes : AreDirectCauses history i account.causes.items
-  causes = are.causes i account at_account
 
   named_there : (k : ℕ) (name : StepId) → IsNamedAt rest k name → IsNamedAt history (place_before i k) name
   named_there k name here = (here.0, sym (slice_get-without history i k) ∙ here.1, here.2)
@@ -167,17 +161,6 @@ module _ (history : List Event) (accounts : List Account) (i : ℕ) (gone : Even
             | false ↦ λ e. ap (λ b. as_number b + dependents_at rest k event) e ∙ zero_plus (dependents_at rest k event)
           ] refl
 
-  names_kept : (k : ℕ) (name : StepId) → NamesDirectCause history (place_before i k) name ↔ NamesDirectCause rest k name
-  names_kept k name = (
-    (λ n.
-        let m = place_found i n.0 (λ e. free (place_before i k) (subst (λ p. IsDirectCause depends history p (place_before i k)) e n.1).link) in (
-          m.0,
-          (direct_kept depends history i m.0 k free).1 (subst (λ p. IsDirectCause depends history p (place_before i k)) (sym m.1) n.1),
-          named_back m.0 name (subst (λ p. IsNamedAt history p name) (sym m.1) n.2),
-        )),
-    (λ n. (place_before i n.0, (direct_kept depends history i n.0 k free).0 n.1, named_there n.0 name n.2)),
-  )
-
   at_place : (k : ℕ) (first : Account) → slice_get (without accounts i) k ≡ Some first → slice_get accounts (place_before i k) ≡ Some first
   at_place k first at_first = sym (slice_get-without accounts i k) ∙ at_first
 
@@ -198,16 +181,9 @@ module _ (history : List Event) (accounts : List Account) (i : ℕ) (gone : Even
       let within = slice_get_within rest k one.1.0 one.1.1 in
       omega (arith, same, within)
 
-  module _ (lowered : List Account) (changed : AreChanged (changed_by Lower) (without history i) account.causes.items (length account.causes.items) (without accounts i) lowered) where
+  module _ (lowered : List Account) (changed : AreChanged (changed_by Lower) (without history i) names (length names) (without accounts i) lowered) where
     first_at : (k : ℕ) (now : Account) → slice_get lowered k ≡ Some now → (first : Account) × (slice_get (without accounts i) k ≡ Some first)
     first_at k now at_now = as_before (without accounts i) k now (subst (λ n. k < n) changed.same_length (slice_get_within lowered k now at_now))
-
-    causes_at : (k : ℕ) (now : Account) → slice_get lowered k ≡ Some now → AreDirectCauses rest k now.causes.items
-    causes_at k now at_now =
-        let first = first_at k now at_now in
-        let same = changed.causes k first.0 now first.1 at_now in
-        subst (λ v. AreDirectCauses rest k v.items) (sym same)
-        (are_same history rest (place_before i k) k first.0.causes.items (names_kept k) (are.causes (place_before i k) first.0 (at_place k first.0 first.1)))
 
     counts_at : (k : ℕ) (now : Account) (event : Event) → slice_get lowered k ≡ Some now → slice_get rest k ≡ Some event → now.count ≡ dependents_at rest k event
     counts_at k now event at_now at_event =
@@ -246,7 +222,6 @@ module _ (history : List Event) (accounts : List Account) (i : ℕ) (gone : Even
           standing = standing_without history i are.standing;
           same_length = changed.same_length ∙ same_length_without accounts history i are.same_length;
           few = let less = fewer_without history i in let few = are.few in omega (arith, less, few);
-          causes = causes_at;
           counts = counts_at;
         }
 

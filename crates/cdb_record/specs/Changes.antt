@@ -31,6 +31,5 @@ AreDifferent names = (k l : ℕ) (name : StepId) → k < l → slice_get names k
 -- the counts are changed once at the places of the events that have one of the first n names; all else is as it was
 pub record AreChanged (change : ℕ → ℕ) (history : List Event) (names : List StepId) (n : ℕ) (old new : List Account) : Type 0 where
   pub same_length : length new ≡ length old
-  pub causes : (i : ℕ) (account changed : Account) → slice_get old i ≡ Some account → slice_get new i ≡ Some changed → changed.causes ≡ account.causes
   pub named : (i : ℕ) (account changed : Account) → slice_get old i ≡ Some account → slice_get new i ≡ Some changed → IsNamedByOne history i names n → changed.count ≡ change account.count
   pub others : (i : ℕ) (account changed : Account) → slice_get old i ≡ Some account → slice_get new i ≡ Some changed → (IsNamedByOne history i names n → ⊥) → changed.count ≡ account.count

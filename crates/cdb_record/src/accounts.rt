@@ -6,12 +6,10 @@ ghost use Rattle.cdb_record.specs.Changes.{IsNamedByOne, AreDifferent, AreChange
 
 use cdb_base::StepId;
 use cdb_causal::History;
-use smallvec::SmallVec;
 
-/// The direct causes of a standing event, and how many standing events have it as one.
+/// How many standing events have an event as a direct cause.
 #[derive(Drop)]
 pub struct Account {
-    pub causes: SmallVec<StepId, 9>,
     pub count: u32,
 }
 

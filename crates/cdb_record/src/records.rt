@@ -29,6 +29,8 @@ pub struct Records<B: Drop> {
     history: History,
     entries: Vec<Entry<B>>,
     accounts: Vec<Account>,
+    // For lists of direct causes, which have places of their own and never allocate.
+    alloc: Global,
 }
 
 impl<B: Drop> Model for Records<B> {
@@ -54,6 +56,7 @@ impl<B: Drop> Records<B> {
             history: History::new(alloc),
             entries: Vec::new(alloc),
             accounts: Vec::new(alloc),
+            alloc,
         }
     }
 
@@ -99,7 +102,7 @@ impl<B: Drop> Records<B> {
         self.history.push(added)?;
         let causes = direct_causes(alloc, &self.history, self.history.as_slice().len());
         change_counts(&self.history, &mut self.accounts, &causes, Change::Raise);
-        self.accounts.push_reserved(Account { causes, count: 0 });
+        self.accounts.push_reserved(Account { count: 0 });
         self.entries.push_reserved(Entry {
             event,
             back: None,
@@ -134,14 +137,10 @@ impl<B: Drop> Records<B> {
         ensures entry { nth self.old at ≡ Some result }
         ensures rest { self.new ≡ without self.old (at - 1) }
     {
+        let causes = direct_causes(self.alloc, &self.history, at);
         self.history.remove(at);
-        let account = self.accounts.remove(at - 1);
-        change_counts(
-            &self.history,
-            &mut self.accounts,
-            &account.causes,
-            Change::Lower,
-        );
+        self.accounts.remove(at - 1);
+        change_counts(&self.history, &mut self.accounts, &causes, Change::Lower);
         self.entries.remove(at - 1)
     }
 

@@ -1,9 +1,17 @@
 use Rattle.std.proofs.Common.{◌≡◌, ℕ, ◌+◌, ◌-◌, List, sym, ap, ◌∙◌, subst, arith}
 use Rattle.cdb_base.specs.declared.event.Event.{Event}
 use Rattle.cdb_causal.proofs.DirectCausesBelow.{AreDirectCausesBelow, below_none, below_some, below_start, below_ten, room}
+use Rattle.cdb_causal.proofs.LastPlaces.{above_causes}
 use Rattle.cdb_causal.proofs.SlotsOfCauses.{one_name}
 use Rattle.cdb_causal.proofs.direct.direct_causes.Goals as goal
 use Rattle.cdb_causal.proofs.direct.direct_causes.Goals.{in-Some, in_default}
+
+pub direct_cause-requires-clause-end : goal.direct_cause-requires-clause-end
+direct_cause-requires-clause-end c =
+    above_causes c.args.history.now c.as_slice-standing.ensures.standing (c.args.at - 1) c.end_of-end.result c.last_causes-lasts.result c.last_causes-lasts.ensures.last c.end_of-end.ensures
+
+pub direct_cause-requires-clause-last : goal.direct_cause-requires-clause-last
+direct_cause-requires-clause-last c = c.last_causes-lasts.ensures.last c.loop-slot.slot c.loop-slot-test.true
 
 pub push_reserved-requires : goal.push_reserved-requires
 push_reserved-requires c =

@@ -2,7 +2,7 @@ use Rattle.std.proofs.Common.{ℕ, suc, ◌-◌, ◌<◌, ◌∙◌, length, get
 use Rattle.std.proofs.lemmas.Option.{slice_get_read, slice_get-get_or}
 use Rattle.cdb_record.specs.Changes.{AreChanged, HasRoomFor, changed_by}
 use Rattle.cdb_record.specs.declared.accounts.Account.{Account}
-use Rattle.cdb_record.proofs.Changing.{unchanged, changed_none, changed_one, count_unchanged, named_here}
+use Rattle.cdb_record.proofs.Changing.{unchanged, changed_none, changed_one, count_unchanged, named_here, set-slice_set}
 use Rattle.cdb_record.proofs.accounts.change_counts.Goals as goal
 use Rattle.cdb_record.proofs.accounts.change_counts.Goals.{in-Some, in_default}
 
@@ -36,15 +36,15 @@ of-account-requires c =
     let named = named_here c.args.history.now names c.loop-name.name-index c.name-item.result name_at c.in-Some.at c.in-Some.ensures in
     let place : ℕ = c.in-Some.at - 1 in
     let within = c.requires.within place named in
-    let account : Account = c.index-accounts-at.result in
+    let zero : Account = record { count = 0 } in
+    let account : Account = get_or c.loop-name.accounts place zero in
     let same_length = c.loop-name.auto.accounts in
     let mid_within : place < length c.loop-name.accounts = omega (arith, within, same_length) in
-    let at = slice_get_read c.loop-name.accounts (length c.loop-name.accounts) place account refl mid_within c.index-accounts-at.is in
+    let at = slice_get-get_or c.loop-name.accounts place zero mid_within in
     let at_first = slice_get-get_or c.args.accounts.now place account within in
     let first : Account = get_or c.args.accounts.now place account in
     let same = count_unchanged (changed_by c.args.change) c.args.history.now names c.args.accounts.now c.loop-name.accounts c.loop-name.name-index c.name-item.result name_at c.loop-name.invariant c.in-Some.at c.in-Some.ensures c.requires.different first account at_first at in
-    let is = ap (λ (a : Account). a.count) c.index-accounts-at.is in
-    subst (HasRoomFor c.args.change) (sym same ∙ is) (c.requires.room place first at_first named)
+    subst (HasRoomFor c.args.change) (sym same) (c.requires.room place first at_first named)
 
 pub loop-name-preserved : goal.loop-name-preserved
 loop-name-preserved c =
@@ -57,15 +57,15 @@ loop-name-preserved c =
     (elim c.match-position.branch [
       | in-Some w ↦
           let place : ℕ = w.in-Some.at - 1 in
-          let account : Account = w.index-accounts-at.result in
+          let zero : Account = record { count = 0 } in
+          let account : Account = get_or c.loop-name.accounts place zero in
           let within = c.requires.within place (named_here history names n c.name-item.result name_at w.in-Some.at w.in-Some.ensures) in
           let same_length = c.loop-name.auto.accounts in
           let mid_within : place < length c.loop-name.accounts = omega (arith, within, same_length) in
-          let at = slice_get_read c.loop-name.accounts (length c.loop-name.accounts) place account refl mid_within w.index-accounts-at.is in
-          subst (AreChanged (changed_by c.args.change) history names (suc n) c.args.accounts.now) (sym w.accounts-is)
+          let at = slice_get-get_or c.loop-name.accounts place zero mid_within in
+          subst (AreChanged (changed_by c.args.change) history names (suc n) c.args.accounts.now) (sym (w.accounts-is ∙ set-slice_set c.loop-name.accounts place _))
           (changed_one (changed_by c.args.change) history names c.args.accounts.now c.loop-name.accounts n c.name-item.result name_at so_far w.in-Some.at w.in-Some.ensures c.requires.different account _ at
-          (ap (λ (a : Account). a.causes) (sym w.index-accounts-at.is))
-          (w.of-account.ensures ∙ ap (λ (a : Account). changed_by c.args.change a.count) (sym w.index-accounts-at.is)))
+          w.of-account.ensures)
       | in_default w ↦
           subst (AreChanged (changed_by c.args.change) history names (suc n) c.args.accounts.now) (sym w.accounts-is)
           (changed_none (changed_by c.args.change) history names c.args.accounts.now c.loop-name.accounts n c.name-item.result name_at so_far w.in_default.ensures)

@@ -22,4 +22,4 @@ returns-in-Step-3 c =
 pub returns-in-Lost : goal.returns-in-Lost
 returns-in-Lost c =
     λ i cause before within in_slot unsent h.
-    c.end_for_loss.ensures i cause within (ap (λ e. depends cause e) (sym c.in-Lost.is) ∙ h)
+    c.end_for_loss.ensures i cause within in_slot (ap (λ e. depends cause e) (sym c.in-Lost.is) ∙ h)

@@ -5,6 +5,7 @@ use Rattle.cdb_causal.specs.Bounds.{IsWithin}
 use Rattle.cdb_causal.specs.Indexed.{IsIndexed}
 use Rattle.cdb_causal.proofs.Bounding.{all_raised, within_push}
 use Rattle.cdb_causal.proofs.Keeping.{standing_push}
+use Rattle.cdb_causal.proofs.Receives.{alone_kept, alone_push}
 use Rattle.cdb_causal.proofs.history.History.push.Goals as goal
 
 pub invariant_of-self-2 : goal.invariant_of-self-2
@@ -19,6 +20,9 @@ invariant_of-self-2 c =
       within =
           within_push c.reserve.new.self c.note.new.self items c.args.event c.note.ensures.others raised
           (subst (λ n. IsWithin c.note.new.self n c.args.event) same c.note.ensures.within);
+      alone =
+          alone_push c.self.inside.bounds c.reserve.new.self c.note.new.self items c.args.event c.reserve.ensures.receives c.note.ensures.receives c.self.invariant.within
+          c.self.invariant.alone;
     })
 
 pub invariant_of-self : goal.invariant_of-self
@@ -26,6 +30,7 @@ invariant_of-self c =
     record {
       standing = c.self.invariant.standing;
       within = all_raised c.self.inside.bounds c.reserve.new.self c.self.inside.events.items c.reserve.ensures.others c.self.invariant.within;
+      alone = alone_kept c.self.inside.bounds c.reserve.new.self c.self.inside.events.items c.reserve.ensures.receives c.self.invariant.alone;
     }
 
 pub invariant_of-self-in_err-append : goal.invariant_of-self-in_err-append
@@ -34,4 +39,5 @@ invariant_of-self-in_err-append c =
     (record {
       standing = c.self.invariant.standing;
       within = all_raised c.self.inside.bounds c.reserve.new.self c.self.inside.events.items c.reserve.ensures.others c.self.invariant.within;
+      alone = alone_kept c.self.inside.bounds c.reserve.new.self c.self.inside.events.items c.reserve.ensures.receives c.self.invariant.alone;
     })

@@ -4,6 +4,7 @@ use Rattle.std.specs.FinSet as finite
 use Rattle.std.proofs.lemmas.Grind.{common_steps}
 use Rattle.cdb_base.specs.Places.{set_nth}
 use Rattle.cdb_message.specs.Mail.{MailState, received_by, remove_receive}
+use Rattle.cdb_message.proofs.Above.{above-remove_receive}
 use Rattle.cdb_message.proofs.Closed.{below-remove_receive}
 use Rattle.cdb_message.proofs.TakenBack.{remove_receive-add_receive}
 use Rattle.cdb_message.proofs.mail.Mail.take_back_recv.Goals as goal
@@ -13,8 +14,12 @@ invariant_of-self c =
     let kept = c.self.invariant in
     let mail : MailState = record { sent = c.self.inside.sent.items; received = c.self.inside.received.items; lost = c.self.inside.lost } in
     let set_by : slice_set mail.received c.index.result c.remove.new.self ≡ set_nth mail.received c.args.p (finite.remove (received_by mail c.args.p) c.args.name) =
-    grind (arith, common_steps) in
-    (search rules, kept.1, rw set_by (below-remove_receive c.self.inside.marks mail kept.2 c.lower.new.self c.args.p c.args.name.s c.args.name.m c.lower.ensures))
+    grind (arith, common_steps) in (
+      search rules,
+      kept.1,
+      rw set_by (below-remove_receive c.self.inside.marks mail kept.2 c.lower.new.self c.args.p c.args.name.s c.args.name.m c.lower.ensures),
+      rw set_by (above-remove_receive c.self.inside.tops mail kept.3 c.args.p c.args.name),
+    )
 
 pub returns-clause-undoes : goal.returns-clause-undoes
 returns-clause-undoes c = λ mail fresh was.

@@ -59,7 +59,7 @@ invariant_of-self-2 g c =
     let place = last_place history c.push.new.self c.as_slice.result.now c.args.event longer c.as_slice.ensures.events in
     let causes = moved (λ l n m. AreDirectCauses l n m) longer place refl c.direct_causes-causes.ensures in
     let accounts_are = c.deref_mut.ensures.value ∙ c.reserve-2.ensures.items in
-    let account : Account = record { causes = c.direct_causes-causes.result; count = 0 } in
+    let account : Account = record { count = 0 } in
     let raised : List Account = c.change_counts.new.accounts in
     let changed = moved (λ l names old. AreChanged (changed_by Raise) l names (length names) old raised) longer c.deref.ensures accounts_are c.change_counts.ensures in
     let entries = c.self.inside.entries.items in
@@ -68,7 +68,7 @@ invariant_of-self-2 g c =
     let same = ap length c.self.invariant.0 in
     let mapped = length-map entries (λ entry. entry.event) in
     let few : length history < 4294967295 = grind (arith, below, len, same, mapped, common_steps) in
-    let right = added history c.args.event accounts raised account (subst IsStanding longer c.as_slice.ensures.standing) few causes changed refl c.self.invariant.1 in
+    let right = added history c.args.event accounts raised account names (subst IsStanding longer c.as_slice.ensures.standing) few causes changed refl c.self.invariant.1 in
     let back = written_back raised (drop (length raised) c.reserve-2.new.self.items) c.reserve-2.new.self.len (c.change_counts.auto.accounts ∙ c.deref_mut.ensures.len) in (
       longer ∙ ap (λ l. l ++ c.args.event ∷ []) c.self.invariant.0 ∙ sym (events_push entries c.args.event None None)
           ∙ ap events_of (sym (c.push_reserved-2.ensures.items ∙ ap (λ l. l ++ record { event = c.args.event; back = None; overwritten = None } ∷ []) c.reserve.ensures.items)),

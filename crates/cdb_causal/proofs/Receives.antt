@@ -1,0 +1,70 @@
+-- In each cell of the receives at most one event stands, also where an event is added or taken out.
+use Rattle.std.proofs.Common.{◌≡◌, ◌≢◌, ℕ, ◌-◌, ◌<◌, ◌≤◌, ◌⊎◌, ⊎_elim, List, [], ◌∷◌, ◌++◌, Some, length, slice_get, slice_index, sym, refl, ap, ◌∙◌, subst, arith}
+use Rattle.cdb_base.specs.declared.event.Event.{Event}
+use Rattle.cdb_base.specs.declared.event.Event.TheVariants.{Step, Lost}
+use Rattle.cdb_base.specs.declared.event.Kind.{Kind}
+use Rattle.cdb_base.specs.declared.event.Kind.TheVariants.{Send, Recv, Read, Write}
+use Rattle.cdb_causal.specs.Alone.{receive_bound, IsReceiveIn, AreAlone, KeepsReceives, Joins, Leaves}
+use Rattle.cdb_causal.specs.Bounds.{IsKindWithin, IsWithin, AreWithin}
+use Rattle.cdb_causal.specs.Cells.{register_cell, named_cell, copy_cell}
+use Rattle.cdb_causal.specs.Rollback.{without, place_before}
+use Rattle.cdb_causal.specs.declared.bounds.Bounds.{Bounds}
+use Rattle.cdb_causal.specs.declared.bounds.TheConstants.{SEVERAL}
+use Rattle.cdb_causal.proofs.Counting.{slice_get-without, same_place_before}
+use Rattle.cdb_causal.proofs.Lists.{push_cases}
+
+receive_below : (bounds : Bounds) (i n : ℕ) (event : Event) → IsWithin bounds i event → IsReceiveIn event n → i < receive_bound bounds n
+receive_below bounds i n (Step p k (Recv s m)) within is = subst (λ c. i < receive_bound bounds c) is within.1
+receive_below bounds i n _ within is = absurd is
+
+pub alone_kept : (old new : Bounds) (history : List Event) → KeepsReceives old new → AreAlone old history → AreAlone new history
+alone_kept old new history kept alone n i j event other one = alone n i j event other (λ e. one (kept n ∙ e))
+
+pub alone_push : (old mid new : Bounds) (history : List Event) (event : Event) → KeepsReceives old mid → Joins mid new event → AreWithin old history → AreAlone old history → AreAlone new (history ++ event ∷ [])
+alone_push old mid new history event kept joins within alone n i j one two single at_i at_j in_i in_j =
+    ⊎_elim
+    (λ old_i. ⊎_elim
+    (λ old_j. alone n i j one two
+    (λ e. single (joins.others n (λ joined. none_before i one old_i.0 in_i joined) ∙ kept n ∙ e))
+    old_i.0 old_j.0 in_i in_j)
+    (λ new_j. absurd (none_before i one old_i.0 in_i (subst (λ e. IsReceiveIn e n) (sym new_j.0) in_j)))
+    (push_cases history event two j at_j))
+    (λ new_i. ⊎_elim
+    (λ old_j. absurd (none_before j two old_j.0 in_j (subst (λ e. IsReceiveIn e n) (sym new_i.0) in_i)))
+    (λ new_j. new_i.1 ∙ sym new_j.1)
+    (push_cases history event two j at_j))
+    (push_cases history event one i at_i)
+  where
+    none_before : (i : ℕ) (one : Event) → slice_get history i ≡ Some one → IsReceiveIn one n → IsReceiveIn event n → ⊥
+    none_before i one at_i in_i joined =
+        let none = sym (kept n) ∙ joins.alone n joined single in
+        let below = receive_below old i n one (within i one at_i) in_i in
+        omega arith
+
+is_several : (n : ℕ) → (n ≡ SEVERAL) ⊎ (n ≢ SEVERAL)
+is_several n = grind arith
+
+module _ (old new : Bounds) (history : List Event) (gone : ℕ) (event : Event) (at_gone : slice_get history gone ≡ Some event) (leaves : Leaves old new event) (alone : AreAlone old history) where
+  pub alone_without : AreAlone new (without history gone)
+  alone_without n i j one two single at_i at_j in_i in_j =
+      same_place_before gone i j
+      (alone n (place_before gone i) (place_before gone j) one two (λ e. single (leaves.others n (λ _. e) ∙ e))
+      (sym (slice_get-without history gone i) ∙ at_i) (sym (slice_get-without history gone j) ∙ at_j) in_i in_j)
+
+  -- what is left stands below the bounds that are left
+  kind_left : (i p k : ℕ) (kind : Kind) → slice_get history i ≡ Some (Step p k kind) → (i ≡ gone → ⊥) → IsKindWithin old i p kind → IsKindWithin new i p kind
+  kind_left i p k (Recv s m) at other within =
+      subst (λ b. i < b) (sym (leaves.others (copy_cell s m (p - 1)) (λ in_cell.
+      ⊎_elim (λ several. several) (λ single. absurd (other (alone (copy_cell s m (p - 1)) i gone (Step p k (Recv s m)) event single at at_gone refl in_cell)))
+      (is_several (receive_bound old (copy_cell s m (p - 1))))))) within
+  kind_left i p k (Send m) at other within = subst (λ t. i < slice_index t.items (named_cell p m)) (sym leaves.sends) within
+  kind_left i p k (Read register) at other within = subst (λ t. i < slice_index t (register_cell register (p - 1))) (sym leaves.accesses) within
+  kind_left i p k (Write register) at other within = (
+    subst (λ t. i < slice_index t (register_cell register (p - 1))) (sym leaves.accesses) within.0,
+    subst (λ t. i < slice_index t (register_cell register (p - 1))) (sym leaves.writes) within.1,
+  )
+  kind_left i p k _ at other within = within
+
+  pub within_left : (i : ℕ) (one : Event) → slice_get history i ≡ Some one → (i ≡ gone → ⊥) → IsWithin old i one → IsWithin new i one
+  within_left i (Step p k kind) at other within = (subst (λ t. i < slice_index t.items (named_cell p k)) (sym leaves.steps) within.0, kind_left i p k kind at other within.1)
+  within_left i (Lost copy) at other within = subst (λ t. i < slice_index t.items (copy_cell copy.msg.s copy.msg.m (copy.to - 1))) (sym leaves.losses) within

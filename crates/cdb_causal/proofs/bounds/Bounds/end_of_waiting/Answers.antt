@@ -1,0 +1,19 @@
+use Rattle.std.proofs.Common.{◌≡◌, ℕ, ◌+◌, ◌-◌, ◌<◌, ◌≤◌, slice_index, sym, ap, ◌∙◌, subst, arith}
+use Rattle.cdb_causal.specs.Cells.{named_cell, copy_cell}
+use Rattle.cdb_causal.proofs.Waiting.{above_waiting}
+use Rattle.cdb_causal.proofs.bounds.Bounds.end_of_waiting.Goals as goal
+
+pub returns : goal.returns
+returns c =
+    let slot = c.index.ensures.value in
+    let same : c.index.result ≡ c.args.p - 1 = omega arith in
+    let sent = c.end_of_sends-sent.ensures in
+    let lost = c.end_of_losses-lost.ensures ∙ ap (λ n. slice_index c.args.self.now.losses.items (copy_cell c.args.s c.args.r n)) same in
+    let one = c.max.ensures in
+    let two = c.max-2.ensures in
+    λ i k l between within unshared h g.
+    above_waiting c.args.self.now c.args.q c.args.m c.args.p c.args.s c.args.r c.max-2.result c.requires
+    (omega arith)
+    (omega arith)
+    (λ i k l within unshared. let below = c.end_of_other_receives-received.ensures i k l within unshared in omega arith)
+    i k l between within unshared h g

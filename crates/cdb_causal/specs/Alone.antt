@@ -1,0 +1,45 @@
+-- Receives that stand alone in their cell of the bounds: no other event receives the copy.
+use Rattle.std.specs.Prelude.{◌≡◌, ◌≢◌, ℕ, ◌-◌, List, Some, slice_get, slice_index}
+use Rattle.cdb_base.specs.declared.event.Event.{Event}
+use Rattle.cdb_base.specs.declared.event.Event.TheVariants.{Step, Lost}
+use Rattle.cdb_base.specs.declared.event.Kind.TheVariants.{Recv}
+use Rattle.cdb_causal.specs.Cells.{copy_cell}
+use Rattle.cdb_causal.specs.declared.bounds.Bounds.{Bounds}
+use Rattle.cdb_causal.specs.declared.bounds.TheConstants.{SEVERAL}
+
+-- the bound of a cell of the receives
+abbrev pub receive_bound : Bounds → ℕ → ℕ
+receive_bound bounds n = slice_index bounds.receives.items n
+
+-- the event receives a copy that has that cell
+abbrev pub IsReceiveIn : Event → ℕ → Type 0
+IsReceiveIn (Step p k (Recv s m)) n = copy_cell s m (p - 1) ≡ n
+IsReceiveIn _ n = ⊥
+
+-- where the bound of a cell does not say that several events may stand there, at most one does
+abbrev pub AreAlone : Bounds → List Event → Type 0
+AreAlone bounds history =
+    (n i j : ℕ) (event other : Event) → receive_bound bounds n ≢ SEVERAL
+    → slice_get history i ≡ Some event → slice_get history j ≡ Some other → IsReceiveIn event n → IsReceiveIn other n → i ≡ j
+
+-- both events stand in a cell in which at most one does
+abbrev pub ShareCell : Bounds → Event → Event → Type 0
+ShareCell bounds event other = (n : ℕ) × (receive_bound bounds n ≢ SEVERAL) × IsReceiveIn event n × IsReceiveIn other n
+
+-- the bounds of receives are as they were
+abbrev pub KeepsReceives : Bounds → Bounds → Type 0
+KeepsReceives old new = (n : ℕ) → receive_bound new n ≡ receive_bound old n
+
+-- the event has joined its cell, which had no bound or now says that several may stand there; the other cells are as they were
+pub record Joins (old new : Bounds) (event : Event) : Type 0 where
+  pub alone : (n : ℕ) → IsReceiveIn event n → receive_bound new n ≢ SEVERAL → receive_bound old n ≡ 0
+  pub others : (n : ℕ) → (IsReceiveIn event n → ⊥) → receive_bound new n ≡ receive_bound old n
+
+-- the event has left its cell, unless several may stand there; all else is as it was
+pub record Leaves (old new : Bounds) (event : Event) : Type 0 where
+  pub steps : new.steps ≡ old.steps
+  pub sends : new.sends ≡ old.sends
+  pub losses : new.losses ≡ old.losses
+  pub writes : new.writes ≡ old.writes
+  pub accesses : new.accesses ≡ old.accesses
+  pub others : (n : ℕ) → (IsReceiveIn event n → receive_bound old n ≡ SEVERAL) → receive_bound new n ≡ receive_bound old n
