@@ -1,8 +1,5 @@
 //! Files in memory.
 
-ghost use Rattle.std.specs.Prelude.{◌≡◌, option_map};
-ghost use Rattle.program_tests.specs.Files.{known, content_in};
-
 use cdb_play::ReadFault;
 use cdb_program::Files;
 use std::alloc::Global;
@@ -31,7 +28,7 @@ pub const FILES: &[Named] = &[
     ("list.json", b"[]"),
 ];
 
-/// Files in memory, the names of those that were opened, and how many more can be read.
+/// Files in memory, the names of those that were opened, and how many more can be read. No contract knows their bytes.
 #[derive(Drop)]
 pub struct Folder {
     files: &'static [Named],
@@ -53,19 +50,16 @@ impl Folder {
 }
 
 /// The bytes of the file of this name.
-fn content_of(files: &[Named], name: &str) -> Option<&'static [u8]>
-    ensures { option_map (λ bytes. bytes.now) result ≡ content_in (known files.now) name.now }
-{
+fn content_of(files: &[Named], name: &str) -> Option<&'static [u8]> {
     files.iter().find(|file| file.0 == name).map(|file| file.1)
 }
 
 impl Files for Folder {
-    ghost use Rattle.std.specs.Prelude.{Some};
+    ghost use Rattle.std.specs.Prelude.{[], Some};
     ghost use Rattle.cdb_play.specs.Races.{bytes_of};
-    ghost use Rattle.program_tests.specs.Files.{known};
 
     ghost seen = { λ folder. record {
-      known = known folder.files.now;
+      known = [];
       opened = Some (bytes_of folder.opened.items);
       failures = folder.failures;
     } };

@@ -62,7 +62,10 @@ fn check<R: Threads + Wait + Sync + Abort + AllocGlobal>(
     Ok(())
 }
 
-fn play<'a>(setup: &'a str, script: &'a str) -> Request<'a> {
+/// The request of a play of these files.
+fn play<'a>(setup: &'a str, script: &'a str) -> Request<'a>
+    ensures { HasTurns result }
+{
     Request::Play { setup, script }
 }
 
