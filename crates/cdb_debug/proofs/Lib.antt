@@ -1,0 +1,12 @@
+pub mod Cutting
+pub mod Ordered
+pub mod Saying
+pub mod Seats
+pub mod Asking
+pub mod Along
+pub mod Holding
+pub mod Stepping
+pub mod Looking
+pub mod Conversing
+pub mod Journaling
+pub mod One

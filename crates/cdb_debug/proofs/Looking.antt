@@ -1,0 +1,74 @@
+-- A session looks at the bytes that it was given.
+use Rattle.std.proofs.Common.{◌≡◌, ℕ, ◌+◌, ◌<◌, ◌≤◌, Bool, true, false, List, [], ◌∷◌, ◌++◌, length, take, drop, get_or, nat_eq, Option, refl, sym, ap, subst, ◌∙◌, append_assoc, append-nil, arith}
+use Rattle.std.specs.Prelude.{Result, Ok, Err}
+use Rattle.std.specs.List.{All}
+use Rattle.cdb_play.specs.declared.buffer.OutputFault.{OutputFault}
+use Rattle.cdb_play.specs.declared.buffer.OutputFault.TheVariants as output
+use Rattle.cdb_setup.specs.Format.{longest}
+use Rattle.cdb_setup.specs.Parts.{Parts}
+use Rattle.cdb_debug.specs.Dialogues.{Session}
+use Rattle.cdb_debug.specs.Held.{IsAt, AnswersHeld, Hears, HasNoEnd, ended_well, ended_by}
+use Rattle.cdb_debug.specs.Moves.{Move, AreWrites, Makes}
+use Rattle.cdb_debug.specs.Sessions.{IsSession}
+use Rattle.cdb_debug.proofs.Ordered.{Makes-nothing, Makes-more}
+use Rattle.cdb_debug.proofs.Saying.{AreWrites-append}
+use Rattle.cdb_debug.proofs.Stepping.{more_held, out_of_memory, line_broken, line_answered, line_quit}
+
+-- from the first of the bytes on, up to those that are left
+abbrev pub Goes : List ℕ → Option (List Move) → Session → List ℕ → List ℕ → Option (List Move) → Session → List ℕ → List ℕ → Type 0
+Goes prompt before old held bytes now session kept left =
+    (setup : Parts) (moves : List Move) → IsAt prompt setup moves old held bytes
+    → (made : List Move) × Makes before now made × AreWrites made × IsAt prompt setup (moves ++ made) session kept left
+
+pub starts : (prompt : List ℕ) (before : Option (List Move)) (old : Session) (held bytes : List ℕ) → Goes prompt before old held bytes before old held bytes
+starts prompt before old held bytes setup moves at = ([], Makes-nothing before, tt, subst (λ all. IsAt prompt setup all old held bytes) (sym (append-nil moves)) at)
+
+module _ (prompt : List ℕ) (before : Option (List Move)) (old : Session) (held bytes : List ℕ) (now : Option (List Move)) (session : Session) (kept left : List ℕ) (so : Goes prompt before old held bytes now session kept left) where
+  -- memory is out
+  pub no_memory : (new : Session) (all : List ℕ) → Hears (Err output.NoMemory) before now prompt old new held all bytes
+  no_memory new all setup moves at =
+      let s = so setup moves at in
+      (s.0, s.1, s.2, out_of_memory prompt setup (moves ++ s.0) session kept left s.3)
+
+  -- the bytes up to some are held
+  pub holds : (more behind all : List ℕ) → left ≡ more ++ behind → HasNoEnd more → all ≡ take (longest + 1) (kept ++ more) → Goes prompt before old held bytes now session all behind
+  holds more behind all cut none is setup moves at =
+      let s = so setup moves at in
+      (s.0, s.1, s.2, more_held prompt setup (moves ++ s.0) session kept left s.3 more behind all cut none is)
+
+-- a line has ended
+module _ (prompt : List ℕ) (before : Option (List Move)) (old : Session) (held bytes : List ℕ) (now : Option (List Move)) (session : Session) (kept left : List ℕ) (so : Goes prompt before old held bytes now session kept (10 ∷ left)) (behind : Option (List Move)) (new : Session) (all : List ℕ) where
+  pub answers : (stops : Bool) → AnswersHeld (Ok stops) now behind prompt session new kept all → stops ≡ false → Goes prompt before old held bytes behind new all left
+  answers stops a goes_on setup moves at =
+      let s = so setup moves at in (
+        s.0 ++ a.0,
+        Makes-more before now behind s.0 a.0 s.1 a.1,
+        AreWrites-append s.0 a.0 s.2 a.2.writes,
+        subst (λ made. IsAt prompt setup made new all left) (append_assoc moves s.0 a.0) (line_answered prompt setup (moves ++ s.0) session kept left s.3 new all stops a.0 a.2 goes_on),
+      )
+
+  pub quits : (stops : Bool) → AnswersHeld (Ok stops) now behind prompt session new kept all → stops ≡ true → Hears (Ok true) before behind prompt old new held all bytes
+  quits stops a stopped setup moves at =
+      let s = so setup moves at in (
+        s.0 ++ a.0,
+        Makes-more before now behind s.0 a.0 s.1 a.1,
+        AreWrites-append s.0 a.0 s.2 a.2.writes,
+        subst (λ made. IsSession prompt setup ended_well made) (append_assoc moves s.0 a.0) (line_quit prompt setup (moves ++ s.0) session kept left s.3 new all stops a.0 a.2 stopped),
+      )
+
+  pub fails : (fault : OutputFault) → AnswersHeld (Err fault) now behind prompt session new kept all → Hears (Err fault) before behind prompt old new held all bytes
+  fails output.Write a setup moves at =
+      let s = so setup moves at in (
+        s.0 ++ a.0,
+        Makes-more before now behind s.0 a.0 s.1 a.1,
+        AreWrites-append s.0 a.0 s.2 a.2.writes,
+        subst (λ made. IsSession prompt setup (ended_by output.Write) made) (append_assoc moves s.0 a.0) (line_broken prompt setup (moves ++ s.0) session kept left s.3 a.0 a.2),
+      )
+  fails output.NoMemory a setup moves at =
+      let s = so setup moves at in
+      let made : s.0 ++ a.0 ≡ s.0 = ap (λ more. s.0 ++ more) a.2 ∙ append-nil s.0 in (
+        s.0 ++ a.0,
+        Makes-more before now behind s.0 a.0 s.1 a.1,
+        subst AreWrites (sym made) s.2,
+        subst (λ more. IsSession prompt setup (ended_by output.NoMemory) (moves ++ more)) (sym made) (out_of_memory prompt setup (moves ++ s.0) session kept (10 ∷ left) s.3),
+      )

@@ -1,0 +1,73 @@
+-- Moves one after the other.
+use Rattle.std.proofs.Common.{◌≡◌, ◌≢◌, ℕ, ◌-◌, ◌+◌, ◌<◌, ◌⊎◌, inl, inr, Bool, true, false, List, [], ◌∷◌, ◌++◌, length, take, nat_eq, refl, sym, ap, subst, ◌∙◌, append_assoc, append-nil, arith, length-append, take-append-drop, Option, Some, None}
+use Rattle.std.specs.List.{All, AllByRecursion, slice_split, flat_map}
+use Rattle.std.proofs.lemmas.Grind.{flat_map-append}
+use Rattle.cdb_debug.specs.Moves.{Move, Read, ReadFailed, Wrote, WriteFailed, given_by, taken_by, read_in, written_in, AsksForInput, AreWrites, EndsWith, Makes}
+
+-- such a property holds at each move that asks, of those before it
+abbrev pub AtEachAsk : (List Move → Type 0) → List Move → Type 0
+AtEachAsk Holds moves = (before : List Move) (ask : Move) (later : List Move) → moves ≡ before ++ ask ∷ later → AsksForInput ask → Holds before
+
+-- a list that ends with an item is cut at that item or before
+one_more : (moves before later : List Move) (last ask : Move) → moves ++ last ∷ [] ≡ before ++ ask ∷ later
+    → ((moves ≡ before) × (last ≡ ask)) ⊎ ((rest : List Move) × (moves ≡ before ++ ask ∷ rest))
+one_more [] [] later last ask e = inl (refl, cc)
+one_more [] (b ∷ before) later last ask e = absurd (omega (arith, ap length e, length-append before (ask ∷ later)))
+one_more (m ∷ moves) [] later last ask e = let same : m ≡ ask = cc in inr (moves, rw same refl)
+one_more (m ∷ moves) (b ∷ before) later last ask e =
+    let same : m ≡ b = cc in
+    let others : moves ++ last ∷ [] ≡ before ++ ask ∷ later = cc in
+    elim (one_more moves before later last ask others) [
+      | inl found ↦ inl (rw (same, found.0) refl, found.1)
+      | inr found ↦ inr (found.0, rw (same, found.1) refl)
+    ]
+
+module _ (Holds : List Move → Type 0) where
+  -- without moves none asks
+  pub nothing_asked : AtEachAsk Holds []
+  nothing_asked before ask later e asks = absurd (omega (arith, ap length e, length-append before (ask ∷ later)))
+
+  -- one move more, before which it holds where the move asks
+  pub one_move : (moves : List Move) (move : Move) → AtEachAsk Holds moves → (AsksForInput move → Holds moves) → AtEachAsk Holds (moves ++ move ∷ [])
+  one_move moves move so holds before ask later e asks =
+      elim (one_more moves before later move ask e) [
+        | inl found ↦ subst Holds found.0 (holds (subst AsksForInput (sym found.1) asks))
+        | inr found ↦ so before ask found.0 found.1 asks
+      ]
+
+  -- writes ask for nothing
+  pub writes_more : (moves made : List Move) → AtEachAsk Holds moves → AreWrites made → AtEachAsk Holds (moves ++ made)
+  writes_more moves [] so are = subst (AtEachAsk Holds) (sym (append-nil moves)) so
+  writes_more moves (move ∷ made) so are =
+      subst (AtEachAsk Holds) (append_assoc moves (move ∷ []) made)
+      (writes_more (moves ++ move ∷ []) made (one_move moves move so (λ asks. absurd (are.0 asks))) are.1)
+
+-- what was read and written, one list of moves after the other
+pub read-append : (moves made : List Move) → read_in (moves ++ made) ≡ read_in moves ++ read_in made
+read-append moves made = flat_map-append given_by moves made
+
+pub written-append : (moves made : List Move) → written_in (moves ++ made) ≡ written_in moves ++ written_in made
+written-append moves made = flat_map-append taken_by moves made
+
+-- writes read nothing
+pub nothing_read : (made : List Move) → AreWrites made → read_in made ≡ []
+nothing_read [] are = refl
+nothing_read (Read bytes ∷ made) are = absurd (are.0 tt)
+nothing_read (ReadFailed ∷ made) are = absurd (are.0 tt)
+nothing_read (Wrote bytes ∷ made) are = nothing_read made are.1
+nothing_read (WriteFailed ∷ made) are = nothing_read made are.1
+
+-- moves that are known, one list after the other
+pub Makes-nothing : (moves : Option (List Move)) → Makes moves moves []
+Makes-nothing None = tt
+Makes-nothing (Some moves) = sym (append-nil moves)
+
+pub Makes-more : (old now new : Option (List Move)) (made more : List Move) → Makes old now made → Makes now new more → Makes old new (made ++ more)
+Makes-more None now new made more e f = tt
+Makes-more (Some old) None new made more e f = absurd e
+Makes-more (Some old) (Some now) None made more e f = absurd f
+Makes-more (Some old) (Some now) (Some new) made more e f = f ∙ ap (λ moves. moves ++ more) e ∙ append_assoc old made more
+
+pub EndsWith-more : (IsSuch : Move → Type 0) (moves made : List Move) → EndsWith IsSuch made → EndsWith IsSuch (moves ++ made)
+EndsWith-more IsSuch moves made ends =
+    (moves ++ ends.0, ends.1, ap (λ more. moves ++ more) ends.2 ∙ sym (append_assoc moves ends.0 (ends.1 ∷ [])), ends.3)

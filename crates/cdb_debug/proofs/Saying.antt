@@ -1,0 +1,57 @@
+-- A text that is handed over piece by piece.
+use Rattle.std.proofs.Common.{◌≡◌, ℕ, ◌+◌, ◌-◌, ◌<◌, ◌≤◌, List, [], ◌∷◌, ◌++◌, length, take, drop, Option, refl, sym, ap, subst, ◌∙◌, append-nil, arith, take-append-drop}
+use Rattle.std.specs.Prelude.{Result, Ok, Err}
+use Rattle.std.specs.List.{AllByRecursion}
+use Rattle.std.proofs.lemmas.List.{take_rest, take_all}
+use Rattle.std.proofs.Math.Seq.{take-add}
+use Rattle.cdb_debug.specs.Held.{Says}
+use Rattle.cdb_debug.specs.Moves.{Move, Wrote, written_in, taken_by, AsksForInput, AreWrites, FailsToWrite, Makes}
+use Rattle.cdb_debug.proofs.Ordered.{Makes-nothing, Makes-more, written-append}
+
+-- the first bytes of the text were taken
+pub record HasSaid (old now : Option (List Move)) (text : List ℕ) (done : ℕ) : Type 0 where
+  pub made : List Move
+  pub makes : Makes old now made
+  pub writes : AreWrites made
+  pub written : written_in made ≡ take done text
+
+pub AreWrites-append : (made more : List Move) → AreWrites made → AreWrites more → AreWrites (made ++ more)
+AreWrites-append [] more are others = others
+AreWrites-append (move ∷ made) more are others = (are.0, AreWrites-append made more are.1 others)
+
+pub nothing_said : (old : Option (List Move)) (text : List ℕ) → HasSaid old old text 0
+nothing_said old text = record { made = []; makes = Makes-nothing old; writes = tt; written = refl }
+
+module _ (old now new : Option (List Move)) (text : List ℕ) (done : ℕ) (so : HasSaid old now text done) where
+  -- one piece more
+  pub piece_said : (count : ℕ) → Makes now new (Wrote (take count (take (length text - done) (drop done text))) ∷ []) → HasSaid old new text (done + count)
+  piece_said count more =
+      let piece : take count (take (length text - done) (drop done text)) ≡ take count (drop done text) = ap (take count) (take_rest text done) in
+      let last : List Move = Wrote (take count (take (length text - done) (drop done text))) ∷ [] in
+      record {
+        made = so.made ++ last;
+        makes = Makes-more old now new so.made last so.makes more;
+        writes = AreWrites-append so.made last so.writes ((λ asks. asks), tt);
+        written =
+            written-append so.made last ∙ ap (λ bytes. bytes ++ written_in last) so.written
+            ∙ ap (λ bytes. take done text ++ bytes) (append-nil _ ∙ piece) ∙ sym (take-add done count text);
+      }
+
+  -- the writing failed
+  pub cut_off : (A E : Type 0) (e : E) (move : Move) → FailsToWrite move → (AsksForInput move → ⊥) → taken_by move ≡ [] → Makes now new (move ∷ []) → Says {A = A} (Err e) old new text
+  cut_off A E e move fails no_ask none more = (
+    so.made ++ move ∷ [],
+    Makes-more old now new so.made (move ∷ []) so.makes more,
+    AreWrites-append so.made (move ∷ []) so.writes (no_ask, tt),
+    (
+      drop done text,
+      sym (take-append-drop done text)
+          ∙ ap (λ bytes. bytes ++ drop done text)
+          (sym so.written ∙ sym (append-nil (written_in so.made)) ∙ ap (λ bytes. written_in so.made ++ bytes) (sym (append-nil (taken_by move) ∙ none)) ∙ sym (written-append so.made (move ∷ []))),
+      (so.made, move, refl, fails),
+    ),
+  )
+
+-- all of it was taken
+pub all_said : (A E : Type 0) (a : A) (old now : Option (List Move)) (text : List ℕ) (done : ℕ) → HasSaid old now text done → length text ≤ done → Says {E = E} (Ok a) old now text
+all_said A E a old now text done so all = (so.made, so.makes, so.writes, so.written ∙ take_all done text all)

@@ -1,0 +1,101 @@
+-- The answers of a session, along the lines.
+use Rattle.std.specs.Prelude.{◌≡◌, ℕ, ◌+◌, ◌==◌, List, [], ◌∷◌, ◌++◌, length, fold, codes, decimal, if◌then◌else◌}
+use Rattle.cdb_base.specs.declared.limits.TheConstants.{MAX_ENTRIES}
+use Rattle.cdb_control.specs.Journal.{Journaled, opened, extended, reply_in}
+use Rattle.cdb_run.specs.Algorithms.{rules}
+use Rattle.cdb_setup.specs.Parts.{Parts}
+use Rattle.cdb_text.specs.LineFaults.{line_fault_number, line_fault_name}
+use Rattle.cdb_text.specs.Texts.{text_of}
+use Rattle.cdb_text.specs.declared.fault.LineFault.{LineFault}
+use Rattle.cdb_debug.specs.Requests.{most_seats, seat_line, AreAsked}
+use Rattle.cdb_debug.specs.declared.help.TheConstants.{HELP}
+use Rattle.cdb_debug.specs.declared.request.Request.{Request}
+use Rattle.cdb_debug.specs.declared.request.Request.TheVariants.{Call, Seat, Help, Quit, Fault, TooLong}
+
+-- A session between two lines: its control, whose state is the replay of its journal, the seat that the next command is
+-- of, and how many lines there were.
+pub record Session : Type 0 where
+  pub control : Journaled
+  pub seat : ℕ
+  pub lines : ℕ
+
+-- before the first line
+abbrev pub begun : Parts → Session
+begun setup = record { control = opened setup most_seats; seat = 1; lines = 0 }
+
+-- ---- the texts
+
+abbrev pub full_text : List ℕ
+full_text = codes "journal full\n"
+
+-- `line L fault N Name`
+abbrev pub fault_text : ℕ → LineFault → List ℕ
+fault_text line fault =
+    codes "line " ++ decimal line ++ codes " fault " ++ decimal (line_fault_number fault)
+    ++ codes " " ++ line_fault_name fault ++ codes "\n"
+
+-- `line L too long`
+abbrev pub too_long_text : ℕ → List ℕ
+too_long_text line = codes "line " ++ decimal line ++ codes " too long\n"
+
+-- ---- one line
+
+-- The answer to what a line asks for. A command has the text of its reply, unless the journal is full.
+abbrev pub answer_to : Session → Request → List ℕ
+answer_to s (Call command) =
+    if length s.control.journal == MAX_ENTRIES then full_text else text_of (reply_in rules s.control s.seat command)
+answer_to s (Seat seat) = seat_line seat ++ codes "\n"
+answer_to s Help = HELP.now
+answer_to s Quit = []
+answer_to s (Fault fault) = fault_text (s.lines + 1) fault
+answer_to s TooLong = too_long_text (s.lines + 1)
+
+-- the control after it: a command has an entry, unless the journal is full
+abbrev pub control_after : Session → Request → Journaled
+control_after s (Call command) =
+    if length s.control.journal == MAX_ENTRIES then s.control
+    else extended (rules s.control.setup) s.control s.seat command
+control_after s (Seat seat) = s.control
+control_after s Help = s.control
+control_after s Quit = s.control
+control_after s (Fault fault) = s.control
+control_after s TooLong = s.control
+
+-- the seat of the next command
+abbrev pub seat_after : Session → Request → ℕ
+seat_after s (Call command) = s.seat
+seat_after s (Seat seat) = seat
+seat_after s Help = s.seat
+seat_after s Quit = s.seat
+seat_after s (Fault fault) = s.seat
+seat_after s TooLong = s.seat
+
+-- the session after a line that asks for this
+abbrev pub after : Session → Request → Session
+after s request =
+    record { control = control_after s request; seat = seat_after s request; lines = s.lines + 1 }
+
+-- ---- all lines
+
+-- The answers, and what else is shown: the prompt stands before each line, and so behind each answer but that to `quit`.
+module _ (prompt : List ℕ) where
+  abbrev pub shown : Session → Request → List ℕ
+  shown s Quit = answer_to s Quit
+  shown s request = answer_to s request ++ prompt
+
+  abbrev pub shown_from : Session → List Request → List ℕ
+  shown_from s [] = []
+  shown_from s (request ∷ requests) = shown s request ++ shown_from (after s request) requests
+
+  -- all that is shown in a session on this setup whose lines ask for this
+  abbrev pub dialogue : Parts → List Request → List ℕ
+  dialogue setup requests = prompt ++ shown_from (begun setup) requests
+
+  -- the text is that of a session on this setup with these lines, of which it answers those up to `quit`
+  abbrev pub IsDialogue : Parts → List (List ℕ) → List ℕ → Type 0
+  IsDialogue setup lines text =
+      (requests : List Request) × AreAsked requests lines × (text ≡ dialogue setup requests)
+
+-- the session after these requests
+abbrev pub session_after : Session → List Request → Session
+session_after s requests = fold after s requests

@@ -1,0 +1,91 @@
+//! A session from its first line to its last.
+
+ghost use Rattle.std.specs.Prelude.{◌≡◌, ◌-◌, ◌<◌, ◌^◌};
+ghost use Rattle.cdb_debug.specs.Held.{AnswersLast, Converses};
+ghost use Rattle.cdb_debug.specs.Sessions.{Debugs};
+
+use crate::hearing::{answer_held, hear};
+use crate::session::Session;
+use crate::talk::{Talk, say};
+use cdb_play::PlayFault;
+use cdb_setup::Setup;
+use std::alloc::Global;
+
+/// How many bytes are asked for at a time.
+const PIECE: usize = 4096;
+
+/// The most bytes that a session reads.
+const MOST_INPUT: u64 = 1 << 63;
+
+/// Answers a last line that has not ended, if there is one.
+fn answer_last<T: Talk>(
+    alloc: Global,
+    prompt: &[u8],
+    session: &mut Session,
+    mut held: Vec<u8>,
+    talk: &mut T,
+) -> Result<(), PlayFault>
+    requires { session.old.lines < 2 ^ 64 - 1 }
+    ensures { AnswersLast result (T.moves talk.old) (T.moves talk.new)
+        prompt.now session.old held.items }
+{
+    if held.is_empty() {
+        return Ok(());
+    }
+    answer_held(alloc, prompt, session, &mut held, talk)?;
+    Ok(())
+}
+
+/// Answers line after line, from the first one on, up to `quit` or the end of the input.
+fn converse<T: Talk>(
+    alloc: Global,
+    prompt: &[u8],
+    session: &mut Session,
+    talk: &mut T,
+) -> Result<(), PlayFault>
+    requires { session.old.lines ≡ 0 }
+    ensures { Converses result (T.moves talk.old) (T.moves talk.new) prompt.now session.old }
+{
+    let Ok(()) = say(talk, prompt) else {
+        return Err(PlayFault::Write);
+    };
+    let mut held = Vec::new(alloc);
+    let mut buffer = [0u8; PIECE];
+    let mut read = 0u64;
+    while read < MOST_INPUT {
+        let Ok(count) = talk.read(&mut buffer) else {
+            return Err(PlayFault::Read);
+        };
+        if count == 0 {
+            return answer_last(alloc, prompt, session, held, talk);
+        }
+        read += count as u64;
+        if hear(alloc, prompt, session, &mut held, talk, &buffer[..count])? {
+            return Ok(());
+        }
+    }
+    answer_last(alloc, prompt, session, held, talk)
+}
+
+/// A session on a run of the setup, in which each line is answered before more input is asked for: a command of the
+/// seat that the session is at, `help`, `seat S`, or `quit`, which ends it; a line that is none of these has its fault.
+/// The prompt is shown before each line. The end of the input ends the session too, and so do 2^63 bytes.
+///
+/// # Errors
+/// `Setup` with the setup's first fault, before any input is asked for. `Read` where the reading failed: each line is
+/// answered. `Write` where the writing failed: what was written is a beginning of the answers. `NoMemory` where an
+/// allocation fails: what was written are the answers to a beginning of the lines.
+pub fn debug<T: Talk>(
+    alloc: Global,
+    setup: &[u8],
+    prompt: &[u8],
+    talk: &mut T,
+) -> Result<(), PlayFault>
+    ensures { Debugs prompt.now setup.now result (T.moves talk.old) (T.moves talk.new) }
+{
+    let setup = Setup::read(alloc, setup)?;
+    let Ok(mut session) = Session::begin(alloc, setup) else {
+        return Err(PlayFault::NoMemory);
+    };
+    converse(alloc, prompt, &mut session, talk)
+}

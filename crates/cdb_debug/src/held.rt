@@ -1,0 +1,34 @@
+//! The line that has not ended.
+
+ghost use Rattle.std.specs.Prelude.{◌≡◌, ◌+◌, ◌≤◌, ◌++◌, ◌∷◌, take, length, OnOk, IfSome, IfNone};
+ghost use Rattle.cdb_debug.specs.Held.{HasNoEnd};
+ghost use Rattle.cdb_setup.specs.Format.{longest};
+
+use cdb_base::limits::MAX_BYTES;
+use std::alloc::AllocError;
+
+/// The most bytes that are held of a line: one more than it may have.
+const MOST: usize = MAX_BYTES + 1;
+
+/// Holds more of the line, as much of it as shows that it is too long.
+pub(crate) fn hold(held: &mut Vec<u8>, bytes: &[u8]) -> Result<(), AllocError>
+    requires { length held.old.items ≤ longest + 1 }
+    ensures { OnOk result
+        (held.new.items ≡ take (longest + 1) (held.old.items ++ bytes.now)) }
+{
+    let count = bytes.len().min(MOST - held.len());
+    held.extend_from_slice(&bytes[..count])?;
+    Ok(())
+}
+
+/// What stands before the first byte 10, and what follows it, where there is one.
+pub(crate) fn cut(bytes: &[u8]) -> Option<(&[u8], &[u8])>
+    ensures some { IfSome result
+        (λ parts. HasNoEnd parts.0.now × (bytes.now ≡ parts.0.now ++ 10 ∷ parts.1.now)) }
+    ensures none { IfNone result (HasNoEnd bytes.now) }
+{
+    match bytes.iter().position(|byte| *byte == b'\n') {
+        Some(end) => Some((&bytes[..end], &bytes[end + 1..])),
+        None => None,
+    }
+}

@@ -1,0 +1,24 @@
+//! Sessions at a prompt or behind a pipe: each line is answered before the next is read.
+//!
+//! ```text
+//! let mut talk = Streams::new(Input::new(rt.reader()), Output::new(io::writer(rt)));
+//! let outcome = debug(rt.alloc(), setup, &mut talk);
+//! ```
+#![tactic(auto)]
+
+mod answer;
+mod conversation;
+mod hearing;
+mod held;
+mod help;
+pub mod laws;
+mod request;
+mod session;
+mod streams;
+mod talk;
+
+pub use conversation::debug;
+pub use help::HELP;
+pub use request::{Request, request_of};
+pub use streams::Streams;
+pub use talk::Talk;

@@ -1,0 +1,114 @@
+//! A session: what its lines have led to.
+
+ghost use Rattle.std.specs.Prelude.{◌≡◌, ◌-◌, ◌<◌, ◌^◌, ◌++◌, IfOk, OnOk};
+ghost use Rattle.cdb_debug.specs.Dialogues.{begun, after, answer_to, shown};
+ghost use Rattle.cdb_debug.specs.Requests.{Asks};
+
+use crate::answer::{push_fault, push_seat, push_too_long};
+use crate::help::HELP;
+use crate::request::Request;
+use cdb_base::NoMemory;
+use cdb_control::{CallFault, Command, Control, RunOfSetup};
+use cdb_setup::Setup;
+use cdb_text::reply_text;
+use std::alloc::Global;
+use std::marker::Model;
+
+/// How many seats a session has.
+const SEATS: u8 = 9;
+
+/// A session between two lines: its control, the seat of the next command, and how many lines there were.
+#[derive(Drop)]
+pub(crate) struct Session {
+    control: Control<RunOfSetup>,
+    seat: u8,
+    lines: u64,
+}
+
+impl Model for Session {
+    ghost use Rattle.std.specs.Prelude.{◌≡◌};
+    ghost use Rattle.cdb_setup.specs.Parts.{IsWithin};
+    ghost use Rattle.cdb_debug.specs.Dialogues.{Session as SessionView};
+
+    ghost Value = { SessionView };
+
+    ghost view = { λ s. record { control = s.control; seat = s.seat; lines = s.lines } };
+
+    ghost invariant = { λ s. IsWithin 1 9 s.seat × (s.control.seats ≡ 9) };
+}
+
+impl Session {
+    /// A session on a setup, before its first line.
+    pub(crate) fn begin(alloc: Global, setup: Setup) -> Result<Self, NoMemory>
+        ensures { IfOk result (λ session. session ≡ begun setup) }
+    {
+        match Control::open(alloc, setup, SEATS) {
+            Ok(control) => Ok(Session {
+                control,
+                seat: 1,
+                lines: 0,
+            }),
+            Err(_) => Err(NoMemory),
+        }
+    }
+
+    /// Carries a command out for the seat, and returns the text of the reply.
+    fn call(&mut self, alloc: Global, command: Command) -> Result<Vec<u8>, NoMemory>
+        requires { self.old.lines < 2 ^ 64 - 1 }
+        ensures text { IfOk result
+            (λ text. text.items ≡ answer_to self.old (Request.Call command)) }
+        ensures after { OnOk result (self.new ≡ after self.old (Request.Call command)) }
+    {
+        let text = match self.control.execute(alloc, self.seat, command) {
+            Ok(reply) => reply_text(alloc, &reply)?,
+            Err(CallFault::JournalFull) => b"journal full\n".to_vec(alloc)?,
+            Err(CallFault::NoMemory) => return Err(NoMemory),
+        };
+        self.lines += 1;
+        Ok(text)
+    }
+
+    /// Does what a line asks for, and returns the answer. After an error the session is not to go on.
+    fn answer(&mut self, alloc: Global, line: &[u8], request: Request) -> Result<Vec<u8>, NoMemory>
+        requires lines { self.old.lines < 2 ^ 64 - 1 }
+        requires asks { Asks request line.now }
+        ensures text { IfOk result (λ text. text.items ≡ answer_to self.old request) }
+        ensures after { OnOk result (self.new ≡ after self.old request) }
+    {
+        let mut text = String::new(alloc);
+        match request {
+            Request::Call(command) => return self.call(alloc, command),
+            Request::Seat(seat) => {
+                self.seat = seat;
+                push_seat(&mut text, seat)?;
+            }
+            Request::Help => text.push_str(HELP)?,
+            Request::Quit => {}
+            Request::Fault(fault) => push_fault(&mut text, self.lines + 1, fault)?,
+            Request::TooLong => push_too_long(&mut text, self.lines + 1)?,
+        }
+        self.lines += 1;
+        Ok(text.into_bytes())
+    }
+
+    /// Does what a line asks for, and returns what is shown then: the answer, and the prompt unless the line was
+    /// `quit`. After an error the session is not to go on.
+    pub(crate) fn show(
+        &mut self,
+        alloc: Global,
+        prompt: &[u8],
+        line: &[u8],
+        request: Request,
+    ) -> Result<Vec<u8>, NoMemory>
+        requires lines { self.old.lines < 2 ^ 64 - 1 }
+        requires asks { Asks request line.now }
+        ensures text { IfOk result (λ text. text.items ≡ shown prompt.now self.old request) }
+        ensures after { OnOk result (self.new ≡ after self.old request) }
+    {
+        let mut text = self.answer(alloc, line, request)?;
+        if request != Request::Quit {
+            text.extend_from_slice(prompt)?;
+        }
+        Ok(text)
+    }
+}

@@ -1,0 +1,5 @@
+//! Worked sessions, on the public calls of `cdb_debug`.
+#![tactic(auto)]
+
+#[cfg(test)]
+mod tests;
