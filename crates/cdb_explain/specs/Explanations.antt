@@ -64,13 +64,17 @@ because_text (Err why) = []
 abbrev pub run_after : RunView → ℕ → RunView
 run_after run i = with_history run (take (i + 1) run.history)
 
--- an event, where the run stands so after it: as `show history` prints it, what it carries and decides,
--- and its direct causes
-abbrev pub line_text : (Parts → Rules) → RunView → RunView → Event → List ℕ
-line_text rules run after event =
+-- the whole text of an event, where the run stands so after it: as `show history` prints it, what it carries
+-- and decides, and its direct causes
+abbrev pub whole_text : (Parts → Rules) → RunView → RunView → Event → List ℕ
+whole_text rules run after event =
     event_text event ++ detail_text rules after event
     ++ decides_text (decides (rules after.setup) after.history event)
-    ++ because_text (causes_in run (event_name event)) ++ codes "\n"
+    ++ because_text (causes_in run (event_name event))
+
+-- the same as a line
+abbrev pub line_text : (Parts → Rules) → RunView → RunView → Event → List ℕ
+line_text rules run after event = whole_text rules run after event ++ codes "\n"
 
 -- the line of the event at place i, where one stands there
 abbrev pub line_at : (Parts → Rules) → RunView → ℕ → List ℕ

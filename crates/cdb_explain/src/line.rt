@@ -2,7 +2,7 @@
 
 ghost use Rattle.cdb_base.specs.Event.{event_name};
 ghost use Rattle.cdb_control.specs.Commands.{decides};
-ghost use Rattle.cdb_explain.specs.Explanations.{because_text, line_text};
+ghost use Rattle.cdb_explain.specs.Explanations.{because_text, line_text, whole_text};
 ghost use Rattle.cdb_run.specs.Algorithms.{rules};
 ghost use Rattle.cdb_run.specs.EventRefs.{name_of};
 ghost use Rattle.cdb_run.specs.Runs.{causes_in};
@@ -31,7 +31,7 @@ fn reference(event: &Event) -> EventRef
 }
 
 /// The decision that the last event of the run gave its process.
-fn decision_by(run: &RunOfSetup, event: &Event) -> Option<Val>
+pub fn decision_by(run: &RunOfSetup, event: &Event) -> Option<Val>
     ensures { result ≡ decides (rules run.now.setup) run.now.history event.now }
 {
     match *event {
@@ -59,8 +59,24 @@ fn push_because(
     }
 }
 
-/// Adds the line of a standing event, where `after` is the run once it had come to that event. Only out of
-/// memory is an error.
+/// Adds the whole text of a standing event, where `after` is the run once it had come to that event. Only out
+/// of memory is an error.
+pub fn push_whole(
+    alloc: Global,
+    text: &mut String,
+    run: &RunOfSetup,
+    after: &RunOfSetup,
+    event: &Event,
+) -> Result<(), AllocError>
+    ensures { Pushes result text.old text.new (whole_text rules run.now after.now event.now) }
+{
+    push_event(text, event)?;
+    push_detail(text, after, event)?;
+    push_decides(text, decision_by(after, event))?;
+    push_because(alloc, text, run, event)
+}
+
+/// Adds the line of a standing event, which is its whole text.
 pub(crate) fn push_line(
     alloc: Global,
     text: &mut String,
@@ -70,9 +86,6 @@ pub(crate) fn push_line(
 ) -> Result<(), AllocError>
     ensures { Pushes result text.old text.new (line_text rules run.now after.now event.now) }
 {
-    push_event(text, event)?;
-    push_detail(text, after, event)?;
-    push_decides(text, decision_by(after, event))?;
-    push_because(alloc, text, run, event)?;
+    push_whole(alloc, text, run, after, event)?;
     text.push_str("\n")
 }

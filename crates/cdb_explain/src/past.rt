@@ -9,7 +9,7 @@ use cdb_past::{history_of, mark_past};
 use std::alloc::Global;
 
 /// Marks what led to the event at a place of the history, from 0.
-pub(crate) fn past_of(alloc: Global, run: &RunOfSetup, place: usize) -> Result<Vec<bool>, NoMemory>
+pub fn past_of(alloc: Global, run: &RunOfSetup, place: usize) -> Result<Vec<bool>, NoMemory>
     requires { place < length run.now.history }
     ensures { IfOk result (λ marks. MarkPast run.now.history place marks.items) }
 {

@@ -9,7 +9,7 @@ use cdb_control::{RunOfSetup, Runs};
 use std::alloc::Global;
 
 /// A run of the same setup in which nothing has happened.
-pub(crate) fn fresh(alloc: Global, run: &RunOfSetup) -> Result<RunOfSetup, NoMemory>
+pub fn fresh(alloc: Global, run: &RunOfSetup) -> Result<RunOfSetup, NoMemory>
     ensures { IfOk result (λ again. again ≡ with_history run.now []) }
 {
     let setup = run.any().setup().copy(alloc)?;
@@ -17,7 +17,7 @@ pub(crate) fn fresh(alloc: Global, run: &RunOfSetup) -> Result<RunOfSetup, NoMem
 }
 
 /// Takes the next event of the run that is played again.
-pub(crate) fn take_next(
+pub fn take_next(
     alloc: Global,
     again: &mut RunOfSetup,
     event: &Event,
