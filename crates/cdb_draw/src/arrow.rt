@@ -172,7 +172,14 @@ fn push_read(
     ensures { Pushes result text.old text.new (arrow_text (codes "read") full
         (upright_text place (register_y setup.now register) (lane_y setup.now p))) }
 {
-    push_upright(text, "read", full, place, register_y(setup, register), lane_y(setup, p))
+    push_upright(
+        text,
+        "read",
+        full,
+        place,
+        register_y(setup, register),
+        lane_y(setup, p),
+    )
 }
 
 /// Adds the arrow from a write to the register.
@@ -188,7 +195,14 @@ fn push_write(
     ensures { Pushes result text.old text.new (arrow_text (codes "write") full
         (upright_text place (lane_y setup.now p) (register_y setup.now register))) }
 {
-    push_upright(text, "write", full, place, lane_y(setup, p), register_y(setup, register))
+    push_upright(
+        text,
+        "write",
+        full,
+        place,
+        lane_y(setup, p),
+        register_y(setup, register),
+    )
 }
 
 /// Adds the arrow of a step of that kind at a place.
@@ -207,7 +221,16 @@ fn push_step_arrow(
     ensures { Pushes result text.old text.new (step_arrow run.now full place p kind) }
 {
     match kind {
-        Kind::Recv(s, m) => push_from_send(text, run, sends, "copy", full, MsgName { s, m }, place, p),
+        Kind::Recv(s, m) => push_from_send(
+            text,
+            run,
+            sends,
+            "copy",
+            full,
+            MsgName { s, m },
+            place,
+            p,
+        ),
         Kind::Read(register) => push_read(text, run.any().setup(), full, place, p, register),
         Kind::Write(register) => push_write(text, run.any().setup(), full, place, p, register),
         Kind::Query(_) | Kind::Send(_) | Kind::Local | Kind::Learn | Kind::Crash => Ok(()),
@@ -230,6 +253,8 @@ pub(crate) fn push_arrow(
 {
     match *event {
         Event::Step { p, kind, .. } => push_step_arrow(text, run, sends, full, place, p, kind),
-        Event::Lost(copy) => push_from_send(text, run, sends, "lost", full, copy.msg, place, copy.to),
+        Event::Lost(copy) => push_from_send(
+            text, run, sends, "lost", full, copy.msg, place, copy.to,
+        ),
     }
 }

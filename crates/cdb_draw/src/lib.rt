@@ -8,6 +8,5 @@ mod mark;
 mod picture;
 mod sends;
 pub mod style;
-
 #[cfg(test)]
 mod tests;

@@ -154,7 +154,15 @@ fn put_mark<W: Sink>(
 {
     let mut text = String::new(alloc);
     let history = run.any().history();
-    push_mark(alloc, &mut text, run, after, marks[place], place, &history[place])?;
+    push_mark(
+        alloc,
+        &mut text,
+        run,
+        after,
+        marks[place],
+        place,
+        &history[place],
+    )?;
     buffer.put(out, text.as_bytes())?;
     Ok(())
 }
