@@ -15,35 +15,47 @@ use Rattle.cdb_draw.specs.Layout.{x_of, end_x, lane_y, register_y}
 use Rattle.cdb_draw.specs.Places.{crashed_at}
 
 -- the line of a lane: to its crash, or else to the edge
-abbrev pub line_text : ℕ → List ℕ
+unfoldable pub line_text : ℕ → List ℕ
 line_text end = codes "<path d='M64,0H" ++ decimal end ++ codes "'/></g>\n"
 
 abbrev pub lane_end : List Event → ℕ → ℕ
 lane_end history p = option_map_or x_of (crashed_at history p) (end_x (length history))
 
 -- a group of that class, so far down
-abbrev pub lane_open : List ℕ → ℕ → List ℕ
+unfoldable pub lane_open : List ℕ → ℕ → List ℕ
 lane_open class y = codes "<g class='" ++ class ++ codes "' transform='translate(0," ++ decimal y ++ codes ")'>"
 
--- process p, its input, and its line
+-- a process p and its input, and the line of its lane
+unfoldable pub process_text : ℕ → ℕ → ℕ → ℕ → List ℕ
+process_text y p input end =
+    lane_open (codes "lane") y
+    ++ codes "<text x='8'>p" ++ decimal p ++ codes "</text>"
+    ++ codes "<text class='input' x='8' y='12'>input " ++ decimal input ++ codes "</text>"
+    ++ line_text end
+
+-- a register, and the line of its lane
+unfoldable pub register_line : ℕ → Reg → ℕ → List ℕ
+register_line y register end =
+    lane_open (codes "register") y
+    ++ codes "<text x='8' y='4'>" ++ register_text register ++ codes "</text>"
+    ++ line_text end
+
 abbrev pub process_lane : RunView → ℕ → List ℕ
 process_lane run p =
-    lane_open (codes "lane") (lane_y run.setup p)
-    ++ codes "<text x='8'>p" ++ decimal p ++ codes "</text>"
-    ++ codes "<text class='input' x='8' y='12'>input " ++ decimal (unwrap_or (nth run.setup.inputs p) 0) ++ codes "</text>"
-    ++ line_text (lane_end run.history p)
+    process_text (lane_y run.setup p) p (unwrap_or (nth run.setup.inputs p) 0) (lane_end run.history p)
 
--- a register and its line
 abbrev pub register_lane : RunView → Reg → List ℕ
 register_lane run register =
-    lane_open (codes "register") (register_y run.setup register)
-    ++ codes "<text x='8' y='4'>" ++ register_text register ++ codes "</text>"
-    ++ line_text (end_x (length run.history))
+    register_line (register_y run.setup register) register (end_x (length run.history))
+
+-- that of process p
+abbrev pub own_register_lane : RunView → ℕ → List ℕ
+own_register_lane run p = register_lane run (R p)
 
 abbrev pub register_lanes_by : Algorithm → RunView → List ℕ
 register_lanes_by Leader run = []
 register_lanes_by Alpha run =
-    flat_map (λ p. register_lane run (R p)) (range_with_len 1 run.setup.processes) ++ register_lane run Dec
+    flat_map (own_register_lane run) (range_with_len 1 run.setup.processes) ++ register_lane run Dec
 
 -- a lane for each process, and then one for each register
 abbrev pub lanes_text : RunView → List ℕ

@@ -15,31 +15,37 @@ use Rattle.cdb_draw.specs.EventMarks.{mark_at}
 use Rattle.cdb_draw.specs.Lanes.{lanes_text}
 use Rattle.cdb_draw.specs.Layout.{height, width}
 
-abbrev pub algorithm_text : Algorithm → List ℕ
+unfoldable pub algorithm_text : Algorithm → List ℕ
 algorithm_text Leader = codes "leader"
 algorithm_text Alpha = codes "alpha"
 
--- so many millimetres wide and high, each of four units
-abbrev pub size_text : ℕ → ℕ → List ℕ
-size_text w h =
+-- so many millimetres wide and high, and the same in units
+unfoldable pub size_text : ℕ → ℕ → ℕ → ℕ → List ℕ
+size_text w h across down =
     codes "width='" ++ decimal w ++ codes "mm' height='" ++ decimal h
-    ++ codes "mm' viewBox='0 0 " ++ decimal (4 * w) ++ codes " " ++ decimal (4 * h) ++ codes "'>\n"
+    ++ codes "mm' viewBox='0 0 " ++ decimal across ++ codes " " ++ decimal down ++ codes "'>\n"
+
+-- a millimetre has four units
+abbrev pub size_of : ℕ → ℕ → List ℕ
+size_of w h = size_text w h (4 * w) (4 * h)
 
 -- the algorithm and the quorum, at the top
-abbrev pub heading_text : Parts → List ℕ
-heading_text setup =
-    codes "<text class='heading' " ++ codes "x='8' y='18'>" ++ algorithm_text setup.algorithm ++ codes ", quorum "
-    ++ decimal setup.quorum ++ codes "</text>\n"
+unfoldable pub heading_text : Algorithm → ℕ → List ℕ
+heading_text algorithm quorum =
+    codes "<text class='heading' x='8' y='18'>" ++ algorithm_text algorithm ++ codes ", quorum " ++ decimal quorum ++ codes "</text>\n"
 
 -- the size, how things are drawn, the shapes of marks, and the heading
 abbrev pub head_text : RunView → List ℕ
 head_text run =
-    NAMESPACE.now ++ size_text (width (length run.history)) (height run.setup)
-    ++ STYLE.now ++ SHAPES.now ++ heading_text run.setup
+    NAMESPACE.now ++ size_of (width (length run.history)) (height run.setup)
+    ++ STYLE.now ++ SHAPES.now ++ heading_text run.setup.algorithm run.setup.quorum
 
 -- the places of a history
 abbrev pub places : List Event → List ℕ
 places history = range_with_len 0 (length history)
+
+unfoldable pub foot : List ℕ
+foot = codes "</svg>\n"
 
 -- Lanes first, then the arrows of all events, and then, so that no arrow hides them, their marks, each in the order of
 -- the history; what is marked is drawn in full, the rest pale.
@@ -48,7 +54,7 @@ picture_text rules run marks =
     head_text run ++ lanes_text run
     ++ flat_map (arrow_at run marks) (places run.history)
     ++ flat_map (mark_at rules run marks) (places run.history)
-    ++ codes "</svg>\n"
+    ++ foot
 
 -- everything is in full, or exactly what led to the event at that place
 abbrev pub AreInFull : Option ℕ → List Event → List Bool → Type 0

@@ -2,12 +2,20 @@
 use Rattle.std.specs.HashMap.{HashMap, get}
 use Rattle.std.specs.Prelude.{◌≡◌, ℕ, ◌+◌, ◌*◌, ◌<◌, Bool, List, Option, None, Some, nat_eq, if◌then◌else◌}
 use Rattle.cdb_base.specs.declared.event.Event.{Event}
+use Rattle.cdb_base.specs.declared.event.Event.TheVariants.{Step}
+use Rattle.cdb_base.specs.declared.event.Kind.TheVariants.{Send}
+use Rattle.cdb_base.specs.declared.name.MsgName.{MsgName}
 use Rattle.cdb_message.specs.Mail.{message_name}
 use Rattle.cdb_draw.specs.Places.{sent_at}
 
 -- the number of a name
 abbrev pub message_code : ℕ → ℕ → ℕ
 message_code s m = s * 65536 + m
+
+-- the message that an event sends, if it sends one
+abbrev pub message_of : Event → Option MsgName
+message_of (Step p k (Send m)) = Some (message_name p m)
+message_of _ = None
 
 -- what was noted before, or else the place where the test holds
 abbrev pub kept_or_noted : Option ℕ → Bool → ℕ → Option ℕ

@@ -1,30 +1,39 @@
 //! The arrows of a picture.
 
-ghost use Rattle.std.specs.Prelude.{◌≡◌, ◌<◌, ◌≤◌, ◌++◌, length, codes};
-ghost use Rattle.cdb_draw.specs.Arrows.{arrow_text, below_text, copy_arrow, event_arrow, point_text, spot_text, step_arrow, upright_text, way_text, weight_text};
+ghost use Rattle.std.specs.Prelude.{◌≡◌, ◌≤◌, length, codes, Some};
+ghost use Rattle.cdb_draw.specs.Arrows.{arrow_close, arrow_open, arrow_text, below_text, bend_text, copy_arrow, event_arrow, point_text, spot_text, step_arrow, straight_text, upright_text, way_text, weight_text};
+ghost use Rattle.cdb_draw.specs.Layout.{lane_y, register_y, x_of};
 ghost use Rattle.cdb_draw.specs.Places.{sent_at};
 ghost use Rattle.cdb_draw.specs.Sends.{AreSendsOf};
 ghost use Rattle.cdb_text.specs.Pushes.{Pushes};
 
 use crate::layout::{lane_y, register_y, x_of};
+use crate::piece::{push, push_number};
 use crate::sends::{Sends, place_of_send};
 use cdb_base::{Event, Kind, MsgName, Proc, Reg};
 use cdb_control::RunOfSetup;
 use cdb_setup::Setup;
 use std::alloc::AllocError;
 
-/// How what is marked is drawn, and the rest.
-pub(crate) fn weight(full: bool) -> &'static str
-    ensures { result.now ≡ weight_text full }
+/// Adds how what is marked is drawn, and the rest.
+#[tactic(auto, unfolding(crate::specs::Arrows::weight_text))]
+pub(crate) fn push_weight(text: &mut String, full: bool) -> Result<(), AllocError>
+    ensures { Pushes result text.old text.new (weight_text full) }
 {
-    if full { "full" } else { "pale" }
+    if full {
+        push(text, "full")
+    } else {
+        push(text, "pale")
+    }
 }
 
 /// Adds a point.
 fn push_point(text: &mut String, x: usize, y: usize) -> Result<(), AllocError>
     ensures { Pushes result text.old text.new (point_text x y) }
 {
-    write!(text, "{x},{y}")
+    push_number(text, x)?;
+    push(text, ",")?;
+    push_number(text, y)
 }
 
 /// Adds the point of an event at a place, from 0, on the lane of a process.
@@ -48,6 +57,36 @@ fn push_below(text: &mut String, setup: &Setup, place: usize, p: Proc) -> Result
     push_point(text, x_of(place), lane_y(setup, p) + 32)
 }
 
+/// Adds the way of a copy to another lane.
+fn push_straight(text: &mut String, setup: &Setup, j: usize, p: Proc) -> Result<(), AllocError>
+    requires { j ≤ 999999 }
+    ensures { Pushes result text.old text.new (straight_text setup.now j p) }
+{
+    push(text, "L")?;
+    push_spot(text, setup, j, p)
+}
+
+/// Adds the way of a copy for its sender, from place `i` to place `j` on one lane.
+fn push_bend(
+    text: &mut String,
+    setup: &Setup,
+    i: usize,
+    j: usize,
+    p: Proc,
+) -> Result<(), AllocError>
+    requires sent { i ≤ 999999 }
+    requires received { j ≤ 999999 }
+    ensures { Pushes result text.old text.new (bend_text setup.now i j p) }
+{
+    let (first, second) = (p, p);
+    push(text, "C")?;
+    push_below(text, setup, i, first)?;
+    push(text, " ")?;
+    push_below(text, setup, j, second)?;
+    push(text, " ")?;
+    push_spot(text, setup, j, p)
+}
+
 /// Adds the way of a copy, from place `i` on the lane of process `s` to place `j` on that of process `p`.
 fn push_way(
     text: &mut String,
@@ -62,35 +101,38 @@ fn push_way(
     ensures { Pushes result text.old text.new (way_text setup.now i s j p) }
 {
     if s == p {
-        text.push_str("C")?;
-        push_below(text, setup, i, s)?;
-        text.push_str(" ")?;
-        push_below(text, setup, j, p)?;
-        text.push_str(" ")?;
-        push_spot(text, setup, j, p)
+        push_bend(text, setup, i, j, p)
     } else {
-        text.push_str("L")?;
-        push_spot(text, setup, j, p)
+        push_straight(text, setup, j, p)
     }
 }
 
 /// Begins an arrow of that class.
 fn push_open(text: &mut String, class: &str, full: bool) -> Result<(), AllocError>
-    ensures { Pushes result text.old text.new
-        (codes "<path class='" ++ class.now ++ codes " " ++ weight_text full ++ codes "' d='M") }
+    ensures { Pushes result text.old text.new (arrow_open class.now full) }
 {
-    text.push_str("<path class='")?;
-    text.push_str(class)?;
-    text.push_str(" ")?;
-    text.push_str(weight(full))?;
-    text.push_str("' d='M")
+    push(text, "<path class='")?;
+    push(text, class)?;
+    push(text, " ")?;
+    push_weight(text, full)?;
+    push(text, "' d='M")
 }
 
 /// Ends an arrow.
+#[tactic(auto, unfolding(crate::specs::Arrows::arrow_close))]
 fn push_close(text: &mut String) -> Result<(), AllocError>
-    ensures { Pushes result text.old text.new (codes "'/>\n") }
+    ensures { Pushes result text.old text.new arrow_close }
 {
-    text.push_str("'/>\n")
+    push(text, "'/>\n")
+}
+
+/// Adds the way up or down at an x, from one y to another.
+fn push_up(text: &mut String, x: usize, from: usize, to: usize) -> Result<(), AllocError>
+    ensures { Pushes result text.old text.new (upright_text x from to) }
+{
+    push_point(text, x, from)?;
+    push(text, "V")?;
+    push_number(text, to)
 }
 
 /// Adds the arrow of a copy, from the place where its message was sent by process `s` to place `j` on the lane
@@ -128,11 +170,10 @@ fn push_upright(
 ) -> Result<(), AllocError>
     requires { place ≤ 999999 }
     ensures { Pushes result text.old text.new
-        (arrow_text class.now full (upright_text place from to)) }
+        (arrow_text class.now full (upright_text (x_of place) from to)) }
 {
     push_open(text, class, full)?;
-    push_point(text, x_of(place), from)?;
-    write!(text, "V{to}")?;
+    push_up(text, x_of(place), from, to)?;
     push_close(text)
 }
 
@@ -153,8 +194,9 @@ fn push_from_send(
     ensures { Pushes result text.old text.new
         (copy_arrow run.now.setup class.now full (sent_at run.now.history name) name.s place p) }
 {
+    let sender = name.s;
     match place_of_send(sends, name) {
-        Some(i) => push_copy(text, run.any().setup(), class, full, i, name.s, place, p),
+        Some(i) => push_copy(text, run.any().setup(), class, full, i, sender, place, p),
         None => Ok(()),
     }
 }
@@ -170,7 +212,7 @@ fn push_read(
 ) -> Result<(), AllocError>
     requires { place ≤ 999999 }
     ensures { Pushes result text.old text.new (arrow_text (codes "read") full
-        (upright_text place (register_y setup.now register) (lane_y setup.now p))) }
+        (upright_text (x_of place) (register_y setup.now register) (lane_y setup.now p))) }
 {
     push_upright(
         text,
@@ -193,7 +235,7 @@ fn push_write(
 ) -> Result<(), AllocError>
     requires { place ≤ 999999 }
     ensures { Pushes result text.old text.new (arrow_text (codes "write") full
-        (upright_text place (lane_y setup.now p) (register_y setup.now register))) }
+        (upright_text (x_of place) (lane_y setup.now p) (register_y setup.now register))) }
 {
     push_upright(
         text,

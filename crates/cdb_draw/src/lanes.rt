@@ -2,13 +2,13 @@
 
 ghost use Rattle.std.specs.List.{flat_map, range_with_len};
 ghost use Rattle.std.specs.Prelude.{◌≡◌, ◌≤◌, length};
-ghost use Rattle.cdb_draw.specs.Lanes.{lane_end, lane_open, lanes_text, line_text, process_lane, register_lane, register_lanes_by};
-ghost use Rattle.cdb_text.specs.Names.{register_text};
+ghost use Rattle.cdb_draw.specs.Lanes.{lane_end, lane_open, lanes_text, line_text, own_register_lane, process_lane, process_text, register_lane, register_lanes_by, register_line};
 ghost use Rattle.cdb_text.specs.Pushes.{Pushes};
 
 use crate::layout::{end_x, lane_y, register_y, x_of};
+use crate::piece::{push, push_number, push_process, push_register, push_val};
 use crate::sends::crashed_at;
-use cdb_base::{Event, Proc, Reg};
+use cdb_base::{Event, Proc, Reg, Val};
 use cdb_control::RunOfSetup;
 use cdb_setup::Algorithm;
 use std::alloc::AllocError;
@@ -17,9 +17,9 @@ use std::alloc::AllocError;
 fn push_line(text: &mut String, end: usize) -> Result<(), AllocError>
     ensures { Pushes result text.old text.new (line_text end) }
 {
-    text.push_str("<path d='M64,0H")?;
-    write!(text, "{end}")?;
-    text.push_str("'/></g>\n")
+    push(text, "<path d='M64,0H")?;
+    push_number(text, end)?;
+    push(text, "'/></g>\n")
 }
 
 /// Where the lane of a process ends: at its crash, or else at the edge.
@@ -37,24 +37,47 @@ fn lane_end(history: &[Event], p: Proc) -> usize
 fn push_open(text: &mut String, class: &str, y: usize) -> Result<(), AllocError>
     ensures { Pushes result text.old text.new (lane_open class.now y) }
 {
-    text.push_str("<g class='")?;
-    text.push_str(class)?;
-    text.push_str("' transform='translate(0,")?;
-    write!(text, "{y}")?;
-    text.push_str(")'>")
+    push(text, "<g class='")?;
+    push(text, class)?;
+    push(text, "' transform='translate(0,")?;
+    push_number(text, y)?;
+    push(text, ")'>")
 }
 
-/// Adds the name of a register.
-pub(crate) fn push_register(text: &mut String, register: Reg) -> Result<(), AllocError>
-    ensures { Pushes result text.old text.new (register_text register) }
+/// Adds a process, its input, and the line of its lane.
+fn push_process_text(
+    text: &mut String,
+    y: usize,
+    p: Proc,
+    input: Val,
+    end: usize,
+) -> Result<(), AllocError>
+    ensures { Pushes result text.old text.new (process_text y p input end) }
 {
-    match register {
-        Reg::R(p) => {
-            let number = p.number();
-            write!(text, "r{number}")
-        }
-        Reg::Dec => text.push_str("dec"),
-    }
+    push_open(text, "lane", y)?;
+    push(text, "<text x='8'>p")?;
+    push_process(text, p)?;
+    push(text, "</text>")?;
+    push(text, "<text class='input' x='8' y='12'>input ")?;
+    push_val(text, input)?;
+    push(text, "</text>")?;
+    push_line(text, end)
+}
+
+/// Adds a register, and the line of its lane.
+fn push_register_text(
+    text: &mut String,
+    y: usize,
+    register: Reg,
+    end: usize,
+) -> Result<(), AllocError>
+    ensures { Pushes result text.old text.new (register_line y register end) }
+{
+    push_open(text, "register", y)?;
+    push(text, "<text x='8' y='4'>")?;
+    push_register(text, register)?;
+    push(text, "</text>")?;
+    push_line(text, end)
 }
 
 /// Adds the lane of a process.
@@ -64,27 +87,35 @@ fn push_process_lane(text: &mut String, run: &RunOfSetup, p: Proc) -> Result<(),
     ensures { Pushes result text.old text.new (process_lane run.now p) }
 {
     let setup = run.any().setup();
-    let input = setup.input(p).number();
-    push_open(text, "lane", lane_y(setup, p))?;
-    let number = p.number();
-    write!(text, "<text x='8'>p{number}</text>")?;
-    text.push_str("<text class='input' x='8' y='12'>input ")?;
-    write!(text, "{input}</text>")?;
-    push_line(text, lane_end(run.any().history(), p))
+    let end = lane_end(run.any().history(), p);
+    push_process_text(text, lane_y(setup, p), p, setup.input(p), end)
 }
 
 /// Adds the lane of a register.
-fn push_register_lane(text: &mut String, run: &RunOfSetup, register: Reg) -> Result<(), AllocError>
+fn push_register_lane(
+    text: &mut String,
+    run: &RunOfSetup,
+    register: Reg,
+) -> Result<(), AllocError>
     requires { length run.now.history ≤ 999999 }
     ensures { Pushes result text.old text.new (register_lane run.now register) }
 {
-    let y = register_y(run.any().setup(), register);
+    let again = register;
+    let y = register_y(run.any().setup(), again);
     let history = run.any().history();
-    push_open(text, "register", y)?;
-    text.push_str("<text x='8' y='4'>")?;
-    push_register(text, register)?;
-    text.push_str("</text>")?;
-    push_line(text, end_x(history.len()))
+    push_register_text(text, y, register, end_x(history.len()))
+}
+
+/// Adds the lanes of the processes' registers.
+fn push_own_registers(text: &mut String, run: &RunOfSetup) -> Result<(), AllocError>
+    requires { length run.now.history ≤ 999999 }
+    ensures { Pushes result text.old text.new
+        (flat_map (own_register_lane run.now) (range_with_len 1 run.now.setup.processes)) }
+{
+    for i in 0..run.any().setup().n() {
+        push_register_lane(text, run, Reg::R(Proc::new(i + 1)))?;
+    }
+    Ok(())
 }
 
 /// Adds the lanes of the registers, of which Alpha alone has some.
@@ -93,13 +124,10 @@ fn push_register_lanes(text: &mut String, run: &RunOfSetup) -> Result<(), AllocE
     ensures { Pushes result text.old text.new
         (register_lanes_by run.now.setup.algorithm run.now) }
 {
-    let setup = run.any().setup();
-    match setup.algorithm() {
+    match run.any().setup().algorithm() {
         Algorithm::Leader => Ok(()),
         Algorithm::Alpha => {
-            for i in 0..setup.n() {
-                push_register_lane(text, run, Reg::R(Proc::new(i + 1)))?;
-            }
+            push_own_registers(text, run)?;
             push_register_lane(text, run, Reg::Dec)
         }
     }

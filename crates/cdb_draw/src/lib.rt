@@ -6,7 +6,6 @@ mod lanes;
 mod layout;
 mod mark;
 mod picture;
+mod piece;
 mod sends;
 pub mod style;
-#[cfg(test)]
-mod tests;

@@ -1,11 +1,11 @@
 //! The picture of a run, written in pieces: lanes, the arrows of all events, and then their marks.
 
 ghost use Rattle.std.specs.List.{flat_map};
-ghost use Rattle.std.specs.Prelude.{◌≡◌, ◌<◌, ◌≤◌, ◌++◌, length};
+ghost use Rattle.std.specs.Prelude.{◌≡◌, ◌<◌, ◌≤◌, ◌++◌, length, string_bytes, IfOk};
 ghost use Rattle.cdb_draw.specs.Arrows.{arrow_at};
 ghost use Rattle.cdb_draw.specs.EventMarks.{mark_at};
 ghost use Rattle.cdb_draw.specs.Lanes.{lanes_text};
-ghost use Rattle.cdb_draw.specs.Picture.{algorithm_text, head_text, heading_text, picture_text, places, size_text};
+ghost use Rattle.cdb_draw.specs.Picture.{algorithm_text, foot, head_text, heading_text, picture_text, places, size_text};
 ghost use Rattle.cdb_draw.specs.Sends.{AreSendsOf};
 ghost use Rattle.cdb_explain.specs.Explanations.{run_after};
 ghost use Rattle.cdb_play.specs.Buffers.{Puts, Wrote};
@@ -16,46 +16,56 @@ use crate::arrow::push_arrow;
 use crate::lanes::push_lanes;
 use crate::layout::{height, width};
 use crate::mark::push_mark;
+use crate::piece::{push, push_number};
 use crate::sends::{Sends, sends_of};
 use crate::style::{NAMESPACE, SHAPES, STYLE};
 use cdb_control::RunOfSetup;
 use cdb_explain::{fresh, take_next};
 use cdb_play::{Buffer, OutputFault, Sink};
-use cdb_setup::{Algorithm, Setup};
+use cdb_setup::Algorithm;
 use std::alloc::{AllocError, Global};
 
-/// The name of an algorithm.
-fn algorithm_name(algorithm: Algorithm) -> &'static str
-    ensures { result.now ≡ algorithm_text algorithm }
+/// Adds the name of an algorithm.
+#[tactic(auto, unfolding(crate::specs::Picture::algorithm_text))]
+fn push_algorithm(text: &mut String, algorithm: Algorithm) -> Result<(), AllocError>
+    ensures { Pushes result text.old text.new (algorithm_text algorithm) }
 {
     match algorithm {
-        Algorithm::Leader => "leader",
-        Algorithm::Alpha => "alpha",
+        Algorithm::Leader => push(text, "leader"),
+        Algorithm::Alpha => push(text, "alpha"),
     }
 }
 
-/// Adds the size of a picture, in millimetres.
-fn push_size(text: &mut String, w: usize, h: usize) -> Result<(), AllocError>
-    requires wide { w ≤ 9999999 }
-    requires high { h ≤ 999 }
-    ensures { Pushes result text.old text.new (size_text w h) }
+/// Adds the size of a picture, in millimetres and in units.
+fn push_size(
+    text: &mut String,
+    w: usize,
+    h: usize,
+    across: usize,
+    down: usize,
+) -> Result<(), AllocError>
+    ensures { Pushes result text.old text.new (size_text w h across down) }
 {
-    let (units, down) = (4 * w, 4 * h);
-    write!(text, "width='{w}mm' ")?;
-    write!(text, "height='{h}mm' ")?;
-    text.push_str("viewBox='0 0 ")?;
-    write!(text, "{units} {down}'>\n")
+    push(text, "width='")?;
+    push_number(text, w)?;
+    push(text, "mm' height='")?;
+    push_number(text, h)?;
+    push(text, "mm' viewBox='0 0 ")?;
+    push_number(text, across)?;
+    push(text, " ")?;
+    push_number(text, down)?;
+    push(text, "'>\n")
 }
 
 /// Adds the algorithm and the quorum.
-fn push_heading(text: &mut String, setup: &Setup) -> Result<(), AllocError>
-    ensures { Pushes result text.old text.new (heading_text setup.now) }
+fn push_heading(text: &mut String, algorithm: Algorithm, quorum: usize) -> Result<(), AllocError>
+    ensures { Pushes result text.old text.new (heading_text algorithm quorum) }
 {
-    let quorum = setup.q();
-    text.push_str("<text class='heading' ")?;
-    text.push_str("x='8' y='18'>")?;
-    text.push_str(algorithm_name(setup.algorithm()))?;
-    write!(text, ", quorum {quorum}</text>\n")
+    push(text, "<text class='heading' x='8' y='18'>")?;
+    push_algorithm(text, algorithm)?;
+    push(text, ", quorum ")?;
+    push_number(text, quorum)?;
+    push(text, "</text>\n")
 }
 
 /// Adds what comes before the lanes.
@@ -65,51 +75,82 @@ fn push_head(text: &mut String, run: &RunOfSetup) -> Result<(), AllocError>
 {
     let setup = run.any().setup();
     let count = run.any().history().len();
-    text.push_str(NAMESPACE)?;
-    push_size(text, width(count), height(setup))?;
-    text.push_str(STYLE)?;
-    text.push_str(SHAPES)?;
-    push_heading(text, setup)
+    let (w, h) = (width(count), height(setup));
+    push(text, NAMESPACE)?;
+    push_size(text, w, h, 4 * w, 4 * h)?;
+    push(text, STYLE)?;
+    push(text, SHAPES)?;
+    push_heading(text, setup.algorithm(), usize::from(setup.q()))
 }
 
-/// Puts what comes before the arrows.
-fn put_front<W: Sink>(
-    alloc: Global,
-    run: &RunOfSetup,
-    buffer: &mut Buffer,
-    out: &mut W,
-) -> Result<(), OutputFault>
+/// Adds what comes before the arrows.
+fn push_front(text: &mut String, run: &RunOfSetup) -> Result<(), AllocError>
     requires { length run.now.history ≤ 999999 }
-    ensures { Puts W.contents W.failures result out.old buffer.old out.new buffer.new
-        (head_text run.now ++ lanes_text run.now) }
+    ensures { Pushes result text.old text.new (head_text run.now ++ lanes_text run.now) }
+{
+    push_head(text, run)?;
+    push_lanes(text, run)
+}
+
+/// The text of what comes before the arrows.
+fn front_of(alloc: Global, run: &RunOfSetup) -> Result<String, AllocError>
+    requires { length run.now.history ≤ 999999 }
+    ensures { IfOk result (λ text. string_bytes text ≡ head_text run.now ++ lanes_text run.now) }
 {
     let mut text = String::new(alloc);
-    push_head(&mut text, run)?;
-    push_lanes(&mut text, run)?;
-    buffer.put(out, text.as_bytes())?;
-    Ok(())
+    push_front(&mut text, run)?;
+    Ok(text)
 }
 
-/// Puts the arrow of the event at a place, from 0.
-fn put_arrow<W: Sink>(
+/// The text of the arrow of the event at a place, from 0.
+fn arrow_of(
     alloc: Global,
     run: &RunOfSetup,
     sends: &Sends,
     marks: &[bool],
     place: usize,
-    buffer: &mut Buffer,
-    out: &mut W,
-) -> Result<(), OutputFault>
+) -> Result<String, AllocError>
     requires few { length run.now.history ≤ 999999 }
     requires a_mark_each { length marks.now ≡ length run.now.history }
     requires within { place < length run.now.history }
     requires sends { AreSendsOf sends.now run.now.history }
-    ensures { Puts W.contents W.failures result out.old buffer.old out.new buffer.new
-        (arrow_at run.now marks.now place) }
+    ensures { IfOk result (λ text. string_bytes text ≡ arrow_at run.now marks.now place) }
 {
     let mut text = String::new(alloc);
     let history = run.any().history();
     push_arrow(&mut text, run, sends, marks[place], place, &history[place])?;
+    Ok(text)
+}
+
+/// The text of the mark of the event at a place, from 0, where `after` is the run once it had come to that event.
+fn mark_of(
+    alloc: Global,
+    run: &RunOfSetup,
+    after: &RunOfSetup,
+    marks: &[bool],
+    place: usize,
+) -> Result<String, AllocError>
+    requires few { length run.now.history ≤ 999999 }
+    requires a_mark_each { length marks.now ≡ length run.now.history }
+    requires within { place < length run.now.history }
+    requires after { after.now ≡ run_after run.now place }
+    ensures { IfOk result (λ text. string_bytes text ≡ mark_at rules run.now marks.now place) }
+{
+    let mut text = String::new(alloc);
+    let history = run.any().history();
+    push_mark(alloc, &mut text, run, after, marks[place], place, &history[place])?;
+    Ok(text)
+}
+
+/// Puts a text.
+fn put_text<W: Sink>(
+    text: &String,
+    buffer: &mut Buffer,
+    out: &mut W,
+) -> Result<(), OutputFault>
+    ensures { Puts W.contents W.failures result out.old buffer.old out.new buffer.new
+        (string_bytes text.now) }
+{
     buffer.put(out, text.as_bytes())?;
     Ok(())
 }
@@ -130,40 +171,9 @@ fn put_arrows<W: Sink>(
     let history = run.any().history();
     let sends = sends_of(alloc, history)?;
     for place in 0..history.len() {
-        put_arrow(alloc, run, &sends, marks, place, buffer, out)?;
+        let text = arrow_of(alloc, run, &sends, marks, place)?;
+        put_text(&text, buffer, out)?;
     }
-    Ok(())
-}
-
-/// Puts the mark of the event at a place, from 0, where `after` is the run once it had come to that event.
-fn put_mark<W: Sink>(
-    alloc: Global,
-    run: &RunOfSetup,
-    after: &RunOfSetup,
-    marks: &[bool],
-    place: usize,
-    buffer: &mut Buffer,
-    out: &mut W,
-) -> Result<(), OutputFault>
-    requires few { length run.now.history ≤ 999999 }
-    requires a_mark_each { length marks.now ≡ length run.now.history }
-    requires within { place < length run.now.history }
-    requires after { after.now ≡ run_after run.now place }
-    ensures { Puts W.contents W.failures result out.old buffer.old out.new buffer.new
-        (mark_at rules run.now marks.now place) }
-{
-    let mut text = String::new(alloc);
-    let history = run.any().history();
-    push_mark(
-        alloc,
-        &mut text,
-        run,
-        after,
-        marks[place],
-        place,
-        &history[place],
-    )?;
-    buffer.put(out, text.as_bytes())?;
     Ok(())
 }
 
@@ -184,8 +194,33 @@ fn put_marks<W: Sink>(
     let history = run.any().history();
     for place in 0..history.len() {
         take_next(alloc, &mut again, &history[place])?;
-        put_mark(alloc, run, &again, marks, place, buffer, out)?;
+        let text = mark_of(alloc, run, &again, marks, place)?;
+        put_text(&text, buffer, out)?;
     }
+    Ok(())
+}
+
+/// Puts what comes before the arrows.
+fn put_front<W: Sink>(
+    alloc: Global,
+    run: &RunOfSetup,
+    buffer: &mut Buffer,
+    out: &mut W,
+) -> Result<(), OutputFault>
+    requires { length run.now.history ≤ 999999 }
+    ensures { Puts W.contents W.failures result out.old buffer.old out.new buffer.new
+        (head_text run.now ++ lanes_text run.now) }
+{
+    let text = front_of(alloc, run)?;
+    put_text(&text, buffer, out)
+}
+
+/// Puts the end of the document.
+#[tactic(auto, unfolding(crate::specs::Picture::foot))]
+fn put_foot<W: Sink>(buffer: &mut Buffer, out: &mut W) -> Result<(), OutputFault>
+    ensures { Puts W.contents W.failures result out.old buffer.old out.new buffer.new foot }
+{
+    buffer.put(out, b"</svg>\n")?;
     Ok(())
 }
 
@@ -205,8 +240,7 @@ fn put_picture<W: Sink>(
     put_front(alloc, run, buffer, out)?;
     put_arrows(alloc, run, marks, buffer, out)?;
     put_marks(alloc, run, marks, buffer, out)?;
-    buffer.put(out, "</svg>\n".as_bytes())?;
-    Ok(())
+    put_foot(buffer, out)
 }
 
 /// Writes the picture in which the marked events are drawn in full, and the rest pale. After `Write` what was

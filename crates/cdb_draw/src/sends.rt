@@ -1,10 +1,10 @@
 //! Where each message was sent, and where each process crashed.
 
 ghost use Rattle.std.specs.HashMap.{get};
-ghost use Rattle.std.specs.Prelude.{◌≡◌, ℕ, List, ◌++◌, ◌∷◌, [], length, nat_eq, IfOk, OnOk};
+ghost use Rattle.std.specs.Prelude.{◌≡◌, ◌<◌, ℕ, List, ◌++◌, ◌∷◌, [], length, nat_eq, IfOk, OnOk};
 ghost use Rattle.cdb_base.specs.declared.event.Event.{Event as EventName};
 ghost use Rattle.cdb_draw.specs.Places.{crashed_at, is_crash_of, sent_at};
-ghost use Rattle.cdb_draw.specs.Sends.{AreSendsOf, kept_or_noted, message_code};
+ghost use Rattle.cdb_draw.specs.Sends.{AreSendsOf, kept_or_noted, message_code, message_of};
 
 use cdb_base::{Event, Kind, MsgName, NoMemory, Proc};
 use std::alloc::Global;
@@ -15,9 +15,24 @@ pub(crate) type Sends = HashMap<u32, usize>;
 
 /// A number for the name of a message.
 fn message_code(name: MsgName) -> u32
-    ensures { result ≡ message_code name.s name.m }
+    ensures value { result ≡ message_code name.s name.m }
+    ensures small { name.m < 65536 }
 {
     u32::from(name.s.number()) * 65_536 + u32::from(name.m)
+}
+
+/// The message that an event sends, if it sends one.
+fn message_of(event: &Event) -> Option<MsgName>
+    ensures { result ≡ message_of event.now }
+{
+    match *event {
+        Event::Step {
+            p,
+            kind: Kind::Send(m),
+            ..
+        } => Some(MsgName { s: p, m }),
+        _ => None,
+    }
 }
 
 /// Notes a place under a number, where none is noted yet.
@@ -34,13 +49,9 @@ fn note_event(sends: &mut Sends, event: &Event, place: usize) -> Result<(), NoMe
     ensures { OnOk result ((before : List EventName) → length before ≡ place →
         AreSendsOf sends.old before → AreSendsOf sends.new (before ++ event.now ∷ [])) }
 {
-    match *event {
-        Event::Step {
-            p,
-            kind: Kind::Send(m),
-            ..
-        } => note(sends, message_code(MsgName { s: p, m }), place),
-        _ => Ok(()),
+    match message_of(event) {
+        Some(name) => note(sends, message_code(name), place),
+        None => Ok(()),
     }
 }
 
