@@ -5,5 +5,6 @@ pub mod Lanes
 pub mod Arrows
 pub mod EventMarks
 pub mod Picture
+pub mod Written
 -- ---- what the code keeps for itself
 pub mod Sends

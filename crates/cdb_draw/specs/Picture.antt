@@ -19,26 +19,35 @@ unfoldable pub algorithm_text : Algorithm → List ℕ
 algorithm_text Leader = codes "leader"
 algorithm_text Alpha = codes "alpha"
 
--- so many millimetres wide and high, and the same in units
+-- so many millimetres wide and high, and the same in units, four to a millimetre
 unfoldable pub size_text : ℕ → ℕ → ℕ → ℕ → List ℕ
 size_text w h across down =
     codes "width='" ++ decimal w ++ codes "mm' height='" ++ decimal h
     ++ codes "mm' viewBox='0 0 " ++ decimal across ++ codes " " ++ decimal down ++ codes "'>\n"
-
--- a millimetre has four units
-abbrev pub size_of : ℕ → ℕ → List ℕ
-size_of w h = size_text w h (4 * w) (4 * h)
 
 -- the algorithm and the quorum, at the top
 unfoldable pub heading_text : Algorithm → ℕ → List ℕ
 heading_text algorithm quorum =
     codes "<text class='heading' x='8' y='18'>" ++ algorithm_text algorithm ++ codes ", quorum " ++ decimal quorum ++ codes "</text>\n"
 
+-- the fixed parts, as src/style.rt has them
+unfoldable pub namespace_text : List ℕ
+namespace_text = NAMESPACE.now
+
+unfoldable pub style_text : List ℕ
+style_text = STYLE.now
+
+unfoldable pub shapes_text : List ℕ
+shapes_text = SHAPES.now
+
 -- the size, how things are drawn, the shapes of marks, and the heading
+unfoldable pub document_text : ℕ → ℕ → Algorithm → ℕ → List ℕ
+document_text w h algorithm quorum =
+    namespace_text ++ size_text w h (4 * w) (4 * h) ++ style_text ++ shapes_text ++ heading_text algorithm quorum
+
 abbrev pub head_text : RunView → List ℕ
 head_text run =
-    NAMESPACE.now ++ size_of (width (length run.history)) (height run.setup)
-    ++ STYLE.now ++ SHAPES.now ++ heading_text run.setup.algorithm run.setup.quorum
+    document_text (width (length run.history)) (height run.setup) run.setup.algorithm run.setup.quorum
 
 -- the places of a history
 abbrev pub places : List Event → List ℕ

@@ -214,14 +214,8 @@ fn push_read(
     ensures { Pushes result text.old text.new (arrow_text (codes "read") full
         (upright_text (x_of place) (register_y setup.now register) (lane_y setup.now p))) }
 {
-    push_upright(
-        text,
-        "read",
-        full,
-        place,
-        register_y(setup, register),
-        lane_y(setup, p),
-    )
+    let from = register_y(setup, register);
+    push_upright(text, "read", full, place, from, lane_y(setup, p))
 }
 
 /// Adds the arrow from a write to the register.

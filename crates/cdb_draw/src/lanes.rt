@@ -92,11 +92,7 @@ fn push_process_lane(text: &mut String, run: &RunOfSetup, p: Proc) -> Result<(),
 }
 
 /// Adds the lane of a register.
-fn push_register_lane(
-    text: &mut String,
-    run: &RunOfSetup,
-    register: Reg,
-) -> Result<(), AllocError>
+fn push_register_lane(text: &mut String, run: &RunOfSetup, register: Reg) -> Result<(), AllocError>
     requires { length run.now.history ≤ 999999 }
     ensures { Pushes result text.old text.new (register_lane run.now register) }
 {

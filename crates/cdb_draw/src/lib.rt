@@ -2,6 +2,7 @@
 #![tactic(auto)]
 
 mod arrow;
+mod draws;
 mod lanes;
 mod layout;
 mod mark;
@@ -9,3 +10,8 @@ mod picture;
 mod piece;
 mod sends;
 pub mod style;
+
+pub use draws::draw_run;
+
+#[cfg(test)]
+mod tests;

@@ -14,6 +14,7 @@ use crate::piece::{push, push_message, push_number, push_process, push_register,
 use cdb_base::{CopyName, Event, Kind, MsgName, Proc, Val};
 use cdb_control::RunOfSetup;
 use cdb_explain::{decision_by, push_whole};
+use cdb_setup::Setup;
 use std::alloc::{AllocError, Global};
 
 /// Adds what a step does, in a word.
@@ -218,18 +219,18 @@ fn lane_of(event: &Event) -> Proc
 /// Begins the mark of an event at a place, from 0.
 fn push_open(
     text: &mut String,
-    run: &RunOfSetup,
+    setup: &Setup,
     full: bool,
     place: usize,
     p: Proc,
 ) -> Result<(), AllocError>
     requires { place ≤ 999999 }
-    ensures { Pushes result text.old text.new (open_text full (spot_text run.now.setup place p)) }
+    ensures { Pushes result text.old text.new (open_text full (spot_text setup.now place p)) }
 {
     push(text, "<g class='")?;
     push_weight(text, full)?;
     push(text, "' transform='translate(")?;
-    push_spot(text, run.any().setup(), place, p)?;
+    push_spot(text, setup, place, p)?;
     push(text, ")'>")
 }
 
@@ -272,7 +273,7 @@ pub(crate) fn push_mark(
     ensures { Pushes result text.old text.new
         (mark_text rules run.now after.now full place event.now) }
 {
-    push_open(text, run, full, place, lane_of(event))?;
+    push_open(text, run.any().setup(), full, place, lane_of(event))?;
     push_title(alloc, text, run, after, event)?;
     push_decided(text, decision_by(after, event))?;
     push_body(text, event)?;

@@ -5,7 +5,7 @@ ghost use Rattle.std.specs.Prelude.{◌≡◌, ◌<◌, ◌≤◌, ◌++◌, len
 ghost use Rattle.cdb_draw.specs.Arrows.{arrow_at};
 ghost use Rattle.cdb_draw.specs.EventMarks.{mark_at};
 ghost use Rattle.cdb_draw.specs.Lanes.{lanes_text};
-ghost use Rattle.cdb_draw.specs.Picture.{algorithm_text, foot, head_text, heading_text, picture_text, places, size_text};
+ghost use Rattle.cdb_draw.specs.Picture.{algorithm_text, document_text, foot, head_text, heading_text, namespace_text, picture_text, places, shapes_text, size_text, style_text};
 ghost use Rattle.cdb_draw.specs.Sends.{AreSendsOf};
 ghost use Rattle.cdb_explain.specs.Explanations.{run_after};
 ghost use Rattle.cdb_play.specs.Buffers.{Puts, Wrote};
@@ -68,6 +68,49 @@ fn push_heading(text: &mut String, algorithm: Algorithm, quorum: usize) -> Resul
     push(text, "</text>\n")
 }
 
+/// Adds the beginning of the document.
+#[tactic(auto, unfolding(crate::specs::Picture::namespace_text))]
+fn push_namespace(text: &mut String) -> Result<(), AllocError>
+    ensures { Pushes result text.old text.new namespace_text }
+{
+    push(text, NAMESPACE)
+}
+
+/// Adds how things look.
+#[tactic(auto, unfolding(crate::specs::Picture::style_text))]
+fn push_style(text: &mut String) -> Result<(), AllocError>
+    ensures { Pushes result text.old text.new style_text }
+{
+    push(text, STYLE)
+}
+
+/// Adds the shapes.
+#[tactic(auto, unfolding(crate::specs::Picture::shapes_text))]
+fn push_shapes(text: &mut String) -> Result<(), AllocError>
+    ensures { Pushes result text.old text.new shapes_text }
+{
+    push(text, SHAPES)
+}
+
+/// Adds what comes before the lanes, where the picture has that size.
+fn push_document(
+    text: &mut String,
+    w: usize,
+    h: usize,
+    algorithm: Algorithm,
+    quorum: usize,
+) -> Result<(), AllocError>
+    requires wide { w ≤ 9999999 }
+    requires high { h ≤ 999 }
+    ensures { Pushes result text.old text.new (document_text w h algorithm quorum) }
+{
+    push_namespace(text)?;
+    push_size(text, w, h, 4 * w, 4 * h)?;
+    push_style(text)?;
+    push_shapes(text)?;
+    push_heading(text, algorithm, quorum)
+}
+
 /// Adds what comes before the lanes.
 fn push_head(text: &mut String, run: &RunOfSetup) -> Result<(), AllocError>
     requires { length run.now.history ≤ 999999 }
@@ -75,12 +118,8 @@ fn push_head(text: &mut String, run: &RunOfSetup) -> Result<(), AllocError>
 {
     let setup = run.any().setup();
     let count = run.any().history().len();
-    let (w, h) = (width(count), height(setup));
-    push(text, NAMESPACE)?;
-    push_size(text, w, h, 4 * w, 4 * h)?;
-    push(text, STYLE)?;
-    push(text, SHAPES)?;
-    push_heading(text, setup.algorithm(), usize::from(setup.q()))
+    let quorum = usize::from(setup.q());
+    push_document(text, width(count), height(setup), setup.algorithm(), quorum)
 }
 
 /// Adds what comes before the arrows.
@@ -138,21 +177,46 @@ fn mark_of(
 {
     let mut text = String::new(alloc);
     let history = run.any().history();
-    push_mark(alloc, &mut text, run, after, marks[place], place, &history[place])?;
+    push_mark(
+        alloc,
+        &mut text,
+        run,
+        after,
+        marks[place],
+        place,
+        &history[place],
+    )?;
     Ok(text)
 }
 
 /// Puts a text.
-fn put_text<W: Sink>(
-    text: &String,
-    buffer: &mut Buffer,
-    out: &mut W,
-) -> Result<(), OutputFault>
+fn put_text<W: Sink>(text: &String, buffer: &mut Buffer, out: &mut W) -> Result<(), OutputFault>
     ensures { Puts W.contents W.failures result out.old buffer.old out.new buffer.new
         (string_bytes text.now) }
 {
     buffer.put(out, text.as_bytes())?;
     Ok(())
+}
+
+/// Puts the arrow of the event at a place, from 0.
+fn put_arrow<W: Sink>(
+    alloc: Global,
+    run: &RunOfSetup,
+    sends: &Sends,
+    marks: &[bool],
+    place: usize,
+    buffer: &mut Buffer,
+    out: &mut W,
+) -> Result<(), OutputFault>
+    requires few { length run.now.history ≤ 999999 }
+    requires a_mark_each { length marks.now ≡ length run.now.history }
+    requires within { place < length run.now.history }
+    requires sends { AreSendsOf sends.now run.now.history }
+    ensures { Puts W.contents W.failures result out.old buffer.old out.new buffer.new
+        (arrow_at run.now marks.now place) }
+{
+    let text = arrow_of(alloc, run, sends, marks, place)?;
+    put_text(&text, buffer, out)
 }
 
 /// Puts the arrows of all events.
@@ -171,10 +235,30 @@ fn put_arrows<W: Sink>(
     let history = run.any().history();
     let sends = sends_of(alloc, history)?;
     for place in 0..history.len() {
-        let text = arrow_of(alloc, run, &sends, marks, place)?;
-        put_text(&text, buffer, out)?;
+        put_arrow(alloc, run, &sends, marks, place, buffer, out)?;
     }
     Ok(())
+}
+
+/// Puts the mark of the event at a place, from 0, where `after` is the run once it had come to that event.
+fn put_mark<W: Sink>(
+    alloc: Global,
+    run: &RunOfSetup,
+    after: &RunOfSetup,
+    marks: &[bool],
+    place: usize,
+    buffer: &mut Buffer,
+    out: &mut W,
+) -> Result<(), OutputFault>
+    requires few { length run.now.history ≤ 999999 }
+    requires a_mark_each { length marks.now ≡ length run.now.history }
+    requires within { place < length run.now.history }
+    requires after { after.now ≡ run_after run.now place }
+    ensures { Puts W.contents W.failures result out.old buffer.old out.new buffer.new
+        (mark_at rules run.now marks.now place) }
+{
+    let text = mark_of(alloc, run, after, marks, place)?;
+    put_text(&text, buffer, out)
 }
 
 /// Puts the marks of all events. The run is played again, event by event, and looked at after each one.
@@ -194,8 +278,7 @@ fn put_marks<W: Sink>(
     let history = run.any().history();
     for place in 0..history.len() {
         take_next(alloc, &mut again, &history[place])?;
-        let text = mark_of(alloc, run, &again, marks, place)?;
-        put_text(&text, buffer, out)?;
+        put_mark(alloc, run, &again, marks, place, buffer, out)?;
     }
     Ok(())
 }
