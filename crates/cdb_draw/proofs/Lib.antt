@@ -1,0 +1,5 @@
+pub mod Pushing
+pub mod Growing
+pub mod Sending
+pub mod Parted
+pub mod Drawing

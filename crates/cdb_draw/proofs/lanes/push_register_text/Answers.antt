@@ -1,0 +1,24 @@
+use Rattle.std.specs.Prelude.{List, codes, string_bytes, ℕ, ◌++◌, ◌≡◌}
+use Rattle.cdb_draw.specs.Lanes.{register_line, lane_open, line_text}
+use Rattle.cdb_text.specs.Names.{register_text}
+use Rattle.cdb_draw.proofs.Pushing.{last, next}
+use Rattle.cdb_draw.proofs.lanes.push_register_text.Goals as goal
+
+pub returns : goal.returns
+unfolding register_line
+returns c =
+    let piece-1 : List ℕ = lane_open (codes "register") c.args.y in
+    let piece-2 : List ℕ = codes "<text x='8' y='4'>" in
+    let piece-3 : List ℕ = register_text c.args.register in
+    let piece-4 : List ℕ = codes "</text>" in
+    let piece-5 : List ℕ = line_text c.args.end in
+    let bytes-0 : List ℕ = string_bytes c.args.text.now in
+    let bytes-1 : List ℕ = string_bytes c.push_open.new.text in
+    let bytes-2 : List ℕ = string_bytes c.push.new.text in
+    let bytes-3 : List ℕ = string_bytes c.push_register.new.text in
+    let bytes-4 : List ℕ = string_bytes c.push-2.new.text in
+    let bytes-5 : List ℕ = string_bytes c.push_line.new.text in
+    let text-2 : bytes-2 ≡ bytes-0 ++ (piece-1 ++ piece-2) = next bytes-0 bytes-1 bytes-2 (piece-1) piece-2 c.in_ok-push_open.ensures c.in_ok-push.ensures in
+    let text-3 : bytes-3 ≡ bytes-0 ++ (piece-1 ++ piece-2 ++ piece-3) = next bytes-0 bytes-2 bytes-3 (piece-1 ++ piece-2) piece-3 text-2 c.in_ok-push_register.ensures in
+    let text-4 : bytes-4 ≡ bytes-0 ++ (piece-1 ++ piece-2 ++ piece-3 ++ piece-4) = next bytes-0 bytes-3 bytes-4 (piece-1 ++ piece-2 ++ piece-3) piece-4 text-3 c.in_ok-push-2.ensures in
+    last c.push_line.result bytes-0 bytes-4 bytes-5 (piece-1 ++ piece-2 ++ piece-3 ++ piece-4) piece-5 text-4 c.push_line.ensures

@@ -1,0 +1,28 @@
+use Rattle.std.proofs.Common.{ℕ, List, ◌<◌, ◌≡◌, length, ap, subst, ◌∙◌}
+use Rattle.std.proofs.lemmas.Result.{err_from_is_err_and}
+use Rattle.cdb_base.specs.declared.event.Event.{Event}
+use Rattle.cdb_draw.specs.Arrows.{arrow_at}
+use Rattle.cdb_play.proofs.Putting.{put_nothing, puts_nothing}
+use Rattle.cdb_draw.proofs.Parted.{cut_one, put_one}
+use Rattle.cdb_draw.proofs.picture.put_arrows.Goals as goal
+
+pub returns-in_err-sends : goal.returns-in_err-sends
+returns-in_err-sends g c =
+    let p = err_from_is_err_and c.from_residual.result c.from_residual.ensures.1 in
+    rw (p.1, p.2) (puts_nothing _ _ _ _ _)
+
+pub loop-place-init : goal.loop-place-init
+loop-place-init g c = put_nothing _ _ c.args.out.now c.args.buffer.now
+
+pub loop-place-preserved : goal.loop-place-preserved
+loop-place-preserved g c =
+    put_one _ _ (arrow_at c.args.run.now c.args.marks.now) c.args.out.now c.loop-place.out c.put_arrow.new.out c.args.buffer.now c.loop-place.buffer c.put_arrow.new.buffer c.loop-place.place c.loop-place.invariant c.in_ok-put_arrow.ensures
+
+pub returns-in_err-put_arrow : goal.returns-in_err-put_arrow
+returns-in_err-put_arrow g c =
+    let p = err_from_is_err_and c.from_residual-in_err-put_arrow.result c.from_residual-in_err-put_arrow.ensures.1 in
+    let i : ℕ = c.loop-place.place in
+    let same : c.history-history.result.now ≡ c.args.run.now.history = c.history-history.ensures.events ∙ ap (λ r. r.history) c.any.ensures.run in
+    let below : i < length c.args.run.now.history = subst (λ (h : List Event). i < length h) same c.loop-place-test.true in
+    rw (p.1, p.2)
+    (cut_one _ _ (Unit {0}) c.in_err-put_arrow.field-0.0 (arrow_at c.args.run.now c.args.marks.now) c.args.out.now c.loop-place.out c.put_arrow.new.out c.args.buffer.now c.loop-place.buffer c.put_arrow.new.buffer (length c.args.run.now.history) i below c.loop-place.invariant c.in_err-put_arrow.ensures)

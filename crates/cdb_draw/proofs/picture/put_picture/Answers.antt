@@ -1,0 +1,78 @@
+use Rattle.std.proofs.Common.{◌++◌, Err, refl}
+use Rattle.std.specs.List.{flat_map}
+use Rattle.std.proofs.lemmas.Result.{err_from_is_err_and}
+use Rattle.cdb_draw.specs.Arrows.{arrow_at}
+use Rattle.cdb_draw.specs.EventMarks.{mark_at}
+use Rattle.cdb_draw.specs.Lanes.{lanes_text}
+use Rattle.cdb_draw.specs.Picture.{foot, head_text, places}
+use Rattle.cdb_play.proofs.Putting.{put_last, put_more}
+use Rattle.cdb_run.specs.Algorithms.{rules}
+use Rattle.cdb_run.specs.Current.{RunView}
+use Rattle.cdb_draw.proofs.Parted.{cut_before}
+use Rattle.cdb_draw.proofs.picture.put_picture.Goals as goal
+
+pub returns-in_err-put_front : goal.returns-in_err-put_front
+returns-in_err-put_front g c =
+    let p = err_from_is_err_and c.from_residual.result c.from_residual.ensures.1 in
+    let run : RunView = c.args.run.now in
+    let first = head_text run ++ lanes_text run in
+    let arrows = flat_map (arrow_at run c.args.marks.now) (places run.history) in
+    let marks = flat_map (mark_at rules run c.args.marks.now) (places run.history) in
+    let why = c.in_err-put_front.field-0.0 in
+    let old = c.args.out.now in
+    let new = c.put_front.new.out in
+    let held = c.args.buffer.now in
+    let left = c.put_front.new.buffer in
+    rw (p.1, p.2)
+    (cut_before _ _ (Unit {0}) why old new held left ((first ++ arrows) ++ marks) foot
+    (cut_before _ _ (Unit {0}) why old new held left (first ++ arrows) marks
+    (cut_before _ _ (Unit {0}) why old new held left first arrows c.in_err-put_front.ensures)))
+
+pub returns-in_err-put_arrows : goal.returns-in_err-put_arrows
+returns-in_err-put_arrows g c =
+    let p = err_from_is_err_and c.from_residual-in_err-put_arrows.result c.from_residual-in_err-put_arrows.ensures.1 in
+    let run : RunView = c.args.run.now in
+    let first = head_text run ++ lanes_text run in
+    let arrows = flat_map (arrow_at run c.args.marks.now) (places run.history) in
+    let marks = flat_map (mark_at rules run c.args.marks.now) (places run.history) in
+    let why = c.in_err-put_arrows.field-0.0 in
+    let old = c.args.out.now in
+    let new = c.put_arrows.new.out in
+    let held = c.args.buffer.now in
+    let left = c.put_arrows.new.buffer in
+    rw (p.1, p.2)
+    (cut_before _ _ (Unit {0}) why old new held left ((first ++ arrows) ++ marks) foot
+    (cut_before _ _ (Unit {0}) why old new held left (first ++ arrows) marks
+    (put_last _ _ {A = Unit {0}} (Err why) old c.put_front.new.out new held c.put_front.new.buffer left first arrows (first ++ arrows) c.in_ok-put_front.ensures refl c.in_err-put_arrows.ensures)))
+
+pub returns-in_err-put_marks : goal.returns-in_err-put_marks
+returns-in_err-put_marks g c =
+    let p = err_from_is_err_and c.from_residual-in_err-put_marks.result c.from_residual-in_err-put_marks.ensures.1 in
+    let run : RunView = c.args.run.now in
+    let first = head_text run ++ lanes_text run in
+    let arrows = flat_map (arrow_at run c.args.marks.now) (places run.history) in
+    let marks = flat_map (mark_at rules run c.args.marks.now) (places run.history) in
+    let why = c.in_err-put_marks.field-0.0 in
+    let old = c.args.out.now in
+    let new = c.put_marks.new.out in
+    let held = c.args.buffer.now in
+    let left = c.put_marks.new.buffer in
+    rw (p.1, p.2)
+    (cut_before _ _ (Unit {0}) why old new held left ((first ++ arrows) ++ marks) foot
+    (put_last _ _ {A = Unit {0}} (Err why) old c.put_arrows.new.out new held c.put_arrows.new.buffer left (first ++ arrows) marks ((first ++ arrows) ++ marks)
+    (put_more _ _ old c.put_front.new.out c.put_arrows.new.out held c.put_front.new.buffer c.put_arrows.new.buffer first arrows c.in_ok-put_front.ensures c.in_ok-put_arrows.ensures)
+    refl c.in_err-put_marks.ensures))
+
+pub returns : goal.returns
+returns g c =
+    let run : RunView = c.args.run.now in
+    let first = head_text run ++ lanes_text run in
+    let arrows = flat_map (arrow_at run c.args.marks.now) (places run.history) in
+    let marks = flat_map (mark_at rules run c.args.marks.now) (places run.history) in
+    let old = c.args.out.now in
+    let held = c.args.buffer.now in
+    put_last _ _ c.put_foot.result old c.put_marks.new.out c.put_foot.new.out held c.put_marks.new.buffer c.put_foot.new.buffer ((first ++ arrows) ++ marks) foot (((first ++ arrows) ++ marks) ++ foot)
+    (put_more _ _ old c.put_arrows.new.out c.put_marks.new.out held c.put_arrows.new.buffer c.put_marks.new.buffer (first ++ arrows) marks
+    (put_more _ _ old c.put_front.new.out c.put_arrows.new.out held c.put_front.new.buffer c.put_arrows.new.buffer first arrows c.in_ok-put_front.ensures c.in_ok-put_arrows.ensures)
+    c.in_ok-put_marks.ensures)
+    refl c.put_foot.ensures

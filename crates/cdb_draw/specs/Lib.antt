@@ -1,0 +1,10 @@
+-- ---- what the public contracts name
+pub mod Layout
+pub mod Places
+pub mod Lanes
+pub mod Arrows
+pub mod EventMarks
+pub mod Picture
+pub mod Written
+-- ---- what the code keeps for itself
+pub mod Sends

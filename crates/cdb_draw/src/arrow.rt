@@ -1,0 +1,296 @@
+//! The arrows of a picture.
+
+ghost use Rattle.std.specs.Prelude.{◌≡◌, ◌≤◌, length, codes, Some};
+ghost use Rattle.cdb_draw.specs.Arrows.{arrow_close, arrow_open, arrow_text, below_text, bend_text, copy_arrow, event_arrow, point_text, spot_text, step_arrow, straight_text, upright_text, way_text, weight_text};
+ghost use Rattle.cdb_draw.specs.Layout.{lane_y, register_y, x_of};
+ghost use Rattle.cdb_draw.specs.Places.{sent_at};
+ghost use Rattle.cdb_draw.specs.Sends.{AreSendsOf};
+ghost use Rattle.cdb_text.specs.Pushes.{Pushes};
+
+use crate::layout::{lane_y, register_y, x_of};
+use crate::piece::{push, push_number};
+use crate::sends::{Sends, place_of_send};
+use cdb_base::{Event, Kind, MsgName, Proc, Reg};
+use cdb_control::RunOfSetup;
+use cdb_setup::Setup;
+use std::alloc::AllocError;
+
+/// Adds how what is marked is drawn, and the rest.
+#[tactic(auto, unfolding(crate::specs::Arrows::weight_text))]
+pub(crate) fn push_weight(text: &mut String, full: bool) -> Result<(), AllocError>
+    ensures { Pushes result text.old text.new (weight_text full) }
+{
+    if full {
+        push(text, "full")
+    } else {
+        push(text, "pale")
+    }
+}
+
+/// Adds a point.
+fn push_point(text: &mut String, x: usize, y: usize) -> Result<(), AllocError>
+    ensures { Pushes result text.old text.new (point_text x y) }
+{
+    push_number(text, x)?;
+    push(text, ",")?;
+    push_number(text, y)
+}
+
+/// Adds the point of an event at a place, from 0, on the lane of a process.
+pub(crate) fn push_spot(
+    text: &mut String,
+    setup: &Setup,
+    place: usize,
+    p: Proc,
+) -> Result<(), AllocError>
+    requires { place ≤ 999999 }
+    ensures { Pushes result text.old text.new (spot_text setup.now place p) }
+{
+    push_point(text, x_of(place), lane_y(setup, p))
+}
+
+/// Adds the point below it.
+fn push_below(text: &mut String, setup: &Setup, place: usize, p: Proc) -> Result<(), AllocError>
+    requires { place ≤ 999999 }
+    ensures { Pushes result text.old text.new (below_text setup.now place p) }
+{
+    push_point(text, x_of(place), lane_y(setup, p) + 32)
+}
+
+/// Adds the way of a copy to another lane.
+fn push_straight(text: &mut String, setup: &Setup, j: usize, p: Proc) -> Result<(), AllocError>
+    requires { j ≤ 999999 }
+    ensures { Pushes result text.old text.new (straight_text setup.now j p) }
+{
+    push(text, "L")?;
+    push_spot(text, setup, j, p)
+}
+
+/// Adds the way of a copy for its sender, from place `i` to place `j` on one lane.
+fn push_bend(
+    text: &mut String,
+    setup: &Setup,
+    i: usize,
+    j: usize,
+    p: Proc,
+) -> Result<(), AllocError>
+    requires sent { i ≤ 999999 }
+    requires received { j ≤ 999999 }
+    ensures { Pushes result text.old text.new (bend_text setup.now i j p) }
+{
+    let (first, second) = (p, p);
+    push(text, "C")?;
+    push_below(text, setup, i, first)?;
+    push(text, " ")?;
+    push_below(text, setup, j, second)?;
+    push(text, " ")?;
+    push_spot(text, setup, j, p)
+}
+
+/// Adds the way of a copy, from place `i` on the lane of process `s` to place `j` on that of process `p`.
+fn push_way(
+    text: &mut String,
+    setup: &Setup,
+    i: usize,
+    s: Proc,
+    j: usize,
+    p: Proc,
+) -> Result<(), AllocError>
+    requires sent { i ≤ 999999 }
+    requires received { j ≤ 999999 }
+    ensures { Pushes result text.old text.new (way_text setup.now i s j p) }
+{
+    if s == p {
+        push_bend(text, setup, i, j, p)
+    } else {
+        push_straight(text, setup, j, p)
+    }
+}
+
+/// Begins an arrow of that class.
+fn push_open(text: &mut String, class: &str, full: bool) -> Result<(), AllocError>
+    ensures { Pushes result text.old text.new (arrow_open class.now full) }
+{
+    push(text, "<path class='")?;
+    push(text, class)?;
+    push(text, " ")?;
+    push_weight(text, full)?;
+    push(text, "' d='M")
+}
+
+/// Ends an arrow.
+#[tactic(auto, unfolding(crate::specs::Arrows::arrow_close))]
+fn push_close(text: &mut String) -> Result<(), AllocError>
+    ensures { Pushes result text.old text.new arrow_close }
+{
+    push(text, "'/>\n")
+}
+
+/// Adds the way up or down at an x, from one y to another.
+fn push_up(text: &mut String, x: usize, from: usize, to: usize) -> Result<(), AllocError>
+    ensures { Pushes result text.old text.new (upright_text x from to) }
+{
+    push_point(text, x, from)?;
+    push(text, "V")?;
+    push_number(text, to)
+}
+
+/// Adds the arrow of a copy, from the place where its message was sent by process `s` to place `j` on the lane
+/// of process `p`.
+fn push_copy(
+    text: &mut String,
+    setup: &Setup,
+    class: &str,
+    full: bool,
+    i: usize,
+    s: Proc,
+    j: usize,
+    p: Proc,
+) -> Result<(), AllocError>
+    requires sent { i ≤ 999999 }
+    requires received { j ≤ 999999 }
+    ensures { Pushes result text.old text.new
+        (copy_arrow setup.now class.now full (Some i) s j p) }
+{
+    let sender = s;
+    push_open(text, class, full)?;
+    push_spot(text, setup, i, sender)?;
+    push_way(text, setup, i, s, j, p)?;
+    push_close(text)
+}
+
+/// Adds an arrow up or down at a place, from one y to another.
+fn push_upright(
+    text: &mut String,
+    class: &str,
+    full: bool,
+    place: usize,
+    from: usize,
+    to: usize,
+) -> Result<(), AllocError>
+    requires { place ≤ 999999 }
+    ensures { Pushes result text.old text.new
+        (arrow_text class.now full (upright_text (x_of place) from to)) }
+{
+    push_open(text, class, full)?;
+    push_up(text, x_of(place), from, to)?;
+    push_close(text)
+}
+
+/// Adds the arrow of a copy to an event at a place, where its message was sent.
+fn push_from_send(
+    text: &mut String,
+    run: &RunOfSetup,
+    sends: &Sends,
+    class: &str,
+    full: bool,
+    name: MsgName,
+    place: usize,
+    p: Proc,
+) -> Result<(), AllocError>
+    requires few { length run.now.history ≤ 999999 }
+    requires place { place ≤ 999999 }
+    requires sends { AreSendsOf sends.now run.now.history }
+    ensures { Pushes result text.old text.new
+        (copy_arrow run.now.setup class.now full (sent_at run.now.history name) name.s place p) }
+{
+    let sender = name.s;
+    match place_of_send(sends, name) {
+        Some(i) => push_copy(text, run.any().setup(), class, full, i, sender, place, p),
+        None => Ok(()),
+    }
+}
+
+/// Adds the arrow from a register to a read.
+fn push_read(
+    text: &mut String,
+    setup: &Setup,
+    full: bool,
+    place: usize,
+    p: Proc,
+    register: Reg,
+) -> Result<(), AllocError>
+    requires { place ≤ 999999 }
+    ensures { Pushes result text.old text.new (arrow_text (codes "read") full
+        (upright_text (x_of place) (register_y setup.now register) (lane_y setup.now p))) }
+{
+    let from = register_y(setup, register);
+    push_upright(text, "read", full, place, from, lane_y(setup, p))
+}
+
+/// Adds the arrow from a write to the register.
+fn push_write(
+    text: &mut String,
+    setup: &Setup,
+    full: bool,
+    place: usize,
+    p: Proc,
+    register: Reg,
+) -> Result<(), AllocError>
+    requires { place ≤ 999999 }
+    ensures { Pushes result text.old text.new (arrow_text (codes "write") full
+        (upright_text (x_of place) (lane_y setup.now p) (register_y setup.now register))) }
+{
+    push_upright(
+        text,
+        "write",
+        full,
+        place,
+        lane_y(setup, p),
+        register_y(setup, register),
+    )
+}
+
+/// Adds the arrow of a step of that kind at a place.
+fn push_step_arrow(
+    text: &mut String,
+    run: &RunOfSetup,
+    sends: &Sends,
+    full: bool,
+    place: usize,
+    p: Proc,
+    kind: Kind,
+) -> Result<(), AllocError>
+    requires few { length run.now.history ≤ 999999 }
+    requires place { place ≤ 999999 }
+    requires sends { AreSendsOf sends.now run.now.history }
+    ensures { Pushes result text.old text.new (step_arrow run.now full place p kind) }
+{
+    match kind {
+        Kind::Recv(s, m) => push_from_send(
+            text,
+            run,
+            sends,
+            "copy",
+            full,
+            MsgName { s, m },
+            place,
+            p,
+        ),
+        Kind::Read(register) => push_read(text, run.any().setup(), full, place, p, register),
+        Kind::Write(register) => push_write(text, run.any().setup(), full, place, p, register),
+        Kind::Query(_) | Kind::Send(_) | Kind::Local | Kind::Learn | Kind::Crash => Ok(()),
+    }
+}
+
+/// Adds the arrow of the event at a place, from 0, where it has one. Only out of memory is an error.
+pub(crate) fn push_arrow(
+    text: &mut String,
+    run: &RunOfSetup,
+    sends: &Sends,
+    full: bool,
+    place: usize,
+    event: &Event,
+) -> Result<(), AllocError>
+    requires few { length run.now.history ≤ 999999 }
+    requires place { place ≤ 999999 }
+    requires sends { AreSendsOf sends.now run.now.history }
+    ensures { Pushes result text.old text.new (event_arrow run.now full place event.now) }
+{
+    match *event {
+        Event::Step { p, kind, .. } => push_step_arrow(text, run, sends, full, place, p, kind),
+        Event::Lost(copy) => push_from_send(
+            text, run, sends, "lost", full, copy.msg, place, copy.to,
+        ),
+    }
+}

@@ -1,0 +1,17 @@
+//! The picture of a run, as SVG.
+#![tactic(auto)]
+
+mod arrow;
+mod draws;
+mod lanes;
+mod layout;
+mod mark;
+mod picture;
+mod piece;
+mod sends;
+pub mod style;
+
+pub use draws::draw_run;
+
+#[cfg(test)]
+mod tests;

@@ -1,0 +1,346 @@
+//! The picture of a run, written in pieces: lanes, the arrows of all events, and then their marks.
+
+ghost use Rattle.std.specs.List.{flat_map};
+ghost use Rattle.std.specs.Prelude.{◌≡◌, ◌<◌, ◌≤◌, ◌++◌, length, string_bytes, IfOk};
+ghost use Rattle.cdb_draw.specs.Arrows.{arrow_at};
+ghost use Rattle.cdb_draw.specs.EventMarks.{mark_at};
+ghost use Rattle.cdb_draw.specs.Lanes.{lanes_text};
+ghost use Rattle.cdb_draw.specs.Picture.{algorithm_text, document_text, foot, head_text, heading_text, namespace_text, picture_text, places, shapes_text, size_text, style_text};
+ghost use Rattle.cdb_draw.specs.Sends.{AreSendsOf};
+ghost use Rattle.cdb_explain.specs.Explanations.{run_after};
+ghost use Rattle.cdb_play.specs.Buffers.{Puts, Wrote};
+ghost use Rattle.cdb_run.specs.Algorithms.{rules};
+ghost use Rattle.cdb_text.specs.Pushes.{Pushes};
+
+use crate::arrow::push_arrow;
+use crate::lanes::push_lanes;
+use crate::layout::{height, width};
+use crate::mark::push_mark;
+use crate::piece::{push, push_number};
+use crate::sends::{Sends, sends_of};
+use crate::style::{NAMESPACE, SHAPES, STYLE};
+use cdb_control::RunOfSetup;
+use cdb_explain::{fresh, take_next};
+use cdb_play::{Buffer, OutputFault, Sink};
+use cdb_setup::Algorithm;
+use std::alloc::{AllocError, Global};
+
+/// Adds the name of an algorithm.
+#[tactic(auto, unfolding(crate::specs::Picture::algorithm_text))]
+fn push_algorithm(text: &mut String, algorithm: Algorithm) -> Result<(), AllocError>
+    ensures { Pushes result text.old text.new (algorithm_text algorithm) }
+{
+    match algorithm {
+        Algorithm::Leader => push(text, "leader"),
+        Algorithm::Alpha => push(text, "alpha"),
+    }
+}
+
+/// Adds the size of a picture, in millimetres and in units.
+fn push_size(
+    text: &mut String,
+    w: usize,
+    h: usize,
+    across: usize,
+    down: usize,
+) -> Result<(), AllocError>
+    ensures { Pushes result text.old text.new (size_text w h across down) }
+{
+    push(text, "width='")?;
+    push_number(text, w)?;
+    push(text, "mm' height='")?;
+    push_number(text, h)?;
+    push(text, "mm' viewBox='0 0 ")?;
+    push_number(text, across)?;
+    push(text, " ")?;
+    push_number(text, down)?;
+    push(text, "'>\n")
+}
+
+/// Adds the algorithm and the quorum.
+fn push_heading(text: &mut String, algorithm: Algorithm, quorum: usize) -> Result<(), AllocError>
+    ensures { Pushes result text.old text.new (heading_text algorithm quorum) }
+{
+    push(text, "<text class='heading' x='8' y='18'>")?;
+    push_algorithm(text, algorithm)?;
+    push(text, ", quorum ")?;
+    push_number(text, quorum)?;
+    push(text, "</text>\n")
+}
+
+/// Adds the beginning of the document.
+#[tactic(auto, unfolding(crate::specs::Picture::namespace_text))]
+fn push_namespace(text: &mut String) -> Result<(), AllocError>
+    ensures { Pushes result text.old text.new namespace_text }
+{
+    push(text, NAMESPACE)
+}
+
+/// Adds how things look.
+#[tactic(auto, unfolding(crate::specs::Picture::style_text))]
+fn push_style(text: &mut String) -> Result<(), AllocError>
+    ensures { Pushes result text.old text.new style_text }
+{
+    push(text, STYLE)
+}
+
+/// Adds the shapes.
+#[tactic(auto, unfolding(crate::specs::Picture::shapes_text))]
+fn push_shapes(text: &mut String) -> Result<(), AllocError>
+    ensures { Pushes result text.old text.new shapes_text }
+{
+    push(text, SHAPES)
+}
+
+/// Adds what comes before the lanes, where the picture has that size.
+fn push_document(
+    text: &mut String,
+    w: usize,
+    h: usize,
+    algorithm: Algorithm,
+    quorum: usize,
+) -> Result<(), AllocError>
+    requires wide { w ≤ 9999999 }
+    requires high { h ≤ 999 }
+    ensures { Pushes result text.old text.new (document_text w h algorithm quorum) }
+{
+    push_namespace(text)?;
+    push_size(text, w, h, 4 * w, 4 * h)?;
+    push_style(text)?;
+    push_shapes(text)?;
+    push_heading(text, algorithm, quorum)
+}
+
+/// Adds what comes before the lanes.
+fn push_head(text: &mut String, run: &RunOfSetup) -> Result<(), AllocError>
+    requires { length run.now.history ≤ 999999 }
+    ensures { Pushes result text.old text.new (head_text run.now) }
+{
+    let setup = run.any().setup();
+    let count = run.any().history().len();
+    let quorum = usize::from(setup.q());
+    push_document(text, width(count), height(setup), setup.algorithm(), quorum)
+}
+
+/// Adds what comes before the arrows.
+fn push_front(text: &mut String, run: &RunOfSetup) -> Result<(), AllocError>
+    requires { length run.now.history ≤ 999999 }
+    ensures { Pushes result text.old text.new (head_text run.now ++ lanes_text run.now) }
+{
+    push_head(text, run)?;
+    push_lanes(text, run)
+}
+
+/// The text of what comes before the arrows.
+fn front_of(alloc: Global, run: &RunOfSetup) -> Result<String, AllocError>
+    requires { length run.now.history ≤ 999999 }
+    ensures { IfOk result (λ text. string_bytes text ≡ head_text run.now ++ lanes_text run.now) }
+{
+    let mut text = String::new(alloc);
+    push_front(&mut text, run)?;
+    Ok(text)
+}
+
+/// The text of the arrow of the event at a place, from 0.
+fn arrow_of(
+    alloc: Global,
+    run: &RunOfSetup,
+    sends: &Sends,
+    marks: &[bool],
+    place: usize,
+) -> Result<String, AllocError>
+    requires few { length run.now.history ≤ 999999 }
+    requires a_mark_each { length marks.now ≡ length run.now.history }
+    requires within { place < length run.now.history }
+    requires sends { AreSendsOf sends.now run.now.history }
+    ensures { IfOk result (λ text. string_bytes text ≡ arrow_at run.now marks.now place) }
+{
+    let mut text = String::new(alloc);
+    let history = run.any().history();
+    push_arrow(&mut text, run, sends, marks[place], place, &history[place])?;
+    Ok(text)
+}
+
+/// The text of the mark of the event at a place, from 0, where `after` is the run once it had come to that event.
+fn mark_of(
+    alloc: Global,
+    run: &RunOfSetup,
+    after: &RunOfSetup,
+    marks: &[bool],
+    place: usize,
+) -> Result<String, AllocError>
+    requires few { length run.now.history ≤ 999999 }
+    requires a_mark_each { length marks.now ≡ length run.now.history }
+    requires within { place < length run.now.history }
+    requires after { after.now ≡ run_after run.now place }
+    ensures { IfOk result (λ text. string_bytes text ≡ mark_at rules run.now marks.now place) }
+{
+    let mut text = String::new(alloc);
+    let history = run.any().history();
+    push_mark(
+        alloc,
+        &mut text,
+        run,
+        after,
+        marks[place],
+        place,
+        &history[place],
+    )?;
+    Ok(text)
+}
+
+/// Puts a text.
+fn put_text<W: Sink>(text: &String, buffer: &mut Buffer, out: &mut W) -> Result<(), OutputFault>
+    ensures { Puts W.contents W.failures result out.old buffer.old out.new buffer.new
+        (string_bytes text.now) }
+{
+    buffer.put(out, text.as_bytes())?;
+    Ok(())
+}
+
+/// Puts the arrow of the event at a place, from 0.
+fn put_arrow<W: Sink>(
+    alloc: Global,
+    run: &RunOfSetup,
+    sends: &Sends,
+    marks: &[bool],
+    place: usize,
+    buffer: &mut Buffer,
+    out: &mut W,
+) -> Result<(), OutputFault>
+    requires few { length run.now.history ≤ 999999 }
+    requires a_mark_each { length marks.now ≡ length run.now.history }
+    requires within { place < length run.now.history }
+    requires sends { AreSendsOf sends.now run.now.history }
+    ensures { Puts W.contents W.failures result out.old buffer.old out.new buffer.new
+        (arrow_at run.now marks.now place) }
+{
+    let text = arrow_of(alloc, run, sends, marks, place)?;
+    put_text(&text, buffer, out)
+}
+
+/// Puts the arrows of all events.
+fn put_arrows<W: Sink>(
+    alloc: Global,
+    run: &RunOfSetup,
+    marks: &[bool],
+    buffer: &mut Buffer,
+    out: &mut W,
+) -> Result<(), OutputFault>
+    requires few { length run.now.history ≤ 999999 }
+    requires a_mark_each { length marks.now ≡ length run.now.history }
+    ensures { Puts W.contents W.failures result out.old buffer.old out.new buffer.new
+        (flat_map (arrow_at run.now marks.now) (places run.now.history)) }
+{
+    let history = run.any().history();
+    let sends = sends_of(alloc, history)?;
+    for place in 0..history.len() {
+        put_arrow(alloc, run, &sends, marks, place, buffer, out)?;
+    }
+    Ok(())
+}
+
+/// Puts the mark of the event at a place, from 0, where `after` is the run once it had come to that event.
+fn put_mark<W: Sink>(
+    alloc: Global,
+    run: &RunOfSetup,
+    after: &RunOfSetup,
+    marks: &[bool],
+    place: usize,
+    buffer: &mut Buffer,
+    out: &mut W,
+) -> Result<(), OutputFault>
+    requires few { length run.now.history ≤ 999999 }
+    requires a_mark_each { length marks.now ≡ length run.now.history }
+    requires within { place < length run.now.history }
+    requires after { after.now ≡ run_after run.now place }
+    ensures { Puts W.contents W.failures result out.old buffer.old out.new buffer.new
+        (mark_at rules run.now marks.now place) }
+{
+    let text = mark_of(alloc, run, after, marks, place)?;
+    put_text(&text, buffer, out)
+}
+
+/// Puts the marks of all events. The run is played again, event by event, and looked at after each one.
+fn put_marks<W: Sink>(
+    alloc: Global,
+    run: &RunOfSetup,
+    marks: &[bool],
+    buffer: &mut Buffer,
+    out: &mut W,
+) -> Result<(), OutputFault>
+    requires few { length run.now.history ≤ 999999 }
+    requires a_mark_each { length marks.now ≡ length run.now.history }
+    ensures { Puts W.contents W.failures result out.old buffer.old out.new buffer.new
+        (flat_map (mark_at rules run.now marks.now) (places run.now.history)) }
+{
+    let mut again = fresh(alloc, run)?;
+    let history = run.any().history();
+    for place in 0..history.len() {
+        take_next(alloc, &mut again, &history[place])?;
+        put_mark(alloc, run, &again, marks, place, buffer, out)?;
+    }
+    Ok(())
+}
+
+/// Puts what comes before the arrows.
+fn put_front<W: Sink>(
+    alloc: Global,
+    run: &RunOfSetup,
+    buffer: &mut Buffer,
+    out: &mut W,
+) -> Result<(), OutputFault>
+    requires { length run.now.history ≤ 999999 }
+    ensures { Puts W.contents W.failures result out.old buffer.old out.new buffer.new
+        (head_text run.now ++ lanes_text run.now) }
+{
+    let text = front_of(alloc, run)?;
+    put_text(&text, buffer, out)
+}
+
+/// Puts the end of the document.
+#[tactic(auto, unfolding(crate::specs::Picture::foot))]
+fn put_foot<W: Sink>(buffer: &mut Buffer, out: &mut W) -> Result<(), OutputFault>
+    ensures { Puts W.contents W.failures result out.old buffer.old out.new buffer.new foot }
+{
+    buffer.put(out, b"</svg>\n")?;
+    Ok(())
+}
+
+/// Puts the whole picture.
+fn put_picture<W: Sink>(
+    alloc: Global,
+    run: &RunOfSetup,
+    marks: &[bool],
+    buffer: &mut Buffer,
+    out: &mut W,
+) -> Result<(), OutputFault>
+    requires few { length run.now.history ≤ 999999 }
+    requires a_mark_each { length marks.now ≡ length run.now.history }
+    ensures { Puts W.contents W.failures result out.old buffer.old out.new buffer.new
+        (picture_text rules run.now marks.now) }
+{
+    put_front(alloc, run, buffer, out)?;
+    put_arrows(alloc, run, marks, buffer, out)?;
+    put_marks(alloc, run, marks, buffer, out)?;
+    put_foot(buffer, out)
+}
+
+/// Writes the picture in which the marked events are drawn in full, and the rest pale. After `Write` what was
+/// written is a beginning of the picture, and after `NoMemory` one of whole pieces of 65,536 bytes.
+pub(crate) fn write_picture<W: Sink>(
+    alloc: Global,
+    run: &RunOfSetup,
+    marks: &[bool],
+    out: &mut W,
+) -> Result<(), OutputFault>
+    requires few { length run.now.history ≤ 999999 }
+    requires a_mark_each { length marks.now ≡ length run.now.history }
+    ensures { Wrote W.contents W.failures result out.old out.new
+        (picture_text rules run.now marks.now) }
+{
+    let mut buffer = Buffer::new(alloc)?;
+    put_picture(alloc, run, marks, &mut buffer, out)?;
+    buffer.flush(out)?;
+    Ok(())
+}

@@ -1,0 +1,96 @@
+//! Where each message was sent, and where each process crashed.
+
+ghost use Rattle.std.specs.HashMap.{get};
+ghost use Rattle.std.specs.Prelude.{◌≡◌, ◌<◌, ℕ, List, ◌++◌, ◌∷◌, [], length, nat_eq, IfOk, OnOk};
+ghost use Rattle.cdb_base.specs.declared.event.Event.{Event as EventName};
+ghost use Rattle.cdb_draw.specs.Places.{crashed_at, is_crash_of, sent_at};
+ghost use Rattle.cdb_draw.specs.Sends.{AreSendsOf, kept_or_noted, message_code, message_of};
+
+use cdb_base::{Event, Kind, MsgName, NoMemory, Proc};
+use std::alloc::Global;
+use std::collections::HashMap;
+
+/// The places at which messages were sent, by the numbers of their names.
+pub(crate) type Sends = HashMap<u32, usize>;
+
+/// A number for the name of a message.
+fn message_code(name: MsgName) -> u32
+    ensures value { result ≡ message_code name.s name.m }
+    ensures small { name.m < 65536 }
+{
+    u32::from(name.s.number()) * 65_536 + u32::from(name.m)
+}
+
+/// The message that an event sends, if it sends one.
+fn message_of(event: &Event) -> Option<MsgName>
+    ensures { result ≡ message_of event.now }
+{
+    match *event {
+        Event::Step {
+            p,
+            kind: Kind::Send(m),
+            ..
+        } => Some(MsgName { s: p, m }),
+        _ => None,
+    }
+}
+
+/// Notes a place under a number, where none is noted yet.
+fn note(sends: &mut Sends, code: u32, place: usize) -> Result<(), NoMemory>
+    ensures { OnOk result ((q : ℕ) →
+        get nat_eq sends.new q ≡ kept_or_noted (get nat_eq sends.old q) (nat_eq code q) place) }
+{
+    let _noted = sends.entry(code)?.or_insert(place);
+    Ok(())
+}
+
+/// Notes the place of an event, where it sends a message.
+fn note_event(sends: &mut Sends, event: &Event, place: usize) -> Result<(), NoMemory>
+    ensures { OnOk result ((before : List EventName) → length before ≡ place →
+        AreSendsOf sends.old before → AreSendsOf sends.new (before ++ event.now ∷ [])) }
+{
+    match message_of(event) {
+        Some(name) => note(sends, message_code(name), place),
+        None => Ok(()),
+    }
+}
+
+/// The places of all sends of a history.
+pub(crate) fn sends_of(alloc: Global, history: &[Event]) -> Result<Sends, NoMemory>
+    ensures { IfOk result (λ sends. AreSendsOf sends history.now) }
+{
+    let mut sends = HashMap::new(alloc);
+    for i in 0..history.len() {
+        note_event(&mut sends, &history[i], i)?;
+    }
+    Ok(sends)
+}
+
+/// The place at which a message was sent, from 0.
+pub(crate) fn place_of_send(sends: &Sends, name: MsgName) -> Option<usize>
+    ensures { (history : List EventName) → AreSendsOf sends.now history →
+        result ≡ sent_at history name }
+{
+    sends.get(&message_code(name)).copied()
+}
+
+/// Whether the event is a crash of process `p`.
+fn is_crash_of(event: &Event, p: Proc) -> bool
+    ensures { result ≡ is_crash_of p event.now }
+{
+    match *event {
+        Event::Step {
+            p: q,
+            kind: Kind::Crash,
+            ..
+        } => q == p,
+        _ => false,
+    }
+}
+
+/// The place at which a process crashed, from 0.
+pub(crate) fn crashed_at(history: &[Event], p: Proc) -> Option<usize>
+    ensures { result ≡ crashed_at history.now p }
+{
+    history.iter().position(|event| is_crash_of(event, p))
+}
