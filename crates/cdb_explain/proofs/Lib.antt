@@ -1,3 +1,4 @@
+pub mod Answered
 pub mod OfRun
 pub mod Marking
 pub mod Along
