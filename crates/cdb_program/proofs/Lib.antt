@@ -1,5 +1,5 @@
 pub mod Opening
 pub mod Seen
 pub mod Raced
-pub mod Explained
 pub mod Reported
+pub mod Explained

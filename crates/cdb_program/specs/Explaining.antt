@@ -2,30 +2,31 @@
 use Rattle.std.specs.Prelude.{◌≡◌, ℕ, List, [], ◌∷◌, Option, Some, Result, Err, IfErr}
 use Rattle.cdb_explain.specs.Explained.{Explains, ExplainWrites, IsFaultOfExplain}
 use Rattle.cdb_explain.specs.declared.fault.ExplainFault.{ExplainFault}
-use Rattle.cdb_explain.specs.declared.fault.ExplainFault.TheVariants as explained
+use Rattle.cdb_explain.specs.declared.fault.ExplainFault.TheVariants.{Play}
 use Rattle.cdb_play.specs.Streams.{FailsWhere}
-use Rattle.cdb_play.specs.declared.fault.PlayFault.TheVariants.{Read}
+use Rattle.cdb_play.specs.declared.fault.PlayFault.TheVariants as play
 use Rattle.cdb_run.specs.Algorithms.{rules}
-use Rattle.cdb_program.specs.Known.{Stream, Seen, contents, failures}
-use Rattle.cdb_program.specs.Outcomes.{Outcome, IsOfExplanation}
-use Rattle.cdb_program.specs.Playing.{in_memory}
+use Rattle.cdb_setup.specs.declared.fault.SetupFault.{SetupFault}
+use Rattle.cdb_program.specs.Known.{Stream, Seen, contents, failures, in_memory}
+use Rattle.cdb_program.specs.Outcomes.{Outcome, IsOfExplain}
 use Rattle.cdb_program.specs.Reading.{ReadsThen}
 
--- An explanation of a step of the run that a script leaves on the setup of this text ended so. The script's reader and the
--- output are seen before and after.
-pub record IsExplanation (json : List ℕ) (p : ℕ) (k : Option ℕ) (ended : Result (Unit {0}) ExplainFault) (script left old new : Stream) : Type 0 where
-  pub wrote : ExplainWrites contents failures ended old new (Explains rules json p k script.bytes left.bytes)
-  pub fault : IfErr ended (λ fault. IsFaultOfExplain fault rules json p k script.bytes left.bytes)
-  pub read : FailsWhere failures (ended ≡ Err (explained.Play Read)) script left
+-- The explanation of a step of the run that a script leaves on the setup of this text ended so. The script's reader and
+-- the output are seen before and after.
+pub record IsExplained (json : List ℕ) (p : ℕ) (k : Option ℕ) (explained : Result (Unit {0}) ExplainFault) (script left old new : Stream) : Type 0 where
+  pub wrote : ExplainWrites contents failures explained old new (Explains rules json p k script.bytes left.bytes)
+  pub fault : IfErr explained (λ fault. IsFaultOfExplain fault rules json p k script.bytes left.bytes)
+  pub unread : (fault : SetupFault) → explained ≡ Err (Play (play.Setup fault)) → left ≡ script
+  pub read : FailsWhere failures (explained ≡ Err (Play play.Read)) script left
 
--- the bytes of a setup and of a script, and the step of the run that the script, of this name, leaves is explained
+-- the bytes of a setup and of a script, and a step of the run that the script, of this name, leaves is explained
 abbrev pub ExplainsBytes : List ℕ → ℕ → Option ℕ → Stream → Stream → Outcome → List (List ℕ) → Type 0
 ExplainsBytes name p k old new outcome (json ∷ script ∷ []) =
-    (ended : Result (Unit {0}) ExplainFault) × (left : Option (List ℕ)) × IsOfExplanation name ended outcome
-    × IsExplanation json p k ended (in_memory (Some script)) (in_memory left) old new
+    (explained : Result (Unit {0}) ExplainFault) × (left : Option (List ℕ)) × IsOfExplain name explained outcome
+    × IsExplained json p k explained (in_memory (Some script)) (in_memory left) old new
 ExplainsBytes name p k old new outcome others = ⊥
 
--- the file of the setup and then that of the script are read, and the step of the run that the script leaves is explained
+-- the file of the setup and then that of the script are read, and the step is explained
 abbrev pub ExplainsFiles : List ℕ → List ℕ → ℕ → Option ℕ → Seen → Seen → Outcome → Type 0
 ExplainsFiles setup script p k old new outcome =
     ReadsThen (setup ∷ script ∷ []) old new outcome (ExplainsBytes script p k old.output new.output outcome)

@@ -30,6 +30,10 @@ contents stream = stream.bytes
 abbrev pub failures : Stream → ℕ
 failures stream = stream.failures
 
+-- bytes in memory, of which no read fails
+abbrev pub in_memory : Option (List ℕ) → Stream
+in_memory bytes = record { bytes = bytes; failures = 0 }
+
 -- the bytes of the file of this name, where they are known
 abbrev pub content_of : FilesSeen → List ℕ → Option (List ℕ)
 content_of files name = option_map (λ file. file.1) (find (λ file. bytes_eq file.0 name) files.known)

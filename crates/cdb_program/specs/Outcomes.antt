@@ -1,7 +1,7 @@
 -- How requests end.
 use Rattle.std.specs.Prelude.{◌≡◌, ℕ, List, Result, Ok, Err}
 use Rattle.cdb_explain.specs.declared.fault.ExplainFault.{ExplainFault}
-use Rattle.cdb_explain.specs.declared.fault.ExplainFault.TheVariants as explained
+use Rattle.cdb_explain.specs.declared.fault.ExplainFault.TheVariants as explain
 use Rattle.cdb_play.specs.declared.fault.PlayFault.{PlayFault}
 use Rattle.cdb_play.specs.declared.fault.RaceFault.{RaceFault}
 use Rattle.cdb_program.specs.declared.fault.Fault.{Fault}
@@ -17,15 +17,15 @@ IsOfPlay name (Ok done) (Ok its_done) = Unit {0}
 IsOfPlay name (Err fault) (Err (Play its_fault its_name)) = (its_fault ≡ fault) × (its_name.now ≡ name)
 IsOfPlay name played outcome = ⊥
 
--- it ended as the explanation did: a fault of its play has the name of the script
-abbrev pub IsOfExplanation : List ℕ → Result (Unit {0}) ExplainFault → Outcome → Type 0
-IsOfExplanation name (Ok done) (Ok its_done) = Unit {0}
-IsOfExplanation name (Err explained.NoStep) (Err NoStep) = Unit {0}
-IsOfExplanation name (Err (explained.Play fault)) (Err (Play its_fault its_name)) = (its_fault ≡ fault) × (its_name.now ≡ name)
-IsOfExplanation name ended outcome = ⊥
-
 -- it ended as the race did
 abbrev pub IsOfRace : Result (Unit {0}) RaceFault → Outcome → Type 0
 IsOfRace (Ok done) (Ok its_done) = Unit {0}
 IsOfRace (Err fault) (Err (Race its_fault)) = its_fault ≡ fault
 IsOfRace raced outcome = ⊥
+
+-- it ended as the explanation did, whose fault of a play has the name of the script
+abbrev pub IsOfExplain : List ℕ → Result (Unit {0}) ExplainFault → Outcome → Type 0
+IsOfExplain name (Ok done) (Ok its_done) = Unit {0}
+IsOfExplain name (Err explain.NoStep) (Err NoStep) = Unit {0}
+IsOfExplain name (Err (explain.Play fault)) (Err (Play its_fault its_name)) = (its_fault ≡ fault) × (its_name.now ≡ name)
+IsOfExplain name explained outcome = ⊥

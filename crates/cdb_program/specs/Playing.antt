@@ -8,7 +8,7 @@ use Rattle.cdb_play.specs.declared.fault.PlayFault.{PlayFault}
 use Rattle.cdb_play.specs.declared.fault.PlayFault.TheVariants as play
 use Rattle.cdb_run.specs.Algorithms.{rules}
 use Rattle.cdb_setup.specs.declared.fault.SetupFault.{SetupFault}
-use Rattle.cdb_program.specs.Known.{Stream, Seen, contents, failures}
+use Rattle.cdb_program.specs.Known.{Stream, Seen, contents, failures, in_memory}
 use Rattle.cdb_program.specs.Outcomes.{Outcome, IsOfPlay}
 use Rattle.cdb_program.specs.Reading.{ReadsThen}
 
@@ -30,10 +30,6 @@ PlaysInput old new outcome =
     (new.files ≡ old.files)
     × ((played : Result (Unit {0}) PlayFault) × IsOfPlay (codes "standard input") played outcome
     × IsPlay one_process played old.input new.input old.output new.output)
-
--- bytes in memory, of which no read fails
-abbrev pub in_memory : Option (List ℕ) → Stream
-in_memory bytes = record { bytes = bytes; failures = 0 }
 
 -- the bytes of a setup and of a script, and the script, of this name, is played on the setup
 abbrev pub PlaysBytes : List ℕ → Stream → Stream → Outcome → List (List ℕ) → Type 0

@@ -1,17 +1,17 @@
-//! Explanations of what is outside.
+//! Explanations of steps, of what is outside.
 
-ghost use Rattle.cdb_program.specs.Explaining.{ExplainsFiles};
 ghost use Rattle.std.specs.Prelude.{◌≡◌};
+ghost use Rattle.cdb_program.specs.Explaining.{ExplainsFiles};
 
-use crate::fault::{Fault, of_explanation};
+use crate::fault::{Fault, of_explain};
 use crate::files::{Files, read_two};
 use crate::outside::Outside;
 use cdb_explain::explain;
 use cdb_play::{Bytes, Sink, Source};
 use std::alloc::Global;
 
-/// Explains the `k`-th standing step of process `p`, without `k` its last one, of the run that a script file leaves on
-/// a setup file.
+/// Explains a step of the run that a script file leaves on a setup file: the `k`-th standing step of process `p`;
+/// without `k` its last one.
 pub fn explain_files<'a, F: Files + Drop, I: Source + Drop, O: Sink + Drop, E: Sink + Drop>(
     alloc: Global,
     setup: &'a str,
@@ -26,7 +26,7 @@ pub fn explain_files<'a, F: Files + Drop, I: Source + Drop, O: Sink + Drop, E: S
 {
     let (json, bytes) = read_two(alloc, &mut outside.files, setup, script)?;
     let mut commands = Bytes::new(bytes.as_slice());
-    let ended = explain(
+    let explained = explain(
         alloc,
         json.as_slice(),
         &mut commands,
@@ -34,5 +34,5 @@ pub fn explain_files<'a, F: Files + Drop, I: Source + Drop, O: Sink + Drop, E: S
         k,
         &mut outside.output,
     );
-    of_explanation(ended, script)
+    of_explain(explained, script)
 }

@@ -1,6 +1,6 @@
 //! Why a request was not carried out to its end.
 
-ghost use Rattle.cdb_program.specs.Outcomes.{IsOfPlay, IsOfRace, IsOfExplanation};
+ghost use Rattle.cdb_program.specs.Outcomes.{IsOfExplain, IsOfPlay, IsOfRace};
 
 use cdb_explain::ExplainFault;
 use cdb_play::{PlayFault, RaceFault};
@@ -11,7 +11,7 @@ pub enum Fault<'a> {
     /// A fault of a play, or of what was to be read for a play or a race, which has this name.
     Play(PlayFault, &'a str),
     Race(RaceFault),
-    /// The step that was to be explained does not stand.
+    /// The step that was to be explained doesn't stand.
     NoStep,
     /// A race of more than 64 processes and scripts.
     TooManySeats,
@@ -29,17 +29,6 @@ pub fn of_play<'a>(played: Result<(), PlayFault>, name: &'a str) -> Result<(), F
     }
 }
 
-/// How a request ended that was an explanation, for the script of this name.
-pub fn of_explanation<'a>(ended: Result<(), ExplainFault>, name: &'a str) -> Result<(), Fault<'a>>
-    ensures { IsOfExplanation name.entry.now ended result }
-{
-    match ended {
-        Ok(()) => Ok(()),
-        Err(ExplainFault::NoStep) => Err(Fault::NoStep),
-        Err(ExplainFault::Play(fault)) => Err(Fault::Play(fault, name)),
-    }
-}
-
 /// How a request ended that was a race.
 pub fn of_race<'a>(raced: Result<(), RaceFault>) -> Result<(), Fault<'a>>
     ensures { IsOfRace raced result }
@@ -47,5 +36,16 @@ pub fn of_race<'a>(raced: Result<(), RaceFault>) -> Result<(), Fault<'a>>
     match raced {
         Ok(()) => Ok(()),
         Err(fault) => Err(Fault::Race(fault)),
+    }
+}
+
+/// How a request ended that explained a step of the run that the script of this name leaves.
+pub fn of_explain<'a>(explained: Result<(), ExplainFault>, name: &'a str) -> Result<(), Fault<'a>>
+    ensures { IsOfExplain name.entry.now explained result }
+{
+    match explained {
+        Ok(()) => Ok(()),
+        Err(ExplainFault::NoStep) => Err(Fault::NoStep),
+        Err(ExplainFault::Play(fault)) => Err(Fault::Play(fault, name)),
     }
 }

@@ -8,7 +8,7 @@ ghost use Rattle.cdb_play.specs.Streams.{Writes};
 use crate::fault::Fault;
 use cdb_play::{Failed, Sink, race_status_of, status_of, write_all, write_fault, write_race_fault};
 
-/// The status after a step that does not stand.
+/// The status after a step that doesn't stand.
 const NO_STEP: u8 = 1;
 
 /// The status after arguments that can't be carried out.

@@ -32,8 +32,8 @@ pub enum Request<'a> {
         turns: u32,
         scripts: &'a [&'a str],
     },
-    /// Explains the `k`-th standing step of process `p`, without `k` its last one, of the run that a script file leaves
-    /// on a setup file.
+    /// Explains a step of the run that a script file leaves on a setup file: the `k`-th standing step of process `p`,
+    /// or without `k` its last one.
     Explain {
         setup: &'a str,
         script: &'a str,

@@ -23,7 +23,7 @@ IsRace setup turns scripts (Race its_setup its_turns its_scripts) =
     (its_setup.now ≡ setup) × (its_turns ≡ turns) × (texts its_scripts.now ≡ scripts)
 IsRace setup turns scripts request = ⊥
 
--- an explanation of this step of the run of these two files
+-- the explanation of this step of the run of these two files
 abbrev pub IsExplain : Text → Text → ℕ → Option ℕ → Request → Type 0
 IsExplain setup script p k (Explain its_setup its_script its_p its_k) =
     (its_setup.now ≡ setup) × (its_script.now ≡ script) × (its_p ≡ p) × (its_k ≡ k)

@@ -25,7 +25,8 @@ pub fn no_memory() -> Request<'static>
 
 /// The request for what was asked for.
 fn request_of<'a>(asked: &'a Asked<'a>) -> Request<'a>
-    ensures { IsRequestOf asked.now result }
+    ensures request { IsRequestOf asked.now result }
+    ensures turns { (found : Option (Text × List Row)) → Asks found asked.now → HasTurns result }
 {
     match asked {
         Asked::Script => Request::Script,

@@ -13,7 +13,7 @@ pub returns-clause-does : goal.returns-clause-does
 returns-clause-does g c =
     let json = c.in_ok-json.json.items in
     let bytes = c.in_ok-json.bytes.items in
-    let said = c.explain-ended.ensures in
+    let said = c.explain-explained.ensures in
     let json_is : c.as_slice-2.result.now ≡ json = c.as_slice-2.ensures.value in
     let bytes_is : c.new-commands.result.rest.now ≡ bytes = ap (λ (b : Bor (List ℕ)). b.now) c.new-commands.ensures ∙ c.as_slice.ensures.value in
     rw (← c.outside.view_is) (
@@ -22,11 +22,11 @@ returns-clause-does g c =
         json ∷ bytes ∷ [],
         c.in_ok-json.ensures.read,
         (
-          c.explain-ended.result,
-          Some c.explain-ended.new.script.rest.now,
-          c.of_explanation.ensures,
+          c.explain-explained.result,
+          Some c.explain-explained.new.script.rest.now,
+          c.of_explain.ensures,
           rw (← json_is, ← bytes_is)
-              (explain_seen (λ (b : Bytes). Some b.rest.now) (λ (b : Bytes). 0) g.O.Sink.contents g.O.Sink.failures c.as_slice-2.result.now c.args.p c.args.k c.explain-ended.result c.new-commands.result c.explain-ended.new.script _ _ said.wrote said.fault said.read),
+              (explain_seen (λ (b : Bytes). Some b.rest.now) (λ (b : Bytes). 0) g.O.Sink.contents g.O.Sink.failures c.as_slice-2.result.now c.args.p c.args.k c.explain-explained.result c.new-commands.result c.explain-explained.new.script _ _ said.wrote said.fault said.unread said.read),
         ),
       ),
     )
