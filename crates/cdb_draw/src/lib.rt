@@ -12,6 +12,3 @@ mod sends;
 pub mod style;
 
 pub use draws::draw_run;
-
-#[cfg(test)]
-mod tests;
