@@ -1,6 +1,9 @@
 //! Out of memory in a play and in a race: nothing of a short transcript was written, and the same call with memory writes
 //! it all. To see it, let each allocation of these tests fail in turn.
 
+ghost use Rattle.std.specs.Prelude.{IfOk};
+ghost use Rattle.cdb_setup.specs.Format.{StandsFor};
+
 use super::Memory;
 use super::setups::{MAJORITY, ONE_PROCESS};
 use cdb_play::{Bytes, PlayFault, RaceFault, fits, play, race};
@@ -85,24 +88,27 @@ fn scripts_of_race(alloc: Global) -> Result<Vec<Vec<u8>>, AllocError> {
 }
 
 /// The setup, read once more where an allocation fails.
-fn setup_at_last(alloc: Global) -> Result<Setup, SetupFault> {
-    match Setup::read(alloc, ONE_PROCESS.as_bytes()) {
+fn setup_at_last(alloc: Global, text: &[u8]) -> Result<Setup, SetupFault>
+    ensures { IfOk result (λ setup. StandsFor text.now setup) }
+{
+    match Setup::read(alloc, text) {
         Ok(setup) => Ok(setup),
-        Err(_) => Setup::read(alloc, ONE_PROCESS.as_bytes()),
+        Err(_) => Setup::read(alloc, text),
     }
 }
 
 /// Runs the race, where it has seats enough.
 fn race_once<R: Threads + Wait + Sync + AllocGlobal>(
     rt: &R,
+    setup: &[u8],
     scripts: &[Vec<u8>],
     out: &mut Memory,
 ) -> Result<(), RaceFault> {
-    let setup = setup_at_last(rt.alloc())?;
-    if !fits(&setup, scripts.len()) {
+    let parts = setup_at_last(rt.alloc(), setup)?;
+    if !fits(&parts, scripts.len()) {
         return Ok(());
     }
-    race(rt, rt.alloc(), ONE_PROCESS.as_bytes(), 0, scripts, out)
+    race(rt, rt.alloc(), setup, 0, scripts, out)
 }
 
 /// Runs the race, and once more where memory was out or a thread was not started, which has written nothing.
@@ -111,12 +117,12 @@ fn race_at_last<R: Abort + Threads + Wait + Sync + AllocGlobal>(
     scripts: &[Vec<u8>],
     out: &mut Memory,
 ) -> Result<(), RaceFault> {
-    let Err(fault) = race_once(rt, scripts, out) else {
+    let Err(fault) = race_once(rt, ONE_PROCESS.as_bytes(), scripts, out) else {
         return Ok(());
     };
     assert!(rt; fault == RaceFault::NoMemory || fault == RaceFault::Spawn);
     assert_eq!(rt; out.held.len(), 0);
-    race_once(rt, scripts, out)
+    race_once(rt, ONE_PROCESS.as_bytes(), scripts, out)
 }
 
 #[test]
