@@ -37,7 +37,7 @@ module _ (prompt : List ℕ) (setup : Parts) where
     pub answered : IsDialogue prompt setup (lines_of (read_in moves)) (written_in moves)
     pub ended : HasEnded moves
 
-  -- the first of the lines are answered in full, and the others not at all; or nothing was written
+  -- the first of the lines are answered in full, and the others not at all
   pub record IsCutShort (moves : List Move) : Type 0 where
     pub lines : List (List ℕ)
     pub others : List (List ℕ)

@@ -31,7 +31,7 @@ fn a_read_that_fails(rt: HostRuntime) -> Result<(), Fail> {
 }
 
 #[test]
-fn a_write_that_fails(rt: HostRuntime) -> Result<(), Fail> {
+fn a_write_that_fails(rt: HostRuntime) {
     // A byte is written at a time.
     for good_writes in 0..53 {
         let mut talk = at_prompt(&rt, LINES, 1);
@@ -40,10 +40,9 @@ fn a_write_that_fails(rt: HostRuntime) -> Result<(), Fail> {
             debug(rt.alloc(), ONE_PROCESS, b"> ", &mut talk),
             Err(PlayFault::Write)
         );
-        let said = str::from_utf8(talk.said.as_slice())?;
-        assert_eq!(rt; said, &ANSWERS[..good_writes]);
+        assert_eq!(rt; talk.said.len(), good_writes);
+        assert!(rt; ANSWERS.as_bytes().starts_with(talk.said.as_slice()));
     }
-    Ok(())
 }
 
 #[test]
