@@ -77,7 +77,7 @@ after s request =
 
 -- ---- all lines
 
--- The answers, and what else is shown: the prompt stands before each line, and so behind each answer but that to `quit`.
+-- The answers, and what else is shown: the prompt stands before each line, and so after each answer but that to `quit`.
 module _ (prompt : List ℕ) where
   abbrev pub shown : Session → Request → List ℕ
   shown s Quit = answer_to s Quit

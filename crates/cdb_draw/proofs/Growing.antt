@@ -16,7 +16,7 @@ each_more f a n =
     ap (λ (k : ℕ). flat_map f (range_with_len a k)) next ∙ ap (flat_map f) (range_more a n) ∙ flat_map-append f (range_with_len a n) ((a + n) ∷ [])
     ∙ ap (λ (t : List ℕ). flat_map f (range_with_len a n) ++ t) (append-nil (f (a + n)))
 
--- the same behind what was there before
+-- the same after what was there before
 pub text_more : (f : ℕ → List ℕ) (a n p : ℕ) (start now later : List ℕ) → p ≡ a + n → now ≡ start ++ flat_map f (range_with_len a n) → later ≡ now ++ f p → later ≡ start ++ flat_map f (range_with_len a (n + 1))
 text_more f a n p start now later is so more =
     let all = flat_map f (range_with_len a n) in

@@ -19,7 +19,7 @@ unfoldable pub algorithm_text : Algorithm → List ℕ
 algorithm_text Leader = codes "leader"
 algorithm_text Alpha = codes "alpha"
 
--- so many millimetres wide and high, and the same in units, four to a millimetre
+-- the width and the height in millimetres, and the same in units, four to a millimetre
 unfoldable pub size_text : ℕ → ℕ → ℕ → ℕ → List ℕ
 size_text w h across down =
     codes "width='" ++ decimal w ++ codes "mm' height='" ++ decimal h

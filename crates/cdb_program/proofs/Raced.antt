@@ -19,7 +19,7 @@ use Rattle.cdb_program.specs.Racing.{IsRace}
 use Rattle.cdb_program.specs.Streaming.{stream_of}
 use Rattle.cdb_program.proofs.Seen.{race_wrote}
 
--- the race ran on the setup that the text stands for
+-- the race ran on the setup that the text encodes
 pub race_seen : {W : Type 0} (held : W → Option (List ℕ)) (failed : W → ℕ) (json : List ℕ) (turns : ℕ) (parts : Parts) (scripts : List (List ℕ)) (raced : Result (Unit {0}) RaceFault) (old new : W) → StandsFor json parts
     → ((other : Parts) → StandsFor json other → parts ≡ other) → parts.processes + length scripts ≤ 64 → RaceWrites held failed raced old new (IsTextOnSetup parts turns scripts)
     → (HasMajorityIfNeeded parts → AgreesAtEnd held failed raced old new) → IfErr raced (λ fault. IsFaultOnSetup fault parts scripts) → IfErr raced (IsUnstoppedOnSetup parts turns scripts)
@@ -45,7 +45,7 @@ race_unread json turns scripts fault out said only = record {
   told = unstopped_of_setup json turns scripts fault;
 }
 
--- what was read is the only setup that the text stands for
+-- what was read is the only setup that the text encodes
 pub memory_alone : (read : Result Parts SetupFault) (fault : SetupFault) (parts : Parts) → read ≡ Err fault → (read ≡ Ok parts) ⊎ (read ≡ Err setup.NoMemory) → fault ≡ setup.NoMemory
 memory_alone read fault parts is (inl e) = absurd cc
 memory_alone read fault parts is (inr e) = cc
