@@ -1,4 +1,4 @@
--- The direct causes of an event hang on nothing that stands behind it.
+-- The direct causes of an event depend on nothing that stands after it.
 use Rattle.std.proofs.Common.{◌≡◌, ℕ, zero, suc, ◌+◌, ◌<◌, Bool, true, ◌↔◌, List, [], ◌∷◌, ◌++◌, length, Some, slice_get, take, drop, refl, sym, ap, ◌∙◌, subst, arith}
 use Rattle.std.proofs.lemmas.Option.{same_Some, none-some}
 use Rattle.std.proofs.lemmas.List.{length_push, drop-take}
