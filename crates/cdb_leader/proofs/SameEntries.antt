@@ -2,7 +2,7 @@
 use Rattle.std.proofs.Common.{rules, ◌≡◌, ◌↔◌, true, List, IsTrue, subst}
 use Rattle.std.specs.Cmp.Lexicographic.{pointwise, pointwise_decides}
 use Rattle.cdb_leader.specs.declared.inbox.Received.{Received}
-use Rattle.cdb_leader.specs.contracts.inbox.EntryPartialEq.TheImpl as entries
+use Rattle.cdb_leader.specs.contracts.inbox.ReceivedPartialEq.TheImpl as entries
 
 entry_true : (x y : Received) → entries.eq-value.it x y ≡ true → x ≡ y
 entry_true x y h = search rules
