@@ -1,6 +1,6 @@
 //! The direct causes of an event of a history.
 
-ghost use Rattle.std.specs.Prelude.{◌≡◌, ℕ, ◌+◌, ◌-◌, ◌<◌, ◌≤◌, ◌↔◌, None, Some, length, get_or, MatchOption, IsTrue, true};
+ghost use Rattle.std.specs.Prelude.{◌≡◌, ℕ, ◌+◌, ◌-◌, ◌<◌, ◌≤◌, ◌↔◌, None, Some, length, slice_get, get_or, MatchOption, IsTrue, true};
 ghost use Rattle.cdb_base.specs.declared.name.StepId.{StepId as AName};
 ghost use Rattle.cdb_causal.specs.Causality.{IsLink};
 ghost use Rattle.cdb_causal.specs.Dependence.{depends as depends_of};
@@ -37,8 +37,8 @@ fn is_cause(event: &Event, effect: &Event, slot: usize) -> bool
 
 /// The place of the last event in a slot on which the one at place `j` depends. All such places are
 /// below the end.
-fn last_cause(history: &History, j: usize, slot: usize, end: usize) -> Option<usize>
-    requires within { j < length history.now }
+fn last_cause(history: &History, effect: &Event, j: usize, slot: usize, end: usize) -> Option<usize>
+    requires at { slice_get history.now j ≡ Some effect.now }
     requires end { (i : ℕ) (l : IsLink depends_of history.now i j) → IsSlot l.cause slot →
         i < end }
     ensures { MatchOption result (IsNoCause history.now j slot)
@@ -46,7 +46,6 @@ fn last_cause(history: &History, j: usize, slot: usize, end: usize) -> Option<us
 {
     for i in (0..end.min(j)).rev() {
         let event = history.event(i);
-        let effect = history.event(j);
         if is_cause(event, effect, slot) {
             return Some(i);
         }
@@ -89,9 +88,11 @@ fn last_causes(history: &History, j: usize) -> [Option<usize>; SLOTS]
     ensures last { AreLastCauses history.now j 10 result }
     ensures below { (slot i : ℕ) → get_or result slot None ≡ Some i → i < j }
 {
+    let effect = history.event(j);
     let mut causes = [None; SLOTS];
     for slot in 0..SLOTS {
-        causes[slot] = last_cause(history, j, slot, history.end_of_causes(j, slot));
+        let end = history.end_of_causes(effect, slot);
+        causes[slot] = last_cause(history, effect, j, slot, end);
     }
     causes
 }

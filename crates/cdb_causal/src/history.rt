@@ -17,6 +17,9 @@ use cdb_log::Log;
 use std::alloc::Global;
 use std::marker::Model;
 
+/// A mark above those of all events.
+const ABOVE_ALL: usize = usize::MAX;
+
 /// The standing events, each under a name of its own. A contract sees their list. Places count
 /// from 1.
 #[derive(Drop)]
@@ -131,15 +134,13 @@ impl History {
         self.events.get(i)
     }
 
-    /// A place, from 0, above all events in a slot on which the event at place `j` depends.
-    pub(crate) fn end_of_causes(&self, j: usize, slot: usize) -> usize
-        requires within { j < length self.now }
-        requires slot { slot < 10 }
-        ensures { (i : ℕ) (l : IsLink depends_of self.now i j) → IsSlot l.cause slot →
-            i < result }
+    /// A place, from 0, above all events in a slot on which the effect depends, where it stands.
+    pub(crate) fn end_of_causes(&self, effect: &Event, slot: usize) -> usize
+        requires { slot < 10 }
+        ensures { (i j : ℕ) (l : IsLink depends_of self.now i j) →
+            slice_get self.now j ≡ Some effect.now → IsSlot l.cause slot → i < result }
     {
-        let mark = self.events.mark_of(j);
-        let bound = self.bounds.end(self.events.get(j), mark, slot);
+        let bound = self.bounds.end(effect, ABOVE_ALL, slot);
         self.events.place_above(bound)
     }
 
@@ -151,10 +152,9 @@ impl History {
         ensures { (k : ℕ) → IsLink depends_of self.now i k → IsLink depends_of self.now k j →
             k < result }
     {
-        let mark = self.events.mark_of(j);
-        let bound = self
-            .bounds
-            .end_between(self.events.get(i), self.events.get(j), mark);
+        let cause = self.events.get(i);
+        let effect = self.events.get(j);
+        let bound = self.bounds.end_between(cause, effect, ABOVE_ALL);
         self.events.place_above(bound)
     }
 

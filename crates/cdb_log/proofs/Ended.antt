@@ -80,18 +80,6 @@ module _ {T Z : Type 0} where
     pub small_piece : (k : ℕ) (v : Vec T Z) → k < length pieces → v ≡ get_or pieces k v → length v.items ≤ 128
     small_piece k v within is = let step = before_step (lists pieces) k v.items (lists_at pieces k v within is) in let s = h.small k in omega arith
 
-    pub marked : (place k i : ℕ) → IsSpot ends place k i → k * 128 + i ≡ mark (lists pieces) place
-    marked place k i spot =
-        let same = h.same_length in
-        let long = lists_long pieces in
-        let in_ends = spot.within in
-        let is_place = spot.is_place in
-        let high = spot.high in
-        let s = start_is k (omega arith) in
-        let e = h.each k (omega arith) in
-        let m = mark_at (lists pieces) k place (omega arith) (omega arith) (omega arith) in
-        omega arith
-
     -- below the place of a bound stand the items whose marks are below the bound
     pub all_marked : (bound i : ℕ) → 128 * length pieces ≤ bound → i < length (joined (lists pieces)) → mark (lists pieces) i < bound
     all_marked bound i past less =
@@ -103,6 +91,9 @@ module _ {T Z : Type 0} where
         let small = h.small a.k in
         let m = mark_at (lists pieces) a.k i a.within a.low a.high in
         omega arith
+
+    pub marks_small : (i : ℕ) → i < length (joined (lists pieces)) → mark (lists pieces) i < 18446744073709551615
+    marks_small i less = let few = h.few in let m = all_marked (128 * length pieces) i (omega arith) less in omega arith
 
     pub place_marked : (k extra i : ℕ) → k < length pieces → extra < 128 → i < length (joined (lists pieces))
         → ((i < slice_index ends k) × (i < start ends k + extra)) ↔ (mark (lists pieces) i < 128 * k + extra)

@@ -65,7 +65,8 @@ impl<T: Drop> Log<T> {
     pub fn len(&self) -> usize
         ensures { result ≡ length (joined self.now) }
     {
-        start_of(&self.ends, self.ends.len())
+        let count = self.ends.len();
+        start_of(&self.ends, count)
     }
 
     /// Whether there is no item.
@@ -85,21 +86,14 @@ impl<T: Drop> Log<T> {
         &piece[i]
     }
 
-    /// The mark of the item at a place. It is above the marks of all earlier items.
-    pub fn mark_of(&self, place: usize) -> usize
-        requires { place < length (joined self.now) }
-        ensures mark { result ≡ mark self.now place }
-        ensures above { (i : ℕ) → i < place → mark self.now i < result }
-    {
-        let (k, i) = spot_of(&self.ends, place);
-        k * PIECE + i
-    }
-
-    /// How many items have a mark below the bound.
+    /// How many items have a mark below the bound: those before the result. No mark is as high as the
+    /// greatest number.
     pub fn place_above(&self, bound: usize) -> usize
         ensures within { result ≤ length (joined self.now) }
         ensures marks { (i : ℕ) → i < length (joined self.now) →
             (i < result) ↔ (mark self.now i < bound) }
+        ensures small { (i : ℕ) → i < length (joined self.now) →
+            mark self.now i < 18446744073709551615 }
     {
         let k = bound / PIECE;
         if k >= self.ends.len() {

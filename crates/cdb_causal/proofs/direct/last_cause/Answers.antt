@@ -1,4 +1,4 @@
-use Rattle.std.proofs.Common.{◌≡◌, ℕ, ◌-◌, ◌<◌, ◌≤◌, List, length, sym, subst, ◌∙◌, true≢false, arith, slice_get, Some}
+use Rattle.std.proofs.Common.{◌≡◌, ℕ, ◌-◌, ◌<◌, ◌≤◌, List, sym, subst, ◌∙◌, true≢false, arith, slice_get, Some}
 use Rattle.std.proofs.lemmas.Option.{same_Some}
 use Rattle.cdb_base.specs.declared.event.Event.{Event}
 use Rattle.cdb_causal.specs.Dependence.{depends}
@@ -22,12 +22,11 @@ returns-then-is_cause c =
     let least = c.min-i.ensures in
     let test = c.loop-i-test.true in
     let later : i < c.args.j = omega arith in
-    let within : i < length events = omega arith in
     let at_i = c.event-event.ensures in
-    let at_j = c.event-effect.ensures in
+    let at_j = c.requires.at in
     let h = c.is_cause.ensures.0 c.if-is_cause.true in
     record {
-      link = link_at depends events i c.args.j c.event-event.result.now c.event-effect.result.now later at_i at_j h.1;
+      link = link_at depends events i c.args.j c.event-event.result.now c.args.effect.now later at_i at_j h.1;
       has_slot = h.0;
       last = λ k l in_slot. above_suc i k (λ less. c.loop-i.invariant k l (let n : c.loop-i.i ≤ k = omega arith in n) in_slot);
     }
@@ -40,9 +39,8 @@ loop-i-preserved c =
     let before = c.loop-i.auto.i in
     let test = c.loop-i-test.true in
     let later : i < c.args.j = omega arith in
-    let within : i < length events = omega arith in
     let at_i = c.event-event.ensures in
-    let at_j = c.event-effect.ensures in
+    let at_j = c.requires.at in
     λ k l low in_slot.
     below_or_at k c.loop-i.i low c.loop-i-test.true
     (λ above. c.loop-i.invariant k l above in_slot)

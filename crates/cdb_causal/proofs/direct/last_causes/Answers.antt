@@ -7,7 +7,7 @@ use Rattle.cdb_causal.proofs.direct.last_causes.Goals as goal
 
 pub last_cause-requires-clause-end : goal.last_cause-requires-clause-end
 last_cause-requires-clause-end c =
-    c.end_of_causes.ensures
+    λ i l in_slot. c.end_of_causes-end.ensures i c.args.j l c.event-effect.ensures in_slot
 
 this_or_below : (k n : ℕ) → k < n + 1 → (k ≡ n) ⊎ (k < n)
 this_or_below k n h = grind arith

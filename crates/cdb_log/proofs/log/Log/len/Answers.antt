@@ -6,5 +6,5 @@ use Rattle.cdb_log.proofs.log.Log.len.Goals as goal
 
 pub returns : goal.returns
 returns g c =
-    c.start_of.ensures ∙ ap (start c.deref.result.now) (c.len.ensures ∙ sym c.deref.ensures.len) ∙ ap (λ l. start l (length l)) c.deref.ensures.value
+    c.start_of.ensures ∙ ap (start c.deref.result.now) (c.len-count.ensures ∙ sym c.deref.ensures.len) ∙ ap (λ l. start l (length l)) c.deref.ensures.value
     ∙ total c.self.inside.pieces.items c.self.inside.ends.items c.self.invariant ∙ ap (λ l. length (joined l)) c.self.view_is

@@ -4,7 +4,7 @@ use Rattle.cdb_log.specs.Ends.{start}
 use Rattle.cdb_log.specs.Marks.{mark}
 use Rattle.cdb_log.specs.Pieces.{joined, lists}
 use Rattle.cdb_log.proofs.Counting.{before_most}
-use Rattle.cdb_log.proofs.Ended.{all_marked, place_marked, start_is, bounded}
+use Rattle.cdb_log.proofs.Ended.{all_marked, marks_small, place_marked, start_is, bounded}
 use Rattle.cdb_log.proofs.log.Log.place_above.Goals as goal
 
 pub returns-then-k-len-clause-marks : goal.returns-then-k-len-clause-marks
@@ -70,3 +70,15 @@ returns-clause-marks g c =
       λ q. (let m = p.0 ((let a : i < slice_index ends (bound / 128) = omega arith in a), (let b : i < start ends (bound / 128) + bound % 128 = omega arith in b)) in omega arith),
       λ q. (let m = p.1 (omega arith) in let a = m.0 in let b = m.1 in omega arith),
     )
+
+pub returns-then-k-len-clause-small : goal.returns-then-k-len-clause-small
+returns-then-k-len-clause-small g c =
+    λ i less.
+    subst (λ l. mark l i < 18446744073709551615) c.self.view_is
+    (marks_small c.self.inside.pieces.items c.self.inside.ends.items c.self.invariant i (subst (λ l. i < length (joined l)) (sym c.self.view_is) less))
+
+pub returns-clause-small : goal.returns-clause-small
+returns-clause-small g c =
+    λ i less.
+    subst (λ l. mark l i < 18446744073709551615) c.self.view_is
+    (marks_small c.self.inside.pieces.items c.self.inside.ends.items c.self.invariant i (subst (λ l. i < length (joined l)) (sym c.self.view_is) less))
