@@ -6,7 +6,7 @@ use Rattle.cdb_log.specs.Pieces.{joined, before}
 use Rattle.cdb_log.proofs.Counting.{before_step, before_all}
 
 module _ {T : Type 0} where
-  -- what stands at a place behind some items, and before some
+  -- what stands at a place after some items, and before some
   pub slice_get-past : (xs zs : List T) (n i : ℕ) → n ≡ length xs + i → slice_get (xs ++ zs) n ≡ slice_get zs i
   slice_get-past [] zs n i e = ap (slice_get zs) (omega (arith, e))
   slice_get-past (x ∷ xs) zs zero i e = absurd (omega arith)
