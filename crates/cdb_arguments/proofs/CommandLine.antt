@@ -20,7 +20,7 @@ program_is_free = refl
 
 abbrev IsOne : Shape → Type 0
 IsOne shape = (shape.name ≡ codes "play") ⊎ ((shape.name ≡ codes "race")
-    ⊎ ((shape.name ≡ codes "explain") ⊎ (shape.name ≡ codes "draw")))
+    ⊎ ((shape.name ≡ codes "explain") ⊎ ((shape.name ≡ codes "draw") ⊎ (shape.name ≡ codes "debug"))))
 
 found_is_one : (subs : List Shape) (test : Shape → Bool) (rest : List Text) → AllByRecursion IsOne subs → NamesOne (option_map (λ s. rows_at s rest) (find test subs))
 found_is_one [] test rest all = tt

@@ -8,7 +8,7 @@ use Rattle.clap.specs.declared.error.kind.ErrorKind.TheVariants.{DisplayHelp, Di
 use Rattle.cdb_arguments.specs.declared.request.AskFault.{AskFault}
 use Rattle.cdb_arguments.specs.declared.request.AskFault.TheVariants.{Words, NoMemory}
 use Rattle.cdb_arguments.specs.declared.request.Asked.{Asked}
-use Rattle.cdb_arguments.specs.declared.request.Asked.TheVariants.{Script, Play, Race, Explain, Draw}
+use Rattle.cdb_arguments.specs.declared.request.Asked.TheVariants.{Script, Play, Race, Explain, Draw, Debug}
 use Rattle.cdb_arguments.specs.Plain.{Writes}
 
 -- the texts of the arguments
@@ -19,7 +19,7 @@ texts = map (λ text. text.now)
 abbrev pub NamesOne : Option (Text × List Row) → Type 0
 NamesOne None = Unit {0}
 NamesOne (Some found) = (found.0 ≡ codes "play") ⊎ ((found.0 ≡ codes "race")
-    ⊎ ((found.0 ≡ codes "explain") ⊎ (found.0 ≡ codes "draw")))
+    ⊎ ((found.0 ≡ codes "explain") ⊎ ((found.0 ≡ codes "draw") ⊎ (found.0 ≡ codes "debug"))))
 
 -- the text of an argument, which is empty where the matches have none
 abbrev pub text_at : Text → List Row → Text
@@ -60,6 +60,9 @@ Asks found (Explain setup script p k) =
 Asks found (Draw setup script p k) =
     (rows : List Row) × (found ≡ Some (codes "draw", rows)) × (setup.now ≡ text_at (codes "SETUP") rows) × (script.now ≡ text_at (codes "SCRIPT") rows)
     × IsNumberAt (codes "P") rows p × IsNumberAt (codes "K") rows k
+Asks found (Debug setup seats) =
+    (rows : List Row) × (found ≡ Some (codes "debug", rows)) × (setup.now ≡ text_at (codes "SETUP") rows)
+    × (map (λ seat. seat.now) seats.items ≡ texts_at (codes "SEAT") rows)
 
 -- a play of these two files
 abbrev pub IsPlayOf : Text → Text → Asked → Type 0
@@ -83,6 +86,11 @@ abbrev pub IsDrawOf : Text → Text → Option ℕ → Option ℕ → Asked → 
 IsDrawOf setup script p k (Draw its_setup its_script its_p its_k) =
     (its_setup.now ≡ setup) × (its_script.now ≡ script) × (its_p ≡ p) × (its_k ≡ k)
 IsDrawOf setup script p k asked = ⊥
+
+-- a session for each of these seats, in this order
+abbrev pub IsDebugOf : Text → List Text → Asked → Type 0
+IsDebugOf setup seats (Debug its_setup its_seats) = (its_setup.now ≡ setup) × (texts its_seats.items ≡ seats)
+IsDebugOf setup seats asked = ⊥
 
 -- what was asked for, or no memory to say it
 abbrev pub IsAnswer : Result Asked AskFault → (Asked → Type 0) → Type 0

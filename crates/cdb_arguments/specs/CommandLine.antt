@@ -45,6 +45,10 @@ explain_app = on_files (codes "explain") (numbered (required_rule (codes "P")) �
 abbrev pub draw_app : App
 draw_app = on_files (codes "draw") (numbered (new_rule (codes "P")) ∷ numbered (new_rule (codes "K")) ∷ [])
 
+-- `debug SETUP [SEAT..]`
+abbrev pub debug_app : App
+debug_app = with_arguments (codes "debug") (required_rule (codes "SETUP") ∷ several (new_rule (codes "SEAT")) ∷ [])
+
 -- the program with these subcommands too
 abbrev pub with_subcommands : App → List App → App
 with_subcommands = fold (λ app sub. with_subcommand app sub.top)
@@ -55,4 +59,4 @@ playing = with_subcommands (on_top (λ s. record s { has_version = true; disable
 
 -- the program with its subcommands
 unfoldable pub program : App
-program = with_subcommands playing (explain_app ∷ draw_app ∷ [])
+program = with_subcommands playing (explain_app ∷ draw_app ∷ debug_app ∷ [])

@@ -62,3 +62,7 @@ IsExplainLine words setup script p k =
 abbrev pub IsDrawLine : List Text → Text → Text → Option ℕ → Option ℕ → Type 0
 IsDrawLine words setup script p k =
     (texts : List Text) × WritesStep texts p k × IsLineOf (codes "draw") (setup ∷ script ∷ texts) words
+
+-- `debug SETUP [SEAT..]`, with as many seats as a machine's word counts
+abbrev pub IsDebugLine : List Text → Text → List Text → Type 0
+IsDebugLine words setup seats = IsLineOf (codes "debug") (setup ∷ seats) words × (length seats ≤ usize_max)

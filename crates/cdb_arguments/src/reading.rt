@@ -3,9 +3,9 @@
 ghost use Rattle.std.specs.Prelude.{◌≡◌, ◌∷◌, ℕ, List, Option, IfOk, OnOk, IfErr, [], false, true, map, codes};
 ghost use Rattle.clap.specs.Words.{Kinds, Text, HasKind, app_of, new_rule, rule_of, fault_of, found_of, kind_of, rows_of, subcommand_of, subcommand_rows_of, takes};
 ghost use Rattle.clap.specs.declared.builder.command.Command.TheViews.{out-Command};
-ghost use Rattle.cdb_arguments.specs.CommandLine.{required_rule, turns_rule, numbered, several, on_files, play_app, race_app, explain_app, draw_app, playing, program};
-ghost use Rattle.cdb_arguments.specs.Asking.{NamesOne, IsTurns, IsNumber, IsNumberAt, text_at, texts, texts_at, Asks, IsOfKinds, IsAnswer, IsPlayOf, IsRaceOf, IsExplainOf, IsDrawOf, ask_status_of, words_status};
-ghost use Rattle.cdb_arguments.specs.Plain.{IsNameAlone, IsPlayLine, IsRaceLine, IsExplainLine, IsDrawLine};
+ghost use Rattle.cdb_arguments.specs.CommandLine.{required_rule, turns_rule, numbered, several, on_files, play_app, race_app, explain_app, draw_app, debug_app, playing, program};
+ghost use Rattle.cdb_arguments.specs.Asking.{NamesOne, IsTurns, IsNumber, IsNumberAt, text_at, texts, texts_at, Asks, IsOfKinds, IsAnswer, IsPlayOf, IsRaceOf, IsExplainOf, IsDrawOf, IsDebugOf, ask_status_of, words_status};
+ghost use Rattle.cdb_arguments.specs.Plain.{IsNameAlone, IsPlayLine, IsRaceLine, IsExplainLine, IsDrawLine, IsDebugLine};
 
 use crate::request::{AskFault, Asked};
 use clap::error::ErrorKind;
@@ -29,6 +29,8 @@ const EXPLAIN: &str =
 
 const DRAW: &str =
     "Plays a script, and prints a picture of the run in SVG; what led to a step stands out";
+
+const DEBUG: &str = "Carries each command out before the next is read, for one user or for several";
 
 const LINES: &str =
     "Without a subcommand it plays the script on standard input, on one process that proposes 7.
@@ -199,6 +201,20 @@ fn draw<'a>(alloc: Global) -> Result<Command<'a>, AllocError>
     command.arg(step(alloc))
 }
 
+/// `debug SETUP [SEAT..]`.
+fn debug<'a>(alloc: Global) -> Result<Command<'a>, AllocError>
+    ensures app { IfOk result (λ command. app_of command ≡ debug_app) }
+    ensures local { IfOk result (λ command. (out-Command command).has_globals ≡ false) }
+{
+    let command = Command::new(alloc, "debug")
+        .about(DEBUG)
+        .after_help(SETUPS)
+        .arg(setup(alloc))?;
+    let help =
+        "A terminal device, or IN:OUT, two files or pipes, for each user; left out: the one here";
+    command.arg(many(Arg::new(alloc, "SEAT").help(help)))
+}
+
 /// The program with the subcommands that print the replies of scripts.
 fn playing<'a>(alloc: Global) -> Result<Command<'a>, AllocError>
     ensures { IfOk result (λ command. app_of command ≡ playing) }
@@ -219,7 +235,8 @@ fn program<'a>(alloc: Global) -> Result<Command<'a>, AllocError>
 {
     let command = playing(alloc)?;
     let command = command.subcommand(explain(alloc)?)?;
-    command.subcommand(draw(alloc)?)
+    let command = command.subcommand(draw(alloc)?)?;
+    command.subcommand(debug(alloc)?)
 }
 
 /// The matches of the words.
@@ -344,6 +361,10 @@ fn asked_by<'a>(alloc: Global, matches: &ArgMatches<'a>) -> Result<Asked<'a>, Al
             k,
         });
     }
+    if name == "debug" {
+        let seats = texts_of(alloc, found, "SEAT")?;
+        return Ok(Asked::Debug { setup, seats });
+    }
     Ok(Asked::Race {
         setup,
         turns: turns_of(text_of(found, "TURNS")),
@@ -387,8 +408,8 @@ fn read<'a>(alloc: Global, words: &'a [&'a str]) -> Result<Asked<'a>, AskFault>
 
 /// What the arguments of the command line ask for; the first is the program's name. The name alone asks for the
 /// script on standard input, `play SETUP SCRIPT` for a play, `race SETUP TURNS SCRIPT..` for a race,
-/// `explain SETUP SCRIPT P [K]` for what led to a step, `draw SETUP SCRIPT [P [K]]` for a picture. P and K are
-/// numbers of 1 to 999,999.
+/// `explain SETUP SCRIPT P [K]` for what led to a step, `draw SETUP SCRIPT [P [K]]` for a picture,
+/// `debug SETUP [SEAT..]` for a session that goes on line by line. P and K are numbers of 1 to 999,999.
 ///
 /// # Errors
 /// `Words` with `clap`'s error for arguments that the command line does not take, and for those alone; the error is
@@ -414,6 +435,9 @@ pub fn asked<'a>(alloc: Global, words: &'a [&'a str]) -> Result<Asked<'a>, AskFa
     ensures draw { (setup script : Text) (p k : Option ℕ) →
         IsDrawLine (texts words.entry.now) setup script p k →
         IsAnswer result (IsDrawOf setup script p k) }
+    ensures debug { (setup : Text) (seats : List Text) →
+        IsDebugLine (texts words.entry.now) setup seats →
+        IsAnswer result (IsDebugOf setup seats) }
 {
     read(alloc, words)
 }
