@@ -4,6 +4,7 @@ ghost use Rattle.std.specs.Prelude.{◌≡◌, ◌≤◌};
 ghost use Rattle.cdb_program.specs.Requests.{Does, Performs, Prints, HasTurns};
 ghost use Rattle.cdb_program.specs.Streaming.{stream_of};
 
+use crate::debugs::debug_file;
 use crate::explains::explain_files;
 use crate::fault::Fault;
 use crate::files::Files;
@@ -39,6 +40,12 @@ pub enum Request<'a> {
         script: &'a str,
         p: u32,
         k: Option<u32>,
+    },
+    /// Holds a session on a run of a setup file over standard input and standard output, with this prompt before each
+    /// line.
+    Debug {
+        setup: &'a str,
+        prompt: &'a str,
     },
     /// Writes a text to standard output.
     Print(&'a str),
@@ -86,7 +93,8 @@ fn carry_out<
             p,
             k,
         } => explain_files(alloc, setup, script, p, k, outside),
-        Request::Print(text) => print(text, &mut outside.output),
+        Request::Debug { setup, prompt } => debug_file(alloc, setup, prompt, outside),
+        Request::Print(text) => print(text, &mut outside.streams.output),
         Request::Refuse(fault) => Err(fault),
     }
 }

@@ -1,5 +1,5 @@
 -- What the arguments request, and that it is performed.
-use Rattle.std.specs.Prelude.{◌≡◌, ◌≢◌, ◌⊎◌, ℕ, List, Option}
+use Rattle.std.specs.Prelude.{◌≡◌, ◌≢◌, ◌⊎◌, ℕ, List, [], ◌∷◌, codes, Option}
 use Rattle.clap.specs.Words.{Kinds, IsAmong, Row, Text}
 use Rattle.clap.specs.declared.error.kind.ErrorKind.{ErrorKind}
 use Rattle.cdb_arguments.specs.Asking.{Asks, texts, words_status}
@@ -10,7 +10,11 @@ use Rattle.cdb_program.specs.Known.{Seen}
 use Rattle.cdb_program.specs.Requests.{Performs}
 use Rattle.cdb_program.specs.declared.fault.Fault.TheVariants as fault
 use Rattle.cdb_program.specs.declared.request.Request.{Request}
-use Rattle.cdb_program.specs.declared.request.Request.TheVariants.{Script, Play, Race, Explain, Print, Refuse}
+use Rattle.cdb_program.specs.declared.request.Request.TheVariants.{Script, Play, Race, Explain, Debug, Print, Refuse}
+
+-- what is said of what the program does not do yet
+abbrev pub missing_text : Text
+missing_text = codes "not there yet\n"
 
 -- a play of these two files
 abbrev pub IsPlay : Text → Text → Request → Type 0
@@ -29,16 +33,29 @@ IsExplain setup script p k (Explain its_setup its_script its_p its_k) =
     (its_setup.now ≡ setup) × (its_script.now ≡ script) × (its_p ≡ p) × (its_k ≡ k)
 IsExplain setup script p k request = ⊥
 
--- the request for what was asked for
-abbrev pub IsRequestOf : Asked → Request → Type 0
-IsRequestOf asked.Script request = request ≡ Script
-IsRequestOf (asked.Play setup script) request = IsPlay setup.now script.now request
-IsRequestOf (asked.Race setup turns scripts) request = IsRace setup.now turns (texts scripts.items) request
-IsRequestOf (asked.Explain setup script p k) request = IsExplain setup.now script.now p k request
+-- a session on this setup with this prompt; sessions of several seats are not there yet
+abbrev pub IsDebug : Text → Text → List Text → Request → Type 0
+IsDebug prompt setup [] (Debug its_setup its_prompt) = (its_setup.now ≡ setup) × (its_prompt.now ≡ prompt)
+IsDebug prompt setup (seat ∷ seats) (Refuse (fault.Refused text)) = text.now ≡ missing_text
+IsDebug prompt setup seats request = ⊥
+
+-- the report that it is not there yet
+abbrev pub IsMissing : Request → Type 0
+IsMissing (Refuse (fault.Refused text)) = text.now ≡ missing_text
+IsMissing request = ⊥
+
+-- the request for what was asked for, where sessions have this prompt
+abbrev pub IsRequestOf : Text → Asked → Request → Type 0
+IsRequestOf prompt asked.Script request = request ≡ Script
+IsRequestOf prompt (asked.Play setup script) request = IsPlay setup.now script.now request
+IsRequestOf prompt (asked.Race setup turns scripts) request = IsRace setup.now turns (texts scripts.items) request
+IsRequestOf prompt (asked.Explain setup script p k) request = IsExplain setup.now script.now p k request
+IsRequestOf prompt (asked.Draw setup script p k) request = IsMissing request
+IsRequestOf prompt (asked.Debug setup seats) request = IsDebug prompt setup.now (texts seats.items) request
 
 -- the request for what the subcommand that `clap` found asks for
-abbrev pub IsRequested : Option (Text × List Row) → Request → Type 0
-IsRequested found request = (it : Asked) × Asks found it × IsRequestOf it request
+abbrev pub IsRequested : Text → Option (Text × List Row) → Request → Type 0
+IsRequested prompt found request = (it : Asked) × Asks found it × IsRequestOf prompt it request
 
 -- help or the version is printed where that was asked for, else the text of what is wrong is reported
 abbrev pub IsRefusal : Kinds → Request → Type 0

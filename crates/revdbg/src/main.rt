@@ -7,11 +7,12 @@ ghost use Rattle.cdb_arguments.specs.Asking.{texts};
 mod run;
 mod system_files;
 
+use cdb_debug::Streams;
 use cdb_play::{Input, Output};
 use cdb_program::{Fault, Outside, Request, perform};
 use run::{no_memory, run};
 use std::alloc::{AllocError, Global};
-use std::io::ErrorKind;
+use std::io::{ErrorKind, IsTerminal};
 use std::process::ExitCode;
 use std::{env, io};
 use system_files::SystemFiles;
@@ -20,6 +21,9 @@ use system_files::SystemFiles;
 const NOT_UTF8: Request<'static> = Request::Refuse(Fault::Refused(
     "an argument is not valid UTF-8\n",
 ));
+
+/// What a session shows before each line, at a terminal.
+const PROMPT: &str = "> ";
 
 /// The arguments of the command line, the program's name first.
 fn words_of(rt: &HostRuntime) -> io::Result<Vec<String>> {
@@ -42,13 +46,13 @@ fn main(rt: HostRuntime) -> ExitCode {
     let alloc = rt.alloc();
     let mut outside = Outside {
         files: SystemFiles::new(&rt),
-        input: Input::new(rt.reader()),
-        output: Output::new(io::writer(&rt)),
+        streams: Streams::new(Input::new(rt.reader()), Output::new(io::writer(&rt))),
         error: Output::new(rt.stderr()),
     };
+    let prompt = if rt.stdin().is_terminal() { PROMPT } else { "" };
     let status = match words_of(&rt) {
         Ok(words) => match texts_of(alloc, words.as_slice()) {
-            Ok(texts) => run(&rt, alloc, texts.as_slice(), &mut outside),
+            Ok(texts) => run(&rt, alloc, prompt, texts.as_slice(), &mut outside),
             Err(_) => perform(&rt, alloc, no_memory(), &mut outside),
         },
         Err(error) if error.kind() == ErrorKind::OutOfMemory => {

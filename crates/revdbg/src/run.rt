@@ -4,9 +4,9 @@ ghost use Rattle.std.specs.Prelude.{◌≡◌, ◌≢◌, ◌⊎◌, ◌∷◌, 
 ghost use Rattle.clap.specs.Words.{Kinds, Row, Text, fault_of, subcommand_of};
 ghost use Rattle.cdb_arguments.specs.Asking.{Asks, IsOfKinds, texts};
 ghost use Rattle.cdb_arguments.specs.CommandLine.{program};
-ghost use Rattle.cdb_arguments.specs.Plain.{IsNameAlone, IsPlayLine, IsRaceLine, IsExplainLine};
+ghost use Rattle.cdb_arguments.specs.Plain.{IsNameAlone, IsPlayLine, IsRaceLine, IsExplainLine, IsDebugLine};
 ghost use Rattle.cdb_program.specs.Requests.{HasTurns};
-ghost use Rattle.revdbg.specs.Requested.{IsPlay, IsRace, IsExplain, IsRequestOf, IsRequested, IsRefusal, IsOutOfMemory, PerformsOne};
+ghost use Rattle.revdbg.specs.Requested.{IsPlay, IsRace, IsExplain, IsDebug, IsRequestOf, IsRequested, IsRefusal, IsOutOfMemory, PerformsOne};
 
 use cdb_arguments::{AskFault, Asked, ask_status, asked};
 use cdb_play::{PlayFault, Sink, Source};
@@ -23,9 +23,12 @@ pub fn no_memory() -> Request<'static>
     Request::Refuse(Fault::Play(PlayFault::NoMemory, ""))
 }
 
-/// The request for what was asked for.
-fn request_of<'a>(asked: &'a Asked<'a>) -> Request<'a>
-    ensures request { IsRequestOf asked.now result }
+/// The report that the program does not do this yet.
+const MISSING: &str = "not there yet\n";
+
+/// The request for what was asked for, where sessions have this prompt.
+fn request_of<'a>(asked: &'a Asked<'a>, prompt: &'a str) -> Request<'a>
+    ensures request { IsRequestOf prompt.now asked.now result }
     ensures turns { (found : Option (Text × List Row)) → Asks found asked.now → HasTurns result }
 {
     match asked {
@@ -51,6 +54,9 @@ fn request_of<'a>(asked: &'a Asked<'a>) -> Request<'a>
             p: *p,
             k: *k,
         },
+        Asked::Draw { .. } => Request::Refuse(Fault::Refused(MISSING)),
+        Asked::Debug { setup, seats } if seats.is_empty() => Request::Debug { setup, prompt },
+        Asked::Debug { .. } => Request::Refuse(Fault::Refused(MISSING)),
     }
 }
 
@@ -61,11 +67,17 @@ fn perform_asked<
     I: Source + Drop,
     O: Sink + Drop,
     E: Sink + Drop,
->(threads: &R, alloc: Global, asked: &Asked<'_>, outside: &mut Outside<F, I, O, E>) -> u8
+>(
+    threads: &R,
+    alloc: Global,
+    prompt: &str,
+    asked: &Asked<'_>,
+    outside: &mut Outside<F, I, O, E>,
+) -> u8
     requires { (found : Option (Text × List Row)) × Asks found asked.now }
-    ensures { PerformsOne (IsRequestOf asked.now) outside.old outside.new result }
+    ensures { PerformsOne (IsRequestOf prompt.now asked.now) outside.old outside.new result }
 {
-    perform(threads, alloc, request_of(asked), outside)
+    perform(threads, alloc, request_of(asked, prompt), outside)
 }
 
 /// The text that says what is wrong with the arguments, or help or the version.
@@ -107,14 +119,20 @@ fn refuse<
 }
 
 /// Performs what the arguments ask for, of which the first is the program's name, and returns the status with which
-/// the program ends.
+/// the program ends. A session shows this prompt before each line.
 pub fn run<
     R: Threads + Wait + Sync,
     F: Files + Drop,
     I: Source + Drop,
     O: Sink + Drop,
     E: Sink + Drop,
->(threads: &R, alloc: Global, words: &[&str], outside: &mut Outside<F, I, O, E>) -> u8
+>(
+    threads: &R,
+    alloc: Global,
+    prompt: &str,
+    words: &[&str],
+    outside: &mut Outside<F, I, O, E>,
+) -> u8
     ensures script { IsNameAlone (texts words.entry.now) →
         PerformsOne (λ it. it ≡ Request.Script) outside.old outside.new result }
     ensures play { (setup script : Text) → IsPlayLine (texts words.entry.now) setup script →
@@ -125,15 +143,18 @@ pub fn run<
     ensures explain { (setup script : Text) (p : ℕ) (k : Option ℕ) →
         IsExplainLine (texts words.entry.now) setup script p k →
         PerformsOne (IsExplain setup script p k) outside.old outside.new result }
+    ensures debug { (setup : Text) (seats : List Text) →
+        IsDebugLine (texts words.entry.now) setup seats →
+        PerformsOne (IsDebug prompt.now setup seats) outside.old outside.new result }
     ensures taken { fault_of program (texts words.entry.now) ≡ [] →
-        PerformsOne (IsRequested (subcommand_of program (texts words.entry.now)))
+        PerformsOne (IsRequested prompt.now (subcommand_of program (texts words.entry.now)))
         outside.old outside.new result }
     ensures refused { fault_of program (texts words.entry.now) ≢ [] →
         PerformsOne (IsRefusal (fault_of program (texts words.entry.now)))
         outside.old outside.new result }
 {
     match asked(alloc, words) {
-        Ok(asked) => perform_asked(threads, alloc, &asked, outside),
+        Ok(asked) => perform_asked(threads, alloc, prompt, &asked, outside),
         Err(fault) => refuse(threads, alloc, &fault, outside),
     }
 }

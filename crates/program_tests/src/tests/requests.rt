@@ -33,6 +33,11 @@ pub const EXPLAIN: Request<'static> = Request::Explain {
     k: Some(2),
 };
 
+pub const DEBUG: Request<'static> = Request::Debug {
+    setup: "one.json",
+    prompt: "> ",
+};
+
 /// A race of 65 seats.
 const CROWD: Request<'static> = Request::Race {
     setup: "one.json",
@@ -108,6 +113,25 @@ decisions none\ndecisions agree\n";
 }
 
 #[test]
+fn a_session(rt: HostRuntime) -> Result<(), Fail> {
+    let text = "> 1.1 query 1\n> 1.2 send 1#1\n> ";
+    check(&rt, DEBUG, 0, (text, ""), &["one.json"])
+}
+
+#[test]
+fn a_session_ends_at_quit(rt: HostRuntime) -> Result<(), Fail> {
+    let request = Request::Debug {
+        setup: "one.json",
+        prompt: "",
+    };
+    let ended = performed(&rt, request, "auto 1\njump\nquit\nauto 1\n", ALL_GOOD);
+    let text = "1.1 query 1\nline 2 fault 2 Word\n";
+    assert_eq!(rt; str::from_utf8(ended.output.as_slice()), Ok(text));
+    assert_eq!(rt; (ended.status, ended.error.len(), ended.failures), (0, 0, 0));
+    Ok(())
+}
+
+#[test]
 fn texts(rt: HostRuntime) -> Result<(), Fail> {
     check(&rt, Request::Print("help\n"), 0, ("help\n", ""), &[])?;
     let refused = Request::Refuse(Fault::Refused("what is wrong\n"));
@@ -150,6 +174,16 @@ fn faults_of_plays(rt: HostRuntime) -> Result<(), Fail> {
         ("", "script 1 line 2 fault 3 Number\n"),
         &opened,
     )
+}
+
+#[test]
+fn faults_of_sessions(rt: HostRuntime) -> Result<(), Fail> {
+    let request = Request::Debug {
+        setup: "list.json",
+        prompt: "> ",
+    };
+    let error = "setup fault 2 NotObject\n";
+    check(&rt, request, 4, ("", error), &["list.json"])
 }
 
 #[test]
