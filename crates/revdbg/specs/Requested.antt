@@ -1,16 +1,17 @@
 -- What the arguments request, and that it is performed.
-use Rattle.std.specs.Prelude.{◌≡◌, ◌≢◌, ◌⊎◌, ℕ, List, Option}
+use Rattle.std.specs.Prelude.{◌≡◌, ◌≢◌, ◌⊎◌, ℕ, List, Option, codes, option_map}
 use Rattle.clap.specs.Words.{Kinds, IsAmong, Row, Text}
 use Rattle.clap.specs.declared.error.kind.ErrorKind.{ErrorKind}
 use Rattle.cdb_arguments.specs.Asking.{Asks, texts, words_status}
 use Rattle.cdb_arguments.specs.declared.request.Asked.{Asked}
 use Rattle.cdb_arguments.specs.declared.request.Asked.TheVariants as asked
+use Rattle.cdb_draw.specs.declared.script.StepAsked.{StepAsked}
 use Rattle.cdb_play.specs.declared.fault.PlayFault.TheVariants.{NoMemory}
 use Rattle.cdb_program.specs.Known.{Seen}
 use Rattle.cdb_program.specs.Requests.{Performs}
 use Rattle.cdb_program.specs.declared.fault.Fault.TheVariants as fault
 use Rattle.cdb_program.specs.declared.request.Request.{Request}
-use Rattle.cdb_program.specs.declared.request.Request.TheVariants.{Script, Play, Race, Explain, Print, Refuse}
+use Rattle.cdb_program.specs.declared.request.Request.TheVariants.{Script, Play, Race, Explain, Draw, Print, Refuse}
 
 -- a play of these two files
 abbrev pub IsPlay : Text → Text → Request → Type 0
@@ -29,12 +30,29 @@ IsExplain setup script p k (Explain its_setup its_script its_p its_k) =
     (its_setup.now ≡ setup) × (its_script.now ≡ script) × (its_p ≡ p) × (its_k ≡ k)
 IsExplain setup script p k request = ⊥
 
+-- the step of process p, the k-th where a number is given
+abbrev pub step_asked : Option ℕ → ℕ → StepAsked
+step_asked k p = record { p = p; k = k }
+
+-- the picture of the run of these two files, with what led to the step in full where one is given
+abbrev pub IsDraw : Text → Text → Option ℕ → Option ℕ → Request → Type 0
+IsDraw setup script p k (Draw its_setup its_script its_step) =
+    (its_setup.now ≡ setup) × (its_script.now ≡ script) × (its_step ≡ option_map (step_asked k) p)
+IsDraw setup script p k request = ⊥
+
+-- the report that the program does not have this yet
+abbrev pub IsMissing : Request → Type 0
+IsMissing (Refuse (fault.Refused text)) = text.now ≡ codes "not there yet\n"
+IsMissing request = ⊥
+
 -- the request for what was asked for
 abbrev pub IsRequestOf : Asked → Request → Type 0
 IsRequestOf asked.Script request = request ≡ Script
 IsRequestOf (asked.Play setup script) request = IsPlay setup.now script.now request
 IsRequestOf (asked.Race setup turns scripts) request = IsRace setup.now turns (texts scripts.items) request
 IsRequestOf (asked.Explain setup script p k) request = IsExplain setup.now script.now p k request
+IsRequestOf (asked.Draw setup script p k) request = IsDraw setup.now script.now p k request
+IsRequestOf (asked.Debug setup seats) request = IsMissing request
 
 -- the request for what the subcommand that `clap` found asks for
 abbrev pub IsRequested : Option (Text × List Row) → Request → Type 0

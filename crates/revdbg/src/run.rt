@@ -4,11 +4,12 @@ ghost use Rattle.std.specs.Prelude.{◌≡◌, ◌≢◌, ◌⊎◌, ◌∷◌, 
 ghost use Rattle.clap.specs.Words.{Kinds, Row, Text, fault_of, subcommand_of};
 ghost use Rattle.cdb_arguments.specs.Asking.{Asks, IsOfKinds, texts};
 ghost use Rattle.cdb_arguments.specs.CommandLine.{program};
-ghost use Rattle.cdb_arguments.specs.Plain.{IsNameAlone, IsPlayLine, IsRaceLine, IsExplainLine};
+ghost use Rattle.cdb_arguments.specs.Plain.{IsNameAlone, IsPlayLine, IsRaceLine, IsExplainLine, IsDrawLine};
 ghost use Rattle.cdb_program.specs.Requests.{HasTurns};
-ghost use Rattle.revdbg.specs.Requested.{IsPlay, IsRace, IsExplain, IsRequestOf, IsRequested, IsRefusal, IsOutOfMemory, PerformsOne};
+ghost use Rattle.revdbg.specs.Requested.{IsPlay, IsRace, IsExplain, IsDraw, IsRequestOf, IsRequested, IsRefusal, IsOutOfMemory, PerformsOne};
 
 use cdb_arguments::{AskFault, Asked, ask_status, asked};
+use cdb_draw::StepAsked;
 use cdb_play::{PlayFault, Sink, Source};
 use cdb_program::{Fault, Files, Outside, Request, perform};
 use std::alloc::{AllocError, Global};
@@ -51,6 +52,17 @@ fn request_of<'a>(asked: &'a Asked<'a>) -> Request<'a>
             p: *p,
             k: *k,
         },
+        Asked::Draw {
+            setup,
+            script,
+            p,
+            k,
+        } => Request::Draw {
+            setup,
+            script,
+            step: p.map(|p| StepAsked { p, k: *k }),
+        },
+        Asked::Debug { .. } => Request::Refuse(Fault::Refused("not there yet\n")),
     }
 }
 
@@ -125,6 +137,9 @@ pub fn run<
     ensures explain { (setup script : Text) (p : ℕ) (k : Option ℕ) →
         IsExplainLine (texts words.entry.now) setup script p k →
         PerformsOne (IsExplain setup script p k) outside.old outside.new result }
+    ensures draw { (setup script : Text) (p k : Option ℕ) →
+        IsDrawLine (texts words.entry.now) setup script p k →
+        PerformsOne (IsDraw setup script p k) outside.old outside.new result }
     ensures taken { fault_of program (texts words.entry.now) ≡ [] →
         PerformsOne (IsRequested (subcommand_of program (texts words.entry.now)))
         outside.old outside.new result }
