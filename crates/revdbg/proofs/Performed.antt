@@ -11,7 +11,8 @@ use Rattle.cdb_program.specs.Known.{Seen}
 use Rattle.cdb_program.specs.declared.fault.Fault.TheVariants as fault
 use Rattle.cdb_program.specs.declared.request.Request.{Request}
 use Rattle.cdb_program.specs.declared.request.Request.TheVariants.{Script, Play, Race, Explain, Draw, Print, Refuse}
-use Rattle.revdbg.specs.Requested.{IsDraw, IsExplain, IsPlay, IsRace, IsRequestOf, IsRefusal, PerformsOne}
+use Rattle.cdb_program.specs.Requests.{Performs}
+use Rattle.revdbg.specs.Requested.{IsDraw, IsExplain, IsOutOfMemory, IsPlay, IsRace, IsRequestOf, IsRefusal, PerformsAsked, PerformsOne}
 
 -- a request of one kind is one of another kind
 pub performs_other : (IsIt IsOther : Request → Type 0) (old new : Seen) (status : ℕ) → ((request : Request) → IsIt request → IsOther request) → PerformsOne IsIt old new status → PerformsOne IsOther old new status
@@ -74,3 +75,16 @@ draw_request setup script p k (asked.Play a b) is request of_it = absurd is
 draw_request setup script p k (asked.Race a n b) is request of_it = absurd is
 draw_request setup script p k (asked.Explain a b q l) is request of_it = absurd is
 draw_request setup script p k (asked.Debug a b) is request of_it = absurd is
+
+-- ---- an allocation failed before it was known what is asked for
+
+pub performs_memory : (words : List Text) (old new : Seen) (status : ℕ) (request : Request) → IsOutOfMemory request → Performs request old new status → PerformsAsked words old new status
+performs_memory words old new status request is done = record {
+  script = λ alone. (request, inr is, done);
+  play = λ setup script line. (request, inr is, done);
+  race = λ setup turns script more line. (request, inr is, done);
+  explain = λ setup script p k line. (request, inr is, done);
+  draw = λ setup script p k line. (request, inr is, done);
+  taken = λ none. (request, inr is, done);
+  refused = λ some. (request, inr is, done);
+}

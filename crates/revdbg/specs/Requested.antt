@@ -1,8 +1,12 @@
 -- What the arguments request, and that it is performed.
-use Rattle.std.specs.Prelude.{◌≡◌, ◌≢◌, ◌⊎◌, ℕ, List, Option, codes, option_map}
-use Rattle.clap.specs.Words.{Kinds, IsAmong, Row, Text}
+use Rattle.std.specs.Prelude.{◌≡◌, ◌≢◌, ◌⊎◌, ◌∷◌, ℕ, List, [], Option, codes, option_map}
+use Rattle.std.specs.declared.io.ErrorKind.{ErrorKind as IoKind}
+use Rattle.std.specs.declared.io.ErrorKind.TheVariants as io_kind
+use Rattle.clap.specs.Words.{Kinds, IsAmong, Row, Text, fault_of, subcommand_of}
 use Rattle.clap.specs.declared.error.kind.ErrorKind.{ErrorKind}
 use Rattle.cdb_arguments.specs.Asking.{Asks, texts, words_status}
+use Rattle.cdb_arguments.specs.CommandLine.{program}
+use Rattle.cdb_arguments.specs.Plain.{IsNameAlone, IsPlayLine, IsRaceLine, IsExplainLine, IsDrawLine}
 use Rattle.cdb_arguments.specs.declared.request.Asked.{Asked}
 use Rattle.cdb_arguments.specs.declared.request.Asked.TheVariants as asked
 use Rattle.cdb_draw.specs.declared.script.StepAsked.{StepAsked}
@@ -72,3 +76,23 @@ IsOutOfMemory request = ⊥
 -- a request of this kind was performed, or an allocation failed before that was reported
 abbrev pub PerformsOne : (Request → Type 0) → Seen → Seen → ℕ → Type 0
 PerformsOne IsIt old new status = (request : Request) × (IsIt request ⊎ IsOutOfMemory request) × Performs request old new status
+
+-- Of arguments with these texts, the program's name first, what they ask for was performed. Plain ones are told without the terms
+-- of `clap`.
+pub record PerformsAsked (words : List Text) (old new : Seen) (status : ℕ) : Type 0 where
+  pub script : IsNameAlone words → PerformsOne (λ it. it ≡ Script) old new status
+  pub play : (setup script : Text) → IsPlayLine words setup script → PerformsOne (IsPlay setup script) old new status
+  pub race : (setup : Text) (turns : ℕ) (script : Text) (more : List Text)
+      → IsRaceLine words setup turns script more → PerformsOne (IsRace setup turns (script ∷ more)) old new status
+  pub explain : (setup script : Text) (p : ℕ) (k : Option ℕ)
+      → IsExplainLine words setup script p k → PerformsOne (IsExplain setup script p k) old new status
+  pub draw : (setup script : Text) (p k : Option ℕ)
+      → IsDrawLine words setup script p k → PerformsOne (IsDraw setup script p k) old new status
+  pub taken : fault_of program words ≡ [] → PerformsOne (IsRequested (subcommand_of program words)) old new status
+  pub refused : fault_of program words ≢ [] → PerformsOne (IsRefusal (fault_of program words)) old new status
+
+-- what is performed where the arguments could not be read: an allocation failed, or one is no text
+abbrev pub IsUnread : IoKind → Request → Type 0
+IsUnread io_kind.OutOfMemory request = IsOutOfMemory request
+IsUnread kind (Refuse (fault.Refused text)) = text.now ≡ codes "an argument is not valid UTF-8\n"
+IsUnread kind request = ⊥

@@ -1,9 +1,6 @@
-use Rattle.std.proofs.Common.{◌≡◌, ◌≢◌, ◌∷◌, ℕ, List, [], subst}
-use Rattle.clap.specs.Words.{Kinds, Text, fault_of, subcommand_of}
-use Rattle.cdb_arguments.specs.Asking.{texts}
-use Rattle.cdb_arguments.specs.CommandLine.{program}
-use Rattle.cdb_arguments.specs.Plain.{IsNameAlone, IsPlayLine, IsRaceLine}
-use Rattle.revdbg.specs.Requested.{IsPlay, IsRace, IsRequested, IsRefusal, PerformsOne}
+use Rattle.std.proofs.Common.{◌∷◌, [], subst}
+use Rattle.clap.specs.Words.{Kinds}
+use Rattle.revdbg.specs.Requested.{IsRefusal, PerformsOne}
 use Rattle.revdbg.proofs.Performed.{memory_has_no_kinds, only_memory, performs_other, draw_request, explain_request, play_request, race_request, script_request}
 use Rattle.revdbg.proofs.run.run.Goals as goal
 
