@@ -13,9 +13,11 @@ use crate::sink::{Failed, Sink};
 use cdb_setup::SetupFault;
 use cdb_text::LineFault;
 
-const NO_MEMORY: &str = "no memory\n";
+const NO_MEMORY: &str = "no memory";
 
-const OUTPUT_FAILED: &str = "output failed\n";
+const OUTPUT_FAILED: &str = "output failed";
+
+const END: Piece<'static> = Text("\n");
 
 /// What a fault of a setup carries: after a space its key, its place, or its process and place.
 fn detail_of(
@@ -55,7 +57,7 @@ fn write_numbered<W: Sink>(number: u8, fault: &SetupFault, err: &mut W) -> Resul
         second,
         third,
         fourth,
-        Text("\n"),
+        END,
     ];
     write_each(err, &pieces)
 }
@@ -65,7 +67,7 @@ fn write_setup_fault<W: Sink>(fault: &SetupFault, err: &mut W) -> Result<(), Fai
 {
     match fault.number() {
         Some(number) => write_numbered(number, fault, err),
-        None => write_each(err, &[Text(NO_MEMORY)]),
+        None => write_each(err, &[Text(NO_MEMORY), END]),
     }
 }
 
@@ -89,7 +91,7 @@ fn write_line_fault<W: Sink>(
         number,
         Text(" "),
         name,
-        Text("\n"),
+        END,
     ];
     write_each(err, &pieces)
 }
@@ -97,7 +99,10 @@ fn write_line_fault<W: Sink>(
 fn write_too_long<W: Sink>(script: usize, err: &mut W) -> Result<(), Failed>
     ensures { Writes W.contents W.failures result err.old err.new (as_line (too_long_text script)) }
 {
-    write_each(err, &[Text("script "), Number(script), Text(" too long\n")])
+    write_each(
+        err,
+        &[Text("script "), Number(script), Text(" too long"), END],
+    )
 }
 
 /// Writes the line that reports a fault. The name is that of what could not be read. Where the writer fails, what
@@ -110,9 +115,9 @@ pub fn write_fault<W: Sink>(fault: &PlayFault, name: &str, err: &mut W) -> Resul
         PlayFault::Setup(fault) => write_setup_fault(fault, err),
         PlayFault::Line(script, line, fault) => write_line_fault(*script, *line, *fault, err),
         PlayFault::ScriptTooLong(script) => write_too_long(*script, err),
-        PlayFault::Read => write_each(err, &[Text("cannot read "), Text(name), Text("\n")]),
-        PlayFault::Write => write_each(err, &[Text(OUTPUT_FAILED)]),
-        PlayFault::NoMemory => write_each(err, &[Text(NO_MEMORY)]),
+        PlayFault::Read => write_each(err, &[Text("cannot read "), Text(name), END]),
+        PlayFault::Write => write_each(err, &[Text(OUTPUT_FAILED), END]),
+        PlayFault::NoMemory => write_each(err, &[Text(NO_MEMORY), END]),
     }
 }
 
@@ -125,9 +130,9 @@ pub fn write_race_fault<W: Sink>(fault: &RaceFault, err: &mut W) -> Result<(), F
         RaceFault::Setup(fault) => write_setup_fault(fault, err),
         RaceFault::Line(script, line, fault) => write_line_fault(*script, *line, *fault, err),
         RaceFault::ScriptTooLong(script) => write_too_long(*script, err),
-        RaceFault::Write => write_each(err, &[Text(OUTPUT_FAILED)]),
-        RaceFault::NoMemory => write_each(err, &[Text(NO_MEMORY)]),
-        RaceFault::JournalFull => write_each(err, &[Text("journal full\n")]),
-        RaceFault::Spawn | RaceFault::Stopped(_) => write_each(err, &[Text("no thread\n")]),
+        RaceFault::Write => write_each(err, &[Text(OUTPUT_FAILED), END]),
+        RaceFault::NoMemory => write_each(err, &[Text(NO_MEMORY), END]),
+        RaceFault::JournalFull => write_each(err, &[Text("journal full"), END]),
+        RaceFault::Spawn | RaceFault::Stopped(_) => write_each(err, &[Text("no thread"), END]),
     }
 }
