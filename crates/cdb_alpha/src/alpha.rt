@@ -1,3 +1,5 @@
+//! The machine of one process of Alpha over atomic registers.
+
 ghost use Rattle.std.specs.Prelude.{◌≡◌, ◌+◌, ◌<◌, ◌≤◌, ◌↔◌, Option, Some, None, IsTrue, IsSome, IfOk, OnErr, is_some, length, false};
 ghost use Rattle.cdb_process.specs.declared.Input.{Input};
 

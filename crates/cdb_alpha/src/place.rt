@@ -1,3 +1,5 @@
+//! Where an Alpha machine stands in its round.
+
 ghost use Rattle.std.specs.Prelude.{◌≡◌};
 ghost use Rattle.cdb_alpha.specs.Place.{place_number};
 

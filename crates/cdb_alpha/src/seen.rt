@@ -1,3 +1,5 @@
+//! What a phase has seen in the registers that it has read.
+
 ghost use Rattle.std.specs.Prelude.{◌≡◌, ◌↔◌, IsTrue};
 ghost use Rattle.cdb_alpha.specs.Seen.{greatest_write, value_seen, is_overtaken};
 

@@ -1,9 +1,11 @@
 //! Names: of processes, steps, messages and copies.
 
-ghost use Rattle.std.specs.Prelude.{◌≡◌, ℕ, ◌+◌, ◌≤◌, ◌↔◌, IsSome, IfSome};
+ghost use Rattle.std.specs.Prelude.{◌≡◌, ℕ, ◌+◌, ◌≤◌, ◌↔◌, Some, IsSome, IfSome};
+ghost use Rattle.cdb_base.specs.NameTexts.{loss_text, message_text, name_text, step_text};
 ghost use Rattle.cdb_base.specs.Processes.{all_processes};
 
 use crate::limits::MAX_PROCESSES;
+use std::fmt;
 use std::marker::Model;
 
 /// A process, by its number from 1 to 9. A contract sees the number.
@@ -11,6 +13,8 @@ use std::marker::Model;
 pub struct Proc(u8);
 
 impl Model for Proc {
+    ghost use Rattle.std.specs.Prelude.{ℕ, ◌≤◌};
+
     ghost Value = { ℕ };
 
     ghost view = { λ p. p.0 };
@@ -93,12 +97,30 @@ pub struct StepName {
     pub k: u16,
 }
 
+impl fmt::Display for StepName {
+    ghost output = { λ name. Some (step_text name.p name.k) };
+
+    fn fmt<W: fmt::Write>(&self, f: &mut fmt::Formatter<W>) -> fmt::Result {
+        let (p, k) = (self.p.number(), self.k);
+        write!(f, "{p}.{k}")
+    }
+}
+
 /// The name `S#M` of a message: the `m`-th send of process `s`, from 1. Names are ordered by sender,
 /// then number.
 #[derive(Clone, Copy, Debug, Default, PartialEq, Eq, PartialOrd, Ord)]
 pub struct MsgName {
     pub s: Proc,
     pub m: u16,
+}
+
+impl fmt::Display for MsgName {
+    ghost output = { λ name. Some (message_text name.s name.m) };
+
+    fn fmt<W: fmt::Write>(&self, f: &mut fmt::Formatter<W>) -> fmt::Result {
+        let (s, m) = (self.s.number(), self.m);
+        write!(f, "{s}#{m}")
+    }
 }
 
 /// The copy of a message that is meant for one process. Each message has one copy for each process,
@@ -109,11 +131,32 @@ pub struct CopyName {
     pub to: Proc,
 }
 
+/// The loss of the copy, `lost S#M to P`.
+impl fmt::Display for CopyName {
+    ghost output = { λ copy. Some (loss_text copy) };
+
+    fn fmt<W: fmt::Write>(&self, f: &mut fmt::Formatter<W>) -> fmt::Result {
+        let (message, to) = (self.msg, self.to.number());
+        write!(f, "lost {message} to {to}")
+    }
+}
+
 /// The name of an event: a step by its process and number, the loss of a copy by that copy.
 #[derive(Clone, Copy, Debug, PartialEq, Eq, PartialOrd, Ord)]
 pub enum StepId {
     Step(StepName),
     Lost(CopyName),
+}
+
+impl fmt::Display for StepId {
+    ghost output = { λ name. Some (name_text name) };
+
+    fn fmt<W: fmt::Write>(&self, f: &mut fmt::Formatter<W>) -> fmt::Result {
+        match self {
+            StepId::Step(name) => write!(f, "{name}"),
+            StepId::Lost(copy) => write!(f, "{copy}"),
+        }
+    }
 }
 
 /// A name, for lists that keep their places filled.

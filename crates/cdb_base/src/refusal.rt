@@ -1,9 +1,11 @@
 //! Why a command is refused.
 
-ghost use Rattle.std.specs.Prelude.{◌≡◌};
-ghost use Rattle.cdb_base.specs.Refusal.{refusal_number};
+ghost use Rattle.std.specs.Prelude.{◌≡◌, Some};
+ghost use Rattle.cdb_base.specs.Refusal.{refusal_name, refusal_number, refusal_text};
 
 use crate::name::StepId;
+use std::error::Error;
+use std::fmt;
 
 /// Why a command was refused. Each refusal has one number, and no refusal has the number 18.
 #[derive(Clone, Copy, Debug, PartialEq, Eq)]
@@ -75,4 +77,47 @@ impl Refusal {
             Refusal::NoLoss => 20,
         }
     }
+
+    /// The name under which the refusal is shown: that of the variant, with nothing that it carries.
+    pub fn name(&self) -> &'static str
+        ensures { result.now ≡ refusal_name self.now }
+    {
+        match self {
+            Refusal::NoProcess => "NoProcess",
+            Refusal::Crashed => "Crashed",
+            Refusal::Done => "Done",
+            Refusal::NotNow => "NotNow",
+            Refusal::NoMessage => "NoMessage",
+            Refusal::Taken => "Taken",
+            Refusal::BadLeader => "BadLeader",
+            Refusal::NoAnswer => "NoAnswer",
+            Refusal::StepLimit => "StepLimit",
+            Refusal::NoStep => "NoStep",
+            Refusal::NeededBy(_) => "NeededBy",
+            Refusal::Idle => "Idle",
+            Refusal::Paused(_) => "Paused",
+            Refusal::NothingToRedo => "NothingToRedo",
+            Refusal::NoBreak => "NoBreak",
+            Refusal::BreakLimit => "BreakLimit",
+            Refusal::Moved => "Moved",
+            Refusal::Lost => "Lost",
+            Refusal::NoLoss => "NoLoss",
+        }
+    }
 }
+
+/// `refused`, the number, the name, and what the refusal carries.
+impl fmt::Display for Refusal {
+    ghost output = { λ refusal. Some (refusal_text refusal) };
+
+    fn fmt<W: fmt::Write>(&self, f: &mut fmt::Formatter<W>) -> fmt::Result {
+        let (number, name) = (self.number(), self.name());
+        match self {
+            Refusal::NeededBy(event) => write!(f, "refused {number} {name} {event}"),
+            Refusal::Paused(breakpoint) => write!(f, "refused {number} {name} {breakpoint}"),
+            _ => write!(f, "refused {number} {name}"),
+        }
+    }
+}
+
+impl Error for Refusal {}

@@ -7,6 +7,8 @@ pub mod State
 pub mod Commands
 pub mod Journal
 pub mod Headline
+-- the texts of its faults
+pub mod FaultTexts
 -- the room that a control has, and what a call leaves
 pub mod Room
 pub mod Done

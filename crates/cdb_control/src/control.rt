@@ -15,6 +15,8 @@ use cdb_base::limits::{MAX_ENTRIES, MAX_SEATS};
 use cdb_base::{Act, NoMemory, Reg};
 use cdb_setup::Setup;
 use std::alloc::Global;
+use std::error::Error;
+use std::fmt;
 use std::marker::Model;
 
 /// One entry of a journal.
@@ -32,6 +34,22 @@ pub enum CallFault {
     NoMemory,
 }
 
+impl fmt::Display for CallFault {
+    ghost use Rattle.std.specs.Prelude.{Some};
+    ghost use Rattle.cdb_control.specs.FaultTexts.{call_fault_text};
+
+    ghost output = { λ fault. Some (call_fault_text fault) };
+
+    fn fmt<W: fmt::Write>(&self, f: &mut fmt::Formatter<W>) -> fmt::Result {
+        f.write_str(match self {
+            CallFault::JournalFull => "journal full",
+            CallFault::NoMemory => "no memory",
+        })
+    }
+}
+
+impl Error for CallFault {}
+
 /// Why a control was not opened.
 #[derive(Debug, Clone, Copy, PartialEq)]
 pub enum OpenFault {
@@ -39,6 +57,22 @@ pub enum OpenFault {
     Seats,
     NoMemory,
 }
+
+impl fmt::Display for OpenFault {
+    ghost use Rattle.std.specs.Prelude.{Some};
+    ghost use Rattle.cdb_control.specs.FaultTexts.{open_fault_text};
+
+    ghost output = { λ fault. Some (open_fault_text fault) };
+
+    fn fmt<W: fmt::Write>(&self, f: &mut fmt::Formatter<W>) -> fmt::Result {
+        f.write_str(match self {
+            OpenFault::Seats => "not 1 to 64 seats",
+            OpenFault::NoMemory => "no memory",
+        })
+    }
+}
+
+impl Error for OpenFault {}
 
 /// To contracts a control is its setup, its number of seats, its journal and the room of each seat. All else is the
 /// journal's replay. What holds after any list of commands is one definition, `Headline`, which each control keeps.

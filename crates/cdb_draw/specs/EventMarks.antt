@@ -11,7 +11,7 @@ use Rattle.cdb_explain.specs.Marked.{is_marked}
 use Rattle.cdb_run.specs.Current.{RunView}
 use Rattle.cdb_run.specs.Rules.{Rules}
 use Rattle.cdb_setup.specs.Parts.{Parts}
-use Rattle.cdb_text.specs.Names.{message_text, register_text, step_text}
+use Rattle.cdb_base.specs.NameTexts.{message_text, register_text, step_text}
 use Rattle.cdb_draw.specs.Arrows.{spot_text, weight_text}
 
 -- what a step does, in a word: the name of the shape of its mark too

@@ -10,7 +10,7 @@ use Rattle.cdb_run.specs.Current.{RunView}
 use Rattle.cdb_setup.specs.Parts.{Parts}
 use Rattle.cdb_setup.specs.declared.setup.Algorithm.{Algorithm}
 use Rattle.cdb_setup.specs.declared.setup.Algorithm.TheVariants.{Leader, Alpha}
-use Rattle.cdb_text.specs.Names.{register_text}
+use Rattle.cdb_base.specs.NameTexts.{register_text}
 use Rattle.cdb_draw.specs.Layout.{x_of, end_x, lane_y, register_y}
 use Rattle.cdb_draw.specs.Places.{crashed_at}
 

@@ -2,7 +2,7 @@
 
 ghost use Rattle.std.specs.Prelude.{◌≡◌, decimal};
 ghost use Rattle.cdb_text.specs.Pushes.{Pushes};
-ghost use Rattle.cdb_text.specs.Names.{message_text, register_text};
+ghost use Rattle.cdb_base.specs.NameTexts.{message_text, register_text};
 
 use cdb_base::{MsgName, Proc, Reg, Val};
 use std::alloc::AllocError;

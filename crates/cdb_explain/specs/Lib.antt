@@ -3,4 +3,4 @@ pub mod Asked
 pub mod Marked
 pub mod Explanations
 pub mod Explained
-pub mod Statuses
+pub mod FaultTexts

@@ -1,10 +1,12 @@
 //! Why no explanation was written.
 
-ghost use Rattle.std.specs.Prelude.{◌≡◌};
-ghost use Rattle.cdb_explain.specs.Statuses.{explain_status};
+ghost use Rattle.std.specs.Prelude.{Some};
+ghost use Rattle.cdb_explain.specs.FaultTexts.{explain_fault_text};
 
-use cdb_base::NoMemory;
-use cdb_play::{OutputFault, PlayFault, status_of};
+use cdb_base::{NoMemory, Refusal};
+use cdb_play::{OutputFault, PlayFault};
+use std::error::Error;
+use std::fmt;
 
 /// Why no explanation was written.
 #[derive(Clone, Copy, Debug, PartialEq, Eq)]
@@ -14,6 +16,23 @@ pub enum ExplainFault {
     /// As for a play of the script.
     Play(PlayFault),
 }
+
+/// The text that the program reports, without the end of the line; what could not be read is the input.
+impl fmt::Display for ExplainFault {
+    ghost output = { λ fault. Some (explain_fault_text fault) };
+
+    fn fmt<W: fmt::Write>(&self, f: &mut fmt::Formatter<W>) -> fmt::Result {
+        match self {
+            ExplainFault::NoStep => {
+                let refusal = Refusal::NoStep;
+                write!(f, "{refusal}")
+            }
+            ExplainFault::Play(fault) => write!(f, "{fault}"),
+        }
+    }
+}
+
+impl Error for ExplainFault {}
 
 impl From<PlayFault> for ExplainFault {
     ghost use Rattle.std.specs.Prelude.{◌≡◌};
@@ -47,15 +66,5 @@ impl From<OutputFault> for ExplainFault {
 
     fn from(fault: OutputFault) -> Self {
         ExplainFault::Play(PlayFault::from(fault))
-    }
-}
-
-/// The status after this fault: 1 where no such step stands, else that of the fault of a play, 3 to 7.
-pub fn explain_status_of(fault: &ExplainFault) -> u8
-    ensures { result ≡ explain_status fault.now }
-{
-    match fault {
-        ExplainFault::NoStep => 1,
-        ExplainFault::Play(fault) => status_of(fault),
     }
 }

@@ -13,7 +13,7 @@ mod step;
 
 pub use asked::place_of_step;
 pub use explains::explain;
-pub use fault::{ExplainFault, explain_status_of};
+pub use fault::ExplainFault;
 pub use line::{decision_by, push_whole};
 pub use lines::explanation;
 pub use past::past_of;

@@ -6,7 +6,7 @@ use Rattle.std.specs.Option.{option_map, option_or}
 use Rattle.std.specs.HashMap.{get}
 use Rattle.cdb_base.specs.declared.payload.Payload.{Payload}
 use Rattle.cdb_base.specs.declared.payload.Payload.TheVariants.{P1, P2, D}
-use Rattle.cdb_leader.specs.declared.inbox.Entry.{Entry}
+use Rattle.cdb_leader.specs.declared.inbox.Received.{Received}
 use Rattle.cdb_leader.specs.declared.inbox.FirstPhase.{FirstPhase}
 use Rattle.cdb_leader.specs.declared.firsts.Firsts.{Firsts}
 use Rattle.cdb_leader.specs.declared.row.Row.{Row}
@@ -150,7 +150,7 @@ read_false : {A : Type 0} (a : Bool) (o : Option A) → o ≡ None → is_some (
 read_false true o e = ap is_some e
 read_false false o e = refl
 
-module _ {A : Type 0} (reading : Payload → Option A) (inbox : List Entry) (y : Entry) where
+module _ {A : Type 0} (reading : Payload → Option A) (inbox : List Received) (y : Received) where
   -- an entry that reads as something is noted for its sender
   pub AreFirsts-push : (v : A) (old new : Firsts) → reading y.payload ≡ Some v → AreFirsts reading old inbox
       → ChangesFrom y.from (noted (length inbox)) old new → AreFirsts reading new (inbox ++ y ∷ [])
@@ -182,7 +182,7 @@ module _ {A : Type 0} (reading : Payload → Option A) (inbox : List Entry) (y :
 
 -- ---- the row of one round
 
-module _ (r : ℕ) (inbox : List Entry) (y : Entry) where
+module _ (r : ℕ) (inbox : List Received) (y : Received) where
   no_answer : second_phase r y.payload ≡ None
       → first_position (λ e. is_some (second_phase r e.payload)) (inbox ++ y ∷ []) ≡ first_position (λ e. is_some (second_phase r e.payload)) inbox
   no_answer nil = first_position-silent (λ e. is_some (second_phase r e.payload)) inbox y (ap is_some nil)
@@ -307,12 +307,12 @@ a_decision (D est) none = (est, refl, λ q. refl, λ q. refl)
 
 -- ---- a row that is not there
 
-module _ (r : ℕ) (inbox : List Entry) where
+module _ (r : ℕ) (inbox : List Received) where
   pub row_of_none : (o : Option Row) → o ≡ None → IsRoundOf r o inbox → (row : Row) → IsEmptyRow row → IsRowOf r row inbox
   row_of_none None none h = h
   row_of_none (Some row) none h = absurd (cc)
 
-module _ (r : ℕ) (inbox : List Entry) (o : Option Row) (none : o ≡ None) (h : IsRoundOf r o inbox) (new : Firsts) (empty : (s : ℕ) → position_from s new ≡ None) where
+module _ (r : ℕ) (inbox : List Received) (o : Option Row) (none : o ≡ None) (h : IsRoundOf r o inbox) (new : Firsts) (empty : (s : ℕ) → position_from s new ≡ None) where
   abbrev new_row : Row
   new_row = record { first_phases = new; second_phases = new; answer = None; other_answer = None }
 
@@ -332,7 +332,7 @@ empty_changes s n kept empty = λ t. by_sender t (s == t) where
   by_sender t true = empty t ∙ sym (ap (forgotten n) (empty t))
   by_sender t false = refl
 
-empty_back : (r : ℕ) (inbox : List Entry) (y : Entry) (x : Payload) → y.payload ≡ x → round_of y.payload ≡ Some r → (row : Row) → IsEmptyRow row
+empty_back : (r : ℕ) (inbox : List Received) (y : Received) (x : Payload) → y.payload ≡ x → round_of y.payload ≡ Some r → (row : Row) → IsEmptyRow row
     → IsRowOf r row (inbox ++ y ∷ []) → IsRowOf r row inbox
 empty_back r inbox y (P1 round est lead) is at row e h =
     IsRowOf-forget_first r inbox y _ row row (first_of y.payload r round est lead is at) (ap (second_phase r) is) h
@@ -345,7 +345,7 @@ empty_back r inbox y (D est) is at row e h = let nowhere : Path (Option ℕ) Non
 
 -- ---- the whole index
 
-module _ (old new : Index) (inbox : List Entry) (y : Entry) where
+module _ (old new : Index) (inbox : List Received) (y : Received) where
   module _ (r : ℕ) (row : Row) (at : round_of y.payload ≡ Some r) (decisions : new.decisions ≡ old.decisions)
       (updates : (q : ℕ) → get nat_eq new.rows q ≡ cond (nat_eq r q) (Some row) (get nat_eq old.rows q)) where
     pub IsIndexOf-push_row : IsIndexOf old inbox → IsRowOf r row (inbox ++ y ∷ []) → IsIndexOf new (inbox ++ y ∷ [])
@@ -384,7 +384,7 @@ module _ (old new : Index) (inbox : List Entry) (y : Entry) where
         }
 
 -- the row of its round is not there
-pub IsIndexOf-forget_none : (index : Index) (inbox : List Entry) (y : Entry) (r : ℕ) → round_of y.payload ≡ Some r → get nat_eq index.rows r ≡ None
+pub IsIndexOf-forget_none : (index : Index) (inbox : List Received) (y : Received) (r : ℕ) → round_of y.payload ≡ Some r → get nat_eq index.rows r ≡ None
     → IsIndexOf index (inbox ++ y ∷ []) → IsIndexOf index inbox
 IsIndexOf-forget_none index inbox y r at none h = record {
   rounds = λ q. by_round q (nat_eq r q) refl;
@@ -398,5 +398,5 @@ IsIndexOf-forget_none index inbox y r at none h = record {
   by_round q true e = subst (λ n. IsRoundOf n (get nat_eq index.rows n) inbox) (eqb-true r q e) there
   by_round q false e = IsRoundOf-shorter q inbox y (not_first y.payload r q at e) (not_second y.payload r q at e) (get nat_eq index.rows q) (h.rounds q)
 
-pub row_is_there : (r : ℕ) (o : Option Row) (row : Row) (inbox : List Entry) → Some row ≡ o → IsRoundOf r o inbox → IsRowOf r row inbox
+pub row_is_there : (r : ℕ) (o : Option Row) (row : Row) (inbox : List Received) → Some row ≡ o → IsRoundOf r o inbox → IsRowOf r row inbox
 row_is_there r o row inbox is h = subst (λ p. IsRoundOf r p inbox) (sym is) h

@@ -9,7 +9,7 @@ use Rattle.std.specs.Fn.{Called}
 use denote.Param.Members.{Mut}
 use Rattle.cdb_base.specs.Processes.{all_processes}
 use Rattle.cdb_base.specs.declared.payload.Payload.{Payload}
-use Rattle.cdb_leader.specs.declared.inbox.Entry.{Entry}
+use Rattle.cdb_leader.specs.declared.inbox.Received.{Received}
 use Rattle.cdb_leader.specs.declared.inbox.FirstPhase.{FirstPhase}
 use Rattle.cdb_leader.specs.declared.first_phases.FirstPhases.{FirstPhases}
 use Rattle.cdb_leader.specs.declared.firsts.Firsts.{Firsts}
@@ -38,7 +38,7 @@ module _ {X A : Type 0} (f : X → Option A) where
     by_first None None rest = rest
     by_first None (Some i) rest = rest
 
-module _ {A : Type 0} (reading : Payload → Option A) (kept : Firsts) (inbox : List Entry) (h : AreFirsts reading kept inbox) where
+module _ {A : Type 0} (reading : Payload → Option A) (kept : Firsts) (inbox : List Received) (h : AreFirsts reading kept inbox) where
   -- what is read at the position that is kept for a sender
   pub read_at : (s : ℕ) → option_and_then (if_from s reading) (option_and_then (slice_get inbox) (position_from s kept)) ≡ first_from s reading inbox
   read_at s = ap (λ o. option_and_then (if_from s reading) (option_and_then (slice_get inbox) o)) (h s) ∙ at_first (if_from s reading) inbox
@@ -57,17 +57,17 @@ module _ {A : Type 0} (reading : Payload → Option A) (kept : Firsts) (inbox : 
         ∙ ap (λ b. fold (λ a t. a + cond (is_some (first_from t reading inbox)) 1 0) (n + cond b 1 0) ss) (is_kept s)
 
 -- what is read at the position of the first answer
-pub answer_at : (r : ℕ) (row : Row) (inbox : List Entry) → IsRowOf r row inbox
+pub answer_at : (r : ℕ) (row : Row) (inbox : List Received) → IsRowOf r row inbox
     → option_and_then (λ e. second_phase r e.payload) (option_and_then (slice_get inbox) row.answer) ≡ answer_in r inbox
 answer_at r row inbox h =
     ap (λ o. option_and_then (λ e. second_phase r e.payload) (option_and_then (slice_get inbox) o)) h.answer ∙ at_first (λ e. second_phase r e.payload) inbox
 
 -- the same, as a look-up finds an entry or none
-module _ (r : ℕ) (row : Row) (inbox : List Entry) (h : IsRowOf r row inbox) (o : Option Entry) (at : o ≡ option_and_then (slice_get inbox) row.answer) where
+module _ (r : ℕ) (row : Row) (inbox : List Received) (h : IsRowOf r row inbox) (o : Option Received) (at : o ≡ option_and_then (slice_get inbox) row.answer) where
   pub answer_none : o ≡ None → None ≡ answer_in r inbox
   answer_none none = ap (option_and_then (λ e. second_phase r e.payload)) (sym none ∙ at) ∙ answer_at r row inbox h
 
-  pub answer_some : (e : Entry) → o ≡ Some e → second_phase r e.payload ≡ answer_in r inbox
+  pub answer_some : (e : Received) → o ≡ Some e → second_phase r e.payload ≡ answer_in r inbox
   answer_some e some = ap (option_and_then (λ e. second_phase r e.payload)) (sym some ∙ at) ∙ answer_at r row inbox h
 
 -- ---- whether every second-phase message of a round carries one value
@@ -129,7 +129,7 @@ module _ {X : Type 0} (f : X → Option (Option ℕ)) (w : ℕ) where
   only_by_none xs is = none_fails xs is
 
 -- by the row of a round
-module _ (r w : ℕ) (row : Row) (inbox : List Entry) (h : IsRowOf r row inbox) where
+module _ (r w : ℕ) (row : Row) (inbox : List Received) (h : IsRowOf r row inbox) where
   pub only_alike : (a : Option ℕ) → answer_in r inbox ≡ Some a → is_only_proposal r w inbox ≡ (carries w (Some a) && not (is_some row.other_answer))
   only_alike a is = only_by_first (λ e. second_phase r e.payload) w inbox a is ∙ ap (λ o. carries w (Some a) && not (is_some o)) (sym h.other_answer)
 
@@ -147,7 +147,7 @@ unfolding all_processes
 each_process P h =
     (h 0 0 (omega arith), (h 1 0 (omega arith), (h 2 0 (omega arith), (h 3 0 (omega arith), (h 4 0 (omega arith), (h 5 0 (omega arith), (h 6 0 (omega arith), (h 7 0 (omega arith), (h 8 0 (omega arith), tt)))))))))
 
-module _ (q r : ℕ) (said : FirstPhases) (inbox : List Entry) (h : All (λ s. said_by s said ≡ first_phase_from r s inbox) all_processes) where
+module _ (q r : ℕ) (said : FirstPhases) (inbox : List Received) (h : All (λ s. said_by s said ≡ first_phase_from r s inbox) all_processes) where
   abbrev Says : ℕ → Type 0
   Says s = said_by s said ≡ first_phase_from r s inbox
 

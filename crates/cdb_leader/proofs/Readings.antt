@@ -6,7 +6,7 @@ use Rattle.std.proofs.Common.{inl, inr, arith, sym, ◌∙◌, ap, subst, eqb-tr
 use Rattle.cdb_base.specs.Processes.{all_processes}
 use Rattle.cdb_base.specs.declared.payload.Payload.{Payload}
 use Rattle.cdb_base.specs.declared.payload.Payload.TheVariants.{P1, P2, D}
-use Rattle.cdb_leader.specs.declared.inbox.Entry.{Entry}
+use Rattle.cdb_leader.specs.declared.inbox.Received.{Received}
 use Rattle.cdb_leader.specs.declared.inbox.FirstPhase.{FirstPhase}
 use Rattle.cdb_leader.specs.Inbox.{first_given, first_phase, second_phase, decision_in, if_from, first_from, first_phase_from, second_phase_from, decision_from, names, backers, is_agreed, agreed_leader, agreed_estimate, second_phase_senders, proposal, carries, is_only_proposal, learnt}
 use Rattle.cdb_leader.specs.Quorum.{count_processes, IsQuorum}
@@ -72,7 +72,7 @@ first_from_heard : {A : Type 0} (s : ℕ) (reading : Payload → Option A) (inbo
     → (x : Payload) × Heard inbox s x × (reading x ≡ Some a)
 first_from_heard {A} s reading inbox a is = let found = given_from (if_from s reading) inbox a is in go found.0 found.1 (found.0.from == s) refl found.2
   where
-    go : (e : Entry) → IsIn e inbox → (b : Bool) → (e.from == s) ≡ b → (if b then reading e.payload else None) ≡ Some a
+    go : (e : Received) → IsIn e inbox → (b : Bool) → (e.from == s) ≡ b → (if b then reading e.payload else None) ≡ Some a
         → (x : Payload) × Heard inbox s x × (reading x ≡ Some a)
     go e here true same is_read =
         let from : e.from ≡ s = eqb-true e.from s same in

@@ -3,15 +3,15 @@ use Rattle.std.specs.Prelude.{◌≡◌, ℕ, suc, ◌+◌, ◌≤◌, List, [],
 use Rattle.std.proofs.Common.{inl, inr, arith, sym, ap, subst}
 use Rattle.cdb_base.specs.declared.payload.Payload.{Payload}
 use Rattle.cdb_base.specs.declared.payload.Payload.TheVariants.{P1, P2, D}
-use Rattle.cdb_leader.specs.declared.inbox.Entry.{Entry}
+use Rattle.cdb_leader.specs.declared.inbox.Received.{Received}
 use Rattle.cdb_leader.specs.Bases.{AuxBasis, Carried, LeaveBasis, Answered, AnsweredAlike, DecisionBasis}
 use Rattle.cdb_leader.specs.Quorum.{IsQuorum}
 use Rattle.cdb_process.proofs.Members.{IsIn, Grows, same_grows, push_grows, in_push, in_push_new, in_push_other}
 
 abbrev pub Inbox : Type 0
-Inbox = List Entry
+Inbox = List Received
 
-abbrev pub entry : ℕ → Payload → Entry
+abbrev pub entry : ℕ → Payload → Received
 entry s x = record { from = s; payload = x }
 
 -- the local state of one process
@@ -475,8 +475,8 @@ step_delivers q mail l sent k posted step s x it =
     new : (p : ℕ) (y : Payload) → IsIn y (mail p) → Heard l.inbox s x ⊎ (entry s x ≡ entry p y) → Heard l.inbox s x ⊎ IsIn x (mail s)
     new p y known (inl here) = inl here
     new p y known (inr same) =
-        let sender : p ≡ s = sym (ap (λ (e : Entry). e.from) same) in
-        let payload : y ≡ x = sym (ap (λ (e : Entry). e.payload) same) in
+        let sender : p ≡ s = sym (ap (λ (e : Received). e.from) same) in
+        let payload : y ≡ x = sym (ap (λ (e : Received). e.payload) same) in
         let P : ℕ → Type 0 = λ o. IsIn y (mail o) in
         let Q : Payload → Type 0 = λ z. IsIn z (mail s) in
         inr (subst Q payload (subst P sender known))

@@ -6,7 +6,7 @@ use Rattle.cdb_base.specs.declared.payload.Payload.{Payload}
 use Rattle.cdb_base.specs.declared.payload.Payload.TheVariants.{P1, P2, D}
 use Rattle.cdb_base.specs.Places.{nth}
 use Rattle.cdb_base.specs.Processes.{all_processes}
-use Rattle.cdb_leader.specs.declared.inbox.Entry.{Entry}
+use Rattle.cdb_leader.specs.declared.inbox.Received.{Received}
 use Rattle.cdb_leader.specs.declared.inbox.FirstPhase.{FirstPhase}
 use Rattle.cdb_leader.specs.declared.first_phases.FirstPhases.{FirstPhases}
 use Rattle.cdb_leader.specs.declared.firsts.Firsts.{Firsts}
@@ -48,11 +48,11 @@ ChangesFrom s change old new =
     (t : ℕ) → position_from t new ≡ (if s == t then change (position_from t old) else position_from t old)
 
 -- the entry came from s and reads as something
-abbrev pub reads_from : {A : Type 0} → ℕ → (Payload → Option A) → Entry → Bool
+abbrev pub reads_from : {A : Type 0} → ℕ → (Payload → Option A) → Received → Bool
 reads_from s reading e = is_some (if_from s reading e)
 
 -- for each sender the position of its first entry that reads as something
-abbrev pub AreFirsts : {A : Type 0} → (Payload → Option A) → Firsts → List Entry → Type 0
+abbrev pub AreFirsts : {A : Type 0} → (Payload → Option A) → Firsts → List Received → Type 0
 AreFirsts reading kept inbox =
     (s : ℕ) → position_from s kept ≡ first_position (reads_from s reading) inbox
 
@@ -75,7 +75,7 @@ agreed_among q said =
 -- ---- by round
 
 -- what the first second-phase message of round r carries, whoever sent it
-abbrev pub answer_in : ℕ → List Entry → Option (Option ℕ)
+abbrev pub answer_in : ℕ → List Received → Option (Option ℕ)
 answer_in r inbox = first_given (λ e. second_phase r e.payload) inbox
 
 -- both are there, and they carry different things
@@ -89,7 +89,7 @@ are_different (Some (Some v)) (Some (Some w)) = not (v == w)
 
 -- the row says where in the inbox the first messages of round r stand: those of each sender, the
 -- first answer, and the first that carries something else than that
-pub record IsRowOf (r : ℕ) (row : Row) (inbox : List Entry) : Type 0 where
+pub record IsRowOf (r : ℕ) (row : Row) (inbox : List Received) : Type 0 where
   pub first_phases : AreFirsts (first_phase r) row.first_phases inbox
   pub second_phases : AreFirsts (second_phase r) row.second_phases inbox
   pub answer : row.answer ≡ first_position (λ e. is_some (second_phase r e.payload)) inbox
@@ -104,12 +104,12 @@ pub record IsEmptyRow (row : Row) : Type 0 where
   pub other_answer : row.other_answer ≡ None
 
 -- a round that has no row needs an empty one
-abbrev pub IsRoundOf : ℕ → Option Row → List Entry → Type 0
+abbrev pub IsRoundOf : ℕ → Option Row → List Received → Type 0
 IsRoundOf r (Some row) inbox = IsRowOf r row inbox
 IsRoundOf r None inbox = (row : Row) → IsEmptyRow row → IsRowOf r row inbox
 
 -- ---- the index of an inbox
 
-pub record IsIndexOf (index : Index) (inbox : List Entry) : Type 0 where
+pub record IsIndexOf (index : Index) (inbox : List Received) : Type 0 where
   pub rounds : (r : ℕ) → IsRoundOf r (get nat_eq index.rows r) inbox
   pub decisions : AreFirsts decision_in index.decisions inbox

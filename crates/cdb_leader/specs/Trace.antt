@@ -7,7 +7,7 @@ use Rattle.cdb_base.specs.declared.payload.Payload.TheVariants.{P1, P2, D}
 use Rattle.cdb_process.specs.declared.Input.{Input}
 use Rattle.cdb_process.specs.declared.Input.TheVariants.{Send, Recv}
 use Rattle.cdb_process.specs.Walk.{state_along, along}
-use Rattle.cdb_leader.specs.declared.inbox.Entry.{Entry}
+use Rattle.cdb_leader.specs.declared.inbox.Received.{Received}
 use Rattle.cdb_leader.specs.Bases.{AuxBasis, LeaveBasis, DecisionBasis}
 use Rattle.cdb_leader.specs.LocalState.{LocalState, first_state}
 use Rattle.cdb_leader.specs.Table.{sent_at, next_state}
@@ -22,7 +22,7 @@ abbrev pub sent_along : LocalState → List Input → List Payload
 sent_along s is = along next_state sent_of s is
 
 -- the payload came from that process
-abbrev pub IsHeard : List Entry → ℕ → Payload → Type 0
+abbrev pub IsHeard : List Received → ℕ → Payload → Type 0
 IsHeard inbox from payload = Contains inbox (record { from = from; payload = payload })
 
 -- what a process with quorum q has sent, and on what of its inbox that rests

@@ -1,3 +1,5 @@
+//! The first-phase messages of a round, and what a quorum of them says.
+
 ghost use Rattle.std.specs.Prelude.{◌≡◌, count_by};
 ghost use Rattle.cdb_base.specs.Processes.{all_processes};
 ghost use Rattle.cdb_leader.specs.Inbox.{names};

@@ -1,3 +1,5 @@
+//! For each sender the position of its first message of a kind.
+
 ghost use Rattle.std.specs.Prelude.{◌≡◌, ℕ, ◌==◌, None, count_by, is_some, if◌then◌else◌};
 ghost use Rattle.cdb_base.specs.Processes.{all_processes};
 ghost use Rattle.cdb_leader.specs.Index.{position_from, noted, forgotten, ChangesFrom};

@@ -1,3 +1,5 @@
+//! The inbox: the messages that a machine has received.
+
 ghost use Rattle.std.specs.Prelude.{◌≡◌, IsTrue, ◌↔◌, [], ◌∷◌, ◌++◌, OnOk, OnErr, All, is_some, slice_get};
 ghost use Rattle.std.specs.Option.{option_copied, option_and_then};
 ghost use Rattle.cdb_base.specs.Places.{without_last};
@@ -15,7 +17,7 @@ use std::marker::Model;
 
 /// A message that was received, and its sender.
 #[derive(Clone, Copy, Debug, PartialEq, Eq)]
-pub struct Entry {
+pub struct Received {
     pub from: Proc,
     pub payload: Payload,
 }
@@ -27,7 +29,7 @@ pub struct FirstPhase {
     pub lead: Proc,
 }
 
-impl Entry {
+impl Received {
     ghost use Rattle.cdb_leader.specs.Inbox.{first_phase, second_phase, decision_in, if_from};
     ghost use Rattle.cdb_leader.specs.Index.{round_of};
 
@@ -88,7 +90,7 @@ impl Entry {
 }
 
 /// The entry at that position, if one is given.
-pub(crate) fn entry_at(entries: &[Entry], position: Option<usize>) -> Option<&Entry>
+pub(crate) fn entry_at(entries: &[Received], position: Option<usize>) -> Option<&Received>
     ensures { option_copied result ≡ option_and_then (slice_get entries.now) position }
 {
     entries.get(position?)
@@ -98,16 +100,16 @@ pub(crate) fn entry_at(entries: &[Entry], position: Option<usize>) -> Option<&En
 /// receipt. Beside the list stands an index, so that no question goes over the list.
 #[derive(Drop)]
 pub struct Inbox {
-    entries: Vec<Entry>,
+    entries: Vec<Received>,
     index: Index,
 }
 
 impl Model for Inbox {
     ghost use Rattle.std.specs.Prelude.{List};
-    ghost use Rattle.cdb_leader.specs.declared.inbox.Entry.{Entry};
+    ghost use Rattle.cdb_leader.specs.declared.inbox.Received.{Received};
     ghost use Rattle.cdb_leader.specs.Index.{IsIndexOf};
 
-    ghost Value = { List Entry };
+    ghost Value = { List Received };
 
     ghost view = { λ x. x.entries.items };
 
@@ -126,7 +128,7 @@ impl Inbox {
     }
 
     /// Adds an entry at the end. Where an allocation fails, the inbox is as it was.
-    pub(crate) fn push(&mut self, entry: &Entry) -> Result<(), NoMemory>
+    pub(crate) fn push(&mut self, entry: &Received) -> Result<(), NoMemory>
         ensures ok { OnOk result (self.new ≡ self.old ++ entry.now ∷ []) }
         ensures err { OnErr result (self.new ≡ self.old) }
     {

@@ -1,10 +1,12 @@
+//! An index of an inbox: for each round and sender the first message of each phase, and for each sender its first decision.
+
 ghost use Rattle.std.specs.Prelude.{◌≡◌, List, [], ◌∷◌, ◌++◌, OnOk, OnErr};
-ghost use Rattle.cdb_leader.specs.declared.inbox.Entry.{Entry};
+ghost use Rattle.cdb_leader.specs.declared.inbox.Received.{Received};
 ghost use Rattle.cdb_leader.specs.Inbox.{first_phase, second_phase, decision_in};
 ghost use Rattle.cdb_leader.specs.Index.{position_from, AreFirsts, IsRowOf, IsIndexOf};
 
 use crate::firsts::Firsts;
-use crate::inbox::Entry;
+use crate::inbox::Received;
 use crate::row::Row;
 use cdb_base::{NoMemory, Proc};
 use std::alloc::Global;
@@ -31,7 +33,7 @@ impl Index {
 
     /// What is kept for that round.
     pub(crate) fn row(&self, round: u32) -> Row
-        ensures { (inbox : List Entry) → IsIndexOf self.now inbox → IsRowOf round result inbox }
+        ensures { (inbox : List Received) → IsIndexOf self.now inbox → IsRowOf round result inbox }
     {
         match self.rows.get(&round) {
             Some(row) => *row,
@@ -41,7 +43,7 @@ impl Index {
 
     /// What is kept of that round's first phase.
     pub(crate) fn first_phases(&self, round: u32) -> Firsts
-        ensures { (inbox : List Entry) → IsIndexOf self.now inbox
+        ensures { (inbox : List Received) → IsIndexOf self.now inbox
             → AreFirsts (first_phase round) result inbox }
     {
         match self.rows.get(&round) {
@@ -52,7 +54,7 @@ impl Index {
 
     /// What is kept of that round's second phase.
     pub(crate) fn second_phases(&self, round: u32) -> Firsts
-        ensures { (inbox : List Entry) → IsIndexOf self.now inbox
+        ensures { (inbox : List Received) → IsIndexOf self.now inbox
             → AreFirsts (second_phase round) result inbox }
     {
         match self.rows.get(&round) {
@@ -69,7 +71,7 @@ impl Index {
     }
 
     /// Notes the entry that comes after those. Where an allocation fails, the index is as it was.
-    pub(crate) fn note(&mut self, entries: &[Entry], entry: &Entry) -> Result<(), NoMemory>
+    pub(crate) fn note(&mut self, entries: &[Received], entry: &Received) -> Result<(), NoMemory>
         ensures ok { IsIndexOf self.old entries.now
             → OnOk result (IsIndexOf self.new (entries.now ++ entry.now ∷ [])) }
         ensures err { IsIndexOf self.old entries.now
@@ -91,7 +93,7 @@ impl Index {
     }
 
     /// Forgets the entry that came after those. It allocates nothing.
-    pub(crate) fn forget(&mut self, entries: &[Entry], entry: &Entry)
+    pub(crate) fn forget(&mut self, entries: &[Received], entry: &Received)
         ensures { IsIndexOf self.old (entries.now ++ entry.now ∷ [])
             → IsIndexOf self.new entries.now }
     {

@@ -1,7 +1,9 @@
+//! The machine of one process of leader-based consensus.
+
 ghost use Rattle.std.specs.Prelude.{◌≡◌, ℕ, ◌+◌, ◌<◌, ◌↔◌, Option, Some, None, IsTrue, IsSome, IfOk, OnErr, is_some, if◌then◌else◌};
 
 use crate::back::Back;
-use crate::inbox::{Entry, Inbox};
+use crate::inbox::{Inbox, Received};
 use crate::place::Place;
 use cdb_base::limits::MAX_ROUND;
 use cdb_base::{NoMemory, Payload, Proc, Val};
@@ -262,7 +264,7 @@ impl Leader {
         ensures inbox { IfOk result (λ _. without_last self.new.inbox ≡ self.old.inbox) }
         ensures unchanged { OnErr result (self.new ≡ self.old) }
     {
-        self.inbox.push(&Entry { from, payload })
+        self.inbox.push(&Received { from, payload })
     }
 }
 

@@ -1,3 +1,5 @@
+//! Where a leader machine stands in its round.
+
 ghost use Rattle.std.specs.Prelude.{◌≡◌};
 ghost use Rattle.cdb_leader.specs.Place.{place_number};
 

@@ -1,8 +1,10 @@
+//! What an index holds of one round.
+
 ghost use Rattle.std.specs.Prelude.{◌≡◌, ℕ, Some, ◌++◌, ◌∷◌, [], is_some, if◌then◌else◌};
 ghost use Rattle.cdb_leader.specs.Index.{round_of, noted, forgotten, ChangesFrom, answer_in, are_different, IsRowOf, IsEmptyRow};
 
 use crate::firsts::{Firsts, forgotten, noted};
-use crate::inbox::{Entry, entry_at};
+use crate::inbox::{Received, entry_at};
 use cdb_base::{Payload, Proc, Val};
 
 /// Where in an inbox the first messages of one round stand.
@@ -38,7 +40,7 @@ impl Row {
     }
 
     /// What the first second-phase message of the round carries, whoever sent it.
-    pub(crate) fn find_answer(&self, round: u32, entries: &[Entry]) -> Option<Option<Val>>
+    pub(crate) fn find_answer(&self, round: u32, entries: &[Received]) -> Option<Option<Val>>
         ensures { IsRowOf round self.now entries.now → result ≡ answer_in round entries.now }
     {
         entry_at(entries, self.answer)?.answer(round)
@@ -79,7 +81,7 @@ impl Row {
     }
 
     /// Notes an entry of the round, which comes after those.
-    pub(crate) fn note(&mut self, round: u32, entries: &[Entry], entry: &Entry)
+    pub(crate) fn note(&mut self, round: u32, entries: &[Received], entry: &Received)
         ensures { round_of entry.now.payload ≡ Some round → IsRowOf round self.old entries.now
             → IsRowOf round self.new (entries.now ++ entry.now ∷ []) }
     {
@@ -94,7 +96,7 @@ impl Row {
     }
 
     /// Forgets an entry of the round, which came after those.
-    pub(crate) fn forget(&mut self, round: u32, entries: &[Entry], entry: &Entry)
+    pub(crate) fn forget(&mut self, round: u32, entries: &[Received], entry: &Received)
         ensures { round_of entry.now.payload ≡ Some round
             → IsRowOf round self.old (entries.now ++ entry.now ∷ []) → IsRowOf round self.new entries.now }
     {

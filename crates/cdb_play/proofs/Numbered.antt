@@ -10,7 +10,7 @@ module _ (a b c d : Piece) where
 
   pub numbered : (shown number : ℕ) (name fault_name detail : List ℕ) → shown ≡ number → name ≡ fault_name → pieces_text (a ∷ b ∷ c ∷ d ∷ []) ≡ detail
       → codes "setup fault " ++ (decimal shown ++ (codes " " ++ (name ++ (piece_text a ++ (piece_text b ++ (piece_text c ++ (piece_text d ++ (codes "\n" ++ []))))))))
-      ≡ codes "setup fault " ++ decimal number ++ codes " " ++ fault_name ++ detail ++ codes "\n"
+      ≡ (codes "setup fault " ++ decimal number ++ codes " " ++ fault_name ++ detail) ++ codes "\n"
   numbered shown number name fault_name detail same named is =
       ap (λ t. codes "setup fault " ++ (decimal shown ++ (codes " " ++ (name ++ t)))) (four (codes "\n") ∙ ap (λ t. t ++ codes "\n") is)
       ∙ ap (λ n. codes "setup fault " ++ (decimal n ++ (codes " " ++ (name ++ (detail ++ codes "\n"))))) same

@@ -2,9 +2,12 @@
 
 ghost use Rattle.std.specs.Prelude.{◌≡◌, ◌↔◌, ℕ, ◌<◌, ◌≤◌, List, [], ◌++◌, take, length, vec_capacity, IsTrue, IfOk, OnOk, OnErr};
 
+use crate::fault::PlayFault;
 use crate::sink::{Failed, Sink, write_all};
 use cdb_base::NoMemory;
 use std::alloc::{AllocError, Global};
+use std::error::Error;
+use std::fmt;
 use std::marker::Model;
 
 /// How many bytes are handed on at a time.
@@ -17,6 +20,22 @@ pub enum OutputFault {
     Write,
     NoMemory,
 }
+
+/// The text of the fault of a play.
+impl fmt::Display for OutputFault {
+    ghost use Rattle.std.specs.Prelude.{Some, codes};
+    ghost use Rattle.cdb_play.specs.FaultTexts.{play_fault_text};
+    ghost use Rattle.cdb_play.specs.Faults.{of_output};
+
+    ghost output = { λ fault. Some (play_fault_text (of_output fault) (codes "the input")) };
+
+    fn fmt<W: fmt::Write>(&self, f: &mut fmt::Formatter<W>) -> fmt::Result {
+        let fault = PlayFault::from(*self);
+        write!(f, "{fault}")
+    }
+}
+
+impl Error for OutputFault {}
 
 impl From<Failed> for OutputFault {
     ghost use Rattle.std.specs.Prelude.{◌≡◌};

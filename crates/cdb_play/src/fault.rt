@@ -1,11 +1,16 @@
 //! Why a play or a race ended early.
 
+ghost use Rattle.std.specs.Prelude.{Some, codes};
+ghost use Rattle.cdb_play.specs.FaultTexts.{play_fault_text, race_fault_text};
+
 use crate::buffer::OutputFault;
 use crate::script::ScriptFault;
 use crate::source::ReadFault;
 use cdb_base::NoMemory;
 use cdb_setup::SetupFault;
 use cdb_text::LineFault;
+use std::error::Error;
+use std::fmt;
 
 /// Why a play ended early. Scripts and lines count from 1, and a play has one script.
 #[derive(Clone, Copy, Debug, PartialEq, Eq)]
@@ -42,6 +47,50 @@ pub enum RaceFault {
     /// The gate of this seat stopped its calls.
     Stopped(u8),
 }
+
+/// The text that the program reports, without the end of the line; the program names what could not be read, which here is the
+/// input.
+impl fmt::Display for PlayFault {
+    ghost output = { λ fault. Some (play_fault_text fault (codes "the input")) };
+
+    fn fmt<W: fmt::Write>(&self, f: &mut fmt::Formatter<W>) -> fmt::Result {
+        match self {
+            PlayFault::Setup(fault) => write!(f, "{fault}"),
+            PlayFault::Line(script, line, fault) => write!(
+                f,
+                "script {script} line {line} {fault}"
+            ),
+            PlayFault::ScriptTooLong(script) => write!(f, "script {script} too long"),
+            PlayFault::Read => f.write_str("cannot read the input"),
+            PlayFault::Write => f.write_str("output failed"),
+            PlayFault::NoMemory => f.write_str("no memory"),
+        }
+    }
+}
+
+impl Error for PlayFault {}
+
+/// The text that the program reports, without the end of the line.
+impl fmt::Display for RaceFault {
+    ghost output = { λ fault. Some (race_fault_text fault) };
+
+    fn fmt<W: fmt::Write>(&self, f: &mut fmt::Formatter<W>) -> fmt::Result {
+        match self {
+            RaceFault::Setup(fault) => write!(f, "{fault}"),
+            RaceFault::Line(script, line, fault) => write!(
+                f,
+                "script {script} line {line} {fault}"
+            ),
+            RaceFault::ScriptTooLong(script) => write!(f, "script {script} too long"),
+            RaceFault::Write => f.write_str("output failed"),
+            RaceFault::NoMemory => f.write_str("no memory"),
+            RaceFault::JournalFull => f.write_str("journal full"),
+            RaceFault::Spawn | RaceFault::Stopped(_) => f.write_str("no thread"),
+        }
+    }
+}
+
+impl Error for RaceFault {}
 
 impl From<SetupFault> for PlayFault {
     ghost use Rattle.std.specs.Prelude.{◌≡◌};

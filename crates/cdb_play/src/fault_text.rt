@@ -1,7 +1,8 @@
-//! The texts of faults. They are written without memory.
+//! The lines that report faults. They are written without allocating.
 
 ghost use Rattle.std.specs.Prelude.{◌≡◌, ◌∷◌, [], Some};
-ghost use Rattle.cdb_play.specs.FaultTexts.{setup_detail, numbered_text, setup_fault_text, line_fault_text, too_long_text, play_fault_text, race_fault_text};
+ghost use Rattle.cdb_setup.specs.Numbers.{numbered_text, setup_detail, setup_fault_text};
+ghost use Rattle.cdb_play.specs.FaultTexts.{as_line, play_fault_text, race_fault_text, script_line_text, too_long_text};
 ghost use Rattle.cdb_play.specs.Pieces.{pieces_text};
 ghost use Rattle.cdb_play.specs.Streams.{Writes};
 
@@ -12,9 +13,11 @@ use crate::sink::{Failed, Sink};
 use cdb_setup::SetupFault;
 use cdb_text::LineFault;
 
-const NO_MEMORY: &str = "no memory\n";
+const NO_MEMORY: &str = "no memory";
 
-const OUTPUT_FAILED: &str = "output failed\n";
+const OUTPUT_FAILED: &str = "output failed";
+
+const END: Piece<'static> = Text("\n");
 
 /// What a fault of a setup carries: after a space its key, its place, or its process and place.
 fn detail_of(
@@ -40,7 +43,7 @@ fn detail_of(
 /// A fault of a setup that has this number.
 fn write_numbered<W: Sink>(number: u8, fault: &SetupFault, err: &mut W) -> Result<(), Failed>
     ensures { Writes W.contents W.failures result err.old err.new
-        (numbered_text (Some number) fault.now) }
+        (as_line (numbered_text (Some number) fault.now)) }
 {
     let number = Number(usize::from(number));
     let name = Text(fault.name());
@@ -54,17 +57,17 @@ fn write_numbered<W: Sink>(number: u8, fault: &SetupFault, err: &mut W) -> Resul
         second,
         third,
         fourth,
-        Text("\n"),
+        END,
     ];
     write_each(err, &pieces)
 }
 
 fn write_setup_fault<W: Sink>(fault: &SetupFault, err: &mut W) -> Result<(), Failed>
-    ensures { Writes W.contents W.failures result err.old err.new (setup_fault_text fault.now) }
+    ensures { Writes W.contents W.failures result err.old err.new (as_line (setup_fault_text fault.now)) }
 {
     match fault.number() {
         Some(number) => write_numbered(number, fault, err),
-        None => write_each(err, &[Text(NO_MEMORY)]),
+        None => write_each(err, &[Text(NO_MEMORY), END]),
     }
 }
 
@@ -75,7 +78,7 @@ fn write_line_fault<W: Sink>(
     err: &mut W,
 ) -> Result<(), Failed>
     ensures { Writes W.contents W.failures result err.old err.new
-        (line_fault_text script line fault) }
+        (as_line (script_line_text script line fault)) }
 {
     let (script, line) = (Number(script), Number(line));
     let (number, name) = (Number(usize::from(fault.number())), Text(fault.name()));
@@ -88,44 +91,48 @@ fn write_line_fault<W: Sink>(
         number,
         Text(" "),
         name,
-        Text("\n"),
+        END,
     ];
     write_each(err, &pieces)
 }
 
 fn write_too_long<W: Sink>(script: usize, err: &mut W) -> Result<(), Failed>
-    ensures { Writes W.contents W.failures result err.old err.new (too_long_text script) }
+    ensures { Writes W.contents W.failures result err.old err.new (as_line (too_long_text script)) }
 {
-    write_each(err, &[Text("script "), Number(script), Text(" too long\n")])
+    write_each(
+        err,
+        &[Text("script "), Number(script), Text(" too long"), END],
+    )
 }
 
-/// Writes the text of a fault. The name is that of what could not be read. Where the writer fails, what was
-/// written is a beginning of the text.
+/// Writes the line that reports a fault. The name is that of what could not be read. Where the writer fails, what
+/// was written is a beginning of the line.
 pub fn write_fault<W: Sink>(fault: &PlayFault, name: &str, err: &mut W) -> Result<(), Failed>
     ensures { Writes W.contents W.failures result err.old err.new
-        (play_fault_text fault.now name.now) }
+        (as_line (play_fault_text fault.now name.now)) }
 {
     match fault {
         PlayFault::Setup(fault) => write_setup_fault(fault, err),
         PlayFault::Line(script, line, fault) => write_line_fault(*script, *line, *fault, err),
         PlayFault::ScriptTooLong(script) => write_too_long(*script, err),
-        PlayFault::Read => write_each(err, &[Text("cannot read "), Text(name), Text("\n")]),
-        PlayFault::Write => write_each(err, &[Text(OUTPUT_FAILED)]),
-        PlayFault::NoMemory => write_each(err, &[Text(NO_MEMORY)]),
+        PlayFault::Read => write_each(err, &[Text("cannot read "), Text(name), END]),
+        PlayFault::Write => write_each(err, &[Text(OUTPUT_FAILED), END]),
+        PlayFault::NoMemory => write_each(err, &[Text(NO_MEMORY), END]),
     }
 }
 
-/// Writes the text of a fault of a race. Where the writer fails, what was written is a beginning of it.
+/// Writes the line that reports a fault of a race. Where the writer fails, what was written is a beginning of it.
 pub fn write_race_fault<W: Sink>(fault: &RaceFault, err: &mut W) -> Result<(), Failed>
-    ensures { Writes W.contents W.failures result err.old err.new (race_fault_text fault.now) }
+    ensures { Writes W.contents W.failures result err.old err.new
+        (as_line (race_fault_text fault.now)) }
 {
     match fault {
         RaceFault::Setup(fault) => write_setup_fault(fault, err),
         RaceFault::Line(script, line, fault) => write_line_fault(*script, *line, *fault, err),
         RaceFault::ScriptTooLong(script) => write_too_long(*script, err),
-        RaceFault::Write => write_each(err, &[Text(OUTPUT_FAILED)]),
-        RaceFault::NoMemory => write_each(err, &[Text(NO_MEMORY)]),
-        RaceFault::JournalFull => write_each(err, &[Text("journal full\n")]),
-        RaceFault::Spawn | RaceFault::Stopped(_) => write_each(err, &[Text("no thread\n")]),
+        RaceFault::Write => write_each(err, &[Text(OUTPUT_FAILED), END]),
+        RaceFault::NoMemory => write_each(err, &[Text(NO_MEMORY), END]),
+        RaceFault::JournalFull => write_each(err, &[Text("journal full"), END]),
+        RaceFault::Spawn | RaceFault::Stopped(_) => write_each(err, &[Text("no thread"), END]),
     }
 }

@@ -5,12 +5,15 @@ ghost use Rattle.cdb_play.specs.Lines.{lines_of};
 ghost use Rattle.cdb_setup.specs.Format.{longest};
 ghost use Rattle.cdb_play.specs.Scripts.{AreCommandsOf, IsFaultOfScript};
 
+use crate::fault::PlayFault;
 use crate::lines::first_line;
 use cdb_base::limits::MAX_BYTES;
 use cdb_base::{Act, Reg};
 use cdb_control::{Command, Stop, View};
 use cdb_text::{LineFault, parse_line};
 use std::alloc::{AllocError, Global};
+use std::error::Error;
+use std::fmt;
 
 /// Why a script can't be played.
 #[derive(Clone, Copy, Debug, PartialEq, Eq)]
@@ -21,6 +24,22 @@ pub enum ScriptFault {
     TooLong,
     NoMemory,
 }
+
+/// The text of the fault of a play.
+impl fmt::Display for ScriptFault {
+    ghost use Rattle.std.specs.Prelude.{Some, codes};
+    ghost use Rattle.cdb_play.specs.FaultTexts.{play_fault_text};
+    ghost use Rattle.cdb_play.specs.Faults.{of_script};
+
+    ghost output = { λ fault. Some (play_fault_text (of_script fault) (codes "the input")) };
+
+    fn fmt<W: fmt::Write>(&self, f: &mut fmt::Formatter<W>) -> fmt::Result {
+        let fault = PlayFault::from(*self);
+        write!(f, "{fault}")
+    }
+}
+
+impl Error for ScriptFault {}
 
 impl From<AllocError> for ScriptFault {
     ghost use Rattle.std.specs.Prelude.{◌≡◌};

@@ -5,9 +5,24 @@ ghost use Rattle.std.specs.Io.{WritesAtMost};
 ghost use Rattle.std.specs.Io.KnownBytes.{WriteAppends};
 ghost use Rattle.cdb_play.specs.Streams.{Writes, is_failure, counted};
 
+use std::error::Error;
+use std::fmt;
+
 /// A call on a reader or a writer failed.
 #[derive(Clone, Copy, Debug, PartialEq, Eq)]
 pub struct Failed;
+
+impl fmt::Display for Failed {
+    ghost use Rattle.std.specs.Prelude.{Some, codes};
+
+    ghost output = { λ _. Some (codes "input or output failed") };
+
+    fn fmt<W: fmt::Write>(&self, f: &mut fmt::Formatter<W>) -> fmt::Result {
+        f.write_str("input or output failed")
+    }
+}
+
+impl Error for Failed {}
 
 /// What takes bytes.
 pub trait Sink {

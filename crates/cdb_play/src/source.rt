@@ -5,8 +5,11 @@ ghost use Rattle.std.specs.Io.{ReadsAtMost};
 ghost use Rattle.std.specs.Io.KnownBytes.{Consumes, IsAtEnd, ReadConsumes};
 ghost use Rattle.cdb_play.specs.Streams.{counted, FailsWhere};
 
+use crate::fault::PlayFault;
 use crate::sink::Failed;
 use std::alloc::{AllocError, Global};
+use std::error::Error;
+use std::fmt;
 
 /// What gives bytes.
 pub trait Source {
@@ -31,6 +34,22 @@ pub enum ReadFault {
     Failed,
     NoMemory,
 }
+
+/// The text of the fault of a play.
+impl fmt::Display for ReadFault {
+    ghost use Rattle.std.specs.Prelude.{Some, codes};
+    ghost use Rattle.cdb_play.specs.FaultTexts.{play_fault_text};
+    ghost use Rattle.cdb_play.specs.Faults.{of_reading};
+
+    ghost output = { λ fault. Some (play_fault_text (of_reading fault) (codes "the input")) };
+
+    fn fmt<W: fmt::Write>(&self, f: &mut fmt::Formatter<W>) -> fmt::Result {
+        let fault = PlayFault::from(*self);
+        write!(f, "{fault}")
+    }
+}
+
+impl Error for ReadFault {}
 
 impl From<Failed> for ReadFault {
     ghost use Rattle.std.specs.Prelude.{◌≡◌};

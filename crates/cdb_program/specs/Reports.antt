@@ -1,15 +1,16 @@
 -- How the program reports that a request ended.
 use Rattle.std.specs.Prelude.{◌≡◌, ◌⊎◌, ℕ, List, codes, Result, Ok, Err}
-use Rattle.cdb_play.specs.FaultTexts.{play_fault_text, race_fault_text}
+use Rattle.cdb_play.specs.FaultTexts.{as_line, play_fault_text, race_fault_text}
 use Rattle.cdb_play.specs.Statuses.{play_status, race_status}
 use Rattle.cdb_play.specs.Streams.{Takes, Fails}
 use Rattle.cdb_program.specs.Known.{Stream, contents, failures}
 use Rattle.cdb_program.specs.declared.fault.Fault.{Fault}
 use Rattle.cdb_program.specs.declared.fault.Fault.TheVariants.{Play, Race, NoStep, TooManySeats, Refused}
 
+-- what is reported; a reason is a text of whole lines
 abbrev pub fault_text : Fault → List ℕ
-fault_text (Play fault name) = play_fault_text fault name.now
-fault_text (Race fault) = race_fault_text fault
+fault_text (Play fault name) = as_line (play_fault_text fault name.now)
+fault_text (Race fault) = as_line (race_fault_text fault)
 fault_text NoStep = codes "refused 10 NoStep\n"
 fault_text TooManySeats = codes "too many seats\n"
 fault_text (Refused reason) = reason.now

@@ -4,6 +4,7 @@ ghost use Rattle.cdb_program.specs.Outcomes.{IsOfExplain, IsOfPlay, IsOfRace};
 
 use cdb_explain::ExplainFault;
 use cdb_play::{PlayFault, RaceFault};
+use std::fmt;
 
 /// Why a request was not carried out to its end.
 #[derive(Clone, Copy)]
@@ -11,12 +12,31 @@ pub enum Fault<'a> {
     /// A fault of a play, or of what was to be read for a play or a race, which has this name.
     Play(PlayFault, &'a str),
     Race(RaceFault),
-    /// The step that was to be explained doesn't stand.
+    /// The step that was to be explained or drawn doesn't stand.
     NoStep,
     /// A race of more than 64 processes and scripts.
     TooManySeats,
     /// Nothing was asked for that can be done, and this text says why.
     Refused(&'a str),
+}
+
+/// The whole text that the program reports, with its line ends.
+impl fmt::Display for Fault<'_> {
+    ghost use Rattle.std.specs.Prelude.{Some};
+    ghost use Rattle.cdb_program.specs.Reports.{fault_text};
+
+    ghost output = { λ fault. Some (fault_text fault) };
+
+    fn fmt<W: fmt::Write>(&self, f: &mut fmt::Formatter<W>) -> fmt::Result {
+        match self {
+            Fault::Play(PlayFault::Read, name) => writeln!(f, "cannot read {name}"),
+            Fault::Play(fault, _) => writeln!(f, "{fault}"),
+            Fault::Race(fault) => writeln!(f, "{fault}"),
+            Fault::NoStep => f.write_str("refused 10 NoStep\n"),
+            Fault::TooManySeats => f.write_str("too many seats\n"),
+            Fault::Refused(reason) => f.write_str(reason),
+        }
+    }
 }
 
 /// How a request ended that was a play of the script of this name.
@@ -39,7 +59,7 @@ pub fn of_race<'a>(raced: Result<(), RaceFault>) -> Result<(), Fault<'a>>
     }
 }
 
-/// How a request ended that explained a step of the run that the script of this name leaves.
+/// How a request ended that explained a step of the run that the script of this name leaves, or drew that run.
 pub fn of_explain<'a>(explained: Result<(), ExplainFault>, name: &'a str) -> Result<(), Fault<'a>>
     ensures { IsOfExplain name.entry.now explained result }
 {

@@ -2,6 +2,7 @@
 #![tactic(auto)]
 
 mod debugs;
+mod draws;
 mod explains;
 mod fault;
 mod files;

@@ -12,10 +12,11 @@ use cdb_control::{Control, Reply, RunOfSetup};
 use cdb_setup::Setup;
 use cdb_shared::{End, Gate, Seat, Shared};
 use std::alloc::Global;
+use std::error::Error;
 use std::snapshot::Snapshot;
 use std::sync::Wait;
-use std::thread;
 use std::thread::{PromisedHandle, Scope, Threads};
+use std::{fmt, thread};
 
 /// Why a race came to nothing.
 #[derive(Debug, Clone, Copy, PartialEq)]
@@ -27,6 +28,23 @@ pub enum RaceFault {
     /// The gate of this seat stopped its session.
     Stopped(u8),
 }
+
+impl fmt::Display for RaceFault {
+    ghost use Rattle.std.specs.Prelude.{Some};
+    ghost use Rattle.cdb_race.specs.FaultTexts.{fault_text};
+
+    ghost output = { λ fault. Some (fault_text fault) };
+
+    fn fmt<W: fmt::Write>(&self, f: &mut fmt::Formatter<W>) -> fmt::Result {
+        f.write_str(match self {
+            RaceFault::NoMemory => "no memory",
+            RaceFault::JournalFull => "journal full",
+            RaceFault::Spawn | RaceFault::Stopped(_) => "no thread",
+        })
+    }
+}
+
+impl Error for RaceFault {}
 
 /// Starts a thread for one seat.
 fn start_one<'s, E, G: Gate + Drop + Send + 's, R: Threads + Wait + Sync>(

@@ -1,5 +1,6 @@
--- The number and the name under which a fault is shown.
-use Rattle.std.specs.Prelude.{ℕ, List, codes, Option, Some, None}
+-- The number, the name and the text under which a fault is shown.
+use Rattle.std.specs.Prelude.{ℕ, List, [], ◌++◌, codes, decimal, Option, Some, None}
+use Rattle.cdb_setup.specs.Format.{name_of}
 use Rattle.cdb_setup.specs.declared.fault.SetupFault.{SetupFault}
 use Rattle.cdb_setup.specs.declared.fault.SetupFault.TheVariants.{NotJson, NotObject, UnknownKey}
 use Rattle.cdb_setup.specs.declared.fault.SetupFault.TheVariants.{Missing, BadAlgorithm, BadCount}
@@ -34,3 +35,18 @@ fault_name (BadOracle process number) = codes "BadOracle"
 fault_name TooLong = codes "TooLong"
 fault_name BadVersion = codes "BadVersion"
 fault_name NoMemory = codes "NoMemory"
+
+-- after a space the key, the place, or the process and the place
+abbrev pub setup_detail : SetupFault → List ℕ
+setup_detail (Missing key) = codes " " ++ name_of key
+setup_detail (BadInput place) = codes " " ++ decimal place
+setup_detail (BadOracle process place) = codes " " ++ decimal process ++ codes " " ++ decimal place
+setup_detail other = []
+
+-- out of memory is the one fault without a number
+abbrev pub numbered_text : Option ℕ → SetupFault → List ℕ
+numbered_text (Some n) fault = codes "setup fault " ++ decimal n ++ codes " " ++ fault_name fault ++ setup_detail fault
+numbered_text None fault = codes "no memory"
+
+abbrev pub setup_fault_text : SetupFault → List ℕ
+setup_fault_text fault = numbered_text (fault_number fault) fault

@@ -1,11 +1,13 @@
 //! Why bytes are the text of no setup.
 
-ghost use Rattle.std.specs.Prelude.{◌≡◌};
+ghost use Rattle.std.specs.Prelude.{◌≡◌, Some};
 ghost use Rattle.cdb_setup.specs.declared.fault.SetupFault.TheVariants.{NoMemory};
-ghost use Rattle.cdb_setup.specs.Numbers.{fault_number, fault_name};
+ghost use Rattle.cdb_setup.specs.Numbers.{fault_number, fault_name, setup_fault_text};
 
 use crate::key::Key;
 use std::alloc::{AllocError, AllocFailed};
+use std::error::Error;
+use std::fmt;
 
 /// Why no setup was read. Processes, inputs and answers are numbered from 1.
 #[derive(Clone, Copy, Debug, PartialEq, Eq)]
@@ -81,6 +83,31 @@ impl SetupFault {
         }
     }
 }
+
+/// The text that the program reports, without the end of the line.
+impl fmt::Display for SetupFault {
+    ghost output = { λ fault. Some (setup_fault_text fault) };
+
+    fn fmt<W: fmt::Write>(&self, f: &mut fmt::Formatter<W>) -> fmt::Result {
+        let Some(number) = self.number() else {
+            return f.write_str("no memory");
+        };
+        let name = self.name();
+        match self {
+            SetupFault::Missing(key) => {
+                let key = key.name();
+                write!(f, "setup fault {number} {name} {key}")
+            }
+            SetupFault::BadInput(place) => write!(f, "setup fault {number} {name} {place}"),
+            SetupFault::BadOracle(process, place) => {
+                write!(f, "setup fault {number} {name} {process} {place}")
+            }
+            _ => write!(f, "setup fault {number} {name}"),
+        }
+    }
+}
+
+impl Error for SetupFault {}
 
 impl From<AllocError> for SetupFault {
     ghost from_gives = { λ _ fault. fault ≡ NoMemory };

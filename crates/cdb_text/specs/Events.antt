@@ -4,7 +4,7 @@ use Rattle.cdb_base.specs.declared.event.Event.{Event}
 use Rattle.cdb_base.specs.declared.event.Event.TheVariants.{Step, Lost}
 use Rattle.cdb_base.specs.declared.event.Kind.{Kind}
 use Rattle.cdb_base.specs.declared.event.Kind.TheVariants.{Query, Send, Recv, Read, Write, Local, Learn, Crash}
-use Rattle.cdb_text.specs.Names.{step_text, message_text, loss_text, register_text}
+use Rattle.cdb_base.specs.NameTexts.{step_text, message_text, loss_text, register_text}
 
 -- what a step of process p does
 abbrev pub kind_text : ℕ → Kind → List ℕ

@@ -5,7 +5,7 @@ use Rattle.cdb_base.specs.declared.limits.TheConstants.{MAX_PROCESSES}
 use Rattle.cdb_base.specs.declared.register.Reg.TheVariants.{R, Dec}
 use Rattle.cdb_control.specs.declared.command.Command.{Command}
 use Rattle.cdb_text.specs.Commands.{Part, fixed, number, register, parts_of}
-use Rattle.cdb_text.specs.Names.{register_text}
+use Rattle.cdb_base.specs.NameTexts.{register_text}
 
 -- a line is cut at every space
 abbrev pub words_of : List ℕ → List (List ℕ)

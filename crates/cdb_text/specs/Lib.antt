@@ -5,9 +5,7 @@ pub mod Faults
 pub mod LineFaults
 pub mod Laws
 -- and the texts of replies
-pub mod Names
 pub mod Events
-pub mod Refusals
 pub mod Reports
 pub mod Texts
 -- what the code keeps for itself: the words of a line, and how they are read one after the other

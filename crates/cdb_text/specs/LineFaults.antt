@@ -1,5 +1,5 @@
--- The number and the name under which a fault of a line is shown.
-use Rattle.std.specs.Prelude.{ℕ, List, codes}
+-- The number, the name and the text under which a fault of a line is shown.
+use Rattle.std.specs.Prelude.{ℕ, List, ◌++◌, codes, decimal}
 use Rattle.cdb_text.specs.declared.fault.LineFault.{LineFault}
 use Rattle.cdb_text.specs.declared.fault.LineFault.TheVariants.{Empty, Word, Number, Extra, Missing}
 
@@ -16,3 +16,7 @@ line_fault_name Word = codes "Word"
 line_fault_name Number = codes "Number"
 line_fault_name Extra = codes "Extra"
 line_fault_name Missing = codes "Missing"
+
+-- `fault N Name`
+abbrev pub line_fault_text : LineFault → List ℕ
+line_fault_text fault = codes "fault " ++ decimal (line_fault_number fault) ++ codes " " ++ line_fault_name fault

@@ -9,7 +9,7 @@ use Rattle.cdb_base.specs.declared.payload.Payload.TheVariants.{P1, P2, D}
 use Rattle.cdb_base.specs.declared.register.Cell.{Cell}
 use Rattle.cdb_control.specs.declared.reply.ProcView.{ProcView}
 use Rattle.cdb_text.specs.Events.{event_text}
-use Rattle.cdb_text.specs.Names.{message_text, name_text}
+use Rattle.cdb_base.specs.NameTexts.{message_text, name_text}
 
 -- a value, or `none`
 abbrev pub value_text : Option ℕ → List ℕ

@@ -2,8 +2,8 @@
 use Rattle.std.specs.Prelude.{ℕ, List, [], ◌++◌, codes, decimal, Option, Some, None}
 use Rattle.cdb_control.specs.Answer.{Answer, Stepped, Undone, Redone, RolledBack, Because, BreakSet, BreakGone, Resumed, Forgot, Proc, Regs, Mail, History, Decisions, Refused}
 use Rattle.cdb_text.specs.Events.{event_text}
-use Rattle.cdb_text.specs.Names.{name_text}
-use Rattle.cdb_text.specs.Refusals.{refusal_text}
+use Rattle.cdb_base.specs.NameTexts.{name_text}
+use Rattle.cdb_base.specs.Refusal.{refusal_text}
 use Rattle.cdb_text.specs.Reports.{process_text, registers_text, mail_text, causes_text, history_text, decisions_text}
 
 -- ` decides V`, where the event is a decision

@@ -4,7 +4,7 @@ ghost use Rattle.std.specs.Prelude.{◌≡◌, ◌++◌, IfOk, codes, decimal};
 ghost use Rattle.cdb_text.specs.Pushes.{Pushes};
 ghost use Rattle.cdb_control.specs.Answer.{told};
 ghost use Rattle.cdb_text.specs.Events.{event_text};
-ghost use Rattle.cdb_text.specs.Names.{name_text};
+ghost use Rattle.cdb_base.specs.NameTexts.{name_text};
 ghost use Rattle.cdb_text.specs.Reports.{causes_text};
 ghost use Rattle.cdb_text.specs.Texts.{decides_text, break_text, text_of};
 

@@ -1,7 +1,7 @@
 -- Which request was performed.
 use Rattle.std.proofs.Common.{◌≡◌, ◌⊎◌, inl, inr, ℕ, List, [], Option, subst, sym}
 use Rattle.clap.specs.Words.{Text}
-use Rattle.cdb_arguments.specs.Asking.{IsDebugOf, IsExplainOf, IsOfKinds, IsPlayOf, IsRaceOf}
+use Rattle.cdb_arguments.specs.Asking.{IsDebugOf, IsDrawOf, IsExplainOf, IsOfKinds, IsPlayOf, IsRaceOf}
 use Rattle.cdb_arguments.specs.declared.request.AskFault.{AskFault}
 use Rattle.cdb_arguments.specs.declared.request.AskFault.TheVariants as fault_of_asking
 use Rattle.cdb_arguments.specs.declared.request.Asked.{Asked}
@@ -10,8 +10,9 @@ use Rattle.cdb_play.specs.declared.fault.PlayFault.TheVariants as play
 use Rattle.cdb_program.specs.Known.{Seen}
 use Rattle.cdb_program.specs.declared.fault.Fault.TheVariants as fault
 use Rattle.cdb_program.specs.declared.request.Request.{Request}
-use Rattle.cdb_program.specs.declared.request.Request.TheVariants.{Script, Play, Race, Explain, Debug, Print, Refuse}
-use Rattle.revdbg.specs.Requested.{IsDebug, IsExplain, IsPlay, IsRace, IsRequestOf, IsRefusal, PerformsOne}
+use Rattle.cdb_program.specs.declared.request.Request.TheVariants.{Script, Play, Race, Explain, Draw, Debug, Print, Refuse}
+use Rattle.cdb_program.specs.Requests.{Performs}
+use Rattle.revdbg.specs.Requested.{IsDebug, IsDraw, IsExplain, IsOutOfMemory, IsPlay, IsRace, IsRequestOf, IsRefusal, PerformsAsked, PerformsOne}
 
 -- a request of one kind is one of another kind
 pub performs_other : (IsIt IsOther : Request → Type 0) (old new : Seen) (status : ℕ) → ((request : Request) → IsIt request → IsOther request) → PerformsOne IsIt old new status → PerformsOne IsOther old new status
@@ -29,6 +30,7 @@ no_refusal Script is = is
 no_refusal (Play setup script) is = is
 no_refusal (Race setup turns scripts) is = is
 no_refusal (Explain setup script p k) is = is
+no_refusal (Draw setup script step) is = is
 no_refusal (Debug setup prompt) is = is
 no_refusal (Refuse fault.NoStep) is = is
 
@@ -75,3 +77,25 @@ module _ (prompt : Text) where
   debug_request setup seats (asked.Race a n b) is request of_it = absurd is
   debug_request setup seats (asked.Explain a b p k) is request of_it = absurd is
   debug_request setup seats (asked.Draw a b p k) is request of_it = absurd is
+
+  pub draw_request : (setup script : Text) (p k : Option ℕ) (it : Asked) → IsDrawOf setup script p k it → (request : Request) → IsRequestOf prompt it request → IsDraw setup script p k request
+  draw_request setup script p k (asked.Draw a b q l) is request of_it = rw (← is.0, ← is.1, ← is.2, ← is.3) of_it
+  draw_request setup script p k asked.Script is request of_it = absurd is
+  draw_request setup script p k (asked.Play a b) is request of_it = absurd is
+  draw_request setup script p k (asked.Race a n b) is request of_it = absurd is
+  draw_request setup script p k (asked.Explain a b q l) is request of_it = absurd is
+  draw_request setup script p k (asked.Debug a b) is request of_it = absurd is
+
+-- ---- an allocation failed before it was known what is asked for
+
+pub performs_memory : (prompt : Text) (words : List Text) (old new : Seen) (status : ℕ) (request : Request) → IsOutOfMemory request → Performs request old new status → PerformsAsked prompt words old new status
+performs_memory prompt words old new status request is done = record {
+  script = λ alone. (request, inr is, done);
+  play = λ setup script line. (request, inr is, done);
+  race = λ setup turns script more line. (request, inr is, done);
+  explain = λ setup script p k line. (request, inr is, done);
+  draw = λ setup script p k line. (request, inr is, done);
+  debug = λ setup seats line. (request, inr is, done);
+  taken = λ none. (request, inr is, done);
+  refused = λ some. (request, inr is, done);
+}

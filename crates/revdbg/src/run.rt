@@ -1,22 +1,27 @@
 //! What the arguments ask for is done.
 
-ghost use Rattle.std.specs.Prelude.{◌≡◌, ◌≢◌, ◌⊎◌, ◌∷◌, ℕ, List, [], Option};
-ghost use Rattle.clap.specs.Words.{Kinds, Row, Text, fault_of, subcommand_of};
+ghost use Rattle.std.specs.Prelude.{◌≡◌, ◌⊎◌, List, Option, IfErr, IfOk, map, string_bytes};
+ghost use Rattle.std.specs.IoError.{error_kind};
+ghost use Rattle.clap.specs.Words.{Kinds, Row, Text};
 ghost use Rattle.cdb_arguments.specs.Asking.{Asks, IsOfKinds, texts};
-ghost use Rattle.cdb_arguments.specs.CommandLine.{program};
-ghost use Rattle.cdb_arguments.specs.Plain.{IsNameAlone, IsPlayLine, IsRaceLine, IsExplainLine, IsDebugLine};
 ghost use Rattle.cdb_program.specs.Requests.{HasTurns};
-ghost use Rattle.revdbg.specs.Requested.{IsPlay, IsRace, IsExplain, IsDebug, IsRequestOf, IsRequested, IsRefusal, IsOutOfMemory, PerformsOne};
+ghost use Rattle.revdbg.specs.Requested.{IsOutOfMemory, IsRefusal, IsRequestOf, IsUnread, PerformsAsked, PerformsOne};
 
 use cdb_arguments::{AskFault, Asked, ask_status, asked};
+use cdb_draw::StepAsked;
 use cdb_play::{PlayFault, Sink, Source};
 use cdb_program::{Fault, Files, Outside, Request, perform};
 use std::alloc::{AllocError, Global};
+use std::io;
+use std::io::ErrorKind;
 use std::sync::Wait;
 use std::thread::Threads;
 
+/// What is reported where an argument is no text.
+const NOT_UTF8: &str = "an argument is not valid UTF-8\n";
+
 /// The request to report that an allocation failed.
-pub fn no_memory() -> Request<'static>
+fn no_memory() -> Request<'static>
     ensures memory { IsOutOfMemory result }
     ensures turns { HasTurns result }
 {
@@ -54,7 +59,16 @@ fn request_of<'a>(asked: &'a Asked<'a>, prompt: &'a str) -> Request<'a>
             p: *p,
             k: *k,
         },
-        Asked::Draw { .. } => Request::Refuse(Fault::Refused(MISSING)),
+        Asked::Draw {
+            setup,
+            script,
+            p,
+            k,
+        } => Request::Draw {
+            setup,
+            script,
+            step: p.map(|p| StepAsked { p, k: *k }),
+        },
         Asked::Debug { setup, seats } if seats.is_empty() => Request::Debug { setup, prompt },
         Asked::Debug { .. } => Request::Refuse(Fault::Refused(MISSING)),
     }
@@ -120,7 +134,46 @@ fn refuse<
 
 /// Performs what the arguments ask for, of which the first is the program's name, and returns the status with which
 /// the program ends. A session shows this prompt before each line.
-pub fn run<
+fn run<R: Threads + Wait + Sync, F: Files + Drop, I: Source + Drop, O: Sink + Drop, E: Sink + Drop>(
+    threads: &R,
+    alloc: Global,
+    prompt: &str,
+    words: &[&str],
+    outside: &mut Outside<F, I, O, E>,
+) -> u8
+    ensures { PerformsAsked prompt.now (texts words.entry.now) outside.old outside.new result }
+{
+    match asked(alloc, words) {
+        Ok(asked) => perform_asked(threads, alloc, prompt, &asked, outside),
+        Err(fault) => refuse(threads, alloc, &fault, outside),
+    }
+}
+
+/// The texts of the arguments.
+fn texts_of<'a>(alloc: Global, words: &'a [String]) -> Result<Vec<&'a str>, AllocError>
+    ensures { IfOk result (λ found. texts found.items ≡ map string_bytes words.now) }
+{
+    let mut texts = Vec::new(alloc);
+    for word in words {
+        texts.push(word.as_str())?;
+    }
+    Ok(texts)
+}
+
+/// The request where the arguments could not be read.
+fn unread(error: &io::Error) -> Request<'static>
+    ensures unread { IsUnread (error_kind error.now) result }
+    ensures turns { HasTurns result }
+{
+    match error.kind() {
+        ErrorKind::OutOfMemory => no_memory(),
+        _ => Request::Refuse(Fault::Refused(NOT_UTF8)),
+    }
+}
+
+/// Performs what the arguments ask for, as they were read from the system, or reports that they could not be read; and
+/// returns the status with which the program ends. A session shows this prompt before each line.
+pub fn begin<
     R: Threads + Wait + Sync,
     F: Files + Drop,
     I: Source + Drop,
@@ -130,31 +183,20 @@ pub fn run<
     threads: &R,
     alloc: Global,
     prompt: &str,
-    words: &[&str],
+    words: io::Result<Vec<String>>,
     outside: &mut Outside<F, I, O, E>,
 ) -> u8
-    ensures script { IsNameAlone (texts words.entry.now) →
-        PerformsOne (λ it. it ≡ Request.Script) outside.old outside.new result }
-    ensures play { (setup script : Text) → IsPlayLine (texts words.entry.now) setup script →
-        PerformsOne (IsPlay setup script) outside.old outside.new result }
-    ensures race { (setup : Text) (turns : ℕ) (script : Text) (more : List Text) →
-        IsRaceLine (texts words.entry.now) setup turns script more →
-        PerformsOne (IsRace setup turns (script ∷ more)) outside.old outside.new result }
-    ensures explain { (setup script : Text) (p : ℕ) (k : Option ℕ) →
-        IsExplainLine (texts words.entry.now) setup script p k →
-        PerformsOne (IsExplain setup script p k) outside.old outside.new result }
-    ensures debug { (setup : Text) (seats : List Text) →
-        IsDebugLine (texts words.entry.now) setup seats →
-        PerformsOne (IsDebug prompt.now setup seats) outside.old outside.new result }
-    ensures taken { fault_of program (texts words.entry.now) ≡ [] →
-        PerformsOne (IsRequested prompt.now (subcommand_of program (texts words.entry.now)))
-        outside.old outside.new result }
-    ensures refused { fault_of program (texts words.entry.now) ≢ [] →
-        PerformsOne (IsRefusal (fault_of program (texts words.entry.now)))
-        outside.old outside.new result }
+    ensures asked { IfOk words (λ words. PerformsAsked prompt.now (map string_bytes words.items)
+        outside.old outside.new result) }
+    ensures unread { IfErr words (λ error. PerformsOne (IsUnread (error_kind error))
+        outside.old outside.new result) }
 {
-    match asked(alloc, words) {
-        Ok(asked) => perform_asked(threads, alloc, prompt, &asked, outside),
-        Err(fault) => refuse(threads, alloc, &fault, outside),
+    let words = match words {
+        Ok(words) => words,
+        Err(error) => return perform(threads, alloc, unread(&error), outside),
+    };
+    match texts_of(alloc, words.as_slice()) {
+        Ok(texts) => run(threads, alloc, prompt, texts.as_slice(), outside),
+        Err(_) => perform(threads, alloc, no_memory(), outside),
     }
 }

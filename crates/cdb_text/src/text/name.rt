@@ -1,8 +1,8 @@
 //! The texts of names.
 
 ghost use Rattle.cdb_text.specs.Pushes.{Pushes};
-ghost use Rattle.cdb_text.specs.Names.{step_text, message_text, loss_text};
-ghost use Rattle.cdb_text.specs.Names.{name_text, register_text};
+ghost use Rattle.cdb_base.specs.NameTexts.{step_text, message_text, loss_text};
+ghost use Rattle.cdb_base.specs.NameTexts.{name_text, register_text};
 
 use super::number::push_number;
 use cdb_base::{CopyName, MsgName, Proc, Reg, StepId, StepName};

@@ -2,7 +2,7 @@
 
 ghost use Rattle.cdb_program.specs.Requests.{HasTurns};
 
-use super::requests::{DEBUG, EXPLAIN, PLAY, RACE};
+use super::requests::{DEBUG, DRAW, EXPLAIN, PLAY, RACE};
 use super::{ALL_GOOD, Ended, GoodCalls, performed};
 use cdb_program::{Fault, Request};
 use std::process::Abort;
@@ -11,7 +11,7 @@ use std::test::Fail;
 use std::thread::Threads;
 
 /// More calls than any request makes.
-const MANY: usize = 100;
+const MANY: usize = 1_000;
 
 const INPUT: &str = "auto 1\nredo";
 
@@ -95,11 +95,12 @@ fn fail_files<R: Threads + Wait + Sync + Abort + AllocGlobal>(
 
 #[test]
 fn each_write_of_output_fails_in_turn(rt: HostRuntime) {
-    // Texts of 37, 107, 90, 82 and 5 bytes, 5 a call.
+    // Texts of 37, 107, 90, 82, 3,819 and 5 bytes, 5 a call.
     assert_eq!(rt; fail_output(&rt, Request::Script), 8);
     assert_eq!(rt; fail_output(&rt, PLAY), 22);
     assert_eq!(rt; fail_output(&rt, RACE), 18);
     assert_eq!(rt; fail_output(&rt, EXPLAIN), 17);
+    assert_eq!(rt; fail_output(&rt, DRAW), 764);
     assert_eq!(rt; fail_output(&rt, Request::Print("help\n")), 1);
 }
 
@@ -145,6 +146,7 @@ fn each_file_can_not_be_read_in_turn(rt: HostRuntime) {
     let texts = ["cannot read one.json\n", "cannot read eight.txt\n"];
     fail_files(&rt, PLAY, &texts);
     fail_files(&rt, EXPLAIN, &texts);
+    fail_files(&rt, DRAW, &texts);
     fail_files(&rt, DEBUG, &texts[..1]);
     let texts = [
         "cannot read two.json\n",

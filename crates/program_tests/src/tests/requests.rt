@@ -3,6 +3,7 @@
 ghost use Rattle.cdb_program.specs.Requests.{HasTurns};
 
 use super::{ALL_GOOD, performed};
+use cdb_draw::StepAsked;
 use cdb_play::PlayFault;
 use cdb_program::{Fault, Request};
 use std::process::Abort;
@@ -31,6 +32,12 @@ pub const EXPLAIN: Request<'static> = Request::Explain {
     script: "eight.txt",
     p: 1,
     k: Some(2),
+};
+
+pub const DRAW: Request<'static> = Request::Draw {
+    setup: "one.json",
+    script: "eight.txt",
+    step: Some(StepAsked { p: 1, k: Some(2) }),
 };
 
 pub const DEBUG: Request<'static> = Request::Debug {
@@ -99,6 +106,31 @@ fn an_explanation_of_a_step_that_does_not_stand(rt: HostRuntime) -> Result<(), F
         script: "eight.txt",
         p: 1,
         k: Some(9),
+    };
+    let error = "refused 10 NoStep\n";
+    check(&rt, request, 1, ("", error), &["one.json", "eight.txt"])
+}
+
+#[test]
+fn a_picture(rt: HostRuntime) -> Result<(), Fail> {
+    let ended = performed(&rt, DRAW, "", ALL_GOOD);
+    assert_eq!(rt; (ended.status, ended.error.len(), ended.opened.len()), (0, 0, 2));
+    let text = str::from_utf8(ended.output.as_slice())?;
+    // As tools/picture draws it. The texts of worked pictures are in `draw_tests`.
+    assert_eq!(rt; text.len(), 3_819);
+    assert!(rt; text.starts_with("<svg "));
+    assert!(rt; text.contains("<g class='full' transform='translate(108,72)'><title>1.2 send"));
+    assert!(rt; text.contains("<g class='pale' transform='translate(132,72)'><title>1.3 recv"));
+    assert!(rt; text.ends_with("</svg>\n"));
+    Ok(())
+}
+
+#[test]
+fn a_picture_for_a_step_that_does_not_stand(rt: HostRuntime) -> Result<(), Fail> {
+    let request = Request::Draw {
+        setup: "one.json",
+        script: "eight.txt",
+        step: Some(StepAsked { p: 1, k: Some(9) }),
     };
     let error = "refused 10 NoStep\n";
     check(&rt, request, 1, ("", error), &["one.json", "eight.txt"])

@@ -1,6 +1,6 @@
 use Rattle.std.specs.Prelude.{List, codes, string_bytes, ℕ, ◌++◌, ◌≡◌}
 use Rattle.cdb_draw.specs.Lanes.{register_line, lane_open, line_text}
-use Rattle.cdb_text.specs.Names.{register_text}
+use Rattle.cdb_base.specs.NameTexts.{register_text}
 use Rattle.cdb_draw.proofs.Pushing.{last, next}
 use Rattle.cdb_draw.proofs.lanes.push_register_text.Goals as goal
 

@@ -1,6 +1,5 @@
 use Rattle.std.proofs.Common.{ℕ, List, subst}
-use Rattle.cdb_setup.specs.Numbers.{fault_name}
-use Rattle.cdb_play.specs.FaultTexts.{setup_detail}
+use Rattle.cdb_setup.specs.Numbers.{fault_name, setup_detail}
 use Rattle.cdb_play.specs.Streams.{Writes}
 use Rattle.cdb_play.proofs.Numbered.{numbered}
 use Rattle.cdb_play.proofs.fault_text.write_numbered.Goals as goal

@@ -1,0 +1,10 @@
+-- The texts of faults of a race.
+use Rattle.std.specs.Prelude.{ℕ, List, codes}
+use Rattle.cdb_race.specs.declared.threads.RaceFault.{RaceFault}
+use Rattle.cdb_race.specs.declared.threads.RaceFault.TheVariants as fault
+
+abbrev pub fault_text : RaceFault → List ℕ
+fault_text fault.NoMemory = codes "no memory"
+fault_text fault.JournalFull = codes "journal full"
+fault_text fault.Spawn = codes "no thread"
+fault_text (fault.Stopped seat) = codes "no thread"
