@@ -50,7 +50,7 @@ module _ (prompt : Text) where
   play_request setup script (asked.Play a b) is request of_it = rw (← is.0, ← is.1) of_it
   play_request setup script asked.Script is request of_it = absurd is
   play_request setup script (asked.Draw a b q l) is request of_it = absurd is
-  play_request setup script (asked.Debug a seats) is request of_it = absurd is
+  play_request setup script (asked.Debug a) is request of_it = absurd is
   play_request setup script (asked.Race a n b) is request of_it = absurd is
   play_request setup script (asked.Explain a b p k) is request of_it = absurd is
 
@@ -58,7 +58,7 @@ module _ (prompt : Text) where
   race_request setup turns scripts (asked.Race a n b) is request of_it = rw (← is.0, ← is.1, ← is.2) of_it
   race_request setup turns scripts asked.Script is request of_it = absurd is
   race_request setup turns scripts (asked.Draw a b q l) is request of_it = absurd is
-  race_request setup turns scripts (asked.Debug a seats) is request of_it = absurd is
+  race_request setup turns scripts (asked.Debug a) is request of_it = absurd is
   race_request setup turns scripts (asked.Play a b) is request of_it = absurd is
   race_request setup turns scripts (asked.Explain a b p k) is request of_it = absurd is
 
@@ -66,17 +66,17 @@ module _ (prompt : Text) where
   explain_request setup script p k (asked.Explain a b q l) is request of_it = rw (← is.0, ← is.1, ← is.2, ← is.3) of_it
   explain_request setup script p k asked.Script is request of_it = absurd is
   explain_request setup script p k (asked.Draw a b q l) is request of_it = absurd is
-  explain_request setup script p k (asked.Debug a seats) is request of_it = absurd is
+  explain_request setup script p k (asked.Debug a) is request of_it = absurd is
   explain_request setup script p k (asked.Play a b) is request of_it = absurd is
   explain_request setup script p k (asked.Race a n b) is request of_it = absurd is
 
-  pub debug_request : (setup : Text) (seats : List Text) (it : Asked) → IsDebugOf setup seats it → (request : Request) → IsRequestOf prompt it request → IsDebug prompt setup seats request
-  debug_request setup seats (asked.Debug a b) is request of_it = rw (← is.0, ← is.1) of_it
-  debug_request setup seats asked.Script is request of_it = absurd is
-  debug_request setup seats (asked.Play a b) is request of_it = absurd is
-  debug_request setup seats (asked.Race a n b) is request of_it = absurd is
-  debug_request setup seats (asked.Explain a b p k) is request of_it = absurd is
-  debug_request setup seats (asked.Draw a b p k) is request of_it = absurd is
+  pub debug_request : (setup : Text) (it : Asked) → IsDebugOf setup it → (request : Request) → IsRequestOf prompt it request → IsDebug prompt setup request
+  debug_request setup (asked.Debug a) is request of_it = rw (← is) of_it
+  debug_request setup asked.Script is request of_it = absurd is
+  debug_request setup (asked.Play a b) is request of_it = absurd is
+  debug_request setup (asked.Race a n b) is request of_it = absurd is
+  debug_request setup (asked.Explain a b p k) is request of_it = absurd is
+  debug_request setup (asked.Draw a b p k) is request of_it = absurd is
 
   pub draw_request : (setup script : Text) (p k : Option ℕ) (it : Asked) → IsDrawOf setup script p k it → (request : Request) → IsRequestOf prompt it request → IsDraw setup script p k request
   draw_request setup script p k (asked.Draw a b q l) is request of_it = rw (← is.0, ← is.1, ← is.2, ← is.3) of_it
@@ -84,7 +84,7 @@ module _ (prompt : Text) where
   draw_request setup script p k (asked.Play a b) is request of_it = absurd is
   draw_request setup script p k (asked.Race a n b) is request of_it = absurd is
   draw_request setup script p k (asked.Explain a b q l) is request of_it = absurd is
-  draw_request setup script p k (asked.Debug a b) is request of_it = absurd is
+  draw_request setup script p k (asked.Debug a) is request of_it = absurd is
 
 -- ---- an allocation failed before it was known what is asked for
 
@@ -95,7 +95,7 @@ performs_memory prompt words old new status request is done = record {
   race = λ setup turns script more line. (request, inr is, done);
   explain = λ setup script p k line. (request, inr is, done);
   draw = λ setup script p k line. (request, inr is, done);
-  debug = λ setup seats line. (request, inr is, done);
+  debug = λ setup line. (request, inr is, done);
   taken = λ none. (request, inr is, done);
   refused = λ some. (request, inr is, done);
 }

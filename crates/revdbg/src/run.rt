@@ -28,9 +28,6 @@ fn no_memory() -> Request<'static>
     Request::Refuse(Fault::Play(PlayFault::NoMemory, ""))
 }
 
-/// The report that the program does not do this yet.
-const MISSING: &str = "not there yet\n";
-
 /// The request for what was asked for, where sessions have this prompt.
 fn request_of<'a>(asked: &'a Asked<'a>, prompt: &'a str) -> Request<'a>
     ensures request { IsRequestOf prompt.now asked.now result }
@@ -69,8 +66,7 @@ fn request_of<'a>(asked: &'a Asked<'a>, prompt: &'a str) -> Request<'a>
             script,
             step: p.map(|p| StepAsked { p, k: *k }),
         },
-        Asked::Debug { setup, seats } if seats.is_empty() => Request::Debug { setup, prompt },
-        Asked::Debug { .. } => Request::Refuse(Fault::Refused(MISSING)),
+        Asked::Debug { setup } => Request::Debug { setup, prompt },
     }
 }
 
