@@ -1,5 +1,5 @@
 -- What clap makes of the line of a session.
-use Rattle.std.proofs.Common.{◌≡◌, true, List, [], ◌∷◌, Some, None, refl, codes}
+use Rattle.std.proofs.Common.{◌≡◌, true, List, [], ◌∷◌, Some, refl, codes}
 use Rattle.std.specs.Prelude.{fold, unwrap_or, slice_get}
 use Rattle.clap.specs.Simple.{Shape, new_shape, built}
 use Rattle.clap.specs.Walk.{Row, Text, walk_from, nothing_held, finished}
