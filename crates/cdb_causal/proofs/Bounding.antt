@@ -1,5 +1,6 @@
 -- The bounds stay right where bounds are raised, an event is added or one is taken out.
-use Rattle.std.proofs.Common.{◌≡◌, ℕ, zero, suc, ◌-◌, ◌<◌, ◌≤◌, ⊎_elim, List, [], ◌∷◌, ◌++◌, Some, length, slice_get, slice_index, Bool, true, false, true≢false, sym, ap, ◌∙◌, subst, arith}
+use Rattle.std.proofs.Common.{◌≡◌, ℕ, zero, suc, ◌-◌, ◌<◌, ◌≤◌, ⊎_elim, List, [], ◌∷◌, ◌++◌, Some, length, slice_get, slice_index, Bool, true, false, true≢false, refl, sym, ap, ◌∙◌, subst, arith}
+use Rattle.std.proofs.lemmas.Option.{slice_get_within}
 use Rattle.cdb_base.specs.Event.{event_name}
 use Rattle.cdb_base.specs.declared.event.Event.{Event}
 use Rattle.cdb_base.specs.declared.event.Kind.{Kind}
@@ -12,7 +13,6 @@ use Rattle.cdb_base.specs.declared.event.Kind.TheVariants.{Send, Recv, Read, Wri
 use Rattle.cdb_causal.specs.Alone.{AreAlone, Leaves}
 use Rattle.cdb_causal.specs.Bounds.{IsKindWithin, IsWithin, AreWithin, AreRaised}
 use Rattle.cdb_causal.specs.Cells.{register_cell, named_cell, copy_cell}
-use Rattle.cdb_causal.specs.Names.{IsNamedAt}
 use Rattle.cdb_causal.specs.Rollback.{without, place_before}
 use Rattle.cdb_causal.specs.declared.bounds.Bounds.{Bounds}
 use Rattle.cdb_causal.proofs.Counting.{slice_get-without}
@@ -74,45 +74,47 @@ within_lower : (bounds : Bounds) (i j : ℕ) (event : Event) → i ≤ j → IsW
 within_lower bounds i j (Step p k kind) below within = let a = within.0 in (omega arith, kind_lower bounds i j p kind below within.1)
 within_lower bounds i j (Lost copy) below within = omega arith
 
-pub all_raised : (old new : Bounds) (history : List Event) → AreRaised old new → AreWithin old history → AreWithin new history
-all_raised old new history raised within i event at = within_raised old new raised i event (within i event at)
+pub all_raised : (old new : Bounds) (marks : ℕ → ℕ) (history : List Event) → AreRaised old new → AreWithin old marks history → AreWithin new marks history
+all_raised old new marks history raised within i event at = within_raised old new raised (marks i) event (within i event at)
 
-place_not_below : (gone i : ℕ) → i ≤ place_before gone i
-place_not_below zero i = omega arith
-place_not_below (suc gone) zero = omega arith
-place_not_below (suc gone) (suc i) = let h = place_not_below gone i in omega arith
+-- an event that stood before the one that is gone keeps its place, a later one stood one place above
+pub place_before_low : (gone i : ℕ) → i < gone → place_before gone i ≡ i
+place_before_low zero i less = absurd (omega arith)
+place_before_low (suc gone) zero less = refl
+place_before_low (suc gone) (suc i) less = ap suc (place_before_low gone i (omega arith))
 
-pub within_push : (old new : Bounds) (history : List Event) (event : Event) → AreRaised old new → AreWithin old history → IsWithin new (length history) event → AreWithin new (history ++ event ∷ [])
-within_push old new history event raised within last i other at =
+pub place_before_high : (gone i : ℕ) → gone ≤ i → place_before gone i ≡ suc i
+place_before_high zero i le = refl
+place_before_high (suc gone) zero le = absurd (omega arith)
+place_before_high (suc gone) (suc i) le = ap suc (place_before_high gone i (omega arith))
+
+pub within_push : (old new : Bounds) (old_marks marks : ℕ → ℕ) (history : List Event) (event : Event) → AreRaised old new → AreWithin old old_marks history → ((i : ℕ) → i < length history → marks i ≡ old_marks i)
+    → IsWithin new (marks (length history)) event → AreWithin new marks (history ++ event ∷ [])
+within_push old new old_marks marks history event raised within kept last i other at =
     ⊎_elim
-    (λ before. within_raised old new raised i other (within i other before.0))
-    (λ here. subst (λ e. IsWithin new i e) here.0 (subst (λ n. IsWithin new n event) (sym here.1) last))
+    (λ before. subst (λ m. IsWithin new m other) (sym (kept i before.1)) (within_raised old new raised (old_marks i) other (within i other before.0)))
+    (λ here. subst (λ e. IsWithin new (marks i) e) here.0 (subst (λ n. IsWithin new (marks n) event) (sym here.1) last))
     (push_cases history event other i at)
 
 -- a loss stands below the bound of its copy
-pub loss_below : (bounds : Bounds) (history : List Event) → AreWithin bounds history → (name : StepId) (copy : CopyName) → name ≡ named.Lost copy → (i : ℕ) → IsNamedAt history i name → IsWithin bounds i (Lost copy)
-loss_below bounds history within name copy is_lost i n = go n.0 n.1 (n.2 ∙ is_lost)
-  where
-    go : (event : Event) → slice_get history i ≡ Some event → event_name event ≡ named.Lost copy → IsWithin bounds i (Lost copy)
-    go (Step p k kind) at is = absurd (no_loss is)
-    go (Lost other) at is = subst (λ c. IsWithin bounds i (Lost c)) (same_lost is) (within i (Lost other) at)
+pub loss_below : (bounds : Bounds) (name : StepId) (copy : CopyName) → name ≡ named.Lost copy → (i : ℕ) (event : Event) → IsWithin bounds i event → event_name event ≡ name → IsWithin bounds i (Lost copy)
+loss_below bounds name copy is_lost i (Step p k kind) within is = absurd (no_loss (is ∙ is_lost))
+loss_below bounds name copy is_lost i (Lost other) within is = subst (λ c. IsWithin bounds i (Lost c)) (same_lost (is ∙ is_lost)) within
 
 -- a step stands below the bound of its name
-pub step_below : (bounds : Bounds) (history : List Event) → AreWithin bounds history → (name : StepId) (step : StepName) → name ≡ named.Step step → (i : ℕ) → IsNamedAt history i name → i < slice_index bounds.steps.items (named_cell step.p step.k)
-step_below bounds history within name step is_step i n = go n.0 n.1 (n.2 ∙ is_step)
-  where
-    go : (event : Event) → slice_get history i ≡ Some event → event_name event ≡ named.Step step → i < slice_index bounds.steps.items (named_cell step.p step.k)
-    go (Step p k kind) at is = subst (λ (s : StepName). i < slice_index bounds.steps.items (named_cell s.p s.k)) (same_step is) (within i (Step p k kind) at).0
-    go (Lost other) at is = absurd (no_loss (sym is))
+pub step_below : (bounds : Bounds) (name : StepId) (step : StepName) → name ≡ named.Step step → (i : ℕ) (event : Event) → IsWithin bounds i event → event_name event ≡ name → i < slice_index bounds.steps.items (named_cell step.p step.k)
+step_below bounds name step is_step i (Step p k kind) within is = subst (λ (s : StepName). i < slice_index bounds.steps.items (named_cell s.p s.k)) (same_step (is ∙ is_step)) within.0
+step_below bounds name step is_step i (Lost other) within is = absurd (no_loss (sym (is ∙ is_step)))
 
 place_not_gone : (gone i : ℕ) → place_before gone i ≡ gone → ⊥
 place_not_gone zero i h = omega arith
 place_not_gone (suc gone) zero h = omega arith
 place_not_gone (suc gone) (suc i) h = place_not_gone gone i (omega arith)
 
-pub within_without : (old new : Bounds) (history : List Event) (gone : ℕ) (event : Event) → slice_get history gone ≡ Some event → Leaves old new event → AreAlone old history → AreWithin old history
-    → AreWithin new (without history gone)
-within_without old new history gone event at_gone leaves alone within i one at =
+pub within_without : (old new : Bounds) (old_marks marks : ℕ → ℕ) (history : List Event) (gone : ℕ) (event : Event) → slice_get history gone ≡ Some event → Leaves old new event → AreAlone old history → AreWithin old old_marks history
+    → ((i : ℕ) → i < length (without history gone) → marks i ≤ old_marks (place_before gone i)) → AreWithin new marks (without history gone)
+within_without old new old_marks marks history gone event at_gone leaves alone within fall i one at =
     let place = place_before gone i in
     let stood = sym (slice_get-without history gone i) ∙ at in
-    within_lower new i place one (place_not_below gone i) (within_left old new history gone event at_gone leaves alone place one stood (place_not_gone gone i) (within place one stood))
+    within_lower new (marks i) (old_marks place) one (fall i (slice_get_within (without history gone) i one at))
+    (within_left old new history gone event at_gone leaves alone (old_marks place) place one stood (place_not_gone gone i) (within place one stood))

@@ -44,20 +44,20 @@ module _ (bounds : Bounds) (slot result : ℕ) where
   above_steps event p k kind is not_last other_process above i (Lost copy) within in_slot h = absurd (not_last in_slot)
 
 -- the bound of a slot is above each event of a history on which the one at place j depends
-pub end_above : (history : List Event) → IsStanding history → (bounds : Bounds) → AreWithin bounds history → (j slot result : ℕ) (event : Event) → slice_get history j ≡ Some event
-    → ((i : ℕ) (cause : Event) → i < j → IsWithin bounds i cause → IsSlot cause slot → ((copy : CopyName) → cause ≡ Lost copy → send_and_loss event (Lost copy) ≡ false) → depends cause event ≡ true → i < result)
-    → (i : ℕ) (l : IsLink depends history i j) → IsSlot l.cause slot → i < result
-end_above history standing bounds within j slot result event at_j above i l in_slot =
-    above i l.cause l.later (within i l.cause l.at_cause) in_slot
+pub end_above : (history : List Event) → IsStanding history → (bounds : Bounds) (marks : ℕ → ℕ) → AreWithin bounds marks history → (j slot result top : ℕ) (event : Event) → slice_get history j ≡ Some event → ((i : ℕ) → i < j → marks i < top)
+    → ((i : ℕ) (cause : Event) → i < top → IsWithin bounds i cause → IsSlot cause slot → ((copy : CopyName) → cause ≡ Lost copy → send_and_loss event (Lost copy) ≡ false) → depends cause event ≡ true → i < result)
+    → (i : ℕ) (l : IsLink depends history i j) → IsSlot l.cause slot → marks i < result
+end_above history standing bounds marks within j slot result top event at_j rises above i l in_slot =
+    above (marks i) l.cause (rises i l.later) (within i l.cause l.at_cause) in_slot
     (λ copy is. standing.lost_after_sent i j copy event l.later (l.at_cause ∙ ap Some is) at_j)
     (subst (λ e. depends l.cause e ≡ true) (same_Some l.effect event (sym l.at_effect ∙ at_j)) l.linked)
 
 -- and the bound of what stands between two events, above each event through which a chain leads from the one to the other
-pub end_above_between : (history : List Event) (bounds : Bounds) → AreWithin bounds history → AreAlone bounds history → (i j result : ℕ) (cause effect : Event) → slice_get history i ≡ Some cause → slice_get history j ≡ Some effect
-    → ((k : ℕ) (between : Event) → k < j → IsWithin bounds k between → (ShareCell bounds between effect → ⊥) → depends cause between ≡ true → depends between effect ≡ true → k < result)
-    → (k : ℕ) → IsLink depends history i k → IsLink depends history k j → k < result
-end_above_between history bounds within alone i j result cause effect at_i at_j above k one two =
-    above k one.effect two.later (within k one.effect one.at_effect)
+pub end_above_between : (history : List Event) (bounds : Bounds) (marks : ℕ → ℕ) → AreWithin bounds marks history → AreAlone bounds history → (i j result top : ℕ) (cause effect : Event) → slice_get history i ≡ Some cause → slice_get history j ≡ Some effect
+    → ((k : ℕ) → k < j → marks k < top) → ((k : ℕ) (between : Event) → k < top → IsWithin bounds k between → (ShareCell bounds between effect → ⊥) → depends cause between ≡ true → depends between effect ≡ true → k < result)
+    → (k : ℕ) → IsLink depends history i k → IsLink depends history k j → marks k < result
+end_above_between history bounds marks within alone i j result top cause effect at_i at_j rises above k one two =
+    above (marks k) one.effect (rises k two.later) (within k one.effect one.at_effect)
     (λ share. let same = alone share.0 k j one.effect effect share.1 one.at_effect at_j share.2 share.3 in let later = two.later in omega arith)
     (subst (λ e. depends e one.effect ≡ true) (same_Some one.cause cause (sym one.at_cause ∙ at_i)) one.linked)
     (subst (λ e. depends one.effect e ≡ true) (same_Some two.effect effect (sym two.at_effect ∙ at_j))

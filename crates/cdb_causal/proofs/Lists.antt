@@ -1,5 +1,5 @@
 -- A list without the event at a place, as `Vec::remove` leaves it.
-use Rattle.std.proofs.Common.{◌≡◌, ℕ, zero, suc, ◌-◌, ◌<◌, ◌≤◌, ◌⊎◌, inl, inr, ⊎_elim, List, [], ◌∷◌, ◌++◌, Some, length, slice_get, remove, refl, ap, sym, ◌∙◌, arith}
+use Rattle.std.proofs.Common.{◌≡◌, ℕ, zero, suc, ◌-◌, ◌<◌, ◌≤◌, ◌⊎◌, inl, inr, ⊎_elim, List, [], ◌∷◌, ◌++◌, Some, length, slice_get, drop, remove, refl, ap, sym, ◌∙◌, arith}
 use Rattle.std.proofs.lemmas.Option.{same_Some, none-some}
 use Rattle.cdb_base.specs.declared.event.Event.{Event}
 use Rattle.cdb_base.specs.Event.{event_name}
@@ -39,3 +39,9 @@ push_front (z ∷ zs) y x (suc k) h = push_front zs y x k h
 pub push_back : {A : Type 0} (xs : List A) (y : A) → slice_get (xs ++ y ∷ []) (length xs) ≡ Some y
 push_back [] y = refl
 push_back (z ∷ zs) y = push_back zs y
+
+-- what is left of a list, from a place on
+pub drop_from : {A : Type 0} (xs : List A) (k : ℕ) (x : A) → slice_get xs k ≡ Some x → drop k xs ≡ x ∷ drop (suc k) xs
+drop_from [] k x at = absurd (none-some x at)
+drop_from (y ∷ ys) zero x at = ap (λ e. e ∷ ys) (same_Some y x at)
+drop_from (y ∷ ys) (suc k) x at = drop_from ys k x at

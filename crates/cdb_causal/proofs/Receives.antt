@@ -1,5 +1,5 @@
 -- In each cell of the receives at most one event stands, also where an event is added or taken out.
-use Rattle.std.proofs.Common.{◌≡◌, ◌≢◌, ℕ, ◌-◌, ◌<◌, ◌≤◌, ◌⊎◌, ⊎_elim, List, [], ◌∷◌, ◌++◌, Some, length, slice_get, slice_index, sym, refl, ap, ◌∙◌, subst, arith}
+use Rattle.std.proofs.Common.{◌≡◌, ◌≢◌, ℕ, ◌-◌, ◌<◌, ◌⊎◌, ⊎_elim, List, [], ◌∷◌, ◌++◌, Some, slice_get, slice_index, sym, refl, ◌∙◌, subst, arith}
 use Rattle.cdb_base.specs.declared.event.Event.{Event}
 use Rattle.cdb_base.specs.declared.event.Event.TheVariants.{Step, Lost}
 use Rattle.cdb_base.specs.declared.event.Kind.{Kind}
@@ -20,8 +20,8 @@ receive_below bounds i n _ within is = absurd is
 pub alone_kept : (old new : Bounds) (history : List Event) → KeepsReceives old new → AreAlone old history → AreAlone new history
 alone_kept old new history kept alone n i j event other one = alone n i j event other (λ e. one (kept n ∙ e))
 
-pub alone_push : (old mid new : Bounds) (history : List Event) (event : Event) → KeepsReceives old mid → Joins mid new event → AreWithin old history → AreAlone old history → AreAlone new (history ++ event ∷ [])
-alone_push old mid new history event kept joins within alone n i j one two single at_i at_j in_i in_j =
+pub alone_push : (old mid new : Bounds) (marks : ℕ → ℕ) (history : List Event) (event : Event) → KeepsReceives old mid → Joins mid new event → AreWithin old marks history → AreAlone old history → AreAlone new (history ++ event ∷ [])
+alone_push old mid new marks history event kept joins within alone n i j one two single at_i at_j in_i in_j =
     ⊎_elim
     (λ old_i. ⊎_elim
     (λ old_j. alone n i j one two
@@ -38,7 +38,7 @@ alone_push old mid new history event kept joins within alone n i j one two singl
     none_before : (i : ℕ) (one : Event) → slice_get history i ≡ Some one → IsReceiveIn one n → IsReceiveIn event n → ⊥
     none_before i one at_i in_i joined =
         let none = sym (kept n) ∙ joins.alone n joined single in
-        let below = receive_below old i n one (within i one at_i) in_i in
+        let below = receive_below old (marks i) n one (within i one at_i) in_i in
         omega arith
 
 is_several : (n : ℕ) → (n ≡ SEVERAL) ⊎ (n ≢ SEVERAL)
@@ -52,19 +52,19 @@ module _ (old new : Bounds) (history : List Event) (gone : ℕ) (event : Event) 
       (sym (slice_get-without history gone i) ∙ at_i) (sym (slice_get-without history gone j) ∙ at_j) in_i in_j)
 
   -- what is left stands below the bounds that are left
-  kind_left : (i p k : ℕ) (kind : Kind) → slice_get history i ≡ Some (Step p k kind) → (i ≡ gone → ⊥) → IsKindWithin old i p kind → IsKindWithin new i p kind
-  kind_left i p k (Recv s m) at other within =
-      subst (λ b. i < b) (sym (leaves.others (copy_cell s m (p - 1)) (λ in_cell.
-      ⊎_elim (λ several. several) (λ single. absurd (other (alone (copy_cell s m (p - 1)) i gone (Step p k (Recv s m)) event single at at_gone refl in_cell)))
-      (is_several (receive_bound old (copy_cell s m (p - 1))))))) within
-  kind_left i p k (Send m) at other within = subst (λ t. i < slice_index t.items (named_cell p m)) (sym leaves.sends) within
-  kind_left i p k (Read register) at other within = subst (λ t. i < slice_index t (register_cell register (p - 1))) (sym leaves.accesses) within
-  kind_left i p k (Write register) at other within = (
-    subst (λ t. i < slice_index t (register_cell register (p - 1))) (sym leaves.accesses) within.0,
-    subst (λ t. i < slice_index t (register_cell register (p - 1))) (sym leaves.writes) within.1,
+  kind_left : (m i p k : ℕ) (kind : Kind) → slice_get history i ≡ Some (Step p k kind) → (i ≡ gone → ⊥) → IsKindWithin old m p kind → IsKindWithin new m p kind
+  kind_left m i p k (Recv s r) at other within =
+      subst (λ b. m < b) (sym (leaves.others (copy_cell s r (p - 1)) (λ in_cell.
+      ⊎_elim (λ several. several) (λ single. absurd (other (alone (copy_cell s r (p - 1)) i gone (Step p k (Recv s r)) event single at at_gone refl in_cell)))
+      (is_several (receive_bound old (copy_cell s r (p - 1))))))) within
+  kind_left m i p k (Send r) at other within = subst (λ t. m < slice_index t.items (named_cell p r)) (sym leaves.sends) within
+  kind_left m i p k (Read register) at other within = subst (λ t. m < slice_index t (register_cell register (p - 1))) (sym leaves.accesses) within
+  kind_left m i p k (Write register) at other within = (
+    subst (λ t. m < slice_index t (register_cell register (p - 1))) (sym leaves.accesses) within.0,
+    subst (λ t. m < slice_index t (register_cell register (p - 1))) (sym leaves.writes) within.1,
   )
-  kind_left i p k _ at other within = within
+  kind_left m i p k _ at other within = within
 
-  pub within_left : (i : ℕ) (one : Event) → slice_get history i ≡ Some one → (i ≡ gone → ⊥) → IsWithin old i one → IsWithin new i one
-  within_left i (Step p k kind) at other within = (subst (λ t. i < slice_index t.items (named_cell p k)) (sym leaves.steps) within.0, kind_left i p k kind at other within.1)
-  within_left i (Lost copy) at other within = subst (λ t. i < slice_index t.items (copy_cell copy.msg.s copy.msg.m (copy.to - 1))) (sym leaves.losses) within
+  pub within_left : (m i : ℕ) (one : Event) → slice_get history i ≡ Some one → (i ≡ gone → ⊥) → IsWithin old m one → IsWithin new m one
+  within_left m i (Step p k kind) at other within = (subst (λ t. m < slice_index t.items (named_cell p k)) (sym leaves.steps) within.0, kind_left m i p k kind at other within.1)
+  within_left m i (Lost copy) at other within = subst (λ t. m < slice_index t.items (copy_cell copy.msg.s copy.msg.m (copy.to - 1))) (sym leaves.losses) within

@@ -1,10 +1,9 @@
 -- What stands between a send and a receive of another process, and depends on both.
-use Rattle.std.proofs.Common.{◌≡◌, ℕ, ◌-◌, ◌<◌, ◌≤◌, Bool, true, false, ◌&&◌, ◌||◌, nat_eq, slice_index, refl, sym, ap, ◌∙◌, subst, true≢false, eqb-true, eq-eqb, arith}
+use Rattle.std.proofs.Common.{◌≡◌, ℕ, ◌-◌, ◌<◌, ◌≤◌, Bool, true, false, ◌&&◌, ◌||◌, nat_eq, slice_index, refl, sym, ap, ◌∙◌, subst, true≢false, eqb-true, arith}
 use Rattle.cdb_base.specs.declared.event.Event.{Event}
 use Rattle.cdb_base.specs.declared.event.Event.TheVariants.{Step, Lost}
 use Rattle.cdb_base.specs.declared.event.Kind.{Kind}
-use Rattle.cdb_base.specs.declared.event.Kind.TheVariants.{Send, Recv, Read, Write}
-use Rattle.cdb_base.specs.declared.name.CopyName.{CopyName}
+use Rattle.cdb_base.specs.declared.event.Kind.TheVariants.{Send, Recv, Write}
 use Rattle.cdb_causal.specs.Alone.{ShareCell}
 use Rattle.cdb_causal.specs.Bounds.{IsWithin}
 use Rattle.cdb_causal.specs.Cells.{named_cell, copy_cell}

@@ -1,7 +1,7 @@
 -- Receives that stand alone in their cell of the bounds: no other event receives the copy.
 use Rattle.std.specs.Prelude.{◌≡◌, ◌≢◌, ℕ, ◌-◌, List, Some, slice_get, slice_index}
 use Rattle.cdb_base.specs.declared.event.Event.{Event}
-use Rattle.cdb_base.specs.declared.event.Event.TheVariants.{Step, Lost}
+use Rattle.cdb_base.specs.declared.event.Event.TheVariants.{Step}
 use Rattle.cdb_base.specs.declared.event.Kind.TheVariants.{Recv}
 use Rattle.cdb_causal.specs.Cells.{copy_cell}
 use Rattle.cdb_causal.specs.declared.bounds.Bounds.{Bounds}

@@ -1,4 +1,4 @@
--- Bounds of the places at which events of some kinds stand: at a bound and above no such event stands. A search begins there.
+-- Bounds of the marks under which events of some kinds stand: under a bound as a mark, and above, no such event stands. A search begins there.
 use Rattle.std.specs.Prelude.{◌≡◌, ℕ, ◌-◌, ◌<◌, ⊤, List, Some, slice_get, slice_index, vec_len}
 use Rattle.cdb_base.specs.declared.event.Event.{Event}
 use Rattle.cdb_base.specs.declared.event.Event.TheVariants.{Step, Lost}
@@ -8,7 +8,7 @@ use Rattle.cdb_causal.specs.Cells.{register_cell, named_cell, copy_cell}
 use Rattle.cdb_causal.specs.Raised.{IsRaised}
 use Rattle.cdb_causal.specs.declared.bounds.Bounds.{Bounds}
 
--- what a step of process p of that kind does at place i is within its bounds
+-- what a step of process p of that kind does under mark i is within its bounds
 abbrev pub IsKindWithin : Bounds → ℕ → ℕ → Kind → Type 0
 IsKindWithin bounds i p (Send m) = i < slice_index bounds.sends.items (named_cell p m)
 IsKindWithin bounds i p (Recv s m) = i < slice_index bounds.receives.items (copy_cell s m (p - 1))
@@ -17,13 +17,14 @@ IsKindWithin bounds i p (Write register) =
     (i < slice_index bounds.accesses (register_cell register (p - 1))) × (i < slice_index bounds.writes (register_cell register (p - 1)))
 IsKindWithin bounds i p _ = ⊤
 
--- the event, at place i, is within its bounds
+-- the event, under mark i, is within its bounds
 abbrev pub IsWithin : Bounds → ℕ → Event → Type 0
 IsWithin bounds i (Step p k kind) = (i < slice_index bounds.steps.items (named_cell p k)) × IsKindWithin bounds i p kind
 IsWithin bounds i (Lost copy) = i < slice_index bounds.losses.items (copy_cell copy.msg.s copy.msg.m (copy.to - 1))
 
-abbrev pub AreWithin : Bounds → List Event → Type 0
-AreWithin bounds history = (i : ℕ) (event : Event) → slice_get history i ≡ Some event → IsWithin bounds i event
+-- each event of the history, under the mark of its place
+abbrev pub AreWithin : Bounds → (ℕ → ℕ) → List Event → Type 0
+AreWithin bounds marks history = (i : ℕ) (event : Event) → slice_get history i ≡ Some event → IsWithin bounds (marks i) event
 
 -- each bound is as high as it was, or higher
 pub record AreRaised (old new : Bounds) : Type 0 where

@@ -1,8 +1,9 @@
-//! Bounds of the places at which events stand, by what another event may look for, so that a search
-//! begins near it. A bound may be too high, never too low: so it stays right where events are taken
-//! out.
+//! Bounds of the marks under which events stand, by what another event may look for, so that a search
+//! begins near it. A bound may be too high, never too low; and no mark rises: so a bound stays right
+//! where events are taken out.
 
 ghost use Rattle.std.specs.Prelude.{◌≡◌, ℕ, ◌+◌, ◌-◌, ◌<◌, ◌≤◌, ◌==◌, ◌||◌, [], OnOk, true, false, length, nat_eq, slice_index, replicate, vec_len, if◌then◌else◌};
+ghost use Rattle.cdb_base.specs.Event.{event_name};
 ghost use Rattle.cdb_base.specs.declared.event.Event.{Event as AnEvent};
 ghost use Rattle.cdb_base.specs.declared.event.Event.TheVariants.{Step, Lost};
 ghost use Rattle.cdb_base.specs.declared.event.Kind.{Kind as AKind};
@@ -14,7 +15,7 @@ ghost use Rattle.cdb_causal.specs.Effects.{kind_affects};
 ghost use Rattle.cdb_causal.specs.LastCauses.{IsSlot};
 ghost use Rattle.cdb_causal.specs.Raised.{IsRaised, joined, left};
 
-use cdb_base::{CopyName, Event, Kind, NoMemory, Proc, Reg};
+use cdb_base::{CopyName, Event, Kind, NoMemory, Proc, Reg, StepId};
 use std::alloc::Global;
 
 /// Cells of a table of the registers and processes.
@@ -23,7 +24,7 @@ const REGISTER_CELLS: usize = 90;
 /// The bound of a copy that several standing events may receive.
 const SEVERAL: usize = usize::MAX;
 
-/// Each bound is one above the last place at which such an event stood.
+/// Each bound is one above the mark under which the last such event was added.
 #[derive(Drop)]
 pub struct Bounds {
     /// By process and number of the step.
@@ -184,52 +185,52 @@ impl Bounds {
     }
 
     /// Raises the bounds for what a step of that kind does.
-    fn note_kind(&mut self, place: usize, p: Proc, kind: Kind)
-        requires place { place < 18446744073709551615 }
+    fn note_kind(&mut self, mark: usize, p: Proc, kind: Kind)
+        requires mark { mark < 18446744073709551615 }
         requires room { HasRoomFor self.old p kind }
         ensures others { AreRaised self.old self.new }
         ensures steps { self.new.steps ≡ self.old.steps }
         ensures receives { (k : ℕ) → Joins self.old self.new (Step p k kind) }
-        ensures within { IsKindWithin self.new place p kind }
+        ensures within { IsKindWithin self.new mark p kind }
     {
         match kind {
-            Kind::Send(m) => raise(&mut self.sends, named_cell(p, m), place + 1),
-            Kind::Recv(s, m) => join(&mut self.receives, copy_cell(s, m, p.index()), place + 1),
+            Kind::Send(m) => raise(&mut self.sends, named_cell(p, m), mark + 1),
+            Kind::Recv(s, m) => join(&mut self.receives, copy_cell(s, m, p.index()), mark + 1),
             Kind::Read(register) => {
                 raise(
                     &mut self.accesses,
                     register_cell(register, p.index()),
-                    place + 1,
+                    mark + 1,
                 )
             }
             Kind::Write(register) => {
                 let written = register_cell(register, p.index());
-                raise(&mut self.accesses, written, place + 1);
-                raise(&mut self.writes, written, place + 1);
+                raise(&mut self.accesses, written, mark + 1);
+                raise(&mut self.writes, written, mark + 1);
             }
             _ => {}
         }
     }
 
-    /// Raises the bounds, for which there is room, so that the event at that place is within them.
-    pub fn note(&mut self, place: usize, event: &Event)
-        requires place { place < 18446744073709551615 }
+    /// Raises the bounds, for which there is room, so that the event under that mark is within them.
+    pub fn note(&mut self, mark: usize, event: &Event)
+        requires mark { mark < 18446744073709551615 }
         requires room { HasRoom self.old event.now }
         ensures others { AreRaised self.old self.new }
         ensures receives { Joins self.old self.new event.now }
-        ensures within { IsWithin self.new place event.now }
+        ensures within { IsWithin self.new mark event.now }
         ensures process { (p k : ℕ) (kind : AKind) → event.now ≡ Step p k kind →
             (1 ≤ p) × (p ≤ 9) }
     {
         match event {
             Event::Step { p, k, kind } => {
                 let _index = p.index();
-                raise(&mut self.steps, named_cell(*p, *k), place + 1);
-                self.note_kind(place, *p, *kind);
+                raise(&mut self.steps, named_cell(*p, *k), mark + 1);
+                self.note_kind(mark, *p, *kind);
             }
             Event::Lost(copy) => {
                 let lost = copy_cell(copy.msg.s, copy.msg.m, copy.to.index());
-                raise(&mut self.losses, lost, place + 1);
+                raise(&mut self.losses, lost, mark + 1);
             }
         }
     }
@@ -249,7 +250,7 @@ impl Bounds {
     }
 
     /// The bound of a step.
-    pub fn end_of_step(&self, p: Proc, k: u16) -> usize
+    fn end_of_step(&self, p: Proc, k: u16) -> usize
         ensures { result ≡ slice_index self.now.steps.items (named_cell_of p k) }
     {
         bound_in(&self.steps, named_cell(p, k))
@@ -279,10 +280,21 @@ impl Bounds {
     }
 
     /// The bound of the loss of a copy.
-    pub fn end_of_lost(&self, copy: &CopyName) -> usize
+    fn end_of_lost(&self, copy: &CopyName) -> usize
         ensures { (i : ℕ) → IsWithin self.now i (Lost copy.now) → i < result }
     {
         self.end_of_losses(copy.msg.s, copy.msg.m, copy.to.index())
+    }
+
+    /// Above the event of a name.
+    pub fn end_of_name(&self, name: &StepId) -> usize
+        ensures { (i : ℕ) (event : AnEvent) → IsWithin self.now i event →
+            event_name event ≡ name.now → i < result }
+    {
+        match name {
+            StepId::Step(step) => self.end_of_step(step.p, step.k),
+            StepId::Lost(copy) => self.end_of_lost(copy),
+        }
     }
 
     /// Above all steps of the slot's process on which a step of another process `p`, of that kind,
@@ -330,7 +342,7 @@ impl Bounds {
         }
     }
 
-    /// A place above all events in a slot on which the event at place `j` depends.
+    /// A mark above all events in a slot on which the event under mark `j` depends.
     pub fn end(&self, event: &Event, j: usize, slot: usize) -> usize
         requires { slot < 10 }
         ensures { (i : ℕ) (cause : AnEvent) → i < j → IsWithin self.now i cause → IsSlot cause slot
@@ -373,7 +385,7 @@ impl Bounds {
         sent.max(lost).max(received)
     }
 
-    /// The same for steps of any kind of the processes `q` and `p`, the second at place `j`.
+    /// The same for steps of any kind of the processes `q` and `p`, the second under mark `j`.
     fn end_between_steps(&self, q: Proc, sent: Kind, p: Proc, received: Kind, j: usize) -> usize
         ensures { (i k l : ℕ) (between : AnEvent) → i < j → IsWithin self.now i between
             → (ShareCell self.now between (Step p l received) → ⊥)
@@ -386,7 +398,7 @@ impl Bounds {
         }
     }
 
-    /// A place above all events that depend on the cause and on which the effect at place `j`
+    /// A mark above all events that depend on the cause and on which the effect under mark `j`
     /// depends.
     pub fn end_between(&self, cause: &Event, effect: &Event, j: usize) -> usize
         ensures { (i : ℕ) (between : AnEvent) → i < j → IsWithin self.now i between

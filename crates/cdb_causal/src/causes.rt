@@ -13,14 +13,16 @@ use cdb_base::{Event, NoMemory, StepId};
 use std::alloc::Global;
 
 /// The first event that depends on the one at place `i`, from 0.
-fn first_linked(events: &[Event], i: usize) -> Option<StepId>
-    requires { i < length events.now }
-    ensures { MatchOption result (IsFree depends_of events.now i)
-        (λ name. IsFirstDependent events.now i name) }
+fn first_linked(history: &History, i: usize) -> Option<StepId>
+    requires { i < length history.now }
+    ensures { MatchOption result (IsFree depends_of history.now i)
+        (λ name. IsFirstDependent history.now i name) }
 {
-    for j in i + 1..events.len() {
-        let event = &events[j];
-        if depends(&events[i], event) {
+    let cause = history.event(i);
+    let count = history.len();
+    for j in i + 1..count {
+        let event = history.event(j);
+        if depends(cause, event) {
             return Some(event.name());
         }
     }
@@ -35,7 +37,7 @@ pub fn first_dependent(history: &History, at: usize) -> Option<StepId>
     ensures { MatchOption result (IsFree depends_of history.now (at - 1))
         (λ name. IsFirstDependent history.now (at - 1) name) }
 {
-    first_linked(history.as_slice(), at - 1)
+    first_linked(history, at - 1)
 }
 
 /// Whether the event depends on one of the causes.
@@ -46,15 +48,17 @@ fn depends_on_one(causes: &[Event], event: &Event) -> bool
 }
 
 /// The event at a place, from 0, with its consequences, in order.
-fn rolled_back_events(alloc: Global, events: &[Event], i: usize) -> Result<Vec<Event>, NoMemory>
-    requires { i < length events.now }
-    ensures { IfOk result (λ taken. taken.items ≡ rolled_back depends_of events.now i) }
+fn rolled_back_events(alloc: Global, history: &History, i: usize) -> Result<Vec<Event>, NoMemory>
+    requires { i < length history.now }
+    ensures { IfOk result (λ taken. taken.items ≡ rolled_back depends_of history.now i) }
 {
     let mut causes = Vec::new(alloc);
-    append(&mut causes, events[i])?;
-    for j in i + 1..events.len() {
-        if depends_on_one(&causes, &events[j]) {
-            append(&mut causes, events[j])?;
+    append(&mut causes, *history.event(i))?;
+    let count = history.len();
+    for j in i + 1..count {
+        let event = history.event(j);
+        if depends_on_one(&causes, event) {
+            append(&mut causes, *event)?;
         }
     }
     Ok(causes)
@@ -80,6 +84,6 @@ pub fn consequences(alloc: Global, history: &History, at: usize) -> Result<Vec<S
     ensures { IfOk result
         (λ names. names.items ≡ map event_name (consequences_of depends_of history.now (at - 1))) }
 {
-    let taken = rolled_back_events(alloc, history.as_slice(), at - 1)?;
+    let taken = rolled_back_events(alloc, history, at - 1)?;
     names(alloc, &taken[1..])
 }

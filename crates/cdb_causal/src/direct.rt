@@ -1,6 +1,6 @@
 //! The direct causes of an event of a history.
 
-ghost use Rattle.std.specs.Prelude.{◌≡◌, ℕ, ◌+◌, ◌-◌, ◌<◌, ◌≤◌, ◌↔◌, None, Some, length, get_or, MatchOption, IsTrue, true};
+ghost use Rattle.std.specs.Prelude.{◌≡◌, ℕ, ◌+◌, ◌-◌, ◌<◌, ◌≤◌, ◌↔◌, None, Some, length, slice_get, get_or, MatchOption, IsTrue, true};
 ghost use Rattle.cdb_base.specs.declared.name.StepId.{StepId as AName};
 ghost use Rattle.cdb_causal.specs.Causality.{IsLink};
 ghost use Rattle.cdb_causal.specs.Dependence.{depends as depends_of};
@@ -37,15 +37,16 @@ fn is_cause(event: &Event, effect: &Event, slot: usize) -> bool
 
 /// The place of the last event in a slot on which the one at place `j` depends. All such places are
 /// below the end.
-fn last_cause(events: &[Event], j: usize, slot: usize, end: usize) -> Option<usize>
-    requires within { j < length events.now }
-    requires end { (i : ℕ) (l : IsLink depends_of events.now i j) → IsSlot l.cause slot →
+fn last_cause(history: &History, effect: &Event, j: usize, slot: usize, end: usize) -> Option<usize>
+    requires at { slice_get history.now j ≡ Some effect.now }
+    requires end { (i : ℕ) (l : IsLink depends_of history.now i j) → IsSlot l.cause slot →
         i < end }
-    ensures { MatchOption result (IsNoCause events.now j slot)
-        (λ i. IsLastCause events.now j slot i) }
+    ensures { MatchOption result (IsNoCause history.now j slot)
+        (λ i. IsLastCause history.now j slot i) }
 {
     for i in (0..end.min(j)).rev() {
-        if is_cause(&events[i], &events[j], slot) {
+        let event = history.event(i);
+        if is_cause(event, effect, slot) {
             return Some(i);
         }
     }
@@ -62,16 +63,19 @@ fn leads_on(first: &Event, event: &Event, last: &Event) -> bool
 
 /// Whether no event between the two depends on the first and has the second depend on it.
 /// All such events are below the end.
-fn is_direct(events: &[Event], i: usize, j: usize, end: usize) -> bool
+fn is_direct(history: &History, i: usize, j: usize, end: usize) -> bool
     requires order { i < j }
-    requires within { j < length events.now }
-    requires end { (k : ℕ) → IsLink depends_of events.now i k → IsLink depends_of events.now k j →
-        k < end }
+    requires within { j < length history.now }
+    requires end { (k : ℕ) → IsLink depends_of history.now i k →
+        IsLink depends_of history.now k j → k < end }
     ensures { IsTrue result
-        ↔ ((k : ℕ) → IsLink depends_of events.now i k → IsLink depends_of events.now k j → ⊥) }
+        ↔ ((k : ℕ) → IsLink depends_of history.now i k → IsLink depends_of history.now k j → ⊥) }
 {
+    let cause = history.event(i);
+    let effect = history.event(j);
     for k in i + 1..end.min(j) {
-        if leads_on(&events[i], &events[k], &events[j]) {
+        let between = history.event(k);
+        if leads_on(cause, between, effect) {
             return false;
         }
     }
@@ -84,10 +88,11 @@ fn last_causes(history: &History, j: usize) -> [Option<usize>; SLOTS]
     ensures last { AreLastCauses history.now j 10 result }
     ensures below { (slot i : ℕ) → get_or result slot None ≡ Some i → i < j }
 {
-    let events = history.as_slice();
+    let effect = history.event(j);
     let mut causes = [None; SLOTS];
     for slot in 0..SLOTS {
-        causes[slot] = last_cause(events, j, slot, history.end_of_causes(j, slot));
+        let end = history.end_of_causes(effect, slot);
+        causes[slot] = last_cause(history, effect, j, slot, end);
     }
     causes
 }
@@ -121,10 +126,11 @@ fn direct_cause(
     ensures { MatchOption result ((name : AName) → NamesDirectCauseIn history.now j slot name → ⊥)
         (λ name. NamesDirectCauseIn history.now j slot name) }
 {
-    let events = history.as_slice();
+    let _standing = history.len();
     if let Some(i) = last {
-        if is_direct(events, i, j, end.min(history.end_between(i, j))) {
-            return Some(events[i].name());
+        if is_direct(history, i, j, end.min(history.end_between(i, j))) {
+            let cause = history.event(i);
+            return Some(cause.name());
         }
     }
     None
@@ -139,7 +145,7 @@ pub fn direct_causes(alloc: Global, history: &History, at: usize) -> SmallVec<St
     requires to_len { at ≤ length history.now }
     ensures { AreDirectCauses history.now (at - 1) result.items }
 {
-    let _standing = history.as_slice();
+    let _standing = history.len();
     let lasts = last_causes(history, at - 1);
     let end = end_of(&lasts, at - 1);
     let mut causes = SmallVec::new(alloc);

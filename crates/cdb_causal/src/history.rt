@@ -1,6 +1,6 @@
 //! The standing events of a run, in the order in which they were taken.
 
-ghost use Rattle.std.specs.Prelude.{◌≡◌, ℕ, ◌-◌, ◌<◌, ◌≤◌, List, [], ◌∷◌, ◌++◌, Some, length, MatchOption, OnOk, OnErr, IsTrue, ◌==◌, ◌↔◌};
+ghost use Rattle.std.specs.Prelude.{◌≡◌, ℕ, ◌-◌, ◌<◌, ◌≤◌, List, [], ◌∷◌, ◌++◌, Some, length, slice_get, take, MatchOption, OnOk, OnErr, IfOk, IsTrue, ◌==◌, ◌↔◌};
 ghost use Rattle.cdb_base.specs.Event.{event_name};
 ghost use Rattle.cdb_base.specs.Places.{nth};
 ghost use Rattle.cdb_causal.specs.Causality.{IsLink};
@@ -9,17 +9,22 @@ ghost use Rattle.cdb_causal.specs.LastCauses.{IsSlot};
 ghost use Rattle.cdb_causal.specs.Names.{IsNamedAt, IsNewName, IsPlaceOf};
 ghost use Rattle.cdb_causal.specs.Rollback.{without};
 ghost use Rattle.cdb_causal.specs.Standing.{IsStanding, HasNoLostCopy};
+ghost use Rattle.cdb_log.specs.Marks.{IsPushed};
 
 use crate::bounds::Bounds;
 use cdb_base::{Event, Kind, NoMemory, Reg, StepId};
+use cdb_log::Log;
 use std::alloc::Global;
 use std::marker::Model;
+
+/// A mark above those of all events.
+const ABOVE_ALL: usize = usize::MAX;
 
 /// The standing events, each under a name of its own. A contract sees their list. Places count
 /// from 1.
 #[derive(Drop)]
 pub struct History {
-    events: Vec<Event>,
+    events: Log<Event>,
     bounds: Bounds,
 }
 
@@ -27,12 +32,13 @@ impl Model for History {
     ghost use Rattle.std.specs.Prelude.{List};
     ghost use Rattle.cdb_base.specs.declared.event.Event.{Event};
     ghost use Rattle.cdb_causal.specs.Indexed.{IsIndexed};
+    ghost use Rattle.cdb_log.specs.Pieces.{joined};
 
     ghost Value = { List Event };
 
-    ghost view = { λ h. h.events.items };
+    ghost view = { λ h. joined h.events };
 
-    ghost invariant = { λ h. IsIndexed h.events.items h.bounds };
+    ghost invariant = { λ h. IsIndexed h.events h.bounds };
 }
 
 /// Adds an event at the end of a list.
@@ -48,6 +54,17 @@ pub(crate) fn append(events: &mut Vec<Event>, event: Event) -> Result<(), NoMemo
     Ok(())
 }
 
+/// Adds an event at the end of a log, and returns its mark.
+fn append_to_log(log: &mut Log<Event>, event: Event) -> Result<usize, NoMemory>
+    ensures ok { IfOk result (λ mark. IsPushed log.old event mark log.new) }
+    ensures small { IfOk result (λ mark. mark < 18446744073709551615) }
+    ensures err { OnErr result (log.new ≡ log.old) }
+{
+    let _kind: Option<Kind> = None;
+    let _register: Option<Reg> = None;
+    log.push(event)
+}
+
 /// Whether the event has the name.
 fn is_named(event: &Event, name: &StepId) -> bool
     ensures { IsTrue result ↔ (event_name event.now ≡ name.now) }
@@ -56,14 +73,16 @@ fn is_named(event: &Event, name: &StepId) -> bool
 }
 
 /// The place, from 1, of the event of that name. It stands below the end.
-fn place_of(events: &[Event], name: &StepId, end: usize) -> Option<usize>
-    requires standing { IsStanding events.now }
-    requires end { (i : ℕ) → IsNamedAt events.now i name.now → i < end }
-    ensures { MatchOption result (IsNewName events.now name.now)
-        (λ at. IsPlaceOf events.now name.now at) }
+fn place_of(history: &History, name: &StepId, end: usize) -> Option<usize>
+    requires standing { IsStanding history.now }
+    requires within { end ≤ length history.now }
+    requires end { (i : ℕ) → IsNamedAt history.now i name.now → i < end }
+    ensures { MatchOption result (IsNewName history.now name.now)
+        (λ at. IsPlaceOf history.now name.now at) }
 {
-    for i in (0..end.min(events.len())).rev() {
-        if is_named(&events[i], name) {
+    for i in (0..end).rev() {
+        let event = history.event(i);
+        if is_named(event, name) {
             return Some(i + 1);
         }
     }
@@ -76,14 +95,15 @@ impl History {
         ensures { result ≡ [] }
     {
         History {
-            events: Vec::new(alloc),
+            events: Log::new(alloc),
             bounds: Bounds::new(alloc),
         }
     }
 
-    /// How many events stand.
+    /// How many events stand. What is promised of every history is promised here.
     pub fn len(&self) -> usize
-        ensures { result ≡ length self.now }
+        ensures count { result ≡ length self.now }
+        ensures standing { IsStanding self.now }
     {
         self.events.len()
     }
@@ -95,22 +115,33 @@ impl History {
         self.events.is_empty()
     }
 
-    /// The standing events, in order. What is promised of every history is promised here.
-    pub fn as_slice(&self) -> &[Event]
-        ensures events { result.now ≡ self.now }
-        ensures standing { IsStanding self.now }
+    /// A copy of the standing events, in order.
+    pub fn to_vec(&self, alloc: Global) -> Result<Vec<Event>, NoMemory>
+        ensures { IfOk result (λ events. events.items ≡ self.now) }
     {
-        self.events.as_slice()
+        let mut events = Vec::with_capacity(alloc, self.len())?;
+        for i in 0..self.len() {
+            append(&mut events, *self.event(i))?;
+        }
+        Ok(events)
     }
 
-    /// A place, from 0, above all events in a slot on which the event at place `j` depends.
-    pub(crate) fn end_of_causes(&self, j: usize, slot: usize) -> usize
-        requires within { j < length self.now }
-        requires slot { slot < 10 }
-        ensures { (i : ℕ) (l : IsLink depends_of self.now i j) → IsSlot l.cause slot →
-            i < result }
+    /// The event at a place, from 0.
+    pub fn event(&self, i: usize) -> &Event
+        requires { i < length self.now }
+        ensures { slice_get self.now i ≡ Some result.now }
     {
-        self.bounds.end(&self.events[j], j, slot)
+        self.events.get(i)
+    }
+
+    /// A place, from 0, above all events in a slot on which the effect depends, where it stands.
+    pub(crate) fn end_of_causes(&self, effect: &Event, slot: usize) -> usize
+        requires { slot < 10 }
+        ensures { (i j : ℕ) (l : IsLink depends_of self.now i j) →
+            slice_get self.now j ≡ Some effect.now → IsSlot l.cause slot → i < result }
+    {
+        let bound = self.bounds.end(effect, ABOVE_ALL, slot);
+        self.events.place_above(bound)
     }
 
     /// A place, from 0, above all events that depend on the event at place `i` and on which the one at
@@ -121,7 +152,10 @@ impl History {
         ensures { (k : ℕ) → IsLink depends_of self.now i k → IsLink depends_of self.now k j →
             k < result }
     {
-        self.bounds.end_between(&self.events[i], &self.events[j], j)
+        let cause = self.events.get(i);
+        let effect = self.events.get(j);
+        let bound = self.bounds.end_between(cause, effect, ABOVE_ALL);
+        self.events.place_above(bound)
     }
 
     /// The event at a place, from 1 to the number of events.
@@ -130,24 +164,15 @@ impl History {
         requires to_len { at ≤ length self.now }
         ensures { nth self.now at ≡ Some result }
     {
-        self.events[at - 1]
-    }
-
-    /// A place, from 0, above the event of that name.
-    fn end_of_name(&self, name: &StepId) -> usize
-        ensures { (i : ℕ) → IsNamedAt self.now i name.now → i < result }
-    {
-        match name {
-            StepId::Step(step) => self.bounds.end_of_step(step.p, step.k),
-            StepId::Lost(copy) => self.bounds.end_of_lost(copy),
-        }
+        *self.events.get(at - 1)
     }
 
     /// The place of the event of that name, from 1, if one stands.
     pub fn position(&self, name: StepId) -> Option<usize>
         ensures { MatchOption result (IsNewName self.now name) (λ at. IsPlaceOf self.now name at) }
     {
-        place_of(&self.events, &name, self.end_of_name(&name))
+        let end = self.events.place_above(self.bounds.end_of_name(&name));
+        place_of(self, &name, end)
     }
 
     /// Adds an event at the end. No event of its name stands, and of a send no copy is lost. Without
@@ -159,10 +184,9 @@ impl History {
         ensures err { OnErr result (self.new ≡ self.old) }
     {
         self.bounds.reserve(&event)?;
-        let place = self.events.len();
         let added = event;
-        append(&mut self.events, added)?;
-        self.bounds.note(place, &event);
+        let mark = append_to_log(&mut self.events, added)?;
+        self.bounds.note(mark, &event);
         Ok(())
     }
 
@@ -173,7 +197,7 @@ impl History {
         ensures event { nth self.old at ≡ Some result }
         ensures rest { self.new ≡ without self.old (at - 1) }
     {
-        let event = self.events.remove(at - 1);
+        let event = self.events.take_out(at - 1);
         self.bounds.forget(&event);
         event
     }

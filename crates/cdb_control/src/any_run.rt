@@ -216,7 +216,7 @@ impl Runs for RunOfSetup {
     }
 
     fn events(&self, alloc: Global) -> Result<Vec<Event>, NoMemory> {
-        Ok(self.run.history().to_vec(alloc)?)
+        self.run.history().to_vec(alloc)
     }
 
     fn decisions(&self, alloc: Global) -> Result<Vec<(Proc, Val)>, NoMemory> {

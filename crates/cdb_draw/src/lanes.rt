@@ -8,7 +8,8 @@ ghost use Rattle.cdb_text.specs.Pushes.{Pushes};
 use crate::layout::{end_x, lane_y, register_y, x_of};
 use crate::piece::{push, push_number, push_process, push_register, push_val};
 use crate::sends::crashed_at;
-use cdb_base::{Event, Proc, Reg, Val};
+use cdb_base::{Proc, Reg, Val};
+use cdb_causal::History;
 use cdb_control::RunOfSetup;
 use cdb_setup::Algorithm;
 use std::alloc::AllocError;
@@ -23,7 +24,7 @@ fn push_line(text: &mut String, end: usize) -> Result<(), AllocError>
 }
 
 /// Where the lane of a process ends: at its crash, or else at the edge.
-fn lane_end(history: &[Event], p: Proc) -> usize
+fn lane_end(history: &History, p: Proc) -> usize
     requires { length history.now ≤ 999999 }
     ensures { result ≡ lane_end history.now p }
 {

@@ -157,7 +157,8 @@ fn arrow_of(
 {
     let mut text = String::new(alloc);
     let history = run.any().history();
-    push_arrow(&mut text, run, sends, marks[place], place, &history[place])?;
+    let event = history.event(place);
+    push_arrow(&mut text, run, sends, marks[place], place, event)?;
     Ok(text)
 }
 
@@ -177,15 +178,8 @@ fn mark_of(
 {
     let mut text = String::new(alloc);
     let history = run.any().history();
-    push_mark(
-        alloc,
-        &mut text,
-        run,
-        after,
-        marks[place],
-        place,
-        &history[place],
-    )?;
+    let event = history.event(place);
+    push_mark(alloc, &mut text, run, after, marks[place], place, event)?;
     Ok(text)
 }
 
@@ -277,7 +271,8 @@ fn put_marks<W: Sink>(
     let mut again = fresh(alloc, run)?;
     let history = run.any().history();
     for place in 0..history.len() {
-        take_next(alloc, &mut again, &history[place])?;
+        let event = history.event(place);
+        take_next(alloc, &mut again, event)?;
         put_mark(alloc, run, &again, marks, place, buffer, out)?;
     }
     Ok(())

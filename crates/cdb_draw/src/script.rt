@@ -10,7 +10,7 @@ ghost use Rattle.cdb_run.specs.Algorithms.{rules};
 ghost use Rattle.cdb_setup.specs.declared.fault.SetupFault.{SetupFault as SetupFaultName};
 
 use crate::draws::draw_run;
-use cdb_base::Event;
+use cdb_causal::History;
 use cdb_control::{Control, RunOfSetup};
 use cdb_explain::{ExplainFault, place_of_step};
 use cdb_play::{Sink, Source, left_by};
@@ -37,7 +37,7 @@ fn run_of(control: &Control<RunOfSetup>) -> &RunOfSetup
 }
 
 /// The place, from 0, of the step that is asked for, if one is. `NoStep` where none such stands.
-fn place_for(history: &[Event], step: Option<StepAsked>) -> Result<Option<usize>, ExplainFault>
+fn place_for(history: &History, step: Option<StepAsked>) -> Result<Option<usize>, ExplainFault>
     ensures place { IfOk result (IsPlaceFor history.now step) }
     ensures within { IfOk result (λ place. IfSome place (λ i. i < length history.now)) }
     ensures missing { IfErr result (λ fault. (fault ≡ no_step) × IsMissing history.now step) }

@@ -7,6 +7,7 @@ ghost use Rattle.cdb_draw.specs.Places.{crashed_at, is_crash_of, sent_at};
 ghost use Rattle.cdb_draw.specs.Sends.{AreSendsOf, kept_or_noted, message_code, message_of};
 
 use cdb_base::{Event, Kind, MsgName, NoMemory, Proc};
+use cdb_causal::History;
 use std::alloc::Global;
 use std::collections::HashMap;
 
@@ -56,12 +57,13 @@ fn note_event(sends: &mut Sends, event: &Event, place: usize) -> Result<(), NoMe
 }
 
 /// The places of all sends of a history.
-pub(crate) fn sends_of(alloc: Global, history: &[Event]) -> Result<Sends, NoMemory>
+pub(crate) fn sends_of(alloc: Global, history: &History) -> Result<Sends, NoMemory>
     ensures { IfOk result (λ sends. AreSendsOf sends history.now) }
 {
     let mut sends = HashMap::new(alloc);
     for i in 0..history.len() {
-        note_event(&mut sends, &history[i], i)?;
+        let event = history.event(i);
+        note_event(&mut sends, event, i)?;
     }
     Ok(sends)
 }
@@ -89,8 +91,14 @@ fn is_crash_of(event: &Event, p: Proc) -> bool
 }
 
 /// The place at which a process crashed, from 0.
-pub(crate) fn crashed_at(history: &[Event], p: Proc) -> Option<usize>
+pub(crate) fn crashed_at(history: &History, p: Proc) -> Option<usize>
     ensures { result ≡ crashed_at history.now p }
 {
-    history.iter().position(|event| is_crash_of(event, p))
+    for i in 0..history.len() {
+        let event = history.event(i);
+        if is_crash_of(event, p) {
+            return Some(i);
+        }
+    }
+    None
 }

@@ -4,6 +4,7 @@ ghost use Rattle.std.specs.Prelude.{◌≡◌, MatchOption};
 ghost use Rattle.cdb_explain.specs.Asked.{is_asked, IsStepAsked, StandsNoStep};
 
 use cdb_base::Event;
+use cdb_causal::History;
 
 /// Whether the event is a step of process `p`, the `k`-th where a number is given.
 fn is_asked(event: &Event, p: u32, k: Option<u32>) -> bool
@@ -21,12 +22,13 @@ fn is_asked(event: &Event, p: u32, k: Option<u32>) -> bool
 
 /// The place, from 0, of the `k`-th standing step of process `p`; without `k` that of its last
 /// standing step. Nothing where no such step stands.
-pub fn place_of_step(history: &[Event], p: u32, k: Option<u32>) -> Option<usize>
+pub fn place_of_step(history: &History, p: u32, k: Option<u32>) -> Option<usize>
     ensures { MatchOption result (StandsNoStep history.now p k)
         (λ i. IsStepAsked history.now p k i) }
 {
     for i in (0..history.len()).rev() {
-        if is_asked(&history[i], p, k) {
+        let event = history.event(i);
+        if is_asked(event, p, k) {
             return Some(i);
         }
     }

@@ -32,9 +32,10 @@ fn push_lines(
     let history = run.any().history();
     let mut count = 0;
     for i in 0..history.len() {
-        take_next(alloc, &mut again, &history[i])?;
+        let event = history.event(i);
+        take_next(alloc, &mut again, event)?;
         if marks[i] {
-            push_line(alloc, text, run, &again, &history[i])?;
+            push_line(alloc, text, run, &again, event)?;
             count += 1;
         }
     }

@@ -5,7 +5,7 @@ ghost use Rattle.std.specs.Prelude.{◌<◌, length, IfOk};
 
 use cdb_base::NoMemory;
 use cdb_control::RunOfSetup;
-use cdb_past::{history_of, mark_past};
+use cdb_past::mark_past;
 use std::alloc::Global;
 
 /// Marks what led to the event at a place of the history, from 0.
@@ -13,8 +13,5 @@ pub fn past_of(alloc: Global, run: &RunOfSetup, place: usize) -> Result<Vec<bool
     requires { place < length run.now.history }
     ensures { IfOk result (λ marks. MarkPast run.now.history place marks.items) }
 {
-    // Its clause says that the parts of the setup are in range.
-    let _ranges = run.any().setup().n();
-    let history = history_of(alloc, run.any().history())?;
-    mark_past(alloc, &history, place + 1)
+    mark_past(alloc, run.any().history(), place + 1)
 }

@@ -4,24 +4,11 @@ ghost use Rattle.std.specs.Prelude.{◌≡◌, ℕ, ◌-◌, ◌<◌, ◌≤◌,
 ghost use Rattle.cdb_causal.specs.Causality.{IsDirectCause};
 ghost use Rattle.cdb_causal.specs.Dependence.{depends};
 ghost use Rattle.cdb_causal.specs.Names.{IsNamedAt};
-ghost use Rattle.cdb_causal.specs.Standing.{IsStanding};
 ghost use Rattle.cdb_past.specs.Marks.{IsMarked, MarkPast};
 
-use cdb_base::{Event, NoMemory, StepId};
+use cdb_base::{NoMemory, StepId};
 use cdb_causal::{History, direct_causes};
 use std::alloc::Global;
-
-/// A history of these events, which can be asked for direct causes. It can fail only out of memory.
-pub fn history_of(alloc: Global, events: &[Event]) -> Result<History, NoMemory>
-    requires { IsStanding events.now }
-    ensures { IfOk result (λ history. history ≡ events.now) }
-{
-    let mut history = History::new(alloc);
-    for event in events {
-        history.push(*event)?;
-    }
-    Ok(history)
-}
 
 /// Marks the event of that name, which stands.
 fn mark(history: &History, name: StepId, marks: &mut Vec<bool>)

@@ -3,7 +3,6 @@ use Rattle.std.proofs.Common.{◌≡◌, ℕ, zero, suc, ◌+◌, ◌<◌, Bool,
 use Rattle.std.proofs.lemmas.Option.{same_Some, none-some}
 use Rattle.std.proofs.lemmas.List.{length_push, drop-take}
 use Rattle.cdb_causal.specs.Causality.{IsLink, IsDirectCause}
-use Rattle.cdb_causal.specs.Dependence.{depends}
 use Rattle.cdb_causal.specs.DirectDependents.{is_direct}
 use Rattle.cdb_causal.proofs.Dependents.{get_append_front}
 use Rattle.cdb_causal.proofs.DirectByList.{direct_between}

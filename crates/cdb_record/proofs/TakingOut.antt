@@ -1,16 +1,16 @@
 -- Accounts stay right where a free event is taken out.
-use Rattle.std.proofs.Common.{◌≡◌, ℕ, zero, suc, ◌+◌, ◌-◌, ◌<◌, ◌≤◌, Bool, true, false, ◌⊎◌, inl, inr, ⊎_elim, ◌↔◌, List, [], ◌∷◌, length, Some, slice_get, take, drop, refl, sym, ap, ◌∙◌, subst, true≢false, arith}
+use Rattle.std.proofs.Common.{◌≡◌, ℕ, zero, suc, ◌+◌, ◌-◌, ◌<◌, ◌≤◌, Bool, true, false, ◌⊎◌, inl, inr, ⊎_elim, List, [], ◌∷◌, length, Some, slice_get, take, drop, refl, sym, ap, ◌∙◌, subst, true≢false, arith}
 use Rattle.std.proofs.lemmas.Option.{slice_get_within}
 use Rattle.cdb_base.specs.Event.{event_name}
 use Rattle.cdb_base.specs.declared.event.Event.{Event}
 use Rattle.cdb_base.specs.declared.name.StepId.{StepId}
 use Rattle.cdb_causal.specs.Causality.{IsFree, IsDirectCause}
 use Rattle.cdb_causal.specs.Dependence.{depends}
-use Rattle.cdb_causal.specs.DirectCauses.{AreDirectCauses, NamesDirectCause}
+use Rattle.cdb_causal.specs.DirectCauses.{AreDirectCauses}
 use Rattle.cdb_causal.specs.DirectDependents.{is_direct, as_number, direct_dependents}
 use Rattle.cdb_causal.specs.Names.{IsNamedAt}
 use Rattle.cdb_causal.specs.Rollback.{without, place_before}
-use Rattle.cdb_causal.proofs.Counting.{slice_get-without, direct_kept}
+use Rattle.cdb_causal.proofs.Counting.{slice_get-without}
 use Rattle.cdb_causal.proofs.Dependents.{dependents_taken_out, behind_free, free_behind}
 use Rattle.cdb_causal.proofs.Keeping.{standing_without}
 use Rattle.cdb_record.specs.Accounts.{AreAccounts, dependents_at}

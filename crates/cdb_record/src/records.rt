@@ -19,6 +19,7 @@ use crate::accounts::{Account, Change, change_counts};
 use crate::entry::Entry;
 use cdb_base::{Cell, CopyName, Event, NoMemory, Proc, StepId};
 use cdb_causal::{History, direct_causes};
+use cdb_log::Log;
 use std::alloc::Global;
 use std::marker::Model;
 
@@ -27,8 +28,8 @@ use std::marker::Model;
 #[derive(Drop)]
 pub struct Records<B: Drop> {
     history: History,
-    entries: Vec<Entry<B>>,
-    accounts: Vec<Account>,
+    entries: Log<Entry<B>>,
+    accounts: Log<Account>,
     // For lists of direct causes, which have places of their own and never allocate.
     alloc: Global,
 }
@@ -41,10 +42,11 @@ impl<B: Drop> Model for Records<B> {
 
     ghost use Rattle.cdb_record.specs.Accounts.{AreAccounts};
     ghost use Rattle.cdb_record.specs.Entries.{events_of};
+    ghost use Rattle.cdb_log.specs.Pieces.{joined};
 
-    ghost view = { λ records. records.entries.items };
+    ghost view = { λ records. joined records.entries };
 
-    ghost invariant = { λ records. (records.history ≡ events_of records.entries.items) × AreAccounts records.history records.accounts.items };
+    ghost invariant = { λ records. (records.history ≡ events_of (joined records.entries)) × AreAccounts records.history (joined records.accounts) };
 }
 
 impl<B: Drop> Records<B> {
@@ -54,8 +56,8 @@ impl<B: Drop> Records<B> {
     {
         Records {
             history: History::new(alloc),
-            entries: Vec::new(alloc),
-            accounts: Vec::new(alloc),
+            entries: Log::new(alloc),
+            accounts: Log::new(alloc),
             alloc,
         }
     }
@@ -77,7 +79,7 @@ impl<B: Drop> Records<B> {
         ensures none { IsNewName (events_of self.now) name → result ≡ 0 }
     {
         match self.history.position(name) {
-            Some(at) => self.accounts[at - 1].count,
+            Some(at) => self.accounts.get(at - 1).count,
             None => 0,
         }
     }
@@ -96,11 +98,11 @@ impl<B: Drop> Records<B> {
         if self.entries.len() >= u32::MAX as usize {
             return Err(NoMemory);
         }
-        self.entries.reserve(1)?;
-        self.accounts.reserve(1)?;
+        self.entries.reserve()?;
+        self.accounts.reserve()?;
         let added = event;
         self.history.push(added)?;
-        let causes = direct_causes(alloc, &self.history, self.history.as_slice().len());
+        let causes = direct_causes(alloc, &self.history, self.history.len());
         change_counts(&self.history, &mut self.accounts, &causes, Change::Raise);
         self.accounts.push_reserved(Account { count: 0 });
         self.entries.push_reserved(Entry {
@@ -120,12 +122,13 @@ impl<B: Drop> Records<B> {
             ++ record { event = last.event; back = back; overwritten = overwritten } ∷ [] }
     {
         let last = self.entries.len() - 1;
-        let event = self.entries[last].event;
-        self.entries[last] = Entry {
+        let event = self.entries.get(last).event;
+        let entry = Entry {
             event,
             back,
             overwritten,
         };
+        self.entries.set(last, entry);
     }
 
     /// Takes the free event at a place out, from 1 to the number of events, with its entry, and
@@ -139,9 +142,9 @@ impl<B: Drop> Records<B> {
     {
         let causes = direct_causes(self.alloc, &self.history, at);
         self.history.remove(at);
-        self.accounts.remove(at - 1);
+        self.accounts.take_out(at - 1);
         change_counts(&self.history, &mut self.accounts, &causes, Change::Lower);
-        self.entries.remove(at - 1)
+        self.entries.take_out(at - 1)
     }
 
     /// Takes the last event out again, which is free. It takes no memory.
@@ -161,7 +164,7 @@ impl<B: Drop> Records<B> {
         ensures { MatchOption result (IsKept self.old (at - 1) self.new)
             (λ entry. IsTakenFree self.old (at - 1) entry self.new) }
     {
-        if self.accounts[at - 1].count > 0 {
+        if self.accounts.get(at - 1).count > 0 {
             return None;
         }
         Some(self.take_out(at))
@@ -192,9 +195,9 @@ fn last_of(history: &History, p: Proc) -> Option<usize>
     ensures { MatchOption result ((i : ℕ) → IsStepOf history.now p i → ⊥)
         (λ at. (1 ≤ at) × IsLastStepOf history.now p (at - 1)) }
 {
-    let events = history.as_slice();
-    for i in (0..events.len()).rev() {
-        if events[i].is_step_of(p) {
+    for i in (0..history.len()).rev() {
+        let event = history.event(i);
+        if event.is_step_of(p) {
             return Some(i + 1);
         }
     }

@@ -22,6 +22,7 @@ use cdb_alpha::Alpha;
 use cdb_base::{
     Act, Cell, CopyName, Event, MsgName, NoMemory, Payload, Proc, Refusal, Reg, StepId, Val,
 };
+use cdb_causal::History;
 use cdb_leader::Leader;
 use cdb_process::Process;
 use cdb_setup::{Algorithm, Setup};
@@ -294,7 +295,7 @@ impl AnyRun {
     }
 
     /// The standing events, in the order in which they were taken: each was enabled in its turn.
-    pub fn history(&self) -> &[Event]
+    pub fn history(&self) -> &History
         requires { IsTrueToSetup self.now }
         ensures events { result.now ≡ (run_view self.now).history }
         ensures valid { IsInOrder rules (run_view self.now) }

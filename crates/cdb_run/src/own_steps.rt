@@ -7,6 +7,7 @@ ghost use Rattle.std.specs.Iterator.{YieldsFirst, item_count};
 ghost use Rattle.cdb_run.specs.OwnSteps.{no_writes, with_write, writes_with, writes_met, noted, own_steps};
 
 use cdb_base::{Event, Kind, Proc, Reg};
+use cdb_causal::History;
 use std::marker::Model;
 
 /// An event and, at a read or a write, how many writes of that register stood before it.
@@ -93,12 +94,13 @@ impl WriteCounts {
 /// The events of a history that are still to come, each with the writes that it meets.
 #[derive(Drop)]
 struct Noted<'a> {
-    events: &'a [Event],
+    history: &'a History,
+    place: usize,
     writes: WriteCounts,
 }
 
 impl<'a> Model for Noted<'a> {
-    ghost use Rattle.std.specs.Prelude.{◌+◌, ◌<◌, ◌^◌, List, length};
+    ghost use Rattle.std.specs.Prelude.{◌+◌, ◌<◌, ◌^◌, List, drop, length};
     ghost use Rattle.cdb_base.specs.declared.register.Reg.{Reg as ARegister};
     ghost use Rattle.cdb_run.specs.declared.own_steps.OwnEvent.{OwnEvent};
     ghost use Rattle.cdb_run.specs.WriteCounts.{count_of};
@@ -106,17 +108,19 @@ impl<'a> Model for Noted<'a> {
 
     ghost Value = { List OwnEvent };
 
-    ghost view = { λ x. noted (count_of x.writes) x.events.now };
+    ghost view = { λ x. noted (count_of x.writes) (drop x.place x.history.now) };
 
-    ghost invariant = { λ x. (register : ARegister) → count_of x.writes register + length x.events.now < 2 ^ 64 };
+    ghost invariant = { λ x. (register : ARegister) → count_of x.writes register + length (drop x.place x.history.now) < 2 ^ 64 };
 }
 
 impl<'a> Noted<'a> {
-    fn new(history: &'a [Event]) -> Self
+    fn new(history: &'a History) -> Self
         ensures { result ≡ noted no_writes history.now }
     {
+        let _count = history.len();
         Noted {
-            events: history,
+            history,
+            place: 0,
             writes: WriteCounts::new(),
         }
     }
@@ -130,10 +134,13 @@ impl<'a> Iterator for Noted<'a> {
     ghost remaining = { item_count (λ left. left) };
 
     fn next(&mut self) -> Option<OwnEvent> {
-        let (first, later) = self.events.split_first()?;
+        if self.place >= self.history.len() {
+            return None;
+        }
+        let first = self.history.event(self.place);
         let writes_before = self.writes.met_by(first);
         self.writes.count(first);
-        self.events = later;
+        self.place += 1;
         Some(OwnEvent {
             event: *first,
             writes_before,
@@ -142,7 +149,7 @@ impl<'a> Iterator for Noted<'a> {
 }
 
 /// Whether process `p` takes the same steps in both histories, each access after as many writes.
-pub(crate) fn same_steps(p: Proc, history: &[Event], other: &[Event]) -> bool
+pub(crate) fn same_steps(p: Proc, history: &History, other: &History) -> bool
     ensures { IsTrue result ↔ (own_steps p history.now ≡ own_steps p other.now) }
 {
     let theirs = Noted::new(other).filter(|own| own.event.is_step_of(p));

@@ -308,16 +308,9 @@ impl<P: Process> Run<P> {
     }
 
     /// The standing events, in the order in which they were taken: each was enabled in its turn.
-    pub fn history(&self) -> &[Event]
+    pub fn history(&self) -> &History
         ensures events { result.now ≡ self.now.history }
         ensures valid { IsInOrder P.table self.now }
-    {
-        self.records.history().as_slice()
-    }
-
-    /// The standing events, with their places by name.
-    pub(crate) fn standing(&self) -> &History
-        ensures { result.now ≡ self.now.history }
     {
         self.records.history()
     }

@@ -8,6 +8,7 @@ mod events;
 mod history;
 mod laws;
 mod leader;
+mod long_history;
 mod machine;
 mod mail;
 mod mailbox;

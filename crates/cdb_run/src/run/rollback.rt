@@ -38,7 +38,7 @@ impl<P: Process> Run<P> {
         ensures after { (i : ℕ) → IsNamedAt self.old.history i name →
             self.new ≡ with_history self.old (without self.old.history i) }
     {
-        match self.standing().position(name) {
+        match self.history().position(name) {
             Some(at) => self.take_back(at),
             None => unreachable!(),
         }
@@ -62,7 +62,7 @@ impl<P: Process> Run<P> {
         ensures list_err { OnErr result (taken.new.items ≡ taken.old.items) }
         ensures capacity { vec_capacity taken.old ≤ vec_capacity taken.new }
     {
-        let mut names = consequences(alloc, self.standing(), at)?;
+        let mut names = consequences(alloc, self.history(), at)?;
         let number = names.len() + 1;
         taken.reserve(number)?;
         while let Some(name) = names.pop() {
@@ -163,7 +163,7 @@ impl<P: Process> Run<P> {
     {
         let _ranges = self.setup.n();
         let at = self.find(event)?;
-        Ok(direct_causes(alloc, self.standing(), at))
+        Ok(direct_causes(alloc, self.history(), at))
     }
 
     /// The direct causes of the `k`-th step of process `p`, as `causes_of` returns them.

@@ -5,36 +5,50 @@ ghost use Rattle.std.specs.List.{list_all};
 ghost use Rattle.cdb_base.specs.Processes.{all_processes};
 ghost use Rattle.cdb_causal.specs.Dependence.{depends};
 ghost use Rattle.cdb_causal.specs.Exchange.{IsExchanged};
-ghost use Rattle.cdb_run.specs.OwnSteps.{own_steps, is_lost_too, AreAlike};
+ghost use Rattle.cdb_run.specs.OwnSteps.{own_steps, is_lost_too as is_lost_too_of, AreAlike};
 ghost use Rattle.cdb_run.specs.Runs.{AreInSameState};
 
 use crate::own_steps::same_steps;
 use crate::run::Run;
 use cdb_base::{Event, Proc};
+use cdb_causal::History;
 use cdb_message::mail::Mail;
 use cdb_process::Process;
 
 /// Whether each process takes the same steps in both histories.
-fn same_steps_of_each(history: &[Event], other: &[Event]) -> bool
+fn same_steps_of_each(history: &History, other: &History) -> bool
     ensures { IsTrue result
         ↔ All (λ p. own_steps p history.now ≡ own_steps p other.now) all_processes }
 {
     Proc::all().iter().all(|p| same_steps(*p, history, other))
 }
 
-/// Whether each copy whose loss stands in the history is lost in the mail.
-fn losses_are_lost(mail: &Mail, history: &[Event]) -> bool
-    ensures { result ≡ list_all (is_lost_too mail.now) history.now }
+/// Whether the copy is lost in the mail, where the event is a loss.
+fn is_lost_too(mail: &Mail, event: &Event) -> bool
+    ensures { result ≡ is_lost_too_of mail.now event.now }
 {
-    history.iter().all(|event| match event {
+    match event {
         Event::Step { .. } => true,
         Event::Lost(copy) => mail.lost(copy.to, copy.msg),
-    })
+    }
+}
+
+/// Whether each copy whose loss stands in the history is lost in the mail.
+fn losses_are_lost(mail: &Mail, history: &History) -> bool
+    ensures { result ≡ list_all (is_lost_too_of mail.now) history.now }
+{
+    for i in 0..history.len() {
+        let event = history.event(i);
+        if !is_lost_too(mail, event) {
+            return false;
+        }
+    }
+    true
 }
 
 /// Whether two histories, each with the mail that it leads to, say the same of each process and of
 /// what is lost.
-fn are_alike(history: &[Event], mail: &Mail, other: &[Event], other_mail: &Mail) -> bool
+fn are_alike(history: &History, mail: &Mail, other: &History, other_mail: &Mail) -> bool
     ensures { IsTrue result ↔ AreAlike history.now mail.now other.now other_mail.now }
 {
     same_steps_of_each(history, other)

@@ -34,7 +34,7 @@ impl<P: Process> Run<P> {
             return Err(Refusal::NoStep);
         };
         let name = StepId::Step(StepName { p, k });
-        self.standing().position(name).ok_or(Refusal::NoStep)
+        self.history().position(name).ok_or(Refusal::NoStep)
     }
 
     /// The place, from 1, of the standing loss of the copy for process `p` of the `m`-th message of
@@ -55,7 +55,7 @@ impl<P: Process> Run<P> {
         };
         let msg = MsgName { s, m };
         let name = StepId::Lost(CopyName { msg, to });
-        self.standing().position(name).ok_or(Refusal::NoStep)
+        self.history().position(name).ok_or(Refusal::NoStep)
     }
 
     /// The place, from 1, of a standing event; or the first refusal that holds: `NoProcess` or `NoStep`.
@@ -109,11 +109,11 @@ impl<P: Process> Run<P> {
         ensures { MatchOption result (IsFree depends_of self.now.history (at - 1))
             (λ name. IsFirstDependent self.now.history (at - 1) name) }
     {
-        let name = self.standing().get(at).name();
+        let name = self.history().get(at).name();
         if self.records.count_of(name) == 0 {
             return None;
         }
-        first_dependent(self.standing(), at)
+        first_dependent(self.history(), at)
     }
 
     /// Takes the event at a place, from 1, back where it is free, else names the first that needs it.

@@ -148,23 +148,23 @@ fn plain_without(alloc: Global, events: &[Event], i: usize) -> Result<Vec<StepId
 }
 
 fn compare(rt: &impl Abort, alloc: Global, history: &ExampleHistory) -> Result<(), NoMemory> {
-    let events = history.as_slice();
+    let events = history.to_vec(alloc)?;
     for (i, event) in events.iter().enumerate() {
         let at = i + 1;
         assert_eq!(rt; history.position(event.name()), Some(at));
         assert_eq!(rt;
             history.first_dependent(rt, at),
-            plain_first_dependent(events, i)
+            plain_first_dependent(&events, i)
         );
         let names = history.consequences(rt, alloc, at)?;
         assert_eq!(rt;
             names.as_slice(),
-            plain_consequences(alloc, events, i)?.as_slice()
+            plain_consequences(alloc, &events, i)?.as_slice()
         );
         let causes = history.direct_causes(rt, alloc, at);
         assert_eq!(rt;
             causes.as_slice(),
-            plain_direct_causes(alloc, events, i)?.as_slice()
+            plain_direct_causes(alloc, &events, i)?.as_slice()
         );
     }
     Ok(())
@@ -182,7 +182,8 @@ fn compare_removals(
         let len = history.len() as u64;
         assert!(rt; 0 < len);
         let i = draw(seed, len) as usize;
-        let rest = plain_without(alloc, history.as_slice(), i)?;
+        let events = history.to_vec(alloc)?;
+        let rest = plain_without(alloc, &events, i)?;
         let gone = history.get(rt, i + 1);
         assert_eq!(rt; history.remove(rt, i + 1), gone);
         assert_eq!(rt; history.position(gone.name()), None);

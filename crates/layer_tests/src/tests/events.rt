@@ -79,10 +79,11 @@ fn has_lost(event: &Event, earlier: &Event) -> bool
     }
 }
 
-fn has_no_lost_copy(events: &[Event], event: &Event) -> bool
-    ensures { IsTrue result → HasNoLostCopy events.now event.now }
+fn has_no_lost_copy(history: &History, event: &Event) -> bool
+    ensures { IsTrue result → HasNoLostCopy history.now event.now }
 {
-    for earlier in events {
+    for i in 0..history.len() {
+        let earlier = history.event(i);
         if has_lost(event, earlier) {
             return false;
         }
@@ -105,5 +106,5 @@ pub fn may_follow(history: &History, event: &Event) -> bool
     ensures new_name { IsTrue result → IsNewName history.now (event_name event.now) }
     ensures not_lost { IsTrue result → HasNoLostCopy history.now event.now }
 {
-    has_new_name(history, event) && has_no_lost_copy(history.as_slice(), event)
+    has_new_name(history, event) && has_no_lost_copy(history, event)
 }

@@ -55,8 +55,8 @@ impl ExampleHistory {
         self.history.is_empty()
     }
 
-    pub fn as_slice(&self) -> &[Event] {
-        self.history.as_slice()
+    pub fn to_vec(&self, alloc: Global) -> Result<Vec<Event>, NoMemory> {
+        self.history.to_vec(alloc)
     }
 
     pub fn position(&self, name: StepId) -> Option<usize> {

@@ -3,15 +3,13 @@ use Rattle.std.proofs.lemmas.List.{take_rest}
 use Rattle.cdb_base.specs.declared.event.Event.{Event}
 use Rattle.cdb_causal.specs.Dependence.{depends}
 use Rattle.cdb_base.specs.Event.{event_name}
-use Rattle.cdb_causal.specs.Rollback.{consequences}
 use Rattle.cdb_causal.proofs.Walks.{rolled_back_some}
 use Rattle.cdb_causal.proofs.causes.consequences.Goals as goal
 
 pub slice_bounds-names-count : goal.slice_bounds-names-count
 slice_bounds-names-count c =
-    let same = ap length c.as_slice.ensures.events in
-    let within : c.args.at - 1 < length c.as_slice.result.now = omega arith in
-    let some = rolled_back_some depends c.as_slice.result.now (c.args.at - 1) within in
+    let within : c.args.at - 1 < length c.args.history.now = omega arith in
+    let some = rolled_back_some depends c.args.history.now (c.args.at - 1) within in
     let taken = ap length c.in_ok-taken.ensures in
     let is_there = ap length c.deref.ensures.value in
     omega arith
@@ -25,6 +23,5 @@ returns c =
     let are =
     take_rest events 1
     ∙ ap (drop 1) (c.deref.ensures.value ∙ c.in_ok-taken.ensures)
-    ∙ ap (λ l. consequences depends l (c.args.at - 1)) c.as_slice.ensures.events
     in
     subst (λ l. IfOk c.names.result (λ names. names.items ≡ map event_name l)) are c.names.ensures

@@ -5,4 +5,4 @@ use Rattle.cdb_causal.specs.LastCauses.{IsSlot}
 use Rattle.cdb_causal.proofs.direct.last_cause.Given as goal
 
 abbrev pub invariant-loop-i : goal.invariant-loop-i
-invariant-loop-i l = (k : ℕ) (link : IsLink depends l.events k l.j) → l.i ≤ k → IsSlot link.cause l.slot → ⊥
+invariant-loop-i l = (k : ℕ) (link : IsLink depends l.history k l.j) → l.i ≤ k → IsSlot link.cause l.slot → ⊥

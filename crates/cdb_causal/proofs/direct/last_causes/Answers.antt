@@ -1,15 +1,13 @@
-use Rattle.std.proofs.Common.{◌≡◌, ◌≢◌, ℕ, ◌+◌, ◌<◌, ◌⊎◌, ⊎_elim, Option, None, Some, length, get_or, set, length-set, sym, ap, ◌∙◌, subst, arith, rules}
+use Rattle.std.proofs.Common.{◌≡◌, ◌≢◌, ℕ, ◌+◌, ◌<◌, ◌⊎◌, ⊎_elim, None, length, get_or, set, length-set, sym, ap, ◌∙◌, subst, arith}
 use Rattle.std.proofs.lemmas.List.{get_or-set_same, get_or-set_other}
 use Rattle.std.proofs.lemmas.Option.{none-some}
-use Rattle.cdb_causal.specs.Causality.{IsLink}
-use Rattle.cdb_causal.specs.Dependence.{depends}
-use Rattle.cdb_causal.specs.LastCauses.{IsSlot, IsLastOrNone}
+use Rattle.cdb_causal.specs.LastCauses.{IsLastOrNone}
 use Rattle.cdb_causal.proofs.LastPlaces.{none_at_first, last_below}
 use Rattle.cdb_causal.proofs.direct.last_causes.Goals as goal
 
 pub last_cause-requires-clause-end : goal.last_cause-requires-clause-end
 last_cause-requires-clause-end c =
-    subst (λ l. (i : ℕ) (link : IsLink depends l i c.args.j) → IsSlot link.cause c.loop-slot.slot → i < c.end_of_causes.result) (sym c.as_slice-events.ensures.events) c.end_of_causes.ensures
+    λ i l in_slot. c.end_of_causes-end.ensures i c.args.j l c.event-effect.ensures in_slot
 
 this_or_below : (k n : ℕ) → k < n + 1 → (k ≡ n) ⊎ (k < n)
 this_or_below k n h = grind arith
@@ -27,7 +25,7 @@ loop-slot-preserved c =
     let longer = c.loop-slot.invariant.2 in
     let test = c.loop-slot-test.true in
     let within : slot < length c.loop-slot.causes = omega arith in
-    let here : IsLastOrNone c.args.history.now c.args.j slot found = subst (λ l. IsLastOrNone l c.args.j slot found) c.as_slice-events.ensures.events c.last_cause.ensures in (
+    let here : IsLastOrNone c.args.history.now c.args.j slot found = c.last_cause.ensures in (
       (λ k below.
           ⊎_elim
           (λ same. subst (λ n. IsLastOrNone c.args.history.now c.args.j n (get_or (set c.loop-slot.causes slot found) n None)) (sym same)

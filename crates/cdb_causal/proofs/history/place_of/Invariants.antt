@@ -3,4 +3,4 @@ use Rattle.cdb_causal.specs.Names.{IsNamedAt}
 use Rattle.cdb_causal.proofs.history.place_of.Given as goal
 
 abbrev pub invariant-loop-i : goal.invariant-loop-i
-invariant-loop-i l = (k : ℕ) → l.i ≤ k → IsNamedAt l.events k l.name → ⊥
+invariant-loop-i l = (k : ℕ) → l.i ≤ k → IsNamedAt l.history k l.name → ⊥

@@ -23,6 +23,6 @@ returns-in_err-put_arrow g c =
     let p = err_from_is_err_and c.from_residual-in_err-put_arrow.result c.from_residual-in_err-put_arrow.ensures.1 in
     let i : ℕ = c.loop-place.place in
     let same : c.history-history.result.now ≡ c.args.run.now.history = c.history-history.ensures.events ∙ ap (λ r. r.history) c.any.ensures.run in
-    let below : i < length c.args.run.now.history = subst (λ (h : List Event). i < length h) same c.loop-place-test.true in
+    let below : i < length c.args.run.now.history = subst (λ (h : List Event). i < length h) same (subst (λ (n : ℕ). i < n) c.len-place-end.ensures.count c.loop-place-test.true) in
     rw (p.1, p.2)
     (cut_one _ _ (Unit {0}) c.in_err-put_arrow.field-0.0 (arrow_at c.args.run.now c.args.marks.now) c.args.out.now c.loop-place.out c.put_arrow.new.out c.args.buffer.now c.loop-place.buffer c.put_arrow.new.buffer (length c.args.run.now.history) i below c.loop-place.invariant c.in_err-put_arrow.ensures)

@@ -23,9 +23,9 @@ take_next-requires g c =
     let run : RunView = c.args.run.now in
     let history : List Event = c.history-history.result.now in
     let i : ℕ = c.loop-place.place in
-    let event : Event = c.index-history-place.result in
+    let event : Event = c.event-event.result.now in
     let same : history ≡ run.history = c.history-history.ensures.events ∙ ap (λ r. r.history) c.any.ensures.run in
-    let at : slice_get run.history i ≡ Some event = subst (λ (h : List Event). slice_get h i ≡ Some event) same (slice_get_read history (length history) i event refl c.loop-place-test.true c.index-history-place.is) in
+    let at : slice_get run.history i ≡ Some event = subst (λ (h : List Event). slice_get h i ≡ Some event) same c.event-event.ensures in
     let valid = subst (λ (r : RunView). IsTrue ((rules r.setup).valid r.history)) c.any.ensures.run c.history-history.ensures.valid in
     next_valid run i event at c.loop-place.again c.loop-place.invariant.again valid
 
@@ -34,9 +34,9 @@ put_mark-requires-clause-after g c =
     let run : RunView = c.args.run.now in
     let history : List Event = c.history-history.result.now in
     let i : ℕ = c.loop-place.place in
-    let event : Event = c.index-history-place.result in
+    let event : Event = c.event-event.result.now in
     let same : history ≡ run.history = c.history-history.ensures.events ∙ ap (λ r. r.history) c.any.ensures.run in
-    let at : slice_get run.history i ≡ Some event = subst (λ (h : List Event). slice_get h i ≡ Some event) same (slice_get_read history (length history) i event refl c.loop-place-test.true c.index-history-place.is) in
+    let at : slice_get run.history i ≡ Some event = subst (λ (h : List Event). slice_get h i ≡ Some event) same c.event-event.ensures in
     next_along run i event at c.loop-place.again c.loop-place.invariant.again c.take_next.new.again c.in_ok-take_next.ensures
 
 pub loop-place-init : goal.loop-place-init
@@ -47,9 +47,9 @@ loop-place-preserved g c =
     let run : RunView = c.args.run.now in
     let history : List Event = c.history-history.result.now in
     let i : ℕ = c.loop-place.place in
-    let event : Event = c.index-history-place.result in
+    let event : Event = c.event-event.result.now in
     let same : history ≡ run.history = c.history-history.ensures.events ∙ ap (λ r. r.history) c.any.ensures.run in
-    let at : slice_get run.history i ≡ Some event = subst (λ (h : List Event). slice_get h i ≡ Some event) same (slice_get_read history (length history) i event refl c.loop-place-test.true c.index-history-place.is) in
+    let at : slice_get run.history i ≡ Some event = subst (λ (h : List Event). slice_get h i ≡ Some event) same c.event-event.ensures in
     record {
       again = next_along run i event at c.loop-place.again c.loop-place.invariant.again c.take_next.new.again c.in_ok-take_next.ensures;
       put = put_one _ _ (mark_at rules c.args.run.now c.args.marks.now) c.args.out.now c.loop-place.out c.put_mark.new.out c.args.buffer.now c.loop-place.buffer c.put_mark.new.buffer i c.loop-place.invariant.put c.in_ok-put_mark.ensures;
@@ -60,7 +60,7 @@ returns-in_err-take_next g c =
     let p = err_from_is_err_and c.from_residual-in_err-take_next.result c.from_residual-in_err-take_next.ensures.1 in
     let i : ℕ = c.loop-place.place in
     let same : c.history-history.result.now ≡ c.args.run.now.history = c.history-history.ensures.events ∙ ap (λ r. r.history) c.any.ensures.run in
-    let below : i < length c.args.run.now.history = subst (λ (h : List Event). i < length h) same c.loop-place-test.true in
+    let below : i < length c.args.run.now.history = subst (λ (h : List Event). i < length h) same (subst (λ (n : ℕ). i < n) c.len-place-end.ensures.count c.loop-place-test.true) in
     rw (p.1, p.2)
     (cut_one g.W.Sink.contents g.W.Sink.failures (Unit {0}) NoMemory (mark_at rules c.args.run.now c.args.marks.now) c.args.out.now c.loop-place.out c.loop-place.out c.args.buffer.now c.loop-place.buffer c.loop-place.buffer (length c.args.run.now.history) i below c.loop-place.invariant.put
     (puts_nothing g.W.Sink.contents g.W.Sink.failures c.loop-place.out c.loop-place.buffer (mark_at rules c.args.run.now c.args.marks.now i)))
@@ -70,7 +70,7 @@ returns-in_err-put_mark g c =
     let p = err_from_is_err_and c.from_residual-in_err-put_mark.result c.from_residual-in_err-put_mark.ensures.1 in
     let i : ℕ = c.loop-place.place in
     let same : c.history-history.result.now ≡ c.args.run.now.history = c.history-history.ensures.events ∙ ap (λ r. r.history) c.any.ensures.run in
-    let below : i < length c.args.run.now.history = subst (λ (h : List Event). i < length h) same c.loop-place-test.true in
+    let below : i < length c.args.run.now.history = subst (λ (h : List Event). i < length h) same (subst (λ (n : ℕ). i < n) c.len-place-end.ensures.count c.loop-place-test.true) in
     rw (p.1, p.2)
     (cut_one _ _ (Unit {0}) c.in_err-put_mark.field-0.0 (mark_at rules c.args.run.now c.args.marks.now) c.args.out.now c.loop-place.out c.put_mark.new.out c.args.buffer.now c.loop-place.buffer c.put_mark.new.buffer (length c.args.run.now.history) i below c.loop-place.invariant.put c.in_err-put_mark.ensures)
 
@@ -80,6 +80,7 @@ returns g c =
     let same : c.history-history.result.now ≡ run.history = c.history-history.ensures.events ∙ ap (λ r. r.history) c.any.ensures.run in
     let sizes : length c.history-history.result.now ≡ length run.history = ap length same in
     let test = c.loop-place-test.false in
+    let counted = c.len-place-end.ensures.count in
     let most = c.loop-place.auto.place-end in
-    let all : c.loop-place.place ≡ length run.history = omega (arith, test, most, sizes) in
+    let all : c.loop-place.place ≡ length run.history = omega (arith, test, most, counted, sizes) in
     subst (λ (n : ℕ). IsPut g.W.Sink.contents g.W.Sink.failures c.args.out.now c.args.buffer.now c.loop-place.out c.loop-place.buffer (flat_map (mark_at rules run c.args.marks.now) (range_with_len 0 n))) all c.loop-place.invariant.put

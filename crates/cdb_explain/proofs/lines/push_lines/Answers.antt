@@ -14,9 +14,9 @@ take_next-requires c =
     let run : RunView = c.args.run.now in
     let history : List Event = c.history-history.result.now in
     let i : ℕ = c.loop-i.i in
-    let event : Event = c.index-history-i.result in
+    let event : Event = c.event-event.result.now in
     let same : history ≡ run.history = c.history-history.ensures.events ∙ ap (λ r. r.history) c.any.ensures.run in
-    let at : slice_get run.history i ≡ Some event = subst (λ (h : List Event). slice_get h i ≡ Some event) same (slice_get_read history (length history) i event refl c.loop-i-test.true c.index-history-i.is) in
+    let at : slice_get run.history i ≡ Some event = subst (λ (h : List Event). slice_get h i ≡ Some event) same c.event-event.ensures in
     let valid = subst (λ (r : RunView). IsTrue ((rules r.setup).valid r.history)) c.any.ensures.run c.history-history.ensures.valid in
     next_valid run i event at c.loop-i.again c.loop-i.invariant.again valid
 
@@ -26,29 +26,27 @@ loop-i-preserved c =
     let history : List Event = c.history-history.result.now in
     let marks = c.args.marks.now in
     let i : ℕ = c.loop-i.i in
-    let event : Event = c.index-history-i.result in
+    let event : Event = c.event-event.result.now in
     let so = c.loop-i.invariant in
     let later = c.take_next.new.again in
     let same : history ≡ run.history = c.history-history.ensures.events ∙ ap (λ r. r.history) c.any.ensures.run in
-    let read = slice_get_read history (length history) i event refl c.loop-i-test.true c.index-history-i.is in
+    let read = c.event-event.ensures in
     let at : slice_get run.history i ≡ Some event = subst (λ (h : List Event). slice_get h i ≡ Some event) same read in
     let test = c.loop-i-test.true in
+    let counted_all = c.len-i-end.ensures.count in
     let sizes = ap length same in
     let number = c.requires in
-    let within : i < length marks = omega (arith, test, sizes, number) in
+    let within : i < length marks = omega (arith, test, counted_all, sizes, number) in
     let along = next_along run i event at c.loop-i.again so.again later c.in_ok-take_next.ensures in
     elim c.if-marks-i.branch [
       | then-marks-i+in_ok-push_line w ↦
-          let here : Event = w.index-history-i-then-marks-i.result in
-          let again = slice_get_read history (length history) i here refl c.loop-i-test.true w.index-history-i-then-marks-i.is in
-          let one : event ≡ here = same_Some event here (sym read ∙ again) in
-          let line = its_line run i event at c.loop-i.again so.again later c.in_ok-take_next.ensures ∙ ap (line_text rules run later) one in
+          let line = its_line run i event at c.loop-i.again so.again later c.in_ok-take_next.ensures in
           let is = mark_read marks i _ true within w.if-marks-i.true in
           let counted = w.count-is in
           let few = so.few in
           record {
             again = along;
-            text = text_more (line_at rules run) marks i (string_bytes c.args.text.now) (string_bytes c.loop-i.text) (string_bytes c.if-marks-i.text) (line_text rules run later here) so.text (ap string_bytes w.text-is ∙ w.in_ok-push_line.ensures) line is;
+            text = text_more (line_at rules run) marks i (string_bytes c.args.text.now) (string_bytes c.loop-i.text) (string_bytes c.if-marks-i.text) (line_text rules run later event) so.text (ap string_bytes w.text-is ∙ w.in_ok-push_line.ensures) line is;
             count = w.count-is ∙ ap (λ (n : ℕ). n + 1) so.count ∙ sym (count_more marks i is);
             few = omega (arith, counted, few);
           }

@@ -1,5 +1,7 @@
-use Rattle.std.proofs.Common.{ℕ, suc, ◌-◌, ◌<◌, ◌∙◌, length, get_or, refl, sym, ap, subst, add-one, arith}
+use Rattle.std.proofs.Common.{ℕ, suc, ◌-◌, ◌∙◌, length, get_or, List, refl, sym, ap, subst, add-one, arith}
 use Rattle.std.proofs.lemmas.Option.{slice_get_read, slice_get-get_or}
+use Rattle.cdb_log.specs.Marks.{HasRoom}
+use Rattle.cdb_log.specs.Pieces.{joined}
 use Rattle.cdb_record.specs.Changes.{AreChanged, HasRoomFor, changed_by}
 use Rattle.cdb_record.specs.declared.accounts.Account.{Account}
 use Rattle.cdb_record.proofs.Changing.{unchanged, changed_none, changed_one, count_unchanged, named_here, set-slice_set}
@@ -7,43 +9,38 @@ use Rattle.cdb_record.proofs.accounts.change_counts.Goals as goal
 use Rattle.cdb_record.proofs.accounts.change_counts.Goals.{in-Some, in_default}
 
 pub loop-name-init : goal.loop-name-init
-loop-name-init c = unchanged (changed_by c.args.change) c.args.history.now c.args.names.now c.args.accounts.now
+loop-name-init c = record {
+  changed = unchanged (changed_by c.args.change) c.args.history.now c.args.names.now (joined c.args.accounts.now);
+  keeps_room = λ room. room;
+}
 
-pub bounds-accounts-at : goal.bounds-accounts-at
-bounds-accounts-at c =
+pub get-requires : goal.get-requires
+get-requires c =
     let names = c.args.names.now in
     let name_at = slice_get_read names (length names) c.loop-name.name-index c.name-item.result refl c.loop-name-test.true c.name-item.is in
-    let named = named_here c.args.history.now names c.loop-name.name-index c.name-item.result name_at c.in-Some.at c.in-Some.ensures in
-    let place : ℕ = c.in-Some.at - 1 in
-    let within = c.requires.within place named in
-    let same = c.loop-name.auto.accounts in
+    let within = c.requires.within (c.in-Some.at - 1) (named_here c.args.history.now names c.loop-name.name-index c.name-item.result name_at c.in-Some.at c.in-Some.ensures) in
+    let same = c.loop-name.invariant.changed.same_length in
     omega (arith, within, same)
 
-pub offset_bounds-accounts-at : goal.offset_bounds-accounts-at
-offset_bounds-accounts-at c =
+pub set-requires : goal.set-requires
+set-requires c =
     let names = c.args.names.now in
     let name_at = slice_get_read names (length names) c.loop-name.name-index c.name-item.result refl c.loop-name-test.true c.name-item.is in
-    let named = named_here c.args.history.now names c.loop-name.name-index c.name-item.result name_at c.in-Some.at c.in-Some.ensures in
-    let place : ℕ = c.in-Some.at - 1 in
-    let within = c.requires.within place named in
-    let few = c.requires.few in
-    omega (arith, within, few)
+    let within = c.requires.within (c.in-Some.at - 1) (named_here c.args.history.now names c.loop-name.name-index c.name-item.result name_at c.in-Some.at c.in-Some.ensures) in
+    let same = c.loop-name.invariant.changed.same_length in
+    omega (arith, within, same)
 
-pub of-account-requires : goal.of-account-requires
-of-account-requires c =
+pub of-count-requires : goal.of-count-requires
+of-count-requires c =
     let names = c.args.names.now in
     let name_at = slice_get_read names (length names) c.loop-name.name-index c.name-item.result refl c.loop-name-test.true c.name-item.is in
+    let old : List Account = joined c.args.accounts.now in
     let named = named_here c.args.history.now names c.loop-name.name-index c.name-item.result name_at c.in-Some.at c.in-Some.ensures in
     let place : ℕ = c.in-Some.at - 1 in
-    let within = c.requires.within place named in
-    let zero : Account = record { count = 0 } in
-    let account : Account = get_or c.loop-name.accounts place zero in
-    let same_length = c.loop-name.auto.accounts in
-    let mid_within : place < length c.loop-name.accounts = omega (arith, within, same_length) in
-    let at = slice_get-get_or c.loop-name.accounts place zero mid_within in
-    let at_first = slice_get-get_or c.args.accounts.now place account within in
-    let first : Account = get_or c.args.accounts.now place account in
-    let same = count_unchanged (changed_by c.args.change) c.args.history.now names c.args.accounts.now c.loop-name.accounts c.loop-name.name-index c.name-item.result name_at c.loop-name.invariant c.in-Some.at c.in-Some.ensures c.requires.different first account at_first at in
+    let account : Account = c.get.result.now in
+    let first : Account = get_or old place account in
+    let at_first = slice_get-get_or old place account (c.requires.within place named) in
+    let same = count_unchanged (changed_by c.args.change) c.args.history.now names old (joined c.loop-name.accounts) c.loop-name.name-index c.name-item.result name_at c.loop-name.invariant.changed c.in-Some.at c.in-Some.ensures c.requires.different first account at_first c.get.ensures in
     subst (HasRoomFor c.args.change) (sym same) (c.requires.room place first at_first named)
 
 pub loop-name-preserved : goal.loop-name-preserved
@@ -51,22 +48,24 @@ loop-name-preserved c =
     let names = c.args.names.now in
     let name_at = slice_get_read names (length names) c.loop-name.name-index c.name-item.result refl c.loop-name-test.true c.name-item.is in
     let history = c.args.history.now in
+    let change = changed_by c.args.change in
+    let old : List Account = joined c.args.accounts.now in
+    let mid : List Account = joined c.loop-name.accounts in
     let n : ℕ = c.loop-name.name-index in
-    let so_far = c.loop-name.invariant in
-    subst (λ n. AreChanged (changed_by c.args.change) history names n c.args.accounts.now c.match-position.accounts) (sym (add-one n))
-    (elim c.match-position.branch [
-      | in-Some w ↦
-          let place : ℕ = w.in-Some.at - 1 in
-          let zero : Account = record { count = 0 } in
-          let account : Account = get_or c.loop-name.accounts place zero in
-          let within = c.requires.within place (named_here history names n c.name-item.result name_at w.in-Some.at w.in-Some.ensures) in
-          let same_length = c.loop-name.auto.accounts in
-          let mid_within : place < length c.loop-name.accounts = omega (arith, within, same_length) in
-          let at = slice_get-get_or c.loop-name.accounts place zero mid_within in
-          subst (AreChanged (changed_by c.args.change) history names (suc n) c.args.accounts.now) (sym (w.accounts-is ∙ set-slice_set c.loop-name.accounts place _))
-          (changed_one (changed_by c.args.change) history names c.args.accounts.now c.loop-name.accounts n c.name-item.result name_at so_far w.in-Some.at w.in-Some.ensures c.requires.different account _ at
-          w.of-account.ensures)
-      | in_default w ↦
-          subst (AreChanged (changed_by c.args.change) history names (suc n) c.args.accounts.now) (sym w.accounts-is)
-          (changed_none (changed_by c.args.change) history names c.args.accounts.now c.loop-name.accounts n c.name-item.result name_at so_far w.in_default.ensures)
-    ])
+    let so_far = c.loop-name.invariant.changed in
+    elim c.match-position.branch [
+      | in-Some w ↦ record {
+        changed =
+            subst (λ n. AreChanged change history names n old (joined c.match-position.accounts)) (sym (add-one n))
+            (subst (AreChanged change history names (suc n) old) (sym (ap joined w.accounts-is ∙ w.set.ensures.replaced.items ∙ set-slice_set mid (w.in-Some.at - 1) _))
+            (changed_one change history names old mid n c.name-item.result name_at so_far w.in-Some.at w.in-Some.ensures c.requires.different w.get.result.now _ w.get.ensures w.of-count.ensures));
+        keeps_room = λ room. subst HasRoom (sym w.accounts-is) (w.set.ensures.room (c.loop-name.invariant.keeps_room room));
+      }
+      | in_default w ↦ record {
+        changed =
+            subst (λ n. AreChanged change history names n old (joined c.match-position.accounts)) (sym (add-one n))
+            (subst (λ l. AreChanged change history names (suc n) old (joined l)) (sym w.accounts-is)
+            (changed_none change history names old mid n c.name-item.result name_at so_far w.in_default.ensures));
+        keeps_room = λ room. subst HasRoom (sym w.accounts-is) (c.loop-name.invariant.keeps_room room);
+      }
+    ]

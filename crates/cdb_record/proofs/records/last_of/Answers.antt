@@ -1,5 +1,5 @@
-use Rattle.std.proofs.Common.{◌≡◌, ℕ, suc, ◌+◌, ◌-◌, ◌<◌, ◌≤◌, List, length, refl, sym, ap, ◌∙◌, subst, true≢false, arith}
-use Rattle.std.proofs.lemmas.Option.{same_Some, slice_get_read, slice_get_within}
+use Rattle.std.proofs.Common.{◌≡◌, ℕ, suc, ◌+◌, ◌-◌, ◌≤◌, List, sym, ap, ◌∙◌, subst, true≢false, arith}
+use Rattle.std.proofs.lemmas.Option.{same_Some, slice_get_within}
 use Rattle.cdb_base.specs.Event.{is_step_of}
 use Rattle.cdb_base.specs.declared.event.Event.{Event}
 use Rattle.cdb_causal.proofs.Walks.{below_or_at}
@@ -7,16 +7,14 @@ use Rattle.cdb_record.specs.Taken.{IsStepOf, IsLastStepOf}
 use Rattle.cdb_record.proofs.records.last_of.Goals as goal
 
 pub loop-i-init : goal.loop-i-init
-loop-i-init c = λ k low step. let within = slice_get_within c.as_slice-events.result.now k step.0 step.1 in omega (arith, low, within)
+loop-i-init c = λ k low step. let within = slice_get_within c.args.history.now k step.0 step.1 in let len = c.len-i.ensures.count in omega (arith, low, within, len)
 
 pub loop-i-preserved : goal.loop-i-preserved
 loop-i-preserved c =
-    let events : List Event = c.as_slice-events.result.now in
+    let events : List Event = c.args.history.now in
     let i : ℕ = c.loop-i.i - 1 in
-    let before = c.loop-i.auto.i in
     let test = c.loop-i-test.true in
-    let within : i < length events = omega (arith, before, test) in
-    let at = slice_get_read events (length events) i c.index-events-i.result refl within c.index-events-i.is in
+    let at = c.event-event.ensures in
     λ k low step.
     below_or_at k c.loop-i.i low test
     (λ above. c.loop-i.invariant k above step)
@@ -26,20 +24,18 @@ loop-i-preserved c =
 
 pub returns-then-is_step_of : goal.returns-then-is_step_of
 returns-then-is_step_of c =
-    let events : List Event = c.as_slice-events.result.now in
+    let events : List Event = c.args.history.now in
     let i : ℕ = c.loop-i.i - 1 in
-    let before = c.loop-i.auto.i in
     let test = c.loop-i-test.true in
-    let within : i < length events = omega (arith, before, test) in
-    let at = slice_get_read events (length events) i c.index-events-i.result refl within c.index-events-i.is in
+    let at = c.event-event.ensures in
     let back : i ≡ (i + 1) - 1 = omega arith in
-    let here : IsStepOf events c.args.p i = (c.index-events-i.result, at, sym c.is_step_of.ensures ∙ c.if-is_step_of.true) in
+    let here : IsStepOf events c.args.p i = (c.event-event.result.now, at, sym c.is_step_of.ensures ∙ c.if-is_step_of.true) in
     let most : (j : ℕ) → IsStepOf events c.args.p j → j ≤ i = λ j other. not_above i j (λ above. c.loop-i.invariant j above other) (omega (arith, test)) in
     let last : IsLastStepOf events c.args.p i = (here, most) in
-    (omega arith, subst (λ l. IsLastStepOf l c.args.p (i + 1 - 1)) c.as_slice-events.ensures.events (subst (IsLastStepOf events c.args.p) back last))
+    (omega arith, subst (IsLastStepOf events c.args.p) back last)
   where
     not_above : (i j : ℕ) {n : ℕ} → (n ≤ j → ⊥) → n ≡ suc i → j ≤ i
     not_above i j {n} none is = grind (arith, none, is)
 
 pub returns : goal.returns
-returns c = λ i step. let none = c.loop-i-test.false in c.loop-i.invariant i (let n : c.loop-i.i ≤ i = omega arith in n) (subst (λ l. IsStepOf l c.args.p i) (sym c.as_slice-events.ensures.events) step)
+returns c = λ i step. let none = c.loop-i-test.false in c.loop-i.invariant i (let n : c.loop-i.i ≤ i = omega arith in n) step

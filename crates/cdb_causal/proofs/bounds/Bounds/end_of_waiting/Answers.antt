@@ -1,5 +1,5 @@
-use Rattle.std.proofs.Common.{◌≡◌, ℕ, ◌+◌, ◌-◌, ◌<◌, ◌≤◌, slice_index, sym, ap, ◌∙◌, subst, arith}
-use Rattle.cdb_causal.specs.Cells.{named_cell, copy_cell}
+use Rattle.std.proofs.Common.{◌≡◌, ◌-◌, slice_index, ap, ◌∙◌, arith}
+use Rattle.cdb_causal.specs.Cells.{copy_cell}
 use Rattle.cdb_causal.proofs.Waiting.{above_waiting}
 use Rattle.cdb_causal.proofs.bounds.Bounds.end_of_waiting.Goals as goal
 

@@ -1,20 +1,20 @@
-use Rattle.std.proofs.Common.{ℕ, ◌<◌, List, length, refl, ap, subst, arith}
-use Rattle.std.proofs.lemmas.Option.{slice_get_read}
+use Rattle.std.proofs.Common.{ℕ, ◌<◌, subst, arith}
+use Rattle.std.proofs.lemmas.Option.{slice_get_within}
 use Rattle.cdb_base.specs.declared.event.Event.{Event}
 use Rattle.cdb_causal.specs.Causality.{IsLink}
 use Rattle.cdb_causal.specs.Dependence.{depends}
 use Rattle.cdb_causal.proofs.Ends.{end_above_between}
+use Rattle.cdb_log.specs.Marks.{mark}
+use Rattle.cdb_log.specs.Pieces.{joined}
 use Rattle.cdb_causal.proofs.history.History.end_between.Goals as goal
 
 pub returns : goal.returns
 returns c =
-    let items : List Event = c.self.inside.events.items in
-    let same = ap length c.self.view_is in
-    let order = c.requires.order in
-    let within : c.args.j < length items = omega arith in
-    let earlier : c.args.i < length items = omega arith in
-    subst (λ h. (k : ℕ) → IsLink depends h c.args.i k → IsLink depends h k c.args.j → k < c.end_between.result) c.self.view_is
-    (end_above_between items c.self.inside.bounds c.self.invariant.within c.self.invariant.alone c.args.i c.args.j c.end_between.result c.index.result.now c.index-2.result.now
-    (slice_get_read items (length items) c.args.i c.index.result.now refl earlier c.index.ensures)
-    (slice_get_read items (length items) c.args.j c.index-2.result.now refl within c.index-2.ensures)
-    c.end_between.ensures)
+    let log = c.self.inside.events in
+    let cause : Event = c.get-cause.result.now in
+    let effect : Event = c.get-effect.result.now in
+    subst (λ h. (k : ℕ) → IsLink depends h c.args.i k → IsLink depends h k c.args.j → k < c.place_above.result) c.self.view_is
+    (λ k one two.
+    (c.place_above.ensures.marks k (slice_get_within (joined log) k two.cause two.at_cause)).1
+    (end_above_between (joined log) c.self.inside.bounds (mark log) c.self.invariant.within c.self.invariant.alone c.args.i c.args.j c.end_between-bound.result 18446744073709551615 cause effect c.get-cause.ensures c.get-effect.ensures
+    (λ i less. c.place_above.ensures.small i (let within = slice_get_within (joined log) c.args.j effect c.get-effect.ensures in omega (arith, less, within))) c.end_between-bound.ensures k one two))

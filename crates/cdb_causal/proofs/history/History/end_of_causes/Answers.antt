@@ -1,18 +1,20 @@
-use Rattle.std.proofs.Common.{ℕ, ◌<◌, List, length, refl, ap, subst, arith}
-use Rattle.std.proofs.lemmas.Option.{slice_get_read}
+use Rattle.std.proofs.Common.{◌≡◌, ℕ, ◌<◌, Some, slice_get, subst, arith}
+use Rattle.std.proofs.lemmas.Option.{slice_get_within}
 use Rattle.cdb_base.specs.declared.event.Event.{Event}
 use Rattle.cdb_causal.specs.Causality.{IsLink}
 use Rattle.cdb_causal.specs.Dependence.{depends}
 use Rattle.cdb_causal.specs.LastCauses.{IsSlot}
 use Rattle.cdb_causal.proofs.Ends.{end_above}
+use Rattle.cdb_log.specs.Marks.{mark}
+use Rattle.cdb_log.specs.Pieces.{joined}
 use Rattle.cdb_causal.proofs.history.History.end_of_causes.Goals as goal
 
 pub returns : goal.returns
 returns c =
-    let items : List Event = c.self.inside.events.items in
-    let same = ap length c.self.view_is in
-    let within : c.args.j < length items = omega arith in
-    subst (λ h. (i : ℕ) (l : IsLink depends h i c.args.j) → IsSlot l.cause c.args.slot → i < c.end.result) c.self.view_is
-    (end_above items c.self.invariant.standing c.self.inside.bounds c.self.invariant.within c.args.j c.args.slot c.end.result c.index.result.now
-    (slice_get_read items (length items) c.args.j c.index.result.now refl within c.index.ensures)
-    c.end.ensures)
+    let log = c.self.inside.events in
+    let effect : Event = c.args.effect.now in
+    subst (λ h. (i j : ℕ) (l : IsLink depends h i j) → slice_get h j ≡ Some effect → IsSlot l.cause c.args.slot → i < c.place_above.result) c.self.view_is
+    (λ i j l at_j in_slot.
+    (c.place_above.ensures.marks i (slice_get_within (joined log) i l.cause l.at_cause)).1
+    (end_above (joined log) c.self.invariant.standing c.self.inside.bounds (mark log) c.self.invariant.within j c.args.slot c.end-bound.result 18446744073709551615 effect at_j
+    (λ k less. c.place_above.ensures.small k (let within = slice_get_within (joined log) j effect at_j in omega (arith, less, within))) c.end-bound.ensures i l in_slot))

@@ -1,15 +1,20 @@
-use Rattle.std.proofs.Common.{ℕ, ◌<◌, ◌∙◌, sym, subst, MatchOption}
-use Rattle.cdb_causal.specs.Names.{IsNamedAt, IsNewName, IsPlaceOf}
+use Rattle.std.proofs.Common.{ℕ, ◌<◌, ◌≤◌, length, subst}
+use Rattle.std.proofs.lemmas.Option.{slice_get_within}
+use Rattle.cdb_causal.specs.Names.{IsNamedAt}
 use Rattle.cdb_causal.specs.Standing.{IsStanding}
+use Rattle.cdb_log.specs.Marks.{mark}
+use Rattle.cdb_log.specs.Pieces.{joined}
 use Rattle.cdb_causal.proofs.history.History.position.Goals as goal
 
 pub place_of-requires-clause-standing : goal.place_of-requires-clause-standing
-place_of-requires-clause-standing c = subst IsStanding (sym c.deref.ensures.value) c.self.invariant.standing
+place_of-requires-clause-standing c = subst IsStanding c.self.view_is c.self.invariant.standing
 
-pub returns : goal.returns
-returns c =
-    subst (λ l. MatchOption c.place_of.result (IsNewName l c.args.name) (λ at. IsPlaceOf l c.args.name at)) (c.deref.ensures.value ∙ c.self.view_is) c.place_of.ensures
+pub place_of-requires-clause-within : goal.place_of-requires-clause-within
+place_of-requires-clause-within c = subst (λ l. c.place_above-end.result ≤ length l) c.self.view_is c.place_above-end.ensures.within
 
 pub place_of-requires-clause-end : goal.place_of-requires-clause-end
 place_of-requires-clause-end c =
-    subst (λ l. (i : ℕ) → IsNamedAt l i c.args.name → i < c.end_of_name.result) (sym (c.deref.ensures.value ∙ c.self.view_is)) c.end_of_name.ensures
+    subst (λ l. (i : ℕ) → IsNamedAt l i c.args.name → i < c.place_above-end.result) c.self.view_is
+    (λ i named.
+    (c.place_above-end.ensures.marks i (slice_get_within (joined c.self.inside.events) i named.0 named.1)).1
+    (c.end_of_name.ensures (mark c.self.inside.events i) named.0 (c.self.invariant.within i named.0 named.1) named.2))

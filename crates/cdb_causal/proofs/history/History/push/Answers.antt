@@ -1,43 +1,50 @@
-use Rattle.std.proofs.Common.{◌≡◌, List, length, sym, subst, arith}
-use Rattle.std.proofs.lemmas.Grind.{common_steps}
+use Rattle.std.proofs.Common.{List, sym, subst}
 use Rattle.cdb_base.specs.declared.event.Event.{Event}
-use Rattle.cdb_causal.specs.Bounds.{IsWithin}
+use Rattle.cdb_causal.specs.Alone.{AreAlone}
+use Rattle.cdb_causal.specs.Bounds.{IsWithin, AreWithin}
 use Rattle.cdb_causal.specs.Indexed.{IsIndexed}
+use Rattle.cdb_causal.specs.Standing.{IsStanding}
 use Rattle.cdb_causal.proofs.Bounding.{all_raised, within_push}
 use Rattle.cdb_causal.proofs.Keeping.{standing_push}
 use Rattle.cdb_causal.proofs.Receives.{alone_kept, alone_push}
+use Rattle.cdb_log.specs.Marks.{mark}
+use Rattle.cdb_log.specs.Pieces.{joined}
 use Rattle.cdb_causal.proofs.history.History.push.Goals as goal
-
-pub invariant_of-self-2 : goal.invariant_of-self-2
-invariant_of-self-2 c =
-    let items : List Event = c.self.inside.events.items in
-    let place = c.len-place.ensures in
-    let same : c.len-place.result ≡ length items = grind (arith, place, common_steps) in
-    let raised = all_raised c.self.inside.bounds c.reserve.new.self items c.reserve.ensures.others c.self.invariant.within in
-    subst (λ l. IsIndexed l c.note.new.self) (sym c.in_ok-append.ensures.ok)
-    (record {
-      standing = standing_push items c.args.event c.self.invariant.standing (rw c.self.view_is c.requires.new_name) (rw c.self.view_is c.requires.not_lost) c.note.ensures.process;
-      within =
-          within_push c.reserve.new.self c.note.new.self items c.args.event c.note.ensures.others raised
-          (subst (λ n. IsWithin c.note.new.self n c.args.event) same c.note.ensures.within);
-      alone =
-          alone_push c.self.inside.bounds c.reserve.new.self c.note.new.self items c.args.event c.reserve.ensures.receives c.note.ensures.receives c.self.invariant.within
-          c.self.invariant.alone;
-    })
 
 pub invariant_of-self : goal.invariant_of-self
 invariant_of-self c =
     record {
       standing = c.self.invariant.standing;
-      within = all_raised c.self.inside.bounds c.reserve.new.self c.self.inside.events.items c.reserve.ensures.others c.self.invariant.within;
-      alone = alone_kept c.self.inside.bounds c.reserve.new.self c.self.inside.events.items c.reserve.ensures.receives c.self.invariant.alone;
+      within = all_raised c.self.inside.bounds c.reserve.new.self (mark c.self.inside.events) (joined c.self.inside.events) c.reserve.ensures.others c.self.invariant.within;
+      alone = alone_kept c.self.inside.bounds c.reserve.new.self (joined c.self.inside.events) c.reserve.ensures.receives c.self.invariant.alone;
     }
 
-pub invariant_of-self-in_err-append : goal.invariant_of-self-in_err-append
-invariant_of-self-in_err-append c =
-    subst (λ l. IsIndexed l c.reserve.new.self) (sym c.in_err-append.ensures.err)
+pub invariant_of-self-in_err-mark : goal.invariant_of-self-in_err-mark
+invariant_of-self-in_err-mark c =
+    subst (λ l. IsIndexed l c.reserve.new.self) (sym c.in_err-mark.ensures.err)
     (record {
       standing = c.self.invariant.standing;
-      within = all_raised c.self.inside.bounds c.reserve.new.self c.self.inside.events.items c.reserve.ensures.others c.self.invariant.within;
-      alone = alone_kept c.self.inside.bounds c.reserve.new.self c.self.inside.events.items c.reserve.ensures.receives c.self.invariant.alone;
+      within = all_raised c.self.inside.bounds c.reserve.new.self (mark c.self.inside.events) (joined c.self.inside.events) c.reserve.ensures.others c.self.invariant.within;
+      alone = alone_kept c.self.inside.bounds c.reserve.new.self (joined c.self.inside.events) c.reserve.ensures.receives c.self.invariant.alone;
     })
+
+pub invariant_of-self-2 : goal.invariant_of-self-2
+invariant_of-self-2 c =
+    let items : List Event = joined c.self.inside.events in
+    let event : Event = c.args.event in
+    let log = c.append_to_log.new.log in
+    let pushed = c.in_ok-mark.ensures.ok in
+    let raised = all_raised c.self.inside.bounds c.reserve.new.self (mark c.self.inside.events) items c.reserve.ensures.others c.self.invariant.within in
+    record {
+      standing =
+          subst IsStanding (sym pushed.items)
+          (standing_push items event c.self.invariant.standing (rw c.self.view_is c.requires.new_name) (rw c.self.view_is c.requires.not_lost) c.note.ensures.process);
+      within =
+          subst (AreWithin c.note.new.self (mark log)) (sym pushed.items)
+          (within_push c.reserve.new.self c.note.new.self (mark c.self.inside.events) (mark log) items event c.note.ensures.others raised pushed.marks
+          (subst (λ n. IsWithin c.note.new.self n event) (sym pushed.last) c.note.ensures.within));
+      alone =
+          subst (AreAlone c.note.new.self) (sym pushed.items)
+          (alone_push c.self.inside.bounds c.reserve.new.self c.note.new.self (mark c.self.inside.events) items event c.reserve.ensures.receives c.note.ensures.receives c.self.invariant.within
+          c.self.invariant.alone);
+    }

@@ -26,4 +26,4 @@ returns g c =
     (subst (λ (s : RunView). IsInOrder process.table s) c.self.view_is (history_valid c.self.invariant))
     (subst (λ (s : RunView). length (machine_of process.table s.setup).firsts ≤ 9) c.self.view_is few)
     c.direct_causes.result.items
-    (subst (λ h. AreDirectCauses h (c.in_ok-at.at - 1) c.direct_causes.result.items) c.standing.ensures c.direct_causes.ensures)
+    (subst (λ h. AreDirectCauses h (c.in_ok-at.at - 1) c.direct_causes.result.items) c.history.ensures.events c.direct_causes.ensures)

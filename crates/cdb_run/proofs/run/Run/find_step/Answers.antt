@@ -28,14 +28,14 @@ returns-clause-found g c =
     let number = c.in-Ok.ensures in
     let name = step_name c.args.p c.args.k in
     let found =
-    subst (λ h. MatchOption c.position.result (IsNewName h name) (IsPlaceOf h name)) c.standing.ensures
-    (subst (λ (n : StepId). MatchOption c.position.result (IsNewName c.standing.result.now n) (IsPlaceOf c.standing.result.now n)) (ap₂ step_name there.0 number.1) c.position.ensures) in
+    subst (λ h. MatchOption c.position.result (IsNewName h name) (IsPlaceOf h name)) c.history.ensures.events
+    (subst (λ (n : StepId). MatchOption c.position.result (IsNewName c.history.result.now n) (IsPlaceOf c.history.result.now n)) (ap₂ step_name there.0 number.1) c.position.ensures) in
     subst (λ r. MatchResult r (λ at. event_named standing.setup.processes standing.history name ≡ found_at standing.history (at - 1)) (λ why. event_named standing.setup.processes standing.history name ≡ Err why)) (sym c.ok_or.ensures.value)
     (found_answer standing.history name c.position.result found standing.setup.processes (among_is standing.setup.processes c.args.p there.2 there.1))
 
 pub returns-clause-within : goal.returns-clause-within
 returns-clause-within g c =
     let name = step_name c.in-Some.p c.in-Ok.k in
-    let found = subst (λ h. MatchOption c.position.result (IsNewName h name) (IsPlaceOf h name)) c.standing.ensures c.position.ensures in
+    let found = subst (λ h. MatchOption c.position.result (IsNewName h name) (IsPlaceOf h name)) c.history.ensures.events c.position.ensures in
     subst (λ r. IfOk r (λ at. (1 ≤ at) × (at ≤ length c.args.self.now.history))) (sym c.ok_or.ensures.value)
     (found_within c.args.self.now.history name c.position.result found)

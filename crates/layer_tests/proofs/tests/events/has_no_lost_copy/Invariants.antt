@@ -4,5 +4,5 @@ use Rattle.cdb_base.specs.declared.name.CopyName.{CopyName}
 use Rattle.cdb_causal.specs.Dependence.{send_and_loss}
 use Rattle.layer_tests.proofs.tests.events.has_no_lost_copy.Given as goal
 
-abbrev pub invariant-loop-earlier : goal.invariant-loop-earlier
-invariant-loop-earlier l = (k : ℕ) → k < l.earlier-index → (copy : CopyName) → slice_get l.events k ≡ Some (Lost copy) → send_and_loss l.event (Lost copy) ≡ false
+abbrev pub invariant-loop-i : goal.invariant-loop-i
+invariant-loop-i l = (k : ℕ) → k < l.i → (copy : CopyName) → slice_get l.history k ≡ Some (Lost copy) → send_and_loss l.event (Lost copy) ≡ false

@@ -1,0 +1,298 @@
+-- A list in pieces is changed in one piece, or gains or loses one without items.
+use Rattle.std.proofs.Common.{◌≡◌, ℕ, zero, suc, ◌+◌, ◌*◌, ◌<◌, ◌≤◌, ⊎_elim, List, [], ◌∷◌, ◌++◌, Option, Some, None, Vec, vec_capacity, length, get_or, set, slice_get, slice_index, remove, refl, sym, ap, ◌∙◌, subst, arith}
+use Rattle.std.proofs.lemmas.List.{map-append, map-set, length-set, nil_from_length, get_or_append_left, get_or_at, length_push}
+use Rattle.std.specs.Option.{option_to_list, MatchOption}
+use Rattle.cdb_log.specs.Ends.{start, AreRoomy, HasEnds}
+use Rattle.cdb_log.specs.Marks.{KeepsMarks, HasRoom, IsSameLog, IsPushed, IsReplaced, IsTakenOut}
+use Rattle.cdb_log.specs.Pieces.{joined, before, lists}
+use Rattle.cdb_log.proofs.Counting.{below_or_above, before_rises, before_step, before_all, mark_at, marks_kept, marks_before, marks_after}
+use Rattle.cdb_log.proofs.Ended.{start_is, lists_at, lists_long}
+use Rattle.cdb_log.proofs.Splitting.{item_at, joined_remove, joined_set, joined_push, before-set_low, before-set_high, joined-push_empty, before-push_empty, length-remove}
+
+module _ {T : Type 0} where
+  marks-push_empty : (ps : List (List T)) → KeepsMarks (length (joined ps)) ps (ps ++ [] ∷ [])
+  marks-push_empty ps =
+      marks_kept ps (ps ++ [] ∷ []) (let e = length_push ps [] in omega arith)
+      (λ l less. (before-push_empty ps l, (let e = before-push_empty ps (suc l) in omega arith)))
+
+  pub same_log : (old : List (List T)) → IsSameLog old old
+  same_log old = record { items = refl; marks = λ i less. refl }
+
+  pub same_then : (old middle new : List (List T)) → IsSameLog old middle → IsSameLog middle new → IsSameLog old new
+  same_then old middle new one two =
+      record { items = two.items ∙ one.items; marks = λ i less. two.marks i (subst (λ l. i < length l) (sym one.items) less) ∙ one.marks i less }
+
+  pub taken_then : (old middle new : List (List T)) (place : ℕ) (item : T) → place < length (joined old) → IsTakenOut old place item middle → IsSameLog middle new → IsTakenOut old place item new
+  taken_then old middle new place item within one two =
+      record {
+        stood = one.stood;
+        items = two.items ∙ one.items;
+        earlier = λ i less. two.marks i (let e = ap length one.items in let f = length-remove (joined old) place within in omega arith) ∙ one.earlier i less;
+        later = λ i le less.
+            let in_middle = subst (λ l. i < length l) two.items less in
+            let same = two.marks i in_middle in
+            let fall = one.later i le in_middle in
+            omega arith;
+      }
+
+module _ {T Z : Type 0} where
+  pub lists_set : (vs : List (Vec T Z)) (k : ℕ) (w : Vec T Z) → lists (set vs k w) ≡ set (lists vs) k w.items
+  lists_set vs k w = map-set (λ (v : Vec T Z). v.items) vs k w
+
+  pub lists_push : (vs : List (Vec T Z)) (w : Vec T Z) → lists (vs ++ w ∷ []) ≡ lists vs ++ w.items ∷ []
+  lists_push vs w = map-append (λ (v : Vec T Z). v.items) vs (w ∷ [])
+
+  roomy_set : (vs : List (Vec T Z)) (k : ℕ) (w : Vec T Z) → AreRoomy vs → 128 ≤ vec_capacity w → AreRoomy (set vs k w)
+  roomy_set [] k w roomy room = roomy
+  roomy_set (v ∷ vs) zero w roomy room = (room, roomy.1)
+  roomy_set (v ∷ vs) (suc k) w roomy room = (roomy.0, roomy_set vs k w roomy.1 room)
+
+  roomy_push : (vs : List (Vec T Z)) (w : Vec T Z) → AreRoomy vs → 128 ≤ vec_capacity w → AreRoomy (vs ++ w ∷ [])
+  roomy_push [] w roomy room = (room, tt)
+  roomy_push (v ∷ vs) w roomy room = (roomy.0, roomy_push vs w roomy.1 room)
+
+  roomy_front : (vs : List (Vec T Z)) (w : Vec T Z) → AreRoomy (vs ++ w ∷ []) → AreRoomy vs
+  roomy_front [] w roomy = tt
+  roomy_front (v ∷ vs) w roomy = (roomy.0, roomy_front vs w roomy.1)
+
+  -- piece k is changed, and the ends from there on go up or down with it
+  module _ (pieces : List (Vec T Z)) (ends left : List ℕ) (h : HasEnds pieces ends) (k : ℕ) (v w : Vec T Z) (within : k < length pieces) (is : v ≡ get_or pieces k v) (same_length : length left ≡ length ends)
+      (earlier : (j : ℕ) → j < k → slice_index left j ≡ slice_index ends j) (later : (j : ℕ) → k ≤ j → j < length ends → slice_index left j + length v.items ≡ slice_index ends j + length w.items)
+      (small : length w.items ≤ 128) (room : 128 ≤ vec_capacity w) where
+    abbrev old_lists : List (List T)
+    old_lists = lists pieces
+
+    abbrev new_lists : List (List T)
+    new_lists = set (lists pieces) k w.items
+
+    at_k : slice_get (lists pieces) k ≡ Some v.items
+    at_k = lists_at pieces k v within is
+
+    low : (j : ℕ) → j ≤ k → before new_lists j ≡ before old_lists j
+    low j le = before-set_low old_lists k j w.items le
+
+    high : (j : ℕ) → k < j → before new_lists j + length v.items ≡ before old_lists j + length w.items
+    high j less = before-set_high old_lists k j v.items w.items at_k less
+
+    pub ends_set : HasEnds (set pieces k w) left
+    ends_set =
+        record {
+          same_length = same_length ∙ h.same_length ∙ sym (length-set pieces k w);
+          each = λ j less.
+              let long = length-set pieces k w in
+              let old = h.each j (omega arith) in
+              let same = h.same_length in
+              ap (λ n. n) (⊎_elim
+              (λ before_k. let e = earlier j before_k in let l = low (suc j) (omega arith) in (let q : slice_index left j ≡ before new_lists (suc j) = omega arith in q))
+              (λ from_k. let e = later j from_k (omega arith) in let l = high (suc j) (omega arith) in (let q : slice_index left j ≡ before new_lists (suc j) = omega arith in q))
+              (below_or_above j k)) ∙ ap (λ l. before l (suc j)) (sym (lists_set pieces k w));
+          small = λ j.
+              subst (λ l. before l (suc j) ≤ before l j + 128) (sym (lists_set pieces k w))
+              (let s = h.small j in
+              ⊎_elim
+              (λ before_k. let a = low j (omega arith) in let b = low (suc j) (omega arith) in omega arith)
+              (λ from_k. ⊎_elim
+              (λ after_k. let a = high j after_k in let b = high (suc j) (omega arith) in omega arith)
+              (λ not_after.
+              let e : j ≡ k = omega arith in
+              let a = low j (omega arith) in
+              let b = high (suc j) (omega arith) in
+              let step = before_step old_lists k v.items at_k in
+              let f = ap (before old_lists) e in
+              let g = ap (λ n. before old_lists (suc n)) e in
+              omega arith)
+              (below_or_above k j))
+              (below_or_above j k));
+          few = let long = length-set pieces k w in let few = h.few in omega arith;
+          roomy = roomy_set pieces k w h.roomy room;
+        }
+
+  module _ (pieces : List (Vec T Z)) (ends : List ℕ) (h : HasEnds pieces ends) (k : ℕ) (v w : Vec T Z) (is : v ≡ get_or pieces k v) where
+    abbrev old : List (List T)
+    old = lists pieces
+
+    abbrev changed : List T → List (List T)
+    changed q = set (lists pieces) k q
+
+    long : length (lists pieces) ≡ length pieces
+    long = lists_long pieces
+
+    pub pushed : (item : T) → suc k ≡ length pieces → w.items ≡ v.items ++ item ∷ [] → IsPushed (lists pieces) item (k * 128 + length v.items) (lists (set pieces k w))
+    pushed item last is_w =
+        subst (λ l. IsPushed old item (k * 128 + length v.items) l) (sym (lists_set pieces k w ∙ ap (set old k) is_w))
+        (record {
+          items = joined_push old k v.items item at_k (last ∙ sym long);
+          marks = marks_kept old (changed (v.items ++ item ∷ [])) (omega (arith, length-set old k (v.items ++ item ∷ [])))
+              (λ l less. (
+                low l (let a = long in omega arith),
+                (let a = long in ⊎_elim
+                    (λ before_k. let e = low (suc l) (omega arith) in omega arith)
+                    (λ not_before. let e = high (suc l) (omega arith) in omega arith)
+                    (below_or_above l k)),
+              ));
+          last =
+              let a = long in
+              let e = before_all old (suc k) (omega arith) in
+              let step = before_step old k v.items at_k in
+              let f = low k (omega arith) in
+              let g = high (suc k) (omega arith) in
+              let m = mark_at (changed (v.items ++ item ∷ [])) k (length (joined old)) (omega (arith, length-set old k (v.items ++ item ∷ []))) (omega arith) (omega arith) in
+              omega arith;
+        })
+      where
+        at_k : slice_get (lists pieces) k ≡ Some v.items
+        at_k = lists_at pieces k v (omega arith) is
+
+        low : (j : ℕ) → j ≤ k → before (changed (v.items ++ item ∷ [])) j ≡ before old j
+        low j le = before-set_low old k j (v.items ++ item ∷ []) le
+
+        high : (j : ℕ) → k < j → before (changed (v.items ++ item ∷ [])) j ≡ before old j + 1
+        high j less = let e = before-set_high old k j v.items (v.items ++ item ∷ []) at_k less in let f = length_push v.items item in omega arith
+
+    pub replaced : (place i : ℕ) (item : T) → k < length pieces → place ≡ before (lists pieces) k + i → i < length v.items → w.items ≡ set v.items i item
+        → IsReplaced (lists pieces) place item (lists (set pieces k w)) × (HasRoom (lists pieces) → HasRoom (lists (set pieces k w)))
+    replaced place i item within is_place less is_w =
+        subst (λ l. IsReplaced old place item l × (HasRoom old → HasRoom l)) (sym (lists_set pieces k w ∙ ap (set old k) is_w)) (
+          record {
+            items = joined_set old k v.items at_k place i is_place less item;
+            marks = marks_kept old (changed (set v.items i item)) (omega (arith, length-set old k (set v.items i item))) (λ l in_old. (same l, (let e = same (suc l) in omega arith)));
+          },
+          λ room. (room.0, room.1 ∙ sym (length-set old k (set v.items i item)), (let a = same (suc room.0) in let b = same room.0 in let r = room.2 in omega arith)),
+        )
+      where
+        at_k : slice_get (lists pieces) k ≡ Some v.items
+        at_k = lists_at pieces k v within is
+
+        same : (j : ℕ) → before (changed (set v.items i item)) j ≡ before old j
+        same j =
+            ⊎_elim
+            (λ after. let e = before-set_high old k j v.items (set v.items i item) at_k after in let f = length-set v.items i item in omega arith)
+            (λ not_after. before-set_low old k j (set v.items i item) not_after)
+            (below_or_above k j)
+
+    pub taken_out : (place i : ℕ) (item : T) → k < length pieces → place ≡ before (lists pieces) k + i → i < length v.items → slice_get v.items i ≡ Some item → w.items ≡ remove v.items i
+        → IsTakenOut (lists pieces) place item (lists (set pieces k w))
+    taken_out place i item within is_place less at_i is_w =
+        subst (λ l. IsTakenOut old place item l) (sym (lists_set pieces k w ∙ ap (set old k) is_w))
+        (record {
+          stood = item_at old k v.items at_k place i is_place less ∙ at_i;
+          items = joined_remove old k v.items at_k place i is_place less;
+          earlier = let a = long in let step = before_step old k v.items at_k in marks_before old (changed (remove v.items i)) k place (length-set old k (remove v.items i)) (omega arith) (omega arith) (omega arith) low high;
+          later = let a = long in let step = before_step old k v.items at_k in marks_after old (changed (remove v.items i)) k place (length-set old k (remove v.items i)) (omega arith) (omega arith) (omega arith) low high;
+        })
+      where
+        at_k : slice_get (lists pieces) k ≡ Some v.items
+        at_k = lists_at pieces k v within is
+
+        low : (j : ℕ) → j ≤ k → before (changed (remove v.items i)) j ≡ before old j
+        low j le = before-set_low old k j (remove v.items i) le
+
+        high : (j : ℕ) → k < j → before (changed (remove v.items i)) j + 1 ≡ before old j
+        high j after = let e = before-set_high old k j v.items (remove v.items i) at_k after in let f = length-remove v.items i less in omega arith
+
+  -- a piece without items is added
+  module _ (pieces : List (Vec T Z)) (ends : List ℕ) (h : HasEnds pieces ends) (v : Vec T Z) (none : v.items ≡ []) where
+    lists_more : lists (pieces ++ v ∷ []) ≡ lists pieces ++ [] ∷ []
+    lists_more = lists_push pieces v ∙ ap (λ l. lists pieces ++ l ∷ []) none
+
+    pub same_added : IsSameLog (lists pieces) (lists (pieces ++ v ∷ []))
+    same_added = subst (λ l. IsSameLog (lists pieces) l) (sym lists_more) (record { items = joined-push_empty (lists pieces); marks = marks-push_empty (lists pieces) })
+
+    pub room_added : HasRoom (lists (pieces ++ v ∷ []))
+    room_added =
+        subst HasRoom (sym lists_more) (
+          length (lists pieces),
+          (let e = length_push (lists pieces) [] in omega arith),
+          (let a = before-push_empty (lists pieces) (length (lists pieces)) in
+              let b = before-push_empty (lists pieces) (suc (length (lists pieces))) in
+              let c = before_all (lists pieces) (length (lists pieces)) (omega arith) in
+              let d = before_all (lists pieces) (suc (length (lists pieces))) (omega arith) in
+              omega arith),
+        )
+
+    pub ends_added : length pieces < 4294967295 → 128 ≤ vec_capacity v → HasEnds (pieces ++ v ∷ []) (ends ++ start ends (length ends) ∷ [])
+    ends_added few room =
+        record {
+          same_length = let a = length_push ends (start ends (length ends)) in let b = length_push pieces v in let c = h.same_length in omega arith;
+          each = λ k less.
+              let long = length_push pieces v in
+              let same = h.same_length in
+              ⊎_elim
+              (λ before_end. get_or_append_left ends (start ends (length ends) ∷ []) 0 k (omega arith) ∙ h.each k before_end)
+              (λ at_end. get_or_at ends (start ends (length ends)) [] 0 k (omega arith) ∙ start_is pieces ends h (length ends) (omega arith)
+              ∙ (let a = before_all (lists pieces) (length ends) (omega (arith, lists_long pieces)) in let b = before_all (lists pieces) (suc k) (omega (arith, lists_long pieces)) in omega arith))
+              (below_or_above k (length pieces))
+              ∙ sym (before-push_empty (lists pieces) (suc k)) ∙ ap (λ l. before l (suc k)) (sym lists_more);
+          small = λ k.
+              subst (λ l. before l (suc k) ≤ before l k + 128) (sym lists_more)
+              (let a = before-push_empty (lists pieces) k in let b = before-push_empty (lists pieces) (suc k) in let s = h.small k in omega arith);
+          few = let long = length_push pieces v in omega arith;
+          roomy = roomy_push pieces v h.roomy room;
+        }
+
+  -- and one is dropped
+  module _ (pieces : List (Vec T Z)) (ends : List ℕ) (v : Vec T Z) (end : ℕ) (h : HasEnds (pieces ++ v ∷ []) (ends ++ end ∷ [])) (k : ℕ) (last : suc (suc k) ≡ length (ends ++ end ∷ []))
+      (spare : slice_index (ends ++ end ∷ []) (suc k) ≡ start (ends ++ end ∷ []) k) where
+    none_left : v.items ≡ []
+    none_left =
+        nil_from_length v.items
+        (let same = h.same_length in
+        let long = length_push pieces v in
+        let at = before_step (lists (pieces ++ v ∷ [])) (suc k) v.items
+        (ap (λ l. slice_get l (suc k)) (lists_push pieces v) ∙ (last_at (lists pieces) v.items (suc k) (omega (arith, lists_long pieces)))) in
+        let e = h.each (suc k) (omega arith) in
+        let s = start_is (pieces ++ v ∷ []) (ends ++ end ∷ []) h k (omega arith) in
+        let low = rises (lists (pieces ++ v ∷ [])) k in
+        omega arith)
+      where
+        last_at : (ps : List (List T)) (p : List T) (n : ℕ) → n ≡ length ps → slice_get (ps ++ p ∷ []) n ≡ Some p
+        last_at [] p zero e = refl
+        last_at [] p (suc n) e = absurd (omega arith)
+        last_at (q ∷ ps) p zero e = absurd (omega arith)
+        last_at (q ∷ ps) p (suc n) e = last_at ps p n (omega arith)
+
+        rises : (ps : List (List T)) (k : ℕ) → before ps k ≤ before ps (suc k)
+        rises ps k = before_rises ps k (suc k) (omega arith)
+
+    lists_less : lists (pieces ++ v ∷ []) ≡ lists pieces ++ [] ∷ []
+    lists_less = lists_push pieces v ∙ ap (λ l. lists pieces ++ l ∷ []) none_left
+
+    pub same_dropped : IsSameLog (lists (pieces ++ v ∷ [])) (lists pieces)
+    same_dropped =
+        subst (λ l. IsSameLog l (lists pieces)) (sym lists_less)
+        (record {
+          items = sym (joined-push_empty (lists pieces));
+          marks = λ i less. sym (marks-push_empty (lists pieces) i (subst (λ l. i < length l) (joined-push_empty (lists pieces)) less));
+        })
+
+    pub ends_dropped : HasEnds pieces ends
+    ends_dropped =
+        record {
+          same_length = let a = length_push ends end in let b = length_push pieces v in let c = h.same_length in omega arith;
+          each = λ j less.
+              let long = length_push pieces v in
+              let more = length_push ends end in
+              let same = h.same_length in
+              sym (get_or_append_left ends (end ∷ []) 0 j (omega arith)) ∙ h.each j (omega arith) ∙ ap (λ l. before l (suc j)) lists_less ∙ before-push_empty (lists pieces) (suc j);
+          small = λ j.
+              let s = subst (λ l. before l (suc j) ≤ before l j + 128) lists_less (h.small j) in
+              let a = before-push_empty (lists pieces) j in
+              let b = before-push_empty (lists pieces) (suc j) in
+              omega arith;
+          few = let long = length_push pieces v in let few = h.few in omega arith;
+          roomy = roomy_front pieces v h.roomy;
+        }
+
+  -- the last of both is popped
+  pub popped : (pieces left : List (Vec T Z)) (r : Option (Vec T Z)) (ends left_ends : List ℕ) (e : Option ℕ) → pieces ≡ left ++ option_to_list r → ends ≡ left_ends ++ option_to_list e → (n m i j : ℕ) → n ≡ length pieces → i ≡ length ends
+      → MatchOption r ((n ≡ 0) × (m ≡ 0)) (λ v. m + 1 ≡ n) → MatchOption e ((i ≡ 0) × (j ≡ 0)) (λ v. j + 1 ≡ i)
+      → HasEnds pieces ends → (k : ℕ) → suc (suc k) ≡ length ends → slice_index ends (suc k) ≡ start ends k → HasEnds left left_ends × IsSameLog (lists pieces) (lists left)
+  popped pieces left None ends left_ends e is is_ends n m i j long long_ends cases cases_ends h k last spare = absurd (let a = cases.0 in let b = h.same_length in omega arith)
+  popped pieces left (Some v) ends left_ends None is is_ends n m i j long long_ends cases cases_ends h k last spare = absurd (let a = cases_ends.0 in omega arith)
+  popped pieces left (Some v) ends left_ends (Some end) is is_ends n m i j long long_ends cases cases_ends h k last spare =
+      let g = subst (λ l. HasEnds (left ++ v ∷ []) l) is_ends (subst (λ p. HasEnds p ends) is h) in
+      let last_is = last ∙ ap length is_ends in
+      let spare_is = subst (λ l. slice_index l (suc k) ≡ start l k) is_ends spare in (
+        ends_dropped left left_ends v end g k last_is spare_is,
+        subst (λ p. IsSameLog (lists p) (lists left)) (sym is) (same_dropped left left_ends v end g k last_is spare_is),
+      )

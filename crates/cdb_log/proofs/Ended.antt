@@ -1,0 +1,121 @@
+-- What the ends of pieces say of them.
+use Rattle.std.proofs.Common.{◌≡◌, ℕ, zero, suc, ◌+◌, ◌-◌, ◌*◌, ◌<◌, ◌≤◌, ◌↔◌, ⊎_elim, List, [], ◌∷◌, Some, Vec, vec_capacity, length, get_or, slice_get, slice_index, refl, sym, ap, ◌∙◌, subst, arith}
+use Rattle.std.proofs.lemmas.List.{length-map}
+use Rattle.cdb_log.specs.Ends.{start, AreEnds, IsSpot, AreRoomy, HasEnds}
+use Rattle.cdb_log.specs.Marks.{mark}
+use Rattle.cdb_log.specs.Pieces.{joined, before, lists}
+use Rattle.cdb_log.proofs.Counting.{below_or_above, before_rises, before_step, before_all, located, mark_at}
+
+pub same_start : (ends : List ℕ) (n : ℕ) → 0 < n → start ends n ≡ slice_index ends (n - 1)
+same_start ends zero some = absurd (omega arith)
+same_start ends (suc n) some = let e : n ≡ suc n - 1 = omega arith in ap (slice_index ends) e
+
+module _ {T Z : Type 0} where
+  pub lists_at : (vs : List (Vec T Z)) (k : ℕ) (v : Vec T Z) → k < length vs → v ≡ get_or vs k v → slice_get (lists vs) k ≡ Some v.items
+  lists_at [] k v within is = absurd (omega arith)
+  lists_at (w ∷ vs) zero v within is = ap (λ (u : Vec T Z). Some u.items) (sym is)
+  lists_at (w ∷ vs) (suc k) v within is = lists_at vs k v (omega arith) is
+
+  pub roomy_at : (vs : List (Vec T Z)) (k : ℕ) (v : Vec T Z) → AreRoomy vs → k < length vs → v ≡ get_or vs k v → 128 ≤ vec_capacity v
+  roomy_at [] k v roomy within is = absurd (omega arith)
+  roomy_at (w ∷ vs) zero v roomy within is = subst (λ (u : Vec T Z). 128 ≤ vec_capacity u) (sym is) roomy.0
+  roomy_at (w ∷ vs) (suc k) v roomy within is = roomy_at vs k v roomy.1 (omega arith) is
+
+  pub lists_long : (vs : List (Vec T Z)) → length (lists vs) ≡ length vs
+  lists_long vs = length-map vs (λ (v : Vec T Z). v.items)
+
+  module _ (pieces : List (Vec T Z)) (ends : List ℕ) (h : HasEnds pieces ends) where
+    pub start_is : (k : ℕ) → k ≤ length ends → start ends k ≡ before (lists pieces) k
+    start_is zero le = refl
+    start_is (suc k) le = let same = h.same_length in h.each k (omega arith)
+
+    pub ends_rise : AreEnds ends
+    ends_rise i j le within =
+        let same = h.same_length in
+        let at_i = h.each i (omega arith) in
+        let at_j = h.each j (omega arith) in
+        let rises = before_rises (lists pieces) (suc i) (suc j) (omega arith) in
+        omega arith
+
+    pub total : start ends (length ends) ≡ length (joined (lists pieces))
+    total =
+        let same = h.same_length in
+        let long = lists_long pieces in
+        start_is (length ends) (omega arith) ∙ before_all (lists pieces) (length ends) (omega arith)
+
+    pub last_above : (place : ℕ) → place < length (joined (lists pieces)) → place < slice_index ends (length ends - 1)
+    last_above place less =
+        ⊎_elim
+        (λ some. let e = same_start ends (length ends) some in let t = total in omega arith)
+        (λ none. let e : length ends ≡ 0 = omega arith in let t = total in let z = ap (start ends) e in absurd (omega arith))
+        (below_or_above 0 (length ends))
+
+    pub record IsFound (place k i : ℕ) (v : Vec T Z) : Type 0 where
+      pub within : k < length pieces
+      pub at : slice_get (lists pieces) k ≡ Some v.items
+      pub is_place : place ≡ before (lists pieces) k + i
+      pub less : i < length v.items
+      pub high : place < before (lists pieces) (suc k)
+
+    pub found : (place k i : ℕ) → IsSpot ends place k i → (v : Vec T Z) → v ≡ get_or pieces k v → IsFound place k i v
+    found place k i spot v is =
+        let same = h.same_length in
+        let in_ends = spot.within in
+        let is_place = spot.is_place in
+        let high = spot.high in
+        let s = start_is k (omega arith) in
+        let e = h.each k (omega arith) in
+        let at = lists_at pieces k v (omega arith) is in
+        let step = before_step (lists pieces) k v.items at in
+        record { within = omega arith; at = at; is_place = omega arith; less = omega arith; high = omega arith }
+
+    pub bounded : (k : ℕ) → before (lists pieces) k ≤ 128 * k
+    bounded zero = omega arith
+    bounded (suc k) = let b = bounded k in let s = h.small k in omega arith
+
+    pub last_in : (l : List ℕ) (view : List (List T)) (place : ℕ) → l ≡ ends → lists pieces ≡ view → place < length (joined view) → place < slice_index l (length l - 1)
+    last_in l view place same is less =
+        subst (λ m. place < slice_index m (length m - 1)) (sym same) (last_above place (subst (λ m. place < length (joined m)) (sym is) less))
+
+    pub small_piece : (k : ℕ) (v : Vec T Z) → k < length pieces → v ≡ get_or pieces k v → length v.items ≤ 128
+    small_piece k v within is = let step = before_step (lists pieces) k v.items (lists_at pieces k v within is) in let s = h.small k in omega arith
+
+    -- below the place of a bound stand the items whose marks are below the bound
+    pub all_marked : (bound i : ℕ) → 128 * length pieces ≤ bound → i < length (joined (lists pieces)) → mark (lists pieces) i < bound
+    all_marked bound i past less =
+        let a = located (lists pieces) i less in
+        let long = lists_long pieces in
+        let in_a = a.within in
+        let low = a.low in
+        let high = a.high in
+        let small = h.small a.k in
+        let m = mark_at (lists pieces) a.k i a.within a.low a.high in
+        omega arith
+
+    pub marks_small : (i : ℕ) → i < length (joined (lists pieces)) → mark (lists pieces) i < 18446744073709551615
+    marks_small i less = let few = h.few in let m = all_marked (128 * length pieces) i (omega arith) less in omega arith
+
+    pub place_marked : (k extra i : ℕ) → k < length pieces → extra < 128 → i < length (joined (lists pieces))
+        → ((i < slice_index ends k) × (i < start ends k + extra)) ↔ (mark (lists pieces) i < 128 * k + extra)
+    place_marked k extra i within less_extra less =
+        let a = located (lists pieces) i less in
+        let long = lists_long pieces in
+        let same = h.same_length in
+        let in_a = a.within in
+        let low = a.low in
+        let high = a.high in
+        let small = h.small a.k in
+        let m = mark_at (lists pieces) a.k i a.within a.low a.high in
+        let s = start_is k (omega arith) in
+        let e = h.each k (omega arith) in
+        ⊎_elim
+        (λ earlier. let r = before_rises (lists pieces) (suc a.k) k (omega arith) in let t = before_rises (lists pieces) k (suc k) (omega arith) in (λ q. omega arith, λ q. (omega arith, omega arith)))
+        (λ not_earlier. ⊎_elim
+        (λ later. let r = before_rises (lists pieces) (suc k) a.k (omega arith) in (λ q. absurd (let b = q.0 in omega arith), λ q. absurd (omega arith)))
+        (λ not_later.
+        let here : a.k ≡ k = omega arith in
+        let u = ap (before (lists pieces)) here in
+        let v = ap (λ n. before (lists pieces) (suc n)) here in
+        (λ q. (let b = q.1 in omega arith), λ q. (omega arith, omega arith)))
+        (below_or_above k a.k))
+        (below_or_above a.k k)

@@ -1,0 +1,4 @@
+pub mod Changing
+pub mod Counting
+pub mod Ended
+pub mod Splitting

@@ -1,0 +1,37 @@
+-- Where the pieces of a list end.
+use Rattle.std.specs.Prelude.{◌≡◌, ℕ, zero, suc, ◌+◌, ◌<◌, ◌≤◌, List, [], ◌∷◌, ⊤, length, slice_index, Vec, vec_capacity}
+use Rattle.cdb_log.specs.Pieces.{lists, before}
+
+-- where piece k starts
+abbrev pub start : List ℕ → ℕ → ℕ
+start ends zero = 0
+start ends (suc k) = slice_index ends k
+
+-- no piece ends before it starts
+abbrev pub AreEnds : List ℕ → Type 0
+AreEnds ends = (i j : ℕ) → i ≤ j → j < length ends → slice_index ends i ≤ slice_index ends j
+
+-- the item at that place stands in piece k
+pub record IsInPiece (ends : List ℕ) (place k : ℕ) : Type 0 where
+  pub within : k < length ends
+  pub low : start ends k ≤ place
+  pub high : place < slice_index ends k
+
+-- the item at that place is item i of piece k
+pub record IsSpot (ends : List ℕ) (place k i : ℕ) : Type 0 where
+  pub within : k < length ends
+  pub is_place : place ≡ start ends k + i
+  pub high : place < slice_index ends k
+
+-- each piece has memory for 128 items
+abbrev pub AreRoomy : {T Z : Type 0} → List (Vec T Z) → Type 0
+AreRoomy [] = ⊤
+AreRoomy (piece ∷ pieces) = (128 ≤ vec_capacity piece) × AreRoomy pieces
+
+-- the pieces end there, each of at most 128 items
+pub record HasEnds {T Z : Type 0} (pieces : List (Vec T Z)) (ends : List ℕ) : Type 0 where
+  pub same_length : length ends ≡ length pieces
+  pub each : (k : ℕ) → k < length pieces → slice_index ends k ≡ before (lists pieces) (suc k)
+  pub small : (k : ℕ) → before (lists pieces) (suc k) ≤ before (lists pieces) k + 128
+  pub few : length pieces ≤ 4294967295
+  pub roomy : AreRoomy pieces

@@ -1,0 +1,44 @@
+-- Marks of the items of a list in pieces. They rise along the list. A piece has 128 marks of its own, however many items stand in it:
+-- so where items are taken out, the marks of others never rise, and most keep theirs.
+use Rattle.std.specs.Prelude.{◌≡◌, ℕ, suc, ◌+◌, ◌-◌, ◌<◌, ◌≤◌, List, [], ◌∷◌, ◌++◌, length, ltb, remove, set, slice_get, Some, if◌then◌else◌}
+use Rattle.cdb_log.specs.Pieces.{joined, before}
+
+-- the mark of the item at place i, where the first piece has the marks from `first` on
+abbrev pub mark_from : {T : Type 0} → ℕ → List (List T) → ℕ → ℕ
+mark_from first [] i = first + i
+mark_from first (piece ∷ pieces) i =
+    if ltb i (length piece) then first + i else mark_from (first + 128) pieces (i - length piece)
+
+abbrev pub mark : {T : Type 0} → List (List T) → ℕ → ℕ
+mark pieces i = mark_from 0 pieces i
+
+-- the first items have the marks that they had
+abbrev pub KeepsMarks : {T : Type 0} → ℕ → List (List T) → List (List T) → Type 0
+KeepsMarks n old new = (i : ℕ) → i < n → mark new i ≡ mark old i
+
+-- the items stand as they stood, under the same marks
+pub record IsSameLog {T : Type 0} (old new : List (List T)) : Type 0 where
+  pub items : joined new ≡ joined old
+  pub marks : KeepsMarks (length (joined old)) old new
+
+-- the item has been added at the end, under that mark
+pub record IsPushed {T : Type 0} (old : List (List T)) (item : T) (end : ℕ) (new : List (List T)) : Type 0 where
+  pub items : joined new ≡ joined old ++ item ∷ []
+  pub marks : KeepsMarks (length (joined old)) old new
+  pub last : mark new (length (joined old)) ≡ end
+
+-- the item at that place is another, and all else is as it was
+pub record IsReplaced {T : Type 0} (old : List (List T)) (place : ℕ) (item : T) (new : List (List T)) : Type 0 where
+  pub items : joined new ≡ set (joined old) place item
+  pub marks : KeepsMarks (length (joined old)) old new
+
+-- the item stood at that place, and the others are left; no mark has risen
+pub record IsTakenOut {T : Type 0} (old : List (List T)) (place : ℕ) (item : T) (new : List (List T)) : Type 0 where
+  pub stood : slice_get (joined old) place ≡ Some item
+  pub items : joined new ≡ remove (joined old) place
+  pub earlier : KeepsMarks place old new
+  pub later : (i : ℕ) → place ≤ i → i < length (joined new) → mark new i ≤ mark old (suc i)
+
+-- the last piece has room for one item more
+abbrev pub HasRoom : {T : Type 0} → List (List T) → Type 0
+HasRoom pieces = (k : ℕ) × (suc k ≡ length pieces) × (before pieces (suc k) < before pieces k + 128)

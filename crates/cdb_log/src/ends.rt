@@ -1,0 +1,80 @@
+//! Where the pieces of a list end.
+
+ghost use Rattle.std.specs.Prelude.{◌≡◌, ℕ, suc, ◌-◌, ◌+◌, ◌<◌, ◌≤◌, ◌↔◌, IsTrue, length, ltb, slice_index, if◌then◌else◌};
+ghost use Rattle.cdb_log.specs.Ends.{start, AreEnds, IsInPiece, IsSpot};
+
+/// How many items a piece has at most.
+pub(crate) const PIECE: usize = 128;
+
+/// Where piece `k` starts.
+pub(crate) fn start_of(ends: &[usize], k: usize) -> usize
+    requires { k ≤ length ends.now }
+    ensures { result ≡ start ends.now k }
+{
+    if k == 0 { 0 } else { ends[k - 1] }
+}
+
+/// Whether the item at that place stands in piece `k`.
+fn is_in_piece(ends: &[usize], place: usize, k: usize) -> bool
+    ensures { IsTrue result ↔ IsInPiece ends.now place k }
+{
+    k < ends.len() && start_of(ends, k) <= place && place < ends[k]
+}
+
+/// The piece in which the item at a place stands: mostly the one that it would be with all pieces
+/// before it full.
+fn piece_of(ends: &[usize], place: usize) -> usize
+    requires ends { AreEnds ends.now }
+    requires within { place < slice_index ends.now (length ends.now - 1) }
+    ensures { IsInPiece ends.now place result }
+{
+    let near = place / PIECE;
+    if is_in_piece(ends, place, near) {
+        return near;
+    }
+    ends.partition_point(|end| *end <= place)
+}
+
+/// The piece in which the item at a place stands, and its place in that piece.
+pub(crate) fn spot_of(ends: &[usize], place: usize) -> (usize, usize)
+    requires ends { AreEnds ends.now }
+    requires within { place < slice_index ends.now (length ends.now - 1) }
+    ensures { IsSpot ends.now place result.0 result.1 }
+{
+    let k = piece_of(ends, place);
+    (k, place - start_of(ends, k))
+}
+
+/// Whether the last piece has room for one item more.
+pub(crate) fn is_open(ends: &[usize]) -> bool
+    requires { AreEnds ends.now }
+    ensures { IsTrue result
+        ↔ ((k : ℕ) × (suc k ≡ length ends.now) × (slice_index ends.now k < start ends.now k + 128)) }
+{
+    let count = ends.len();
+    count > 0 && ends[count - 1] - start_of(ends, count - 1) < PIECE
+}
+
+/// Whether the last two pieces are empty.
+pub(crate) fn is_spare(ends: &[usize]) -> bool
+    ensures { IsTrue result → (k : ℕ)
+        × (suc (suc k) ≡ length ends.now) × (slice_index ends.now (suc k) ≡ start ends.now k) }
+{
+    let count = ends.len();
+    count > 1 && ends[count - 1] == start_of(ends, count - 2)
+}
+
+/// Lowers the ends of all pieces from piece `k` on, by one item that was taken out there.
+pub(crate) fn lower(ends: &mut Vec<usize>, k: usize)
+    requires above { (j : ℕ) → k ≤ j → j < length ends.old.items →
+        1 ≤ slice_index ends.old.items j }
+    ensures same_length { length ends.new.items ≡ length ends.old.items }
+    ensures earlier { (j : ℕ) → j < k →
+        slice_index ends.new.items j ≡ slice_index ends.old.items j }
+    ensures lowered { (j : ℕ) → k ≤ j → j < length ends.old.items →
+        slice_index ends.new.items j + 1 ≡ slice_index ends.old.items j }
+{
+    for j in k..ends.len() {
+        ends[j] -= 1;
+    }
+}

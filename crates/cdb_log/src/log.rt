@@ -1,0 +1,183 @@
+//! A list in pieces.
+
+ghost use Rattle.std.specs.Prelude.{◌≡◌, ℕ, ◌-◌, ◌<◌, ◌≤◌, ◌==◌, ◌↔◌, List, [], ◌∷◌, ◌++◌, Some, length, slice_get, Vec, OnOk, OnErr, IfOk};
+ghost use Rattle.cdb_log.specs.Ends.{HasEnds};
+ghost use Rattle.cdb_log.specs.Marks.{mark, HasRoom, IsSameLog, IsPushed, IsReplaced, IsTakenOut};
+ghost use Rattle.cdb_log.specs.Pieces.{joined, lists};
+
+use crate::ends::{PIECE, is_open, is_spare, lower, spot_of, start_of};
+use cdb_base::NoMemory;
+use std::alloc::Global;
+use std::marker::Model;
+
+/// How many pieces a log has at most, so that each mark fits in 64 bits.
+const PIECES: usize = u32::MAX as usize;
+
+/// A list of items. To take one out moves at most the items of one piece. A contract sees the pieces;
+/// places count from 0, over all of them. The mark of an item is a number that rises along the list,
+/// and never rises in time.
+#[derive(Drop)]
+pub struct Log<T: Drop> {
+    pieces: Vec<Vec<T>>,
+    /// How many items stand in the pieces up to each.
+    ends: Vec<usize>,
+    alloc: Global,
+}
+
+impl<T: Drop> Model for Log<T> {
+    ghost use Rattle.std.specs.Prelude.{List};
+
+    ghost Value = { List (List T) };
+
+    ghost use Rattle.cdb_log.specs.Ends.{HasEnds};
+    ghost use Rattle.cdb_log.specs.Pieces.{lists};
+
+    ghost view = { λ log. lists log.pieces.items };
+
+    ghost invariant = { λ log. HasEnds log.pieces.items log.ends.items };
+}
+
+/// Drops the last piece while it and the one before it are empty.
+fn drop_spares<T: Drop>(pieces: &mut Vec<Vec<T>>, ends: &mut Vec<usize>)
+    requires { HasEnds pieces.old.items ends.old.items }
+    ensures ends { HasEnds pieces.new.items ends.new.items }
+    ensures same { IsSameLog (lists pieces.old.items) (lists pieces.new.items) }
+{
+    while is_spare(ends) {
+        pieces.pop();
+        ends.pop();
+    }
+}
+
+impl<T: Drop> Log<T> {
+    /// A log without items.
+    pub fn new(alloc: Global) -> Self
+        ensures { result ≡ [] }
+    {
+        Log {
+            pieces: Vec::new(alloc),
+            ends: Vec::new(alloc),
+            alloc,
+        }
+    }
+
+    /// How many items there are.
+    pub fn len(&self) -> usize
+        ensures { result ≡ length (joined self.now) }
+    {
+        let count = self.ends.len();
+        start_of(&self.ends, count)
+    }
+
+    /// Whether there is no item.
+    pub fn is_empty(&self) -> bool
+        ensures { result ≡ (length (joined self.now) == 0) }
+    {
+        self.len() == 0
+    }
+
+    /// The item at a place.
+    pub fn get(&self, place: usize) -> &T
+        requires { place < length (joined self.now) }
+        ensures { slice_get (joined self.now) place ≡ Some result.now }
+    {
+        let (k, i) = spot_of(&self.ends, place);
+        let piece = &self.pieces[k];
+        &piece[i]
+    }
+
+    /// How many items have a mark below the bound: those before the result. No mark is as high as the
+    /// greatest number.
+    pub fn place_above(&self, bound: usize) -> usize
+        ensures within { result ≤ length (joined self.now) }
+        ensures marks { (i : ℕ) → i < length (joined self.now) →
+            (i < result) ↔ (mark self.now i < bound) }
+        ensures small { (i : ℕ) → i < length (joined self.now) →
+            mark self.now i < 18446744073709551615 }
+    {
+        let k = bound / PIECE;
+        if k >= self.ends.len() {
+            return self.len();
+        }
+        self.ends[k].min(start_of(&self.ends, k) + bound % PIECE)
+    }
+
+    /// Adds a piece without items.
+    fn add_piece(&mut self) -> Result<(), NoMemory>
+        ensures same { IsSameLog self.old self.new }
+        ensures ok { OnOk result (HasRoom self.new) }
+        ensures err { OnErr result (self.new ≡ self.old) }
+    {
+        if self.pieces.len() >= PIECES {
+            return Err(NoMemory);
+        }
+        self.ends.reserve(1)?;
+        self.pieces.reserve(1)?;
+        let piece = Vec::with_capacity(self.alloc, PIECE)?;
+        let end = start_of(&self.ends, self.ends.len());
+        self.pieces.push_reserved(piece);
+        self.ends.push_reserved(end);
+        Ok(())
+    }
+
+    /// Makes room for one item more. After `NoMemory` the log is as it was.
+    pub fn reserve(&mut self) -> Result<(), NoMemory>
+        ensures same { IsSameLog self.old self.new }
+        ensures ok { OnOk result (HasRoom self.new) }
+        ensures err { OnErr result (self.new ≡ self.old) }
+    {
+        if is_open(&self.ends) {
+            return Ok(());
+        }
+        self.add_piece()
+    }
+
+    /// Adds an item at the end, for which there is room, and returns its mark. It takes no memory.
+    pub fn push_reserved(&mut self, item: T) -> usize
+        requires { HasRoom self.old }
+        ensures pushed { IsPushed self.old item result self.new }
+        ensures small { result < 18446744073709551615 }
+    {
+        let last = self.ends.len() - 1;
+        let piece = &mut self.pieces[last];
+        let place = piece.len();
+        piece.push_reserved(item);
+        self.ends[last] += 1;
+        last * PIECE + place
+    }
+
+    /// Adds an item at the end, and returns its mark. Where an allocation fails, the log is as it
+    /// was.
+    pub fn push(&mut self, item: T) -> Result<usize, NoMemory>
+        ensures ok { IfOk result (λ mark. IsPushed self.old item mark self.new) }
+        ensures small { IfOk result (λ mark. mark < 18446744073709551615) }
+        ensures err { OnErr result (self.new ≡ self.old) }
+    {
+        self.reserve()?;
+        Ok(self.push_reserved(item))
+    }
+
+    /// Puts another item at a place.
+    pub fn set(&mut self, place: usize, item: T)
+        requires { place < length (joined self.old) }
+        ensures replaced { IsReplaced self.old place item self.new }
+        ensures room { HasRoom self.old → HasRoom self.new }
+    {
+        let (k, i) = spot_of(&self.ends, place);
+        let piece = &mut self.pieces[k];
+        piece[i] = item;
+    }
+
+    /// Takes the item at a place out. The others keep their order. It takes no memory.
+    pub fn take_out(&mut self, place: usize) -> T
+        requires { place < length (joined self.old) }
+        ensures { IsTakenOut self.old place result self.new }
+    {
+        let (k, i) = spot_of(&self.ends, place);
+        let piece = &mut self.pieces[k];
+        let item = piece.remove(i);
+        lower(&mut self.ends, k);
+        drop_spares(&mut self.pieces, &mut self.ends);
+        item
+    }
+}
