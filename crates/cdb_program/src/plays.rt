@@ -38,6 +38,11 @@ pub fn play_files<'a, F: Files + Drop, I: Source + Drop, O: Sink + Drop, E: Sink
 {
     let (json, bytes) = read_two(alloc, &mut outside.files, setup, script)?;
     let mut commands = Bytes::new(bytes.as_slice());
-    let played = play(alloc, json.as_slice(), &mut commands, &mut outside.streams.output);
+    let played = play(
+        alloc,
+        json.as_slice(),
+        &mut commands,
+        &mut outside.streams.output,
+    );
     of_play(played, script)
 }

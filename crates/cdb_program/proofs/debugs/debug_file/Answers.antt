@@ -9,10 +9,5 @@ returns-in_err-json-clause-does g c =
 
 pub returns-clause-does : goal.returns-clause-does
 returns-clause-does g c =
-    rw (← c.outside.view_is) (
-      inr (
-        c.in_ok-json.json.items,
-        c.in_ok-json.ensures.read,
-        (c.debug-debugged.result, c.of_play.ensures, rw (← c.as_slice.ensures.value) c.debug-debugged.ensures),
-      ),
-    )
+    let debugged = rw (← c.as_slice.ensures.value) c.debug-debugged.ensures in
+    rw (← c.outside.view_is) (inr (c.in_ok-json.json.items, c.in_ok-json.ensures.read, (c.debug-debugged.result, c.of_play.ensures, debugged)))
