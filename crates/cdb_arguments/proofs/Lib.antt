@@ -5,4 +5,5 @@ pub mod Values
 pub mod Lines
 pub mod Subcommands
 pub mod StepLines
+pub mod SessionLines
 pub mod Requests

@@ -133,3 +133,112 @@ explain_line name setup script texts p (Some k) writes plain =
     let all : texts ≡ text ∷ second.0 ∷ [] = is ∙ ap (λ rest. text ∷ rest) second.1 in
     subst (λ ts. ArePlain (setup ∷ script ∷ ts) → StepLine (codes "explain") setup script (Some p) (Some k) (name ∷ codes "explain" ∷ setup ∷ script ∷ ts)) (sym all)
     (explain_line_k name setup script text second.0 p k first second.2) plain
+
+-- ---- a picture
+
+draw_shape : Shape
+draw_shape = unwrap_or (slice_get (built program).subs 3) (new_shape [])
+
+draw_sub : IsSub (codes "draw") draw_shape
+unfolding clap_on_literals program draw_shape
+draw_sub = record { stops = refl; turn = refl; end = refl; enters = λ words. refl; levels = λ words. refl }
+
+draw_values : (setup script : Text) → ValuesPass draw_shape (walk_from nothing_held) (setup ∷ script ∷ [])
+unfolding clap_on_literals program draw_shape
+draw_values setup script = ((refl, refl, tt), refl, ((refl, refl, tt), refl, tt))
+
+draw_end : (setup script : Text) → EndPasses draw_shape (fold (with_value draw_shape.rules) (walk_from nothing_held) (setup ∷ script ∷ [])).held
+unfolding clap_on_literals program draw_shape
+draw_end setup script = (refl, refl, refl)
+
+draw_values_p : (setup script p : Text) → ValuesPass draw_shape (walk_from nothing_held) (setup ∷ script ∷ p ∷ [])
+unfolding clap_on_literals program draw_shape
+draw_values_p setup script p = ((refl, refl, tt), refl, ((refl, refl, tt), refl, ((refl, refl, tt), refl, tt)))
+
+draw_end_p : (setup script p : Text) → AcceptsNumber p → EndPasses draw_shape (fold (with_value draw_shape.rules) (walk_from nothing_held) (setup ∷ script ∷ p ∷ [])).held
+unfolding clap_on_literals program draw_shape
+draw_end_p setup script p a = (rw a refl, refl, refl)
+
+draw_values_k : (setup script p k : Text) → AcceptsNumber p → ValuesPass draw_shape (walk_from nothing_held) (setup ∷ script ∷ p ∷ k ∷ [])
+unfolding clap_on_literals program draw_shape
+draw_values_k setup script p k a = ((refl, refl, tt), refl, ((refl, refl, tt), refl, ((refl, refl, tt), refl, ((refl, refl, tt), rw a refl, tt))))
+
+draw_end_k : (setup script p k : Text) → AcceptsNumber k → EndPasses draw_shape (fold (with_value draw_shape.rules) (walk_from nothing_held) (setup ∷ script ∷ p ∷ k ∷ [])).held
+unfolding clap_on_literals program draw_shape
+draw_end_k setup script p k a = (rw a refl, refl, refl)
+
+draw_line_alone : (name setup script : Text) → ArePlain (setup ∷ script ∷ []) → StepLine (codes "draw") setup script None None (name ∷ codes "draw" ∷ setup ∷ script ∷ [])
+unfolding clap_on_literals program draw_shape
+draw_line_alone name setup script plain =
+    let words = setup ∷ script ∷ [] in
+    record {
+      rows = finished draw_shape.rules (fold (with_value draw_shape.rules) (walk_from nothing_held) words).held;
+      asked = line_asked (codes "draw") draw_shape draw_sub name words plain (draw_values setup script);
+      taken = line_taken (codes "draw") draw_shape draw_sub name words plain (draw_values setup script) (draw_end setup script);
+      setup_at = refl;
+      script_at = refl;
+      p_text = None;
+      p_at = refl;
+      p_written = tt;
+      k_text = None;
+      k_at = refl;
+      k_written = tt;
+    }
+
+draw_line_p : (name setup script text : Text) (p : ℕ) → Writes text p → ArePlain (setup ∷ script ∷ text ∷ [])
+    → StepLine (codes "draw") setup script (Some p) None (name ∷ codes "draw" ∷ setup ∷ script ∷ text ∷ [])
+unfolding clap_on_literals program draw_shape
+draw_line_p name setup script text p writes plain =
+    let words = setup ∷ script ∷ text ∷ [] in
+    let a = accepts_number text p plain.1.1.0 writes in
+    record {
+      rows = finished draw_shape.rules (fold (with_value draw_shape.rules) (walk_from nothing_held) words).held;
+      asked = line_asked (codes "draw") draw_shape draw_sub name words plain (draw_values_p setup script text);
+      taken = line_taken (codes "draw") draw_shape draw_sub name words plain (draw_values_p setup script text) (draw_end_p setup script text a);
+      setup_at = refl;
+      script_at = refl;
+      p_text = Some text;
+      p_at = refl;
+      p_written = writes;
+      k_text = None;
+      k_at = refl;
+      k_written = tt;
+    }
+
+draw_line_k : (name setup script text other : Text) (p k : ℕ) → Writes text p → Writes other k → ArePlain (setup ∷ script ∷ text ∷ other ∷ [])
+    → StepLine (codes "draw") setup script (Some p) (Some k) (name ∷ codes "draw" ∷ setup ∷ script ∷ text ∷ other ∷ [])
+unfolding clap_on_literals program draw_shape
+draw_line_k name setup script text other p k writes more plain =
+    let words = setup ∷ script ∷ text ∷ other ∷ [] in
+    let a = accepts_number text p plain.1.1.0 writes in
+    let b = accepts_number other k plain.1.1.1.0 more in
+    record {
+      rows = finished draw_shape.rules (fold (with_value draw_shape.rules) (walk_from nothing_held) words).held;
+      asked = line_asked (codes "draw") draw_shape draw_sub name words plain (draw_values_k setup script text other a);
+      taken = line_taken (codes "draw") draw_shape draw_sub name words plain (draw_values_k setup script text other a) (draw_end_k setup script text other b);
+      setup_at = refl;
+      script_at = refl;
+      p_text = Some text;
+      p_at = refl;
+      p_written = writes;
+      k_text = Some other;
+      k_at = refl;
+      k_written = more;
+    }
+
+pub draw_line : (name setup script : Text) (texts : List Text) (p k : Option ℕ) → WritesStep texts p k → ArePlain (setup ∷ script ∷ texts)
+    → StepLine (codes "draw") setup script p k (name ∷ codes "draw" ∷ setup ∷ script ∷ texts)
+draw_line name setup script texts None None writes plain =
+    subst (λ ts. ArePlain (setup ∷ script ∷ ts) → StepLine (codes "draw") setup script None None (name ∷ codes "draw" ∷ setup ∷ script ∷ ts)) (sym writes)
+    (draw_line_alone name setup script) plain
+draw_line name setup script texts None (Some k) writes plain = absurd writes
+draw_line name setup script texts (Some p) None writes plain =
+    let (text, more, is, first, second) = writes in
+    let all : texts ≡ text ∷ [] = is ∙ ap (λ rest. text ∷ rest) second in
+    subst (λ ts. ArePlain (setup ∷ script ∷ ts) → StepLine (codes "draw") setup script (Some p) None (name ∷ codes "draw" ∷ setup ∷ script ∷ ts)) (sym all)
+    (draw_line_p name setup script text p first) plain
+draw_line name setup script texts (Some p) (Some k) writes plain =
+    let (text, more, is, first, second) = writes in
+    let all : texts ≡ text ∷ second.0 ∷ [] = is ∙ ap (λ rest. text ∷ rest) second.1 in
+    subst (λ ts. ArePlain (setup ∷ script ∷ ts) → StepLine (codes "draw") setup script (Some p) (Some k) (name ∷ codes "draw" ∷ setup ∷ script ∷ ts)) (sym all)
+    (draw_line_k name setup script text second.0 p k first second.2) plain

@@ -8,7 +8,7 @@ use Rattle.clap.specs.declared.error.kind.ErrorKind.TheVariants.{DisplayHelp, Di
 use Rattle.cdb_arguments.specs.declared.request.AskFault.{AskFault}
 use Rattle.cdb_arguments.specs.declared.request.AskFault.TheVariants.{Words, NoMemory}
 use Rattle.cdb_arguments.specs.declared.request.Asked.{Asked}
-use Rattle.cdb_arguments.specs.declared.request.Asked.TheVariants.{Script, Play, Race, Explain}
+use Rattle.cdb_arguments.specs.declared.request.Asked.TheVariants.{Script, Play, Race, Explain, Draw, Debug}
 use Rattle.cdb_arguments.specs.Plain.{Writes}
 
 -- the texts of the arguments
@@ -19,7 +19,7 @@ texts = map (λ text. text.now)
 abbrev pub NamesOne : Option (Text × List Row) → Type 0
 NamesOne None = Unit {0}
 NamesOne (Some found) = (found.0 ≡ codes "play") ⊎ ((found.0 ≡ codes "race")
-    ⊎ (found.0 ≡ codes "explain"))
+    ⊎ ((found.0 ≡ codes "explain") ⊎ ((found.0 ≡ codes "draw") ⊎ (found.0 ≡ codes "debug"))))
 
 -- the text of an argument, which is empty where the matches have none
 abbrev pub text_at : Text → List Row → Text
@@ -57,6 +57,10 @@ Asks found (Race setup turns scripts) =
 Asks found (Explain setup script p k) =
     (rows : List Row) × (found ≡ Some (codes "explain", rows)) × (setup.now ≡ text_at (codes "SETUP") rows) × (script.now ≡ text_at (codes "SCRIPT") rows)
     × IsNumber (text_at (codes "P") rows) p × IsNumberAt (codes "K") rows k
+Asks found (Draw setup script p k) =
+    (rows : List Row) × (found ≡ Some (codes "draw", rows)) × (setup.now ≡ text_at (codes "SETUP") rows) × (script.now ≡ text_at (codes "SCRIPT") rows)
+    × IsNumberAt (codes "P") rows p × IsNumberAt (codes "K") rows k
+Asks found (Debug setup) = (rows : List Row) × (found ≡ Some (codes "debug", rows)) × (setup.now ≡ text_at (codes "SETUP") rows)
 
 -- a play of these two files
 abbrev pub IsPlayOf : Text → Text → Asked → Type 0
@@ -74,6 +78,17 @@ abbrev pub IsExplainOf : Text → Text → ℕ → Option ℕ → Asked → Type
 IsExplainOf setup script p k (Explain its_setup its_script its_p its_k) =
     (its_setup.now ≡ setup) × (its_script.now ≡ script) × (its_p ≡ p) × (its_k ≡ k)
 IsExplainOf setup script p k asked = ⊥
+
+-- the picture of the run of these two files, in which what led to this step stands out
+abbrev pub IsDrawOf : Text → Text → Option ℕ → Option ℕ → Asked → Type 0
+IsDrawOf setup script p k (Draw its_setup its_script its_p its_k) =
+    (its_setup.now ≡ setup) × (its_script.now ≡ script) × (its_p ≡ p) × (its_k ≡ k)
+IsDrawOf setup script p k asked = ⊥
+
+-- a session on a run of this file
+abbrev pub IsDebugOf : Text → Asked → Type 0
+IsDebugOf setup (Debug its_setup) = its_setup.now ≡ setup
+IsDebugOf setup asked = ⊥
 
 -- what was asked for, or no memory to say it
 abbrev pub IsAnswer : Result Asked AskFault → (Asked → Type 0) → Type 0

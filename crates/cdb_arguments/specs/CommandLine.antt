@@ -41,6 +41,14 @@ race_app = with_arguments (codes "race") (required_rule (codes "SETUP") ∷ turn
 abbrev pub explain_app : App
 explain_app = on_files (codes "explain") (numbered (required_rule (codes "P")) ∷ numbered (new_rule (codes "K")) ∷ [])
 
+-- `draw SETUP SCRIPT [P [K]]`
+abbrev pub draw_app : App
+draw_app = on_files (codes "draw") (numbered (new_rule (codes "P")) ∷ numbered (new_rule (codes "K")) ∷ [])
+
+-- `debug SETUP`
+abbrev pub debug_app : App
+debug_app = with_arguments (codes "debug") (required_rule (codes "SETUP") ∷ [])
+
 -- the program with these subcommands too
 abbrev pub with_subcommands : App → List App → App
 with_subcommands = fold (λ app sub. with_subcommand app sub.top)
@@ -51,4 +59,4 @@ playing = with_subcommands (on_top (λ s. record s { has_version = true; disable
 
 -- the program with its subcommands
 unfoldable pub program : App
-program = with_subcommands playing (explain_app ∷ [])
+program = with_subcommands playing (explain_app ∷ draw_app ∷ debug_app ∷ [])

@@ -57,3 +57,12 @@ IsRaceLine words setup turns script more =
 abbrev pub IsExplainLine : List Text → Text → Text → ℕ → Option ℕ → Type 0
 IsExplainLine words setup script p k =
     (texts : List Text) × WritesStep texts (Some p) k × IsLineOf (codes "explain") (setup ∷ script ∷ texts) words
+
+-- `draw SETUP SCRIPT [P [K]]`
+abbrev pub IsDrawLine : List Text → Text → Text → Option ℕ → Option ℕ → Type 0
+IsDrawLine words setup script p k =
+    (texts : List Text) × WritesStep texts p k × IsLineOf (codes "draw") (setup ∷ script ∷ texts) words
+
+-- `debug SETUP`
+abbrev pub IsDebugLine : List Text → Text → Type 0
+IsDebugLine words setup = IsLineOf (codes "debug") (setup ∷ []) words

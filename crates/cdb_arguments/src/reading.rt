@@ -3,9 +3,9 @@
 ghost use Rattle.std.specs.Prelude.{◌≡◌, ◌∷◌, ℕ, List, Option, IfOk, OnOk, IfErr, [], false, true, map, codes};
 ghost use Rattle.clap.specs.Words.{Kinds, Text, HasKind, app_of, new_rule, rule_of, fault_of, found_of, kind_of, rows_of, subcommand_of, subcommand_rows_of, takes};
 ghost use Rattle.clap.specs.declared.builder.command.Command.TheViews.{out-Command};
-ghost use Rattle.cdb_arguments.specs.CommandLine.{required_rule, turns_rule, numbered, several, on_files, play_app, race_app, explain_app, playing, program};
-ghost use Rattle.cdb_arguments.specs.Asking.{NamesOne, IsTurns, IsNumber, IsNumberAt, text_at, texts, texts_at, Asks, IsOfKinds, IsAnswer, IsPlayOf, IsRaceOf, IsExplainOf, ask_status_of, words_status};
-ghost use Rattle.cdb_arguments.specs.Plain.{IsNameAlone, IsPlayLine, IsRaceLine, IsExplainLine};
+ghost use Rattle.cdb_arguments.specs.CommandLine.{required_rule, turns_rule, numbered, several, on_files, play_app, race_app, explain_app, draw_app, debug_app, playing, program};
+ghost use Rattle.cdb_arguments.specs.Asking.{NamesOne, IsTurns, IsNumber, IsNumberAt, text_at, texts, texts_at, Asks, IsOfKinds, IsAnswer, IsPlayOf, IsRaceOf, IsExplainOf, IsDrawOf, IsDebugOf, ask_status_of, words_status};
+ghost use Rattle.cdb_arguments.specs.Plain.{IsNameAlone, IsPlayLine, IsRaceLine, IsExplainLine, IsDrawLine, IsDebugLine};
 
 use crate::request::{AskFault, Asked};
 use clap::error::ErrorKind;
@@ -26,6 +26,11 @@ const RACE: &str =
 
 const EXPLAIN: &str =
     "Plays a script, and prints what led to a step: the events, with their causes";
+
+const DRAW: &str =
+    "Plays a script, and prints a picture of the run in SVG; what led to a step stands out";
+
+const DEBUG: &str = "Answers each command before the next is read, at a prompt or behind a pipe";
 
 const LINES: &str =
     "Without a subcommand it plays the script on standard input, on one process that proposes 7.
@@ -184,6 +189,29 @@ fn explain<'a>(alloc: Global) -> Result<Command<'a>, AllocError>
     command.arg(step(alloc))
 }
 
+/// `draw SETUP SCRIPT [P [K]]`.
+fn draw<'a>(alloc: Global) -> Result<Command<'a>, AllocError>
+    ensures app { IfOk result (λ command. app_of command ≡ draw_app) }
+    ensures local { IfOk result (λ command. (out-Command command).has_globals ≡ false) }
+{
+    let command = on_files(alloc, "draw", DRAW)?;
+    let help = "The process whose step stands out, 1 to 999999; left out: all stands out";
+    let process = Arg::new(alloc, "P").help(help);
+    let command = command.arg(numbered(process))?;
+    command.arg(step(alloc))
+}
+
+/// `debug SETUP`.
+fn debug<'a>(alloc: Global) -> Result<Command<'a>, AllocError>
+    ensures app { IfOk result (λ command. app_of command ≡ debug_app) }
+    ensures local { IfOk result (λ command. (out-Command command).has_globals ≡ false) }
+{
+    Command::new(alloc, "debug")
+        .about(DEBUG)
+        .after_help(SETUPS)
+        .arg(setup(alloc))
+}
+
 /// The program with the subcommands that print the replies of scripts.
 fn playing<'a>(alloc: Global) -> Result<Command<'a>, AllocError>
     ensures { IfOk result (λ command. app_of command ≡ playing) }
@@ -203,7 +231,9 @@ fn program<'a>(alloc: Global) -> Result<Command<'a>, AllocError>
     ensures { IfOk result (λ command. app_of command ≡ program) }
 {
     let command = playing(alloc)?;
-    command.subcommand(explain(alloc)?)
+    let command = command.subcommand(explain(alloc)?)?;
+    let command = command.subcommand(draw(alloc)?)?;
+    command.subcommand(debug(alloc)?)
 }
 
 /// The matches of the words.
@@ -317,6 +347,20 @@ fn asked_by<'a>(alloc: Global, matches: &ArgMatches<'a>) -> Result<Asked<'a>, Al
             k: number_at(found, "K"),
         });
     }
+    if name == "draw" {
+        let script = text_of(found, "SCRIPT");
+        let p = number_at(found, "P");
+        let k = number_at(found, "K");
+        return Ok(Asked::Draw {
+            setup,
+            script,
+            p,
+            k,
+        });
+    }
+    if name == "debug" {
+        return Ok(Asked::Debug { setup });
+    }
     Ok(Asked::Race {
         setup,
         turns: turns_of(text_of(found, "TURNS")),
@@ -360,7 +404,8 @@ fn read<'a>(alloc: Global, words: &'a [&'a str]) -> Result<Asked<'a>, AskFault>
 
 /// What the arguments of the command line ask for; the first is the program's name. The name alone asks for the
 /// script on standard input, `play SETUP SCRIPT` for a play, `race SETUP TURNS SCRIPT..` for a race,
-/// `explain SETUP SCRIPT P [K]` for what led to a step. P and K are numbers of 1 to 999,999.
+/// `explain SETUP SCRIPT P [K]` for what led to a step, `draw SETUP SCRIPT [P [K]]` for a picture,
+/// `debug SETUP` for a session that goes on line by line. P and K are numbers of 1 to 999,999.
 ///
 /// # Errors
 /// `Words` with `clap`'s error for arguments that the command line does not take, and for those alone; the error is
@@ -383,6 +428,11 @@ pub fn asked<'a>(alloc: Global, words: &'a [&'a str]) -> Result<Asked<'a>, AskFa
     ensures explain { (setup script : Text) (p : ℕ) (k : Option ℕ) →
         IsExplainLine (texts words.entry.now) setup script p k →
         IsAnswer result (IsExplainOf setup script p k) }
+    ensures draw { (setup script : Text) (p k : Option ℕ) →
+        IsDrawLine (texts words.entry.now) setup script p k →
+        IsAnswer result (IsDrawOf setup script p k) }
+    ensures debug { (setup : Text) → IsDebugLine (texts words.entry.now) setup →
+        IsAnswer result (IsDebugOf setup) }
 {
     read(alloc, words)
 }

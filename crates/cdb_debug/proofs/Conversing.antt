@@ -14,20 +14,20 @@ use Rattle.cdb_setup.specs.declared.fault.SetupFault.{SetupFault}
 use Rattle.cdb_setup.specs.declared.fault.SetupFault.TheVariants as setup
 use Rattle.cdb_debug.specs.Dialogues.{Session, begun}
 use Rattle.cdb_debug.specs.Held.{Says, IsAt, IsOver, Hears, AnswersHeld, AnswersLast, Converses, ended_well, ended_by}
-use Rattle.cdb_debug.specs.Moves.{Move, Read, ReadFailed, read_in, AreWrites, Makes}
+use Rattle.cdb_debug.specs.Moves.{Known, Move, Read, ReadFailed, read_in, AreWrites, Makes}
 use Rattle.cdb_debug.specs.Sessions.{most_input, IsSession, HasDebugged}
 use Rattle.cdb_debug.proofs.Ordered.{Makes-nothing, Makes-more, read-append, nothing_read}
 use Rattle.cdb_debug.proofs.Stepping.{prompted, not_prompted, more_read, read_failed, out_of_memory, last_answered, last_broken, no_last_line}
 
 -- all that was read is answered, as far as it has ended
-abbrev pub Stands : List ℕ → Option (List Move) → Session → Option (List Move) → Session → List ℕ → ℕ → Type 0
+abbrev pub Stands : List ℕ → Known → Session → Known → Session → List ℕ → ℕ → Type 0
 Stands prompt before first now session held read =
     (setup : Parts) → first ≡ begun setup
     → (made : List Move) × Makes before now made × IsAt prompt setup made session held [] × (length (read_in made) ≡ read)
 
 -- ---- the last line
 
-module _ (prompt : List ℕ) (before behind : Option (List Move)) (session : Session) (held : List ℕ) where
+module _ (prompt : List ℕ) (before behind : Known) (session : Session) (held : List ℕ) where
   pub last_none : length held ≡ 0 → before ≡ behind → AnswersLast ended_well before behind prompt session held
   last_none none same setup moves at over = (
     [],
@@ -49,7 +49,7 @@ module _ (prompt : List ℕ) (before behind : Option (List Move)) (session : Ses
 
 -- ---- the first
 
-module _ (prompt : List ℕ) (before now : Option (List Move)) (session : Session) where
+module _ (prompt : List ℕ) (before now : Known) (session : Session) where
   pub started : (A E : Type 0) (a : A) → Says {E = E} (Ok a) before now prompt → Stands prompt before session now session [] 0
   started A E a says setup is = (says.0, says.1, subst (λ s. IsAt prompt setup says.0 s [] []) (sym is) (prompted prompt setup says.0 says.2 says.3), ap length (nothing_read says.0 says.2))
 
@@ -58,20 +58,20 @@ module _ (prompt : List ℕ) (before now : Option (List Move)) (session : Sessio
 
 -- ---- in between
 
-module _ (prompt : List ℕ) (before : Option (List Move)) (first : Session) (now : Option (List Move)) (session : Session) (held : List ℕ) (read : ℕ) (so : Stands prompt before first now session held read) (next : Option (List Move)) where
+module _ (prompt : List ℕ) (before : Known) (first : Session) (now : Known) (session : Session) (held : List ℕ) (read : ℕ) (so : Stands prompt before first now session held read) (next : Known) where
   pub not_read : Makes now next (ReadFailed ∷ []) → Converses (Err fault.Read) before next prompt first
   not_read makes setup is =
       let s = so setup is in
       (s.0 ++ ReadFailed ∷ [], Makes-more before now next s.0 (ReadFailed ∷ []) s.1 makes, read_failed prompt setup s.0 session held [] s.2 refl)
 
   -- as much was read as may be
-  pub over_at_most : most_input ≤ read → (behind : Option (List Move)) (outcome : Result (Unit {0}) PlayFault) → AnswersLast outcome now behind prompt session held → Converses outcome before behind prompt first
+  pub over_at_most : most_input ≤ read → (behind : Known) (outcome : Result (Unit {0}) PlayFault) → AnswersLast outcome now behind prompt session held → Converses outcome before behind prompt first
   over_at_most most behind outcome last setup is =
       let s = so setup is in
       let l = last setup s.0 s.2 (inr (subst (λ n. most_input ≤ n) (sym s.3) most)) in
       (s.0 ++ l.0, Makes-more before now behind s.0 l.0 s.1 l.1, l.2)
 
-  module _ (bytes : List ℕ) (makes : Makes now next (Read bytes ∷ [])) (behind : Option (List Move)) where
+  module _ (bytes : List ℕ) (makes : Makes now next (Read bytes ∷ [])) (behind : Known) where
     given : (setup : Parts) → first ≡ begun setup → (made : List Move) × Makes before next made × IsAt prompt setup made session held bytes × (length (read_in made) ≡ read + length bytes)
     given setup is =
         let s = so setup is in

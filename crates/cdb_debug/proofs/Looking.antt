@@ -8,22 +8,22 @@ use Rattle.cdb_setup.specs.Format.{longest}
 use Rattle.cdb_setup.specs.Parts.{Parts}
 use Rattle.cdb_debug.specs.Dialogues.{Session}
 use Rattle.cdb_debug.specs.Held.{IsAt, AnswersHeld, Hears, HasNoEnd, ended_well, ended_by}
-use Rattle.cdb_debug.specs.Moves.{Move, AreWrites, Makes}
+use Rattle.cdb_debug.specs.Moves.{Known, Move, AreWrites, Makes}
 use Rattle.cdb_debug.specs.Sessions.{IsSession}
 use Rattle.cdb_debug.proofs.Ordered.{Makes-nothing, Makes-more}
 use Rattle.cdb_debug.proofs.Saying.{AreWrites-append}
 use Rattle.cdb_debug.proofs.Stepping.{more_held, out_of_memory, line_broken, line_answered, line_quit}
 
 -- from the first of the bytes on, up to those that are left
-abbrev pub Goes : List ℕ → Option (List Move) → Session → List ℕ → List ℕ → Option (List Move) → Session → List ℕ → List ℕ → Type 0
+abbrev pub Goes : List ℕ → Known → Session → List ℕ → List ℕ → Known → Session → List ℕ → List ℕ → Type 0
 Goes prompt before old held bytes now session kept left =
     (setup : Parts) (moves : List Move) → IsAt prompt setup moves old held bytes
     → (made : List Move) × Makes before now made × AreWrites made × IsAt prompt setup (moves ++ made) session kept left
 
-pub starts : (prompt : List ℕ) (before : Option (List Move)) (old : Session) (held bytes : List ℕ) → Goes prompt before old held bytes before old held bytes
+pub starts : (prompt : List ℕ) (before : Known) (old : Session) (held bytes : List ℕ) → Goes prompt before old held bytes before old held bytes
 starts prompt before old held bytes setup moves at = ([], Makes-nothing before, tt, subst (λ all. IsAt prompt setup all old held bytes) (sym (append-nil moves)) at)
 
-module _ (prompt : List ℕ) (before : Option (List Move)) (old : Session) (held bytes : List ℕ) (now : Option (List Move)) (session : Session) (kept left : List ℕ) (so : Goes prompt before old held bytes now session kept left) where
+module _ (prompt : List ℕ) (before : Known) (old : Session) (held bytes : List ℕ) (now : Known) (session : Session) (kept left : List ℕ) (so : Goes prompt before old held bytes now session kept left) where
   -- memory is out
   pub no_memory : (new : Session) (all : List ℕ) → Hears (Err output.NoMemory) before now prompt old new held all bytes
   no_memory new all setup moves at =
@@ -37,7 +37,7 @@ module _ (prompt : List ℕ) (before : Option (List Move)) (old : Session) (held
       (s.0, s.1, s.2, more_held prompt setup (moves ++ s.0) session kept left s.3 more behind all cut none is)
 
 -- a line has ended
-module _ (prompt : List ℕ) (before : Option (List Move)) (old : Session) (held bytes : List ℕ) (now : Option (List Move)) (session : Session) (kept left : List ℕ) (so : Goes prompt before old held bytes now session kept (10 ∷ left)) (behind : Option (List Move)) (new : Session) (all : List ℕ) where
+module _ (prompt : List ℕ) (before : Known) (old : Session) (held bytes : List ℕ) (now : Known) (session : Session) (kept left : List ℕ) (so : Goes prompt before old held bytes now session kept (10 ∷ left)) (behind : Known) (new : Session) (all : List ℕ) where
   pub answers : (stops : Bool) → AnswersHeld (Ok stops) now behind prompt session new kept all → stops ≡ false → Goes prompt before old held bytes behind new all left
   answers stops a goes_on setup moves at =
       let s = so setup moves at in (

@@ -1,8 +1,11 @@
 -- Moves one after the other.
 use Rattle.std.proofs.Common.{◌≡◌, ◌≢◌, ℕ, ◌-◌, ◌+◌, ◌<◌, ◌⊎◌, inl, inr, Bool, true, false, List, [], ◌∷◌, ◌++◌, length, take, nat_eq, refl, sym, ap, subst, ◌∙◌, append_assoc, append-nil, arith, length-append, take-append-drop, Option, Some, None}
 use Rattle.std.specs.List.{All, AllByRecursion, slice_split, flat_map}
-use Rattle.std.proofs.lemmas.Grind.{flat_map-append}
-use Rattle.cdb_debug.specs.Moves.{Move, Read, ReadFailed, Wrote, WriteFailed, given_by, taken_by, read_in, written_in, AsksForInput, AreWrites, EndsWith, Makes}
+use Rattle.std.specs.Io.KnownBytes.{Appends, Consumes}
+use Rattle.std.proofs.KnownBytes.{Appends-nil, Appends-trans, Consumes-nil, Consumes-trans}
+use Rattle.std.proofs.lemmas.Grind.{flat_map-append, fold-append}
+use Rattle.cdb_play.specs.Streams.{counted}
+use Rattle.cdb_debug.specs.Moves.{Known, Move, Read, ReadFailed, Wrote, WriteFailed, given_by, taken_by, read_in, written_in, AsksForInput, AreWrites, EndsWith, Continues, Makes, count_on, is_failed_read, is_failed_write}
 
 -- such a property holds at each move that asks, of those before it
 abbrev pub AtEachAsk : (List Move → Type 0) → List Move → Type 0
@@ -58,15 +61,38 @@ nothing_read (Wrote bytes ∷ made) are = nothing_read made are.1
 nothing_read (WriteFailed ∷ made) are = nothing_read made are.1
 
 -- moves that are known, one list after the other
-pub Makes-nothing : (moves : Option (List Move)) → Makes moves moves []
-Makes-nothing None = tt
-Makes-nothing (Some moves) = sym (append-nil moves)
+Continues-nothing : (moves : Option (List Move)) → Continues moves moves []
+Continues-nothing None = tt
+Continues-nothing (Some moves) = sym (append-nil moves)
 
-pub Makes-more : (old now new : Option (List Move)) (made more : List Move) → Makes old now made → Makes now new more → Makes old new (made ++ more)
-Makes-more None now new made more e f = tt
-Makes-more (Some old) None new made more e f = absurd e
-Makes-more (Some old) (Some now) None made more e f = absurd f
-Makes-more (Some old) (Some now) (Some new) made more e f = f ∙ ap (λ moves. moves ++ more) e ∙ append_assoc old made more
+Continues-more : (old now new : Option (List Move)) (made more : List Move) → Continues old now made → Continues now new more → Continues old new (made ++ more)
+Continues-more None now new made more e f = tt
+Continues-more (Some old) None new made more e f = absurd e
+Continues-more (Some old) (Some now) None made more e f = absurd f
+Continues-more (Some old) (Some now) (Some new) made more e f = f ∙ ap (λ moves. moves ++ more) e ∙ append_assoc old made more
+
+-- the count of such moves goes on
+count_more : (is_such : Move → Bool) (old now new : ℕ) (made more : List Move) → now ≡ count_on is_such old made → new ≡ count_on is_such now more → new ≡ count_on is_such old (made ++ more)
+count_more is_such old now new made more e f =
+    f ∙ ap (λ count. count_on is_such count more) e ∙ sym (fold-append (λ count move. counted (is_such move) count) old made more)
+
+pub Makes-nothing : (known : Known) → Makes known known []
+Makes-nothing known = record {
+  moves = Continues-nothing known.moves;
+  left = Consumes-nil known.left;
+  held = Appends-nil known.held;
+  failed_reads = refl;
+  failed_writes = refl;
+}
+
+pub Makes-more : (old now new : Known) (made more : List Move) → Makes old now made → Makes now new more → Makes old new (made ++ more)
+Makes-more old now new made more e f = record {
+  moves = Continues-more old.moves now.moves new.moves made more e.moves f.moves;
+  left = subst (Consumes old.left new.left) (sym (read-append made more)) (Consumes-trans old.left now.left new.left (read_in made) (read_in more) e.left f.left);
+  held = subst (Appends old.held new.held) (sym (written-append made more)) (Appends-trans old.held now.held new.held (written_in made) (written_in more) e.held f.held);
+  failed_reads = count_more is_failed_read old.failed_reads now.failed_reads new.failed_reads made more e.failed_reads f.failed_reads;
+  failed_writes = count_more is_failed_write old.failed_writes now.failed_writes new.failed_writes made more e.failed_writes f.failed_writes;
+}
 
 pub EndsWith-more : (IsSuch : Move → Type 0) (moves made : List Move) → EndsWith IsSuch made → EndsWith IsSuch (moves ++ made)
 EndsWith-more IsSuch moves made ends =

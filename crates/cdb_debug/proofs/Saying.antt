@@ -5,11 +5,11 @@ use Rattle.std.specs.List.{AllByRecursion}
 use Rattle.std.proofs.lemmas.List.{take_rest, take_all}
 use Rattle.std.proofs.Math.Seq.{take-add}
 use Rattle.cdb_debug.specs.Held.{Says}
-use Rattle.cdb_debug.specs.Moves.{Move, Wrote, written_in, taken_by, AsksForInput, AreWrites, FailsToWrite, Makes}
+use Rattle.cdb_debug.specs.Moves.{Known, Move, Wrote, written_in, taken_by, AsksForInput, AreWrites, FailsToWrite, Makes}
 use Rattle.cdb_debug.proofs.Ordered.{Makes-nothing, Makes-more, written-append}
 
 -- the first bytes of the text were taken
-pub record HasSaid (old now : Option (List Move)) (text : List ℕ) (done : ℕ) : Type 0 where
+pub record HasSaid (old now : Known) (text : List ℕ) (done : ℕ) : Type 0 where
   pub made : List Move
   pub makes : Makes old now made
   pub writes : AreWrites made
@@ -19,10 +19,10 @@ pub AreWrites-append : (made more : List Move) → AreWrites made → AreWrites 
 AreWrites-append [] more are others = others
 AreWrites-append (move ∷ made) more are others = (are.0, AreWrites-append made more are.1 others)
 
-pub nothing_said : (old : Option (List Move)) (text : List ℕ) → HasSaid old old text 0
+pub nothing_said : (old : Known) (text : List ℕ) → HasSaid old old text 0
 nothing_said old text = record { made = []; makes = Makes-nothing old; writes = tt; written = refl }
 
-module _ (old now new : Option (List Move)) (text : List ℕ) (done : ℕ) (so : HasSaid old now text done) where
+module _ (old now new : Known) (text : List ℕ) (done : ℕ) (so : HasSaid old now text done) where
   -- one piece more
   pub piece_said : (count : ℕ) → Makes now new (Wrote (take count (take (length text - done) (drop done text))) ∷ []) → HasSaid old new text (done + count)
   piece_said count more =
@@ -53,5 +53,5 @@ module _ (old now new : Option (List Move)) (text : List ℕ) (done : ℕ) (so :
   )
 
 -- all of it was taken
-pub all_said : (A E : Type 0) (a : A) (old now : Option (List Move)) (text : List ℕ) (done : ℕ) → HasSaid old now text done → length text ≤ done → Says {E = E} (Ok a) old now text
+pub all_said : (A E : Type 0) (a : A) (old now : Known) (text : List ℕ) (done : ℕ) → HasSaid old now text done → length text ≤ done → Says {E = E} (Ok a) old now text
 all_said A E a old now text done so all = (so.made, so.makes, so.writes, so.written ∙ take_all done text all)

@@ -8,7 +8,7 @@ use Rattle.cdb_play.specs.Faults.{of_output}
 use Rattle.cdb_setup.specs.Format.{longest}
 use Rattle.cdb_setup.specs.Parts.{Parts, IsWithin}
 use Rattle.cdb_debug.specs.Dialogues.{Session, begun, after, session_after, shown, dialogue}
-use Rattle.cdb_debug.specs.Moves.{Move, read_in, written_in, AreWrites, FailsToWrite, EndsWith, FindsTheEnd, Makes}
+use Rattle.cdb_debug.specs.Moves.{Known, Move, read_in, written_in, AreWrites, FailsToWrite, EndsWith, FindsTheEnd, Makes}
 use Rattle.cdb_debug.specs.Requests.{Asks, quit_line}
 use Rattle.cdb_debug.specs.Sessions.{most_input, AnswersInTime, IsSession}
 use Rattle.cdb_debug.specs.declared.request.Request.{Request}
@@ -20,7 +20,7 @@ IsSaid (Ok done) made text = written_in made ≡ text
 IsSaid (Err failed) made text = (missing : List ℕ) × (text ≡ written_in made ++ missing) × EndsWith FailsToWrite made
 
 -- a text was handed over
-abbrev pub Says : {A E : Type 0} → Result A E → Option (List Move) → Option (List Move) → List ℕ → Type 0
+abbrev pub Says : {A E : Type 0} → Result A E → Known → Known → List ℕ → Type 0
 Says result old new text = (made : List Move) × Makes old new made × AreWrites made × IsSaid result made text
 
 -- no byte ends a line
@@ -77,7 +77,7 @@ AnswersAs (Err output.Write) prompt old new held left made = IsLineBroken prompt
 AnswersAs (Err output.NoMemory) prompt old new held left made = made ≡ []
 
 -- a held line was answered
-abbrev pub AnswersHeld : Result Bool OutputFault → Option (List Move) → Option (List Move) → List ℕ → Session → Session → List ℕ → List ℕ → Type 0
+abbrev pub AnswersHeld : Result Bool OutputFault → Known → Known → List ℕ → Session → Session → List ℕ → List ℕ → Type 0
 AnswersHeld result before behind prompt old new held left =
     (made : List Move) × Makes before behind made × AnswersAs result prompt old new held left made
 
@@ -95,7 +95,7 @@ StandsAs (Ok true) prompt setup moves session held = IsSession prompt setup ende
 StandsAs (Err fault) prompt setup moves session held = IsSession prompt setup (ended_by fault) moves
 
 -- the bytes were looked at
-abbrev pub Hears : Result Bool OutputFault → Option (List Move) → Option (List Move) → List ℕ → Session → Session → List ℕ → List ℕ → List ℕ → Type 0
+abbrev pub Hears : Result Bool OutputFault → Known → Known → List ℕ → Session → Session → List ℕ → List ℕ → List ℕ → Type 0
 Hears result before behind prompt old new held left bytes =
     (setup : Parts) (moves : List Move) → IsAt prompt setup moves old held bytes
     → (made : List Move) × Makes before behind made × AreWrites made × StandsAs result prompt setup (moves ++ made) new left
@@ -105,12 +105,12 @@ abbrev pub IsOver : List Move → Type 0
 IsOver moves = FindsTheEnd moves ⊎ (most_input ≤ length (read_in moves))
 
 -- a last line that has not ended was answered
-abbrev pub AnswersLast : Result (Unit {0}) PlayFault → Option (List Move) → Option (List Move) → List ℕ → Session → List ℕ → Type 0
+abbrev pub AnswersLast : Result (Unit {0}) PlayFault → Known → Known → List ℕ → Session → List ℕ → Type 0
 AnswersLast result before behind prompt session held =
     (setup : Parts) (moves : List Move) → IsAt prompt setup moves session held [] → IsOver moves
     → (made : List Move) × Makes before behind made × IsSession prompt setup result (moves ++ made)
 
 -- all was answered from the first line on
-abbrev pub Converses : Result (Unit {0}) PlayFault → Option (List Move) → Option (List Move) → List ℕ → Session → Type 0
+abbrev pub Converses : Result (Unit {0}) PlayFault → Known → Known → List ℕ → Session → Type 0
 Converses result before behind prompt session =
     (setup : Parts) → session ≡ begun setup → (made : List Move) × Makes before behind made × IsSession prompt setup result made

@@ -1,6 +1,8 @@
 -- What a session and its outside did, in the order in which they did it.
-use Rattle.std.specs.Prelude.{◌≡◌, ℕ, List, [], ◌∷◌, ◌++◌, take, Option, Some, None, Result, Ok, Err}
+use Rattle.std.specs.Prelude.{◌≡◌, ℕ, ◌==◌, Bool, true, false, List, [], ◌∷◌, ◌++◌, length, take, fold, Option, Some, None, Result, Ok, Err}
+use Rattle.std.specs.Io.KnownBytes.{Appends, Consumes}
 use Rattle.std.specs.List.{AllByRecursion, flat_map}
+use Rattle.cdb_play.specs.Streams.{counted}
 
 -- The session asked for input, and was given these bytes, none at the end of input; or the reading failed. Or it handed
 -- a text over, of which these first bytes were taken; or the writing failed.
@@ -68,8 +70,45 @@ abbrev pub move_of_write : {E : Type 0} → Result ℕ E → List ℕ → Move
 move_of_write (Ok count) piece = Wrote (take count piece)
 move_of_write (Err failed) piece = WriteFailed
 
+-- ---- what is known of whom a session talks with
+
+-- What the session read from it and wrote to it, in order, where that is known; the bytes that it has left, and those that
+-- it was written, where they are known; and how many of its reads and of its writes failed, each in 64 bits
+pub record Known : Type 0 where
+  pub moves : Option (List Move)
+  pub left : Option (List ℕ)
+  pub held : Option (List ℕ)
+  pub failed_reads : ℕ
+  pub failed_writes : ℕ
+
+-- the move is a read that failed
+abbrev pub is_failed_read : Move → Bool
+is_failed_read (Read bytes) = false
+is_failed_read ReadFailed = true
+is_failed_read (Wrote bytes) = false
+is_failed_read WriteFailed = false
+
+-- the move is a write that failed, with an error or by taking nothing
+abbrev pub is_failed_write : Move → Bool
+is_failed_write (Read bytes) = false
+is_failed_write ReadFailed = false
+is_failed_write (Wrote bytes) = length bytes == 0
+is_failed_write WriteFailed = true
+
+-- a count of such moves, once these were made too
+abbrev pub count_on : (Move → Bool) → ℕ → List Move → ℕ
+count_on is_such count moves = fold (λ count move. counted (is_such move) count) count moves
+
 -- where the moves before were known, these were made after them
-abbrev pub Makes : Option (List Move) → Option (List Move) → List Move → Type 0
-Makes None new made = Unit {0}
-Makes (Some old) None made = ⊥
-Makes (Some old) (Some new) made = new ≡ old ++ made
+abbrev pub Continues : Option (List Move) → Option (List Move) → List Move → Type 0
+Continues None new made = Unit {0}
+Continues (Some old) None made = ⊥
+Continues (Some old) (Some new) made = new ≡ old ++ made
+
+-- these moves led from what was known before to what is known after
+pub record Makes (old new : Known) (made : List Move) : Type 0 where
+  pub moves : Continues old.moves new.moves made
+  pub left : Consumes old.left new.left (read_in made)
+  pub held : Appends old.held new.held (written_in made)
+  pub failed_reads : new.failed_reads ≡ count_on is_failed_read old.failed_reads made
+  pub failed_writes : new.failed_writes ≡ count_on is_failed_write old.failed_writes made

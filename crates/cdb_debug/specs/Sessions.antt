@@ -7,7 +7,7 @@ use Rattle.cdb_setup.specs.Format.{StandsFor}
 use Rattle.cdb_setup.specs.Order.{IsFirstFault}
 use Rattle.cdb_setup.specs.Parts.{Parts}
 use Rattle.cdb_debug.specs.Dialogues.{IsDialogue}
-use Rattle.cdb_debug.specs.Moves.{Move, ReadFailed, read_in, written_in, AsksForInput, FailsToWrite, EndsWith, FindsTheEnd, Makes}
+use Rattle.cdb_debug.specs.Moves.{Known, Move, ReadFailed, read_in, written_in, AsksForInput, FailsToWrite, EndsWith, FindsTheEnd, Makes}
 use Rattle.cdb_debug.specs.Requests.{ended_lines, HaveQuit}
 
 -- the most bytes that a session reads, which no input has in practice
@@ -83,5 +83,5 @@ HasDebugged {A} prompt json (Err fault.NoMemory) moves =
 HasDebugged prompt json returned moves = IsSessionOn prompt json returned moves
 
 -- the moves that the call has made, where those before were known, are such
-abbrev pub Debugs : {A : Type 0} → List ℕ → List ℕ → Result A PlayFault → Option (List Move) → Option (List Move) → Type 0
+abbrev pub Debugs : {A : Type 0} → List ℕ → List ℕ → Result A PlayFault → Known → Known → Type 0
 Debugs prompt json returned old new = (made : List Move) × Makes old new made × HasDebugged prompt json returned made

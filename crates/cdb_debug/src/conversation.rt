@@ -26,7 +26,7 @@ fn answer_last<T: Talk>(
     talk: &mut T,
 ) -> Result<(), PlayFault>
     requires { session.old.lines < 2 ^ 64 - 1 }
-    ensures { AnswersLast result (T.moves talk.old) (T.moves talk.new)
+    ensures { AnswersLast result (T.known talk.old) (T.known talk.new)
         prompt.now session.old held.items }
 {
     if held.is_empty() {
@@ -44,7 +44,7 @@ fn converse<T: Talk>(
     talk: &mut T,
 ) -> Result<(), PlayFault>
     requires { session.old.lines ≡ 0 }
-    ensures { Converses result (T.moves talk.old) (T.moves talk.new) prompt.now session.old }
+    ensures { Converses result (T.known talk.old) (T.known talk.new) prompt.now session.old }
 {
     let Ok(()) = say(talk, prompt) else {
         return Err(PlayFault::Write);
@@ -81,7 +81,7 @@ pub fn debug<T: Talk>(
     prompt: &[u8],
     talk: &mut T,
 ) -> Result<(), PlayFault>
-    ensures { Debugs prompt.now setup.now result (T.moves talk.old) (T.moves talk.new) }
+    ensures { Debugs prompt.now setup.now result (T.known talk.old) (T.known talk.new) }
 {
     let setup = Setup::read(alloc, setup)?;
     let Ok(mut session) = Session::begin(alloc, setup) else {

@@ -11,7 +11,7 @@ use crate::talk::{Talk, say};
 use cdb_play::OutputFault;
 use std::alloc::Global;
 
-/// Answers the line that is held, and holds nothing then. Tells whether the line was `quit`.
+/// Answers the line that is held, and holds nothing then. Returns whether the line was `quit`.
 pub(crate) fn answer_held<T: Talk>(
     alloc: Global,
     prompt: &[u8],
@@ -20,7 +20,7 @@ pub(crate) fn answer_held<T: Talk>(
     talk: &mut T,
 ) -> Result<bool, OutputFault>
     requires { session.old.lines < 2 ^ 64 - 1 }
-    ensures { AnswersHeld result (T.moves talk.old) (T.moves talk.new)
+    ensures { AnswersHeld result (T.known talk.old) (T.known talk.new)
         prompt.now session.old session.new held.old.items held.new.items }
 {
     let request = request_of(held.as_slice());
@@ -30,7 +30,7 @@ pub(crate) fn answer_held<T: Talk>(
     Ok(request == Request::Quit)
 }
 
-/// Answers each line that ends in these bytes, up to `quit`, and holds what follows the last. Tells whether one was
+/// Answers each line that ends in these bytes, up to `quit`, and holds what follows the last. Returns whether one was
 /// `quit`.
 pub(crate) fn hear<T: Talk>(
     alloc: Global,
@@ -42,7 +42,7 @@ pub(crate) fn hear<T: Talk>(
 ) -> Result<bool, OutputFault>
     requires lines { session.old.lines + length bytes.now < 2 ^ 64 }
     requires held { length held.old.items ≤ longest + 1 }
-    ensures heard { Hears result (T.moves talk.old) (T.moves talk.new)
+    ensures heard { Hears result (T.known talk.old) (T.known talk.new)
         prompt.now session.old session.new held.old.items held.new.items bytes.now }
     ensures held { OnOk result (length held.new.items ≤ longest + 1) }
     ensures lines { OnOk result (session.new.lines ≤ session.old.lines + length bytes.now) }

@@ -1,19 +1,16 @@
 //! A reader and a writer as the two halves of a talk.
 
-ghost use Rattle.std.specs.Prelude.{◌≡◌, ◌∷◌, [], None};
-ghost use Rattle.std.specs.Io.{ReadsAtMost, WritesAtMost};
-ghost use Rattle.std.specs.Io.KnownBytes.{ReadConsumes, WriteAppends};
-ghost use Rattle.cdb_debug.specs.Moves.{Makes, move_of_read, move_of_write};
+ghost use Rattle.std.specs.Prelude.{◌≡◌};
 
 use crate::talk::Talk;
 use cdb_play::{Failed, Sink, Source};
 
-/// A session reads from the one and writes to the other. In which order that was, only the two together know, so no
-/// moves of it are known.
+/// A session reads from the one and writes to the other. In which order that was, only the two together know, so of its
+/// moves it is known what they read and wrote, and which failed, and not their order.
 #[derive(Drop)]
 pub struct Streams<R: Source + Drop, W: Sink + Drop> {
-    input: R,
-    output: W,
+    pub input: R,
+    pub output: W,
 }
 
 impl<R: Source + Drop, W: Sink + Drop> Streams<R, W> {
@@ -29,25 +26,19 @@ impl<R: Source + Drop, W: Sink + Drop> Streams<R, W> {
 impl<R: Source + Drop, W: Sink + Drop> Talk for Streams<R, W> {
     ghost use Rattle.std.specs.Prelude.{None};
 
-    ghost moves = { λ _. None };
+    ghost known = { λ streams. record {
+      moves = None;
+      left = R.remaining streams.input;
+      held = W.contents streams.output;
+      failed_reads = R.failures streams.input;
+      failed_writes = W.failures streams.output;
+    } };
 
-    fn read(&mut self, buffer: &mut [u8]) -> Result<usize, Failed>
-        ensures within { ReadsAtMost result buffer.new }
-        ensures moves { Makes None None (move_of_read result buffer.new ∷ []) }
-        ensures bytes { ReadConsumes
-            (R.remaining self.old.input) (R.remaining self.new.input) result buffer.new }
-        ensures output { self.new.output ≡ self.old.output }
-    {
+    fn read(&mut self, buffer: &mut [u8]) -> Result<usize, Failed> {
         self.input.read(buffer)
     }
 
-    fn write(&mut self, piece: &[u8]) -> Result<usize, Failed>
-        ensures within { WritesAtMost result piece.now }
-        ensures moves { Makes None None (move_of_write result piece.now ∷ []) }
-        ensures bytes { WriteAppends
-            (W.contents self.old.output) (W.contents self.new.output) result piece.now }
-        ensures input { self.new.input ≡ self.old.input }
-    {
+    fn write(&mut self, piece: &[u8]) -> Result<usize, Failed> {
         self.output.write(piece)
     }
 }

@@ -3,3 +3,4 @@ pub mod Growing
 pub mod Sending
 pub mod Parted
 pub mod Drawing
+pub mod Bounded

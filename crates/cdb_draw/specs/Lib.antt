@@ -6,5 +6,6 @@ pub mod Arrows
 pub mod EventMarks
 pub mod Picture
 pub mod Written
+pub mod Drawn
 -- ---- what the code keeps for itself
 pub mod Sends

@@ -8,7 +8,9 @@ mod layout;
 mod mark;
 mod picture;
 mod piece;
+mod script;
 mod sends;
 pub mod style;
 
 pub use draws::draw_run;
+pub use script::{StepAsked, draw};

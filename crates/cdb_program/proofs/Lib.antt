@@ -3,3 +3,4 @@ pub mod Seen
 pub mod Raced
 pub mod Reported
 pub mod Explained
+pub mod Drawn

@@ -16,7 +16,7 @@ use Rattle.cdb_program.specs.Playing.{IsPlay}
 use Rattle.cdb_program.specs.Streaming.{stream_of}
 
 module _ {W : Type 0} (held : W → Option (List ℕ)) (failed : W → ℕ) (IsText : List ℕ → Type 0) where
-  play_wrote : (played : Result (Unit {0}) PlayFault) (old new : W) → PlayWrites held failed played old new IsText → PlayWrites contents failures played (stream_of held failed old) (stream_of held failed new) IsText
+  pub play_wrote : (played : Result (Unit {0}) PlayFault) (old new : W) → PlayWrites held failed played old new IsText → PlayWrites contents failures played (stream_of held failed old) (stream_of held failed new) IsText
   play_wrote (Ok done) old new wrote = wrote
   play_wrote (Err play.Write) old new wrote = wrote
   play_wrote (Err play.NoMemory) old new (inl same) = inl (ap (stream_of held failed) same)

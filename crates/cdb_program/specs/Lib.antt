@@ -7,6 +7,8 @@ pub mod Reports
 pub mod Playing
 pub mod Racing
 pub mod Explaining
+pub mod Drawing
+pub mod Debugging
 pub mod Requests
 -- what the code keeps for itself
 pub mod Streaming

@@ -2,6 +2,8 @@
 use Rattle.std.specs.Prelude.{◌≡◌, ℕ, ◌≤◌, List, Ok, Err}
 use Rattle.cdb_play.specs.Streams.{Takes, Fails}
 use Rattle.cdb_play.specs.declared.fault.PlayFault.TheVariants.{Write}
+use Rattle.cdb_program.specs.Debugging.{DebugsFile}
+use Rattle.cdb_program.specs.Drawing.{DrawsFiles}
 use Rattle.cdb_program.specs.Explaining.{ExplainsFiles}
 use Rattle.cdb_program.specs.Known.{Seen, Stream, contents, failures}
 use Rattle.cdb_program.specs.Outcomes.{Outcome}
@@ -34,6 +36,8 @@ Does request.Script old new outcome = PlaysInput old new outcome
 Does (request.Play setup script) old new outcome = PlaysFiles setup.now script.now old new outcome
 Does (request.Race setup turns scripts) old new outcome = RacesFiles setup.now turns (texts scripts.now) old new outcome
 Does (request.Explain setup script p k) old new outcome = ExplainsFiles setup.now script.now p k old new outcome
+Does (request.Draw setup script step) old new outcome = DrawsFiles setup.now script.now step old new outcome
+Does (request.Debug setup prompt) old new outcome = DebugsFile setup.now prompt.now old new outcome
 Does (request.Print text) old new outcome = ReadsNothing old new × Prints text.now old.output new.output outcome
 Does (request.Refuse fault) old new outcome = ReadsNothing old new × (new.output ≡ old.output) × (outcome ≡ Err fault)
 

@@ -32,7 +32,7 @@ pub fn explain_files<'a, F: Files + Drop, I: Source + Drop, O: Sink + Drop, E: S
         &mut commands,
         p,
         k,
-        &mut outside.output,
+        &mut outside.streams.output,
     );
     of_explain(explained, script)
 }

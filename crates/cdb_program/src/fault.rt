@@ -12,7 +12,7 @@ pub enum Fault<'a> {
     /// A fault of a play, or of what was to be read for a play or a race, which has this name.
     Play(PlayFault, &'a str),
     Race(RaceFault),
-    /// The step that was to be explained doesn't stand.
+    /// The step that was to be explained or drawn doesn't stand.
     NoStep,
     /// A race of more than 64 processes and scripts.
     TooManySeats,
@@ -59,7 +59,7 @@ pub fn of_race<'a>(raced: Result<(), RaceFault>) -> Result<(), Fault<'a>>
     }
 }
 
-/// How a request ended that explained a step of the run that the script of this name leaves.
+/// How a request ended that explained a step of the run that the script of this name leaves, or drew that run.
 pub fn of_explain<'a>(explained: Result<(), ExplainFault>, name: &'a str) -> Result<(), Fault<'a>>
     ensures { IsOfExplain name.entry.now explained result }
 {

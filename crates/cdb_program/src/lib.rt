@@ -1,6 +1,8 @@
 //! What the program `revdbg` does with a request, over an outside of files, standard input and two outputs.
 #![tactic(auto)]
 
+mod debugs;
+mod draws;
 mod explains;
 mod fault;
 mod files;

@@ -3,6 +3,7 @@
 ghost use Rattle.cdb_program.specs.Known.{Seen};
 
 use crate::files::Files;
+use cdb_debug::Streams;
 use cdb_play::{Sink, Source};
 use std::marker::Model;
 
@@ -10,8 +11,8 @@ use std::marker::Model;
 #[derive(Drop)]
 pub struct Outside<F: Files + Drop, I: Source + Drop, O: Sink + Drop, E: Sink + Drop> {
     pub files: F,
-    pub input: I,
-    pub output: O,
+    /// Standard input and standard output, over which a session can be held.
+    pub streams: Streams<I, O>,
     pub error: E,
 }
 
@@ -21,8 +22,14 @@ impl<F: Files + Drop, I: Source + Drop, O: Sink + Drop, E: Sink + Drop> Model
 
     ghost view = { λ outside. record {
       files = F.seen outside.files;
-      input = record { bytes = I.remaining outside.input; failures = I.failures outside.input };
-      output = record { bytes = O.contents outside.output; failures = O.failures outside.output };
+      input = record {
+        bytes = I.remaining outside.streams.input;
+        failures = I.failures outside.streams.input;
+      };
+      output = record {
+        bytes = O.contents outside.streams.output;
+        failures = O.failures outside.streams.output;
+      };
       error = record { bytes = E.contents outside.error; failures = E.failures outside.error };
     } };
 }

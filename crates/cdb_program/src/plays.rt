@@ -21,7 +21,8 @@ pub fn play_input<F: Files + Drop, I: Source + Drop, O: Sink + Drop, E: Sink + D
     ensures does { PlaysInput outside.old outside.new result }
     ensures error { outside.new.error ≡ outside.old.error }
 {
-    let played = play(alloc, ONE_PROCESS, &mut outside.input, &mut outside.output);
+    let streams = &mut outside.streams;
+    let played = play(alloc, ONE_PROCESS, &mut streams.input, &mut streams.output);
     of_play(played, "standard input")
 }
 
@@ -37,6 +38,11 @@ pub fn play_files<'a, F: Files + Drop, I: Source + Drop, O: Sink + Drop, E: Sink
 {
     let (json, bytes) = read_two(alloc, &mut outside.files, setup, script)?;
     let mut commands = Bytes::new(bytes.as_slice());
-    let played = play(alloc, json.as_slice(), &mut commands, &mut outside.output);
+    let played = play(
+        alloc,
+        json.as_slice(),
+        &mut commands,
+        &mut outside.streams.output,
+    );
     of_play(played, script)
 }

@@ -67,6 +67,6 @@ pub fn race_files<
         json.as_slice(),
         turns,
         contents.as_slice(),
-        &mut outside.output,
+        &mut outside.streams.output,
     )
 }

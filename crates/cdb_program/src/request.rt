@@ -4,6 +4,8 @@ ghost use Rattle.std.specs.Prelude.{◌≡◌, ◌≤◌};
 ghost use Rattle.cdb_program.specs.Requests.{Does, Performs, Prints, HasTurns};
 ghost use Rattle.cdb_program.specs.Streaming.{stream_of};
 
+use crate::debugs::debug_file;
+use crate::draws::draw_files;
 use crate::explains::explain_files;
 use crate::fault::Fault;
 use crate::files::Files;
@@ -11,6 +13,7 @@ use crate::outside::Outside;
 use crate::plays::{play_files, play_input};
 use crate::races::race_files;
 use crate::reports::report;
+use cdb_draw::StepAsked;
 use cdb_play::{PlayFault, Sink, Source, write_all};
 use std::alloc::Global;
 use std::sync::Wait;
@@ -39,6 +42,18 @@ pub enum Request<'a> {
         script: &'a str,
         p: u32,
         k: Option<u32>,
+    },
+    /// Draws the run that a script file leaves on a setup file; with a step what led to it in full, and the rest pale.
+    Draw {
+        setup: &'a str,
+        script: &'a str,
+        step: Option<StepAsked>,
+    },
+    /// Holds a session on a run of a setup file over standard input and standard output, with this prompt before each
+    /// line.
+    Debug {
+        setup: &'a str,
+        prompt: &'a str,
     },
     /// Writes a text to standard output.
     Print(&'a str),
@@ -86,7 +101,13 @@ fn carry_out<
             p,
             k,
         } => explain_files(alloc, setup, script, p, k, outside),
-        Request::Print(text) => print(text, &mut outside.output),
+        Request::Draw {
+            setup,
+            script,
+            step,
+        } => draw_files(alloc, setup, script, step, outside),
+        Request::Debug { setup, prompt } => debug_file(alloc, setup, prompt, outside),
+        Request::Print(text) => print(text, &mut outside.streams.output),
         Request::Refuse(fault) => Err(fault),
     }
 }

@@ -24,15 +24,24 @@ struct Person<'a> {
     asked_at: Vec<usize>,
     good_reads: usize,
     good_writes: usize,
+    failed_reads: u64,
+    failed_writes: u64,
 }
 
 impl<'a> Talk for Person<'a> {
     ghost use Rattle.std.specs.Prelude.{None};
 
-    ghost moves = { λ _. None };
+    ghost known = { λ person. record {
+      moves = None;
+      left = None;
+      held = None;
+      failed_reads = person.failed_reads;
+      failed_writes = person.failed_writes;
+    } };
 
     fn read(&mut self, buffer: &mut [u8]) -> Result<usize, Failed> {
         if self.asked_at.push(self.said.len()).is_err() || self.good_reads == 0 {
+            self.failed_reads = self.failed_reads.wrapping_add(1);
             return Err(Failed);
         }
         self.good_reads -= 1;
@@ -43,15 +52,14 @@ impl<'a> Talk for Person<'a> {
     }
 
     fn write(&mut self, piece: &[u8]) -> Result<usize, Failed> {
-        if self.good_writes == 0 {
+        let count = piece.len().min(self.most);
+        let is_good = self.good_writes > 0 && count > 0;
+        if !is_good || self.said.extend_from_slice(&piece[..count]).is_err() {
+            self.failed_writes = self.failed_writes.wrapping_add(1);
             return Err(Failed);
         }
         self.good_writes -= 1;
-        let count = piece.len().min(self.most);
-        match self.said.extend_from_slice(&piece[..count]) {
-            Ok(()) => Ok(count),
-            Err(_) => Err(Failed),
-        }
+        Ok(count)
     }
 }
 
@@ -64,6 +72,8 @@ fn at_prompt<'a>(rt: &impl AllocGlobal, lines: &'a [u8], most: usize) -> Person<
         asked_at: Vec::new(rt.alloc()),
         good_reads: usize::MAX,
         good_writes: usize::MAX,
+        failed_reads: 0,
+        failed_writes: 0,
     }
 }
 

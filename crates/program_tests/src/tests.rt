@@ -7,6 +7,7 @@ mod files;
 mod requests;
 mod streams;
 
+use cdb_debug::Streams;
 use cdb_program::{Outside, Request, perform};
 use files::{FILES, Folder};
 use std::alloc::AllocError;
@@ -55,17 +56,19 @@ fn performed<R: Threads + Wait + Sync + AllocGlobal>(
     let alloc = rt.alloc();
     let mut outside = Outside {
         files: Folder::new(alloc, FILES, good.files),
-        input: Reader::new(input.as_bytes(), good.input),
-        output: Writer::new(alloc, good.output),
+        streams: Streams::new(
+            Reader::new(input.as_bytes(), good.input),
+            Writer::new(alloc, good.output),
+        ),
         error: Writer::new(alloc, good.error),
     };
     let status = perform(rt, alloc, request, &mut outside);
     let Outside {
         files,
-        input,
-        output,
+        streams,
         error,
     } = outside;
+    let Streams { input, output } = streams;
     let failures = [
         files.failures,
         input.failures,

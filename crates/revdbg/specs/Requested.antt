@@ -1,20 +1,21 @@
 -- What the arguments request, and that it is performed.
-use Rattle.std.specs.Prelude.{◌≡◌, ◌≢◌, ◌⊎◌, ◌∷◌, ℕ, List, [], Option, codes}
+use Rattle.std.specs.Prelude.{◌≡◌, ◌≢◌, ◌⊎◌, ◌∷◌, ℕ, List, [], Option, codes, option_map}
 use Rattle.std.specs.declared.io.ErrorKind.{ErrorKind as IoKind}
 use Rattle.std.specs.declared.io.ErrorKind.TheVariants as io_kind
 use Rattle.clap.specs.Words.{Kinds, IsAmong, Row, Text, fault_of, subcommand_of}
 use Rattle.clap.specs.declared.error.kind.ErrorKind.{ErrorKind}
 use Rattle.cdb_arguments.specs.Asking.{Asks, texts, words_status}
 use Rattle.cdb_arguments.specs.CommandLine.{program}
-use Rattle.cdb_arguments.specs.Plain.{IsNameAlone, IsPlayLine, IsRaceLine, IsExplainLine}
+use Rattle.cdb_arguments.specs.Plain.{IsNameAlone, IsPlayLine, IsRaceLine, IsExplainLine, IsDrawLine, IsDebugLine}
 use Rattle.cdb_arguments.specs.declared.request.Asked.{Asked}
 use Rattle.cdb_arguments.specs.declared.request.Asked.TheVariants as asked
+use Rattle.cdb_draw.specs.declared.script.StepAsked.{StepAsked}
 use Rattle.cdb_play.specs.declared.fault.PlayFault.TheVariants.{NoMemory}
 use Rattle.cdb_program.specs.Known.{Seen}
 use Rattle.cdb_program.specs.Requests.{Performs}
 use Rattle.cdb_program.specs.declared.fault.Fault.TheVariants as fault
 use Rattle.cdb_program.specs.declared.request.Request.{Request}
-use Rattle.cdb_program.specs.declared.request.Request.TheVariants.{Script, Play, Race, Explain, Print, Refuse}
+use Rattle.cdb_program.specs.declared.request.Request.TheVariants.{Script, Play, Race, Explain, Draw, Debug, Print, Refuse}
 
 -- a play of these two files
 abbrev pub IsPlay : Text → Text → Request → Type 0
@@ -33,16 +34,33 @@ IsExplain setup script p k (Explain its_setup its_script its_p its_k) =
     (its_setup.now ≡ setup) × (its_script.now ≡ script) × (its_p ≡ p) × (its_k ≡ k)
 IsExplain setup script p k request = ⊥
 
--- the request for what was asked for
-abbrev pub IsRequestOf : Asked → Request → Type 0
-IsRequestOf asked.Script request = request ≡ Script
-IsRequestOf (asked.Play setup script) request = IsPlay setup.now script.now request
-IsRequestOf (asked.Race setup turns scripts) request = IsRace setup.now turns (texts scripts.items) request
-IsRequestOf (asked.Explain setup script p k) request = IsExplain setup.now script.now p k request
+-- the step of process p, the k-th where a number is given
+abbrev pub step_asked : Option ℕ → ℕ → StepAsked
+step_asked k p = record { p = p; k = k }
+
+-- the picture of the run of these two files, with what led to the step in full where one is given
+abbrev pub IsDraw : Text → Text → Option ℕ → Option ℕ → Request → Type 0
+IsDraw setup script p k (Draw its_setup its_script its_step) =
+    (its_setup.now ≡ setup) × (its_script.now ≡ script) × (its_step ≡ option_map (step_asked k) p)
+IsDraw setup script p k request = ⊥
+
+-- a session on a run of this file, with this prompt
+abbrev pub IsDebug : Text → Text → Request → Type 0
+IsDebug prompt setup (Debug its_setup its_prompt) = (its_setup.now ≡ setup) × (its_prompt.now ≡ prompt)
+IsDebug prompt setup request = ⊥
+
+-- the request for what was asked for, where sessions have this prompt
+abbrev pub IsRequestOf : Text → Asked → Request → Type 0
+IsRequestOf prompt asked.Script request = request ≡ Script
+IsRequestOf prompt (asked.Play setup script) request = IsPlay setup.now script.now request
+IsRequestOf prompt (asked.Race setup turns scripts) request = IsRace setup.now turns (texts scripts.items) request
+IsRequestOf prompt (asked.Explain setup script p k) request = IsExplain setup.now script.now p k request
+IsRequestOf prompt (asked.Draw setup script p k) request = IsDraw setup.now script.now p k request
+IsRequestOf prompt (asked.Debug setup) request = IsDebug prompt setup.now request
 
 -- the request for what the subcommand that `clap` found asks for
-abbrev pub IsRequested : Option (Text × List Row) → Request → Type 0
-IsRequested found request = (it : Asked) × Asks found it × IsRequestOf it request
+abbrev pub IsRequested : Text → Option (Text × List Row) → Request → Type 0
+IsRequested prompt found request = (it : Asked) × Asks found it × IsRequestOf prompt it request
 
 -- help or the version is printed where that was asked for, else the text of what is wrong is reported
 abbrev pub IsRefusal : Kinds → Request → Type 0
@@ -60,15 +78,18 @@ abbrev pub PerformsOne : (Request → Type 0) → Seen → Seen → ℕ → Type
 PerformsOne IsIt old new status = (request : Request) × (IsIt request ⊎ IsOutOfMemory request) × Performs request old new status
 
 -- Of arguments with these texts, the program's name first, what they ask for was performed. Plain ones are told without the terms
--- of `clap`.
-pub record PerformsAsked (words : List Text) (old new : Seen) (status : ℕ) : Type 0 where
+-- of `clap`. A session has this prompt.
+pub record PerformsAsked (prompt : Text) (words : List Text) (old new : Seen) (status : ℕ) : Type 0 where
   pub script : IsNameAlone words → PerformsOne (λ it. it ≡ Script) old new status
   pub play : (setup script : Text) → IsPlayLine words setup script → PerformsOne (IsPlay setup script) old new status
   pub race : (setup : Text) (turns : ℕ) (script : Text) (more : List Text)
       → IsRaceLine words setup turns script more → PerformsOne (IsRace setup turns (script ∷ more)) old new status
   pub explain : (setup script : Text) (p : ℕ) (k : Option ℕ)
       → IsExplainLine words setup script p k → PerformsOne (IsExplain setup script p k) old new status
-  pub taken : fault_of program words ≡ [] → PerformsOne (IsRequested (subcommand_of program words)) old new status
+  pub draw : (setup script : Text) (p k : Option ℕ)
+      → IsDrawLine words setup script p k → PerformsOne (IsDraw setup script p k) old new status
+  pub debug : (setup : Text) → IsDebugLine words setup → PerformsOne (IsDebug prompt setup) old new status
+  pub taken : fault_of program words ≡ [] → PerformsOne (IsRequested prompt (subcommand_of program words)) old new status
   pub refused : fault_of program words ≢ [] → PerformsOne (IsRefusal (fault_of program words)) old new status
 
 -- what is performed where the arguments could not be read: an allocation failed, or one is no text

@@ -4,12 +4,17 @@
 mod run;
 mod system_files;
 
+use cdb_debug::Streams;
 use cdb_play::{Input, Output};
 use cdb_program::Outside;
 use run::begin;
+use std::io::IsTerminal;
 use std::process::ExitCode;
 use std::{env, io};
 use system_files::SystemFiles;
+
+/// What a session shows before each line, at a terminal.
+const PROMPT: &str = "> ";
 
 /// The arguments of the command line, the program's name first.
 fn words_of(rt: &HostRuntime) -> io::Result<Vec<String>> {
@@ -20,9 +25,10 @@ fn words_of(rt: &HostRuntime) -> io::Result<Vec<String>> {
 fn main(rt: HostRuntime) -> ExitCode {
     let mut outside = Outside {
         files: SystemFiles::new(&rt),
-        input: Input::new(rt.reader()),
-        output: Output::new(io::writer(&rt)),
+        streams: Streams::new(Input::new(rt.reader()), Output::new(io::writer(&rt))),
         error: Output::new(rt.stderr()),
     };
-    ExitCode::from(begin(&rt, rt.alloc(), words_of(&rt), &mut outside))
+    let prompt = if rt.stdin().is_terminal() { PROMPT } else { "" };
+    let status = begin(&rt, rt.alloc(), prompt, words_of(&rt), &mut outside);
+    ExitCode::from(status)
 }

@@ -8,6 +8,7 @@ ghost use Rattle.cdb_program.specs.Requests.{HasTurns};
 ghost use Rattle.revdbg.specs.Requested.{IsOutOfMemory, IsRefusal, IsRequestOf, IsUnread, PerformsAsked, PerformsOne};
 
 use cdb_arguments::{AskFault, Asked, ask_status, asked};
+use cdb_draw::StepAsked;
 use cdb_play::{PlayFault, Sink, Source};
 use cdb_program::{Fault, Files, Outside, Request, perform};
 use std::alloc::{AllocError, Global};
@@ -27,9 +28,9 @@ fn no_memory() -> Request<'static>
     Request::Refuse(Fault::Play(PlayFault::NoMemory, ""))
 }
 
-/// The request for what was asked for.
-fn request_of<'a>(asked: &'a Asked<'a>) -> Request<'a>
-    ensures request { IsRequestOf asked.now result }
+/// The request for what was asked for, where sessions have this prompt.
+fn request_of<'a>(asked: &'a Asked<'a>, prompt: &'a str) -> Request<'a>
+    ensures request { IsRequestOf prompt.now asked.now result }
     ensures turns { (found : Option (Text × List Row)) → Asks found asked.now → HasTurns result }
 {
     match asked {
@@ -55,6 +56,17 @@ fn request_of<'a>(asked: &'a Asked<'a>) -> Request<'a>
             p: *p,
             k: *k,
         },
+        Asked::Draw {
+            setup,
+            script,
+            p,
+            k,
+        } => Request::Draw {
+            setup,
+            script,
+            step: p.map(|p| StepAsked { p, k: *k }),
+        },
+        Asked::Debug { setup } => Request::Debug { setup, prompt },
     }
 }
 
@@ -65,11 +77,17 @@ fn perform_asked<
     I: Source + Drop,
     O: Sink + Drop,
     E: Sink + Drop,
->(threads: &R, alloc: Global, asked: &Asked<'_>, outside: &mut Outside<F, I, O, E>) -> u8
+>(
+    threads: &R,
+    alloc: Global,
+    prompt: &str,
+    asked: &Asked<'_>,
+    outside: &mut Outside<F, I, O, E>,
+) -> u8
     requires { (found : Option (Text × List Row)) × Asks found asked.now }
-    ensures { PerformsOne (IsRequestOf asked.now) outside.old outside.new result }
+    ensures { PerformsOne (IsRequestOf prompt.now asked.now) outside.old outside.new result }
 {
-    perform(threads, alloc, request_of(asked), outside)
+    perform(threads, alloc, request_of(asked, prompt), outside)
 }
 
 /// The text that says what is wrong with the arguments, or help or the version.
@@ -111,17 +129,18 @@ fn refuse<
 }
 
 /// Performs what the arguments ask for, of which the first is the program's name, and returns the status with which
-/// the program ends.
+/// the program ends. A session shows this prompt before each line.
 fn run<R: Threads + Wait + Sync, F: Files + Drop, I: Source + Drop, O: Sink + Drop, E: Sink + Drop>(
     threads: &R,
     alloc: Global,
+    prompt: &str,
     words: &[&str],
     outside: &mut Outside<F, I, O, E>,
 ) -> u8
-    ensures { PerformsAsked (texts words.entry.now) outside.old outside.new result }
+    ensures { PerformsAsked prompt.now (texts words.entry.now) outside.old outside.new result }
 {
     match asked(alloc, words) {
-        Ok(asked) => perform_asked(threads, alloc, &asked, outside),
+        Ok(asked) => perform_asked(threads, alloc, prompt, &asked, outside),
         Err(fault) => refuse(threads, alloc, &fault, outside),
     }
 }
@@ -149,7 +168,7 @@ fn unread(error: &io::Error) -> Request<'static>
 }
 
 /// Performs what the arguments ask for, as they were read from the system, or reports that they could not be read; and
-/// returns the status with which the program ends.
+/// returns the status with which the program ends. A session shows this prompt before each line.
 pub fn begin<
     R: Threads + Wait + Sync,
     F: Files + Drop,
@@ -159,10 +178,11 @@ pub fn begin<
 >(
     threads: &R,
     alloc: Global,
+    prompt: &str,
     words: io::Result<Vec<String>>,
     outside: &mut Outside<F, I, O, E>,
 ) -> u8
-    ensures asked { IfOk words (λ words. PerformsAsked (map string_bytes words.items)
+    ensures asked { IfOk words (λ words. PerformsAsked prompt.now (map string_bytes words.items)
         outside.old outside.new result) }
     ensures unread { IfErr words (λ error. PerformsOne (IsUnread (error_kind error))
         outside.old outside.new result) }
@@ -172,7 +192,7 @@ pub fn begin<
         Err(error) => return perform(threads, alloc, unread(&error), outside),
     };
     match texts_of(alloc, words.as_slice()) {
-        Ok(texts) => run(threads, alloc, texts.as_slice(), outside),
+        Ok(texts) => run(threads, alloc, prompt, texts.as_slice(), outside),
         Err(_) => perform(threads, alloc, no_memory(), outside),
     }
 }

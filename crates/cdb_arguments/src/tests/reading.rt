@@ -65,6 +65,34 @@ fn words_of_an_explanation(rt: HostRuntime) {
     assert_eq!(rt; k, Some(11));
 }
 
+#[test]
+fn words_of_a_picture_without_a_number(rt: HostRuntime) {
+    let Ok(
+        Asked::Draw {
+            setup,
+            script,
+            p,
+            k,
+        },
+    ) = asked(rt.alloc(), &["revdbg", "draw", "a", "b", "3"])
+    else {
+        panic!(rt; "these words ask for a picture");
+    };
+    assert_eq!(rt; setup, "a");
+    assert_eq!(rt; script, "b");
+    assert_eq!(rt; p, Some(3));
+    assert_eq!(rt; k, None);
+}
+
+#[test]
+fn words_of_a_session(rt: HostRuntime) {
+    let words = ["revdbg", "debug", "a"];
+    let Ok(Asked::Debug { setup }) = asked(rt.alloc(), &words) else {
+        panic!(rt; "these words ask for a session");
+    };
+    assert_eq!(rt; setup, "a");
+}
+
 /// The words are refused, and this is the status.
 fn check_refused(rt: &(impl Abort + AllocGlobal), words: &[&str], status: u8) {
     let Err(fault) = asked(rt.alloc(), words) else {
@@ -90,4 +118,7 @@ fn refused_words(rt: HostRuntime) {
     check_refused(&rt, &["revdbg", "explain", "a", "b"], 2);
     check_refused(&rt, &["revdbg", "explain", "a", "b", "0"], 2);
     check_refused(&rt, &["revdbg", "explain", "a", "b", "1", "1000000"], 2);
+    check_refused(&rt, &["revdbg", "draw", "a", "b", "1", "2", "3"], 2);
+    check_refused(&rt, &["revdbg", "debug"], 2);
+    check_refused(&rt, &["revdbg", "debug", "a", "b"], 2);
 }

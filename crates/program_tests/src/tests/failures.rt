@@ -2,7 +2,7 @@
 
 ghost use Rattle.cdb_program.specs.Requests.{HasTurns};
 
-use super::requests::{EXPLAIN, PLAY, RACE};
+use super::requests::{DEBUG, DRAW, EXPLAIN, PLAY, RACE};
 use super::{ALL_GOOD, Ended, GoodCalls, performed};
 use cdb_program::{Fault, Request};
 use std::process::Abort;
@@ -11,7 +11,7 @@ use std::test::Fail;
 use std::thread::Threads;
 
 /// More calls than any request makes.
-const MANY: usize = 100;
+const MANY: usize = 1_000;
 
 const INPUT: &str = "auto 1\nredo";
 
@@ -95,12 +95,31 @@ fn fail_files<R: Threads + Wait + Sync + Abort + AllocGlobal>(
 
 #[test]
 fn each_write_of_output_fails_in_turn(rt: HostRuntime) {
-    // Texts of 37, 107, 90, 82 and 5 bytes, 5 a call.
+    // Texts of 37, 107, 90, 82, 3,819 and 5 bytes, 5 a call.
     assert_eq!(rt; fail_output(&rt, Request::Script), 8);
     assert_eq!(rt; fail_output(&rt, PLAY), 22);
     assert_eq!(rt; fail_output(&rt, RACE), 18);
     assert_eq!(rt; fail_output(&rt, EXPLAIN), 17);
+    assert_eq!(rt; fail_output(&rt, DRAW), 764);
     assert_eq!(rt; fail_output(&rt, Request::Print("help\n")), 1);
+}
+
+#[test]
+fn each_write_of_a_session_fails_in_turn(rt: HostRuntime) {
+    // The prompt, and then answers of 12 and 25 bytes, each with the prompt, 5 bytes a call.
+    let written = [0, 2, 7, 12, 16, 21, 26, 31, 36, 41];
+    let whole = performed(&rt, DEBUG, INPUT, ALL_GOOD);
+    for (good, length) in written.iter().enumerate() {
+        let calls = GoodCalls {
+            output: good,
+            ..ALL_GOOD
+        };
+        let ended = performed(&rt, DEBUG, INPUT, calls);
+        check(&rt, &ended, 7, b"output failed\n");
+        assert_eq!(rt; ended.output.len(), *length);
+        assert!(rt; whole.output.as_slice().starts_with(ended.output.as_slice()));
+    }
+    assert_eq!(rt; (whole.status, whole.output.len()), (0, 43));
 }
 
 #[test]
@@ -127,6 +146,8 @@ fn each_file_can_not_be_read_in_turn(rt: HostRuntime) {
     let texts = ["cannot read one.json\n", "cannot read eight.txt\n"];
     fail_files(&rt, PLAY, &texts);
     fail_files(&rt, EXPLAIN, &texts);
+    fail_files(&rt, DRAW, &texts);
+    fail_files(&rt, DEBUG, &texts[..1]);
     let texts = [
         "cannot read two.json\n",
         "cannot read undo.txt\n",
@@ -155,5 +176,25 @@ fn each_read_of_input_fails_in_turn(rt: HostRuntime) -> Result<(), Fail> {
     assert_eq!(rt; ended.status, 0);
     let text = "1.1 query 1\nrefused 14 NothingToRedo\n";
     assert_eq!(rt; str::from_utf8(ended.output.as_slice()), Ok(text));
+    Ok(())
+}
+
+#[test]
+fn each_read_of_a_session_fails_in_turn(rt: HostRuntime) -> Result<(), Fail> {
+    // The first line ends in the second call, and the last has no end.
+    let texts = ["> ", "> ", "> 1.1 query 1\n> ", "> 1.1 query 1\n> "];
+    for (good, text) in texts.iter().enumerate() {
+        let calls = GoodCalls {
+            input: good,
+            ..ALL_GOOD
+        };
+        let ended = performed(&rt, DEBUG, INPUT, calls);
+        check(&rt, &ended, 3, b"cannot read standard input\n");
+        assert_eq!(rt; str::from_utf8(ended.output.as_slice()), Ok(*text));
+    }
+    let ended = performed(&rt, DEBUG, INPUT, ALL_GOOD);
+    let text = "> 1.1 query 1\n> refused 14 NothingToRedo\n> ";
+    assert_eq!(rt; str::from_utf8(ended.output.as_slice()), Ok(text));
+    assert_eq!(rt; ended.status, 0);
     Ok(())
 }

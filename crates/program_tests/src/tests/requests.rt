@@ -3,6 +3,7 @@
 ghost use Rattle.cdb_program.specs.Requests.{HasTurns};
 
 use super::{ALL_GOOD, performed};
+use cdb_draw::StepAsked;
 use cdb_play::PlayFault;
 use cdb_program::{Fault, Request};
 use std::process::Abort;
@@ -31,6 +32,17 @@ pub const EXPLAIN: Request<'static> = Request::Explain {
     script: "eight.txt",
     p: 1,
     k: Some(2),
+};
+
+pub const DRAW: Request<'static> = Request::Draw {
+    setup: "one.json",
+    script: "eight.txt",
+    step: Some(StepAsked { p: 1, k: Some(2) }),
+};
+
+pub const DEBUG: Request<'static> = Request::Debug {
+    setup: "one.json",
+    prompt: "> ",
 };
 
 /// A race of 65 seats.
@@ -100,11 +112,61 @@ fn an_explanation_of_a_step_that_does_not_stand(rt: HostRuntime) -> Result<(), F
 }
 
 #[test]
+fn a_picture(rt: HostRuntime) -> Result<(), Fail> {
+    let ended = performed(&rt, DRAW, "", ALL_GOOD);
+    assert_eq!(rt;
+        (ended.status, ended.error.len(), ended.opened.len()),
+        (0, 0, 2)
+    );
+    let text = str::from_utf8(ended.output.as_slice())?;
+    // As tools/picture draws it. The texts of worked pictures are in `draw_tests`.
+    assert_eq!(rt; text.len(), 3_819);
+    assert!(rt; text.starts_with("<svg "));
+    assert!(rt; text.contains("<g class='full' transform='translate(108,72)'><title>1.2 send"));
+    assert!(rt; text.contains("<g class='pale' transform='translate(132,72)'><title>1.3 recv"));
+    assert!(rt; text.ends_with("</svg>\n"));
+    Ok(())
+}
+
+#[test]
+fn a_picture_for_a_step_that_does_not_stand(rt: HostRuntime) -> Result<(), Fail> {
+    let request = Request::Draw {
+        setup: "one.json",
+        script: "eight.txt",
+        step: Some(StepAsked { p: 1, k: Some(9) }),
+    };
+    let error = "refused 10 NoStep\n";
+    check(&rt, request, 1, ("", error), &["one.json", "eight.txt"])
+}
+
+#[test]
 fn a_race(rt: HostRuntime) -> Result<(), Fail> {
     let text = "seat 3\nrefused 1 NoProcess\nseat 4\nrefused 14 NothingToRedo
 decisions none\ndecisions agree\n";
     let opened = ["two.json", "undo.txt", "redo.txt"];
     check(&rt, RACE, 0, (text, ""), &opened)
+}
+
+#[test]
+fn a_session(rt: HostRuntime) -> Result<(), Fail> {
+    let text = "> 1.1 query 1\n> 1.2 send 1#1\n> ";
+    check(&rt, DEBUG, 0, (text, ""), &["one.json"])
+}
+
+#[test]
+fn a_session_ends_at_quit(rt: HostRuntime) -> Result<(), Fail> {
+    let request = Request::Debug {
+        setup: "one.json",
+        prompt: "",
+    };
+    let ended = performed(&rt, request, "auto 1\njump\nquit\nauto 1\n", ALL_GOOD);
+    let text = "1.1 query 1\nline 2 fault 2 Word\n";
+    assert_eq!(rt; str::from_utf8(ended.output.as_slice()), Ok(text));
+    assert_eq!(rt;
+        (ended.status, ended.error.len(), ended.failures),
+        (0, 0, 0)
+    );
+    Ok(())
 }
 
 #[test]
@@ -150,6 +212,16 @@ fn faults_of_plays(rt: HostRuntime) -> Result<(), Fail> {
         ("", "script 1 line 2 fault 3 Number\n"),
         &opened,
     )
+}
+
+#[test]
+fn faults_of_sessions(rt: HostRuntime) -> Result<(), Fail> {
+    let request = Request::Debug {
+        setup: "list.json",
+        prompt: "> ",
+    };
+    let error = "setup fault 2 NotObject\n";
+    check(&rt, request, 4, ("", error), &["list.json"])
 }
 
 #[test]

@@ -13,8 +13,8 @@ pub loop-read-init : goal.loop-read-init
 loop-read-init g c =
     let none : c.new-held.result.items ≡ [] = c.new-held.ensures.items in
     let first = c.args.session.now in
-    let before = g.T.Talk.moves c.args.talk.now in
-    let now = g.T.Talk.moves c.say.new.talk in
+    let before = g.T.Talk.known c.args.talk.now in
+    let now = g.T.Talk.known c.say.new.talk in
     record {
       few = omega (arith, ap length none);
       bound = omega arith;
@@ -54,8 +54,8 @@ loop-read-preserved g c =
     let bytes : List ℕ = take count buffer in
     let long : length bytes ≡ count = omega (arith, length-take count buffer, c.in-Ok-read.ensures.within) in
     let first = c.args.session.now in
-    let before = g.T.Talk.moves c.args.talk.now in
-    let now = g.T.Talk.moves c.hear.new.talk in
+    let before = g.T.Talk.known c.args.talk.now in
+    let now = g.T.Talk.known c.hear.new.talk in
     record {
       few = c.in_ok-hear.ensures.held;
       bound = omega (arith, c.loop-read-test.true, c.in-Ok-read.ensures.within);
@@ -69,4 +69,4 @@ answer_last-requires-2 g c = omega (arith, c.loop-read.invariant.lines, c.loop-r
 
 pub returns : goal.returns
 returns g c =
-    over_at_most c.args.prompt.now _ c.args.session.now _ c.loop-read.session c.loop-read.held.items c.loop-read.read c.loop-read.invariant.stands (g.T.Talk.moves c.loop-read.talk) c.loop-read-test.false _ c.answer_last-2.result c.answer_last-2.ensures
+    over_at_most c.args.prompt.now _ c.args.session.now _ c.loop-read.session c.loop-read.held.items c.loop-read.read c.loop-read.invariant.stands (g.T.Talk.known c.loop-read.talk) c.loop-read-test.false _ c.answer_last-2.result c.answer_last-2.ensures

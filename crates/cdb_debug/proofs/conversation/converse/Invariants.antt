@@ -8,7 +8,7 @@ invariant-loop-read g l = record {
   few : length l.held.items ≤ longest + 1;
   bound : l.read ≤ 9223372036854779904;
   lines : l.session.lines ≤ l.read;
-  stands : Stands l.prompt (g.T.Talk.moves l.fn.talk) l.fn.session (g.T.Talk.moves l.talk) l.session l.held.items l.read;
+  stands : Stands l.prompt (g.T.Talk.known l.fn.talk) l.fn.session (g.T.Talk.known l.talk) l.session l.held.items l.read;
 }
 
 abbrev pub decreases-loop-read : goal.decreases-loop-read

@@ -12,27 +12,27 @@ loop-line-init g c = record { few = c.requires.held; lines = omega arith; goes =
 pub returns-in_err-hold-clause-heard : goal.returns-in_err-hold-clause-heard
 returns-in_err-hold-clause-heard g c =
     let p = err_from_is_err_and c.from_residual.result c.from_residual.ensures.1 in
-    rw (p.1, p.2) (no_memory c.args.prompt.now (g.T.Talk.moves c.args.talk.now) c.args.session.now c.args.held.now.items c.args.bytes.now _ c.loop-line.session c.loop-line.held.items c.loop-line.rest.now c.loop-line.invariant.goes c.loop-line.session c.hold.new.held.items)
+    rw (p.1, p.2) (no_memory c.args.prompt.now (g.T.Talk.known c.args.talk.now) c.args.session.now c.args.held.now.items c.args.bytes.now _ c.loop-line.session c.loop-line.held.items c.loop-line.rest.now c.loop-line.invariant.goes c.loop-line.session c.hold.new.held.items)
 
 pub returns-in_err-answer_held-clause-heard : goal.returns-in_err-answer_held-clause-heard
 returns-in_err-answer_held-clause-heard g c =
     let p = err_from_is_err_and c.from_residual-in_err-answer_held.result c.from_residual-in_err-answer_held.ensures.1 in
-    let before = g.T.Talk.moves c.args.talk.now in
-    let now = g.T.Talk.moves c.loop-line.talk in
+    let before = g.T.Talk.known c.args.talk.now in
+    let now = g.T.Talk.known c.loop-line.talk in
     let goes = holds c.args.prompt.now before c.args.session.now c.args.held.now.items c.args.bytes.now now c.loop-line.session c.loop-line.held.items c.loop-line.rest.now c.loop-line.invariant.goes c.in-Some.line.now (10 ∷ c.in-Some.behind.now) c.hold.new.held.items c.in-Some.ensures.some.1 c.in-Some.ensures.some.0 c.in_ok-hold.ensures in
-    rw (p.1, p.2) (fails c.args.prompt.now before c.args.session.now c.args.held.now.items c.args.bytes.now now c.loop-line.session c.hold.new.held.items c.in-Some.behind.now goes (g.T.Talk.moves c.answer_held.new.talk) c.answer_held.new.session c.answer_held.new.held.items c.in_err-answer_held.field-0.0 c.in_err-answer_held.ensures)
+    rw (p.1, p.2) (fails c.args.prompt.now before c.args.session.now c.args.held.now.items c.args.bytes.now now c.loop-line.session c.hold.new.held.items c.in-Some.behind.now goes (g.T.Talk.known c.answer_held.new.talk) c.answer_held.new.session c.answer_held.new.held.items c.in_err-answer_held.field-0.0 c.in_err-answer_held.ensures)
 
 pub returns-then-branch-clause-heard : goal.returns-then-branch-clause-heard
 returns-then-branch-clause-heard g c =
-    let before = g.T.Talk.moves c.args.talk.now in
-    let now = g.T.Talk.moves c.loop-line.talk in
+    let before = g.T.Talk.known c.args.talk.now in
+    let now = g.T.Talk.known c.loop-line.talk in
     let goes = holds c.args.prompt.now before c.args.session.now c.args.held.now.items c.args.bytes.now now c.loop-line.session c.loop-line.held.items c.loop-line.rest.now c.loop-line.invariant.goes c.in-Some.line.now (10 ∷ c.in-Some.behind.now) c.hold.new.held.items c.in-Some.ensures.some.1 c.in-Some.ensures.some.0 c.in_ok-hold.ensures in
-    quits c.args.prompt.now before c.args.session.now c.args.held.now.items c.args.bytes.now now c.loop-line.session c.hold.new.held.items c.in-Some.behind.now goes (g.T.Talk.moves c.answer_held.new.talk) c.answer_held.new.session c.answer_held.new.held.items c.in_ok-answer_held.field-0 c.in_ok-answer_held.ensures c.if-branch.true
+    quits c.args.prompt.now before c.args.session.now c.args.held.now.items c.args.bytes.now now c.loop-line.session c.hold.new.held.items c.in-Some.behind.now goes (g.T.Talk.known c.answer_held.new.talk) c.answer_held.new.session c.answer_held.new.held.items c.in_ok-answer_held.field-0 c.in_ok-answer_held.ensures c.if-branch.true
 
 pub loop-line-preserved : goal.loop-line-preserved
 loop-line-preserved g c =
-    let before = g.T.Talk.moves c.args.talk.now in
-    let now = g.T.Talk.moves c.loop-line.talk in
+    let before = g.T.Talk.known c.args.talk.now in
+    let now = g.T.Talk.known c.loop-line.talk in
     let goes = holds c.args.prompt.now before c.args.session.now c.args.held.now.items c.args.bytes.now now c.loop-line.session c.loop-line.held.items c.loop-line.rest.now c.loop-line.invariant.goes c.in-Some.line.now (10 ∷ c.in-Some.behind.now) c.hold.new.held.items c.in-Some.ensures.some.1 c.in-Some.ensures.some.0 c.in_ok-hold.ensures in
     let done = c.in_ok-answer_held.ensures.2 in
     let one_line = ap (λ (s : Session). s.lines) done.session in
@@ -41,18 +41,18 @@ loop-line-preserved g c =
     record {
       few = omega (arith, ap length done.emptied);
       lines = omega (arith, c.loop-line.invariant.lines, one_line, cut, parts);
-      goes = answers c.args.prompt.now before c.args.session.now c.args.held.now.items c.args.bytes.now now c.loop-line.session c.hold.new.held.items c.in-Some.behind.now goes (g.T.Talk.moves c.answer_held.new.talk) c.answer_held.new.session c.answer_held.new.held.items c.in_ok-answer_held.field-0 c.in_ok-answer_held.ensures c.if-branch.false;
+      goes = answers c.args.prompt.now before c.args.session.now c.args.held.now.items c.args.bytes.now now c.loop-line.session c.hold.new.held.items c.in-Some.behind.now goes (g.T.Talk.known c.answer_held.new.talk) c.answer_held.new.session c.answer_held.new.held.items c.in_ok-answer_held.field-0 c.in_ok-answer_held.ensures c.if-branch.false;
     }
 
 pub returns-in_err-hold-2-clause-heard : goal.returns-in_err-hold-2-clause-heard
 returns-in_err-hold-2-clause-heard g c =
     let p = err_from_is_err_and c.from_residual-in_err-hold-2.result c.from_residual-in_err-hold-2.ensures.1 in
-    rw (p.1, p.2) (no_memory c.args.prompt.now (g.T.Talk.moves c.args.talk.now) c.args.session.now c.args.held.now.items c.args.bytes.now _ c.loop-line.session c.loop-line.held.items c.loop-line.rest.now c.loop-line.invariant.goes c.loop-line.session c.hold-2.new.held.items)
+    rw (p.1, p.2) (no_memory c.args.prompt.now (g.T.Talk.known c.args.talk.now) c.args.session.now c.args.held.now.items c.args.bytes.now _ c.loop-line.session c.loop-line.held.items c.loop-line.rest.now c.loop-line.invariant.goes c.loop-line.session c.hold-2.new.held.items)
 
 pub returns-clause-heard : goal.returns-clause-heard
 returns-clause-heard g c =
-    let before = g.T.Talk.moves c.args.talk.now in
-    let now = g.T.Talk.moves c.loop-line.talk in
+    let before = g.T.Talk.known c.args.talk.now in
+    let now = g.T.Talk.known c.loop-line.talk in
     holds c.args.prompt.now before c.args.session.now c.args.held.now.items c.args.bytes.now now c.loop-line.session c.loop-line.held.items c.loop-line.rest.now c.loop-line.invariant.goes c.loop-line.rest.now [] c.hold-2.new.held.items (sym (append-nil c.loop-line.rest.now)) c.in_default.ensures.none c.in_ok-hold-2.ensures
 
 pub returns-clause-held : goal.returns-clause-held

@@ -7,7 +7,7 @@ abbrev pub invariant-loop-line : goal.invariant-loop-line
 invariant-loop-line g l = record {
   few : length l.held.items ≤ longest + 1;
   lines : l.session.lines + length l.rest ≤ l.initial.session.lines + length l.bytes;
-  goes : Goes l.prompt (g.T.Talk.moves l.initial.talk) l.initial.session l.initial.held.items l.bytes (g.T.Talk.moves l.talk) l.session l.held.items l.rest;
+  goes : Goes l.prompt (g.T.Talk.known l.initial.talk) l.initial.session l.initial.held.items l.bytes (g.T.Talk.known l.talk) l.session l.held.items l.rest;
 }
 
 abbrev pub decreases-loop-line : goal.decreases-loop-line

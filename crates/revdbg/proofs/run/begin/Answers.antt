@@ -5,7 +5,7 @@ use Rattle.revdbg.proofs.Performed.{performs_memory}
 use Rattle.revdbg.proofs.run.begin.Goals as goal
 
 pub returns-in-Ok : goal.returns-in-Ok
-returns-in-Ok g c = subst (λ (words : List Text). PerformsAsked words c.args.outside.now c.run.new.outside c.run.result) c.in-Ok.ensures c.run.ensures
+returns-in-Ok g c = subst (λ (words : List Text). PerformsAsked c.args.prompt.now words c.args.outside.now c.run.new.outside c.run.result) c.in-Ok.ensures c.run.ensures
 
 pub returns-in-Err : goal.returns-in-Err
-returns-in-Err g c = performs_memory _ _ _ _ _ c.no_memory.ensures.memory c.perform.ensures
+returns-in-Err g c = performs_memory _ _ _ _ _ _ c.no_memory.ensures.memory c.perform.ensures

@@ -1,0 +1,44 @@
+-- What the subcommand writes: the picture of the run that a script leaves.
+use Rattle.std.specs.Prelude.{◌≡◌, ℕ, List, Option, None, Some, Result, Ok, Err}
+use Rattle.cdb_base.specs.declared.event.Event.{Event}
+use Rattle.cdb_explain.specs.Asked.{IsStepAsked, StandsNoStep}
+use Rattle.cdb_explain.specs.declared.fault.ExplainFault.{ExplainFault}
+use Rattle.cdb_explain.specs.declared.fault.ExplainFault.TheVariants.{NoStep, Play}
+use Rattle.cdb_play.specs.Faults.{IsFaultOfPlay}
+use Rattle.cdb_play.specs.Left.{Leaves}
+use Rattle.cdb_play.specs.Written.{PlayWrites}
+use Rattle.cdb_run.specs.Current.{RunView}
+use Rattle.cdb_run.specs.Rules.{Rules}
+use Rattle.cdb_setup.specs.Parts.{Parts}
+use Rattle.cdb_draw.specs.Picture.{IsPicture}
+use Rattle.cdb_draw.specs.declared.script.StepAsked.{StepAsked}
+
+-- the place, from 0, of the step that is asked for; none where none is
+abbrev pub IsPlaceFor : List Event → Option StepAsked → Option ℕ → Type 0
+IsPlaceFor history None None = Unit {0}
+IsPlaceFor history (Some step) (Some place) = IsStepAsked history step.p step.k place
+IsPlaceFor history step place = ⊥
+
+-- a step is asked for, and none such stands
+abbrev pub IsMissing : List Event → Option StepAsked → Type 0
+IsMissing history None = ⊥
+IsMissing history (Some step) = StandsNoStep history step.p step.k
+
+-- the text is the picture of the run that the script leaves, in which what led to the step is in full
+abbrev pub Draws : (Parts → Rules) → List ℕ → Option StepAsked → Option (List ℕ) → Option (List ℕ) → List ℕ → Type 0
+Draws rules json step old new text =
+    (run : RunView) × Leaves rules json old new run
+    × ((place : Option ℕ) × IsPlaceFor run.history step place × IsPicture rules run place text)
+
+-- the step does not stand in the run that the script leaves; else as a fault of a play
+abbrev pub IsFaultOfDraw : ExplainFault → (Parts → Rules) → List ℕ → Option StepAsked → Option (List ℕ) → Option (List ℕ) → Type 0
+IsFaultOfDraw NoStep rules json step old new =
+    (run : RunView) × Leaves rules json old new run × IsMissing run.history step
+IsFaultOfDraw (Play fault) rules json step old new = IsFaultOfPlay fault json old new
+
+module _ {W : Type 0} (contents : W → Option (List ℕ)) (failures : W → ℕ) where
+  -- a step that does not stand leaves the writer as it was; else as a play writes its transcript
+  abbrev pub DrawWrites : {A : Type 0} → Result A ExplainFault → W → W → (List ℕ → Type 0) → Type 0
+  DrawWrites {A} (Ok done) old new IsText = PlayWrites contents failures {A = A} (Ok done) old new IsText
+  DrawWrites (Err NoStep) old new IsText = new ≡ old
+  DrawWrites {A} (Err (Play fault)) old new IsText = PlayWrites contents failures {A = A} (Err fault) old new IsText
