@@ -8,7 +8,7 @@ pub loop-i-init : goal.loop-i-init
 loop-i-init c =
     let filled : c.in_ok-marks.marks.items ≡ replicate c.len.result false = search rules in
     begun_at c.args.history.now (c.args.at - 1) c.args.at c.in_ok-marks.marks.items refl c.requires.from_one c.requires.to_len
-    (filled ∙ ap (λ n. replicate n false) c.len.ensures)
+    (filled ∙ ap (λ n. replicate n false) c.len.ensures.count)
 
 pub loop-i-preserved-then-index : goal.loop-i-preserved-then-index
 loop-i-preserved-then-index c =
