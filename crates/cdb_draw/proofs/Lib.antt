@@ -4,3 +4,4 @@ pub mod Sending
 pub mod Parted
 pub mod Drawing
 pub mod Bounded
+pub mod Ended
