@@ -7,6 +7,7 @@ ghost use Rattle.cdb_run.specs.Refusals.{IsOfRun};
 use cdb_base::{
     Act, Cell, CopyName, Event, Kind, MsgName, NoMemory, Payload, Proc, Refusal, Reg, StepId, Val,
 };
+use cdb_causal::History;
 use cdb_run::{AnyRun, EventRef};
 use cdb_setup::{Algorithm, Setup, SetupFault};
 use smallvec::SmallVec;
@@ -171,7 +172,7 @@ impl Example {
         self.run.setup().algorithm() == Algorithm::Alpha
     }
 
-    pub fn history(&self) -> &[Event] {
+    pub fn history(&self) -> &History {
         self.run.history()
     }
 

@@ -5,6 +5,7 @@ use super::example::Example;
 use super::moves::{Move, look_same, make};
 use super::setups::{ALPHA_PAIR, LOSSY};
 use cdb_base::{Act, Event, NoMemory, Refusal};
+use cdb_causal::History;
 use std::process::Abort;
 
 /// Makes the move, and makes it again where memory was wanting, after which the run shows what the one
@@ -101,9 +102,10 @@ fn take_event_in_both<R: Abort + AllocGlobal>(
 
 /// Takes the events again in a run, and in another that is always an event behind it, as `make_moves` makes
 /// moves.
-fn take_events<R: Abort + AllocGlobal>(rt: &R, run: &mut Example, setup: &str, events: &[Event]) {
+fn take_events<R: Abort + AllocGlobal>(rt: &R, run: &mut Example, setup: &str, history: &History) {
     let mut behind = Example::start(rt, setup);
-    for event in events {
+    for i in 0..history.len() {
+        let event = history.event(i);
         take_event_in_both(rt, run, &mut behind, event);
     }
 }

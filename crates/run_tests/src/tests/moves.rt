@@ -3,6 +3,7 @@
 use super::example::Example;
 use super::script::choose;
 use cdb_base::{Act, Event, NoMemory, Proc, Refusal, Reg};
+use cdb_causal::History;
 use std::alloc::Global;
 
 /// What a run is asked to do in one move.
@@ -48,6 +49,20 @@ fn is_same_register(one: &Example, other: &Example, register: &Reg) -> bool {
     one.cell(*register) == other.cell(*register) && one.writes(*register) == other.writes(*register)
 }
 
+/// Whether the same events stand in both, in the same order.
+fn has_same_events(one: &History, other: &History) -> bool {
+    if one.len() != other.len() {
+        return false;
+    }
+    for i in 0..one.len() {
+        let (first, second) = (one.event(i), other.event(i));
+        if first != second {
+            return false;
+        }
+    }
+    true
+}
+
 /// Whether both runs show the same of all processes and registers, and of what has happened.
 pub fn look_same(one: &Example, other: &Example) -> bool {
     for p in &Proc::all() {
@@ -58,5 +73,5 @@ pub fn look_same(one: &Example, other: &Example) -> bool {
             return false;
         }
     }
-    is_same_register(one, other, &Reg::Dec) && one.history() == other.history()
+    is_same_register(one, other, &Reg::Dec) && has_same_events(one.history(), other.history())
 }

@@ -6,13 +6,14 @@ ghost use Rattle.std.specs.Prelude.{◌<◌, length};
 use super::example::Example;
 use super::moves::look_same;
 use cdb_base::{Event, Kind, NoMemory, Refusal, Reg, StepId};
-use cdb_causal::depends;
+use cdb_causal::{History, depends};
 use std::alloc::Global;
 use std::process::Abort;
 
 /// Takes the events again in a run, save those that are gone.
-fn replay<R: Abort + AllocGlobal>(rt: &R, run: &mut Example, events: &[Event], gone: &[Event]) {
-    for event in events {
+fn replay<R: Abort + AllocGlobal>(rt: &R, run: &mut Example, history: &History, gone: &[Event]) {
+    for i in 0..history.len() {
+        let event = history.event(i);
         if !gone.contains(event) {
             let answer = run.again(rt, event).expect(rt, "an answer");
             assert!(rt; answer.is_ok());
@@ -28,11 +29,14 @@ fn replayed<R: Abort + AllocGlobal>(rt: &R, run: &Example, gone: &[Event]) -> Ex
 }
 
 /// The first later event that depends on the one at place `i`, from 0.
-fn first_needing(history: &[Event], i: usize) -> Option<StepId>
+fn first_needing(history: &History, i: usize) -> Option<StepId>
     requires { i < length history.now }
 {
-    for later in &history[i + 1..] {
-        if depends(&history[i], later) {
+    let count = history.len();
+    let event = history.event(i);
+    for j in i + 1..count {
+        let later = history.event(j);
+        if depends(event, later) {
             return Some(later.name());
         }
     }
@@ -46,12 +50,14 @@ fn append(events: &mut Vec<Event>, event: &Event) -> Result<(), NoMemory> {
 }
 
 /// The event at place `i`, from 0, and those later ones that depend on it or on one of these.
-fn with_consequences(alloc: Global, history: &[Event], i: usize) -> Result<Vec<Event>, NoMemory>
+fn with_consequences(alloc: Global, history: &History, i: usize) -> Result<Vec<Event>, NoMemory>
     requires { i < length history.now }
 {
+    let count = history.len();
     let mut found = Vec::new(alloc);
-    append(&mut found, &history[i])?;
-    for later in &history[i + 1..] {
+    append(&mut found, history.event(i))?;
+    for j in i + 1..count {
+        let later = history.event(j);
         if found.iter().any(|cause| depends(cause, later)) {
             append(&mut found, later)?;
         }
@@ -98,7 +104,8 @@ fn compare_with_replay<R: Abort + AllocGlobal>(
 fn undo_in_twin<R: Abort + AllocGlobal>(rt: &R, run: &Example, twin: &mut Example, i: usize) {
     let history = run.history();
     assert!(rt; i < history.len());
-    let answer = undo(twin, &history[i]);
+    let event = history.event(i);
+    let answer = undo(twin, event);
     match first_needing(history, i) {
         Some(name) => {
             assert!(rt; answer == Err(Refusal::NeededBy(name)));
@@ -106,7 +113,8 @@ fn undo_in_twin<R: Abort + AllocGlobal>(rt: &R, run: &Example, twin: &mut Exampl
         }
         None => {
             assert!(rt; answer.is_ok());
-            compare_with_replay(rt, run, twin, &history[i..i + 1]);
+            let gone = [*event];
+            compare_with_replay(rt, run, twin, &gone);
         }
     }
 }
@@ -121,7 +129,8 @@ pub fn undo_as_replayed<R: Abort + AllocGlobal>(rt: &R, run: &Example, i: usize)
 fn roll_back_in_twin<R: Abort + AllocGlobal>(rt: &R, run: &Example, twin: &mut Example, i: usize) {
     let history = run.history();
     assert!(rt; i < history.len());
-    let answer = roll_back(rt.alloc(), twin, &history[i]).expect(rt, "an answer");
+    let event = history.event(i);
+    let answer = roll_back(rt.alloc(), twin, event).expect(rt, "an answer");
     let mut taken = answer.ok().expect(rt, "a standing event is rolled back");
     taken.reverse();
     let gone = with_consequences(rt.alloc(), history, i).expect(rt, "a list");

@@ -1,7 +1,7 @@
 //! What a run shows, in words.
 
 use super::example::Example;
-use super::words::{push_events, push_message, push_payload, push_register};
+use super::words::{push_history, push_message, push_payload, push_register};
 use cdb_base::{Cell, CopyName, MsgName, Proc, Reg, Val};
 use std::alloc::{AllocError, Global};
 use std::test::Fail;
@@ -127,7 +127,7 @@ pub fn push_view(text: &mut String, alloc: Global, run: &Example, view: View) ->
         }
         View::Decision => push_cell(text, run, Reg::Dec),
         View::Decisions => push_decisions(text, alloc, run),
-        View::History => Ok(push_events(text, run.history())?),
+        View::History => Ok(push_history(text, run.history())?),
         View::Lost(s, m, p) => push_is_lost(text, run, (s, m, p)),
     }
 }

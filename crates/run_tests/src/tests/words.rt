@@ -1,6 +1,7 @@
 //! Events, names and refusals in words.
 
 use cdb_base::{CopyName, Event, Kind, MsgName, Payload, Proc, Refusal, Reg, StepId};
+use cdb_causal::History;
 use std::alloc::AllocError;
 
 pub fn push_message(text: &mut String, name: &MsgName) -> Result<(), AllocError> {
@@ -65,14 +66,15 @@ pub fn push_event(text: &mut String, event: &Event) -> Result<(), AllocError> {
 }
 
 /// Events one after the other, or `no steps`.
-pub fn push_events(text: &mut String, events: &[Event]) -> Result<(), AllocError> {
-    if events.is_empty() {
+/// Adds the standing events to a text.
+pub fn push_history(text: &mut String, history: &History) -> Result<(), AllocError> {
+    if history.is_empty() {
         return text.push_str("no steps");
     }
     let mut between = "";
-    for event in events {
+    for i in 0..history.len() {
         text.push_str(between)?;
-        push_event(text, event)?;
+        push_event(text, history.event(i))?;
         between = " / ";
     }
     Ok(())
