@@ -167,6 +167,29 @@ fn unread(error: &io::Error) -> Request<'static>
     }
 }
 
+/// Performs what the arguments ask for, as `run` does.
+fn run_strings<
+    R: Threads + Wait + Sync,
+    F: Files + Drop,
+    I: Source + Drop,
+    O: Sink + Drop,
+    E: Sink + Drop,
+>(
+    threads: &R,
+    alloc: Global,
+    prompt: &str,
+    words: &[String],
+    outside: &mut Outside<F, I, O, E>,
+) -> u8
+    ensures { PerformsAsked prompt.now (map string_bytes words.entry.now)
+        outside.old outside.new result }
+{
+    match texts_of(alloc, words) {
+        Ok(texts) => run(threads, alloc, prompt, texts.as_slice(), outside),
+        Err(_) => perform(threads, alloc, no_memory(), outside),
+    }
+}
+
 /// Performs what the arguments ask for, as they were read from the system, or reports that they could not be read; and
 /// returns the status with which the program ends. A session shows this prompt before each line.
 pub fn begin<
@@ -187,12 +210,8 @@ pub fn begin<
     ensures unread { IfErr words (λ error. PerformsOne (IsUnread (error_kind error))
         outside.old outside.new result) }
 {
-    let words = match words {
-        Ok(words) => words,
-        Err(error) => return perform(threads, alloc, unread(&error), outside),
-    };
-    match texts_of(alloc, words.as_slice()) {
-        Ok(texts) => run(threads, alloc, prompt, texts.as_slice(), outside),
-        Err(_) => perform(threads, alloc, no_memory(), outside),
+    match words {
+        Ok(words) => run_strings(threads, alloc, prompt, words.as_slice(), outside),
+        Err(error) => perform(threads, alloc, unread(&error), outside),
     }
 }
