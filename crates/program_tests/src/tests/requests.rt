@@ -109,7 +109,10 @@ fn an_explanation_of_a_step_that_does_not_stand(rt: HostRuntime) -> Result<(), F
 #[test]
 fn a_picture(rt: HostRuntime) -> Result<(), Fail> {
     let ended = performed(&rt, DRAW, "", ALL_GOOD);
-    assert_eq!(rt; (ended.status, ended.error.len(), ended.opened.len()), (0, 0, 2));
+    assert_eq!(rt;
+        (ended.status, ended.error.len(), ended.opened.len()),
+        (0, 0, 2)
+    );
     let text = str::from_utf8(ended.output.as_slice())?;
     // As tools/picture draws it. The texts of worked pictures are in `draw_tests`.
     assert_eq!(rt; text.len(), 3_819);
