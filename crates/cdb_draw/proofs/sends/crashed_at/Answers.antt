@@ -22,8 +22,8 @@ loop-i-preserved c =
     let next : suc i ≡ i + 1 = omega arith in
     let no = sym c.is_crash_of.ensures ∙ c.if-is_crash_of.false in
     let step = ap (position_or_len test) (drop_from history i event c.event-event.ensures)
-    ∙ ap (λ b. cond (not b) (suc (position_or_len test (drop (suc i) history))) 0) no
-    ∙ ap (λ n. suc (position_or_len test (drop n history))) next in
+    ∙ ap (λ b. cond (not b) (1 + position_or_len test (drop (suc i) history)) 0) no
+    ∙ ap (λ n. 1 + position_or_len test (drop n history)) next in
     let before = c.loop-i.invariant in
     omega (arith, before, step)
 
@@ -35,7 +35,7 @@ returns-then-is_crash_of c =
     let event : Event = c.event-event.result.now in
     let yes = sym c.is_crash_of.ensures ∙ c.if-is_crash_of.true in
     let step = ap (position_or_len test) (drop_from history i event c.event-event.ensures)
-    ∙ ap (λ b. cond (not b) (suc (position_or_len test (drop (suc i) history))) 0) yes in
+    ∙ ap (λ b. cond (not b) (1 + position_or_len test (drop (suc i) history)) 0) yes in
     let before = c.loop-i.invariant in
     let here : position_or_len test history ≡ i = omega (arith, before, step) in
     let within = c.loop-i-test.true in
