@@ -9,5 +9,9 @@ returns-in_err-json-clause-does g c =
 
 pub returns-clause-does : goal.returns-clause-does
 returns-clause-does g c =
-    let debugged = rw (← c.as_slice.ensures.value) c.debug-debugged.ensures in
-    rw (← c.outside.view_is) (inr (c.in_ok-json.json.items, c.in_ok-json.ensures.read, (c.debug-debugged.result, c.of_play.ensures, debugged)))
+    rw (← c.outside.view_is)
+    (inr (
+      c.in_ok-json.json.items,
+      c.in_ok-json.ensures.read,
+      (c.debug-debugged.result, c.of_play.ensures, rw (← c.as_slice.ensures.value, ← c.as_bytes-prompt.ensures.value) c.debug-debugged.ensures),
+    ))
