@@ -1,14 +1,15 @@
 -- What `auto` does, by the rules of a run.
-use Rattle.std.specs.Prelude.{ℕ, List, [], ◌∷◌, Option, Some, None, Result, Err, is_none, find, ok_or}
+use Rattle.std.specs.Prelude.{ℕ, not, nat_le, if◌then◌else◌, is_some, List, [], ◌∷◌, Option, Some, None, Result, Err, is_none, find, ok_or}
 use Rattle.std.specs.Result.{result_err}
 use Rattle.cdb_base.specs.declared.act.Act.{Act}
 use Rattle.cdb_base.specs.declared.act.Act.TheVariants as act
 use Rattle.cdb_base.specs.declared.event.Event.{Event}
+use Rattle.cdb_base.specs.declared.limits.TheConstants.{MAX_STEPS}
 use Rattle.cdb_base.specs.declared.name.MsgName.{MsgName}
 use Rattle.cdb_base.specs.declared.refusal.Refusal.{Refusal}
 use Rattle.cdb_base.specs.declared.refusal.Refusal.TheVariants as refusal
 use Rattle.cdb_message.specs.Mail.{next_pending}
-use Rattle.cdb_run.specs.Rules.{Rules}
+use Rattle.cdb_run.specs.Rules.{Rules, Shown}
 
 -- what is tried in turn: a learn, a receive of the least pending copy, what the machine wishes, a query
 abbrev pub acts_after_learn : Option MsgName → List Act
@@ -22,12 +23,24 @@ acts_of_auto pending = act.Learn ∷ acts_after_learn pending
 abbrev pub first_possible : (Act → Option Refusal) → List Act → Result Act Refusal
 first_possible refuses acts = ok_or (find (λ a. is_none (refuses a)) acts) refusal.Idle
 
--- where no step at all is possible, a crash is refused, and so is `auto`
-abbrev pub chosen : Option Refusal → Result Act Refusal → Result Act Refusal
-chosen (Some why) possible = Err why
-chosen None possible = possible
+-- where there is a refusal it is returned
+abbrev pub unless : Option Refusal → Result Act Refusal → Result Act Refusal
+unless (Some why) possible = Err why
+unless None possible = possible
+
+-- Why a process takes no step at all: it has crashed, it has decided, or it has taken all the steps that it may.
+abbrev pub stopped : Shown → Option Refusal
+stopped process =
+    if not process.alive then Some refusal.Crashed
+    else if is_some process.decision then Some refusal.Done
+    else if nat_le MAX_STEPS process.steps then Some refusal.StepLimit else None
+
+-- `auto` has refusals of its own, and then takes the first possible act, if there is one
+abbrev pub chosen : Option Shown → Result Act Refusal → Result Act Refusal
+chosen None possible = Err refusal.NoProcess
+chosen (Some process) possible = unless (stopped process) possible
 
 abbrev pub choice : Rules → List Event → ℕ → Result Act Refusal
 choice rules history p =
-    chosen (result_err (rules.step history p act.Crash))
+    chosen (rules.process history p)
     (first_possible (λ a. result_err (rules.step history p a)) (acts_of_auto (next_pending (rules.mail history) p None)))

@@ -2,6 +2,7 @@
 -- is the journal's replay.
 use Rattle.std.specs.Prelude.{◌≡◌, ℕ, ◌+◌, ◌≤◌, ◌==◌, List, [], ◌∷◌, ◌++◌, length, replicate, fold, if◌then◌else◌}
 use Rattle.std.specs.List.{AllByRecursion}
+use Rattle.cdb_base.specs.declared.limits.TheConstants.{MAX_ENTRIES}
 use Rattle.cdb_control.specs.declared.command.Command.{Command}
 use Rattle.cdb_control.specs.declared.control.Entry.{Entry}
 use Rattle.cdb_setup.specs.Parts.{Parts, AreInRange}
@@ -74,7 +75,7 @@ pub record IsReplayed (rules : Rules) (setup : Parts) (seats : ℕ) (journal : L
   pub some_seat : 1 ≤ seats
   pub few_seats : seats ≤ 64
   pub of_seats : AreOfSeats seats journal
-  pub few_entries : length journal ≤ 999999
+  pub few_entries : length journal ≤ MAX_ENTRIES
   pub lists : length state.redo ≡ seats
   pub numbers : state.next ≤ length journal + 1
   pub events : held state ≤ length journal

@@ -16,7 +16,7 @@ use crate::redo::RedoList;
 use crate::reply::Reply;
 use crate::runs::Runs;
 use crate::stops::{Breakpoints, Taken, names_none_of};
-use cdb_base::limits::MAX_BREAKPOINTS;
+use cdb_base::limits::{MAX_BREAKPOINTS, MAX_STEPS};
 use cdb_base::{Act, Event, NoMemory, Refusal, Val};
 use cdb_run::EventRef;
 use cdb_setup::Setup;
@@ -330,8 +330,17 @@ impl<R: Runs> ControlState<R> {
         requires { AreInRange self.now.state.setup }
         ensures { result ≡ choice (R.rules self.now.state.setup) self.now.state.history p }
     {
-        if let Some(refusal) = self.run.refuses(p, Act::Crash) {
-            return Err(refusal);
+        let Some(process) = self.run.view(p) else {
+            return Err(Refusal::NoProcess);
+        };
+        if !process.alive {
+            return Err(Refusal::Crashed);
+        }
+        if process.decision.is_some() {
+            return Err(Refusal::Done);
+        }
+        if process.steps >= u32::from(MAX_STEPS) {
+            return Err(Refusal::StepLimit);
         }
         if self.run.refuses(p, Act::Learn).is_none() {
             return Ok(Act::Learn);

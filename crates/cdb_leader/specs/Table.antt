@@ -2,6 +2,7 @@
 -- accepts the input.
 use Rattle.std.specs.Prelude.{ℕ, ◌+◌, Bool, false, ◌==◌, ◌&&◌, not, nat_le, nat_lt, ◌++◌, [], ◌∷◌, Option, Some, None, is_some, if◌then◌else◌}
 use Rattle.std.specs.Option.{option_or, option_map, option_and_then}
+use Rattle.cdb_base.specs.declared.limits.TheConstants.{MAX_ROUND}
 use Rattle.cdb_base.specs.declared.payload.Payload.{Payload}
 use Rattle.cdb_base.specs.declared.payload.Payload.TheVariants.{P1, P2, D}
 use Rattle.cdb_process.specs.declared.Input.{Input}
@@ -44,7 +45,7 @@ end_round s (Some w) = record s { estimate = w; place = if is_only_proposal s.ro
 -- a query is answered by l
 abbrev pub query_at : Place → LocalState → ℕ → Option LocalState
 query_at L0 s l =
-    if nat_lt s.round 999999 then Some (record s { round = s.round + 1; lead = Some l; place = L1 }) else None
+    if nat_lt s.round MAX_ROUND then Some (record s { round = s.round + 1; lead = Some l; place = L1 }) else None
 query_at L2 s l = Some (if heard_first_phase s && not (is_lead l s.lead) then set_aux s else s)
 query_at p s l = None
 

@@ -1,5 +1,6 @@
 -- What the seats of a race have done.
 use Rattle.std.specs.Prelude.{◌≡◌, ◌≢◌, ◌⊎◌, ℕ, ◌<◌, ◌≤◌, List, [], length, take, replicate}
+use Rattle.cdb_base.specs.declared.limits.TheConstants.{MAX_ENTRIES}
 use Rattle.cdb_control.specs.Answer.{Answer}
 use Rattle.cdb_control.specs.declared.command.Command.{Command}
 use Rattle.cdb_control.specs.declared.command.Command.TheVariants.{Auto}
@@ -29,7 +30,7 @@ pub record HasRun (plan : Plan) (before seat : SeatView) (answered : List Answer
   pub later : IsLater before seat
   pub driven : before.number ≤ plan.processes → HasDriven plan.turns seat end × (answered ≡ [])
   pub served : plan.processes < before.number → HasServed (script_of plan before.number) seat answered end
-  pub full : end ≡ JournalFull → length seat.seen ≡ 999999
+  pub full : end ≡ JournalFull → length seat.seen ≡ MAX_ENTRIES
 
 -- the session ended well: its script was served to the end, or its process was done or had its turns
 abbrev pub EndsWell : End → Type 0

@@ -1,5 +1,5 @@
 -- The rules of every run are lawful.
-use Rattle.std.proofs.Common.{◌≡◌, ℕ, zero, suc, ◌+◌, ◌≤◌, ◌==◌, nat_le, Bool, true, false, not, List, [], ◌∷◌, length, Option, Some, None, unwrap_or, if◌then◌else◌, Result, Ok, Err, slice_get, refl, sym, ap, ◌∙◌, subst, arith}
+use Rattle.std.proofs.Common.{◌≡◌, ℕ, zero, suc, ◌+◌, ◌≤◌, ◌==◌, nat_le, Bool, true, false, not, List, [], ◌∷◌, length, Option, Some, None, unwrap_or, if◌then◌else◌, Result, Ok, Err, slice_get, option_map, refl, sym, ap, ◌∙◌, subst, arith}
 use Rattle.std.specs.List.{AllByRecursion}
 use Rattle.std.specs.Option.{option_map_or}
 use Rattle.std.proofs.lemmas.Bool.Decides.{nat_tests}
@@ -29,7 +29,7 @@ use Rattle.cdb_alpha.specs.Machine.{alpha_table}
 use Rattle.cdb_leader.specs.Machine.{leader_table}
 use Rattle.cdb_process.specs.Table.{Table}
 use Rattle.cdb_run.specs.Machines.{machine_of}
-use Rattle.cdb_run.specs.Rules.{rules_of}
+use Rattle.cdb_run.specs.Rules.{Shown, shown_of, rules_of}
 use Rattle.cdb_run.specs.State.{Machine, ProcessState, RunState, start}
 use Rattle.cdb_run.specs.Step.{is_among, registers_after, may_lose, after, fold, state_of}
 use Rattle.cdb_run.proofs.Bounds.{start_sound, length-set_nth}
@@ -196,6 +196,13 @@ module _ {L : Type 0} (machine : Machine L) where
       there : is_among setup.processes p ≡ true
       of_run : IsOfRun setup event
 
+    there_where_shown : (A : Type 0) (show : ProcessState L → A) (state : RunState L) (p : ℕ) (it : A) → length state.processes ≡ length machine.firsts
+        → option_map show (nth state.processes p) ≡ Some it → is_among setup.processes p ≡ true
+    there_where_shown A show state p it count h =
+        let process = mapped show (nth state.processes p) it h in
+        let place = nth_among state.processes p process.0 process.1 in
+        among setup.processes p place.0 (omega (arith, place.1, count, firsts))
+
     step_planned : (state : RunState L) (p : ℕ) (a : Act) (event : Event) → length state.processes ≡ length machine.firsts → step_answer machine setup state p a ≡ Ok event → IsPlanned p event
     step_planned state p a event count h =
         let process = of_some (λ (process : ProcessState L). planned machine setup (mail_of state) state.registers process.progress p a) (nth state.processes p) _ event h in
@@ -232,6 +239,7 @@ rules_lawful table setup range =
     let machine = machine_of table setup in
     let firsts = length-first_states table.first 1 setup.processes setup.quorum setup.inputs ∙ range.an_input_each in
     record {
+      shown = λ history p it h. there_where_shown machine setup range firsts Shown (shown_of table) (state_of machine history) p it (count_is machine history) h;
       among = λ history p a event h. (step_planned machine setup range firsts (state_of machine history) p a event (count_is machine history) h).there;
       step = λ history p a event h. (step_planned machine setup range firsts (state_of machine history) p a event (count_is machine history) h).of_run;
       lose = λ history name p event h. lose_of_run machine setup range firsts (state_of machine history) name p event h;

@@ -11,13 +11,15 @@ use Rattle.cdb_causal.specs.Dependence.{depends}
 use Rattle.cdb_causal.specs.Exchange.{IsExchanged}
 use Rattle.cdb_run.specs.Agreement.{AllAgree, HasMajorityIfNeeded}
 use Rattle.cdb_run.specs.Refusals.{IsOfRun}
-use Rattle.cdb_run.specs.Rules.{Rules}
+use Rattle.cdb_run.specs.Rules.{Rules, Shown}
 use Rattle.cdb_run.specs.Step.{is_among}
 use Rattle.cdb_run.specs.Undo.{IsEventNamed}
 use Rattle.cdb_setup.specs.Parts.{Parts}
 
--- Processes of the run alone take steps; what is taken is an event of the run, and an undone event is taken as it was.
+-- Processes of the run alone are shown and take steps; what is taken is an event of the run, and an undone event is taken
+-- as it was.
 pub record AreLawful (rules : Rules) (setup : Parts) : Type 0 where
+  pub shown : (history : List Event) (p : ℕ) (it : Shown) → rules.process history p ≡ Some it → is_among setup.processes p ≡ true
   pub among : (history : List Event) (p : ℕ) (act : Act) (event : Event) → rules.step history p act ≡ Ok event → is_among setup.processes p ≡ true
   pub step : (history : List Event) (p : ℕ) (act : Act) (event : Event) → rules.step history p act ≡ Ok event → IsOfRun setup event
   pub lose : (history : List Event) (name : MsgName) (p : ℕ) (event : Event) → rules.lose history name p ≡ Ok event → IsOfRun setup event

@@ -4,6 +4,7 @@ use Rattle.cdb_base.specs.declared.act.Act.{Act}
 use Rattle.cdb_base.specs.declared.event.Event.{Event}
 use Rattle.cdb_base.specs.declared.event.Event.TheVariants.{Step}
 use Rattle.cdb_base.specs.declared.event.Kind.{Kind}
+use Rattle.cdb_base.specs.declared.limits.TheConstants.{MAX_STEPS}
 use Rattle.cdb_base.specs.declared.name.MsgName.{MsgName}
 use Rattle.cdb_base.specs.declared.payload.Payload.{Payload}
 use Rattle.cdb_base.specs.declared.refusal.Refusal.{Refusal}
@@ -42,7 +43,7 @@ copy_refusal mail p name =
 
 -- the next step of process p, where it has fewer than it may have
 abbrev pub next_step_of : {L : Type 0} → Progress L → ℕ → Kind → Result Event Refusal
-next_step_of progress p kind = if nat_le 9999 progress.steps then Err refusal.StepLimit else Ok (Step p (progress.steps + 1) kind)
+next_step_of progress p kind = if nat_le MAX_STEPS progress.steps then Err refusal.StepLimit else Ok (Step p (progress.steps + 1) kind)
 
 -- the same where the machine accepts a step of that kind
 abbrev pub step_if_accepted : {L : Type 0} → Table L → MailState → RegisterStates → Progress L → ℕ → Kind → Result Event Refusal

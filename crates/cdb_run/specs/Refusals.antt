@@ -8,6 +8,7 @@ use Rattle.cdb_base.specs.declared.event.Event.{Event}
 use Rattle.cdb_base.specs.declared.event.Event.TheVariants.{Step, Lost}
 use Rattle.cdb_base.specs.declared.event.Kind.{Kind}
 use Rattle.cdb_base.specs.declared.event.Kind.TheVariants.{Query, Send, Recv, Read, Write, Local, Learn, Crash}
+use Rattle.cdb_base.specs.declared.limits.TheConstants.{MAX_STEPS}
 use Rattle.cdb_base.specs.declared.name.MsgName.{MsgName}
 use Rattle.cdb_base.specs.declared.payload.Payload.TheVariants.{D}
 use Rattle.cdb_base.specs.declared.refusal.Refusal.{Refusal}
@@ -88,7 +89,7 @@ step_checks machine setup mail registers progress p do_act =
     ∷ (asks_for (is_received mail p) do_act, refusal.Taken)
     ∷ (names_no_leader setup.processes do_act, refusal.BadLeader)
     ∷ (lacks_answer (answer_of setup p (progress.queries + 1)) do_act, refusal.NoAnswer)
-    ∷ (nat_le 9999 progress.steps, refusal.StepLimit)
+    ∷ (nat_le MAX_STEPS progress.steps, refusal.StepLimit)
     ∷ (asks_for (λ name. is_lost mail (copy_name name p)) do_act, refusal.Lost)
     ∷ []
 
@@ -168,7 +169,7 @@ NamesProcess n _ = Unit {0}
 -- a step of a process of the run, with a number that a step can have; the loss of a copy for a process of the run, where
 -- copies can be lost
 abbrev pub IsOfRun : Parts → Event → Type 0
-IsOfRun setup (Step p k kind) = (p ≤ setup.processes) × IsWithin 1 9999 k × NamesProcess setup.processes kind
+IsOfRun setup (Step p k kind) = (p ≤ setup.processes) × IsWithin 1 MAX_STEPS k × NamesProcess setup.processes kind
 IsOfRun setup (Lost copy) = (setup.version ≡ 2) × (copy.to ≤ setup.processes)
 
 -- the history after a result

@@ -1,14 +1,13 @@
 -- What a step does to the registers of a run.
-use Rattle.std.specs.Prelude.{◌<◌, Option, IsSome}
-use Rattle.std.specs.Option.{ForSome}
+use Rattle.std.specs.Prelude.{Option, IsSome}
 use Rattle.cdb_base.specs.declared.event.Kind.{Kind}
 use Rattle.cdb_base.specs.declared.event.Kind.TheVariants.{Write}
 use Rattle.cdb_process.specs.declared.Wish.{Wish}
-use Rattle.cdb_register.specs.Registers.{RegisterStates, register_of}
+use Rattle.cdb_register.specs.Registers.{RegisterStates, HasRegister, MayBeWritten}
 use Rattle.cdb_run.specs.Step.{wished_cell}
 
 -- a write finds its register, which can be written once more, and has a cell to write
 abbrev pub IsWritable : RegisterStates → Kind → Option Wish → Type 0
 IsWritable registers (Write register) wish =
-    IsSome (register_of registers register) × ForSome (register_of registers register) (λ stands. stands.writes < 999999) × IsSome (wished_cell wish)
+    HasRegister registers register × MayBeWritten registers register × IsSome (wished_cell wish)
 IsWritable registers _ wish = Unit {0}

@@ -6,6 +6,7 @@ use Rattle.cdb_base.specs.declared.event.Event.{Event}
 use Rattle.cdb_base.specs.declared.event.Event.TheVariants.{Step, Lost}
 use Rattle.cdb_base.specs.declared.event.Kind.{Kind}
 use Rattle.cdb_base.specs.declared.event.Kind.TheVariants.{Query, Send, Recv, Read, Write, Local, Learn, Crash}
+use Rattle.cdb_base.specs.declared.limits.TheConstants.{MAX_STEPS}
 use Rattle.cdb_base.specs.declared.name.CopyName.{CopyName}
 use Rattle.cdb_base.specs.declared.name.MsgName.{MsgName}
 use Rattle.cdb_base.specs.declared.payload.Payload.{Payload}
@@ -91,7 +92,7 @@ meets _ around = true
 
 -- the process is alive and not done, and the step is its next
 abbrev pub may_step : {L : Type 0} → Machine L → Progress L → ℕ → Bool
-may_step machine progress k = progress.alive && not (machine.done progress.local) && (k == progress.steps + 1) && nat_le k 9999
+may_step machine progress k = progress.alive && not (machine.done progress.local) && (k == progress.steps + 1) && nat_le k MAX_STEPS
 
 -- the local state that follows, where the process may take the step
 abbrev pub accepted : {L : Type 0} → Machine L → ProcessState L → ℕ → Kind → Sight → Option L
