@@ -1,5 +1,6 @@
 pub mod Cutting
 pub mod Ordered
+pub mod Ending
 pub mod Saying
 pub mod Seats
 pub mod Asking

@@ -5,7 +5,7 @@ use Rattle.std.specs.Io.KnownBytes.{Appends, Consumes}
 use Rattle.std.proofs.KnownBytes.{Appends-nil, Appends-trans, Consumes-nil, Consumes-trans}
 use Rattle.std.proofs.lemmas.Grind.{flat_map-append, fold-append}
 use Rattle.cdb_play.specs.Streams.{counted}
-use Rattle.cdb_debug.specs.Moves.{Known, Move, Read, ReadFailed, Wrote, WriteFailed, given_by, taken_by, read_in, written_in, AsksForInput, AreWrites, EndsWith, Continues, Makes, count_on, is_failed_read, is_failed_write}
+use Rattle.cdb_debug.specs.Moves.{Known, Move, Read, ReadFailed, Wrote, WriteFailed, given_by, taken_by, read_in, written_in, AsksForInput, AreWrites, EndsWith, FindsTheEnd, Continues, AreAllOf, Makes, count_on, is_failed_read, is_failed_write}
 
 -- such a property holds at each move that asks, of those before it
 abbrev pub AtEachAsk : (List Move → Type 0) → List Move → Type 0
@@ -76,10 +76,63 @@ count_more : (is_such : Move → Bool) (old now new : ℕ) (made more : List Mov
 count_more is_such old now new made more e f =
     f ∙ ap (λ count. count_on is_such count more) e ∙ sym (fold-append (λ count move. counted (is_such move) count) old made more)
 
+-- ---- the end of the input
+
+-- two lists, one after the other, are cut at an item of the second or of the first
+cut_of_two : (made more before later : List Move) (ask : Move) → made ++ more ≡ before ++ ask ∷ later
+    → ((rest : List Move) × (more ≡ rest ++ ask ∷ later)) ⊎ ((rest : List Move) × (made ≡ before ++ ask ∷ rest) × (later ≡ rest ++ more))
+cut_of_two [] more before later ask e = inl (before, e)
+cut_of_two (m ∷ made) more [] later ask e =
+    let same : m ≡ ask = cc in
+    let others : made ++ more ≡ later = cc in
+    inr (made, rw same refl, sym others)
+cut_of_two (m ∷ made) more (b ∷ before) later ask e =
+    let same : m ≡ b = cc in
+    let others : made ++ more ≡ before ++ ask ∷ later = cc in
+    elim (cut_of_two made more before later ask others) [
+      | inl found ↦ inl found
+      | inr found ↦ inr (found.0, rw (same, found.1) refl, found.2)
+    ]
+
+-- of writes, one list after the other, each are writes
+are_first : (made more : List Move) → AreWrites (made ++ more) → AreWrites made
+are_first [] more are = tt
+are_first (move ∷ made) more are = (are.0, are_first made more are.1)
+
+are_last : (made more : List Move) → AreWrites (made ++ more) → AreWrites more
+are_last [] more are = are
+are_last (move ∷ made) more are = are_last made more are.1
+
+-- all of what was left after some moves was read by the later ones
+all_later : (old now : Option (List ℕ)) (read more : List ℕ) → Consumes old now read → AreAllOf now more → AreAllOf old (read ++ more)
+all_later None now read more consumes all = tt
+all_later (Some left) None read more consumes all = absurd consumes
+all_later (Some left) (Some rest) read more consumes all = ap (λ bytes. read ++ bytes) all ∙ sym consumes
+
+pub all_read : (old now : Option (List ℕ)) (made more : List Move) → Consumes old now (read_in made)
+    → (FindsTheEnd made → AreAllOf old (read_in made)) → (FindsTheEnd more → AreAllOf now (read_in more))
+    → FindsTheEnd (made ++ more) → AreAllOf old (read_in (made ++ more))
+all_read old now made more consumes first second (before, later, e, writes) =
+    elim (cut_of_two made more before later (Read []) e) [
+      | inl found ↦
+        subst (AreAllOf old) (sym (read-append made more))
+        (all_later old now (read_in made) (read_in more) consumes (second (found.0, later, found.1, writes)))
+      | inr found ↦
+        let are : AreWrites (found.0 ++ more) = subst AreWrites found.2 writes in
+        let none : read_in more ≡ [] = nothing_read more (are_last found.0 more are) in
+        subst (AreAllOf old) (sym (read-append made more ∙ ap (λ bytes. read_in made ++ bytes) none ∙ append-nil (read_in made)))
+        (first (before, found.0, found.1, are_first found.0 more are))
+    ]
+
+-- without moves no end was found
+no_end : (A : Type 0) → FindsTheEnd [] → A
+no_end A (before, later, e, writes) = absurd (omega (arith, ap length e, length-append before (Read [] ∷ later)))
+
 pub Makes-nothing : (known : Known) → Makes known known []
 Makes-nothing known = record {
   moves = Continues-nothing known.moves;
   left = Consumes-nil known.left;
+  all = no_end _;
   held = Appends-nil known.held;
   failed_reads = refl;
   failed_writes = refl;
@@ -89,6 +142,7 @@ pub Makes-more : (old now new : Known) (made more : List Move) → Makes old now
 Makes-more old now new made more e f = record {
   moves = Continues-more old.moves now.moves new.moves made more e.moves f.moves;
   left = subst (Consumes old.left new.left) (sym (read-append made more)) (Consumes-trans old.left now.left new.left (read_in made) (read_in more) e.left f.left);
+  all = all_read old.left now.left made more e.left e.all f.all;
   held = subst (Appends old.held new.held) (sym (written-append made more)) (Appends-trans old.held now.held new.held (written_in made) (written_in more) e.held f.held);
   failed_reads = count_more is_failed_read old.failed_reads now.failed_reads new.failed_reads made more e.failed_reads f.failed_reads;
   failed_writes = count_more is_failed_write old.failed_writes now.failed_writes new.failed_writes made more e.failed_writes f.failed_writes;

@@ -1,10 +1,13 @@
 -- The answers of a session, along the lines.
 use Rattle.std.specs.Prelude.{◌≡◌, ℕ, ◌+◌, ◌==◌, List, [], ◌∷◌, ◌++◌, length, fold, codes, decimal, if◌then◌else◌}
 use Rattle.cdb_base.specs.declared.limits.TheConstants.{MAX_ENTRIES}
+use Rattle.cdb_control.specs.FaultTexts.{call_fault_text}
+use Rattle.cdb_control.specs.declared.control.CallFault.TheVariants.{JournalFull}
 use Rattle.cdb_control.specs.Journal.{Journaled, opened, extended, reply_in}
+use Rattle.cdb_play.specs.FaultTexts.{as_line}
 use Rattle.cdb_run.specs.Algorithms.{rules}
 use Rattle.cdb_setup.specs.Parts.{Parts}
-use Rattle.cdb_text.specs.LineFaults.{line_fault_number, line_fault_name}
+use Rattle.cdb_text.specs.LineFaults.{line_fault_text}
 use Rattle.cdb_text.specs.Texts.{text_of}
 use Rattle.cdb_text.specs.declared.fault.LineFault.{LineFault}
 use Rattle.cdb_debug.specs.Requests.{most_seats, seat_line, AreAsked}
@@ -26,17 +29,15 @@ begun setup = record { control = opened setup most_seats; seat = 1; lines = 0 }
 -- ---- the texts
 
 abbrev pub full_text : List ℕ
-full_text = codes "journal full\n"
+full_text = as_line (call_fault_text JournalFull)
 
 -- `line L fault N Name`
 abbrev pub fault_text : ℕ → LineFault → List ℕ
-fault_text line fault =
-    codes "line " ++ decimal line ++ codes " fault " ++ decimal (line_fault_number fault)
-    ++ codes " " ++ line_fault_name fault ++ codes "\n"
+fault_text line fault = as_line (codes "line " ++ decimal line ++ codes " " ++ line_fault_text fault)
 
 -- `line L too long`
 abbrev pub too_long_text : ℕ → List ℕ
-too_long_text line = codes "line " ++ decimal line ++ codes " too long\n"
+too_long_text line = as_line (codes "line " ++ decimal line ++ codes " too long")
 
 -- ---- one line
 

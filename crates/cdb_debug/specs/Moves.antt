@@ -105,10 +105,17 @@ Continues None new made = Unit {0}
 Continues (Some old) None made = ⊥
 Continues (Some old) (Some new) made = new ≡ old ++ made
 
--- these moves led from what was known before to what is known after
+-- where the bytes that were left are known, these are all of them
+abbrev pub AreAllOf : Option (List ℕ) → List ℕ → Type 0
+AreAllOf None read = Unit {0}
+AreAllOf (Some left) read = read ≡ left
+
+-- These moves led from what was known before to what is known after; where the last read found the end of the input, all
+-- was read.
 pub record Makes (old new : Known) (made : List Move) : Type 0 where
   pub moves : Continues old.moves new.moves made
   pub left : Consumes old.left new.left (read_in made)
+  pub all : FindsTheEnd made → AreAllOf old.left (read_in made)
   pub held : Appends old.held new.held (written_in made)
   pub failed_reads : new.failed_reads ≡ count_on is_failed_read old.failed_reads made
   pub failed_writes : new.failed_writes ≡ count_on is_failed_write old.failed_writes made

@@ -12,9 +12,10 @@ pub trait Talk {
     /// What is known of it: what was read from it and written to it.
     ghost known: { Self → Known };
 
-    /// Puts the next bytes at the front of the buffer, and returns how many: 0 at the end, and where the buffer
-    /// is empty. After an error none were read.
+    /// Puts the next bytes at the front of the buffer, which is not empty, and returns how many: 0 at the end alone.
+    /// After an error none were read.
     fn read(&mut self, buffer: &mut [u8]) -> Result<usize, Failed>
+        requires { 0 < length buffer.old }
         ensures within { ReadsAtMost result buffer.new }
         ensures moves { Makes (known self.old) (known self.new)
             (move_of_read result buffer.new ∷ []) };
