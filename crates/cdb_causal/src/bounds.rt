@@ -1,6 +1,7 @@
 //! Bounds of the marks under which events stand, by what another event may look for, so that a search
 //! begins near it. A bound may be too high, never too low; and no mark rises: so a bound stays right
-//! where events are taken out.
+//! where events are taken out. An event that is added stands above all others, so its mark gives a
+//! bound of each cell that it joins.
 
 ghost use Rattle.std.specs.Prelude.{◌≡◌, ℕ, ◌+◌, ◌-◌, ◌<◌, ◌≤◌, ◌==◌, ◌||◌, [], OnOk, true, false, length, nat_eq, slice_index, replicate, vec_len, if◌then◌else◌};
 ghost use Rattle.cdb_base.specs.Event.{event_name};
@@ -90,13 +91,13 @@ fn grow(table: &mut Vec<usize>, cell: usize) -> Result<(), NoMemory>
     Ok(())
 }
 
-/// Raises one bound.
+/// Gives a cell a bound above all marks. One that was left too high falls to it.
 fn raise(table: &mut [usize], cell: usize, bound: usize)
     requires { cell < length table.old }
-    ensures others { IsRaised table.old table.new }
+    ensures others { IsRaised bound table.old table.new }
     ensures raised { bound ≤ slice_index table.new cell }
 {
-    table[cell] = table[cell].max(bound);
+    table[cell] = bound;
 }
 
 /// Gives a cell its bound, where it has none, or marks that several events may stand there.
@@ -105,7 +106,7 @@ fn join(table: &mut [usize], cell: usize, bound: usize)
     requires bound { bound ≤ SEVERAL }
     ensures joined { (n : ℕ) → slice_index table.new n
         ≡ (if n == cell then joined (slice_index table.old n) bound else slice_index table.old n) }
-    ensures raised { IsRaised table.old table.new }
+    ensures raised { IsRaised bound table.old table.new }
 {
     table[cell] = if table[cell] == 0 { bound } else { SEVERAL };
 }
@@ -152,7 +153,7 @@ impl Bounds {
 
     /// Makes room for what a step of that kind sends or receives.
     fn reserve_kind(&mut self, p: Proc, kind: Kind) -> Result<(), NoMemory>
-        ensures others { AreRaised self.old self.new }
+        ensures others { (top : ℕ) → AreRaised top self.old self.new }
         ensures steps { self.new.steps ≡ self.old.steps }
         ensures receives { KeepsReceives self.old self.new }
         ensures room { OnOk result (HasRoomFor self.new p kind) }
@@ -166,7 +167,7 @@ impl Bounds {
 
     /// Makes room for the bounds of an event.
     pub fn reserve(&mut self, event: &Event) -> Result<(), NoMemory>
-        ensures others { AreRaised self.old self.new }
+        ensures others { (top : ℕ) → AreRaised top self.old self.new }
         ensures receives { KeepsReceives self.old self.new }
         ensures room { OnOk result (HasRoom self.new event.now) }
     {
@@ -188,7 +189,7 @@ impl Bounds {
     fn note_kind(&mut self, mark: usize, p: Proc, kind: Kind)
         requires mark { mark < 18446744073709551615 }
         requires room { HasRoomFor self.old p kind }
-        ensures others { AreRaised self.old self.new }
+        ensures others { AreRaised (mark + 1) self.old self.new }
         ensures steps { self.new.steps ≡ self.old.steps }
         ensures receives { (k : ℕ) → Joins self.old self.new (Step p k kind) }
         ensures within { IsKindWithin self.new mark p kind }
@@ -216,7 +217,7 @@ impl Bounds {
     pub fn note(&mut self, mark: usize, event: &Event)
         requires mark { mark < 18446744073709551615 }
         requires room { HasRoom self.old event.now }
-        ensures others { AreRaised self.old self.new }
+        ensures others { AreRaised (mark + 1) self.old self.new }
         ensures receives { Joins self.old self.new event.now }
         ensures within { IsWithin self.new mark event.now }
         ensures process { (p k : ℕ) (kind : AKind) → event.now ≡ Step p k kind →
