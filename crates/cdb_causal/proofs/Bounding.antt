@@ -43,25 +43,21 @@ same_step : {one two : StepName} → named.Step one ≡ named.Step two → one �
 unfolding step_of
 same_step {one} e = ap (λ name. step_of name one) e
 
--- a higher bound is a bound too, and one above a later place
-kind_raised : (old new : Bounds) → AreRaised old new → (i p : ℕ) (kind : Kind) → IsKindWithin old i p kind → IsKindWithin new i p kind
-kind_raised old new raised i p (Send m) within = let h = raised.sends (named_cell p m) in omega arith
-kind_raised old new raised i p (Recv s m) within = let h = raised.receives (copy_cell s m (p - 1)) in omega arith
-kind_raised old new raised i p (Read register) within = let h = raised.accesses (register_cell register (p - 1)) in omega arith
-kind_raised old new raised i p (Write register) within =
-    let h = raised.accesses (register_cell register (p - 1)) in
-    let g = raised.writes (register_cell register (p - 1)) in
-    let a = within.0 in
-    let b = within.1 in
-    (omega arith, omega arith)
-kind_raised old new raised i p _ within = within
+-- what is below the top stays below its bounds; so does what stands above an earlier mark
+kind_raised : (top : ℕ) (old new : Bounds) → AreRaised top old new → (i p : ℕ) (kind : Kind) → i < top → IsKindWithin old i p kind → IsKindWithin new i p kind
+kind_raised top old new raised i p (Send m) below within = raised.sends (named_cell p m) i below within
+kind_raised top old new raised i p (Recv s m) below within = raised.receives (copy_cell s m (p - 1)) i below within
+kind_raised top old new raised i p (Read register) below within = raised.accesses (register_cell register (p - 1)) i below within
+kind_raised top old new raised i p (Write register) below within = (
+  raised.accesses (register_cell register (p - 1)) i below within.0,
+  raised.writes (register_cell register (p - 1)) i below within.1,
+)
+kind_raised top old new raised i p _ below within = within
 
-within_raised : (old new : Bounds) → AreRaised old new → (i : ℕ) (event : Event) → IsWithin old i event → IsWithin new i event
-within_raised old new raised i (Step p k kind) within =
-    let h = raised.steps (named_cell p k) in
-    let a = within.0 in
-    (omega arith, kind_raised old new raised i p kind within.1)
-within_raised old new raised i (Lost copy) within = let h = raised.losses (copy_cell copy.msg.s copy.msg.m (copy.to - 1)) in omega arith
+within_raised : (top : ℕ) (old new : Bounds) → AreRaised top old new → (i : ℕ) (event : Event) → i < top → IsWithin old i event → IsWithin new i event
+within_raised top old new raised i (Step p k kind) below within =
+    (raised.steps (named_cell p k) i below within.0, kind_raised top old new raised i p kind below within.1)
+within_raised top old new raised i (Lost copy) below within = raised.losses (copy_cell copy.msg.s copy.msg.m (copy.to - 1)) i below within
 
 kind_lower : (bounds : Bounds) (i j p : ℕ) (kind : Kind) → i ≤ j → IsKindWithin bounds j p kind → IsKindWithin bounds i p kind
 kind_lower bounds i j p (Send m) below within = omega arith
@@ -74,8 +70,9 @@ within_lower : (bounds : Bounds) (i j : ℕ) (event : Event) → i ≤ j → IsW
 within_lower bounds i j (Step p k kind) below within = let a = within.0 in (omega arith, kind_lower bounds i j p kind below within.1)
 within_lower bounds i j (Lost copy) below within = omega arith
 
-pub all_raised : (old new : Bounds) (marks : ℕ → ℕ) (history : List Event) → AreRaised old new → AreWithin old marks history → AreWithin new marks history
-all_raised old new marks history raised within i event at = within_raised old new raised (marks i) event (within i event at)
+pub all_raised : (old new : Bounds) (marks : ℕ → ℕ) (history : List Event) → ((top : ℕ) → AreRaised top old new) → AreWithin old marks history → AreWithin new marks history
+all_raised old new marks history raised within i event at =
+    within_raised (suc (marks i)) old new (raised (suc (marks i))) (marks i) event (omega arith) (within i event at)
 
 -- an event that stood before the one that is gone keeps its place, a later one stood one place above
 pub place_before_low : (gone i : ℕ) → i < gone → place_before gone i ≡ i
@@ -88,11 +85,11 @@ place_before_high zero i le = refl
 place_before_high (suc gone) zero le = absurd (omega arith)
 place_before_high (suc gone) (suc i) le = ap suc (place_before_high gone i (omega arith))
 
-pub within_push : (old new : Bounds) (old_marks marks : ℕ → ℕ) (history : List Event) (event : Event) → AreRaised old new → AreWithin old old_marks history → ((i : ℕ) → i < length history → marks i ≡ old_marks i)
+pub within_push : (top : ℕ) (old new : Bounds) (old_marks marks : ℕ → ℕ) (history : List Event) (event : Event) → AreRaised top old new → ((i : ℕ) → i < length history → old_marks i < top) → AreWithin old old_marks history → ((i : ℕ) → i < length history → marks i ≡ old_marks i)
     → IsWithin new (marks (length history)) event → AreWithin new marks (history ++ event ∷ [])
-within_push old new old_marks marks history event raised within kept last i other at =
+within_push top old new old_marks marks history event raised below within kept last i other at =
     ⊎_elim
-    (λ before. subst (λ m. IsWithin new m other) (sym (kept i before.1)) (within_raised old new raised (old_marks i) other (within i other before.0)))
+    (λ before. subst (λ m. IsWithin new m other) (sym (kept i before.1)) (within_raised top old new raised (old_marks i) other (below i before.1) (within i other before.0)))
     (λ here. subst (λ e. IsWithin new (marks i) e) here.0 (subst (λ n. IsWithin new (marks n) event) (sym here.1) last))
     (push_cases history event other i at)
 

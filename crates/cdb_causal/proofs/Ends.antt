@@ -5,16 +5,18 @@ use Rattle.cdb_base.specs.declared.event.Event.{Event}
 use Rattle.cdb_base.specs.declared.event.Event.TheVariants.{Step, Lost}
 use Rattle.cdb_base.specs.declared.event.Kind.{Kind}
 use Rattle.cdb_base.specs.declared.name.CopyName.{CopyName}
-use Rattle.cdb_causal.specs.Alone.{AreAlone, ShareCell}
+use Rattle.cdb_causal.specs.Alone.{AreAlone}
+use Rattle.cdb_causal.specs.Between.{IsBetween}
 use Rattle.cdb_causal.specs.Bounds.{IsWithin, AreWithin}
 use Rattle.cdb_causal.specs.Causality.{IsLink}
 use Rattle.cdb_causal.specs.Standing.{IsStanding}
 use Rattle.cdb_causal.specs.declared.bounds.Bounds.{Bounds}
-use Rattle.cdb_causal.specs.Dependence.{send_and_loss, depends}
+use Rattle.cdb_causal.specs.Dependence.{same_process, send_and_loss, depends}
 use Rattle.cdb_causal.specs.Effects.{kind_affects}
 use Rattle.cdb_causal.proofs.Effects.{by_effect}
 use Rattle.cdb_causal.specs.LastCauses.{IsSlot}
 use Rattle.cdb_causal.proofs.Exchanges.{is_false}
+use Rattle.cdb_causal.proofs.SlotsOfCauses.{has_slot_in}
 
 process_or_none : Event → ℕ
 process_or_none (Step p k kind) = p
@@ -52,13 +54,22 @@ end_above history standing bounds marks within j slot result top event at_j rise
     (λ copy is. standing.lost_after_sent i j copy event l.later (l.at_cause ∙ ap Some is) at_j)
     (subst (λ e. depends l.cause e ≡ true) (same_Some l.effect event (sym l.at_effect ∙ at_j)) l.linked)
 
--- and the bound of what stands between two events, above each event through which a chain leads from the one to the other
-pub end_above_between : (history : List Event) (bounds : Bounds) (marks : ℕ → ℕ) → AreWithin bounds marks history → AreAlone bounds history → (i j result top : ℕ) (cause effect : Event) → slice_get history i ≡ Some cause → slice_get history j ≡ Some effect
-    → ((k : ℕ) → k < j → marks k < top) → ((k : ℕ) (between : Event) → k < top → IsWithin bounds k between → (ShareCell bounds between effect → ⊥) → depends cause between ≡ true → depends between effect ≡ true → k < result)
-    → (k : ℕ) → IsLink depends history i k → IsLink depends history k j → marks k < result
-end_above_between history bounds marks within alone i j result top cause effect at_i at_j rises above k one two =
-    above (marks k) one.effect (rises k two.later) (within k one.effect one.at_effect)
-    (λ share. let same = alone share.0 k j one.effect effect share.1 one.at_effect at_j share.2 share.3 in let later = two.later in omega arith)
-    (subst (λ e. depends e one.effect ≡ true) (same_Some one.cause cause (sym one.at_cause ∙ at_i)) one.linked)
-    (subst (λ e. depends one.effect e ≡ true) (same_Some two.effect effect (sym two.at_effect ∙ at_j))
-    (subst (λ e. depends e two.effect ≡ true) (same_Some two.cause one.effect (sym two.at_cause ∙ one.at_effect)) two.linked))
+-- and the bound of what stands between two events, above each event of another process through which a chain leads from the one to the other
+pub end_above_between : (history : List Event) → IsStanding history → (bounds : Bounds) (marks : ℕ → ℕ) → AreWithin bounds marks history → AreAlone bounds history → (i j result top : ℕ) (cause effect : Event) → slice_get history i ≡ Some cause
+    → slice_get history j ≡ Some effect → ((k : ℕ) → k < j → marks k < top) → ((k : ℕ) (between : Event) → k < top → IsBetween bounds cause effect k between → k < result)
+    → (k : ℕ) (l : IsLink depends history i k) → IsLink depends history k j → same_process l.cause l.effect ≡ false → marks k < result
+end_above_between history standing bounds marks within alone i j result top cause effect at_i at_j rises above k one two another =
+    let slot = has_slot_in history standing k one.effect one.at_effect in
+    let same = same_Some one.cause cause (sym one.at_cause ∙ at_i) in
+    above (marks k) one.effect (rises k two.later)
+    (record {
+      within = within k one.effect one.at_effect;
+      slot = slot.0;
+      has_slot = slot.1;
+      unshared = λ share. let same = alone share.0 k j one.effect effect share.1 one.at_effect at_j share.2 share.3 in let later = two.later in omega arith;
+      of_another = subst (λ e. same_process e one.effect ≡ false) same another;
+      from_first = subst (λ e. depends e one.effect ≡ true) same one.linked;
+      to_second =
+          subst (λ e. depends one.effect e ≡ true) (same_Some two.effect effect (sym two.at_effect ∙ at_j))
+          (subst (λ e. depends e two.effect ≡ true) (same_Some two.cause one.effect (sym two.at_cause ∙ one.at_effect)) two.linked);
+    })

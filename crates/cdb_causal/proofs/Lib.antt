@@ -1,3 +1,4 @@
+pub mod Accessing
 pub mod Bounding
 pub mod Chains
 pub mod Counting

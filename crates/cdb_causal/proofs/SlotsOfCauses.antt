@@ -10,11 +10,12 @@ use Rattle.cdb_base.specs.declared.name.CopyName.{CopyName}
 use Rattle.cdb_base.specs.declared.name.StepId.{StepId}
 use Rattle.cdb_base.specs.declared.name.StepId.TheVariants as named
 use Rattle.cdb_causal.specs.Causality.{IsLink}
-use Rattle.cdb_causal.specs.Dependence.{sends, receives, send_and_loss, depends}
+use Rattle.cdb_causal.specs.Dependence.{same_process, sends, receives, send_and_loss, depends}
 use Rattle.cdb_causal.specs.Effects.{kind_affects}
 use Rattle.cdb_causal.proofs.Effects.{by_effect}
 use Rattle.cdb_causal.specs.LastCauses.{IsSlot, IsNoCause, IsLastCause, NamesDirectCauseIn}
 use Rattle.cdb_causal.specs.Standing.{IsStanding}
+use Rattle.cdb_causal.proofs.Exchanges.{is_false}
 use Rattle.cdb_causal.proofs.Walks.{link_at}
 
 pub slot_within : (event : Event) (slot : ℕ) → IsSlot event slot → slot < 10
@@ -147,3 +148,22 @@ slot_of_event (Lost copy) range = (9, refl)
 
 pub has_slot_in : (history : List Event) → IsStanding history → (i : ℕ) (event : Event) → slice_get history i ≡ Some event → (slot : ℕ) × IsSlot event slot
 has_slot_in history standing i event at = slot_of_event event (λ p k kind is. standing.processes i p k kind (at ∙ ap Some is))
+
+-- a step of the same process has the same slot
+same_process_slot : (event other : Event) (slot : ℕ) → same_process event other ≡ true → IsSlot event slot → IsSlot other slot
+same_process_slot (Step p k kind) (Step q l other) slot same a = (a.0 ∙ eqb-true p q same, a.1)
+same_process_slot (Step p k kind) (Lost copy) slot same a = absurd (true≢false (sym same))
+same_process_slot (Lost copy) (Step q l other) slot same a = absurd (true≢false (sym same))
+same_process_slot (Lost copy) (Lost other) slot same a = absurd (true≢false (sym same))
+
+-- so what stands after the last cause of its slot, and is a cause itself, is of another process
+pub last_alone : (history : List Event) (j slot i : ℕ) → IsLastCause history j slot i → (k : ℕ) (one : IsLink depends history i k) → IsLink depends history k j → same_process one.cause one.effect ≡ false
+last_alone history j slot i last k one two =
+    is_false (same_process one.cause one.effect)
+    (λ same.
+    let cause = same_Some last.link.cause one.cause (sym last.link.at_cause ∙ one.at_cause) in
+    let effect = same_Some one.effect two.cause (sym one.at_effect ∙ two.at_cause) in
+    let in_slot = same_process_slot one.cause one.effect slot same (subst (λ e. IsSlot e slot) cause last.has_slot) in
+    let low = last.last k two (subst (λ e. IsSlot e slot) effect in_slot) in
+    let later = one.later in
+    omega arith)

@@ -26,14 +26,14 @@ IsWithin bounds i (Lost copy) = i < slice_index bounds.losses.items (copy_cell c
 abbrev pub AreWithin : Bounds → (ℕ → ℕ) → List Event → Type 0
 AreWithin bounds marks history = (i : ℕ) (event : Event) → slice_get history i ≡ Some event → IsWithin bounds (marks i) event
 
--- each bound is as high as it was, or higher
-pub record AreRaised (old new : Bounds) : Type 0 where
-  pub steps : IsRaised old.steps.items new.steps.items
-  pub sends : IsRaised old.sends.items new.sends.items
-  pub receives : IsRaised old.receives.items new.receives.items
-  pub losses : IsRaised old.losses.items new.losses.items
-  pub writes : IsRaised old.writes new.writes
-  pub accesses : IsRaised old.accesses new.accesses
+-- of the marks below the top, those that were below a bound still are
+pub record AreRaised (top : ℕ) (old new : Bounds) : Type 0 where
+  pub steps : IsRaised top old.steps.items new.steps.items
+  pub sends : IsRaised top old.sends.items new.sends.items
+  pub receives : IsRaised top old.receives.items new.receives.items
+  pub losses : IsRaised top old.losses.items new.losses.items
+  pub writes : IsRaised top old.writes new.writes
+  pub accesses : IsRaised top old.accesses new.accesses
 
 -- the tables that grow have a cell for what a step of process p of that kind does
 abbrev pub HasRoomFor : Bounds → ℕ → Kind → Type 0

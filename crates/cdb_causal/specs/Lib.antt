@@ -12,6 +12,7 @@ pub mod Rollback
 pub mod Standing
 -- what the code keeps for itself: tests by effect, and the bounds from which events are sought
 pub mod Alone
+pub mod Between
 pub mod Bounds
 pub mod Cells
 pub mod Effects

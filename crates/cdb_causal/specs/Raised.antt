@@ -1,10 +1,10 @@
 -- Tables of bounds, as they are raised.
-use Rattle.std.specs.Prelude.{ℕ, ◌≤◌, ◌==◌, List, slice_index, if◌then◌else◌}
+use Rattle.std.specs.Prelude.{ℕ, ◌<◌, ◌==◌, List, slice_index, if◌then◌else◌}
 use Rattle.cdb_causal.specs.declared.bounds.TheConstants.{SEVERAL}
 
--- each bound is as high as it was, or higher
-abbrev pub IsRaised : List ℕ → List ℕ → Type 0
-IsRaised old new = (n : ℕ) → slice_index old n ≤ slice_index new n
+-- of the marks below the top, those that were below a bound still are
+abbrev pub IsRaised : ℕ → List ℕ → List ℕ → Type 0
+IsRaised top old new = (n i : ℕ) → i < top → i < slice_index old n → i < slice_index new n
 
 -- what becomes of the bound of a cell where an event joins it: of two events that may stand there, neither has it alone
 abbrev pub joined : ℕ → ℕ → ℕ

@@ -1,20 +1,22 @@
 //! Bounds of the marks under which events stand, by what another event may look for, so that a search
 //! begins near it. A bound may be too high, never too low; and no mark rises: so a bound stays right
-//! where events are taken out.
+//! where events are taken out. An event that is added stands above all others, so its mark gives a
+//! bound of each cell that it joins.
 
 ghost use Rattle.std.specs.Prelude.{◌≡◌, ℕ, ◌+◌, ◌-◌, ◌<◌, ◌≤◌, ◌==◌, ◌||◌, [], OnOk, true, false, length, nat_eq, slice_index, replicate, vec_len, if◌then◌else◌};
 ghost use Rattle.cdb_base.specs.Event.{event_name};
 ghost use Rattle.cdb_base.specs.declared.event.Event.{Event as AnEvent};
 ghost use Rattle.cdb_base.specs.declared.event.Event.TheVariants.{Step, Lost};
 ghost use Rattle.cdb_base.specs.declared.event.Kind.{Kind as AKind};
-ghost use Rattle.cdb_base.specs.declared.event.Kind.TheVariants.{Send, Recv};
+ghost use Rattle.cdb_base.specs.declared.event.Kind.TheVariants.{Send, Recv, Read, Write};
 ghost use Rattle.cdb_base.specs.declared.name.CopyName.{CopyName as ACopy};
 ghost use Rattle.cdb_causal.specs.Cells.{row, register_cell as register_cell_of, named_cell as named_cell_of, copy_cell as copy_cell_of};
-ghost use Rattle.cdb_causal.specs.Dependence.{send_and_loss, depends as depends_of};
+ghost use Rattle.cdb_causal.specs.Dependence.{accesses as accesses_of, send_and_loss, depends as depends_of};
 ghost use Rattle.cdb_causal.specs.Effects.{kind_affects};
 ghost use Rattle.cdb_causal.specs.LastCauses.{IsSlot};
 ghost use Rattle.cdb_causal.specs.Raised.{IsRaised, joined, left};
 
+use crate::dependence::accesses;
 use cdb_base::{CopyName, Event, Kind, NoMemory, Proc, Reg, StepId};
 use std::alloc::Global;
 
@@ -90,13 +92,13 @@ fn grow(table: &mut Vec<usize>, cell: usize) -> Result<(), NoMemory>
     Ok(())
 }
 
-/// Raises one bound.
+/// Gives a cell a bound above all marks. One that was left too high falls to it.
 fn raise(table: &mut [usize], cell: usize, bound: usize)
     requires { cell < length table.old }
-    ensures others { IsRaised table.old table.new }
+    ensures others { IsRaised bound table.old table.new }
     ensures raised { bound ≤ slice_index table.new cell }
 {
-    table[cell] = table[cell].max(bound);
+    table[cell] = bound;
 }
 
 /// Gives a cell its bound, where it has none, or marks that several events may stand there.
@@ -105,7 +107,7 @@ fn join(table: &mut [usize], cell: usize, bound: usize)
     requires bound { bound ≤ SEVERAL }
     ensures joined { (n : ℕ) → slice_index table.new n
         ≡ (if n == cell then joined (slice_index table.old n) bound else slice_index table.old n) }
-    ensures raised { IsRaised table.old table.new }
+    ensures raised { IsRaised bound table.old table.new }
 {
     table[cell] = if table[cell] == 0 { bound } else { SEVERAL };
 }
@@ -127,7 +129,22 @@ fn bound_in(table: &[usize], cell: usize) -> usize
     table.get(cell).copied().unwrap_or(0)
 }
 
+/// The highest bound of a register in a table.
+fn highest(table: &[usize], register: &Reg) -> usize
+    requires { length table.now ≡ 90 }
+    ensures { (slot : ℕ) → slot < 9 →
+        slice_index table.now (register_cell_of register.now slot) ≤ result }
+{
+    let first = register_cell(*register, 0);
+    let mut end = 0;
+    for slot in 0..9 {
+        end = end.max(table[first + slot]);
+    }
+    end
+}
+
 impl Bounds {
+    ghost use Rattle.cdb_causal.specs.Between.{IsBetween};
     ghost use Rattle.cdb_causal.specs.Bounds.{IsWithin, IsKindWithin, AreRaised, HasRoom, HasRoomFor};
     ghost use Rattle.cdb_causal.specs.Alone.{Joins, Leaves, KeepsReceives, ShareCell};
 
@@ -152,7 +169,7 @@ impl Bounds {
 
     /// Makes room for what a step of that kind sends or receives.
     fn reserve_kind(&mut self, p: Proc, kind: Kind) -> Result<(), NoMemory>
-        ensures others { AreRaised self.old self.new }
+        ensures others { (top : ℕ) → AreRaised top self.old self.new }
         ensures steps { self.new.steps ≡ self.old.steps }
         ensures receives { KeepsReceives self.old self.new }
         ensures room { OnOk result (HasRoomFor self.new p kind) }
@@ -166,7 +183,7 @@ impl Bounds {
 
     /// Makes room for the bounds of an event.
     pub fn reserve(&mut self, event: &Event) -> Result<(), NoMemory>
-        ensures others { AreRaised self.old self.new }
+        ensures others { (top : ℕ) → AreRaised top self.old self.new }
         ensures receives { KeepsReceives self.old self.new }
         ensures room { OnOk result (HasRoom self.new event.now) }
     {
@@ -188,7 +205,7 @@ impl Bounds {
     fn note_kind(&mut self, mark: usize, p: Proc, kind: Kind)
         requires mark { mark < 18446744073709551615 }
         requires room { HasRoomFor self.old p kind }
-        ensures others { AreRaised self.old self.new }
+        ensures others { AreRaised (mark + 1) self.old self.new }
         ensures steps { self.new.steps ≡ self.old.steps }
         ensures receives { (k : ℕ) → Joins self.old self.new (Step p k kind) }
         ensures within { IsKindWithin self.new mark p kind }
@@ -216,7 +233,7 @@ impl Bounds {
     pub fn note(&mut self, mark: usize, event: &Event)
         requires mark { mark < 18446744073709551615 }
         requires room { HasRoom self.old event.now }
-        ensures others { AreRaised self.old self.new }
+        ensures others { AreRaised (mark + 1) self.old self.new }
         ensures receives { Joins self.old self.new event.now }
         ensures within { IsWithin self.new mark event.now }
         ensures process { (p k : ℕ) (kind : AKind) → event.now ≡ Step p k kind →
@@ -385,26 +402,99 @@ impl Bounds {
         sent.max(lost).max(received)
     }
 
-    /// The same for steps of any kind of the processes `q` and `p`, the second under mark `j`.
-    fn end_between_steps(&self, q: Proc, sent: Kind, p: Proc, received: Kind, j: usize) -> usize
-        ensures { (i k l : ℕ) (between : AnEvent) → i < j → IsWithin self.now i between
-            → (ShareCell self.now between (Step p l received) → ⊥)
-            → depends_of (Step q k sent) between ≡ true
-            → depends_of between (Step p l received) ≡ true → i < result }
+    /// Above all writes of the register.
+    fn end_of_writes(&self, register: &Reg) -> usize
+        ensures { (i x n slot : ℕ) → IsWithin self.now i (Step x n (Write register.now))
+            → slot + 1 ≡ x → slot ≤ 8 → i < result }
     {
-        match (sent, received) {
-            (Kind::Send(m), Kind::Recv(s, r)) if q != p => self.end_of_waiting(q, m, p, s, r),
+        highest(&self.writes, register)
+    }
+
+    /// Above all accesses of the register.
+    fn end_of_accesses(&self, register: &Reg) -> usize
+        ensures { (i x n slot : ℕ) (kind : AKind) → accesses_of register.now kind ≡ true
+            → IsWithin self.now i (Step x n kind) → slot + 1 ≡ x → slot ≤ 8 → i < result }
+    {
+        highest(&self.accesses, register)
+    }
+
+    /// Above all accesses of the register by one process.
+    fn end_of_accesses_by(&self, p: Proc, register: &Reg) -> usize
+        ensures { (i n : ℕ) (kind : AKind) → accesses_of register.now kind ≡ true
+            → IsWithin self.now i (Step p n kind) → i < result }
+    {
+        self.accesses[register_cell(*register, p.index())]
+    }
+
+    /// Above what stands between a step of process `q` and a read of the register by process `p`,
+    /// under mark `j`.
+    fn end_before_read(&self, q: Proc, first: Kind, p: Proc, register: Reg, j: usize) -> usize
+        ensures { (i k l : ℕ) (between : AnEvent) → i < j
+            → IsBetween self.now (Step q k first) (Step p l (Read register)) i between → i < result }
+    {
+        if accesses(&register, &first) {
+            let written = self.end_of_writes(&register);
+            return written.max(self.end_of_accesses_by(p, &register));
+        }
+        if q == p { 0 } else { j }
+    }
+
+    /// Above what stands between two accesses of the register, the second a write.
+    fn end_before_write_of(&self, first: &Kind, register: &Reg) -> usize
+        requires { accesses_of register.now first.now ≡ true }
+        ensures { (i q k p l : ℕ) (between : AnEvent)
+            → IsBetween self.now (Step q k first.now) (Step p l (Write register.now)) i between
+            → i < result }
+    {
+        match first {
+            Kind::Read(_) => self.end_of_writes(register),
+            _ => self.end_of_accesses(register),
+        }
+    }
+
+    /// Above what stands between a step of process `q` and a write of the register by process `p`,
+    /// under mark `j`.
+    fn end_before_write(&self, q: Proc, first: Kind, p: Proc, register: Reg, j: usize) -> usize
+        ensures { (i k l : ℕ) (between : AnEvent) → i < j
+            → IsBetween self.now (Step q k first) (Step p l (Write register)) i between
+            → i < result }
+    {
+        if accesses(&register, &first) {
+            return self.end_before_write_of(&first, &register);
+        }
+        if q == p { 0 } else { j }
+    }
+
+    /// Above what stands between a step of process `q` and the receive of a message by process `p`,
+    /// under mark `j`.
+    fn end_before_receive(&self, q: Proc, first: Kind, p: Proc, s: Proc, r: u16, j: usize) -> usize
+        ensures { (i k l : ℕ) (between : AnEvent) → i < j
+            → IsBetween self.now (Step q k first) (Step p l (Recv s r)) i between → i < result }
+    {
+        match first {
+            Kind::Send(m) if q != p => self.end_of_waiting(q, m, p, s, r),
             _ => j,
         }
     }
 
-    /// A mark above all events that depend on the cause and on which the effect under mark `j`
-    /// depends.
+    /// The same for steps of any kind of the processes `q` and `p`, the second under mark `j`.
+    fn end_between_steps(&self, q: Proc, first: Kind, p: Proc, second: Kind, j: usize) -> usize
+        ensures { (i k l : ℕ) (between : AnEvent) → i < j
+            → IsBetween self.now (Step q k first) (Step p l second) i between → i < result }
+    {
+        match second {
+            Kind::Read(register) => self.end_before_read(q, first, p, register, j),
+            Kind::Write(register) => self.end_before_write(q, first, p, register, j),
+            Kind::Recv(s, r) => self.end_before_receive(q, first, p, s, r, j),
+            _ => j,
+        }
+    }
+
+    /// A mark above all events of other processes that depend on the cause and on which the effect
+    /// under mark `j` depends.
     pub fn end_between(&self, cause: &Event, effect: &Event, j: usize) -> usize
-        ensures { (i : ℕ) (between : AnEvent) → i < j → IsWithin self.now i between
-            → (ShareCell self.now between effect.now → ⊥)
-            → depends_of cause.now between ≡ true
-            → depends_of between effect.now ≡ true → i < result }
+        ensures { (i : ℕ) (between : AnEvent) → i < j
+            → IsBetween self.now cause.now effect.now i between → i < result }
     {
         match effect {
             Event::Lost(_) => j,

@@ -1,10 +1,10 @@
 //! Which events depend on each other.
 
 ghost use Rattle.std.specs.Prelude.{◌≡◌, ◌&&◌, nat_eq};
-ghost use Rattle.cdb_causal.specs.Dependence.{sends as sends_of, receives as receives_of, same_process as same_process_of, depends as depends_of};
+ghost use Rattle.cdb_causal.specs.Dependence.{accesses as accesses_of, sends as sends_of, receives as receives_of, same_process as same_process_of, depends as depends_of};
 ghost use Rattle.cdb_causal.specs.Effects.{kind_affects as kind_affects_of, affects as affects_of};
 
-use cdb_base::{CopyName, Event, Kind, Proc};
+use cdb_base::{CopyName, Event, Kind, Proc, Reg};
 
 /// Whether a step of that process and kind sends what one of the other kind receives, or writes a
 /// register that it reads or writes.
@@ -15,6 +15,17 @@ fn kind_affects(p: Proc, kind: Kind, other: Kind) -> bool
         (Kind::Send(m), Kind::Recv(s, k)) => p == s && m == k,
         (Kind::Write(x), Kind::Read(y)) => x == y,
         (Kind::Write(x), Kind::Write(y)) => x == y,
+        _ => false,
+    }
+}
+
+/// Whether a step of that kind reads or writes the register.
+pub(crate) fn accesses(register: &Reg, kind: &Kind) -> bool
+    ensures { result ≡ accesses_of register.now kind.now }
+{
+    match kind {
+        Kind::Read(other) => *register == *other,
+        Kind::Write(other) => *register == *other,
         _ => false,
     }
 }

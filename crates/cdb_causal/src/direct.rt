@@ -73,7 +73,7 @@ fn is_direct(history: &History, i: usize, j: usize, end: usize) -> bool
 {
     let cause = history.event(i);
     let effect = history.event(j);
-    for k in i + 1..end.min(j) {
+    for k in (i + 1..end.min(j)).rev() {
         let between = history.event(k);
         if leads_on(cause, between, effect) {
             return false;

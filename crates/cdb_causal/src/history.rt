@@ -1,10 +1,10 @@
 //! The standing events of a run, in the order in which they were taken.
 
-ghost use Rattle.std.specs.Prelude.{◌≡◌, ℕ, ◌-◌, ◌<◌, ◌≤◌, List, [], ◌∷◌, ◌++◌, Some, length, slice_get, take, MatchOption, OnOk, OnErr, IfOk, IsTrue, ◌==◌, ◌↔◌};
+ghost use Rattle.std.specs.Prelude.{◌≡◌, ℕ, ◌-◌, ◌<◌, ◌≤◌, List, [], ◌∷◌, ◌++◌, Some, false, length, slice_get, take, MatchOption, OnOk, OnErr, IfOk, IsTrue, ◌==◌, ◌↔◌};
 ghost use Rattle.cdb_base.specs.Event.{event_name};
 ghost use Rattle.cdb_base.specs.Places.{nth};
 ghost use Rattle.cdb_causal.specs.Causality.{IsLink};
-ghost use Rattle.cdb_causal.specs.Dependence.{depends as depends_of};
+ghost use Rattle.cdb_causal.specs.Dependence.{same_process as same_process_of, depends as depends_of};
 ghost use Rattle.cdb_causal.specs.LastCauses.{IsSlot};
 ghost use Rattle.cdb_causal.specs.Names.{IsNamedAt, IsNewName, IsPlaceOf};
 ghost use Rattle.cdb_causal.specs.Rollback.{without};
@@ -144,13 +144,13 @@ impl History {
         self.events.place_above(bound)
     }
 
-    /// A place, from 0, above all events that depend on the event at place `i` and on which the one at
-    /// place `j` depends.
+    /// A place, from 0, above all events that depend on the event at place `i`, but for steps of its
+    /// process, and on which the one at place `j` depends.
     pub(crate) fn end_between(&self, i: usize, j: usize) -> usize
         requires order { i < j }
         requires within { j < length self.now }
-        ensures { (k : ℕ) → IsLink depends_of self.now i k → IsLink depends_of self.now k j →
-            k < result }
+        ensures { (k : ℕ) (l : IsLink depends_of self.now i k) → IsLink depends_of self.now k j →
+            same_process_of l.cause l.effect ≡ false → k < result }
     {
         let cause = self.events.get(i);
         let effect = self.events.get(j);

@@ -5,7 +5,7 @@ use Rattle.std.specs.Option.{option_to_list, MatchOption}
 use Rattle.cdb_log.specs.Ends.{start, AreRoomy, HasEnds}
 use Rattle.cdb_log.specs.Marks.{KeepsMarks, HasRoom, IsSameLog, IsPushed, IsReplaced, IsTakenOut}
 use Rattle.cdb_log.specs.Pieces.{joined, before, lists}
-use Rattle.cdb_log.proofs.Counting.{below_or_above, before_rises, before_step, before_all, mark_at, marks_kept, marks_before, marks_after}
+use Rattle.cdb_log.proofs.Counting.{below_or_above, before_rises, before_step, before_all, located, mark_at, marks_kept, marks_before, marks_after}
 use Rattle.cdb_log.proofs.Ended.{start_is, lists_at, lists_long}
 use Rattle.cdb_log.proofs.Splitting.{item_at, joined_remove, joined_set, joined_push, before-set_low, before-set_high, joined-push_empty, before-push_empty, length-remove}
 
@@ -138,6 +138,23 @@ module _ {T Z : Type 0} where
               let g = high (suc k) (omega arith) in
               let m = mark_at (changed (v.items ++ item ∷ [])) k (length (joined old)) (omega (arith, length-set old k (v.items ++ item ∷ []))) (omega arith) (omega arith) in
               omega arith;
+          above = λ i less.
+              let a = located old i less in
+              let in_a = a.within in
+              let low_a = a.low in
+              let high_a = a.high in
+              let m = mark_at old a.k i a.within a.low a.high in
+              let s = h.small a.k in
+              let long_old = long in
+              let step = before_step old k v.items at_k in
+              ⊎_elim
+              (λ before_k. omega arith)
+              (λ not_before.
+              let same : a.k ≡ k = omega arith in
+              let e = ap (before old) same in
+              let f = ap (λ l. before old (suc l)) same in
+              omega arith)
+              (below_or_above a.k k);
         })
       where
         at_k : slice_get (lists pieces) k ≡ Some v.items

@@ -21,11 +21,12 @@ pub record IsSameLog {T : Type 0} (old new : List (List T)) : Type 0 where
   pub items : joined new ≡ joined old
   pub marks : KeepsMarks (length (joined old)) old new
 
--- the item has been added at the end, under that mark
+-- the item has been added at the end, under that mark, which is above the marks of all others
 pub record IsPushed {T : Type 0} (old : List (List T)) (item : T) (end : ℕ) (new : List (List T)) : Type 0 where
   pub items : joined new ≡ joined old ++ item ∷ []
   pub marks : KeepsMarks (length (joined old)) old new
   pub last : mark new (length (joined old)) ≡ end
+  pub above : (i : ℕ) → i < length (joined old) → mark old i < end
 
 -- the item at that place is another, and all else is as it was
 pub record IsReplaced {T : Type 0} (old : List (List T)) (place : ℕ) (item : T) (new : List (List T)) : Type 0 where

@@ -1,14 +1,19 @@
 use Rattle.std.proofs.Common.{List, sym, ◌∙◌, subst, true≢false, arith}
 use Rattle.cdb_base.specs.declared.event.Event.{Event}
 use Rattle.cdb_causal.specs.LastCauses.{IsLastCause, IsLastOrNone}
-use Rattle.cdb_causal.proofs.SlotsOfCauses.{named_in, none_without_cause, none_if_not_direct}
+use Rattle.cdb_causal.proofs.SlotsOfCauses.{last_alone, named_in, none_without_cause, none_if_not_direct}
 use Rattle.cdb_causal.proofs.direct.direct_cause.Goals as goal
 use Rattle.cdb_causal.proofs.direct.direct_cause.Goals.{in-Some+else-is_direct, in_default}
 
 pub is_direct-requires-clause-end : goal.is_direct-requires-clause-end
 is_direct-requires-clause-end c =
-    let min = c.min.ensures in
-    λ k one two. let below = c.end_between.ensures k one two in let within = c.requires.end k two in omega arith
+    let history : List Event = c.args.history.now in
+    let least = c.min.ensures in
+    let last : IsLastCause history c.args.j c.args.slot c.in-Some.i = subst (λ p. IsLastOrNone history c.args.j c.args.slot p) c.in-Some.is c.requires.last in
+    λ k one two.
+    let within = c.requires.end k two in
+    let below = c.end_between.ensures k one two (last_alone history c.args.j c.args.slot c.in-Some.i last k one two) in
+    omega arith
 
 pub returns-then-is_direct : goal.returns-then-is_direct
 returns-then-is_direct c =

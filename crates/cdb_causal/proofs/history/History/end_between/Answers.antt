@@ -1,8 +1,8 @@
-use Rattle.std.proofs.Common.{ℕ, ◌<◌, subst, arith}
+use Rattle.std.proofs.Common.{◌≡◌, ℕ, ◌<◌, false, subst, arith}
 use Rattle.std.proofs.lemmas.Option.{slice_get_within}
 use Rattle.cdb_base.specs.declared.event.Event.{Event}
 use Rattle.cdb_causal.specs.Causality.{IsLink}
-use Rattle.cdb_causal.specs.Dependence.{depends}
+use Rattle.cdb_causal.specs.Dependence.{same_process, depends}
 use Rattle.cdb_causal.proofs.Ends.{end_above_between}
 use Rattle.cdb_log.specs.Marks.{mark}
 use Rattle.cdb_log.specs.Pieces.{joined}
@@ -13,8 +13,8 @@ returns c =
     let log = c.self.inside.events in
     let cause : Event = c.get-cause.result.now in
     let effect : Event = c.get-effect.result.now in
-    subst (λ h. (k : ℕ) → IsLink depends h c.args.i k → IsLink depends h k c.args.j → k < c.place_above.result) c.self.view_is
-    (λ k one two.
+    subst (λ h. (k : ℕ) (l : IsLink depends h c.args.i k) → IsLink depends h k c.args.j → same_process l.cause l.effect ≡ false → k < c.place_above.result) c.self.view_is
+    (λ k one two another.
     (c.place_above.ensures.marks k (slice_get_within (joined log) k two.cause two.at_cause)).1
-    (end_above_between (joined log) c.self.inside.bounds (mark log) c.self.invariant.within c.self.invariant.alone c.args.i c.args.j c.end_between-bound.result 18446744073709551615 cause effect c.get-cause.ensures c.get-effect.ensures
-    (λ i less. c.place_above.ensures.small i (let within = slice_get_within (joined log) c.args.j effect c.get-effect.ensures in omega (arith, less, within))) c.end_between-bound.ensures k one two))
+    (end_above_between (joined log) c.self.invariant.standing c.self.inside.bounds (mark log) c.self.invariant.within c.self.invariant.alone c.args.i c.args.j c.end_between-bound.result 18446744073709551615 cause effect c.get-cause.ensures c.get-effect.ensures
+    (λ i less. c.place_above.ensures.small i (let within = slice_get_within (joined log) c.args.j effect c.get-effect.ensures in omega (arith, less, within))) c.end_between-bound.ensures k one two another))

@@ -1,4 +1,4 @@
-use Rattle.std.proofs.Common.{List, sym, subst}
+use Rattle.std.proofs.Common.{◌+◌, List, sym, subst, arith}
 use Rattle.cdb_base.specs.declared.event.Event.{Event}
 use Rattle.cdb_causal.specs.Alone.{AreAlone}
 use Rattle.cdb_causal.specs.Bounds.{IsWithin, AreWithin}
@@ -41,7 +41,7 @@ invariant_of-self-2 c =
           (standing_push items event c.self.invariant.standing (rw c.self.view_is c.requires.new_name) (rw c.self.view_is c.requires.not_lost) c.note.ensures.process);
       within =
           subst (AreWithin c.note.new.self (mark log)) (sym pushed.items)
-          (within_push c.reserve.new.self c.note.new.self (mark c.self.inside.events) (mark log) items event c.note.ensures.others raised pushed.marks
+          (within_push (c.in_ok-mark.mark + 1) c.reserve.new.self c.note.new.self (mark c.self.inside.events) (mark log) items event c.note.ensures.others (λ i less. let above = pushed.above i less in omega arith) raised pushed.marks
           (subst (λ n. IsWithin c.note.new.self n event) (sym pushed.last) c.note.ensures.within));
       alone =
           subst (AreAlone c.note.new.self) (sym pushed.items)
