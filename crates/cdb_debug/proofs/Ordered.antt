@@ -115,13 +115,13 @@ pub all_read : (old now : Option (List ℕ)) (made more : List Move) → Consume
 all_read old now made more consumes first second (before, later, e, writes) =
     elim (cut_of_two made more before later (Read []) e) [
       | inl found ↦
-        subst (AreAllOf old) (sym (read-append made more))
-        (all_later old now (read_in made) (read_in more) consumes (second (found.0, later, found.1, writes)))
+          subst (AreAllOf old) (sym (read-append made more))
+          (all_later old now (read_in made) (read_in more) consumes (second (found.0, later, found.1, writes)))
       | inr found ↦
-        let are : AreWrites (found.0 ++ more) = subst AreWrites found.2 writes in
-        let none : read_in more ≡ [] = nothing_read more (are_last found.0 more are) in
-        subst (AreAllOf old) (sym (read-append made more ∙ ap (λ bytes. read_in made ++ bytes) none ∙ append-nil (read_in made)))
-        (first (before, found.0, found.1, are_first found.0 more are))
+          let are : AreWrites (found.0 ++ more) = subst AreWrites found.2 writes in
+          let none : read_in more ≡ [] = nothing_read more (are_last found.0 more are) in
+          subst (AreAllOf old) (sym (read-append made more ∙ ap (λ bytes. read_in made ++ bytes) none ∙ append-nil (read_in made)))
+          (first (before, found.0, found.1, are_first found.0 more are))
     ]
 
 -- without moves no end was found

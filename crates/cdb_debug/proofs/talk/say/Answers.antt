@@ -2,7 +2,7 @@ use Rattle.std.proofs.Common.{◌-◌, List, ℕ, arith, refl, ap, length, take,
 use Rattle.std.proofs.lemmas.List.{length-drop, length-take}
 use Rattle.std.proofs.lemmas.Result.{err_from_is_err_and}
 use Rattle.cdb_debug.specs.Moves.{Wrote, WriteFailed}
-use Rattle.cdb_debug.proofs.Saying.{piece_said, cut_off}
+use Rattle.cdb_debug.proofs.Saying.{nothing_said, piece_said, cut_off}
 use Rattle.cdb_debug.proofs.talk.say.Goals as goal
 
 pub returns-in_err-count : goal.returns-in_err-count
@@ -17,6 +17,9 @@ returns-then-count-eq0 g c =
     let piece : List ℕ = take (length bytes - done) (drop done bytes) in
     let none = ap (λ n. take n piece) c.if-count-eq0.true in
     cut_off _ _ _ bytes done c.loop-done.invariant.said (Unit {0}) (Unit {0}) tt (Wrote (take c.in_ok-count.count piece)) none (λ asks. asks) none c.in_ok-count.ensures.moves
+
+pub loop-done-init : goal.loop-done-init
+loop-done-init g c = record { within = omega arith; said = nothing_said _ _ }
 
 pub loop-done-preserved : goal.loop-done-preserved
 loop-done-preserved g c =
