@@ -54,7 +54,7 @@ kind_raised top old new raised i p (Write register) below within = (
 )
 kind_raised top old new raised i p _ below within = within
 
-within_raised : (top : ℕ) (old new : Bounds) → AreRaised top old new → (i : ℕ) (event : Event) → i < top → IsWithin old i event → IsWithin new i event
+pub within_raised : (top : ℕ) (old new : Bounds) → AreRaised top old new → (i : ℕ) (event : Event) → i < top → IsWithin old i event → IsWithin new i event
 within_raised top old new raised i (Step p k kind) below within =
     (raised.steps (named_cell p k) i below within.0, kind_raised top old new raised i p kind below within.1)
 within_raised top old new raised i (Lost copy) below within = raised.losses (copy_cell copy.msg.s copy.msg.m (copy.to - 1)) i below within
@@ -103,7 +103,7 @@ pub step_below : (bounds : Bounds) (name : StepId) (step : StepName) → name �
 step_below bounds name step is_step i (Step p k kind) within is = subst (λ (s : StepName). i < slice_index bounds.steps.items (named_cell s.p s.k)) (same_step (is ∙ is_step)) within.0
 step_below bounds name step is_step i (Lost other) within is = absurd (no_loss (sym (is ∙ is_step)))
 
-place_not_gone : (gone i : ℕ) → place_before gone i ≡ gone → ⊥
+pub place_not_gone : (gone i : ℕ) → place_before gone i ≡ gone → ⊥
 place_not_gone zero i h = omega arith
 place_not_gone (suc gone) zero h = omega arith
 place_not_gone (suc gone) (suc i) h = place_not_gone gone i (omega arith)

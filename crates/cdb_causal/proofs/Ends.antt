@@ -46,11 +46,11 @@ module _ (bounds : Bounds) (slot result : ℕ) where
   above_steps event p k kind is not_last other_process above i (Lost copy) within in_slot h = absurd (not_last in_slot)
 
 -- the bound of a slot is above each event of a history on which the one at place j depends
-pub end_above : (history : List Event) → IsStanding history → (bounds : Bounds) (marks : ℕ → ℕ) → AreWithin bounds marks history → (j slot result top : ℕ) (event : Event) → slice_get history j ≡ Some event → ((i : ℕ) → i < j → marks i < top)
+pub end_above : (history : List Event) → IsStanding history → (bounds : Bounds) (marks : ℕ → ℕ) → AreWithin bounds marks history → (j slot result top : ℕ) (event : Event) → slice_get history j ≡ Some event → ((i : ℕ) (l : IsLink depends history i j) → IsSlot l.cause slot → marks i < top)
     → ((i : ℕ) (cause : Event) → i < top → IsWithin bounds i cause → IsSlot cause slot → ((copy : CopyName) → cause ≡ Lost copy → send_and_loss event (Lost copy) ≡ false) → depends cause event ≡ true → i < result)
     → (i : ℕ) (l : IsLink depends history i j) → IsSlot l.cause slot → marks i < result
 end_above history standing bounds marks within j slot result top event at_j rises above i l in_slot =
-    above (marks i) l.cause (rises i l.later) (within i l.cause l.at_cause) in_slot
+    above (marks i) l.cause (rises i l in_slot) (within i l.cause l.at_cause) in_slot
     (λ copy is. standing.lost_after_sent i j copy event l.later (l.at_cause ∙ ap Some is) at_j)
     (subst (λ e. depends l.cause e ≡ true) (same_Some l.effect event (sym l.at_effect ∙ at_j)) l.linked)
 

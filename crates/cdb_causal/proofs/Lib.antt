@@ -14,6 +14,7 @@ pub mod LeastSet
 pub mod Lists
 pub mod Orders
 pub mod PastLaws
+pub mod Owning
 pub mod Paths
 pub mod Reaches
 pub mod SlotsOfCauses

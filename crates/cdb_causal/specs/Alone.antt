@@ -42,4 +42,5 @@ pub record Leaves (old new : Bounds) (event : Event) : Type 0 where
   pub losses : new.losses ≡ old.losses
   pub writes : new.writes ≡ old.writes
   pub accesses : new.accesses ≡ old.accesses
+  pub before : new.before ≡ old.before
   pub others : (n : ℕ) → (IsReceiveIn event n → receive_bound old n ≡ SEVERAL) → receive_bound new n ≡ receive_bound old n

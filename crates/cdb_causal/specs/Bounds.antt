@@ -34,6 +34,8 @@ pub record AreRaised (top : ℕ) (old new : Bounds) : Type 0 where
   pub losses : IsRaised top old.losses.items new.losses.items
   pub writes : IsRaised top old.writes new.writes
   pub accesses : IsRaised top old.accesses new.accesses
+  pub own : IsRaised top old.own new.own
+  pub before : IsRaised top old.before.items new.before.items
 
 -- the tables that grow have a cell for what a step of process p of that kind does
 abbrev pub HasRoomFor : Bounds → ℕ → Kind → Type 0
@@ -43,5 +45,5 @@ HasRoomFor bounds p _ = ⊤
 
 -- and for the event
 abbrev pub HasRoom : Bounds → Event → Type 0
-HasRoom bounds (Step p k kind) = (named_cell p k < vec_len bounds.steps) × HasRoomFor bounds p kind
+HasRoom bounds (Step p k kind) = (named_cell p k < vec_len bounds.steps) × (named_cell p k < vec_len bounds.before) × HasRoomFor bounds p kind
 HasRoom bounds (Lost copy) = copy_cell copy.msg.s copy.msg.m (copy.to - 1) < vec_len bounds.losses

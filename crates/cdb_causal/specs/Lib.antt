@@ -18,4 +18,5 @@ pub mod Cells
 pub mod Effects
 pub mod Indexed
 pub mod LastCauses
+pub mod Own
 pub mod Raised

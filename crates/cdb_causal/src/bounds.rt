@@ -41,6 +41,10 @@ pub struct Bounds {
     writes: [usize; REGISTER_CELLS],
     /// By register read or written and process.
     accesses: [usize; REGISTER_CELLS],
+    /// By process, of all its steps.
+    own: [usize; 9],
+    /// By process and number of the step, of the process's steps before that.
+    before: Vec<usize>,
 }
 
 /// The row of a register in a table.
@@ -146,6 +150,7 @@ fn highest(table: &[usize], register: &Reg) -> usize
 impl Bounds {
     ghost use Rattle.cdb_causal.specs.Between.{IsBetween};
     ghost use Rattle.cdb_causal.specs.Bounds.{IsWithin, IsKindWithin, AreRaised, HasRoom, HasRoomFor};
+    ghost use Rattle.cdb_causal.specs.Own.{own_bound, bound_of_slot, IsOwnNoted, IsOwnForgotten};
     ghost use Rattle.cdb_causal.specs.Alone.{Joins, Leaves, KeepsReceives, ShareCell};
 
     /// The bounds of a history without events.
@@ -156,6 +161,8 @@ impl Bounds {
         ensures losses { result.losses.items ≡ [] }
         ensures writes { result.writes ≡ replicate 90 0 }
         ensures accesses { result.accesses ≡ replicate 90 0 }
+        ensures own { result.own ≡ replicate 9 0 }
+        ensures before { result.before.items ≡ [] }
     {
         Bounds {
             steps: Vec::new(alloc),
@@ -164,6 +171,8 @@ impl Bounds {
             losses: Vec::new(alloc),
             writes: [0; REGISTER_CELLS],
             accesses: [0; REGISTER_CELLS],
+            own: [0; 9],
+            before: Vec::new(alloc),
         }
     }
 
@@ -171,6 +180,7 @@ impl Bounds {
     fn reserve_kind(&mut self, p: Proc, kind: Kind) -> Result<(), NoMemory>
         ensures others { (top : ℕ) → AreRaised top self.old self.new }
         ensures steps { self.new.steps ≡ self.old.steps }
+        ensures before { self.new.before ≡ self.old.before }
         ensures receives { KeepsReceives self.old self.new }
         ensures room { OnOk result (HasRoomFor self.new p kind) }
     {
@@ -190,6 +200,7 @@ impl Bounds {
         match event {
             Event::Step { p, k, kind } => {
                 grow(&mut self.steps, named_cell(*p, *k))?;
+                grow(&mut self.before, named_cell(*p, *k))?;
                 self.reserve_kind(*p, *kind)
             }
             Event::Lost(copy) => {
@@ -207,7 +218,10 @@ impl Bounds {
         requires room { HasRoomFor self.old p kind }
         ensures others { AreRaised (mark + 1) self.old self.new }
         ensures steps { self.new.steps ≡ self.old.steps }
+        ensures own { self.new.own ≡ self.old.own }
+        ensures before { self.new.before ≡ self.old.before }
         ensures receives { (k : ℕ) → Joins self.old self.new (Step p k kind) }
+        ensures room { vec_len self.new.before ≡ vec_len self.old.before }
         ensures within { IsKindWithin self.new mark p kind }
     {
         match kind {
@@ -229,6 +243,22 @@ impl Bounds {
         }
     }
 
+    /// Raises the bounds of a process's steps, for which there is room, by the `k`-th under that mark.
+    fn note_own(&mut self, mark: usize, p: Proc, k: u16)
+        requires mark { mark < 18446744073709551615 }
+        requires room { named_cell_of p k < vec_len self.old.before }
+        ensures others { AreRaised (mark + 1) self.old self.new }
+        ensures steps { self.new.steps ≡ self.old.steps }
+        ensures sends { self.new.sends ≡ self.old.sends }
+        ensures receives { self.new.receives ≡ self.old.receives }
+        ensures own { (kind : AKind) → IsOwnNoted self.old self.new mark (Step p k kind) }
+    {
+        let cell = named_cell(p, k);
+        let slot = p.index();
+        self.before[cell] = self.before[cell].max(self.own[slot]);
+        self.own[slot] = mark + 1;
+    }
+
     /// Raises the bounds, for which there is room, so that the event under that mark is within them.
     pub fn note(&mut self, mark: usize, event: &Event)
         requires mark { mark < 18446744073709551615 }
@@ -236,6 +266,7 @@ impl Bounds {
         ensures others { AreRaised (mark + 1) self.old self.new }
         ensures receives { Joins self.old self.new event.now }
         ensures within { IsWithin self.new mark event.now }
+        ensures own { IsOwnNoted self.old self.new mark event.now }
         ensures process { (p k : ℕ) (kind : AKind) → event.now ≡ Step p k kind →
             (1 ≤ p) × (p ≤ 9) }
     {
@@ -244,6 +275,7 @@ impl Bounds {
                 let _index = p.index();
                 raise(&mut self.steps, named_cell(*p, *k), mark + 1);
                 self.note_kind(mark, *p, *kind);
+                self.note_own(mark, *p, *k);
             }
             Event::Lost(copy) => {
                 let lost = copy_cell(copy.msg.s, copy.msg.m, copy.to.index());
@@ -252,9 +284,33 @@ impl Bounds {
         }
     }
 
+    /// The bound of all steps of the event's process.
+    pub fn end_of_own(&self, event: &Event) -> usize
+        ensures { (p k : ℕ) (kind : AKind) → event.now ≡ Step p k kind →
+            result ≡ own_bound self.now p }
+    {
+        match event {
+            Event::Step { p, .. } => self.own[p.index()],
+            Event::Lost(_) => 0,
+        }
+    }
+
+    /// Gives a process the bound of its steps before the event, where that is its last.
+    pub fn forget_own(&mut self, event: &Event, last: bool)
+        ensures { IsOwnForgotten self.old self.new last event.now }
+    {
+        if !last {
+            return;
+        }
+        if let Event::Step { p, k, .. } = event {
+            self.own[p.index()] = bound_in(&self.before, named_cell(*p, *k));
+        }
+    }
+
     /// Takes away the bound of a receive that is taken out of the history.
     pub fn forget(&mut self, event: &Event)
-        ensures { Leaves self.old self.new event.now }
+        ensures leaves { Leaves self.old self.new event.now }
+        ensures own { self.new.own ≡ self.old.own }
     {
         if let Event::Step {
             p,
@@ -356,6 +412,20 @@ impl Bounds {
         match kind {
             Kind::Recv(s, m) => self.end_of_losses(s, m, p.index()),
             _ => 0,
+        }
+    }
+
+    /// Above all steps of the slot's process that stand before the effect, where it is a step of that
+    /// process; else above all marks.
+    pub fn end_before(&self, effect: &Event, slot: usize) -> usize
+        requires { slot < 10 }
+        ensures { result ≡ bound_of_slot self.now effect.now slot }
+    {
+        match effect {
+            Event::Step { p, k, .. } if p.index() == slot => {
+                bound_in(&self.before, named_cell(*p, *k))
+            }
+            _ => usize::MAX,
         }
     }
 

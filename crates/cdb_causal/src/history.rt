@@ -2,6 +2,8 @@
 
 ghost use Rattle.std.specs.Prelude.{◌≡◌, ℕ, ◌-◌, ◌<◌, ◌≤◌, List, [], ◌∷◌, ◌++◌, Some, false, length, slice_get, take, MatchOption, OnOk, OnErr, IfOk, IsTrue, ◌==◌, ◌↔◌};
 ghost use Rattle.cdb_base.specs.Event.{event_name};
+ghost use Rattle.cdb_base.specs.declared.event.Event.TheVariants.{Step};
+ghost use Rattle.cdb_base.specs.declared.event.Kind.{Kind as AKind};
 ghost use Rattle.cdb_base.specs.Places.{nth};
 ghost use Rattle.cdb_causal.specs.Causality.{IsLink};
 ghost use Rattle.cdb_causal.specs.Dependence.{same_process as same_process_of, depends as depends_of};
@@ -140,7 +142,8 @@ impl History {
         ensures { (i j : ℕ) (l : IsLink depends_of self.now i j) →
             slice_get self.now j ≡ Some effect.now → IsSlot l.cause slot → i < result }
     {
-        let bound = self.bounds.end(effect, ABOVE_ALL, slot);
+        let before = self.bounds.end_before(effect, slot);
+        let bound = self.bounds.end(effect, before, slot);
         self.events.place_above(bound)
     }
 
@@ -190,6 +193,18 @@ impl History {
         Ok(())
     }
 
+    /// Whether by the bounds no step of its process stands after the step at a place, from 1.
+    fn last_of_its_process(&self, at: usize) -> bool
+        requires from_one { 1 ≤ at }
+        requires to_len { at ≤ length self.now }
+        ensures { IsTrue result → (i p k l : ℕ) (kind other : AKind) →
+            slice_get self.now (at - 1) ≡ Some (Step p k kind) →
+            slice_get self.now i ≡ Some (Step p l other) → i < at }
+    {
+        let event = self.events.get(at - 1);
+        self.events.place_above(self.bounds.end_of_own(event)) <= at
+    }
+
     /// Takes the event at a place out, from 1 to the number of events. The others keep their order.
     pub fn remove(&mut self, at: usize) -> Event
         requires from_one { 1 ≤ at }
@@ -197,7 +212,9 @@ impl History {
         ensures event { nth self.old at ≡ Some result }
         ensures rest { self.new ≡ without self.old (at - 1) }
     {
+        let last = self.last_of_its_process(at);
         let event = self.events.take_out(at - 1);
+        self.bounds.forget_own(&event, last);
         self.bounds.forget(&event);
         event
     }

@@ -1,22 +1,32 @@
-use Rattle.std.proofs.Common.{ℕ, ◌<◌, List, slice_index, sym, subst, arith}
+use Rattle.std.proofs.Common.{ℕ, ◌+◌, ◌-◌, ◌<◌, ◌≤◌, List, slice_index, sym, ap, ◌∙◌, subst, arith}
 use Rattle.std.proofs.lemmas.List.{with_items_is}
+use Rattle.cdb_base.specs.declared.event.Event.{Event}
+use Rattle.cdb_base.specs.declared.event.Event.TheVariants.{Step}
 use Rattle.cdb_causal.specs.Alone.{Joins}
+use Rattle.cdb_causal.specs.Bounds.{IsWithin}
+use Rattle.cdb_causal.specs.Cells.{named_cell}
+use Rattle.cdb_causal.specs.Own.{IsOwnNoted}
+use Rattle.cdb_causal.proofs.Bounding.{within_raised}
 use Rattle.cdb_causal.proofs.bounds.Bounds.note.Goals as goal
 
 pub returns-in-Step-clause-others : goal.returns-in-Step-clause-others
 returns-in-Step-clause-others c =
     let rest = c.note_kind.ensures.others in
+    let own = c.note_own.ensures.others in
     let written : List ℕ = c.raise.new.table in
     let is = with_items_is c.args.self.now.steps written (let same = c.raise.auto.table in let len = c.deref_mut.ensures.len in omega arith) in
     record {
       steps = λ n i below h.
-          rest.steps n i below
-          (subst (λ l. i < slice_index l n) (sym is) (c.raise.ensures.others n i below (subst (λ l. i < slice_index l n) (sym c.deref_mut.ensures.value) h)));
-      sends = rest.sends;
-      receives = rest.receives;
-      losses = rest.losses;
-      writes = rest.writes;
-      accesses = rest.accesses;
+          own.steps n i below
+          (rest.steps n i below
+          (subst (λ l. i < slice_index l n) (sym is) (c.raise.ensures.others n i below (subst (λ l. i < slice_index l n) (sym c.deref_mut.ensures.value) h))));
+      sends = λ n i below h. own.sends n i below (rest.sends n i below h);
+      receives = λ n i below h. own.receives n i below (rest.receives n i below h);
+      losses = λ n i below h. own.losses n i below (rest.losses n i below h);
+      writes = λ n i below h. own.writes n i below (rest.writes n i below h);
+      accesses = λ n i below h. own.accesses n i below (rest.accesses n i below h);
+      own = λ n i below h. own.own n i below (rest.own n i below h);
+      before = λ n i below h. own.before n i below (rest.before n i below h);
     }
 
 pub returns-in-Lost-clause-others : goal.returns-in-Lost-clause-others
@@ -32,9 +42,37 @@ returns-in-Lost-clause-others c =
           (c.raise-in-Lost.ensures.others n i below (subst (λ l. i < slice_index l n) (sym c.deref_mut-in-Lost.ensures.value) h));
       writes = λ n i below h. h;
       accesses = λ n i below h. h;
+      own = λ n i below h. h;
+      before = λ n i below h. h;
     }
 
 pub returns-in-Step-clause-receives : goal.returns-in-Step-clause-receives
 returns-in-Step-clause-receives c =
     let joins = c.note_kind.ensures.receives c.in-Step.k in
-    subst (λ e. Joins c.args.self.now c.note_kind.new.self e) (sym c.in-Step.is) (record { alone = joins.alone; others = joins.others })
+    let same = c.note_own.ensures.receives in
+    subst (λ e. Joins c.args.self.now c.note_own.new.self e) (sym c.in-Step.is)
+    (record {
+      alone = λ n is single. joins.alone n is (λ e. single (ap (λ t. slice_index t.items n) same ∙ e));
+      others = λ n none. ap (λ t. slice_index t.items n) same ∙ joins.others n none;
+    })
+
+pub returns-in-Step-clause-own : goal.returns-in-Step-clause-own
+returns-in-Step-clause-own c =
+    let noted = c.note_own.ensures.own c.in-Step.kind in
+    let same = ap (λ l. slice_index l (c.in-Step.p - 1)) c.note_kind.ensures.own in
+    let low = noted.1 in
+    subst (IsOwnNoted c.args.self.now c.note_own.new.self c.args.mark) (sym c.in-Step.is) (noted.0, omega arith)
+
+pub returns-in-Step-clause-within : goal.returns-in-Step-clause-within
+returns-in-Step-clause-within c =
+    let rest = c.note_kind.ensures.within in
+    let raised = c.raise.ensures.raised in
+    let event : Event = Step c.in-Step.p c.in-Step.k c.in-Step.kind in
+    let written : List ℕ = c.raise.new.table in
+    let is = with_items_is c.args.self.now.steps written (let same = c.raise.auto.table in let len = c.deref_mut.ensures.len in omega arith) in
+    let steps = ap (λ t. slice_index t.items (named_cell c.in-Step.p c.in-Step.k)) c.note_kind.ensures.steps in
+    let cell = c.named_cell.ensures.value in
+    let here : c.args.mark < slice_index c.note_kind.new.self.steps.items (named_cell c.in-Step.p c.in-Step.k) =
+    (let a = ap (λ l. slice_index l (named_cell c.in-Step.p c.in-Step.k)) is in let b = subst (λ n. c.args.mark + 1 ≤ slice_index written n) cell raised in omega arith) in
+    subst (IsWithin c.note_own.new.self c.args.mark) (sym c.in-Step.is)
+    (within_raised (c.args.mark + 1) c.note_kind.new.self c.note_own.new.self c.note_own.ensures.others c.args.mark event (omega arith) (here, rest))

@@ -15,4 +15,6 @@ returns-in-Send-clause-others c =
       losses = λ n i below h. h;
       writes = λ n i below h. h;
       accesses = λ n i below h. h;
+      own = λ n i below h. h;
+      before = λ n i below h. h;
     }

@@ -1,8 +1,8 @@
 use Rattle.std.proofs.Common.{◌<◌, sym, subst}
 use Rattle.cdb_causal.proofs.bounds.Bounds.reserve.Goals as goal
 
-pub returns-in_ok-grow-in-Step-clause-others : goal.returns-in_ok-grow-in-Step-clause-others
-returns-in_ok-grow-in-Step-clause-others c =
+pub returns-in_ok-grow-in-Step-2-clause-others : goal.returns-in_ok-grow-in-Step-2-clause-others
+returns-in_ok-grow-in-Step-2-clause-others c =
     λ top.
     let rest = c.reserve_kind.ensures.others top in
     record {
@@ -12,4 +12,6 @@ returns-in_ok-grow-in-Step-clause-others c =
       losses = rest.losses;
       writes = rest.writes;
       accesses = rest.accesses;
+      own = rest.own;
+      before = λ n i below h. rest.before n i below (subst (λ b. i < b) (sym (c.grow-in-Step.ensures.others n)) h);
     }

@@ -1,10 +1,11 @@
-use Rattle.std.proofs.Common.{◌≡◌, ℕ, ◌<◌, Some, slice_get, subst, arith}
+use Rattle.std.proofs.Common.{◌≡◌, ℕ, ◌<◌, Some, slice_get, sym, subst}
 use Rattle.std.proofs.lemmas.Option.{slice_get_within}
 use Rattle.cdb_base.specs.declared.event.Event.{Event}
 use Rattle.cdb_causal.specs.Causality.{IsLink}
 use Rattle.cdb_causal.specs.Dependence.{depends}
 use Rattle.cdb_causal.specs.LastCauses.{IsSlot}
 use Rattle.cdb_causal.proofs.Ends.{end_above}
+use Rattle.cdb_causal.proofs.Owning.{below_slot}
 use Rattle.cdb_log.specs.Marks.{mark}
 use Rattle.cdb_log.specs.Pieces.{joined}
 use Rattle.cdb_causal.proofs.history.History.end_of_causes.Goals as goal
@@ -16,5 +17,7 @@ returns c =
     subst (λ h. (i j : ℕ) (l : IsLink depends h i j) → slice_get h j ≡ Some effect → IsSlot l.cause c.args.slot → i < c.place_above.result) c.self.view_is
     (λ i j l at_j in_slot.
     (c.place_above.ensures.marks i (slice_get_within (joined log) i l.cause l.at_cause)).1
-    (end_above (joined log) c.self.invariant.standing c.self.inside.bounds (mark log) c.self.invariant.within j c.args.slot c.end-bound.result 18446744073709551615 effect at_j
-    (λ k less. c.place_above.ensures.small k (let within = slice_get_within (joined log) j effect at_j in omega (arith, less, within))) c.end-bound.ensures i l in_slot))
+    (end_above (joined log) c.self.invariant.standing c.self.inside.bounds (mark log) c.self.invariant.within j c.args.slot c.end-bound.result c.end_before-before.result effect at_j
+    (λ k m in_slot. subst (λ b. mark log k < b) (sym c.end_before-before.ensures)
+    (below_slot c.self.inside.bounds (mark log) (joined log) c.self.invariant.standing c.self.invariant.own c.place_above.ensures.small k j c.args.slot m.later effect m.cause at_j m.at_cause in_slot))
+    c.end-bound.ensures i l in_slot))

@@ -1,12 +1,15 @@
-use Rattle.std.proofs.Common.{ℕ, ◌-◌, ◌<◌, ◌≤◌, ◌⊎◌, ⊎_elim, List, length, ap, sym, subst, ◌∙◌, arith}
+use Rattle.std.proofs.Common.{◌≡◌, ℕ, ◌-◌, ◌<◌, ◌≤◌, ◌⊎◌, ⊎_elim, List, Some, slice_get, length, ap, sym, subst, ◌∙◌, arith}
 use Rattle.cdb_base.specs.declared.event.Event.{Event}
 use Rattle.cdb_causal.specs.Alone.{AreAlone}
 use Rattle.cdb_causal.specs.Bounds.{AreWithin}
+use Rattle.cdb_base.specs.declared.event.Event.TheVariants.{Step}
+use Rattle.cdb_causal.specs.Own.{AreOwn}
 use Rattle.cdb_causal.specs.Rollback.{without, place_before}
 use Rattle.cdb_causal.specs.Standing.{IsStanding}
 use Rattle.cdb_causal.proofs.Bounding.{within_without, place_before_low, place_before_high}
 use Rattle.cdb_causal.proofs.Keeping.{standing_without}
 use Rattle.cdb_causal.proofs.Lists.{remove-without}
+use Rattle.cdb_causal.proofs.Owning.{leaves_then, own_same, own_without}
 use Rattle.cdb_causal.proofs.Receives.{alone_without}
 use Rattle.cdb_log.specs.Marks.{mark, IsTakenOut}
 use Rattle.cdb_log.specs.Pieces.{joined}
@@ -31,13 +34,25 @@ invariant_of-self c =
     let gone : ℕ = c.args.at - 1 in
     let taken = c.take_out-event.ensures in
     let left = taken.items ∙ remove-without items gone in
+    let event = c.take_out-event.result in
+    let forgotten = c.forget_own.ensures in
+    let leaves = leaves_then c.self.inside.bounds c.forget_own.new.self c.forget.new.self c.last_of_its_process-last.result event forgotten c.forget.ensures.leaves in
+    let fall : (i : ℕ) → i < length (without items gone) → mark new i ≤ mark old (place_before gone i) = λ i less. marks_fall old new gone event taken i (subst (λ l. i < length l) (sym left) less) in
     record {
       standing = subst IsStanding (sym left) (standing_without items gone c.self.invariant.standing);
       within =
           subst (AreWithin c.forget.new.self (mark new)) (sym left)
-          (within_without c.self.inside.bounds c.forget.new.self (mark old) (mark new) items gone c.take_out-event.result taken.stood c.forget.ensures c.self.invariant.alone c.self.invariant.within
-          (λ i less. marks_fall old new gone c.take_out-event.result taken i (subst (λ l. i < length l) (sym left) less)));
-      alone = subst (AreAlone c.forget.new.self) (sym left) (alone_without c.self.inside.bounds c.forget.new.self items gone c.take_out-event.result taken.stood c.forget.ensures c.self.invariant.alone);
+          (within_without c.self.inside.bounds c.forget.new.self (mark old) (mark new) items gone event taken.stood leaves c.self.invariant.alone c.self.invariant.within fall);
+      alone = subst (AreAlone c.forget.new.self) (sym left) (alone_without c.self.inside.bounds c.forget.new.self items gone event taken.stood leaves c.self.invariant.alone);
+      own =
+          subst (AreOwn c.forget.new.self (mark new)) (sym left)
+          (own_same c.forget_own.new.self c.forget.new.self (mark new) (without items gone) c.forget.ensures.own c.forget.ensures.leaves.before
+          (own_without c.self.inside.bounds c.forget_own.new.self (mark old) (mark new) items gone event c.last_of_its_process-last.result c.self.invariant.standing c.self.invariant.own taken.stood forgotten
+          (λ is p k l kind other i is_step at.
+          let stood = subst (λ e. slice_get items gone ≡ Some e) is_step taken.stood in
+          let low = c.last_of_its_process-last.ensures is i p k l kind other (subst (λ h. slice_get h gone ≡ Some (Step p k kind)) c.self.view_is stood) (subst (λ h. slice_get h i ≡ Some (Step p l other)) c.self.view_is at) in
+          omega arith)
+          fall));
     }
 
 pub returns-clause-rest : goal.returns-clause-rest
