@@ -15,16 +15,16 @@ pub(crate) fn push_seat(text: &mut String, seat: u8) -> Result<(), AllocError>
     writeln!(text, "seat {seat}")
 }
 
-/// `line L fault N Name`.
-pub(crate) fn push_fault(text: &mut String, line: u64, fault: LineFault) -> Result<(), AllocError>
+/// Adds `line L fault N Name` at the end of a text, as a line. Only out of memory is an error.
+pub fn push_fault(text: &mut String, line: u64, fault: LineFault) -> Result<(), AllocError>
     ensures { Pushes result text.old text.new (fault_text line fault) }
 {
     let (number, name) = (fault.number(), fault.name());
     writeln!(text, "line {line} fault {number} {name}")
 }
 
-/// `line L too long`.
-pub(crate) fn push_too_long(text: &mut String, line: u64) -> Result<(), AllocError>
+/// Adds `line L too long` at the end of a text, as a line. Only out of memory is an error.
+pub fn push_too_long(text: &mut String, line: u64) -> Result<(), AllocError>
     ensures { Pushes result text.old text.new (too_long_text line) }
 {
     writeln!(text, "line {line} too long")

@@ -10,8 +10,9 @@ use std::alloc::AllocError;
 /// The most bytes that are held of a line: one more than it may have.
 const MOST: usize = MAX_BYTES + 1;
 
-/// Holds more of the line, as much of it as shows that it is too long.
-pub(crate) fn hold(held: &mut Vec<u8>, bytes: &[u8]) -> Result<(), AllocError>
+/// Holds more of the line, as much of it as shows that it is too long: a line of at most 1,048,576 bytes whole, and one
+/// byte more of a longer one. After out of memory what was held is held.
+pub fn hold(held: &mut Vec<u8>, bytes: &[u8]) -> Result<(), AllocError>
     requires { length held.old.items ≤ longest + 1 }
     ensures { OnOk result
         (held.new.items ≡ take (longest + 1) (held.old.items ++ bytes.now)) }
@@ -22,7 +23,7 @@ pub(crate) fn hold(held: &mut Vec<u8>, bytes: &[u8]) -> Result<(), AllocError>
 }
 
 /// What stands before the first byte 10, and what follows it, where there is one.
-pub(crate) fn cut(bytes: &[u8]) -> Option<(&[u8], &[u8])>
+pub fn cut(bytes: &[u8]) -> Option<(&[u8], &[u8])>
     ensures some { IfSome result
         (λ parts. HasNoEnd parts.0.now × (bytes.now ≡ parts.0.now ++ 10 ∷ parts.1.now)) }
     ensures none { IfNone result (HasNoEnd bytes.now) }

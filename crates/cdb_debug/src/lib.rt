@@ -17,8 +17,10 @@ mod session;
 mod streams;
 mod talk;
 
+pub use answer::{push_fault, push_too_long};
 pub use conversation::debug;
+pub use held::{cut, hold};
 pub use help::HELP;
 pub use request::{Request, request_of};
 pub use streams::Streams;
-pub use talk::Talk;
+pub use talk::{Talk, say};

@@ -30,7 +30,7 @@ pub trait Talk {
 }
 
 /// Writes all the bytes. A write that takes none of them is a failure, and none is tried again.
-pub(crate) fn say<T: Talk>(talk: &mut T, bytes: &[u8]) -> Result<(), Failed>
+pub fn say<T: Talk>(talk: &mut T, bytes: &[u8]) -> Result<(), Failed>
     ensures { Says result (T.known talk.old) (T.known talk.new) bytes.now }
 {
     let mut done = 0;

@@ -8,6 +8,7 @@ ghost use Rattle.cdb_base.specs.NameTexts.{name_text};
 ghost use Rattle.cdb_text.specs.Reports.{causes_text};
 ghost use Rattle.cdb_text.specs.Texts.{decides_text, break_text, text_of};
 
+mod command;
 mod event;
 mod name;
 mod number;
@@ -16,6 +17,7 @@ mod report;
 
 use cdb_base::{Event, NoMemory, StepId, Val};
 use cdb_control::Reply;
+pub use command::push_command;
 pub use event::push_event;
 use name::push_name;
 pub use number::push_number;

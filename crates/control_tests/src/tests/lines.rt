@@ -2,18 +2,23 @@
 
 use cdb_base::{Act, Proc, Reg};
 use cdb_control::{Command, Stop, View};
-use cdb_text::{LineFault, parse_line};
+use cdb_text::{LineFault, parse_line, push_command};
+use std::alloc::AllocError;
 use std::process::Abort;
 
-/// Reads each line, and compares what it says with the command beside it.
-fn read_each<R: Abort>(rt: &R, lines: &[(&str, Command)]) {
+/// Reads each line, and compares what it says with the command beside it, whose text is the line again.
+fn read_each<R: Abort + AllocGlobal>(rt: &R, lines: &[(&str, Command)]) -> Result<(), AllocError> {
     for (line, command) in lines {
         assert_eq!(rt; parse_line(line.as_bytes()), Ok(*command), "{line}");
+        let mut text = String::new(rt.alloc());
+        push_command(&mut text, command)?;
+        assert_eq!(rt; text.as_str(), *line);
     }
+    Ok(())
 }
 
 #[test]
-fn steps_and_losses(rt: HostRuntime) {
+fn steps_and_losses(rt: HostRuntime) -> Result<(), AllocError> {
     let lines = [
         ("step 1 go", Command::Step(1, Act::Go)),
         ("step 2 learn", Command::Step(2, Act::Learn)),
@@ -24,11 +29,11 @@ fn steps_and_losses(rt: HostRuntime) {
         ("auto 1", Command::Auto(1)),
         ("lose 1 3 2", Command::Lose(1, 3, 2)),
     ];
-    read_each(&rt, &lines);
+    read_each(&rt, &lines)
 }
 
 #[test]
-fn what_is_taken_back(rt: HostRuntime) {
+fn what_is_taken_back(rt: HostRuntime) -> Result<(), AllocError> {
     let lines = [
         ("undo 1 8", Command::Undo(1, 8)),
         ("undo lost 1 3 2", Command::UndoLost(1, 3, 2)),
@@ -39,11 +44,11 @@ fn what_is_taken_back(rt: HostRuntime) {
         ("why 2 1", Command::Why(2, 1)),
         ("why lost 1 3 2", Command::WhyLost(1, 3, 2)),
     ];
-    read_each(&rt, &lines);
+    read_each(&rt, &lines)
 }
 
 #[test]
-fn breakpoints(rt: HostRuntime) {
+fn breakpoints(rt: HostRuntime) -> Result<(), AllocError> {
     let lines = [
         ("break decide 1", Command::Break(Stop::Decide(1))),
         ("break round 1 2", Command::Break(Stop::Round(1, 2))),
@@ -52,11 +57,11 @@ fn breakpoints(rt: HostRuntime) {
         ("unbreak 2", Command::Unbreak(2)),
         ("resume", Command::Resume),
     ];
-    read_each(&rt, &lines);
+    read_each(&rt, &lines)
 }
 
 #[test]
-fn views(rt: HostRuntime) {
+fn views(rt: HostRuntime) -> Result<(), AllocError> {
     let lines = [
         ("show 10", Command::Show(View::Proc(10))),
         ("show regs", Command::Show(View::Regs)),
@@ -64,7 +69,7 @@ fn views(rt: HostRuntime) {
         ("show history", Command::Show(View::History)),
         ("decisions", Command::Decisions),
     ];
-    read_each(&rt, &lines);
+    read_each(&rt, &lines)
 }
 
 #[test]

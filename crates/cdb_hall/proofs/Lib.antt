@@ -1,0 +1,9 @@
+pub mod Along
+pub mod Going
+pub mod Answering
+pub mod Stepping
+pub mod Looking
+pub mod Conversing
+pub mod Knowing
+pub mod Kept
+pub mod Outcomes

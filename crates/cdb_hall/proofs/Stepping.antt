@@ -1,0 +1,380 @@
+-- A seat's session goes from one of its states to the next, with replies that are given.
+use Rattle.std.proofs.Common.{◌≡◌, ◌≢◌, ◌⊎◌, inl, inr, ℕ, ◌+◌, ◌<◌, ◌≤◌, false, List, [], ◌∷◌, ◌++◌, length, take, nat_eq, refl, sym, ap, subst, ◌∙◌, append_assoc, append-nil, arith, length-append}
+use Rattle.std.specs.Prelude.{Result, Err}
+use Rattle.std.specs.List.{AllZip, AllByRecursion}
+use Rattle.std.proofs.lemmas.List.{length-take, take_all, nil_from_length}
+use Rattle.std.proofs.lemmas.List.Elements.{All-append, All-nil}
+use Rattle.cdb_control.specs.Answer.{Answer}
+use Rattle.cdb_play.specs.Lines.{lines_of}
+use Rattle.cdb_play.specs.declared.buffer.OutputFault.TheVariants as output
+use Rattle.cdb_play.specs.declared.fault.PlayFault.{PlayFault}
+use Rattle.cdb_play.specs.declared.fault.PlayFault.TheVariants as fault
+use Rattle.cdb_setup.specs.Format.{longest}
+use Rattle.cdb_debug.specs.Held.{IsOver, HasNoEnd, joined, held_of, ended_well, ended_by}
+use Rattle.cdb_debug.specs.Moves.{Move, Read, ReadFailed, read_in, written_in, AreWrites, FailsToWrite, EndsWith}
+use Rattle.cdb_debug.specs.Requests.{Asks, AreAsked, HaveQuit, ended_lines, up_to_quit, quit_line}
+use Rattle.cdb_debug.specs.Sessions.{most_input, HasEnded, by_quit, at_end, at_most}
+use Rattle.cdb_debug.specs.declared.request.Request.{Request}
+use Rattle.cdb_debug.specs.declared.request.Request.TheVariants.{Quit}
+use Rattle.cdb_debug.proofs.Asking.{asks_whole, is_not_quit, AreOthers, AllZip-more, AreOthers-more, up_to_quit-append, up_to_quit-one, up_to_quit-quit, have_none}
+use Rattle.cdb_debug.proofs.Cutting.{ended_of_joined, ended_and_more, lines_of_joined, one_unended, joined-append, lines_of_none}
+use Rattle.cdb_debug.proofs.Holding.{take-take_append}
+use Rattle.cdb_debug.proofs.Saying.{AreWrites-append}
+use Rattle.cdb_debug.proofs.Ordered.{nothing_asked, one_move, writes_more, read-append, written-append, nothing_read, EndsWith-more}
+use Rattle.cdb_shared.specs.Seats.{SeatView}
+use Rattle.cdb_shared.specs.Sessions.{calls_of}
+use Rattle.cdb_hall.specs.Dialogues.{Along, begun, after, shown, dialogue, IsDialogue}
+use Rattle.cdb_hall.specs.Held.{IsAt}
+use Rattle.cdb_hall.specs.Parts.{Part, part_seen, HasCommands}
+use Rattle.cdb_hall.specs.Sessions.{IsAnswered, AnswersInTime, IsServed, IsSession}
+use Rattle.cdb_hall.proofs.Along.{along_after-more, dialogue-more}
+
+-- what the seat has seen, with these replies
+abbrev pub part_with : List Answer → SeatView → Part
+part_with replies seat = record { calls = calls_of seat; replies = replies; entries = length seat.seen }
+
+ended-more : (lines : List (List ℕ)) (line : List ℕ) → AllByRecursion HasNoEnd lines → HasNoEnd line → AllByRecursion HasNoEnd (lines ++ line ∷ [])
+ended-more [] line are is = (is, tt)
+ended-more (other ∷ lines) line are is = (are.0, ended-more lines line are.1 is)
+
+none_in_nothing : HasNoEnd []
+none_in_nothing = All-nil _
+
+held_of_nothing : held_of [] ≡ []
+held_of_nothing = take_all (longest + 1) [] (omega arith)
+
+-- ---- what lines ask for
+
+-- lines none of which is `quit`
+asked_all : (requests : List Request) (lines : List (List ℕ)) → AllZip Asks requests lines → AreOthers lines → AreAsked requests lines
+asked_all requests lines asked others =
+    let all : up_to_quit lines ≡ lines = ap up_to_quit (sym (append-nil lines)) ∙ up_to_quit-append lines [] others ∙ append-nil lines in
+    subst (λ parts. AllZip Asks requests parts) (sym all) asked
+
+-- those and `quit`
+asked_to_quit : (requests : List Request) (lines : List (List ℕ)) (line : List ℕ) (others : List (List ℕ)) → AllZip Asks requests lines → AreOthers lines → line ≡ quit_line → Asks Quit line → AreAsked (requests ++ Quit ∷ []) (lines ++ line ∷ others)
+asked_to_quit requests lines line others asked are is asks =
+    let all : up_to_quit (lines ++ line ∷ others) ≡ lines ++ line ∷ [] = up_to_quit-append lines (line ∷ others) are ∙ ap (λ parts. lines ++ parts) (up_to_quit-quit line others is) in
+    subst (λ parts. AllZip Asks (requests ++ Quit ∷ []) parts) (sym all) (AllZip-more requests lines Quit line asked asks)
+
+-- lines of which the last may be `quit`
+asked_with : (requests : List Request) (lines : List (List ℕ)) (request : Request) (line : List ℕ) → AllZip Asks requests lines → AreOthers lines → Asks request line → AreAsked (requests ++ request ∷ []) (lines ++ line ∷ [])
+asked_with requests lines request line asked others asks =
+    let all : up_to_quit (lines ++ line ∷ []) ≡ lines ++ line ∷ [] = up_to_quit-append lines (line ∷ []) others ∙ ap (λ parts. lines ++ parts) (up_to_quit-one line) in
+    subst (λ parts. AllZip Asks (requests ++ request ∷ []) parts) (sym all) (AllZip-more requests lines request line asked asks)
+
+over_more : (moves made : List Move) → AreWrites made → IsOver moves → HasEnded (moves ++ made)
+over_more moves made writes (inl ends) = at_end (
+  ends.0,
+  ends.1 ++ made,
+  ap (λ front. front ++ made) ends.2 ∙ append_assoc ends.0 (Read [] ∷ ends.1) made,
+  AreWrites-append ends.1 made ends.3 writes,
+)
+over_more moves made writes (inr most) =
+    at_most (subst (λ bytes. most_input ≤ length bytes) (sym (read-append moves made ∙ ap (λ more. read_in moves ++ more) (nothing_read made writes) ∙ append-nil (read_in moves))) most)
+
+module _ (prompt : List ℕ) (replies : List Answer) where
+  module _ (moves : List Move) (seat : SeatView) (along : Along) (held left : List ℕ) (at : IsAt prompt replies moves seat along held left) where
+    -- bytes that end no line are held
+    pub more_held : (more behind kept : List ℕ) → left ≡ more ++ behind → HasNoEnd more → kept ≡ take (longest + 1) (held ++ more) → IsAt prompt replies moves seat along kept behind
+    more_held more behind kept cut none is =
+        record {
+          lines = at.lines;
+          line = at.line ++ more;
+          requests = at.requests;
+          read = at.read ∙ ap (λ bytes. joined at.lines ++ bytes) (ap (λ bytes. at.line ++ bytes) cut ∙ sym (append_assoc at.line more behind));
+          ended = at.ended;
+          unended = All-append (λ byte. nat_eq byte 10 ≡ false) at.line more at.unended none;
+          held_is = is ∙ ap (λ front. take (longest + 1) (front ++ more)) at.held_is ∙ take-take_append (longest + 1) at.line more;
+          asked = at.asked;
+          goes_on = at.goes_on;
+          written = at.written;
+          along_is = at.along_is;
+          few = omega (arith, at.few, ap length cut, length-append more behind);
+          in_time = at.in_time;
+          commands = at.commands;
+        }
+
+    -- the lines that have ended
+    lines_so_far : left ≡ [] → ended_lines (read_in moves) ≡ at.lines
+    lines_so_far none =
+        ap ended_lines (at.read ∙ ap (λ bytes. joined at.lines ++ bytes) (ap (λ bytes. at.line ++ bytes) none ∙ append-nil at.line)) ∙ ended_of_joined at.lines at.line at.ended at.unended
+
+    asked_so_far : AreAsked at.requests at.lines
+    asked_so_far = asked_all at.requests at.lines at.asked at.goes_on
+
+    answered_so_far : left ≡ [] → IsAnswered prompt replies moves
+    answered_so_far none =
+        let lines = lines_so_far none in
+        record {
+          answered = subst (λ parts. IsDialogue prompt replies parts (written_in moves)) (sym lines) (at.requests, asked_so_far, at.written);
+          goes_on = subst (λ parts. ¬ HaveQuit parts) (sym lines) (have_none at.lines at.goes_on);
+        }
+
+    -- the lines begin with those that have ended
+    pub lines_begin : lines_of (read_in moves) ≡ at.lines ++ lines_of (at.line ++ left)
+    lines_begin = ap lines_of at.read ∙ lines_of_joined at.lines (at.line ++ left) at.ended
+
+    -- memory is out, and the journal has nothing of the next line, or its command too
+    pub lost_before : (new : SeatView) → HasCommands (part_seen new) at.requests → IsSession prompt (part_with replies new) (ended_by output.NoMemory) moves
+    lost_before new has =
+        record {
+          in_time = at.in_time;
+          ends = record {
+            lines = at.lines;
+            next = [];
+            others = lines_of (at.line ++ left);
+            begins = lines_begin ∙ ap (λ front. front ++ lines_of (at.line ++ left)) (sym (append-nil at.lines));
+            one = omega arith;
+            answered = (at.requests, asked_so_far, at.written);
+            commands = (at.requests, subst (λ lines. AreAsked at.requests lines) (sym (append-nil at.lines)) asked_so_far, has);
+          };
+        }
+
+    lost_behind : (new : SeatView) (request : Request) → Asks request at.line → (others : List (List ℕ)) → lines_of (read_in moves) ≡ (at.lines ++ at.line ∷ []) ++ others → HasCommands (part_seen new) (at.requests ++ request ∷ [])
+        → IsSession prompt (part_with replies new) (ended_by output.NoMemory) moves
+    lost_behind new request asks others begins has =
+        record {
+          in_time = at.in_time;
+          ends = record {
+            lines = at.lines;
+            next = at.line ∷ [];
+            others = others;
+            begins = begins;
+            one = omega arith;
+            answered = (at.requests, asked_so_far, at.written);
+            commands = (at.requests ++ request ∷ [], asked_with at.requests at.lines request at.line at.asked at.goes_on asks, has);
+          };
+        }
+
+    -- more input is asked for
+    pub more_read : left ≡ [] → (bytes : List ℕ) → IsAt prompt replies (moves ++ Read bytes ∷ []) seat along held bytes
+    more_read none bytes =
+        record {
+          lines = at.lines;
+          line = at.line;
+          requests = at.requests;
+          read =
+              read-append moves (Read bytes ∷ []) ∙ ap (λ front. front ++ (bytes ++ [])) (at.read ∙ ap (λ last. joined at.lines ++ (at.line ++ last)) none)
+              ∙ ap (λ last. (joined at.lines ++ (at.line ++ [])) ++ last) (append-nil bytes)
+              ∙ ap (λ front. (joined at.lines ++ front) ++ bytes) (append-nil at.line) ∙ append_assoc (joined at.lines) at.line bytes;
+          ended = at.ended;
+          unended = at.unended;
+          held_is = at.held_is;
+          asked = at.asked;
+          goes_on = at.goes_on;
+          written = written-append moves (Read bytes ∷ []) ∙ append-nil (written_in moves) ∙ at.written;
+          along_is = at.along_is;
+          few = omega (arith, at.few, ap length (read-append moves (Read bytes ∷ [])), length-append (read_in moves) (bytes ++ []), ap length (append-nil bytes));
+          in_time = one_move (IsAnswered prompt replies) moves (Read bytes) at.in_time (λ asks. answered_so_far none);
+          commands = at.commands;
+        }
+
+    pub read_failed : left ≡ [] → let outcome : Result (Unit {0}) PlayFault = Err fault.Read in IsSession prompt (part_with replies seat) outcome (moves ++ ReadFailed ∷ [])
+    read_failed none =
+        let lines = lines_so_far none in
+        let same_read : read_in (moves ++ ReadFailed ∷ []) ≡ read_in moves = read-append moves (ReadFailed ∷ []) ∙ append-nil (read_in moves) in
+        let same_written : written_in (moves ++ ReadFailed ∷ []) ≡ written_in moves = written-append moves (ReadFailed ∷ []) ∙ append-nil (written_in moves) in
+        let same_lines = ap ended_lines same_read ∙ lines in
+        record {
+          in_time = one_move (IsAnswered prompt replies) moves ReadFailed at.in_time (λ asks. answered_so_far none);
+          ends = (
+            record {
+              served = subst (λ parts. IsServed prompt (part_with replies seat) parts (written_in (moves ++ ReadFailed ∷ []))) (sym same_lines) (at.requests, asked_so_far, same_written ∙ at.written, at.commands);
+              goes_on = subst (λ parts. ¬ HaveQuit parts) (sym same_lines) (have_none at.lines at.goes_on);
+            },
+            (moves, ReadFailed, refl, refl),
+          );
+        }
+
+  -- what was written once one line more is answered, or the beginning of its answer
+  module _ (moves : List Move) (seat : SeatView) (along : Along) (held left : List ℕ) (at : IsAt prompt replies moves seat along held left) (request : Request) (asks : Asks request held) (made : List Move) (writes : AreWrites made) where
+    whole_line : Asks request at.line
+    whole_line = asks_whole request at.line (subst (Asks request) at.held_is asks)
+
+    same_read : read_in (moves ++ made) ≡ read_in moves
+    same_read = read-append moves made ∙ ap (λ more. read_in moves ++ more) (nothing_read made writes) ∙ append-nil (read_in moves)
+
+    text_before : written_in moves ++ shown prompt along request ≡ dialogue prompt replies (at.requests ++ request ∷ [])
+    text_before =
+        ap (λ text. text ++ shown prompt along request) at.written ∙ ap (λ s. dialogue prompt replies at.requests ++ shown prompt s request) at.along_is
+        ∙ sym (dialogue-more prompt replies at.requests request)
+
+    text_now : written_in made ≡ shown prompt along request → written_in (moves ++ made) ≡ dialogue prompt replies (at.requests ++ request ∷ [])
+    text_now said = written-append moves made ∙ ap (λ text. written_in moves ++ text) said ∙ text_before
+
+    still_in_time : AnswersInTime prompt replies (moves ++ made)
+    still_in_time = writes_more (IsAnswered prompt replies) moves made at.in_time writes
+
+    -- the writing failed
+    broken : (others : List (List ℕ)) → lines_of (read_in moves) ≡ (at.lines ++ at.line ∷ []) ++ others → (missing : List ℕ) → shown prompt along request ≡ written_in made ++ missing → EndsWith FailsToWrite made
+        → (new : SeatView) → HasCommands (part_seen new) (at.requests ++ request ∷ []) → IsSession prompt (part_with replies new) (ended_by output.Write) (moves ++ made)
+    broken others begins missing said fails new has =
+        record {
+          in_time = still_in_time;
+          ends = (
+            record {
+              lines = at.lines ++ at.line ∷ [];
+              others = others;
+              text = dialogue prompt replies (at.requests ++ request ∷ []);
+              missing = missing;
+              begins = ap lines_of same_read ∙ begins;
+              served = (at.requests ++ request ∷ [], asked_with at.requests at.lines request at.line at.asked at.goes_on whole_line, refl, has);
+              written =
+                  sym text_before ∙ ap (λ text. written_in moves ++ text) said ∙ sym (append_assoc (written_in moves) (written_in made) missing)
+                  ∙ ap (λ text. text ++ missing) (sym (written-append moves made));
+            },
+            EndsWith-more FailsToWrite moves made fails,
+          );
+        }
+
+  -- a line has ended
+  module _ (moves : List Move) (seat : SeatView) (along : Along) (held left : List ℕ) (at : IsAt prompt replies moves seat along held (10 ∷ left)) (request : Request) (asks : Asks request held) (new : SeatView) where
+    now_read : read_in moves ≡ joined (at.lines ++ at.line ∷ []) ++ left
+    now_read =
+        at.read
+        ∙ sym (ap (λ front. front ++ left) (joined-append at.lines at.line) ∙ append_assoc (joined at.lines) (at.line ++ 10 ∷ []) left ∙ ap (λ last. joined at.lines ++ last) (append_assoc at.line (10 ∷ []) left))
+
+    now_ended : AllByRecursion HasNoEnd (at.lines ++ at.line ∷ [])
+    now_ended = ended-more at.lines at.line at.ended at.unended
+
+    now_lines : lines_of (read_in moves) ≡ (at.lines ++ at.line ∷ []) ++ lines_of left
+    now_lines = ap lines_of now_read ∙ lines_of_joined (at.lines ++ at.line ∷ []) left now_ended
+
+    -- memory is out
+    pub line_lost : HasCommands (part_seen new) at.requests ⊎ HasCommands (part_seen new) (at.requests ++ request ∷ []) → IsSession prompt (part_with replies new) (ended_by output.NoMemory) moves
+    line_lost (inl has) = lost_before moves seat along held (10 ∷ left) at new has
+    line_lost (inr has) = lost_behind moves seat along held (10 ∷ left) at new request (whole_line moves seat along held (10 ∷ left) at request asks [] tt) (lines_of left) now_lines has
+
+    module _ (has : HasCommands (part_seen new) (at.requests ++ request ∷ [])) (made : List Move) (writes : AreWrites made) where
+      pub line_broken : (missing : List ℕ) → shown prompt along request ≡ written_in made ++ missing → EndsWith FailsToWrite made → IsSession prompt (part_with replies new) (ended_by output.Write) (moves ++ made)
+      line_broken missing said fails = broken moves seat along held (10 ∷ left) at request asks made writes (lines_of left) now_lines missing said fails new has
+
+      -- it was another line than `quit`
+      pub line_answered : (next : Along) (kept : List ℕ) → written_in made ≡ shown prompt along request → next ≡ after along request → next.lines ≡ along.lines + 1 → kept ≡ [] → request ≢ Quit → IsAt prompt replies (moves ++ made) new next kept left
+      line_answered next kept said is one emptied other =
+          let asked : Asks request at.line = whole_line moves seat along held (10 ∷ left) at request asks made writes in
+          let read : read_in (moves ++ made) ≡ read_in moves = same_read moves seat along held (10 ∷ left) at request asks made writes in
+          record {
+            lines = at.lines ++ at.line ∷ [];
+            line = [];
+            requests = at.requests ++ request ∷ [];
+            read = read ∙ now_read;
+            ended = now_ended;
+            unended = none_in_nothing;
+            held_is = emptied ∙ sym held_of_nothing;
+            asked = AllZip-more at.requests at.lines request at.line at.asked asked;
+            goes_on = AreOthers-more at.lines at.line at.goes_on (is_not_quit request at.line asked other);
+            written = text_now moves seat along held (10 ∷ left) at request asks made writes said;
+            along_is = is ∙ ap (λ s. after s request) at.along_is ∙ sym (along_after-more (begun replies) at.requests request);
+            few = omega (arith, at.few, ap length read, one);
+            in_time = still_in_time moves seat along held (10 ∷ left) at request asks made writes;
+            commands = has;
+          }
+
+      -- it was `quit`
+      pub line_quit : written_in made ≡ shown prompt along request → request ≡ Quit → IsSession prompt (part_with replies new) ended_well (moves ++ made)
+      line_quit said is_quit =
+          let asked : Asks Quit at.line = subst (λ r. Asks r at.line) is_quit (whole_line moves seat along held (10 ∷ left) at request asks made writes) in
+          let read : read_in (moves ++ made) ≡ read_in moves = same_read moves seat along held (10 ∷ left) at request asks made writes in
+          let lines : lines_of (read_in (moves ++ made)) ≡ at.lines ++ at.line ∷ lines_of left = ap lines_of read ∙ now_lines ∙ append_assoc at.lines (at.line ∷ []) (lines_of left) in
+          let ended : ended_lines (read_in (moves ++ made)) ≡ at.lines ++ quit_line ∷ ended_lines left =
+          ap ended_lines (read ∙ now_read) ∙ ended_and_more (at.lines ++ at.line ∷ []) left now_ended
+          ∙ append_assoc at.lines (at.line ∷ []) (ended_lines left) ∙ ap (λ line. at.lines ++ line ∷ ended_lines left) asked.1 in
+          let text : written_in (moves ++ made) ≡ dialogue prompt replies (at.requests ++ Quit ∷ []) =
+          text_now moves seat along held (10 ∷ left) at request asks made writes said ∙ ap (λ r. dialogue prompt replies (at.requests ++ r ∷ [])) is_quit in
+          record {
+            in_time = still_in_time moves seat along held (10 ∷ left) at request asks made writes;
+            ends = record {
+              served =
+                  subst (λ parts. IsServed prompt (part_with replies new) parts (written_in (moves ++ made))) (sym lines)
+                  (at.requests ++ Quit ∷ [], asked_to_quit at.requests at.lines at.line (lines_of left) at.asked at.goes_on asked.1 asked, text, subst (λ r. HasCommands (part_seen new) (at.requests ++ r ∷ [])) is_quit has);
+              ended = by_quit (at.lines, ended_lines left, ended);
+            };
+          }
+
+  -- there is no more input
+  module _ (moves : List Move) (seat : SeatView) (along : Along) (held : List ℕ) (at : IsAt prompt replies moves seat along held []) (over : IsOver moves) where
+    last_lines : 0 < length held → lines_of (read_in moves) ≡ at.lines ++ at.line ∷ []
+    last_lines some =
+        let some_line : 0 < length at.line = omega (arith, some, ap length at.held_is, length-take (longest + 1) at.line) in
+        ap lines_of (at.read ∙ ap (λ last. joined at.lines ++ last) (append-nil at.line)) ∙ lines_of_joined at.lines at.line at.ended ∙ ap (λ last. at.lines ++ last) (one_unended at.line some_line at.unended)
+
+    -- a last line without its end
+    module _ (some : 0 < length held) (request : Request) (asks : Asks request held) (new : SeatView) where
+      pub last_lost : HasCommands (part_seen new) at.requests ⊎ HasCommands (part_seen new) (at.requests ++ request ∷ []) → IsSession prompt (part_with replies new) (ended_by output.NoMemory) moves
+      last_lost (inl has) = lost_before moves seat along held [] at new has
+      last_lost (inr has) = lost_behind moves seat along held [] at new request (whole_line moves seat along held [] at request asks [] tt) [] (last_lines some ∙ sym (append-nil (at.lines ++ at.line ∷ []))) has
+
+      module _ (has : HasCommands (part_seen new) (at.requests ++ request ∷ [])) (made : List Move) (writes : AreWrites made) where
+        pub last_broken : (missing : List ℕ) → shown prompt along request ≡ written_in made ++ missing → EndsWith FailsToWrite made → IsSession prompt (part_with replies new) (ended_by output.Write) (moves ++ made)
+        last_broken missing said fails = broken moves seat along held [] at request asks made writes [] (last_lines some ∙ sym (append-nil (at.lines ++ at.line ∷ []))) missing said fails new has
+
+        pub last_answered : written_in made ≡ shown prompt along request → IsSession prompt (part_with replies new) ended_well (moves ++ made)
+        last_answered said =
+            let read : read_in (moves ++ made) ≡ read_in moves = same_read moves seat along held [] at request asks made writes in
+            let lines : lines_of (read_in (moves ++ made)) ≡ at.lines ++ at.line ∷ [] = ap lines_of read ∙ last_lines some in
+            let asked : Asks request at.line = whole_line moves seat along held [] at request asks made writes in
+            record {
+              in_time = still_in_time moves seat along held [] at request asks made writes;
+              ends = record {
+                served =
+                    subst (λ parts. IsServed prompt (part_with replies new) parts (written_in (moves ++ made))) (sym lines)
+                    (at.requests ++ request ∷ [], asked_with at.requests at.lines request at.line at.asked at.goes_on asked, text_now moves seat along held [] at request asks made writes said, has);
+                ended = over_more moves made writes over;
+              };
+            }
+
+    -- or none
+    pub no_last_line : length held ≡ 0 → IsSession prompt (part_with replies seat) ended_well moves
+    no_last_line none =
+        let no_line : at.line ≡ [] = nil_from_length at.line (omega (arith, none, ap length at.held_is, length-take (longest + 1) at.line)) in
+        let lines : lines_of (read_in moves) ≡ at.lines =
+        ap lines_of (at.read ∙ ap (λ last. joined at.lines ++ (last ++ [])) no_line) ∙ lines_of_joined at.lines [] at.ended ∙ ap (λ last. at.lines ++ last) lines_of_none ∙ append-nil at.lines in
+        record {
+          in_time = at.in_time;
+          ends = record {
+            served = subst (λ parts. IsServed prompt (part_with replies seat) parts (written_in moves)) (sym lines) (at.requests, asked_all at.requests at.lines at.asked at.goes_on, at.written, at.commands);
+            ended = subst HasEnded (append-nil moves) (over_more moves [] tt over);
+          };
+        }
+
+  -- ---- before the first line
+
+  module _ (seat : SeatView) (new : calls_of seat ≡ []) (made : List Move) (writes : AreWrites made) where
+    pub prompted : written_in made ≡ prompt → IsAt prompt replies made seat (begun replies) [] []
+    prompted said =
+        record {
+          lines = [];
+          line = [];
+          requests = [];
+          read = nothing_read made writes;
+          ended = tt;
+          unended = none_in_nothing;
+          held_is = sym held_of_nothing;
+          asked = tt;
+          goes_on = tt;
+          written = said ∙ sym (append-nil prompt);
+          along_is = refl;
+          few = omega (arith, ap length (nothing_read made writes));
+          in_time = writes_more (IsAnswered prompt replies) [] made (nothing_asked (IsAnswered prompt replies)) writes;
+          commands = inl new;
+        }
+
+    pub not_prompted : (missing : List ℕ) → prompt ≡ written_in made ++ missing → EndsWith FailsToWrite made → IsSession prompt (part_with replies seat) (ended_by output.Write) made
+    not_prompted missing said fails =
+        record {
+          in_time = writes_more (IsAnswered prompt replies) [] made (nothing_asked (IsAnswered prompt replies)) writes;
+          ends = (
+            record {
+              lines = [];
+              others = lines_of (read_in made);
+              text = dialogue prompt replies [];
+              missing = missing;
+              begins = refl;
+              served = ([], tt, refl, inl new);
+              written = append-nil prompt ∙ said;
+            },
+            fails,
+          );
+        }

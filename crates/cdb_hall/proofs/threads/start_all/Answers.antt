@@ -1,0 +1,44 @@
+use Rattle.std.proofs.Common.{◌≡◌, ℕ, ◌-◌, ◌∙◌, sym, ap, subst, arith, [], ◌∷◌, ◌++◌, get_or, append_assoc, vec_len, length}
+use Rattle.std.specs.declared.thread.PromisedHandle.{PromisedHandle}
+use Rattle.cdb_hall.specs.Promises.{IsReady, IsPromise}
+use Rattle.cdb_hall.specs.declared.place.Place.{Place}
+use Rattle.cdb_hall.specs.declared.worker.Left.{Left}
+use Rattle.cdb_hall.specs.declared.worker.SeatPromise.{SeatPromise}
+use Rattle.cdb_shared.specs.Seats.{SeatView}
+use Rattle.cdb_race.proofs.Ends.{each_front, each_push, get_or-middle}
+use Rattle.cdb_hall.proofs.threads.start_all.Goals as goal
+
+pub loop-seat-preserved : goal.loop-seat-preserved
+loop-seat-preserved g c =
+    let was = c.loop-seat.invariant in
+    let all = c.args.seats.items in
+    let front = c.pop.new.self.items in
+    let seat = c.in-Some.seat in
+    let popped = c.in-Some.ensures.items in
+    let seats = c.in-Some.ensures.cases in
+    let places = c.in-Some-pop.ensures.cases in
+    let handles = c.loop-seat.handles.ok.0 in
+    let whole : all ≡ front ++ (seat ∷ was.left.0) = was.left.1 ∙ ap (λ l. l ++ was.left.0) popped ∙ append_assoc front (seat ∷ []) was.left.0 in
+    let its = c.in-Some-pop.place in
+    let few = c.in-Some-pop.ensures.items in
+    let all_places : c.args.places.items ≡ c.pop-in-Some.new.self.items ++ (its ∷ was.left_places.0) = was.left_places.1 ∙ ap (λ l. l ++ was.left_places.0) few ∙ append_assoc c.pop-in-Some.new.self.items (its ∷ []) was.left_places.0 in
+    let at_place : vec_len c.args.places - 1 - length c.loop-seat.handles.items ≡ length c.pop-in-Some.new.self.items = omega (arith, places, seats, c.pop-in-Some.new.self.ok.0, handles, was.count, was.places, was.many_places) in
+    let at : vec_len c.args.seats - 1 - length c.loop-seat.handles.items ≡ length front = omega (arith, seats, c.pop.new.self.ok.0, handles, was.count) in
+    record {
+      ready = (each_front (λ (k : ℕ) (s : SeatView). IsReady c.args.shared.now s) _ _ _ popped was.ready).0;
+      places = omega (arith, seats, places);
+      left = (seat ∷ was.left.0, whole);
+      left_places = (its ∷ was.left_places.0, all_places);
+      many_places = was.many_places;
+      count = omega (arith, seats);
+      room = omega arith;
+      each = λ k before place handle low.
+          let here : seat ≡ get_or all (vec_len c.args.seats - 1 - length c.loop-seat.handles.items) before = sym (get_or-middle front was.left.0 all seat before _ whole at) in
+          let there : its ≡ get_or c.args.places.items (vec_len c.args.places - 1 - length c.loop-seat.handles.items) place = sym (get_or-middle c.pop-in-Some.new.self.items was.left_places.0 c.args.places.items its place _ all_places at_place) in
+          let one = subst (λ (x : SeatView × Place g.row.T.Denot). IsPromise x.0 x.1 c.in_ok-handle.handle.promise) (λ i. (here i, there i)) c.in_ok-handle.ensures in
+          each_push (λ (i : ℕ) (h : PromisedHandle (Left g.row.T.Denot) (SeatPromise g.row.T.Denot)). IsPromise (get_or all (vec_len c.args.seats - 1 - i) before) (get_or c.args.places.items (vec_len c.args.places - 1 - i) place) h.promise) c.loop-seat.handles.items c.push_reserved.new.self.items c.in_ok-handle.handle
+          c.push_reserved.ensures.items (λ i h below. was.each i before place h (omega (arith, handles))) one k handle (omega (arith, c.push_reserved.new.self.ok.0));
+    }
+
+pub returns-clause-each : goal.returns-clause-each
+returns-clause-each g c = λ k before place handle low. c.loop-seat.invariant.each k before place handle (omega (arith, c.in_default-pop.ensures.cases.0, c.loop-seat.invariant.count))

@@ -1,0 +1,9 @@
+-- ---- what the public contracts name
+pub mod Dialogues
+pub mod Parts
+pub mod Sessions
+pub mod Halls
+-- ---- what the code keeps for itself
+pub mod Lines
+pub mod Held
+pub mod Promises

@@ -1,0 +1,61 @@
+-- What one line does to a seat.
+use Rattle.std.specs.Prelude.{◌≡◌, ℕ, ◌+◌, ◌≤◌, List, [], ◌∷◌, length, Result, Ok, Err, Vec}
+use Rattle.std.specs.Global.{Global}
+use Rattle.cdb_base.specs.declared.limits.TheConstants.{MAX_ENTRIES}
+use Rattle.cdb_control.specs.Answer.{Answer}
+use Rattle.cdb_control.specs.declared.command.Command.{Command}
+use Rattle.cdb_debug.specs.declared.request.Request.{Request}
+use Rattle.cdb_debug.specs.Dialogues.{fault_text, too_long_text}
+use Rattle.cdb_debug.specs.declared.request.Request.TheVariants.{Call, Seat, Help, Quit, Fault, TooLong}
+use Rattle.cdb_text.specs.declared.fault.LineFault.TheVariants.{Word}
+use Rattle.cdb_hall.specs.declared.help.TheConstants.{HELP}
+use Rattle.cdb_shared.specs.Seats.{SeatView, IsLater, IsCall, SameCalls, SeesFull}
+use Rattle.cdb_hall.specs.Dialogues.{Along, answer_to, shown}
+use Rattle.cdb_hall.specs.declared.session.Session.{Session}
+
+-- the answer to a line that asks for no command, after this many lines
+abbrev pub own_answer : ℕ → Request → List ℕ
+own_answer lines (Call command) = []
+own_answer lines (Seat seat) = fault_text (lines + 1) Word
+own_answer lines Help = HELP.now
+own_answer lines Quit = []
+own_answer lines (Fault fault) = fault_text (lines + 1) fault
+own_answer lines TooLong = too_long_text (lines + 1)
+
+-- The seat has called nothing since, or one command, and got this reply to it.
+abbrev pub HasGot : SeatView → Request → List Answer → SeatView → Type 0
+HasGot old request [] new = SameCalls old new.seen × (SeesFull old → SeesFull new)
+HasGot old request (reply ∷ []) new =
+    (command : Command) × (request ≡ Call command) × IsCall old command reply new × (length new.seen ≤ MAX_ENTRIES)
+HasGot old request (reply ∷ other ∷ more) new = ⊥
+
+-- a command without a reply found the journal full
+abbrev pub FindsFull : Request → List Answer → SeatView → Type 0
+FindsFull request got seat = (command : Command) → request ≡ Call command → got ≡ [] → SeesFull seat
+
+-- the seat has done what a line asks for, and got these replies, none or one
+pub record HasDone (old : SeatView) (request : Request) (got : List Answer) (new : SeatView) : Type 0 where
+  pub later : IsLater old new
+  pub calls : HasGot old request got new
+  pub full : FindsFull request got new
+
+-- out of memory it may have done so
+pub record MayHaveDone (old : SeatView) (request : Request) (got : List Answer) (new : SeatView) : Type 0 where
+  pub later : IsLater old new
+  pub calls : HasGot old request got new
+
+-- a session that got these replies at its next line
+abbrev pub at_line : Session → List Answer → Along
+at_line session got = record { replies = got; lines = session.lines }
+
+-- the answer to a line that asks for this
+abbrev pub Answers : {E : Type 0} → Result (Vec ℕ Global) E → Session → Request → Session → Type 0
+Answers (Ok text) old request new =
+    (got : List Answer) × HasDone old.seat request got new.seat × (text.items ≡ answer_to (at_line old got) request)
+Answers (Err fault) old request new = (got : List Answer) × MayHaveDone old.seat request got new.seat
+
+-- what is shown then
+abbrev pub Shows : {E : Type 0} → List ℕ → Result (Vec ℕ Global) E → Session → Request → Session → Type 0
+Shows prompt (Ok text) old request new =
+    (got : List Answer) × HasDone old.seat request got new.seat × (text.items ≡ shown prompt (at_line old got) request)
+Shows prompt (Err fault) old request new = (got : List Answer) × MayHaveDone old.seat request got new.seat

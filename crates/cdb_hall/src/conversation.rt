@@ -1,0 +1,90 @@
+//! A seat's session from its first line to its last.
+
+ghost use Rattle.std.specs.Prelude.{◌≡◌, [], ◌-◌, ◌<◌, ◌^◌};
+ghost use Rattle.cdb_hall.specs.Held.{AnswersLast, Converses};
+ghost use Rattle.cdb_shared.specs.Seats.{RestsAt, IsLater};
+
+use crate::hearing::{answer_held, hear};
+use crate::session::Session;
+use cdb_debug::{Talk, say};
+use cdb_play::PlayFault;
+use cdb_shared::Shared;
+use std::alloc::Global;
+use std::sync::Wait;
+
+/// How many bytes are asked for at a time.
+const PIECE: usize = 4096;
+
+/// The most bytes that a session reads.
+const MOST_INPUT: u64 = 1 << 63;
+
+/// Answers a last line that has not ended, if there is one.
+fn answer_last<T: Talk, R: Wait>(
+    shared: &Shared,
+    rt: &R,
+    alloc: Global,
+    prompt: &[u8],
+    session: &mut Session,
+    mut held: Vec<u8>,
+    talk: &mut T,
+) -> Result<(), PlayFault>
+    requires rests { RestsAt shared.now session.old.seat }
+    requires lines { session.old.lines < 2 ^ 64 - 1 }
+    ensures last { AnswersLast result (T.known talk.old) (T.known talk.new)
+        prompt.now session.old session.new held.items }
+    ensures seat { IsLater session.old.seat session.new.seat }
+{
+    if held.is_empty() {
+        return Ok(());
+    }
+    answer_held(shared, rt, alloc, prompt, session, &mut held, talk)?;
+    Ok(())
+}
+
+/// Answers a seat's lines one after the other, from the first one on, up to `quit` or the end of the input. The prompt
+/// is shown before each line. The end of the input ends the session too, and so do 2^63 bytes. After `Read` each line
+/// that has ended is answered, after `Write` what was written is a beginning of the answers, and after `NoMemory` it is
+/// the answers to a beginning of the lines.
+pub(crate) fn converse<T: Talk, R: Wait>(
+    shared: &Shared,
+    rt: &R,
+    alloc: Global,
+    prompt: &[u8],
+    session: &mut Session,
+    talk: &mut T,
+) -> Result<(), PlayFault>
+    requires rests { RestsAt shared.now session.old.seat }
+    requires new { session.old.seat.seen ≡ [] }
+    requires lines { session.old.lines ≡ 0 }
+    ensures all { Converses result (T.known talk.old) (T.known talk.new) prompt.now session.new }
+    ensures seat { IsLater session.old.seat session.new.seat }
+{
+    let Ok(()) = say(talk, prompt) else {
+        return Err(PlayFault::Write);
+    };
+    let mut held = Vec::new(alloc);
+    let mut buffer = [0u8; PIECE];
+    let mut read = 0u64;
+    while read < MOST_INPUT {
+        let Ok(count) = talk.read(&mut buffer) else {
+            return Err(PlayFault::Read);
+        };
+        if count == 0 {
+            return answer_last(shared, rt, alloc, prompt, session, held, talk);
+        }
+        read += count as u64;
+        if hear(
+            shared,
+            rt,
+            alloc,
+            prompt,
+            session,
+            &mut held,
+            talk,
+            &buffer[..count],
+        )? {
+            return Ok(());
+        }
+    }
+    answer_last(shared, rt, alloc, prompt, session, held, talk)
+}

@@ -1,0 +1,69 @@
+//! What a seat's session does with the bytes that it was given.
+
+ghost use Rattle.std.specs.Prelude.{◌≡◌, ◌+◌, ◌-◌, ◌<◌, ◌≤◌, ◌^◌, length, OnOk};
+ghost use Rattle.cdb_hall.specs.Held.{AnswersHeld, Hears};
+ghost use Rattle.cdb_setup.specs.Format.{longest};
+ghost use Rattle.cdb_shared.specs.Seats.{RestsAt, IsLater};
+
+use crate::session::Session;
+use cdb_debug::{Request, Talk, cut, hold, request_of, say};
+use cdb_play::OutputFault;
+use cdb_shared::Shared;
+use std::alloc::Global;
+use std::sync::Wait;
+
+/// Answers the line that is held, and holds nothing then. Returns whether the line was `quit`.
+pub(crate) fn answer_held<T: Talk, R: Wait>(
+    shared: &Shared,
+    rt: &R,
+    alloc: Global,
+    prompt: &[u8],
+    session: &mut Session,
+    held: &mut Vec<u8>,
+    talk: &mut T,
+) -> Result<bool, OutputFault>
+    requires rests { RestsAt shared.now session.old.seat }
+    requires lines { session.old.lines < 2 ^ 64 - 1 }
+    ensures held { AnswersHeld result (T.known talk.old) (T.known talk.new)
+        prompt.now session.old session.new held.old.items held.new.items }
+    ensures seat { IsLater session.old.seat session.new.seat }
+{
+    let request = request_of(held.as_slice());
+    let text = session.show(shared, rt, alloc, prompt, request)?;
+    say(talk, text.as_slice())?;
+    held.clear();
+    Ok(request == Request::Quit)
+}
+
+/// Answers each line that ends in these bytes, up to `quit`, and holds what follows the last. Returns whether one was
+/// `quit`.
+pub(crate) fn hear<T: Talk, R: Wait>(
+    shared: &Shared,
+    rt: &R,
+    alloc: Global,
+    prompt: &[u8],
+    session: &mut Session,
+    held: &mut Vec<u8>,
+    talk: &mut T,
+    bytes: &[u8],
+) -> Result<bool, OutputFault>
+    requires rests { RestsAt shared.now session.old.seat }
+    requires lines { session.old.lines + length bytes.now < 2 ^ 64 }
+    requires held { length held.old.items ≤ longest + 1 }
+    ensures heard { Hears result (T.known talk.old) (T.known talk.new)
+        prompt.now session.old session.new held.old.items held.new.items bytes.now }
+    ensures held { OnOk result (length held.new.items ≤ longest + 1) }
+    ensures lines { OnOk result (session.new.lines ≤ session.old.lines + length bytes.now) }
+    ensures seat { IsLater session.old.seat session.new.seat }
+{
+    let mut rest = bytes;
+    while let Some((line, behind)) = cut(rest) {
+        hold(held, line)?;
+        if answer_held(shared, rt, alloc, prompt, session, held, talk)? {
+            return Ok(true);
+        }
+        rest = behind;
+    }
+    hold(held, rest)?;
+    Ok(false)
+}

@@ -1,0 +1,23 @@
+//! Sessions of several people at once over one shared run. Each seat is served by a thread of its own, line by line, until
+//! all inputs have ended; one journal then explains what each was answered.
+//!
+//! ```text
+//! let places = vec![in alloc; Place { talk, prompt: b"> " }]?;
+//! let (control, attended) = debug_seats(rt, alloc, setup, places)?;
+//! let text = journal_text(alloc, control.journal())?;
+//! ```
+#![tactic(auto)]
+
+mod conversation;
+mod hearing;
+mod help;
+mod journal;
+mod place;
+mod session;
+mod threads;
+mod worker;
+
+pub use help::HELP;
+pub use journal::journal_text;
+pub use place::{Attended, Place};
+pub use threads::{HallFault, debug_seats};

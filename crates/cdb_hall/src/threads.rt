@@ -1,0 +1,169 @@
+//! Starting and joining the threads of the seats.
+
+ghost use Rattle.std.specs.Prelude.{◌≡◌, ◌≤◌, length, vec_len, All, IfOk, IfErr, OnErr};
+ghost use Rattle.cdb_hall.specs.Halls.{IsHall};
+ghost use Rattle.cdb_hall.specs.Promises.{IsReady, IsPromise, ArePromises, AllAttended, AreOfLefts, HasAttended};
+ghost use Rattle.cdb_shared.specs.Seats.{HasHeadline};
+
+use crate::place::{Attended, Place};
+use crate::worker::{Left, SeatPromise, attend};
+use cdb_control::{Control, RunOfSetup};
+use cdb_debug::Talk;
+use cdb_setup::Setup;
+use cdb_shared::{Seat, Shared};
+use std::alloc::Global;
+use std::snapshot::Snapshot;
+use std::sync::Wait;
+use std::thread;
+use std::thread::{PromisedHandle, Scope, Threads};
+
+/// Why no sessions were held, or why their journal was lost.
+#[derive(Debug, Clone, Copy, PartialEq)]
+pub enum HallFault {
+    NoMemory,
+    /// The start of a thread was refused.
+    Spawn,
+}
+
+/// Starts a thread for one seat.
+fn start_one<'s, E, T: Talk + Drop + Send + 's, R: Threads + Wait + Sync>(
+    scope: &Scope<'s, E>,
+    rt: &'s R,
+    alloc: Global,
+    shared: &'s Shared,
+    seat: Seat,
+    place: Place<T>,
+) -> Result<PromisedHandle<Left<T>, SeatPromise<T>>, HallFault>
+    requires { IsReady shared.now seat }
+    ensures { IfOk result (λ handle. IsPromise seat place handle.promise) }
+{
+    let promise = SeatPromise {
+        seat: Snapshot::of(&seat),
+        place: Snapshot::of(&place),
+    };
+    let started = scope.spawn_with(
+        promise,
+        move || -> Left<T>
+            requires { IsReady shared.now seat }
+            ensures { HasAttended T.known seat place result }
+        { attend(shared, rt, alloc, seat, place) },
+    );
+    started.map_err(|_| HallFault::Spawn)
+}
+
+/// Starts a thread for each seat, the last seat's first.
+fn start_all<'s, E, T: Talk + Drop + Send + 's, R: Threads + Wait + Sync>(
+    scope: &Scope<'s, E>,
+    rt: &'s R,
+    alloc: Global,
+    shared: &'s Shared,
+    mut seats: Vec<Seat>,
+    mut places: Vec<Place<T>>,
+) -> Result<Vec<PromisedHandle<Left<T>, SeatPromise<T>>>, HallFault>
+    requires ready { All (λ seat. IsReady shared.now seat) seats.items }
+    requires places { vec_len places ≡ vec_len seats }
+    ensures count { IfOk result (λ handles. vec_len handles ≡ vec_len seats) }
+    ensures each { IfOk result (λ handles. ArePromises seats places handles) }
+{
+    let Ok(mut handles) = Vec::with_capacity(alloc, seats.len()) else {
+        return Err(HallFault::NoMemory);
+    };
+    while let Some(seat) = seats.pop() {
+        let Some(place) = places.pop() else {
+            unreachable!()
+        };
+        let handle = start_one(scope, rt, alloc, shared, seat, place)?;
+        handles.push_reserved(handle);
+    }
+    Ok(handles)
+}
+
+/// Serves every seat in a thread of its own, and joins them all. What the last seat's thread hands back comes first.
+fn attend_all<T: Talk + Drop + Send, R: Threads + Wait + Sync>(
+    rt: &R,
+    alloc: Global,
+    shared: &Shared,
+    seats: Vec<Seat>,
+    places: Vec<Place<T>>,
+) -> Result<Vec<Left<T>>, HallFault>
+    requires ready { All (λ seat. IsReady shared.now seat) seats.items }
+    requires places { vec_len places ≡ vec_len seats }
+    ensures count { IfOk result (λ lefts. vec_len lefts ≡ vec_len seats) }
+    ensures each { IfOk result
+        (λ lefts. AllAttended T.known seats.items places.items lefts.items) }
+{
+    thread::scope(
+        thread::scope_env(),
+        rt,
+        |scope| -> Result<Vec<Left<T>>, HallFault>
+            requires ready { All (λ seat. IsReady shared.now seat) seats.items }
+            requires places { vec_len places ≡ vec_len seats }
+            ensures count { IfOk result (λ lefts. vec_len lefts ≡ vec_len seats) }
+            ensures each { IfOk result
+                (λ lefts. AllAttended T.known seats.items places.items lefts.items) }
+        {
+            let handles = start_all(scope, rt, alloc, shared, seats, places)?;
+            let Ok(lefts) = thread::join_promised(rt, handles) else {
+                return Err(HallFault::NoMemory);
+            };
+            Ok(lefts)
+        },
+    )
+}
+
+/// The seats, and whom their sessions talked with, the first seat's first.
+fn collect<T: Talk + Drop>(
+    alloc: Global,
+    mut lefts: Vec<Left<T>>,
+) -> Result<(Vec<Seat>, Vec<Attended<T>>), HallFault>
+    ensures count { IfOk result
+        (λ r. (vec_len r.0 ≡ vec_len lefts) × (vec_len r.1 ≡ vec_len lefts)) }
+    ensures each { IfOk result (λ r. AreOfLefts r.0.items r.1.items lefts.items) }
+{
+    let Ok(mut seats) = Vec::with_capacity(alloc, lefts.len()) else {
+        return Err(HallFault::NoMemory);
+    };
+    let Ok(mut all) = Vec::with_capacity(alloc, lefts.len()) else {
+        return Err(HallFault::NoMemory);
+    };
+    while let Some(left) = lefts.pop() {
+        let Left { seat, attended } = left;
+        seats.push_reserved(seat);
+        all.push_reserved(attended);
+    }
+    Ok((seats, all))
+}
+
+/// Sessions of as many seats as there are places, from 1 to 64, over one run of the setup, each in a thread of its own,
+/// until all have ended; then the control, whose journal has the commands of all, and the places in the same order, each
+/// with how its session ended. The k-th place is that of seat k. A line is answered as in a session of one seat, but that
+/// no line chooses a seat. A seat whose session ends with a fault ends alone, and the others go on.
+///
+/// # Errors
+/// `Spawn` where a thread can't be started, and `NoMemory` where the control, the threads or the results find no memory.
+/// Sessions that were begun by then go on to their ends, but their places and the journal are lost.
+pub fn debug_seats<T: Talk + Drop + Send, R: Threads + Wait + Sync>(
+    rt: &R,
+    alloc: Global,
+    setup: Setup,
+    places: Vec<Place<T>>,
+) -> Result<(Control<RunOfSetup>, Vec<Attended<T>>), HallFault>
+    requires some { 1 ≤ vec_len places }
+    requires fits { vec_len places ≤ 64 }
+    ensures hall { IfOk result (λ r. IsHall T.known setup places.items r.0 r.1.items) }
+    ensures headline { IfOk result (λ r. HasHeadline r.0) }
+{
+    let count = places.len() as u8;
+    let Ok(control) = Control::open(alloc, setup, count) else {
+        return Err(HallFault::NoMemory);
+    };
+    let Ok((shared, seats)) = Shared::open(rt, alloc, control) else {
+        return Err(HallFault::NoMemory);
+    };
+    let lefts = attend_all(rt, alloc, &shared, seats, places)?;
+    let (seats, attended) = collect(alloc, lefts)?;
+    let control = shared.finish(rt, seats);
+    // Its clauses say that each entry is of a seat, and how many there are at most.
+    control.journal();
+    Ok((control, attended))
+}
