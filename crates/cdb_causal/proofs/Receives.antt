@@ -1,5 +1,5 @@
 -- In each cell of the receives at most one event stands, also where an event is added or taken out.
-use Rattle.std.proofs.Common.{◌≡◌, ◌≢◌, ℕ, ◌-◌, ◌<◌, ◌⊎◌, ⊎_elim, List, [], ◌∷◌, ◌++◌, Some, slice_get, slice_index, sym, refl, ◌∙◌, subst, arith}
+use Rattle.std.proofs.Common.{◌≡◌, ◌≢◌, ℕ, ◌+◌, ◌-◌, ◌<◌, ◌⊎◌, ⊎_elim, Bool, true, false, ◌&&◌, ◌||◌, nat_eq, List, [], ◌∷◌, ◌++◌, Some, slice_get, slice_index, sym, refl, ap, ◌∙◌, subst, true≢false, eqb-true, arith}
 use Rattle.cdb_base.specs.declared.event.Event.{Event}
 use Rattle.cdb_base.specs.declared.event.Event.TheVariants.{Step, Lost}
 use Rattle.cdb_base.specs.declared.event.Kind.{Kind}
@@ -7,11 +7,28 @@ use Rattle.cdb_base.specs.declared.event.Kind.TheVariants.{Send, Recv, Read, Wri
 use Rattle.cdb_causal.specs.Alone.{receive_bound, IsReceiveIn, AreAlone, KeepsReceives, Joins, Leaves}
 use Rattle.cdb_causal.specs.Bounds.{IsKindWithin, IsWithin, AreWithin}
 use Rattle.cdb_causal.specs.Cells.{register_cell, named_cell, copy_cell}
+use Rattle.cdb_causal.specs.Dependence.{depends}
+use Rattle.cdb_causal.specs.Effects.{kind_affects}
+use Rattle.cdb_causal.specs.LastCauses.{IsSlot}
 use Rattle.cdb_causal.specs.Rollback.{without, place_before}
 use Rattle.cdb_causal.specs.declared.bounds.Bounds.{Bounds}
 use Rattle.cdb_causal.specs.declared.bounds.TheConstants.{SEVERAL}
 use Rattle.cdb_causal.proofs.Counting.{slice_get-without, same_place_before}
+use Rattle.cdb_causal.proofs.Effects.{by_effect}
+use Rattle.cdb_causal.proofs.Exchanges.{is_false}
 use Rattle.cdb_causal.proofs.Lists.{push_cases}
+
+other_true : (a b : Bool) → a ≡ false → (a || b) ≡ true → b ≡ true
+other_true true b none h = absurd (true≢false none)
+other_true false b none h = h
+
+left_true : (a b : Bool) → (a && b) ≡ true → a ≡ true
+left_true true b h = refl
+left_true false b h = absurd (true≢false (sym h))
+
+right_true : (a b : Bool) → (a && b) ≡ true → b ≡ true
+right_true true b h = h
+right_true false b h = absurd (true≢false (sym h))
 
 receive_below : (bounds : Bounds) (i n : ℕ) (event : Event) → IsWithin bounds i event → IsReceiveIn event n → i < receive_bound bounds n
 receive_below bounds i n (Step p k (Recv s m)) within is = subst (λ c. i < receive_bound bounds c) is within.1
@@ -68,3 +85,21 @@ module _ (old new : Bounds) (history : List Event) (gone : ℕ) (event : Event) 
   pub within_left : (m i : ℕ) (one : Event) → slice_get history i ≡ Some one → (i ≡ gone → ⊥) → IsWithin old m one → IsWithin new m one
   within_left m i (Step p k kind) at other within = (subst (λ t. m < slice_index t.items (named_cell p k)) (sym leaves.steps) within.0, kind_left m i p k kind at other within.1)
   within_left m i (Lost copy) at other within = subst (λ t. m < slice_index t.items (copy_cell copy.msg.s copy.msg.m (copy.to - 1))) (sym leaves.losses) within
+
+-- before a send, a step of another process on which it depends receives its message
+pub receives_sent : (p k m : ℕ) (slot : ℕ) (cause : Event) → IsSlot cause slot → slot < 9 → slot + 1 ≢ p → depends cause (Step p k (Send m)) ≡ true → IsReceiveIn cause (copy_cell p m slot)
+receives_sent p k m slot (Step q l kind) in_slot low other h = go kind (other_true (nat_eq q p) _ apart (sym (by_effect (Step q l kind) (Step p k (Send m))) ∙ h))
+  where
+    apart : nat_eq q p ≡ false
+    apart = is_false (nat_eq q p) (λ same. other (in_slot.0 ∙ eqb-true q p same))
+
+    go : (kind : Kind) → (kind_affects q kind (Send m) || kind_affects p (Send m) kind) ≡ true → IsReceiveIn (Step q l kind) (copy_cell p m slot)
+    go (Recv s r) h =
+        let one = eqb-true p s (left_true (nat_eq p s) (nat_eq m r) h) in
+        let two = eqb-true m r (right_true (nat_eq p s) (nat_eq m r) h) in
+        let place : q - 1 ≡ slot = (let e = in_slot.0 in omega arith) in
+        ap (λ n. copy_cell s r n) place ∙ ap (λ x. copy_cell x r slot) (sym one) ∙ ap (λ x. copy_cell p x slot) (sym two)
+    go (Send r) h = absurd (true≢false (sym h))
+    go (Write register) h = absurd (true≢false (sym h))
+    go _ h = absurd (true≢false (sym h))
+receives_sent p k m slot (Lost copy) in_slot low other h = absurd (omega arith)

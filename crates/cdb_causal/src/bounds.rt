@@ -3,7 +3,7 @@
 //! where events are taken out. An event that is added stands above all others, so its mark gives a
 //! bound of each cell that it joins.
 
-ghost use Rattle.std.specs.Prelude.{◌≡◌, ℕ, ◌+◌, ◌-◌, ◌<◌, ◌≤◌, ◌==◌, ◌||◌, [], OnOk, true, false, length, nat_eq, slice_index, replicate, vec_len, if◌then◌else◌};
+ghost use Rattle.std.specs.Prelude.{◌≡◌, ◌≢◌, IsTrue, ℕ, ◌+◌, ◌-◌, ◌<◌, ◌≤◌, ◌==◌, ◌||◌, [], OnOk, true, false, length, nat_eq, slice_index, replicate, vec_len, if◌then◌else◌};
 ghost use Rattle.cdb_base.specs.Event.{event_name};
 ghost use Rattle.cdb_base.specs.declared.event.Event.{Event as AnEvent};
 ghost use Rattle.cdb_base.specs.declared.event.Event.TheVariants.{Step, Lost};
@@ -151,7 +151,7 @@ impl Bounds {
     ghost use Rattle.cdb_causal.specs.Between.{IsBetween};
     ghost use Rattle.cdb_causal.specs.Bounds.{IsWithin, IsKindWithin, AreRaised, HasRoom, HasRoomFor};
     ghost use Rattle.cdb_causal.specs.Own.{own_bound, bound_of_slot, IsOwnNoted, IsOwnForgotten};
-    ghost use Rattle.cdb_causal.specs.Alone.{Joins, Leaves, KeepsReceives, ShareCell};
+    ghost use Rattle.cdb_causal.specs.Alone.{receive_bound, Joins, Leaves, KeepsReceives, ShareCell};
 
     /// The bounds of a history without events.
     pub fn new(alloc: Global) -> Self
@@ -337,11 +337,19 @@ impl Bounds {
     }
 
     /// The bound of the receives of a copy for the slot's process.
-    fn end_of_receives(&self, s: Proc, m: u16, slot: usize) -> usize
+    pub fn end_of_receives(&self, s: Proc, m: u16, slot: usize) -> usize
         requires { slot < 9 }
         ensures { result ≡ slice_index self.now.receives.items (copy_cell_of s m slot) }
     {
         bound_in(&self.receives, copy_cell(s, m, slot))
+    }
+
+    /// Whether by the bounds at most one standing event receives the copy for the slot's process.
+    pub fn is_received_once(&self, s: Proc, m: u16, slot: usize) -> bool
+        requires { slot < 9 }
+        ensures { IsTrue result → receive_bound self.now (copy_cell_of s m slot) ≢ SEVERAL }
+    {
+        self.end_of_receives(s, m, slot) != SEVERAL
     }
 
     /// The bound of the losses of a copy for the slot's process.

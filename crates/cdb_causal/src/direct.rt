@@ -53,6 +53,19 @@ fn last_cause(history: &History, effect: &Event, j: usize, slot: usize, end: usi
     None
 }
 
+/// The place of the last event in a slot on which the one at place `j` depends.
+fn last_in_slot(history: &History, effect: &Event, j: usize, slot: usize) -> Option<usize>
+    requires at { slice_get history.now j ≡ Some effect.now }
+    requires slot { slot < 10 }
+    ensures { IsLastOrNone history.now j slot result }
+{
+    if history.is_received_later(effect, j, slot) {
+        return None;
+    }
+    let end = history.end_of_causes(effect, slot);
+    last_cause(history, effect, j, slot, end)
+}
+
 /// Whether the event depends on the first and the last one on it.
 fn leads_on(first: &Event, event: &Event, last: &Event) -> bool
     ensures { IsTrue result
@@ -91,8 +104,7 @@ fn last_causes(history: &History, j: usize) -> [Option<usize>; SLOTS]
     let effect = history.event(j);
     let mut causes = [None; SLOTS];
     for slot in 0..SLOTS {
-        let end = history.end_of_causes(effect, slot);
-        causes[slot] = last_cause(history, effect, j, slot, end);
+        causes[slot] = last_in_slot(history, effect, j, slot);
     }
     causes
 }

@@ -2,19 +2,23 @@
 
 ghost use Rattle.std.specs.Prelude.{◌≡◌, ℕ, ◌-◌, ◌<◌, ◌≤◌, List, [], ◌∷◌, ◌++◌, Some, false, length, slice_get, take, MatchOption, OnOk, OnErr, IfOk, IsTrue, ◌==◌, ◌↔◌};
 ghost use Rattle.cdb_base.specs.Event.{event_name};
+ghost use Rattle.cdb_base.specs.declared.event.Event.{Event as AnEvent};
 ghost use Rattle.cdb_base.specs.declared.event.Event.TheVariants.{Step};
 ghost use Rattle.cdb_base.specs.declared.event.Kind.{Kind as AKind};
+ghost use Rattle.cdb_base.specs.declared.event.Kind.TheVariants.{Send};
 ghost use Rattle.cdb_base.specs.Places.{nth};
 ghost use Rattle.cdb_causal.specs.Causality.{IsLink};
 ghost use Rattle.cdb_causal.specs.Dependence.{same_process as same_process_of, depends as depends_of};
-ghost use Rattle.cdb_causal.specs.LastCauses.{IsSlot};
+ghost use Rattle.cdb_causal.specs.Alone.{IsReceiveIn};
+ghost use Rattle.cdb_causal.specs.Cells.{copy_cell};
+ghost use Rattle.cdb_causal.specs.LastCauses.{IsSlot, IsNoCause};
 ghost use Rattle.cdb_causal.specs.Names.{IsNamedAt, IsNewName, IsPlaceOf};
 ghost use Rattle.cdb_causal.specs.Rollback.{without};
 ghost use Rattle.cdb_causal.specs.Standing.{IsStanding, HasNoLostCopy};
 ghost use Rattle.cdb_log.specs.Marks.{IsPushed};
 
 use crate::bounds::Bounds;
-use cdb_base::{Event, Kind, NoMemory, Reg, StepId};
+use cdb_base::{Event, Kind, NoMemory, Proc, Reg, StepId};
 use cdb_log::Log;
 use std::alloc::Global;
 use std::marker::Model;
@@ -65,6 +69,21 @@ fn append_to_log(log: &mut Log<Event>, event: Event) -> Result<usize, NoMemory>
     let _kind: Option<Kind> = None;
     let _register: Option<Reg> = None;
     log.push(event)
+}
+
+/// Whether the event is the receive of the m-th message of process s by the slot's process.
+fn is_receive_of(event: &Event, s: Proc, m: u16, slot: usize) -> bool
+    requires { slot < 9 }
+    ensures { IsTrue result → IsReceiveIn event.now (copy_cell s m slot) }
+{
+    match event {
+        Event::Step {
+            p,
+            kind: Kind::Recv(q, n),
+            ..
+        } => p.index() == slot && *q == s && *n == m,
+        _ => false,
+    }
 }
 
 /// Whether the event has the name.
@@ -134,6 +153,63 @@ impl History {
         ensures { slice_get self.now i ≡ Some result.now }
     {
         self.events.get(i)
+    }
+
+    /// Whether the slot's process receives the message at place `j`, from 0, or later, and at most once.
+    fn receives_later(&self, s: Proc, m: u16, j: usize, slot: usize) -> bool
+        requires { slot < 9 }
+        ensures { IsTrue result → (i : ℕ) (event : AnEvent) → i < j →
+            slice_get self.now i ≡ Some event → IsReceiveIn event (copy_cell s m slot) → ⊥ }
+    {
+        if !self.bounds.is_received_once(s, m, slot) {
+            return false;
+        }
+        let end = self
+            .events
+            .place_above(self.bounds.end_of_receives(s, m, slot));
+        for i in (j..end).rev() {
+            if is_receive_of(self.events.get(i), s, m, slot) {
+                return true;
+            }
+        }
+        false
+    }
+
+    /// The same of a message that process `p` sends at place `j`, to another process.
+    fn is_message_received_later(&self, p: &Proc, m: u16, j: usize, slot: usize) -> bool
+        ensures { IsTrue result → (k : ℕ) → slice_get self.now j ≡ Some (Step p.now k (Send m)) →
+            IsNoCause self.now j slot }
+    {
+        if slot >= 9 {
+            return false;
+        }
+        if p.index() == slot {
+            return false;
+        }
+        self.receives_later(*p, m, j, slot)
+    }
+
+    /// The same of a step of process `p` of that kind at place `j`.
+    fn is_step_received_later(&self, p: &Proc, kind: &Kind, j: usize, slot: usize) -> bool
+        ensures { IsTrue result → (k : ℕ) →
+            slice_get self.now j ≡ Some (Step p.now k kind.now) → IsNoCause self.now j slot }
+    {
+        match kind {
+            Kind::Send(m) => self.is_message_received_later(p, *m, j, slot),
+            _ => false,
+        }
+    }
+
+    /// Whether the event at place `j`, from 0, is a send to the slot's process that is received later: so
+    /// no earlier event in that slot is a cause of it.
+    pub(crate) fn is_received_later(&self, effect: &Event, j: usize, slot: usize) -> bool
+        requires at { slice_get self.now j ≡ Some effect.now }
+        ensures { IsTrue result → IsNoCause self.now j slot }
+    {
+        match effect {
+            Event::Step { p, kind, .. } => self.is_step_received_later(p, kind, j, slot),
+            Event::Lost(_) => false,
+        }
     }
 
     /// A place, from 0, above all events in a slot on which the effect depends, where it stands.

@@ -5,10 +5,6 @@ use Rattle.cdb_causal.specs.LastCauses.{IsLastOrNone}
 use Rattle.cdb_causal.proofs.LastPlaces.{none_at_first, last_below}
 use Rattle.cdb_causal.proofs.direct.last_causes.Goals as goal
 
-pub last_cause-requires-clause-end : goal.last_cause-requires-clause-end
-last_cause-requires-clause-end c =
-    λ i l in_slot. c.end_of_causes-end.ensures i c.args.j l c.event-effect.ensures in_slot
-
 this_or_below : (k n : ℕ) → k < n + 1 → (k ≡ n) ⊎ (k < n)
 this_or_below k n h = grind arith
 
@@ -21,11 +17,11 @@ loop-slot-init c = ((λ k below. absurd (omega arith)), (λ k i is. absurd (none
 pub loop-slot-preserved : goal.loop-slot-preserved
 loop-slot-preserved c =
     let slot : ℕ = c.loop-slot.slot in
-    let found = c.last_cause.result in
+    let found = c.last_in_slot.result in
     let longer = c.loop-slot.invariant.2 in
     let test = c.loop-slot-test.true in
     let within : slot < length c.loop-slot.causes = omega arith in
-    let here : IsLastOrNone c.args.history.now c.args.j slot found = c.last_cause.ensures in (
+    let here : IsLastOrNone c.args.history.now c.args.j slot found = c.last_in_slot.ensures in (
       (λ k below.
           ⊎_elim
           (λ same. subst (λ n. IsLastOrNone c.args.history.now c.args.j n (get_or (set c.loop-slot.causes slot found) n None)) (sym same)
