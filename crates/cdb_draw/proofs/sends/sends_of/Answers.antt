@@ -1,4 +1,4 @@
-use Rattle.std.proofs.Common.{ℕ, ◌<◌, List, length, take, subst, arith}
+use Rattle.std.proofs.Common.{ℕ, List, take, subst, arith}
 use Rattle.std.proofs.lemmas.Option.{slice_get_within}
 use Rattle.cdb_base.specs.declared.event.Event.{Event}
 use Rattle.cdb_past.proofs.Pairing.{length-first, one_more}
