@@ -5,3 +5,4 @@ pub mod Parted
 pub mod Drawing
 pub mod Bounded
 pub mod Ended
+pub mod LastMarks

@@ -242,40 +242,37 @@ fn push_close(text: &mut String) -> Result<(), AllocError>
     push(text, "</g>\n")
 }
 
-/// Adds the whole text of an event, which is shown where a pointer rests on the mark.
+/// Adds the whole text of the last event of a run, which is shown where a pointer rests on the mark.
 fn push_title(
     alloc: Global,
     text: &mut String,
     run: &RunOfSetup,
-    after: &RunOfSetup,
     event: &Event,
 ) -> Result<(), AllocError>
     ensures { Pushes result text.old text.new
-        (title_text (whole_text rules run.now after.now event.now)) }
+        (title_text (whole_text rules run.now run.now event.now)) }
 {
     push(text, "<title>")?;
-    push_whole(alloc, text, run, after, event)?;
+    push_whole(alloc, text, run, event)?;
     push(text, "</title>")
 }
 
-/// Adds the mark of the event at a place, from 0, where `after` is the run once it had come to that event. Only
-/// out of memory is an error.
+/// Adds the mark of the last event of a run, which stands at a place, from 0. Only out of memory is an error.
 pub(crate) fn push_mark(
     alloc: Global,
     text: &mut String,
     run: &RunOfSetup,
-    after: &RunOfSetup,
     full: bool,
     place: usize,
     event: &Event,
 ) -> Result<(), AllocError>
     requires { place ≤ 999999 }
     ensures { Pushes result text.old text.new
-        (mark_text rules run.now after.now full place event.now) }
+        (mark_text rules run.now run.now full place event.now) }
 {
     push_open(text, run.any().setup(), full, place, lane_of(event))?;
-    push_title(alloc, text, run, after, event)?;
-    push_decided(text, decision_by(after, event))?;
+    push_title(alloc, text, run, event)?;
+    push_decided(text, decision_by(run, event))?;
     push_body(text, event)?;
     push_close(text)
 }

@@ -178,8 +178,9 @@ fn mark_of(
 {
     let mut text = String::new(alloc);
     let history = run.any().history();
+    let _standing = history.len();
     let event = history.event(place);
-    push_mark(alloc, &mut text, run, after, marks[place], place, event)?;
+    push_mark(alloc, &mut text, after, marks[place], place, event)?;
     Ok(text)
 }
 
@@ -255,7 +256,8 @@ fn put_mark<W: Sink>(
     put_text(&text, buffer, out)
 }
 
-/// Puts the marks of all events. The run is played again, event by event, and looked at after each one.
+/// Puts the marks of all events. The run is played again, event by event, and asked after each one, when that is
+/// soonest answered.
 fn put_marks<W: Sink>(
     alloc: Global,
     run: &RunOfSetup,

@@ -59,33 +59,31 @@ fn push_because(
     }
 }
 
-/// Adds the whole text of a standing event, where `after` is the run once it had come to that event. Only out
-/// of memory is an error.
+/// Adds the whole text of the last event of a run. In a longer run it is the same, since nothing that comes later
+/// changes direct causes. Only out of memory is an error.
 pub fn push_whole(
     alloc: Global,
     text: &mut String,
     run: &RunOfSetup,
-    after: &RunOfSetup,
     event: &Event,
 ) -> Result<(), AllocError>
-    ensures { Pushes result text.old text.new (whole_text rules run.now after.now event.now) }
+    ensures { Pushes result text.old text.new (whole_text rules run.now run.now event.now) }
 {
     push_event(text, event)?;
-    push_detail(text, after, event)?;
-    push_decides(text, decision_by(after, event))?;
+    push_detail(text, run, event)?;
+    push_decides(text, decision_by(run, event))?;
     push_because(alloc, text, run, event)
 }
 
-/// Adds the line of a standing event, which is its whole text.
+/// Adds the line of the last event of a run, which is its whole text.
 pub(crate) fn push_line(
     alloc: Global,
     text: &mut String,
     run: &RunOfSetup,
-    after: &RunOfSetup,
     event: &Event,
 ) -> Result<(), AllocError>
-    ensures { Pushes result text.old text.new (line_text rules run.now after.now event.now) }
+    ensures { Pushes result text.old text.new (line_text rules run.now run.now event.now) }
 {
-    push_whole(alloc, text, run, after, event)?;
+    push_whole(alloc, text, run, event)?;
     text.push_str("\n")
 }

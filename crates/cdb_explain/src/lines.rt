@@ -15,7 +15,7 @@ use cdb_control::RunOfSetup;
 use std::alloc::{AllocError, Global};
 
 /// Adds the lines of the marked events, in the order of the history, and returns how many they are.
-/// It plays the run again, event by event, and looks at it after each one.
+/// It plays the run again, event by event, and asks it after each one, when that is soonest answered.
 fn push_lines(
     alloc: Global,
     text: &mut String,
@@ -35,7 +35,7 @@ fn push_lines(
         let event = history.event(i);
         take_next(alloc, &mut again, event)?;
         if marks[i] {
-            push_line(alloc, text, run, &again, event)?;
+            push_line(alloc, text, &again, event)?;
             count += 1;
         }
     }

@@ -6,6 +6,7 @@
 //! ```
 #![tactic(auto)]
 
+mod pairs;
 mod past;
 
 pub use past::mark_past;

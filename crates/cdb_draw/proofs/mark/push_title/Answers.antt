@@ -9,7 +9,7 @@ pub returns : goal.returns
 unfolding title_text
 returns c =
     let piece-1 : List ℕ = codes "<title>" in
-    let piece-2 : List ℕ = whole_text rules c.args.run.now c.args.after.now c.args.event.now in
+    let piece-2 : List ℕ = whole_text rules c.args.run.now c.args.run.now c.args.event.now in
     let piece-3 : List ℕ = codes "</title>" in
     let bytes-0 : List ℕ = string_bytes c.args.text.now in
     let bytes-1 : List ℕ = string_bytes c.push.new.text in

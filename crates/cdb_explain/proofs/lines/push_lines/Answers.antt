@@ -1,5 +1,6 @@
 use Rattle.std.proofs.Common.{◌≡◌, ℕ, ◌+◌, ◌<◌, List, length, Some, slice_get, string_bytes, IsTrue, true, false, sym, ap, ◌∙◌, subst, arith}
 use Rattle.cdb_base.specs.declared.event.Event.{Event}
+use Rattle.cdb_causal.specs.Standing.{IsStanding}
 use Rattle.cdb_run.specs.Algorithms.{rules}
 use Rattle.cdb_run.specs.Current.{RunView}
 use Rattle.cdb_explain.specs.Explanations.{line_at, line_text}
@@ -36,16 +37,17 @@ loop-i-preserved c =
     let sizes = ap length same in
     let number = c.requires in
     let within : i < length marks = omega (arith, test, counted_all, sizes, number) in
+    let standing = subst IsStanding same c.len-i-end.ensures.standing in
     let along = next_along run i event at c.loop-i.again so.again later c.in_ok-take_next.ensures in
     elim c.if-marks-i.branch [
       | then-marks-i+in_ok-push_line w ↦
-          let line = its_line run i event at c.loop-i.again so.again later c.in_ok-take_next.ensures in
+          let line = its_line run i event at c.loop-i.again so.again standing later c.in_ok-take_next.ensures in
           let is = mark_read marks i _ true within w.if-marks-i.true in
           let counted = w.count-is in
           let few = so.few in
           record {
             again = along;
-            text = text_more (line_at rules run) marks i (string_bytes c.args.text.now) (string_bytes c.loop-i.text) (string_bytes c.if-marks-i.text) (line_text rules run later event) so.text (ap string_bytes w.text-is ∙ w.in_ok-push_line.ensures) line is;
+            text = text_more (line_at rules run) marks i (string_bytes c.args.text.now) (string_bytes c.loop-i.text) (string_bytes c.if-marks-i.text) (line_text rules later later event) so.text (ap string_bytes w.text-is ∙ w.in_ok-push_line.ensures) line is;
             count = w.count-is ∙ ap (λ (n : ℕ). n + 1) so.count ∙ sym (count_more marks i is);
             few = omega (arith, counted, few);
           }

@@ -1,47 +1,83 @@
-use Rattle.std.proofs.Common.{rules, ◌≡◌, ◌-◌, ◌<◌, ℕ, List, Bool, true, false, length, replicate, Some, refl, sym, ap, ◌∙◌, subst, true≢false, arith}
+use Rattle.std.proofs.Common.{rules, ◌≡◌, ◌-◌, ◌<◌, ◌≤◌, ℕ, suc, List, Bool, true, false, length, replicate, Some, get_or, slice_get, slice_set, refl, sym, ap, ◌∙◌, subst, true≢false, arith}
 use Rattle.std.proofs.lemmas.Option.{slice_get_read, same_Some}
 use Rattle.cdb_base.specs.declared.event.Event.{Event}
-use Rattle.cdb_past.proofs.Walk.{IsWalked, begun_at, next, passed, widened, walked_past}
+use Rattle.cdb_past.specs.Pairs.{ArePairs}
+use Rattle.cdb_past.specs.declared.pairs.Pair.{Pair}
+use Rattle.cdb_past.proofs.Walk.{IsWalked, begun, cause_within, effect_within, passed, widened, walked_past}
 use Rattle.cdb_past.proofs.past.mark_past.Goals as goal
+
+-- the pairs of what stands up to the event, which is the at-th from 1
+up_to : (history : List Event) (at : ℕ) (pairs : List Pair) → 1 ≤ at → ArePairs history at pairs → ArePairs history (suc (at - 1)) pairs
+up_to history at pairs first are = subst (λ n. ArePairs history n pairs) (let e : at ≡ suc (at - 1) = omega (arith, first) in e) are
+
+-- the pair that is read below a bound
+pair_read : (pairs : List Pair) (b : ℕ) (pair : Pair) → 0 < b → b ≤ length pairs → pair ≡ get_or pairs (b - 1) pair → slice_get pairs (b - 1) ≡ Some pair
+pair_read pairs b pair some most is = slice_get_read pairs (length pairs) (b - 1) pair refl (omega (arith, some, most)) is
 
 pub loop-i-init : goal.loop-i-init
 loop-i-init c =
+    let history : List Event = c.args.history.now in
+    let pairs : List Pair = c.in_ok-pairs.pairs.items in
     let filled : c.in_ok-marks.marks.items ≡ replicate c.len.result false = search rules in
-    begun_at c.args.history.now (c.args.at - 1) c.args.at c.in_ok-marks.marks.items refl c.requires.from_one c.requires.to_len
-    (filled ∙ ap (λ n. replicate n false) c.len.ensures.count)
+    let are = up_to history c.args.at pairs c.requires.from_one c.in_ok-pairs.ensures in
+    let first = c.requires.from_one in
+    let last = c.requires.to_len in
+    subst (λ n. IsWalked history (c.args.at - 1) pairs n (slice_set c.in_ok-marks.marks.items (c.args.at - 1) true)) (sym (c.len-i.ensures ∙ c.in_ok-pairs.pairs.ok.0))
+    (begun history (c.args.at - 1) pairs are c.in_ok-marks.marks.items (omega (arith, first, last)) (filled ∙ ap (λ n. replicate n false) c.len.ensures.count))
+
+pub index-requires : goal.index-requires
+index-requires c =
+    let history : List Event = c.args.history.now in
+    let pairs : List Pair = c.in_ok-pairs.pairs.items in
+    let are = up_to history c.args.at pairs c.requires.from_one c.in_ok-pairs.ensures in
+    let some = c.loop-i-test.true in
+    let at = pair_read pairs c.loop-i.i c.index-pair.result.now some (search rules) c.index-pair.ensures in
+    let within = effect_within history (c.args.at - 1) pairs are c.loop-i.i some c.index-pair.result.now at c.loop-i.marks.items c.loop-i.invariant in
+    search (rules, within)
+
+pub index_mut-requires-then-index : goal.index_mut-requires-then-index
+index_mut-requires-then-index c =
+    let history : List Event = c.args.history.now in
+    let pairs : List Pair = c.in_ok-pairs.pairs.items in
+    let are = up_to history c.args.at pairs c.requires.from_one c.in_ok-pairs.ensures in
+    let some = c.loop-i-test.true in
+    let at = pair_read pairs c.loop-i.i c.index-pair.result.now some (search rules) c.index-pair.ensures in
+    let within = cause_within history (c.args.at - 1) pairs are c.loop-i.i some c.index-pair.result.now at c.loop-i.marks.items c.loop-i.invariant in
+    search (rules, within)
 
 pub loop-i-preserved-then-index : goal.loop-i-preserved-then-index
 loop-i-preserved-then-index c =
     let history : List Event = c.args.history.now in
+    let pairs : List Pair = c.in_ok-pairs.pairs.items in
+    let j : ℕ = c.args.at - 1 in
     let marks : List Bool = c.loop-i.marks.items in
-    let i : ℕ = c.loop-i.i - 1 in
-    let walked = next history (c.args.at - 1) c.loop-i.i marks c.loop-i-test.true c.loop-i.invariant in
-    let number = c.loop-i.invariant.a_mark_each in
-    let below = c.loop-i.auto.i in
+    let are = up_to history c.args.at pairs c.requires.from_one c.in_ok-pairs.ensures in
     let some = c.loop-i-test.true in
-    let most = c.requires.to_len in
-    let within : i < length marks = omega arith in
-    let at = slice_get_read marks (length marks) i c.index.result.now refl within c.index.ensures in
-    widened history (c.args.at - 1) i marks walked (at ∙ ap Some c.if-index.true) c.mark_causes.new.marks.items c.mark_causes.ensures.length
-    c.mark_causes.ensures.kept c.mark_causes.ensures.each c.mark_causes.ensures.only
+    let at = pair_read pairs c.loop-i.i c.index-pair.result.now some (search rules) c.index-pair.ensures in
+    let within = effect_within history j pairs are c.loop-i.i some c.index-pair.result.now at marks c.loop-i.invariant in
+    let marked = slice_get_read marks (length marks) c.index-pair.result.now.effect c.index.result.now refl within c.index.ensures in
+    widened history j pairs are c.loop-i.i some c.index-pair.result.now at marks c.loop-i.invariant (marked ∙ ap Some c.if-index.true)
 
 pub loop-i-preserved : goal.loop-i-preserved
 loop-i-preserved c =
     let history : List Event = c.args.history.now in
+    let pairs : List Pair = c.in_ok-pairs.pairs.items in
+    let j : ℕ = c.args.at - 1 in
     let marks : List Bool = c.loop-i.marks.items in
-    let i : ℕ = c.loop-i.i - 1 in
-    let walked = next history (c.args.at - 1) c.loop-i.i marks c.loop-i-test.true c.loop-i.invariant in
-    let number = c.loop-i.invariant.a_mark_each in
-    let below = c.loop-i.auto.i in
+    let are = up_to history c.args.at pairs c.requires.from_one c.in_ok-pairs.ensures in
     let some = c.loop-i-test.true in
-    let most = c.requires.to_len in
-    let within : i < length marks = omega arith in
-    let at = slice_get_read marks (length marks) i c.index.result.now refl within c.index.ensures in
-    passed history (c.args.at - 1) i marks walked (λ marked. true≢false (same_Some true false (sym marked ∙ at ∙ ap Some c.if-index.false)))
+    let at = pair_read pairs c.loop-i.i c.index-pair.result.now some (search rules) c.index-pair.ensures in
+    let within = effect_within history j pairs are c.loop-i.i some c.index-pair.result.now at marks c.loop-i.invariant in
+    let marked = slice_get_read marks (length marks) c.index-pair.result.now.effect c.index.result.now refl within c.index.ensures in
+    passed history j pairs are c.loop-i.i some c.index-pair.result.now at marks c.loop-i.invariant
+    (λ is. true≢false (same_Some true false (sym is ∙ marked ∙ ap Some c.if-index.false)))
 
 pub returns : goal.returns
 returns c =
+    let history : List Event = c.args.history.now in
+    let pairs : List Pair = c.in_ok-pairs.pairs.items in
     let none = c.loop-i-test.false in
-    let end : c.loop-i.i ≡ 0 = omega arith in
-    walked_past c.args.history.now (c.args.at - 1) c.loop-i.marks.items
-    (subst (λ n. IsWalked c.args.history.now (c.args.at - 1) n c.loop-i.marks.items) end c.loop-i.invariant)
+    let end : c.loop-i.i ≡ 0 = omega (arith, none) in
+    let are = up_to history c.args.at pairs c.requires.from_one c.in_ok-pairs.ensures in
+    walked_past history (c.args.at - 1) pairs are c.loop-i.marks.items
+    (subst (λ n. IsWalked history (c.args.at - 1) pairs n c.loop-i.marks.items) end c.loop-i.invariant)

@@ -3,4 +3,4 @@ use Rattle.cdb_past.proofs.Walk.{IsWalked}
 use Rattle.cdb_past.proofs.past.mark_past.Given as goal
 
 abbrev pub invariant-loop-i : goal.invariant-loop-i
-invariant-loop-i l = IsWalked l.history (l.at - 1) l.i l.marks.items
+invariant-loop-i l = IsWalked l.history (l.at - 1) l.pairs.items l.i l.marks.items

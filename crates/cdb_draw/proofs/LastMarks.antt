@@ -1,0 +1,29 @@
+-- The mark of an event is that of the last event of the run once it had come to it.
+use Rattle.std.proofs.Common.{◌≡◌, ℕ, Bool, List, ◌++◌, take, Some, slice_get, refl, sym, ap, ◌∙◌}
+use Rattle.cdb_base.specs.declared.event.Event.{Event}
+use Rattle.cdb_causal.specs.Standing.{IsStanding}
+use Rattle.cdb_control.specs.Commands.{decides}
+use Rattle.cdb_explain.specs.Explanations.{run_after}
+use Rattle.cdb_explain.specs.Marked.{is_marked}
+use Rattle.cdb_explain.proofs.Along.{whole_of_last}
+use Rattle.cdb_run.specs.Algorithms.{rules}
+use Rattle.cdb_run.specs.Current.{RunView}
+use Rattle.cdb_run.specs.Runs.{with_history}
+use Rattle.cdb_draw.specs.Arrows.{spot_text}
+use Rattle.cdb_draw.specs.EventMarks.{body_text, decided_text, lane_of, mark_at, mark_close, mark_text, open_text, title_text}
+
+pub mark_of_last : (run : RunView) (marks : List Bool) (place : ℕ) (event : Event) → IsStanding run.history → slice_get run.history place ≡ Some event
+    → (after : RunView) → after ≡ run_after run place → (full : Bool) → is_marked marks place ≡ full
+    → mark_text rules after after full place event ≡ mark_at rules run marks place
+mark_of_last run marks place event standing at after is full marked =
+    ap (λ r. mark_text rules r r full place event) is ∙ ap with_title (sym (whole_of_last run place event at (with_history run (take place run.history)) refl standing))
+    ∙ ap (λ b. mark_text rules run (run_after run place) b place event) (sym marked) ∙ sym stands
+  where
+    with_title : List ℕ → List ℕ
+    with_title whole =
+        let last = run_after run place in
+        open_text full (spot_text run.setup place (lane_of event)) ++ title_text whole
+        ++ decided_text (decides (rules last.setup) last.history event) ++ body_text event ++ mark_close
+
+    stands : mark_at rules run marks place ≡ mark_text rules run (run_after run place) (is_marked marks place) place event
+    stands = rw at refl

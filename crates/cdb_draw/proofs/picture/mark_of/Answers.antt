@@ -1,0 +1,27 @@
+use Rattle.std.proofs.Common.{◌≡◌, ◌<◌, ℕ, Bool, false, List, ◌++◌, get_or, length, Some, slice_get, refl, ap, ◌∙◌, subst, arith}
+use Rattle.cdb_base.specs.declared.event.Event.{Event}
+use Rattle.cdb_causal.specs.Standing.{IsStanding}
+use Rattle.cdb_explain.proofs.Marking.{mark_read}
+use Rattle.cdb_run.specs.Algorithms.{rules}
+use Rattle.cdb_run.specs.Current.{RunView}
+use Rattle.cdb_draw.specs.EventMarks.{mark_text}
+use Rattle.cdb_draw.proofs.LastMarks.{mark_of_last}
+use Rattle.cdb_draw.proofs.picture.mark_of.Goals as goal
+
+pub returns : goal.returns
+returns c =
+    let run : RunView = c.args.run.now in
+    let history : List Event = c.history-history.result.now in
+    let place : ℕ = c.args.place in
+    let event : Event = c.event-event.result.now in
+    let same : history ≡ run.history = c.history-history.ensures.events ∙ ap (λ r. r.history) c.any.ensures.run in
+    let at : slice_get run.history place ≡ Some event = subst (λ (h : List Event). slice_get h place ≡ Some event) same c.event-event.ensures in
+    let standing = subst IsStanding same c.len-standing.ensures.standing in
+    let number = c.requires.a_mark_each in
+    let below = c.requires.within in
+    let within : place < length c.args.marks.now = omega (arith, number, below) in
+    let full : Bool = get_or c.args.marks.now place false in
+    let marked = mark_read c.args.marks.now place false full within refl in
+    let text : List ℕ = mark_text rules c.args.after.now c.args.after.now full place event in
+    c.in_ok-push_mark.ensures ∙ ap (λ (t : List ℕ). t ++ text) c.new-text.ensures.bytes
+    ∙ mark_of_last run c.args.marks.now place event standing at c.args.after.now c.requires.after full marked
