@@ -12,6 +12,7 @@ pub mod Keeping
 pub mod LastPlaces
 pub mod LeastSet
 pub mod Lists
+pub mod Naming
 pub mod Orders
 pub mod PastLaws
 pub mod Owning

@@ -18,5 +18,6 @@ pub mod Cells
 pub mod Effects
 pub mod Indexed
 pub mod LastCauses
+pub mod Named
 pub mod Own
 pub mod Raised

@@ -126,6 +126,15 @@ fn leave(table: &mut [usize], cell: usize)
     }
 }
 
+/// Takes the bound from a cell.
+fn clear(table: &mut [usize], cell: usize)
+    ensures { (n : ℕ) → (cell ≡ n → ⊥) → slice_index table.new n ≡ slice_index table.old n }
+{
+    if cell < table.len() {
+        table[cell] = 0;
+    }
+}
+
 /// The bound in a cell; 0 beyond the end of the table.
 fn bound_in(table: &[usize], cell: usize) -> usize
     ensures { result ≡ slice_index table.now cell }
@@ -150,6 +159,7 @@ fn highest(table: &[usize], register: &Reg) -> usize
 impl Bounds {
     ghost use Rattle.cdb_causal.specs.Between.{IsBetween};
     ghost use Rattle.cdb_causal.specs.Bounds.{IsWithin, IsKindWithin, AreRaised, HasRoom, HasRoomFor};
+    ghost use Rattle.cdb_causal.specs.Named.{IsRanged, IsNameForgotten};
     ghost use Rattle.cdb_causal.specs.Own.{own_bound, bound_of_slot, IsOwnNoted, IsOwnForgotten};
     ghost use Rattle.cdb_causal.specs.Alone.{receive_bound, Joins, Leaves, KeepsReceives, ShareCell};
 
@@ -267,6 +277,7 @@ impl Bounds {
         ensures receives { Joins self.old self.new event.now }
         ensures within { IsWithin self.new mark event.now }
         ensures own { IsOwnNoted self.old self.new mark event.now }
+        ensures copy { (copy : ACopy) → event.now ≡ Lost copy → IsRanged copy }
         ensures process { (p k : ℕ) (kind : AKind) → event.now ≡ Step p k kind →
             (1 ≤ p) × (p ≤ 9) }
     {
@@ -278,6 +289,7 @@ impl Bounds {
                 self.note_own(mark, *p, *k);
             }
             Event::Lost(copy) => {
+                let _index = copy.msg.s.index();
                 let lost = copy_cell(copy.msg.s, copy.msg.m, copy.to.index());
                 raise(&mut self.losses, lost, mark + 1);
             }
@@ -304,6 +316,19 @@ impl Bounds {
         }
         if let Event::Step { p, k, .. } = event {
             self.own[p.index()] = bound_in(&self.before, named_cell(*p, *k));
+        }
+    }
+
+    /// Takes away the bound of an event's name, under which none stands any more.
+    pub fn forget_name(&mut self, event: &Event)
+        ensures { IsNameForgotten self.old self.new event.now }
+    {
+        match event {
+            Event::Step { p, k, .. } => clear(&mut self.steps, named_cell(*p, *k)),
+            Event::Lost(copy) => clear(
+                &mut self.losses,
+                copy_cell(copy.msg.s, copy.msg.m, copy.to.index()),
+            ),
         }
     }
 

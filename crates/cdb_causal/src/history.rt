@@ -292,6 +292,7 @@ impl History {
         let event = self.events.take_out(at - 1);
         self.bounds.forget_own(&event, last);
         self.bounds.forget(&event);
+        self.bounds.forget_name(&event);
         event
     }
 }

@@ -3,10 +3,12 @@ use Rattle.cdb_base.specs.declared.event.Event.{Event}
 use Rattle.cdb_causal.specs.Alone.{AreAlone}
 use Rattle.cdb_causal.specs.Bounds.{IsWithin, AreWithin}
 use Rattle.cdb_causal.specs.Indexed.{IsIndexed}
+use Rattle.cdb_causal.specs.Named.{AreRanged}
 use Rattle.cdb_causal.specs.Own.{AreOwn, IsOwnNoted}
 use Rattle.cdb_causal.specs.Standing.{IsStanding}
 use Rattle.cdb_causal.proofs.Bounding.{all_raised, within_push}
 use Rattle.cdb_causal.proofs.Keeping.{standing_push}
+use Rattle.cdb_causal.proofs.Naming.{ranged_push}
 use Rattle.cdb_causal.proofs.Owning.{own_raised, own_push}
 use Rattle.cdb_causal.proofs.Receives.{alone_kept, alone_push}
 use Rattle.cdb_log.specs.Marks.{mark}
@@ -20,6 +22,7 @@ invariant_of-self c =
       within = all_raised c.self.inside.bounds c.reserve.new.self (mark c.self.inside.events) (joined c.self.inside.events) c.reserve.ensures.others c.self.invariant.within;
       alone = alone_kept c.self.inside.bounds c.reserve.new.self (joined c.self.inside.events) c.reserve.ensures.receives c.self.invariant.alone;
       own = own_raised c.self.inside.bounds c.reserve.new.self (mark c.self.inside.events) (joined c.self.inside.events) c.reserve.ensures.others c.self.invariant.own;
+      ranged = c.self.invariant.ranged;
     }
 
 pub invariant_of-self-in_err-mark : goal.invariant_of-self-in_err-mark
@@ -30,6 +33,7 @@ invariant_of-self-in_err-mark c =
       within = all_raised c.self.inside.bounds c.reserve.new.self (mark c.self.inside.events) (joined c.self.inside.events) c.reserve.ensures.others c.self.invariant.within;
       alone = alone_kept c.self.inside.bounds c.reserve.new.self (joined c.self.inside.events) c.reserve.ensures.receives c.self.invariant.alone;
       own = own_raised c.self.inside.bounds c.reserve.new.self (mark c.self.inside.events) (joined c.self.inside.events) c.reserve.ensures.others c.self.invariant.own;
+      ranged = c.self.invariant.ranged;
     })
 
 pub invariant_of-self-2 : goal.invariant_of-self-2
@@ -56,4 +60,5 @@ invariant_of-self-2 c =
           (own_push (c.in_ok-mark.mark + 1) c.reserve.new.self c.note.new.self (mark c.self.inside.events) (mark log) items event c.note.ensures.others (λ i less. let above = pushed.above i less in omega arith)
           (own_raised c.self.inside.bounds c.reserve.new.self (mark c.self.inside.events) items c.reserve.ensures.others c.self.invariant.own) pushed.marks
           (subst (λ n. IsOwnNoted c.reserve.new.self c.note.new.self n event) (sym pushed.last) c.note.ensures.own));
+      ranged = subst AreRanged (sym pushed.items) (ranged_push items event c.self.invariant.ranged c.note.ensures.copy);
     }

@@ -1,16 +1,18 @@
-use Rattle.std.proofs.Common.{◌≡◌, ℕ, ◌-◌, ◌<◌, ◌≤◌, ◌⊎◌, ⊎_elim, List, Some, slice_get, length, ap, sym, subst, ◌∙◌, arith}
+use Rattle.std.proofs.Common.{◌≡◌, ℕ, ◌-◌, ◌<◌, ◌≤◌, ◌⊎◌, ⊎_elim, List, Some, slice_get, slice_index, length, ap, sym, subst, ◌∙◌, arith}
 use Rattle.cdb_base.specs.declared.event.Event.{Event}
 use Rattle.cdb_causal.specs.Alone.{AreAlone}
 use Rattle.cdb_causal.specs.Bounds.{AreWithin}
 use Rattle.cdb_base.specs.declared.event.Event.TheVariants.{Step}
+use Rattle.cdb_causal.specs.Named.{AreRanged}
 use Rattle.cdb_causal.specs.Own.{AreOwn}
 use Rattle.cdb_causal.specs.Rollback.{without, place_before}
 use Rattle.cdb_causal.specs.Standing.{IsStanding}
 use Rattle.cdb_causal.proofs.Bounding.{within_without, place_before_low, place_before_high}
 use Rattle.cdb_causal.proofs.Keeping.{standing_without}
 use Rattle.cdb_causal.proofs.Lists.{remove-without}
+use Rattle.cdb_causal.proofs.Naming.{ranged_without, within_named}
 use Rattle.cdb_causal.proofs.Owning.{leaves_then, own_same, own_without}
-use Rattle.cdb_causal.proofs.Receives.{alone_without}
+use Rattle.cdb_causal.proofs.Receives.{alone_kept, alone_without}
 use Rattle.cdb_log.specs.Marks.{mark, IsTakenOut}
 use Rattle.cdb_log.specs.Pieces.{joined}
 use Rattle.cdb_causal.proofs.history.History.remove.Goals as goal
@@ -36,23 +38,30 @@ invariant_of-self c =
     let left = taken.items ∙ remove-without items gone in
     let event = c.take_out-event.result in
     let forgotten = c.forget_own.ensures in
+    let unnamed = c.forget_name.ensures in
     let leaves = leaves_then c.self.inside.bounds c.forget_own.new.self c.forget.new.self c.last_of_its_process-last.result event forgotten c.forget.ensures.leaves in
     let fall : (i : ℕ) → i < length (without items gone) → mark new i ≤ mark old (place_before gone i) = λ i less. marks_fall old new gone event taken i (subst (λ l. i < length l) (sym left) less) in
     record {
       standing = subst IsStanding (sym left) (standing_without items gone c.self.invariant.standing);
       within =
-          subst (AreWithin c.forget.new.self (mark new)) (sym left)
-          (within_without c.self.inside.bounds c.forget.new.self (mark old) (mark new) items gone event taken.stood leaves c.self.invariant.alone c.self.invariant.within fall);
-      alone = subst (AreAlone c.forget.new.self) (sym left) (alone_without c.self.inside.bounds c.forget.new.self items gone event taken.stood leaves c.self.invariant.alone);
+          subst (AreWithin c.forget_name.new.self (mark new)) (sym left)
+          (within_named c.forget.new.self c.forget_name.new.self (mark new) items c.self.invariant.standing c.self.invariant.ranged gone event taken.stood unnamed
+          (within_without c.self.inside.bounds c.forget.new.self (mark old) (mark new) items gone event taken.stood leaves c.self.invariant.alone c.self.invariant.within fall));
+      alone =
+          subst (AreAlone c.forget_name.new.self) (sym left)
+          (alone_kept c.forget.new.self c.forget_name.new.self (without items gone) (λ n. ap (λ t. slice_index t.items n) unnamed.receives)
+          (alone_without c.self.inside.bounds c.forget.new.self items gone event taken.stood leaves c.self.invariant.alone));
+      ranged = subst AreRanged (sym left) (ranged_without items gone c.self.invariant.ranged);
       own =
-          subst (AreOwn c.forget.new.self (mark new)) (sym left)
+          subst (AreOwn c.forget_name.new.self (mark new)) (sym left)
+          (own_same c.forget.new.self c.forget_name.new.self (mark new) (without items gone) unnamed.own unnamed.before
           (own_same c.forget_own.new.self c.forget.new.self (mark new) (without items gone) c.forget.ensures.own c.forget.ensures.leaves.before
           (own_without c.self.inside.bounds c.forget_own.new.self (mark old) (mark new) items gone event c.last_of_its_process-last.result c.self.invariant.standing c.self.invariant.own taken.stood forgotten
           (λ is p k l kind other i is_step at.
           let stood = subst (λ e. slice_get items gone ≡ Some e) is_step taken.stood in
           let low = c.last_of_its_process-last.ensures is i p k l kind other (subst (λ h. slice_get h gone ≡ Some (Step p k kind)) c.self.view_is stood) (subst (λ h. slice_get h i ≡ Some (Step p l other)) c.self.view_is at) in
           omega arith)
-          fall));
+          fall)));
     }
 
 pub returns-clause-rest : goal.returns-clause-rest

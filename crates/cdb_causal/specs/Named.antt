@@ -1,0 +1,33 @@
+-- The cells of bounds that the name of an event has: a step's, or a loss's. No two standing events share such a cell.
+use Rattle.std.specs.Prelude.{◌≡◌, ℕ, ◌-◌, ◌≤◌, List, Some, slice_get, slice_index}
+use Rattle.cdb_base.specs.declared.event.Event.{Event}
+use Rattle.cdb_base.specs.declared.event.Event.TheVariants.{Step, Lost}
+use Rattle.cdb_base.specs.declared.name.CopyName.{CopyName}
+use Rattle.cdb_causal.specs.Cells.{named_cell, copy_cell}
+use Rattle.cdb_causal.specs.declared.bounds.Bounds.{Bounds}
+
+-- the copy is of a message of a process from 1 to 9, for such a process
+abbrev pub IsRanged : CopyName → Type 0
+IsRanged copy = (1 ≤ copy.msg.s) × (copy.msg.s ≤ 9) × (1 ≤ copy.to) × (copy.to ≤ 9)
+
+abbrev pub AreRanged : List Event → Type 0
+AreRanged history = (i : ℕ) (copy : CopyName) → slice_get history i ≡ Some (Lost copy) → IsRanged copy
+
+abbrev pub IsStepIn : Event → ℕ → Type 0
+IsStepIn (Step p k kind) n = named_cell p k ≡ n
+IsStepIn (Lost copy) n = ⊥
+
+abbrev pub IsLossIn : Event → ℕ → Type 0
+IsLossIn (Step p k kind) n = ⊥
+IsLossIn (Lost copy) n = copy_cell copy.msg.s copy.msg.m (copy.to - 1) ≡ n
+
+-- the bounds are as they were, but for the cell of the event's name
+pub record IsNameForgotten (old new : Bounds) (event : Event) : Type 0 where
+  pub sends : new.sends ≡ old.sends
+  pub receives : new.receives ≡ old.receives
+  pub writes : new.writes ≡ old.writes
+  pub accesses : new.accesses ≡ old.accesses
+  pub own : new.own ≡ old.own
+  pub before : new.before ≡ old.before
+  pub steps : (n : ℕ) → (IsStepIn event n → ⊥) → slice_index new.steps.items n ≡ slice_index old.steps.items n
+  pub losses : (n : ℕ) → (IsLossIn event n → ⊥) → slice_index new.losses.items n ≡ slice_index old.losses.items n
