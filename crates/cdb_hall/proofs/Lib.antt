@@ -7,3 +7,4 @@ pub mod Conversing
 pub mod Knowing
 pub mod Kept
 pub mod Outcomes
+pub mod Reporting
