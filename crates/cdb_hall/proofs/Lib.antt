@@ -8,3 +8,4 @@ pub mod Knowing
 pub mod Kept
 pub mod Outcomes
 pub mod Reporting
+pub mod NotHeld

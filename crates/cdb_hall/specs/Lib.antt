@@ -4,6 +4,7 @@ pub mod Parts
 pub mod Sessions
 pub mod Halls
 pub mod Reports
+pub mod Holding
 -- ---- what the code keeps for itself
 pub mod Lines
 pub mod Held

@@ -11,6 +11,7 @@
 mod conversation;
 mod hearing;
 mod help;
+mod holding;
 mod journal;
 mod place;
 mod reports;
@@ -19,7 +20,8 @@ mod threads;
 mod worker;
 
 pub use help::HELP;
+pub use holding::hold;
 pub use journal::journal_text;
 pub use place::{Attended, Place};
-pub use reports::{status_of_seats, write_failed_seats, write_journal};
+pub use reports::{status_after, write_failures, write_journal};
 pub use threads::{HallFault, debug_seats};

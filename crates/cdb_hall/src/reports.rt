@@ -1,9 +1,10 @@
-//! What is reported once all sessions have ended: the journal, the seats that failed, and the status.
+//! What is reported once all sessions have ended: the journal, what failed, and the status.
 
-ghost use Rattle.std.specs.Prelude.{◌≡◌, ◌≤◌, length, IfOk};
+ghost use Rattle.std.specs.Prelude.{◌≡◌, ◌≤◌, ◌++◌, length, string_bytes, OnOk, IfOk};
 ghost use Rattle.cdb_text.specs.Pushes.{Pushes};
 ghost use Rattle.cdb_hall.specs.Halls.{journal_text};
 ghost use Rattle.cdb_hall.specs.Reports.{IsPut, outcomes, seat_line, seat_lines, seats_status};
+ghost use Rattle.cdb_hall.specs.Reports.{journal_line, failures_text, status_of as status_is};
 
 use crate::journal::journal_text;
 use crate::place::Attended;
@@ -50,43 +51,69 @@ fn push_seat(text: &mut String, seat: u8, outcome: &Result<(), PlayFault>) -> Re
     }
 }
 
-/// A line for each seat whose session failed, with its number and the fault. `NoMemory` if an allocation fails.
-fn seats_text<T>(alloc: Global, attended: &[Attended<T>]) -> Result<Vec<u8>, NoMemory>
-    requires { length attended.now ≤ 64 }
-    ensures { IfOk result (λ text. text.items ≡ seat_lines 1 (outcomes attended.now)) }
+/// Adds the line of a journal that was not written, if it was not.
+fn push_journal(text: &mut String, written: &Result<(), PlayFault>) -> Result<(), AllocError>
+    ensures { Pushes result text.old text.new (journal_line written.now) }
 {
-    let mut text = String::new(alloc);
+    match written {
+        Ok(()) => Ok(()),
+        Err(fault) => writeln!(text, "{fault}"),
+    }
+}
+
+/// Adds a line for each seat whose session failed, with its number and the fault.
+fn push_seats<T>(text: &mut String, attended: &[Attended<T>]) -> Result<(), AllocError>
+    requires { length attended.now ≤ 64 }
+    ensures { Pushes result text.old text.new (seat_lines 1 (outcomes attended.now)) }
+{
     let mut seat = 0u8;
     for its in attended {
         seat += 1;
-        push_seat(&mut text, seat, &its.outcome)?;
+        push_seat(text, seat, &its.outcome)?;
     }
+    Ok(())
+}
+
+/// What is reported of seats and of a journal.
+fn failures<T>(
+    alloc: Global,
+    attended: &[Attended<T>],
+    written: &Result<(), PlayFault>,
+) -> Result<Vec<u8>, NoMemory>
+    requires { length attended.now ≤ 64 }
+    ensures { IfOk result
+        (λ text. text.items ≡ failures_text written.now (outcomes attended.now)) }
+{
+    let mut text = String::new(alloc);
+    push_seats(&mut text, attended)?;
+    push_journal(&mut text, written)?;
     Ok(text.into_bytes())
 }
 
 /// Writes a line for each seat whose session failed, with its number and the fault, in the order of the seats, of which
-/// there are at most 64.
+/// there are at most 64, and then one for a journal that was not written.
 ///
 /// # Errors
 /// `Write` where the writer fails: what was written is a beginning of the lines. `NoMemory` where an allocation fails:
 /// nothing was written.
-pub fn write_failed_seats<T, W: Sink>(
+pub fn write_failures<T, W: Sink>(
     alloc: Global,
     attended: &[Attended<T>],
+    written: &Result<(), PlayFault>,
     out: &mut W,
 ) -> Result<(), PlayFault>
     requires { length attended.now ≤ 64 }
     ensures { IsPut W.contents W.failures result out.old out.new
-        (seat_lines 1 (outcomes attended.now)) }
+        (failures_text written.now (outcomes attended.now)) }
 {
-    match seats_text(alloc, attended) {
+    match failures(alloc, attended, written) {
         Ok(text) => put(text.as_slice(), out),
         Err(_) => Err(PlayFault::NoMemory),
     }
 }
 
 /// The status of the least seat whose session failed, 3, 6 or 7, and 0 where none did.
-pub fn status_of_seats<T>(attended: &[Attended<T>]) -> u8
+fn status_of_seats<T>(attended: &[Attended<T>]) -> u8
     ensures { result ≡ seats_status (outcomes attended.now) }
 {
     for its in attended {
@@ -95,4 +122,15 @@ pub fn status_of_seats<T>(attended: &[Attended<T>]) -> u8
         }
     }
     0
+}
+
+/// The status once all sessions have ended: 6 or 7 where the journal was not written, else that of the least seat whose
+/// session failed, 3, 6 or 7, and 0 where none did.
+pub fn status_after<T>(attended: &[Attended<T>], written: &Result<(), PlayFault>) -> u8
+    ensures { result ≡ status_is written.now (outcomes attended.now) }
+{
+    match written {
+        Ok(()) => status_of_seats(attended),
+        Err(fault) => status_of(fault),
+    }
 }

@@ -1,4 +1,4 @@
-use Rattle.std.proofs.Common.{◌≡◌, ◌∙◌, sym, ap, arith}
+use Rattle.std.proofs.Common.{◌∙◌, sym}
 use Rattle.cdb_hall.proofs.Reporting.{well, failed}
 use Rattle.cdb_hall.proofs.reports.status_of_seats.Goals as goal
 
