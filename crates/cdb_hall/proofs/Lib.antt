@@ -7,3 +7,5 @@ pub mod Conversing
 pub mod Knowing
 pub mod Kept
 pub mod Outcomes
+pub mod Reporting
+pub mod NotHeld

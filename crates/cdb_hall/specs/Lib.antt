@@ -3,6 +3,8 @@ pub mod Dialogues
 pub mod Parts
 pub mod Sessions
 pub mod Halls
+pub mod Reports
+pub mod Holding
 -- ---- what the code keeps for itself
 pub mod Lines
 pub mod Held

@@ -11,13 +11,17 @@
 mod conversation;
 mod hearing;
 mod help;
+mod holding;
 mod journal;
 mod place;
+mod reports;
 mod session;
 mod threads;
 mod worker;
 
 pub use help::HELP;
+pub use holding::hold;
 pub use journal::journal_text;
 pub use place::{Attended, Place};
+pub use reports::{status_after, write_failures, write_journal};
 pub use threads::{HallFault, debug_seats};

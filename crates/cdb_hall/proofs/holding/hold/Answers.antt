@@ -1,0 +1,33 @@
+use Rattle.std.proofs.Common.{sym, ap, subst, ◌∙◌, arith, length, List}
+use Rattle.cdb_control.specs.declared.control.Entry.{Entry}
+use Rattle.cdb_hall.specs.Halls.{journal_text}
+use Rattle.cdb_hall.specs.Holding.{IsFaultOfHall}
+use Rattle.cdb_hall.specs.Reports.{IsPut, outcomes, failures_text, status_of}
+use Rattle.cdb_hall.specs.declared.place.Attended.{Attended}
+use Rattle.cdb_hall.proofs.NotHeld.{setup_failed, threads_failed}
+use Rattle.cdb_hall.proofs.holding.hold.Goals as goal
+
+pub returns-in-Err-clause-fault : goal.returns-in-Err-clause-fault
+returns-in-Err-clause-fault g c = subst (IsFaultOfHall c.args.setup.now) (sym c.from.ensures) (setup_failed c.args.setup.now c.in-Err.fault c.in-Err.ensures.fault)
+
+pub returns-in-Err-debug_seats-clause-fault : goal.returns-in-Err-debug_seats-clause-fault
+returns-in-Err-debug_seats-clause-fault g c = threads_failed c.args.setup.now c.of_hall.result c.of_hall.ensures
+
+pub write_failures-requires : goal.write_failures-requires
+write_failures-requires g c = omega (arith, c.requires.fits, ap length c.as_slice.ensures.value, c.in-Ok-debug_seats.ensures.hall.many, c.args.places.ok.0)
+
+pub returns-clause-held : goal.returns-clause-held
+returns-clause-held g c =
+    let written = c.write_journal-written.result in
+    record {
+      setup = c.in-Ok.setup;
+      stands = c.in-Ok.ensures.found;
+      control = c.in-Ok-debug_seats.held.0;
+      attended = c.in-Ok-debug_seats.held.1.items;
+      hall = c.in-Ok-debug_seats.ensures.hall;
+      written = written;
+      journal = subst (λ (es : List Entry). IsPut g.O.Sink.contents g.O.Sink.failures written c.args.output.now c.write_journal-written.new.out (journal_text es)) c.journal.ensures.entries c.write_journal-written.ensures;
+      told = c.write_failures.result;
+      lines = subst (λ (l : List (Attended g.row.T.Denot)). IsPut g.E.Sink.contents g.E.Sink.failures c.write_failures.result c.args.error.now c.write_failures.new.out (failures_text written (outcomes l))) c.as_slice.ensures.value c.write_failures.ensures;
+      status_is = c.status_after.ensures ∙ ap (λ (l : List (Attended g.row.T.Denot)). status_of written (outcomes l)) c.as_slice-2.ensures.value;
+    }

@@ -1,0 +1,49 @@
+-- What is reported of sessions of several seats.
+use Rattle.std.specs.Prelude.{◌≡◌, ℕ, ◌+◌, List, [], ◌∷◌, ◌++◌, codes, decimal, map, Option, Result, Ok, Err}
+use Rattle.cdb_play.specs.FaultTexts.{as_line, play_fault_text}
+use Rattle.cdb_play.specs.Statuses.{play_status}
+use Rattle.cdb_play.specs.Streams.{Takes, Fails}
+use Rattle.cdb_play.specs.declared.fault.PlayFault.{PlayFault}
+use Rattle.cdb_play.specs.declared.fault.PlayFault.TheVariants as fault
+use Rattle.cdb_hall.specs.declared.place.Attended.{Attended}
+
+-- how the sessions ended
+abbrev pub outcomes : {T : Type 0} → List (Attended T) → List (Result (Unit {0}) PlayFault)
+outcomes attended = map (λ its. its.outcome) attended
+
+-- `seat S: FAULT` where the session of the seat failed
+abbrev pub seat_line : ℕ → Result (Unit {0}) PlayFault → List ℕ
+seat_line seat (Ok done) = []
+seat_line seat (Err fault) = codes "seat " ++ decimal seat ++ codes ": " ++ play_fault_text fault (codes "the input") ++ codes "\n"
+
+-- of seats that are numbered from this one on
+abbrev pub seat_lines : ℕ → List (Result (Unit {0}) PlayFault) → List ℕ
+seat_lines seat [] = []
+seat_lines seat (outcome ∷ outcomes) = seat_line seat outcome ++ seat_lines (seat + 1) outcomes
+
+-- the status of the least seat that failed, and 0 where none did
+abbrev pub seats_status : List (Result (Unit {0}) PlayFault) → ℕ
+seats_status [] = 0
+seats_status (Ok done ∷ outcomes) = seats_status outcomes
+seats_status (Err fault ∷ outcomes) = play_status fault
+
+-- a journal that was not written has a line too
+abbrev pub journal_line : Result (Unit {0}) PlayFault → List ℕ
+journal_line (Ok done) = []
+journal_line (Err fault) = as_line (play_fault_text fault (codes "the input"))
+
+-- what is reported of a journal that was written so, and of seats whose sessions ended so
+abbrev pub failures_text : Result (Unit {0}) PlayFault → List (Result (Unit {0}) PlayFault) → List ℕ
+failures_text written outcomes = seat_lines 1 outcomes ++ journal_line written
+
+-- the status: that of a journal that was not written, else that of the least seat that failed
+abbrev pub status_of : Result (Unit {0}) PlayFault → List (Result (Unit {0}) PlayFault) → ℕ
+status_of (Ok done) outcomes = seats_status outcomes
+status_of (Err fault) outcomes = play_status fault
+
+-- The writer took the text; or it failed, and took a beginning of the text; or memory was out, and it is as it was.
+abbrev pub IsPut : {W : Type 0} → (W → Option (List ℕ)) → (W → ℕ) → Result (Unit {0}) PlayFault → W → W → List ℕ → Type 0
+IsPut contents failures (Ok done) old new text = Takes contents failures old new text
+IsPut contents failures (Err fault.Write) old new text = Fails contents failures old new text
+IsPut contents failures (Err fault.NoMemory) old new text = new ≡ old
+IsPut contents failures (Err other) old new text = ⊥

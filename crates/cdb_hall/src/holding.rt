@@ -1,0 +1,60 @@
+//! Sessions of several seats, from the text of their setup to what is written once they have ended.
+
+ghost use Rattle.std.specs.Prelude.{◌≡◌, ◌≤◌, vec_len, IfOk, IfErr, OnErr};
+ghost use Rattle.cdb_hall.specs.Holding.{Holds, IsFaultOfHall, IsFaultOfThreads};
+
+use crate::place::Place;
+use crate::reports::{status_after, write_failures, write_journal};
+use crate::threads::{HallFault, debug_seats};
+use cdb_debug::Talk;
+use cdb_play::{RaceFault, Sink};
+use cdb_setup::Setup;
+use std::alloc::Global;
+use std::sync::Wait;
+use std::thread::Threads;
+
+/// The fault of sessions that were not held.
+fn of_hall(fault: HallFault) -> RaceFault
+    ensures { IsFaultOfThreads result }
+{
+    match fault {
+        HallFault::NoMemory => RaceFault::NoMemory,
+        HallFault::Spawn => RaceFault::Spawn,
+    }
+}
+
+/// Holds sessions of as many seats as there are places, from 1 to 64, over one run of the setup, until all have ended.
+/// Then the journal is written to the output, a line for each entry, and to the other output a line for each seat that
+/// failed, and one where the journal could not be written. Returned is the status: 6 or 7 where the journal could not be
+/// written, else that of the least seat that failed, and 0 where none did.
+///
+/// # Errors
+/// `Setup` with the setup's first fault, and then no session was begun; `Spawn` where a thread can't be started, and
+/// `NoMemory` where an allocation fails before the sessions have ended. Nothing was written to either output.
+pub fn hold<T: Talk + Drop + Send, R: Threads + Wait + Sync, O: Sink, E: Sink>(
+    rt: &R,
+    alloc: Global,
+    setup: &[u8],
+    places: Vec<Place<T>>,
+    output: &mut O,
+    error: &mut E,
+) -> Result<u8, RaceFault>
+    requires some { 1 ≤ vec_len places }
+    requires fits { vec_len places ≤ 64 }
+    ensures held { IfOk result (Holds T.known O.contents O.failures E.contents E.failures
+        setup.now places.items output.old output.new error.old error.new) }
+    ensures fault { IfErr result (IsFaultOfHall setup.now) }
+    ensures unwritten { OnErr result ((output.new ≡ output.old) × (error.new ≡ error.old)) }
+{
+    let setup = match Setup::read(alloc, setup) {
+        Ok(setup) => setup,
+        Err(fault) => return Err(RaceFault::from(fault)),
+    };
+    let (control, attended) = match debug_seats(rt, alloc, setup, places) {
+        Ok(held) => held,
+        Err(fault) => return Err(of_hall(fault)),
+    };
+    let written = write_journal(alloc, control.journal(), output);
+    let _ = write_failures(alloc, attended.as_slice(), &written, error);
+    Ok(status_after(attended.as_slice(), &written))
+}

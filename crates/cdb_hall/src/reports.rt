@@ -1,0 +1,136 @@
+//! What is reported once all sessions have ended: the journal, what failed, and the status.
+
+ghost use Rattle.std.specs.Prelude.{◌≡◌, ◌≤◌, ◌++◌, length, string_bytes, OnOk, IfOk};
+ghost use Rattle.cdb_text.specs.Pushes.{Pushes};
+ghost use Rattle.cdb_hall.specs.Halls.{journal_text};
+ghost use Rattle.cdb_hall.specs.Reports.{IsPut, outcomes, seat_line, seat_lines, seats_status};
+ghost use Rattle.cdb_hall.specs.Reports.{journal_line, failures_text, status_of as status_is};
+
+use crate::journal::journal_text;
+use crate::place::Attended;
+use cdb_base::NoMemory;
+use cdb_control::Entry;
+use cdb_play::{PlayFault, Sink, status_of, write_all};
+use std::alloc::{AllocError, Global};
+
+/// Writes a text.
+fn put<W: Sink>(text: &[u8], out: &mut W) -> Result<(), PlayFault>
+    ensures { IsPut W.contents W.failures result out.old out.new text.now }
+{
+    match write_all(out, text) {
+        Ok(()) => Ok(()),
+        Err(_) => Err(PlayFault::Write),
+    }
+}
+
+/// Writes a journal: a line for each entry, with the number of its seat and its command.
+///
+/// # Errors
+/// `Write` where the writer fails: what was written is a beginning of the journal. `NoMemory` where an allocation
+/// fails: nothing was written.
+pub fn write_journal<W: Sink>(
+    alloc: Global,
+    journal: &[Entry],
+    out: &mut W,
+) -> Result<(), PlayFault>
+    ensures { IsPut W.contents W.failures result out.old out.new (journal_text journal.now) }
+{
+    match journal_text(alloc, journal) {
+        Ok(text) => put(text.as_slice(), out),
+        Err(_) => Err(PlayFault::NoMemory),
+    }
+}
+
+/// Adds the line of a seat whose session ended so, if that was with a fault.
+fn push_seat(text: &mut String, seat: u8, outcome: &Result<(), PlayFault>) -> Result<(), AllocError>
+    ensures { Pushes result text.old text.new (seat_line seat outcome.now) }
+{
+    match outcome {
+        Ok(()) => Ok(()),
+        Err(fault) => writeln!(text, "seat {seat}: {fault}"),
+    }
+}
+
+/// Adds the line of a journal that was not written, if it was not.
+fn push_journal(text: &mut String, written: &Result<(), PlayFault>) -> Result<(), AllocError>
+    ensures { Pushes result text.old text.new (journal_line written.now) }
+{
+    match written {
+        Ok(()) => Ok(()),
+        Err(fault) => writeln!(text, "{fault}"),
+    }
+}
+
+/// Adds a line for each seat whose session failed, with its number and the fault.
+fn push_seats<T>(text: &mut String, attended: &[Attended<T>]) -> Result<(), AllocError>
+    requires { length attended.now ≤ 64 }
+    ensures { Pushes result text.old text.new (seat_lines 1 (outcomes attended.now)) }
+{
+    let mut seat = 0u8;
+    for its in attended {
+        seat += 1;
+        push_seat(text, seat, &its.outcome)?;
+    }
+    Ok(())
+}
+
+/// What is reported of seats and of a journal.
+fn failures<T>(
+    alloc: Global,
+    attended: &[Attended<T>],
+    written: &Result<(), PlayFault>,
+) -> Result<Vec<u8>, NoMemory>
+    requires { length attended.now ≤ 64 }
+    ensures { IfOk result
+        (λ text. text.items ≡ failures_text written.now (outcomes attended.now)) }
+{
+    let mut text = String::new(alloc);
+    push_seats(&mut text, attended)?;
+    push_journal(&mut text, written)?;
+    Ok(text.into_bytes())
+}
+
+/// Writes a line for each seat whose session failed, with its number and the fault, in the order of the seats, of which
+/// there are at most 64, and then one for a journal that was not written.
+///
+/// # Errors
+/// `Write` where the writer fails: what was written is a beginning of the lines. `NoMemory` where an allocation fails:
+/// nothing was written.
+pub fn write_failures<T, W: Sink>(
+    alloc: Global,
+    attended: &[Attended<T>],
+    written: &Result<(), PlayFault>,
+    out: &mut W,
+) -> Result<(), PlayFault>
+    requires { length attended.now ≤ 64 }
+    ensures { IsPut W.contents W.failures result out.old out.new
+        (failures_text written.now (outcomes attended.now)) }
+{
+    match failures(alloc, attended, written) {
+        Ok(text) => put(text.as_slice(), out),
+        Err(_) => Err(PlayFault::NoMemory),
+    }
+}
+
+/// The status of the least seat whose session failed, 3, 6 or 7, and 0 where none did.
+fn status_of_seats<T>(attended: &[Attended<T>]) -> u8
+    ensures { result ≡ seats_status (outcomes attended.now) }
+{
+    for its in attended {
+        if let Err(fault) = &its.outcome {
+            return status_of(fault);
+        }
+    }
+    0
+}
+
+/// The status once all sessions have ended: 6 or 7 where the journal was not written, else that of the least seat whose
+/// session failed, 3, 6 or 7, and 0 where none did.
+pub fn status_after<T>(attended: &[Attended<T>], written: &Result<(), PlayFault>) -> u8
+    ensures { result ≡ status_is written.now (outcomes attended.now) }
+{
+    match written {
+        Ok(()) => status_of_seats(attended),
+        Err(fault) => status_of(fault),
+    }
+}
