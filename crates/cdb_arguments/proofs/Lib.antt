@@ -5,5 +5,5 @@ pub mod Values
 pub mod Lines
 pub mod Subcommands
 pub mod StepLines
-pub mod SessionLines
+pub mod SeatLines
 pub mod Requests

@@ -21,7 +21,7 @@ use Rattle.cdb_arguments.specs.declared.request.AskFault.TheVariants.{NoMemory}
 use Rattle.cdb_arguments.specs.declared.request.Asked.{Asked}
 use Rattle.cdb_arguments.specs.declared.request.Asked.TheVariants.{Script, Play, Race, Explain, Draw, Debug}
 use Rattle.cdb_arguments.proofs.StepLines.{OptionWrites, StepLine, explain_line, draw_line}
-use Rattle.cdb_arguments.proofs.SessionLines.{SessionLine, debug_line}
+use Rattle.cdb_arguments.proofs.SeatLines.{SeatLine, debug_line}
 use Rattle.cdb_arguments.proofs.Lines.{nothing_asked, nothing_taken, play_asked, play_taken, PlayRows, race_asked, race_taken, RaceRows, AcceptsTurns}
 
 -- ---- what is asked for where clap has these matches
@@ -32,7 +32,7 @@ script_is found (Play a b) none asks = absurd (none-some _ (sym none ∙ asks.1)
 script_is found (Race a n b) none asks = absurd (none-some _ (sym none ∙ asks.1))
 script_is found (Explain a b p k) none asks = absurd (none-some _ (sym none ∙ asks.1))
 script_is found (Draw a b p k) none asks = absurd (none-some _ (sym none ∙ asks.1))
-script_is found (Debug a) none asks = absurd (none-some _ (sym none ∙ asks.1))
+script_is found (Debug a b) none asks = absurd (none-some _ (sym none ∙ asks.1))
 
 some_same : {X : Type 0} (a b : X) → Some a ≡ Some b → a ≡ b
 some_same a b same = ap (λ found. unwrap_or found a) same
@@ -60,7 +60,7 @@ play_is found rows setup script (Play a b) is have asks =
 play_is found rows setup script (Race a n b) is have asks = absurd (other_name found _ (codes "race") rows asks.0 is asks.1 refl refl)
 play_is found rows setup script (Explain a b p k) is have asks = absurd (other_name found _ (codes "explain") rows asks.0 is asks.1 refl refl)
 play_is found rows setup script (Draw a b p k) is have asks = absurd (other_name found _ (codes "draw") rows asks.0 is asks.1 refl refl)
-play_is found rows setup script (Debug a) is have asks = absurd (other_name found _ (codes "debug") rows asks.0 is asks.1 refl refl)
+play_is found rows setup script (Debug a b) is have asks = absurd (other_name found _ (codes "debug") rows asks.0 is asks.1 refl refl)
 
 race_is : (found : Option (Text × List Row)) (rows : List Row) (setup text : Text) (turns : ℕ) (scripts : List Text) (asked : Asked)
     → found ≡ Some (codes "race", rows) → RaceRows setup text scripts rows → IsNumberOfTurns text turns → Asks found asked → IsRaceOf setup turns scripts asked
@@ -68,7 +68,7 @@ race_is found rows setup text turns scripts Script is have number asks = absurd 
 race_is found rows setup text turns scripts (Play a b) is have number asks = absurd (other_name found _ (codes "play") rows asks.0 is asks.1 refl refl)
 race_is found rows setup text turns scripts (Explain a b p k) is have number asks = absurd (other_name found _ (codes "explain") rows asks.0 is asks.1 refl refl)
 race_is found rows setup text turns scripts (Draw a b p k) is have number asks = absurd (other_name found _ (codes "draw") rows asks.0 is asks.1 refl refl)
-race_is found rows setup text turns scripts (Debug a) is have number asks = absurd (other_name found _ (codes "debug") rows asks.0 is asks.1 refl refl)
+race_is found rows setup text turns scripts (Debug a b) is have number asks = absurd (other_name found _ (codes "debug") rows asks.0 is asks.1 refl refl)
 race_is found rows setup text turns scripts (Race a n b) is have number asks =
     let same = same_rows found (codes "race") (codes "race") rows asks.0 is asks.1 in
     let its_text : text_at (codes "TURNS") asks.0 ≡ text = ap (text_at (codes "TURNS")) same ∙ ap (λ t. unwrap_or t []) have.1 in
@@ -94,7 +94,7 @@ explain_is setup script p k words Script line asks = absurd (none-some _ (sym as
 explain_is setup script p k words (Play a b) line asks = absurd (other_name _ _ (codes "play") line.rows asks.0 line.asked asks.1 refl refl)
 explain_is setup script p k words (Race a n b) line asks = absurd (other_name _ _ (codes "race") line.rows asks.0 line.asked asks.1 refl refl)
 explain_is setup script p k words (Draw a b q l) line asks = absurd (other_name _ _ (codes "draw") line.rows asks.0 line.asked asks.1 refl refl)
-explain_is setup script p k words (Debug a) line asks = absurd (other_name _ _ (codes "debug") line.rows asks.0 line.asked asks.1 refl refl)
+explain_is setup script p k words (Debug a b) line asks = absurd (other_name _ _ (codes "debug") line.rows asks.0 line.asked asks.1 refl refl)
 explain_is setup script p k words (Explain a b q l) line asks =
     let same = same_rows _ (codes "explain") (codes "explain") line.rows asks.0 line.asked asks.1 in
     let p_text : text_at (codes "P") asks.0 ≡ unwrap_or line.p_text [] = ap (text_at (codes "P")) same ∙ ap (λ t. unwrap_or t []) line.p_at in (
@@ -110,7 +110,7 @@ draw_is setup script p k words Script line asks = absurd (none-some _ (sym asks 
 draw_is setup script p k words (Play a b) line asks = absurd (other_name _ _ (codes "play") line.rows asks.0 line.asked asks.1 refl refl)
 draw_is setup script p k words (Race a n b) line asks = absurd (other_name _ _ (codes "race") line.rows asks.0 line.asked asks.1 refl refl)
 draw_is setup script p k words (Explain a b q l) line asks = absurd (other_name _ _ (codes "explain") line.rows asks.0 line.asked asks.1 refl refl)
-draw_is setup script p k words (Debug a) line asks = absurd (other_name _ _ (codes "debug") line.rows asks.0 line.asked asks.1 refl refl)
+draw_is setup script p k words (Debug a b) line asks = absurd (other_name _ _ (codes "debug") line.rows asks.0 line.asked asks.1 refl refl)
 draw_is setup script p k words (Draw a b q l) line asks =
     let same = same_rows _ (codes "draw") (codes "draw") line.rows asks.0 line.asked asks.1 in (
       asks.2 ∙ ap (text_at (codes "SETUP")) same ∙ ap (λ t. unwrap_or t []) line.setup_at,
@@ -119,15 +119,17 @@ draw_is setup script p k words (Draw a b q l) line asks =
       number_is line.k_text k l line.k_written (subst (λ t. IsNumberOf t l) (ap (first_of (codes "K")) same ∙ line.k_at) asks.5),
     )
 
-debug_is : (setup : Text) (words : List Text) (asked : Asked) → SessionLine setup words → Asks (subcommand_of program words) asked → IsDebugOf setup asked
-debug_is setup words Script line asks = absurd (none-some _ (sym asks ∙ line.asked))
-debug_is setup words (Play a b) line asks = absurd (other_name _ _ (codes "play") line.rows asks.0 line.asked asks.1 refl refl)
-debug_is setup words (Race a n b) line asks = absurd (other_name _ _ (codes "race") line.rows asks.0 line.asked asks.1 refl refl)
-debug_is setup words (Explain a b q l) line asks = absurd (other_name _ _ (codes "explain") line.rows asks.0 line.asked asks.1 refl refl)
-debug_is setup words (Draw a b q l) line asks = absurd (other_name _ _ (codes "draw") line.rows asks.0 line.asked asks.1 refl refl)
-debug_is setup words (Debug a) line asks =
-    let same = same_rows _ (codes "debug") (codes "debug") line.rows asks.0 line.asked asks.1 in
-    asks.2 ∙ ap (text_at (codes "SETUP")) same ∙ ap (λ t. unwrap_or t []) line.setup_at
+debug_is : (setup : Text) (seats words : List Text) (asked : Asked) → SeatLine setup seats words → Asks (subcommand_of program words) asked → IsDebugOf setup seats asked
+debug_is setup seats words Script line asks = absurd (none-some _ (sym asks ∙ line.asked))
+debug_is setup seats words (Play a b) line asks = absurd (other_name _ _ (codes "play") line.rows asks.0 line.asked asks.1 refl refl)
+debug_is setup seats words (Race a n b) line asks = absurd (other_name _ _ (codes "race") line.rows asks.0 line.asked asks.1 refl refl)
+debug_is setup seats words (Explain a b q l) line asks = absurd (other_name _ _ (codes "explain") line.rows asks.0 line.asked asks.1 refl refl)
+debug_is setup seats words (Draw a b q l) line asks = absurd (other_name _ _ (codes "draw") line.rows asks.0 line.asked asks.1 refl refl)
+debug_is setup seats words (Debug a b) line asks =
+    let same = same_rows _ (codes "debug") (codes "debug") line.rows asks.0 line.asked asks.1 in (
+      asks.2 ∙ ap (text_at (codes "SETUP")) same ∙ ap (λ t. unwrap_or t []) line.setup_at,
+      asks.3 ∙ ap (texts_at (codes "SEAT")) same ∙ line.seats_at,
+    )
 
 -- ---- the answers
 
@@ -193,11 +195,11 @@ draw_answered words result ok taken setup script p k line =
     )
 
 pub debug_answered : (words : List Text) (result : Result Asked AskFault) → IfOk result (Asks (subcommand_of program words))
-    → (takes program words ≡ true → IfErr result (λ fault. fault ≡ NoMemory)) → (setup : Text) → IsDebugLine words setup
-    → IsAnswer result (IsDebugOf setup)
-debug_answered words result ok taken setup line =
-    let its = debug_line line.0.0 setup line.1 in
-    let its_words : SessionLine setup words = subst (SessionLine setup) (sym line.0.1) its in (
-      IfOk-weaker result _ _ (λ asked asks. debug_is setup words asked its_words asks) ok,
+    → (takes program words ≡ true → IfErr result (λ fault. fault ≡ NoMemory)) → (setup : Text) (seats : List Text) → IsDebugLine words setup seats
+    → IsAnswer result (IsDebugOf setup seats)
+debug_answered words result ok taken setup seats line =
+    let its = debug_line line.0.0.0 setup seats line.0.1 line.1 in
+    let its_words : SeatLine setup seats words = subst (SeatLine setup seats) (sym line.0.0.1) its in (
+      IfOk-weaker result _ _ (λ asked asks. debug_is setup seats words asked its_words asks) ok,
       taken its_words.taken,
     )

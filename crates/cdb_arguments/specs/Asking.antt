@@ -60,7 +60,9 @@ Asks found (Explain setup script p k) =
 Asks found (Draw setup script p k) =
     (rows : List Row) × (found ≡ Some (codes "draw", rows)) × (setup.now ≡ text_at (codes "SETUP") rows) × (script.now ≡ text_at (codes "SCRIPT") rows)
     × IsNumberAt (codes "P") rows p × IsNumberAt (codes "K") rows k
-Asks found (Debug setup) = (rows : List Row) × (found ≡ Some (codes "debug", rows)) × (setup.now ≡ text_at (codes "SETUP") rows)
+Asks found (Debug setup seats) =
+    (rows : List Row) × (found ≡ Some (codes "debug", rows)) × (setup.now ≡ text_at (codes "SETUP") rows)
+    × (map (λ seat. seat.now) seats.items ≡ texts_at (codes "SEAT") rows)
 
 -- a play of these two files
 abbrev pub IsPlayOf : Text → Text → Asked → Type 0
@@ -85,10 +87,10 @@ IsDrawOf setup script p k (Draw its_setup its_script its_p its_k) =
     (its_setup.now ≡ setup) × (its_script.now ≡ script) × (its_p ≡ p) × (its_k ≡ k)
 IsDrawOf setup script p k asked = ⊥
 
--- a session on a run of this file
-abbrev pub IsDebugOf : Text → Asked → Type 0
-IsDebugOf setup (Debug its_setup) = its_setup.now ≡ setup
-IsDebugOf setup asked = ⊥
+-- a session for each of these seats, in this order
+abbrev pub IsDebugOf : Text → List Text → Asked → Type 0
+IsDebugOf setup seats (Debug its_setup its_seats) = (its_setup.now ≡ setup) × (texts its_seats.items ≡ seats)
+IsDebugOf setup seats asked = ⊥
 
 -- what was asked for, or no memory to say it
 abbrev pub IsAnswer : Result Asked AskFault → (Asked → Type 0) → Type 0

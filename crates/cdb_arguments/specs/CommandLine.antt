@@ -45,9 +45,9 @@ explain_app = on_files (codes "explain") (numbered (required_rule (codes "P")) �
 abbrev pub draw_app : App
 draw_app = on_files (codes "draw") (numbered (new_rule (codes "P")) ∷ numbered (new_rule (codes "K")) ∷ [])
 
--- `debug SETUP`
+-- `debug SETUP [SEAT..]`
 abbrev pub debug_app : App
-debug_app = with_arguments (codes "debug") (required_rule (codes "SETUP") ∷ [])
+debug_app = with_arguments (codes "debug") (required_rule (codes "SETUP") ∷ several (new_rule (codes "SEAT")) ∷ [])
 
 -- the program with these subcommands too
 abbrev pub with_subcommands : App → List App → App

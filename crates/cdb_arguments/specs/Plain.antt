@@ -63,6 +63,6 @@ abbrev pub IsDrawLine : List Text → Text → Text → Option ℕ → Option �
 IsDrawLine words setup script p k =
     (texts : List Text) × WritesStep texts p k × IsLineOf (codes "draw") (setup ∷ script ∷ texts) words
 
--- `debug SETUP`
-abbrev pub IsDebugLine : List Text → Text → Type 0
-IsDebugLine words setup = IsLineOf (codes "debug") (setup ∷ []) words
+-- `debug SETUP [SEAT..]`, with as many seats as a machine's word counts
+abbrev pub IsDebugLine : List Text → Text → List Text → Type 0
+IsDebugLine words setup seats = IsLineOf (codes "debug") (setup ∷ seats) words × (length seats ≤ usize_max)

@@ -30,7 +30,7 @@ const EXPLAIN: &str =
 const DRAW: &str =
     "Plays a script, and prints a picture of the run in SVG; what led to a step stands out";
 
-const DEBUG: &str = "Answers each command before the next is read, at a prompt or behind a pipe";
+const DEBUG: &str = "Carries each command out before the next is read, for one user or for several";
 
 const LINES: &str =
     "Without a subcommand it plays the script on standard input, on one process that proposes 7.
@@ -201,15 +201,18 @@ fn draw<'a>(alloc: Global) -> Result<Command<'a>, AllocError>
     command.arg(step(alloc))
 }
 
-/// `debug SETUP`.
+/// `debug SETUP [SEAT..]`.
 fn debug<'a>(alloc: Global) -> Result<Command<'a>, AllocError>
     ensures app { IfOk result (λ command. app_of command ≡ debug_app) }
     ensures local { IfOk result (λ command. (out-Command command).has_globals ≡ false) }
 {
-    Command::new(alloc, "debug")
+    let command = Command::new(alloc, "debug")
         .about(DEBUG)
         .after_help(SETUPS)
-        .arg(setup(alloc))
+        .arg(setup(alloc))?;
+    let help =
+        "A terminal device, or IN:OUT, two files or pipes, for each user; left out: the one here";
+    command.arg(many(Arg::new(alloc, "SEAT").help(help)))
 }
 
 /// The program with the subcommands that print the replies of scripts.
@@ -359,7 +362,8 @@ fn asked_by<'a>(alloc: Global, matches: &ArgMatches<'a>) -> Result<Asked<'a>, Al
         });
     }
     if name == "debug" {
-        return Ok(Asked::Debug { setup });
+        let seats = texts_of(alloc, found, "SEAT")?;
+        return Ok(Asked::Debug { setup, seats });
     }
     Ok(Asked::Race {
         setup,
@@ -405,7 +409,7 @@ fn read<'a>(alloc: Global, words: &'a [&'a str]) -> Result<Asked<'a>, AskFault>
 /// What the arguments of the command line ask for; the first is the program's name. The name alone asks for the
 /// script on standard input, `play SETUP SCRIPT` for a play, `race SETUP TURNS SCRIPT..` for a race,
 /// `explain SETUP SCRIPT P [K]` for what led to a step, `draw SETUP SCRIPT [P [K]]` for a picture,
-/// `debug SETUP` for a session that goes on line by line. P and K are numbers of 1 to 999,999.
+/// `debug SETUP [SEAT..]` for a session that goes on line by line. P and K are numbers of 1 to 999,999.
 ///
 /// # Errors
 /// `Words` with `clap`'s error for arguments that the command line does not take, and for those alone; the error is
@@ -431,8 +435,9 @@ pub fn asked<'a>(alloc: Global, words: &'a [&'a str]) -> Result<Asked<'a>, AskFa
     ensures draw { (setup script : Text) (p k : Option ℕ) →
         IsDrawLine (texts words.entry.now) setup script p k →
         IsAnswer result (IsDrawOf setup script p k) }
-    ensures debug { (setup : Text) → IsDebugLine (texts words.entry.now) setup →
-        IsAnswer result (IsDebugOf setup) }
+    ensures debug { (setup : Text) (seats : List Text) →
+        IsDebugLine (texts words.entry.now) setup seats →
+        IsAnswer result (IsDebugOf setup seats) }
 {
     read(alloc, words)
 }

@@ -4,3 +4,4 @@ pub mod Raced
 pub mod Reported
 pub mod Explained
 pub mod Drawn
+pub mod Seated

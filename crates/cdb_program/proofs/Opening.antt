@@ -33,10 +33,10 @@ failed_more : (files : FilesSeen) (first second : List (List ℕ)) → after_fai
 failed_more files first second = ap (λ (o : Option (List (List ℕ))). record (after_failing files second) { opened = o }) (more_opened files.opened first second)
 
 -- what was opened later is opened after what was opened before
-opened_then : (old mid new : FilesSeen) (first second : List (List ℕ)) → mid ≡ after_opening old first → new ≡ after_opening mid second → new ≡ after_opening old (first ++ second)
+pub opened_then : (old mid new : FilesSeen) (first second : List (List ℕ)) → mid ≡ after_opening old first → new ≡ after_opening mid second → new ≡ after_opening old (first ++ second)
 opened_then old mid new first second before after = after ∙ ap (λ (f : FilesSeen). after_opening f second) before ∙ opened_more old first second
 
-failed_then : (old mid new : FilesSeen) (first second : List (List ℕ)) → mid ≡ after_opening old first → new ≡ after_failing mid second → new ≡ after_failing old (first ++ second)
+pub failed_then : (old mid new : FilesSeen) (first second : List (List ℕ)) → mid ≡ after_opening old first → new ≡ after_failing mid second → new ≡ after_failing old (first ++ second)
 failed_then old mid new first second before after = after ∙ ap (λ (f : FilesSeen). after_failing f second) before ∙ failed_more old first second
 
 -- ---- one file

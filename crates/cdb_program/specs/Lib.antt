@@ -9,6 +9,7 @@ pub mod Racing
 pub mod Explaining
 pub mod Drawing
 pub mod Debugging
+pub mod Seating
 pub mod Requests
 -- what the code keeps for itself
 pub mod Streaming

@@ -1,5 +1,5 @@
 -- What the program does with a request.
-use Rattle.std.specs.Prelude.{◌≡◌, ℕ, ◌≤◌, List, Ok, Err}
+use Rattle.std.specs.Prelude.{◌≡◌, ℕ, ◌≤◌, List, length, Ok, Err}
 use Rattle.cdb_play.specs.Streams.{Takes, Fails}
 use Rattle.cdb_play.specs.declared.fault.PlayFault.TheVariants.{Write}
 use Rattle.cdb_program.specs.Debugging.{DebugsFile}
@@ -11,6 +11,7 @@ use Rattle.cdb_program.specs.Playing.{PlaysInput, PlaysFiles}
 use Rattle.cdb_program.specs.Racing.{RacesFiles}
 use Rattle.cdb_program.specs.Reading.{texts}
 use Rattle.cdb_program.specs.Reports.{IsReported}
+use Rattle.cdb_program.specs.Seating.{PerformsHall}
 use Rattle.cdb_program.specs.declared.fault.Fault.TheVariants.{Play}
 use Rattle.cdb_program.specs.declared.request.Request.{Request}
 use Rattle.cdb_program.specs.declared.request.Request.TheVariants as request
@@ -25,12 +26,18 @@ Prints text old new (Ok done) = Takes contents failures old new text
 Prints text old new (Err (Play Write name)) = Fails contents failures old new text
 Prints text old new (Err other) = ⊥
 
--- a race has turns that its threads can count: 0 to 99,999
+-- a race has turns that its threads can count, 0 to 99,999, and sessions of seats have one seat at least
 abbrev pub HasTurns : Request → Type 0
 HasTurns (request.Race setup turns scripts) = turns ≤ 99999
+HasTurns (request.Hall setup seats) = 1 ≤ length seats.now
 HasTurns other = Unit {0}
 
--- what is done with a request, but for what is reported of a fault
+-- the request is not one of sessions of several seats
+abbrev pub IsNoHall : Request → Type 0
+IsNoHall (request.Hall setup seats) = ⊥
+IsNoHall other = Unit {0}
+
+-- what is done with a request that has no seats, but for what is reported of a fault
 abbrev pub Does : Request → Seen → Seen → Outcome → Type 0
 Does request.Script old new outcome = PlaysInput old new outcome
 Does (request.Play setup script) old new outcome = PlaysFiles setup.now script.now old new outcome
@@ -38,10 +45,16 @@ Does (request.Race setup turns scripts) old new outcome = RacesFiles setup.now t
 Does (request.Explain setup script p k) old new outcome = ExplainsFiles setup.now script.now p k old new outcome
 Does (request.Draw setup script step) old new outcome = DrawsFiles setup.now script.now step old new outcome
 Does (request.Debug setup prompt) old new outcome = DebugsFile setup.now prompt.now old new outcome
+Does (request.Hall setup seats) old new outcome = ⊥
 Does (request.Print text) old new outcome = ReadsNothing old new × Prints text.now old.output new.output outcome
 Does (request.Refuse fault) old new outcome = ReadsNothing old new × (new.output ≡ old.output) × (outcome ≡ Err fault)
 
+-- a request without seats was carried out, and how it ended was reported
+abbrev pub PerformsAlone : Request → Seen → Seen → ℕ → Type 0
+PerformsAlone request old new status =
+    (outcome : Outcome) × Does request old new outcome × IsReported outcome old.error new.error status
+
 -- the request was carried out, and how it ended was reported
 abbrev pub Performs : Request → Seen → Seen → ℕ → Type 0
-Performs request old new status =
-    (outcome : Outcome) × Does request old new outcome × IsReported outcome old.error new.error status
+Performs (request.Hall setup seats) old new status = PerformsHall setup.now (texts seats.now) old new status
+Performs request old new status = PerformsAlone request old new status

@@ -4,8 +4,11 @@ ghost use Rattle.std.specs.Prelude.{[], ◌∷◌, IfOk, IfErr};
 ghost use Rattle.cdb_play.specs.Races.{bytes_of};
 ghost use Rattle.cdb_program.specs.Known.{FilesSeen};
 ghost use Rattle.cdb_program.specs.Reading.{texts, ReadsFile, HasRead, FailsToRead};
+ghost use Rattle.cdb_program.specs.Seating.{OpensSeat};
 
 use crate::fault::Fault;
+use cdb_debug::Talk;
+use cdb_hall::Place;
 use cdb_play::{MAX_BYTES, PlayFault, ReadFault};
 use std::alloc::Global;
 
@@ -14,6 +17,9 @@ const MOST_READ: usize = MAX_BYTES + 1;
 
 /// Files that can be read by their names.
 pub trait Files {
+    /// Whom the session of a seat talks with.
+    type Seat: Talk + Drop + Send;
+
     /// What is known of the files: their bytes, the names of those that were opened, and how many could not be read.
     ghost seen: { Self → FilesSeen };
 
@@ -24,6 +30,14 @@ pub trait Files {
     /// the file had not been opened.
     fn read(&mut self, alloc: Global, name: &str, most: usize) -> Result<Vec<u8>, ReadFault>
         ensures { ReadsFile (seen self.old) (seen self.new) name.now most result };
+
+    /// Opens the seat of this name: a terminal device, or `IN:OUT`, a pair of files or pipes.
+    ///
+    /// # Errors
+    /// `Failed` where it can't be opened, and `NoMemory` where an allocation fails, which counts as if it had not been
+    /// opened.
+    fn open_seat(&mut self, alloc: Global, name: &str) -> Result<Place<Self::Seat>, ReadFault>
+        ensures { OpensSeat (seen self.old) (seen self.new) name.now result };
 }
 
 /// The bytes of the file of this name, at most 1,048,577 of them.

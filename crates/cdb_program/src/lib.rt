@@ -11,6 +11,7 @@ mod plays;
 mod races;
 mod reports;
 mod request;
+mod seats;
 
 pub use fault::Fault;
 pub use files::Files;

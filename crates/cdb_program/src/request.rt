@@ -1,7 +1,7 @@
 //! What the program is asked to do, and that it does it.
 
 ghost use Rattle.std.specs.Prelude.{◌≡◌, ◌≤◌};
-ghost use Rattle.cdb_program.specs.Requests.{Does, Performs, Prints, HasTurns};
+ghost use Rattle.cdb_program.specs.Requests.{Does, IsNoHall, Performs, PerformsAlone, Prints, HasTurns};
 ghost use Rattle.cdb_program.specs.Streaming.{stream_of};
 
 use crate::debugs::debug_file;
@@ -13,6 +13,7 @@ use crate::outside::Outside;
 use crate::plays::{play_files, play_input};
 use crate::races::race_files;
 use crate::reports::report;
+use crate::seats::perform_hall;
 use cdb_draw::StepAsked;
 use cdb_play::{PlayFault, Sink, Source, write_all};
 use std::alloc::Global;
@@ -55,6 +56,12 @@ pub enum Request<'a> {
         setup: &'a str,
         prompt: &'a str,
     },
+    /// Holds sessions of these seats, 1 to 64, over one run of a setup file, each in a thread of its own, and writes their
+    /// journal to standard output.
+    Hall {
+        setup: &'a str,
+        seats: &'a [&'a str],
+    },
     /// Writes a text to standard output.
     Print(&'a str),
     /// Does nothing, and reports this fault.
@@ -83,7 +90,8 @@ fn carry_out<
     request: Request<'a>,
     outside: &mut Outside<F, I, O, E>,
 ) -> Result<(), Fault<'a>>
-    requires { HasTurns request }
+    requires turns { HasTurns request }
+    requires alone { IsNoHall request }
     ensures does { Does request.entry outside.old outside.new result }
     ensures error { outside.new.error ≡ outside.old.error }
 {
@@ -107,13 +115,31 @@ fn carry_out<
             step,
         } => draw_files(alloc, setup, script, step, outside),
         Request::Debug { setup, prompt } => debug_file(alloc, setup, prompt, outside),
+        Request::Hall { .. } => unreachable!(),
         Request::Print(text) => print(text, &mut outside.streams.output),
         Request::Refuse(fault) => Err(fault),
     }
 }
 
+/// Carries out a request that has no seats, and reports on standard error how it ended.
+fn perform_one<
+    R: Threads + Wait + Sync,
+    F: Files + Drop,
+    I: Source + Drop,
+    O: Sink + Drop,
+    E: Sink + Drop,
+>(threads: &R, alloc: Global, request: Request<'_>, outside: &mut Outside<F, I, O, E>) -> u8
+    requires turns { HasTurns request }
+    requires alone { IsNoHall request }
+    ensures { PerformsAlone request.entry outside.old outside.new result }
+{
+    let outcome = carry_out(threads, alloc, request, outside);
+    report(outcome, &mut outside.error)
+}
+
 /// Carries a request out, reports on standard error how it ended, and returns the status with which the program
-/// ends: 0 where all went well, else 1 to 9. A fault has one line on standard error, and nothing else is written there.
+/// ends: 0 where all went well, else 1 to 9. A fault has one line on standard error, and each seat that failed has one; nothing
+/// else is written there.
 pub fn perform<
     R: Threads + Wait + Sync,
     F: Files + Drop,
@@ -124,6 +150,8 @@ pub fn perform<
     requires { HasTurns request }
     ensures { Performs request.entry outside.old outside.new result }
 {
-    let outcome = carry_out(threads, alloc, request, outside);
-    report(outcome, &mut outside.error)
+    match request {
+        Request::Hall { setup, seats } => perform_hall(threads, alloc, setup, seats, outside),
+        _ => perform_one(threads, alloc, request, outside),
+    }
 }

@@ -10,7 +10,7 @@ use Rattle.cdb_play.specs.declared.fault.PlayFault.TheVariants as play
 use Rattle.cdb_program.specs.Known.{Seen}
 use Rattle.cdb_program.specs.declared.fault.Fault.TheVariants as fault
 use Rattle.cdb_program.specs.declared.request.Request.{Request}
-use Rattle.cdb_program.specs.declared.request.Request.TheVariants.{Script, Play, Race, Explain, Draw, Debug, Print, Refuse}
+use Rattle.cdb_program.specs.declared.request.Request.TheVariants.{Script, Play, Race, Explain, Draw, Debug, Hall, Print, Refuse}
 use Rattle.cdb_program.specs.Requests.{Performs}
 use Rattle.revdbg.specs.Requested.{IsDebug, IsDraw, IsExplain, IsOutOfMemory, IsPlay, IsRace, IsRequestOf, IsRefusal, PerformsAsked, PerformsOne}
 
@@ -32,6 +32,7 @@ no_refusal (Race setup turns scripts) is = is
 no_refusal (Explain setup script p k) is = is
 no_refusal (Draw setup script step) is = is
 no_refusal (Debug setup prompt) is = is
+no_refusal (Hall setup seats) is = is
 no_refusal (Refuse fault.NoStep) is = is
 
 pub only_memory : (IsIt : Request → Type 0) (old new : Seen) (status : ℕ) → PerformsOne (IsRefusal []) old new status → PerformsOne IsIt old new status
@@ -50,7 +51,7 @@ module _ (prompt : Text) where
   play_request setup script (asked.Play a b) is request of_it = rw (← is.0, ← is.1) of_it
   play_request setup script asked.Script is request of_it = absurd is
   play_request setup script (asked.Draw a b q l) is request of_it = absurd is
-  play_request setup script (asked.Debug a) is request of_it = absurd is
+  play_request setup script (asked.Debug a seats) is request of_it = absurd is
   play_request setup script (asked.Race a n b) is request of_it = absurd is
   play_request setup script (asked.Explain a b p k) is request of_it = absurd is
 
@@ -58,7 +59,7 @@ module _ (prompt : Text) where
   race_request setup turns scripts (asked.Race a n b) is request of_it = rw (← is.0, ← is.1, ← is.2) of_it
   race_request setup turns scripts asked.Script is request of_it = absurd is
   race_request setup turns scripts (asked.Draw a b q l) is request of_it = absurd is
-  race_request setup turns scripts (asked.Debug a) is request of_it = absurd is
+  race_request setup turns scripts (asked.Debug a seats) is request of_it = absurd is
   race_request setup turns scripts (asked.Play a b) is request of_it = absurd is
   race_request setup turns scripts (asked.Explain a b p k) is request of_it = absurd is
 
@@ -66,17 +67,17 @@ module _ (prompt : Text) where
   explain_request setup script p k (asked.Explain a b q l) is request of_it = rw (← is.0, ← is.1, ← is.2, ← is.3) of_it
   explain_request setup script p k asked.Script is request of_it = absurd is
   explain_request setup script p k (asked.Draw a b q l) is request of_it = absurd is
-  explain_request setup script p k (asked.Debug a) is request of_it = absurd is
+  explain_request setup script p k (asked.Debug a seats) is request of_it = absurd is
   explain_request setup script p k (asked.Play a b) is request of_it = absurd is
   explain_request setup script p k (asked.Race a n b) is request of_it = absurd is
 
-  pub debug_request : (setup : Text) (it : Asked) → IsDebugOf setup it → (request : Request) → IsRequestOf prompt it request → IsDebug prompt setup request
-  debug_request setup (asked.Debug a) is request of_it = rw (← is) of_it
-  debug_request setup asked.Script is request of_it = absurd is
-  debug_request setup (asked.Play a b) is request of_it = absurd is
-  debug_request setup (asked.Race a n b) is request of_it = absurd is
-  debug_request setup (asked.Explain a b p k) is request of_it = absurd is
-  debug_request setup (asked.Draw a b p k) is request of_it = absurd is
+  pub debug_request : (setup : Text) (seats : List Text) (it : Asked) → IsDebugOf setup seats it → (request : Request) → IsRequestOf prompt it request → IsDebug prompt setup seats request
+  debug_request setup seats (asked.Debug a b) is request of_it = rw (← is.0, ← is.1) of_it
+  debug_request setup seats asked.Script is request of_it = absurd is
+  debug_request setup seats (asked.Play a b) is request of_it = absurd is
+  debug_request setup seats (asked.Race a n b) is request of_it = absurd is
+  debug_request setup seats (asked.Explain a b p k) is request of_it = absurd is
+  debug_request setup seats (asked.Draw a b p k) is request of_it = absurd is
 
   pub draw_request : (setup script : Text) (p k : Option ℕ) (it : Asked) → IsDrawOf setup script p k it → (request : Request) → IsRequestOf prompt it request → IsDraw setup script p k request
   draw_request setup script p k (asked.Draw a b q l) is request of_it = rw (← is.0, ← is.1, ← is.2, ← is.3) of_it
@@ -84,7 +85,7 @@ module _ (prompt : Text) where
   draw_request setup script p k (asked.Play a b) is request of_it = absurd is
   draw_request setup script p k (asked.Race a n b) is request of_it = absurd is
   draw_request setup script p k (asked.Explain a b q l) is request of_it = absurd is
-  draw_request setup script p k (asked.Debug a) is request of_it = absurd is
+  draw_request setup script p k (asked.Debug a b) is request of_it = absurd is
 
 -- ---- an allocation failed before it was known what is asked for
 
@@ -95,7 +96,7 @@ performs_memory prompt words old new status request is done = record {
   race = λ setup turns script more line. (request, inr is, done);
   explain = λ setup script p k line. (request, inr is, done);
   draw = λ setup script p k line. (request, inr is, done);
-  debug = λ setup line. (request, inr is, done);
+  debug = λ setup seats line. (request, inr is, done);
   taken = λ none. (request, inr is, done);
   refused = λ some. (request, inr is, done);
 }

@@ -15,7 +15,7 @@ use Rattle.cdb_program.specs.Known.{Seen}
 use Rattle.cdb_program.specs.Requests.{Performs}
 use Rattle.cdb_program.specs.declared.fault.Fault.TheVariants as fault
 use Rattle.cdb_program.specs.declared.request.Request.{Request}
-use Rattle.cdb_program.specs.declared.request.Request.TheVariants.{Script, Play, Race, Explain, Draw, Debug, Print, Refuse}
+use Rattle.cdb_program.specs.declared.request.Request.TheVariants.{Script, Play, Race, Explain, Draw, Debug, Hall, Print, Refuse}
 
 -- a play of these two files
 abbrev pub IsPlay : Text → Text → Request → Type 0
@@ -44,10 +44,11 @@ IsDraw setup script p k (Draw its_setup its_script its_step) =
     (its_setup.now ≡ setup) × (its_script.now ≡ script) × (its_step ≡ option_map (step_asked k) p)
 IsDraw setup script p k request = ⊥
 
--- a session on a run of this file, with this prompt
-abbrev pub IsDebug : Text → Text → Request → Type 0
-IsDebug prompt setup (Debug its_setup its_prompt) = (its_setup.now ≡ setup) × (its_prompt.now ≡ prompt)
-IsDebug prompt setup request = ⊥
+-- a session on a run of this file, with this prompt; or sessions of these seats, where there are any
+abbrev pub IsDebug : Text → Text → List Text → Request → Type 0
+IsDebug prompt setup [] (Debug its_setup its_prompt) = (its_setup.now ≡ setup) × (its_prompt.now ≡ prompt)
+IsDebug prompt setup (seat ∷ seats) (Hall its_setup its_seats) = (its_setup.now ≡ setup) × (texts its_seats.now ≡ seat ∷ seats)
+IsDebug prompt setup seats request = ⊥
 
 -- the request for what was asked for, where sessions have this prompt
 abbrev pub IsRequestOf : Text → Asked → Request → Type 0
@@ -56,7 +57,7 @@ IsRequestOf prompt (asked.Play setup script) request = IsPlay setup.now script.n
 IsRequestOf prompt (asked.Race setup turns scripts) request = IsRace setup.now turns (texts scripts.items) request
 IsRequestOf prompt (asked.Explain setup script p k) request = IsExplain setup.now script.now p k request
 IsRequestOf prompt (asked.Draw setup script p k) request = IsDraw setup.now script.now p k request
-IsRequestOf prompt (asked.Debug setup) request = IsDebug prompt setup.now request
+IsRequestOf prompt (asked.Debug setup seats) request = IsDebug prompt setup.now (texts seats.items) request
 
 -- the request for what the subcommand that `clap` found asks for
 abbrev pub IsRequested : Text → Option (Text × List Row) → Request → Type 0
@@ -88,7 +89,8 @@ pub record PerformsAsked (prompt : Text) (words : List Text) (old new : Seen) (s
       → IsExplainLine words setup script p k → PerformsOne (IsExplain setup script p k) old new status
   pub draw : (setup script : Text) (p k : Option ℕ)
       → IsDrawLine words setup script p k → PerformsOne (IsDraw setup script p k) old new status
-  pub debug : (setup : Text) → IsDebugLine words setup → PerformsOne (IsDebug prompt setup) old new status
+  pub debug : (setup : Text) (seats : List Text)
+      → IsDebugLine words setup seats → PerformsOne (IsDebug prompt setup seats) old new status
   pub taken : fault_of program words ≡ [] → PerformsOne (IsRequested prompt (subcommand_of program words)) old new status
   pub refused : fault_of program words ≢ [] → PerformsOne (IsRefusal (fault_of program words)) old new status
 

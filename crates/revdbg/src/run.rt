@@ -66,7 +66,11 @@ fn request_of<'a>(asked: &'a Asked<'a>, prompt: &'a str) -> Request<'a>
             script,
             step: p.map(|p| StepAsked { p, k: *k }),
         },
-        Asked::Debug { setup } => Request::Debug { setup, prompt },
+        Asked::Debug { setup, seats } if seats.is_empty() => Request::Debug { setup, prompt },
+        Asked::Debug { setup, seats } => Request::Hall {
+            setup,
+            seats: seats.as_slice(),
+        },
     }
 }
 

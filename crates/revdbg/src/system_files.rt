@@ -1,10 +1,19 @@
 //! The files of the system.
 
-use cdb_play::{Input, ReadFault, read_up_to};
+use cdb_debug::Streams;
+use cdb_hall::Place;
+use cdb_play::{Input, Output, ReadFault, read_up_to};
 use cdb_program::Files;
 use std::alloc::Global;
 use std::fs::File;
-use std::io::ErrorKind;
+use std::io;
+use std::io::{ErrorKind, IsTerminal};
+
+/// What a seat shows before each line, at a terminal.
+const PROMPT: &[u8] = b"> ";
+
+/// Whom the session of a seat talks with: what is read, and what is written to.
+type Talk = Streams<Input<File>, Output<File>>;
 
 /// The files of the system. Nothing is known of them but how many could not be read.
 #[derive(Drop)]
@@ -20,7 +29,34 @@ impl<'a> SystemFiles<'a> {
     }
 }
 
+/// What can be written to under this name, where it is there.
+fn to_write(rt: &HostRuntime, name: &str) -> io::Result<File> {
+    File::options().write(true).open(rt, name)
+}
+
+/// The seat of this name: a terminal device, or `IN:OUT`, a pair of files or pipes, cut at the first colon. Of a pair the
+/// file that is written to is made where it is not there, and emptied where it is.
+fn seat_of(rt: &HostRuntime, name: &str) -> io::Result<Place<Talk>> {
+    let (input, output) = match name.split_once(':') {
+        Some((input, output)) => (File::open(rt, input)?, File::create(rt, output)?),
+        None => (File::open(rt, name)?, to_write(rt, name)?),
+    };
+    let prompt = if input.is_terminal() { PROMPT } else { b"" };
+    let talk = Streams::new(Input::new(input), Output::new(output));
+    Ok(Place { talk, prompt })
+}
+
+/// What could not be read or opened.
+fn fault_of(error: &io::Error) -> ReadFault {
+    match error.kind() {
+        ErrorKind::OutOfMemory => ReadFault::NoMemory,
+        _ => ReadFault::Failed,
+    }
+}
+
 impl<'a> Files for SystemFiles<'a> {
+    type Seat = Talk;
+
     ghost use Rattle.std.specs.Prelude.{[], None};
 
     ghost seen = { λ files. record { known = []; opened = None; failures = files.failures } };
@@ -28,12 +64,24 @@ impl<'a> Files for SystemFiles<'a> {
     fn read(&mut self, alloc: Global, name: &str, most: usize) -> Result<Vec<u8>, ReadFault> {
         let read = match File::open(self.rt, name) {
             Ok(file) => read_up_to(alloc, &mut Input::new(file), most),
-            Err(error) if error.kind() == ErrorKind::OutOfMemory => Err(ReadFault::NoMemory),
-            Err(_) => Err(ReadFault::Failed),
+            Err(error) => Err(fault_of(&error)),
         };
         if read == Err(ReadFault::Failed) {
             self.failures = self.failures.wrapping_add(1);
         }
         read
+    }
+
+    fn open_seat(&mut self, _alloc: Global, name: &str) -> Result<Place<Talk>, ReadFault> {
+        match seat_of(self.rt, name) {
+            Ok(place) => Ok(place),
+            Err(error) => {
+                let fault = fault_of(&error);
+                if fault == ReadFault::Failed {
+                    self.failures = self.failures.wrapping_add(1);
+                }
+                Err(fault)
+            }
+        }
     }
 }

@@ -86,11 +86,12 @@ fn words_of_a_picture_without_a_number(rt: HostRuntime) {
 
 #[test]
 fn words_of_a_session(rt: HostRuntime) {
-    let words = ["revdbg", "debug", "a"];
-    let Ok(Asked::Debug { setup }) = asked(rt.alloc(), &words) else {
+    let words = ["revdbg", "debug", "a", "in:out", "/dev/tty2"];
+    let Ok(Asked::Debug { setup, seats }) = asked(rt.alloc(), &words) else {
         panic!(rt; "these words ask for a session");
     };
     assert_eq!(rt; setup, "a");
+    assert_eq!(rt; seats.as_slice(), ["in:out", "/dev/tty2"].as_slice());
 }
 
 /// The words are refused, and this is the status.
@@ -120,5 +121,4 @@ fn refused_words(rt: HostRuntime) {
     check_refused(&rt, &["revdbg", "explain", "a", "b", "1", "1000000"], 2);
     check_refused(&rt, &["revdbg", "draw", "a", "b", "1", "2", "3"], 2);
     check_refused(&rt, &["revdbg", "debug"], 2);
-    check_refused(&rt, &["revdbg", "debug", "a", "b"], 2);
 }

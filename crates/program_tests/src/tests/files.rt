@@ -1,5 +1,8 @@
 //! Files in memory.
 
+use super::streams::{Reader, Writer};
+use cdb_debug::Streams;
+use cdb_hall::Place;
 use cdb_play::ReadFault;
 use cdb_program::Files;
 use std::alloc::Global;
@@ -55,6 +58,8 @@ fn content_of(files: &[Named], name: &str) -> Option<&'static [u8]> {
 }
 
 impl Files for Folder {
+    type Seat = Streams<Reader<'static>, Writer>;
+
     ghost use Rattle.std.specs.Prelude.{[], Some};
     ghost use Rattle.cdb_play.specs.Races.{bytes_of};
 
@@ -79,5 +84,22 @@ impl Files for Folder {
             return Err(ReadFault::Failed);
         }
         Ok(bytes)
+    }
+    /// A seat's input is the file of its name, and its output is lost.
+    fn open_seat(&mut self, alloc: Global, name: &str) -> Result<Place<Self::Seat>, ReadFault> {
+        let copy = Vec::from_slice(alloc, name.as_bytes())?;
+        let content = content_of(self.files, name);
+        if self.opened.push(copy).is_err() {
+            return Err(ReadFault::NoMemory);
+        }
+        let Some(lines) = content else {
+            self.failures = self.failures.wrapping_add(1);
+            return Err(ReadFault::Failed);
+        };
+        let talk = Streams::new(
+            Reader::new(lines, usize::MAX),
+            Writer::new(alloc, usize::MAX),
+        );
+        Ok(Place { talk, prompt: b"" })
     }
 }

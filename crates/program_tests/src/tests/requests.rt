@@ -255,3 +255,34 @@ fn a_race_of_65_seats(rt: HostRuntime) -> Result<(), Fail> {
     assert_eq!(rt; ended.opened.len(), 65);
     Ok(())
 }
+
+/// A session of one seat.
+const HALL: Request<'static> = Request::Hall {
+    setup: "two.json",
+    seats: &["decisions.txt"],
+};
+
+#[test]
+fn sessions_of_seats_leave_their_journal(rt: HostRuntime) -> Result<(), Fail> {
+    let opened = ["two.json", "decisions.txt"];
+    check(&rt, HALL, 0, ("1 decisions\n", ""), &opened)
+}
+
+#[test]
+fn a_seat_that_is_not_there(rt: HostRuntime) -> Result<(), Fail> {
+    let hall = Request::Hall {
+        setup: "two.json",
+        seats: &["decisions.txt", "none", "redo.txt"],
+    };
+    let opened = ["two.json", "decisions.txt", "none"];
+    check(&rt, hall, 3, ("", "cannot read none\n"), &opened)
+}
+
+#[test]
+fn sessions_of_too_many_seats(rt: HostRuntime) -> Result<(), Fail> {
+    let hall = Request::Hall {
+        setup: "two.json",
+        seats: &["decisions.txt"; 65],
+    };
+    check(&rt, hall, 2, ("", "too many seats\n"), &[])
+}

@@ -1,10 +1,8 @@
-use Rattle.cdb_program.proofs.Reported.{does_but_error}
+use Rattle.cdb_program.proofs.Reported.{no_hall, performs_alone}
 use Rattle.cdb_program.proofs.request.perform.Goals as goal
 
-pub returns : goal.returns
-returns g c =
-    let carried = c.carry_out-outcome.ensures in (
-      c.carry_out-outcome.result,
-      does_but_error c.args.request c.args.outside.now _ _ _ (rw (← c.outside.view_is) at carried.does),
-      rw (← carried.error, ← c.outside.view_is) c.report.ensures,
-    )
+pub perform_one-requires-clause-alone : goal.perform_one-requires-clause-alone
+perform_one-requires-clause-alone g c κs within = no_hall c.args.request (λ setup seats is. c.in_default.not-Hall setup seats is)
+
+pub returns-in_default : goal.returns-in_default
+returns-in_default g c = performs_alone c.args.request _ _ _ (no_hall c.args.request (λ setup seats is. c.in_default.not-Hall setup seats is)) c.perform_one.ensures

@@ -14,7 +14,7 @@ returns-in-Ok g c =
       race = λ setup turns script more line. performs_other _ _ _ _ _ (race_request c.args.prompt.now setup turns (script ∷ more) it (said.race setup turns script more line).0) done;
       explain = λ setup script p k line. performs_other _ _ _ _ _ (explain_request c.args.prompt.now setup script p k it (said.explain setup script p k line).0) done;
       draw = λ setup script p k line. performs_other _ _ _ _ _ (draw_request c.args.prompt.now setup script p k it (said.draw setup script p k line).0) done;
-      debug = λ setup line. performs_other _ _ _ _ _ (debug_request c.args.prompt.now setup it (said.debug setup line).0) done;
+      debug = λ setup seats line. performs_other _ _ _ _ _ (debug_request c.args.prompt.now setup seats it (said.debug setup seats line).0) done;
       taken = λ none. performs_other _ _ _ _ _ (λ request of_it. (it, said.ok, of_it)) done;
       refused = λ some. absurd (some said.right);
     }
@@ -28,7 +28,7 @@ returns-in-Err g c =
       race = λ setup turns script more line. only_memory _ _ _ _ (done [] (memory_has_no_kinds c.in-Err.fault (said.race setup turns script more line).1));
       explain = λ setup script p k line. only_memory _ _ _ _ (done [] (memory_has_no_kinds c.in-Err.fault (said.explain setup script p k line).1));
       draw = λ setup script p k line. only_memory _ _ _ _ (done [] (memory_has_no_kinds c.in-Err.fault (said.draw setup script p k line).1));
-      debug = λ setup line. only_memory _ _ _ _ (done [] (memory_has_no_kinds c.in-Err.fault (said.debug setup line).1));
+      debug = λ setup seats line. only_memory _ _ _ _ (done [] (memory_has_no_kinds c.in-Err.fault (said.debug setup seats line).1));
       taken = λ none. only_memory _ _ _ _ (subst (λ (kinds : Kinds). PerformsOne (IsRefusal kinds) c.args.outside.now c.refuse.new.outside c.refuse.result) none (done _ said.refused));
       refused = λ some. done _ said.refused;
     }

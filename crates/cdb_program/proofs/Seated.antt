@@ -1,0 +1,134 @@
+-- Seats are opened one after the other, and what is known of their sessions.
+use Rattle.std.proofs.Common.{◌≡◌, ℕ, zero, suc, ◌+◌, ◌<◌, List, [], ◌∷◌, ◌++◌, length, get_or, take, drop, map, Option, Bor, refl, sym, ap, subst, ◌∙◌, append_assoc, arith}
+use Rattle.std.specs.Prelude.{Result, Ok, Err}
+use Rattle.std.proofs.lemmas.List.{length-map, get_or-map}
+use Rattle.cdb_debug.specs.Moves.{Known}
+use Rattle.cdb_hall.specs.Halls.{IsAttended, IsHall}
+use Rattle.cdb_hall.specs.Holding.{Holds}
+use Rattle.cdb_hall.specs.Reports.{IsPut, outcomes, failures_text, status_of}
+use Rattle.cdb_hall.specs.declared.place.Place.{Place}
+use Rattle.cdb_hall.specs.declared.place.Attended.{Attended}
+use Rattle.cdb_play.specs.declared.fault.PlayFault.{PlayFault}
+use Rattle.cdb_play.specs.declared.fault.PlayFault.TheVariants as play
+use Rattle.cdb_program.specs.Known.{FilesSeen, contents, failures, after_opening, after_failing}
+use Rattle.cdb_program.specs.Reading.{FailsToRead, texts}
+use Rattle.cdb_program.specs.Streaming.{stream_of}
+use Rattle.cdb_program.specs.declared.fault.Fault.{Fault}
+use Rattle.cdb_program.specs.declared.fault.Fault.TheVariants.{Play, Race, NoStep, TooManySeats, Refused}
+use Rattle.cdb_play.specs.Faults.{of_reading}
+use Rattle.cdb_play.specs.declared.source.ReadFault.{ReadFault}
+use Rattle.cdb_play.specs.declared.source.ReadFault.TheVariants as reading
+use Rattle.cdb_program.specs.Seating.{OpensSeat, IsFaultOfSeats}
+use Rattle.cdb_program.proofs.Opening.{read_none, opened_then, failed_then, fails_before, one_more_name, taken_and_left}
+
+-- ---- seats that are opened
+
+-- it can't be opened
+pub one_fails : (T : Type 0) (old new : FilesSeen) (name : Bor (List ℕ)) (fault : ReadFault) → (let opened : Result (Place T) ReadFault = Err fault in OpensSeat old new name.now opened) → FailsToRead old new (name.now ∷ []) (Play (of_reading fault) name)
+one_fails T old new name reading.Failed is = ([], [], refl, is)
+one_fails T old new name reading.NoMemory is = ([], name.now ∷ [], refl, is ∙ (read_none old).0)
+
+-- what can't be read or opened is why no sessions are held
+pub as_fault : (setup : List ℕ) (seats : List (List ℕ)) (old new : FilesSeen) (fault : Fault) → FailsToRead old new (setup ∷ seats) fault → IsFaultOfSeats setup seats old new fault
+as_fault setup seats old new (Play why name) fails = fails
+as_fault setup seats old new (Race why) fails = absurd fails
+as_fault setup seats old new NoStep fails = fails
+as_fault setup seats old new TooManySeats fails = absurd fails
+as_fault setup seats old new (Refused reason) fails = fails
+
+-- others were opened before it
+pub fails_later : (old mid new : FilesSeen) (first second : List (List ℕ)) (fault : Fault) → mid ≡ after_opening old first → FailsToRead mid new second fault → FailsToRead old new (first ++ second) fault
+fails_later old mid new first second (Play play.Read name) before (good, rest, whole, failed) = (
+  first ++ good,
+  rest,
+  ap (λ (l : List (List ℕ)). first ++ l) whole ∙ sym (append_assoc first good (name.now ∷ rest)),
+  failed_then old mid new first (good ++ name.now ∷ []) before failed ∙ ap (λ (l : List (List ℕ)). after_failing old l) (sym (append_assoc first good (name.now ∷ []))),
+)
+fails_later old mid new first second (Play play.NoMemory name) before (good, rest, whole, opened) = (
+  first ++ good,
+  rest,
+  ap (λ (l : List (List ℕ)). first ++ l) whole ∙ sym (append_assoc first good rest),
+  opened_then old mid new first good before opened,
+)
+fails_later old mid new first second (Play (play.Setup fault) name) before fails = absurd fails
+fails_later old mid new first second (Play (play.Line script line fault) name) before fails = absurd fails
+fails_later old mid new first second (Play (play.ScriptTooLong script) name) before fails = absurd fails
+fails_later old mid new first second (Play play.Write name) before fails = absurd fails
+fails_later old mid new first second (Race fault) before fails = absurd fails
+fails_later old mid new first second NoStep before fails = absurd fails
+fails_later old mid new first second TooManySeats before fails = absurd fails
+fails_later old mid new first second (Refused reason) before fails = absurd fails
+
+-- the seat at this place of a list can't be opened
+pub seat_fails : (old mid new : FilesSeen) (names : List (Bor (List ℕ))) (i : ℕ) (d : Bor (List ℕ)) (fault : Fault) → i < length names → mid ≡ after_opening old (texts (take i names))
+    → FailsToRead mid new ((get_or names i d).now ∷ []) fault → FailsToRead old new (texts names) fault
+seat_fails old mid new names i d fault below before fails =
+    subst (λ (l : List (List ℕ)). FailsToRead old new l fault) (sym (taken_and_left names (i + 1)))
+    (fails_before old new (texts (take (i + 1) names)) (texts (drop (i + 1) names)) fault
+    (subst (λ (l : List (List ℕ)). FailsToRead old new l fault) (sym (one_more_name names i d below)) (fails_later old mid new (texts (take i names)) ((get_or names i d).now ∷ []) fault before fails)))
+
+-- one seat more is opened
+pub seat_opened : (old mid new : FilesSeen) (names : List (Bor (List ℕ))) (i : ℕ) (d : Bor (List ℕ)) → i < length names → mid ≡ after_opening old (texts (take i names)) → new ≡ after_opening mid ((get_or names i d).now ∷ [])
+    → new ≡ after_opening old (texts (take (i + 1) names))
+seat_opened old mid new names i d below before after =
+    opened_then old mid new (texts (take i names)) ((get_or names i d).now ∷ []) before after ∙ ap (after_opening old) (sym (one_more_name names i d below))
+
+-- ---- what is known of their sessions
+
+some_of : {A : Type 0} (xs : List A) → 0 < length xs → A
+some_of [] low = absurd (omega arith)
+some_of (x ∷ xs) low = x
+
+module _ {T : Type 0} (known : T → Known) where
+  abbrev pub known_place : Place T → Place Known
+  known_place place = record { talk = known place.talk; prompt = place.prompt }
+
+  abbrev known_attended : Attended T → Attended Known
+  known_attended attended = record { talk = known attended.talk; outcome = attended.outcome }
+
+  same_outcomes : (attended : List (Attended T)) → outcomes (map known_attended attended) ≡ outcomes attended
+  same_outcomes [] = refl
+  same_outcomes (its ∷ attended) = ap (λ (l : List (Result (Unit {0}) PlayFault)). its.outcome ∷ l) (same_outcomes attended)
+
+module _ {W : Type 0} (held : W → Option (List ℕ)) (failed : W → ℕ) where
+  put_seen : (put : Result (Unit {0}) PlayFault) (old new : W) (text : List ℕ) → IsPut held failed put old new text → IsPut contents failures put (stream_of held failed old) (stream_of held failed new) text
+  put_seen (Ok done) old new text is = is
+  put_seen (Err play.Write) old new text is = is
+  put_seen (Err play.NoMemory) old new text is = ap (stream_of held failed) is
+  put_seen (Err play.Read) old new text is = is
+  put_seen (Err (play.Setup fault)) old new text is = is
+  put_seen (Err (play.Line script line fault)) old new text is = is
+  put_seen (Err (play.ScriptTooLong script)) old new text is = is
+
+-- sessions that were held, by what is known of whom they talked with and of the streams
+pub holds_seen : {T O E : Type 0} (known : T → Known) (held : O → Option (List ℕ)) (failed : O → ℕ) (told : E → Option (List ℕ)) (untold : E → ℕ) (json : List ℕ) (places : List (Place T)) (output output_after : O) (error error_after : E) (status : ℕ)
+    → Holds known held failed told untold json places output output_after error error_after status
+    → Holds (λ (k : Known). k) contents failures contents failures json (map (known_place known) places) (stream_of held failed output) (stream_of held failed output_after) (stream_of told untold error) (stream_of told untold error_after) status
+holds_seen known held failed told untold json places output output_after error error_after status h =
+    let same = same_outcomes known h.attended in
+    record {
+      setup = h.setup;
+      stands = h.stands;
+      control = h.control;
+      attended = map (known_attended known) h.attended;
+      hall = record {
+        setup_is = h.hall.setup_is;
+        seats_are = h.hall.seats_are ∙ sym (length-map places (known_place known));
+        entries = h.hall.entries;
+        many = length-map h.attended (known_attended known) ∙ h.hall.many ∙ sym (length-map places (known_place known));
+        each = λ k p a low.
+            let below : k < length places = omega (arith, low, length-map places (known_place known)) in
+            let d = some_of places (omega (arith, below)) in
+            let e = some_of h.attended (omega (arith, below, h.hall.many)) in
+            let its = h.hall.each k d e below in
+            let place = sym (get_or-map (known_place known) places k d p below) in
+            let attended = sym (get_or-map (known_attended known) h.attended k e a (omega (arith, below, h.hall.many))) in
+            subst (λ (x : Place Known × Attended Known). IsAttended (λ (k : Known). k) h.control (k + 1) x.0 x.1) (λ i. (place i, attended i))
+            (record { made = its.made; makes = its.makes; session = its.session });
+      };
+      written = h.written;
+      journal = put_seen held failed h.written output output_after _ h.journal;
+      told = h.told;
+      lines = subst (λ (o : List (Result (Unit {0}) PlayFault)). IsPut contents failures h.told (stream_of told untold error) (stream_of told untold error_after) (failures_text h.written o)) (sym same) (put_seen told untold h.told error error_after _ h.lines);
+      status_is = h.status_is ∙ ap (status_of h.written) (sym same);
+    }

@@ -1,0 +1,29 @@
+use Rattle.std.proofs.Common.{◌≡◌, ◌∙◌, ◌∷◌, [], sym, arith, map, length, Bor, List, ℕ}
+use Rattle.std.proofs.lemmas.List.{length-map}
+use Rattle.std.proofs.lemmas.Result.{err_from_is_err_and}
+use Rattle.cdb_program.specs.Reading.{texts}
+use Rattle.cdb_program.proofs.Opening.{fails_before, opened_then}
+use Rattle.cdb_program.proofs.Seated.{as_fault, fails_later, known_place, holds_seen}
+use Rattle.cdb_program.proofs.seats.hold_seats.Goals as goal
+
+pub returns-in_err-json-clause-fault : goal.returns-in_err-json-clause-fault
+returns-in_err-json-clause-fault g c =
+    let p = err_from_is_err_and c.from_residual.result c.from_residual.ensures.1 in
+    rw (p.1, p.2, ← c.outside.view_is) (as_fault _ _ _ _ c.in_err-json.field-0.0 (fails_before _ _ (c.args.setup.now ∷ []) (texts c.args.seats.now) c.in_err-json.field-0.0 c.in_err-json.ensures.fault))
+
+pub returns-in_err-places-clause-fault : goal.returns-in_err-places-clause-fault
+returns-in_err-places-clause-fault g c =
+    let p = err_from_is_err_and c.from_residual-in_err-places.result c.from_residual-in_err-places.ensures.1 in
+    rw (p.1, p.2, ← c.outside.view_is)
+    (as_fault _ _ _ _ c.in_err-places.field-0.0 (fails_later _ _ _ (c.args.setup.now ∷ []) (texts c.args.seats.now) c.in_err-places.field-0.0 c.in_ok-json.ensures.read.0 c.in_err-places.ensures.fault))
+
+pub returns-in-Ok-clause-held : goal.returns-in-Ok-clause-held
+returns-in-Ok-clause-held g c =
+    let places = c.in_ok-places.places in
+    let many : length places.items ≡ length c.args.seats.now = omega (arith, places.ok.0, c.in_ok-places.ensures.count) in
+    let long = length-map places.items (known_place g.F.Seat.Talk.known) ∙ many ∙ sym (length-map c.args.seats.now (λ (n : Bor (List ℕ)). n.now)) in
+    rw (← c.outside.view_is) (
+      c.in_ok-json.json.items,
+      (opened_then _ _ _ (c.args.setup.now ∷ []) (texts c.args.seats.now) c.in_ok-json.ensures.read.0 c.in_ok-places.ensures.opened, c.in_ok-json.ensures.read.1.0),
+      (map (known_place g.F.Seat.Talk.known) places.items, long, rw (← c.as_slice.ensures.value) (holds_seen g.F.Seat.Talk.known g.O.Sink.contents g.O.Sink.failures g.E.Sink.contents g.E.Sink.failures _ places.items _ _ _ _ _ c.in-Ok.ensures.held)),
+    )

@@ -1,0 +1,32 @@
+use Rattle.std.proofs.Common.{◌≡◌, ◌+◌, ◌∙◌, arith, sym, ap, take, drop, List, Bor, ℕ}
+use Rattle.std.proofs.lemmas.List.{take_all}
+use Rattle.std.proofs.lemmas.Result.{err_from_is_err_and}
+use Rattle.cdb_program.specs.Known.{after_opening}
+use Rattle.cdb_program.specs.Reading.{texts}
+use Rattle.cdb_program.proofs.Opening.{read_none, taken_and_left}
+use Rattle.cdb_program.proofs.Seated.{seat_fails, seat_opened}
+use Rattle.cdb_program.proofs.seats.open_each.Goals as goal
+
+pub loop-name-init : goal.loop-name-init
+loop-name-init g c = record { opened = (read_none _).0; count = omega (arith, c.new-places.ensures.len) }
+
+pub returns-in_err-place-clause-fault : goal.returns-in_err-place-clause-fault
+returns-in_err-place-clause-fault g c =
+    let p = err_from_is_err_and c.from_residual.result c.from_residual.ensures.1 in
+    rw (p.1, p.2) (seat_fails _ _ _ c.args.names.now c.loop-name.name-index _ c.in_err-place.field-0.0 c.loop-name-test.true c.loop-name.invariant.opened c.in_err-place.ensures.fault)
+
+pub returns-then-is_err-clause-fault : goal.returns-then-is_err-clause-fault
+returns-then-is_err-clause-fault g c =
+    let names = c.args.names.now in
+    let i = c.loop-name.name-index in
+    (texts (take (i + 1) names), texts (drop (i + 1) names), taken_and_left names (i + 1), seat_opened _ _ _ names i _ c.loop-name-test.true c.loop-name.invariant.opened c.in_ok-place.ensures.opened)
+
+pub loop-name-preserved : goal.loop-name-preserved
+loop-name-preserved g c = record {
+  opened = seat_opened _ _ _ c.args.names.now c.loop-name.name-index _ c.loop-name-test.true c.loop-name.invariant.opened c.in_ok-place.ensures.opened;
+  count = let more = c.push.ensures.len in grind (arith, more, c.loop-name.invariant.count);
+}
+
+pub returns-clause-opened : goal.returns-clause-opened
+returns-clause-opened g c =
+    c.loop-name.invariant.opened ∙ ap (λ (names : List (Bor (List ℕ))). after_opening (g.F.Files.seen c.args.files.now) (texts names)) (take_all c.loop-name.name-index c.args.names.now c.loop-name-test.false)

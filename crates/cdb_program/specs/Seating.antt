@@ -1,0 +1,46 @@
+-- What sessions of several seats do.
+use Rattle.std.specs.Prelude.{◌≡◌, ◌⊎◌, ℕ, ◌<◌, List, [], ◌∷◌, length, Result, Ok, Err}
+use Rattle.cdb_debug.specs.Moves.{Known}
+use Rattle.cdb_hall.specs.Holding.{Holds, IsFaultOfHall}
+use Rattle.cdb_hall.specs.declared.place.Place.{Place}
+use Rattle.cdb_play.specs.declared.source.ReadFault.{ReadFault}
+use Rattle.cdb_play.specs.declared.source.ReadFault.TheVariants as reading
+use Rattle.cdb_program.specs.Known.{FilesSeen, Seen, contents, failures, after_opening, after_failing}
+use Rattle.cdb_program.specs.Reading.{AreFirstBytes, FailsToRead, most_read}
+use Rattle.cdb_program.specs.Reports.{IsReported}
+use Rattle.cdb_program.specs.declared.fault.Fault.{Fault}
+use Rattle.cdb_program.specs.declared.fault.Fault.TheVariants.{Race, TooManySeats}
+
+-- One seat is opened, by how that ended. Where an allocation failed it counts as not opened.
+abbrev pub OpensSeat : {T : Type 0} → FilesSeen → FilesSeen → List ℕ → Result (Place T) ReadFault → Type 0
+OpensSeat old new name (Ok place) = new ≡ after_opening old (name ∷ [])
+OpensSeat old new name (Err reading.Failed) = new ≡ after_failing old (name ∷ [])
+OpensSeat old new name (Err reading.NoMemory) = new ≡ old
+
+-- the file of the setup was read, and gave these bytes, and then these seats were opened, in order
+abbrev pub HasSeated : FilesSeen → FilesSeen → List ℕ → List (List ℕ) → List ℕ → Type 0
+HasSeated old new setup seats json = (new ≡ after_opening old (setup ∷ seats)) × AreFirstBytes old most_read setup json
+
+-- Why no sessions were held: there are too many seats, and then no file was opened; the setup has a fault, or memory or threads
+-- are out; or the setup or a seat can't be opened, and then nothing after it was.
+abbrev pub IsFaultOfSeats : List ℕ → List (List ℕ) → FilesSeen → FilesSeen → Fault → Type 0
+IsFaultOfSeats setup seats old new TooManySeats = (64 < length seats) × (new ≡ old)
+IsFaultOfSeats setup seats old new (Race why) = (json : List ℕ) × HasSeated old new setup seats json × IsFaultOfHall json why
+IsFaultOfSeats setup seats old new other = FailsToRead old new (setup ∷ seats) other
+
+-- no sessions were held, nothing was written to standard output, and why is reported
+abbrev pub RefusesSeats : List ℕ → List (List ℕ) → Seen → Seen → ℕ → Type 0
+RefusesSeats setup seats old new status =
+    (fault : Fault) × IsFaultOfSeats setup seats old.files new.files fault × (new.output ≡ old.output) × IsReported (Err fault) old.error new.error status
+
+-- The sessions were held, one for each seat, of which it is known what each was asked and answered. The journal was written to
+-- standard output, and what failed was reported.
+abbrev pub HoldsSeats : List ℕ → List (List ℕ) → Seen → Seen → ℕ → Type 0
+HoldsSeats setup seats old new status =
+    (json : List ℕ) × HasSeated old.files new.files setup seats json
+    × ((places : List (Place Known)) × (length places ≡ length seats)
+    × Holds (λ known. known) contents failures contents failures json places old.output new.output old.error new.error status)
+
+-- sessions of these seats were held, or not; standard input is left as it is
+abbrev pub PerformsHall : List ℕ → List (List ℕ) → Seen → Seen → ℕ → Type 0
+PerformsHall setup seats old new status = (new.input ≡ old.input) × (RefusesSeats setup seats old new status ⊎ HoldsSeats setup seats old new status)

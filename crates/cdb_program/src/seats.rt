@@ -1,0 +1,119 @@
+//! Sessions of several seats, of what is outside.
+
+ghost use Rattle.std.specs.Prelude.{◌≡◌, ◌≤◌, ◌∷◌, [], length, vec_len, IfOk, IfErr};
+ghost use Rattle.cdb_program.specs.Known.{after_opening};
+ghost use Rattle.cdb_program.specs.Reading.{texts, FailsToRead};
+ghost use Rattle.cdb_program.specs.Seating.{HoldsSeats, IsFaultOfSeats, PerformsHall};
+
+use crate::fault::Fault;
+use crate::files::{Files, read_file};
+use crate::outside::Outside;
+use crate::reports::report;
+use cdb_hall::{Place, hold};
+use cdb_play::{PlayFault, Sink, Source};
+use std::alloc::Global;
+use std::sync::Wait;
+use std::thread::Threads;
+
+/// How many seats there can be.
+const MOST_SEATS: usize = 64;
+
+/// The seat of this name.
+///
+/// # Errors
+/// `Play(Read, name)` where it can't be opened, and `Play(NoMemory, name)` where an allocation fails.
+fn open_one<'a, F: Files>(
+    alloc: Global,
+    files: &mut F,
+    name: &'a str,
+) -> Result<Place<F::Seat>, Fault<'a>>
+    ensures opened { IfOk result
+        (λ _. F.seen files.new ≡ after_opening (F.seen files.old) (name.entry.now ∷ [])) }
+    ensures fault { IfErr result
+        (FailsToRead (F.seen files.old) (F.seen files.new) (name.entry.now ∷ [])) }
+{
+    match files.open_seat(alloc, name) {
+        Ok(place) => Ok(place),
+        Err(fault) => Err(Fault::Play(PlayFault::from(fault), name)),
+    }
+}
+
+/// The seats of these names, which are opened one after the other.
+///
+/// # Errors
+/// `Play(Read, name)` with the name of the first seat that can't be opened; those after it are not opened.
+/// `Play(NoMemory, _)` where an allocation fails.
+fn open_each<'a, F: Files>(
+    alloc: Global,
+    files: &mut F,
+    names: &[&'a str],
+) -> Result<Vec<Place<F::Seat>>, Fault<'a>>
+    ensures opened { IfOk result
+        (λ _. F.seen files.new ≡ after_opening (F.seen files.old) (texts names.now)) }
+    ensures count { IfOk result (λ places. vec_len places ≡ length names.now) }
+    ensures fault { IfErr result
+        (FailsToRead (F.seen files.old) (F.seen files.new) (texts names.now)) }
+{
+    let mut places = Vec::new(alloc);
+    for name in names {
+        let place = open_one(alloc, files, name)?;
+        if places.push(place).is_err() {
+            return Err(Fault::Play(PlayFault::NoMemory, name));
+        }
+    }
+    Ok(places)
+}
+
+/// Holds sessions of these seats over one run of a setup file, and returns the status. A fault is not reported yet.
+fn hold_seats<
+    'a,
+    R: Threads + Wait + Sync,
+    F: Files + Drop,
+    I: Source + Drop,
+    O: Sink + Drop,
+    E: Sink + Drop,
+>(
+    threads: &R,
+    alloc: Global,
+    setup: &'a str,
+    seats: &[&'a str],
+    outside: &mut Outside<F, I, O, E>,
+) -> Result<u8, Fault<'a>>
+    requires { 1 ≤ length seats.now }
+    ensures held { IfOk result
+        (HoldsSeats setup.entry.now (texts seats.now) outside.old outside.new) }
+    ensures fault { IfErr result (IsFaultOfSeats setup.entry.now (texts seats.now)
+        outside.old.files outside.new.files) }
+    ensures output { IfErr result (λ _. outside.new.output ≡ outside.old.output) }
+    ensures error { IfErr result (λ _. outside.new.error ≡ outside.old.error) }
+    ensures input { outside.new.input ≡ outside.old.input }
+{
+    if seats.len() > MOST_SEATS {
+        return Err(Fault::TooManySeats);
+    }
+    let json = read_file(alloc, &mut outside.files, setup)?;
+    let places = open_each(alloc, &mut outside.files, seats)?;
+    let (output, error) = (&mut outside.streams.output, &mut outside.error);
+    match hold(threads, alloc, json.as_slice(), places, output, error) {
+        Ok(status) => Ok(status),
+        Err(fault) => Err(Fault::Race(fault)),
+    }
+}
+
+/// Holds sessions of these seats, one at least, over one run of a setup file, reports on standard error what failed, and
+/// returns the status with which the program ends.
+pub fn perform_hall<
+    R: Threads + Wait + Sync,
+    F: Files + Drop,
+    I: Source + Drop,
+    O: Sink + Drop,
+    E: Sink + Drop,
+>(threads: &R, alloc: Global, setup: &str, seats: &[&str], outside: &mut Outside<F, I, O, E>) -> u8
+    requires { 1 ≤ length seats.now }
+    ensures { PerformsHall setup.now (texts seats.now) outside.old outside.new result }
+{
+    match hold_seats(threads, alloc, setup, seats, outside) {
+        Ok(status) => status,
+        Err(fault) => report(Err(fault), &mut outside.error),
+    }
+}
