@@ -20,5 +20,5 @@ returns-in_err-answer_held-clause-last g c =
 
 pub returns-clause-last : goal.returns-clause-last
 returns-clause-last g c =
-    let some : 0 < length c.args.held.items = search rules in
+    let some : 0 < length c.args.held.items = search (rules, c.is_empty.ensures, c.if-is_empty.false, c.if-is_empty.ensures) in
     last_done c.args.prompt.now _ _ c.args.session.now c.args.held.items some c.answer_held.new.session c.answer_held.new.held.items c.in_ok-answer_held.field-0 c.in_ok-answer_held.ensures.held
