@@ -1,7 +1,7 @@
 use Rattle.std.proofs.Common.{◌∙◌, List, ap, sym, subst}
 use Rattle.std.proofs.lemmas.Result.{err_from_is_err_and}
 use Rattle.cdb_base.specs.declared.event.Event.{Event}
-use Rattle.cdb_explain.proofs.Answered.{no_err, output_is_no_setup, output_reads_none}
+use Rattle.cdb_explain.proofs.Answered.{no_err, output_fault, output_is_no_setup, output_reads_none}
 use Rattle.cdb_play.specs.Left.{Leaves}
 use Rattle.cdb_run.specs.Algorithms.{rules}
 use Rattle.cdb_run.specs.Current.{RunView}
@@ -23,6 +23,12 @@ returns-in_err-draw_run-clause-wrote g c =
     rw (p.1, p.2)
     (as_play g.W.Sink.contents g.W.Sink.failures (Unit {0}) (Draws rules c.args.setup.now c.args.step old new) c.in_err-draw_run.field-0.0 c.args.out.now c.draw_run.new.out (IsPicture rules run place)
     (λ text picture. (run, left, (place, at, picture))) c.in_err-draw_run.ensures)
+
+pub returns-in_err-draw_run-clause-fault : goal.returns-in_err-draw_run-clause-fault
+returns-in_err-draw_run-clause-fault g c =
+    let p = err_from_is_err_and c.from_residual-in_err-draw_run.result c.from_residual-in_err-draw_run.ensures.1 in
+    let left = c.in_ok-control.ensures.left in
+    rw (p.1, p.2) (output_fault c.in_err-draw_run.field-0.0 c.args.setup.now _ _ (left.2.setup, left.2.stands))
 
 pub returns-in_err-draw_run-clause-unread : goal.returns-in_err-draw_run-clause-unread
 returns-in_err-draw_run-clause-unread g c =
