@@ -16,6 +16,7 @@ fn a_failed_seat_ends_alone(rt: HostRuntime) -> Result<(), Fail> {
     people.push(unwritten)?;
     let record = hold(&rt, THREE, people)?;
     let seats = record.attended.as_slice();
+    assert!(rt; seats.len() == 3);
     assert_eq!(rt; seats[0].outcome, Err(PlayFault::Read));
     assert_eq!(rt; seats[1].outcome, Ok(()));
     assert_eq!(rt; seats[2].outcome, Err(PlayFault::Write));

@@ -1,6 +1,6 @@
 //! Files in memory.
 
-use super::streams::{Reader, Writer};
+use super::streams::{Lines, Writer};
 use cdb_debug::Streams;
 use cdb_hall::Place;
 use cdb_play::ReadFault;
@@ -58,7 +58,7 @@ fn content_of(files: &[Named], name: &str) -> Option<&'static [u8]> {
 }
 
 impl Files for Folder {
-    type Seat = Streams<Reader<'static>, Writer>;
+    type Seat = Streams<Lines, Writer>;
 
     ghost use Rattle.std.specs.Prelude.{[], Some};
     ghost use Rattle.cdb_play.specs.Races.{bytes_of};
@@ -89,17 +89,15 @@ impl Files for Folder {
     fn open_seat(&mut self, alloc: Global, name: &str) -> Result<Place<Self::Seat>, ReadFault> {
         let copy = Vec::from_slice(alloc, name.as_bytes())?;
         let content = content_of(self.files, name);
+        let lines = Vec::from_slice(alloc, content.unwrap_or(b""))?;
         if self.opened.push(copy).is_err() {
             return Err(ReadFault::NoMemory);
         }
-        let Some(lines) = content else {
+        if content.is_none() {
             self.failures = self.failures.wrapping_add(1);
             return Err(ReadFault::Failed);
-        };
-        let talk = Streams::new(
-            Reader::new(lines, usize::MAX),
-            Writer::new(alloc, usize::MAX),
-        );
+        }
+        let talk = Streams::new(Lines::new(lines), Writer::new(alloc, usize::MAX));
         Ok(Place { talk, prompt: b"" })
     }
 }

@@ -45,6 +45,34 @@ impl<'a> Source for Reader<'a> {
     }
 }
 
+/// The lines of a seat, which are given at once.
+#[derive(Drop)]
+pub struct Lines {
+    rest: Vec<u8>,
+}
+
+impl Lines {
+    /// All of these bytes are left.
+    pub fn new(rest: Vec<u8>) -> Self {
+        Lines { rest }
+    }
+}
+
+impl Source for Lines {
+    ghost use Rattle.std.specs.Prelude.{None};
+
+    ghost remaining = { λ _. None };
+
+    ghost failures = { λ _. 0 };
+
+    fn read(&mut self, buffer: &mut [u8]) -> Result<usize, Failed> {
+        let count = buffer.len().min(self.rest.len());
+        buffer[..count].copy_from_slice(&self.rest.as_slice()[..count]);
+        self.rest.clear();
+        Ok(count)
+    }
+}
+
 /// A writer over memory.
 #[derive(Drop)]
 pub struct Writer {
