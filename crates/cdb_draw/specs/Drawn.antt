@@ -24,11 +24,15 @@ abbrev pub IsMissing : List Event → Option StepAsked → Type 0
 IsMissing history None = ⊥
 IsMissing history (Some step) = StandsNoStep history step.p step.k
 
--- the text is the picture of the run that the script leaves, in which what led to the step is in full
+-- the text is the picture of the run, in which what led to the step is in full
+abbrev pub IsPictureFor : (Parts → Rules) → RunView → Option StepAsked → List ℕ → Type 0
+IsPictureFor rules run step text =
+    (place : Option ℕ) × IsPlaceFor run.history step place × IsPicture rules run place text
+
+-- the text is the picture of the run that the script leaves
 abbrev pub Draws : (Parts → Rules) → List ℕ → Option StepAsked → Option (List ℕ) → Option (List ℕ) → List ℕ → Type 0
 Draws rules json step old new text =
-    (run : RunView) × Leaves rules json old new run
-    × ((place : Option ℕ) × IsPlaceFor run.history step place × IsPicture rules run place text)
+    (run : RunView) × Leaves rules json old new run × IsPictureFor rules run step text
 
 -- the step does not stand in the run that the script leaves; else as a fault of a play
 abbrev pub IsFaultOfDraw : ExplainFault → (Parts → Rules) → List ℕ → Option StepAsked → Option (List ℕ) → Option (List ℕ) → Type 0

@@ -1,7 +1,8 @@
 //! A script is carried out without its replies, and the run that it leaves is drawn.
 
 ghost use Rattle.std.specs.Prelude.{◌≡◌, ◌<◌, ◌≤◌, length, Err, IfErr, IfOk, IfSome};
-ghost use Rattle.cdb_draw.specs.Drawn.{Draws, DrawWrites, IsFaultOfDraw, IsMissing, IsPlaceFor};
+ghost use Rattle.cdb_draw.specs.Drawn.{Draws, DrawWrites, IsFaultOfDraw, IsMissing, IsPictureFor, IsPlaceFor};
+ghost use Rattle.cdb_draw.specs.StepFaults.{IsFaultOfDrawing};
 ghost use Rattle.cdb_explain.specs.declared.fault.ExplainFault.TheVariants.{NoStep as no_step, Play as of_play};
 ghost use Rattle.cdb_play.specs.Left.{run_of};
 ghost use Rattle.cdb_play.specs.Streams.{FailsWhere};
@@ -51,6 +52,24 @@ fn place_for(history: &History, step: Option<StepAsked>) -> Result<Option<usize>
     }
 }
 
+/// Writes the picture of the run that a control has come to. The step is looked for before anything is written.
+fn write_drawing<W: Sink>(
+    alloc: Global,
+    control: &Control<RunOfSetup>,
+    step: Option<StepAsked>,
+    out: &mut W,
+) -> Result<(), ExplainFault>
+    ensures wrote { DrawWrites W.contents W.failures result out.old out.new
+        (IsPictureFor rules (run_of rules control.now) step) }
+    ensures fault { IfErr result (λ fault.
+        IsFaultOfDrawing fault (run_of rules control.now).history step) }
+{
+    let run = run_of(control);
+    let place = place_for(run.any().history(), step)?;
+    draw_run(alloc, run, place, out)?;
+    Ok(())
+}
+
 /// Draws the run that a script leaves, and writes the picture as SVG. With a step what led to it is drawn in full and
 /// the rest pale; without one everything is in full.
 ///
@@ -74,8 +93,5 @@ pub fn draw<R: Source, W: Sink>(
     ensures read { FailsWhere R.failures (result ≡ Err (of_play play.Read)) script.old script.new }
 {
     let control = left_by(alloc, setup, script)?;
-    let run = run_of(&control);
-    let place = place_for(run.any().history(), step)?;
-    draw_run(alloc, run, place, out)?;
-    Ok(())
+    write_drawing(alloc, &control, step, out)
 }

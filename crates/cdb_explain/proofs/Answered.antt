@@ -1,17 +1,24 @@
 -- A step that was asked for, and what was answered.
-use Rattle.std.proofs.Common.{◌≡◌, ◌∙◌, ℕ, List, Option, Some, Result, Ok, Err, ap, subst}
-use Rattle.std.specs.Prelude.{MatchOption}
+use Rattle.std.proofs.Common.{◌≡◌, ◌∙◌, ℕ, List, Option, Some, Result, Ok, Err, ap, sym, subst}
+use Rattle.std.specs.Prelude.{MatchOption, IfErr}
+use Rattle.cdb_base.specs.declared.event.Event.{Event}
 use Rattle.cdb_control.specs.Journal.{Journaled, state_in}
 use Rattle.cdb_play.specs.Faults.{IsFaultOfPlay, IsSetup, of_output}
-use Rattle.cdb_play.specs.Left.{run_of}
+use Rattle.cdb_play.specs.Left.{Leaves, run_of}
+use Rattle.cdb_play.specs.Whole.{WritesWhole}
 use Rattle.cdb_play.specs.declared.buffer.OutputFault.{OutputFault}
 use Rattle.cdb_play.specs.declared.buffer.OutputFault.TheVariants as output
+use Rattle.cdb_play.specs.declared.fault.PlayFault.{PlayFault}
 use Rattle.cdb_play.specs.declared.fault.PlayFault.TheVariants as play
 use Rattle.cdb_explain.specs.declared.fault.ExplainFault.{ExplainFault}
-use Rattle.cdb_explain.specs.declared.fault.ExplainFault.TheVariants.{Play}
+use Rattle.cdb_explain.specs.declared.fault.ExplainFault.TheVariants.{NoStep, Play}
+use Rattle.cdb_explain.specs.Explained.{ExplainWrites, IsFaultOfExplain}
+use Rattle.cdb_explain.specs.StepFaults.{IsFaultOfStep}
 use Rattle.cdb_setup.specs.declared.fault.SetupFault.{SetupFault}
 use Rattle.cdb_run.specs.Algorithms.{rules}
 use Rattle.cdb_run.specs.Current.{RunView}
+use Rattle.cdb_run.specs.Rules.{Rules}
+use Rattle.cdb_setup.specs.Parts.{Parts}
 
 pub no_memory_as_err : {A : Type 0} (why : OutputFault) → why ≡ output.NoMemory → (let result : Result A OutputFault = Err why in result) ≡ Err output.NoMemory
 no_memory_as_err why same = ap (λ (f : OutputFault). Err f) same
@@ -22,24 +29,50 @@ same_run run control setup history =
     ap (λ s. let view : RunView = record { setup = s; history = run.history } in view) setup
     ∙ ap (λ h. let view : RunView = record { setup = control.setup; history = h } in view) history
 
--- ---- after the writer failed
+-- ---- the step of the run that a script left
 
 pub output_fault : (why : OutputFault) (json : List ℕ) (old new : Option (List ℕ)) → IsSetup json → IsFaultOfPlay (of_output why) json old new
 output_fault output.Write json old new setup = setup
 output_fault output.NoMemory json old new setup = tt
 
-pub output_is_no_setup : (result : Result (Unit {0}) ExplainFault) (made : ExplainFault) (why : OutputFault) (fault : SetupFault) → result ≡ Err made → made ≡ Play (of_output why)
-    → result ≡ Err (Play (play.Setup fault)) → ⊥
-output_is_no_setup result made output.Write fault a b c = cc
-output_is_no_setup result made output.NoMemory fault a b c = cc
+pub fault_left : (rules : Parts → Rules) (json : List ℕ) (p : ℕ) (k : Option ℕ) (old new : Option (List ℕ)) (run : RunView) → Leaves rules json old new run
+    → (result : Result (Unit {0}) ExplainFault) → IfErr result (λ fault. IsFaultOfStep fault run.history p k) → IfErr result (λ fault. IsFaultOfExplain fault rules json p k old new)
+fault_left rules json p k old new run left (Ok done) none = tt
+fault_left rules json p k old new run left (Err NoStep) none = (run, left, none)
+fault_left rules json p k old new run left (Err (Play fault)) (why, is) =
+    subst (λ (f : PlayFault). IsFaultOfPlay f json old new) (sym is) (output_fault why json old new (left.2.setup, left.2.stands))
 
-pub output_reads_none : (result : Result (Unit {0}) ExplainFault) (made : ExplainFault) (why : OutputFault) → result ≡ Err made → made ≡ Play (of_output why)
-    → result ≡ Err (Play play.Read) → ⊥
-output_reads_none result made output.Write a b c = cc
-output_reads_none result made output.NoMemory a b c = cc
+-- what is said of a fault after the run stood: it is none of reading
+pub is_no_setup : (result : Result (Unit {0}) ExplainFault) (history : List Event) (p : ℕ) (k : Option ℕ) (fault : SetupFault) → IfErr result (λ f. IsFaultOfStep f history p k)
+    → result ≡ Err (Play (play.Setup fault)) → ⊥
+is_no_setup (Ok done) history p k fault is same = cc
+is_no_setup (Err NoStep) history p k fault is same = cc
+is_no_setup (Err (Play made)) history p k fault (output.Write, is) same = cc
+is_no_setup (Err (Play made)) history p k fault (output.NoMemory, is) same = cc
+
+pub reads_none : (result : Result (Unit {0}) ExplainFault) (history : List Event) (p : ℕ) (k : Option ℕ) → IfErr result (λ f. IsFaultOfStep f history p k) → result ≡ Err (Play play.Read) → ⊥
+reads_none (Ok done) history p k is same = cc
+reads_none (Err NoStep) history p k is same = cc
+reads_none (Err (Play made)) history p k (output.Write, is) same = cc
+reads_none (Err (Play made)) history p k (output.NoMemory, is) same = cc
 
 pub no_err : {A E : Type 0} (value : A) (error : E) → (let result : Result A E = Ok value in result) ≡ Err error → ⊥
 no_err value error same = cc
+
+module _ {W : Type 0} (contents : W → Option (List ℕ)) (failures : W → ℕ) (A : Type 0) (P Q : List ℕ → Type 0) (is : (text : List ℕ) → P text → Q text) where
+  -- a text of this kind is one of that
+  whole_of_kind : (fault : PlayFault) (old new : W) → WritesWhole contents failures {A = A} (Err fault) old new P → WritesWhole contents failures {A = A} (Err fault) old new Q
+  whole_of_kind play.Write old new (text, p, fails) = (text, is text p, fails)
+  whole_of_kind (play.Setup fault) old new same = same
+  whole_of_kind (play.Line number line fault) old new same = same
+  whole_of_kind (play.ScriptTooLong number) old new same = same
+  whole_of_kind play.Read old new same = same
+  whole_of_kind play.NoMemory old new same = same
+
+  pub writes_of_kind : (result : Result A ExplainFault) (old new : W) → ExplainWrites contents failures {A = A} result old new P → ExplainWrites contents failures {A = A} result old new Q
+  writes_of_kind (Ok done) old new (text, p, takes) = (text, is text p, takes)
+  writes_of_kind (Err NoStep) old new same = same
+  writes_of_kind (Err (Play fault)) old new wrote = whole_of_kind fault old new wrote
 
 module _ {A : Type 0} (answer : Option A) (P : Type 0) (Q : A → Type 0) where
   pub answered_some : (text : A) → answer ≡ Some text → MatchOption answer P Q → Q text

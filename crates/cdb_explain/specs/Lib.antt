@@ -4,3 +4,5 @@ pub mod Marked
 pub mod Explanations
 pub mod Explained
 pub mod FaultTexts
+-- ---- what the code keeps for itself
+pub mod StepFaults

@@ -2,6 +2,8 @@
 
 ghost use Rattle.std.specs.Prelude.{◌≡◌, Err, IfErr};
 ghost use Rattle.cdb_explain.specs.Explained.{Explains, ExplainWrites, IsFaultOfExplain};
+ghost use Rattle.cdb_explain.specs.Explanations.{IsStepExplained};
+ghost use Rattle.cdb_explain.specs.StepFaults.{IsFaultOfStep};
 ghost use Rattle.cdb_explain.specs.declared.fault.ExplainFault.TheVariants.{Play as of_play};
 ghost use Rattle.cdb_play.specs.Streams.{FailsWhere};
 ghost use Rattle.cdb_play.specs.declared.fault.PlayFault.TheVariants as play;
@@ -10,8 +12,29 @@ ghost use Rattle.cdb_setup.specs.declared.fault.SetupFault.{SetupFault as SetupF
 
 use crate::fault::ExplainFault;
 use crate::step::explain_step;
+use cdb_control::RunOfSetup;
 use cdb_play::{Sink, Source, left_by, write_text};
 use std::alloc::Global;
+
+/// Writes the explanation of a step of this run, which is whole before any of it is written. `NoStep` where no such step
+/// stands.
+fn write_explanation<W: Sink>(
+    alloc: Global,
+    run: &RunOfSetup,
+    p: u32,
+    k: Option<u32>,
+    out: &mut W,
+) -> Result<(), ExplainFault>
+    ensures wrote { ExplainWrites W.contents W.failures result out.old out.new
+        (IsStepExplained rules run.now p k) }
+    ensures fault { IfErr result (λ fault. IsFaultOfStep fault run.now.history p k) }
+{
+    let Some(text) = explain_step(alloc, run, p, k)? else {
+        return Err(ExplainFault::NoStep);
+    };
+    write_text(alloc, text.as_slice(), out)?;
+    Ok(())
+}
 
 /// Explains a step of the run that a script leaves, and writes the explanation: of the `k`-th standing step of
 /// process `p`; without `k` of its last one.
@@ -37,11 +60,5 @@ pub fn explain<R: Source, W: Sink>(
     ensures read { FailsWhere R.failures (result ≡ Err (of_play play.Read)) script.old script.new }
 {
     let control = left_by(alloc, setup, script)?;
-    let run = control.run();
-    let answer = explain_step(alloc, run, p, k)?;
-    let Some(text) = answer else {
-        return Err(ExplainFault::NoStep);
-    };
-    write_text(alloc, text.as_slice(), out)?;
-    Ok(())
+    write_explanation(alloc, control.run(), p, k, out)
 }

@@ -19,6 +19,3 @@ pub use lines::explanation;
 pub use past::past_of;
 pub use replay::{fresh, take_next};
 pub use step::explain_step;
-
-#[cfg(test)]
-mod tests;

@@ -24,7 +24,7 @@ setup_failed json setup.NoMemory is = tt
 
 pub threads_failed : (json : List ℕ) (why : RaceFault) → IsFaultOfThreads why → IsFaultOfHall json why
 threads_failed json fault.NoMemory is = is
-threads_failed json fault.Spawn is = is
+threads_failed json (fault.Spawn refused) is = is
 threads_failed json (fault.Setup why) is = absurd is
 threads_failed json (fault.Line script line why) is = absurd is
 threads_failed json (fault.ScriptTooLong script) is = absurd is

@@ -30,7 +30,7 @@ pub record Holds {T O E : Type 0} (known : T → Known) (contents : O → Option
 -- the faults of memory and threads
 abbrev pub IsFaultOfThreads : RaceFault → Type 0
 IsFaultOfThreads fault.NoMemory = Unit {0}
-IsFaultOfThreads fault.Spawn = Unit {0}
+IsFaultOfThreads (fault.Spawn refused) = Unit {0}
 IsFaultOfThreads other = ⊥
 
 -- those, and the setup's first fault

@@ -19,7 +19,7 @@ fn of_hall(fault: HallFault) -> RaceFault
 {
     match fault {
         HallFault::NoMemory => RaceFault::NoMemory,
-        HallFault::Spawn => RaceFault::Spawn,
+        HallFault::Spawn(refused) => RaceFault::Spawn(refused),
     }
 }
 

@@ -9,6 +9,7 @@ use crate::place::{Attended, Place};
 use crate::worker::{Left, SeatPromise, attend};
 use cdb_control::{Control, RunOfSetup};
 use cdb_debug::Talk;
+use cdb_race::{RefusedStart, start};
 use cdb_setup::Setup;
 use cdb_shared::{Seat, Shared};
 use std::alloc::Global;
@@ -22,7 +23,7 @@ use std::thread::{PromisedHandle, Scope, Threads};
 pub enum HallFault {
     NoMemory,
     /// The start of a thread was refused.
-    Spawn,
+    Spawn(RefusedStart),
 }
 
 /// Starts a thread for one seat.
@@ -41,14 +42,15 @@ fn start_one<'s, E, T: Talk + Drop + Send + 's, R: Threads + Wait + Sync>(
         seat: Snapshot::of(&seat),
         place: Snapshot::of(&place),
     };
-    let started = scope.spawn_with(
+    let started = start(
+        scope,
         promise,
         move || -> Left<T>
             requires { IsReady shared.now seat }
             ensures { HasAttended T.known seat place result }
         { attend(shared, rt, alloc, seat, place) },
     );
-    started.map_err(|_| HallFault::Spawn)
+    started.map_err(HallFault::Spawn)
 }
 
 /// Starts a thread for each seat, the last seat's first.

@@ -42,7 +42,7 @@ module _ {W : Type 0} (contents : W → Option (List ℕ)) (failures : W → ℕ
   pub race_unwritten_threads : (out : W) (fault : ThreadFault) → RaceWrites contents failures {A = A} (Err (race_fault_of_threads fault)) out out IsText
   race_unwritten_threads out threads.NoMemory = inl refl
   race_unwritten_threads out threads.JournalFull = refl
-  race_unwritten_threads out threads.Spawn = refl
+  race_unwritten_threads out (threads.Spawn refused) = refl
   race_unwritten_threads out (threads.Stopped seat) = refl
 
   pub race_unwritten_scripts : (out : W) (fault : RaceFault) (scripts : List (List ℕ)) → IsFaultOfScripts fault scripts → RaceWrites contents failures {A = A} (Err fault) out out IsText
@@ -71,7 +71,7 @@ module _ {W : Type 0} (contents : W → Option (List ℕ)) (failures : W → ℕ
   race_writes_weaker (Err (Line place line fault)) old new Other weaker wrote = wrote
   race_writes_weaker (Err (ScriptTooLong place)) old new Other weaker wrote = wrote
   race_writes_weaker (Err JournalFull) old new Other weaker wrote = wrote
-  race_writes_weaker (Err Spawn) old new Other weaker wrote = wrote
+  race_writes_weaker (Err (Spawn refused)) old new Other weaker wrote = wrote
   race_writes_weaker (Err (Stopped seat)) old new Other weaker wrote = wrote
 
   pub play_writes_weaker : (outcome : Result A PlayFault) (old new : W) (Other : List ℕ → Type 0) → ((text : List ℕ) → IsText text → Other text) → PlayWrites contents failures outcome old new IsText → PlayWrites contents failures outcome old new Other

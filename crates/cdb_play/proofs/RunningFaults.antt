@@ -19,7 +19,7 @@ use Rattle.cdb_play.specs.declared.fault.RaceFault.TheVariants.{Setup, Line, Scr
 pub of_threads : (seats : ℕ) (fault : ThreadFault) → IsAmongSeats seats fault → IsFaultOfRunning seats (race_fault_of_threads fault)
 of_threads seats threads.NoMemory is = tt
 of_threads seats threads.JournalFull is = tt
-of_threads seats threads.Spawn is = tt
+of_threads seats (threads.Spawn refused) is = tt
 of_threads seats (threads.Stopped seat) is = is
 
 -- nor is one of the output another
@@ -42,7 +42,7 @@ on_setup setup commands scripts read (ScriptTooLong place) is = absurd is
 on_setup setup commands scripts read Write is = (commands, read)
 on_setup setup commands scripts read NoMemory is = tt
 on_setup setup commands scripts read JournalFull is = (commands, read)
-on_setup setup commands scripts read Spawn is = (commands, read)
+on_setup setup commands scripts read (Spawn refused) is = (commands, read)
 on_setup setup commands scripts read (Stopped seat) is = let many = so_many commands scripts read in ((commands, read), (is.0, omega (arith, is.1, many)))
 
 -- so do those of reading them
@@ -60,7 +60,7 @@ of_race json setup scripts stands (Line place line fault) is = (setup, stands, i
 of_race json setup scripts stands (ScriptTooLong place) is = (setup, stands, is)
 of_race json setup scripts stands Write is = (setup, stands, is)
 of_race json setup scripts stands JournalFull is = (setup, stands, is)
-of_race json setup scripts stands Spawn is = (setup, stands, is)
+of_race json setup scripts stands (Spawn refused) is = (setup, stands, is)
 of_race json setup scripts stands (Stopped seat) is = (setup, stands, is)
 
 -- a fault of the setup is its first one, or an allocation failed

@@ -28,7 +28,7 @@ both (Err e) P Q R f p q = f e p q
 pub not_of_threads : (fault : ThreadFault) → of_threads.IsNotStopped fault → IsNotStopped (race_fault_of_threads fault)
 not_of_threads threads.NoMemory is = tt
 not_of_threads threads.JournalFull is = tt
-not_of_threads threads.Spawn is = tt
+not_of_threads (threads.Spawn refused) is = tt
 not_of_threads (threads.Stopped seat) is = is
 
 pub not_of_writing : (fault : OutputFault) → IsNotStopped (race_fault_of_output fault)
@@ -51,7 +51,7 @@ module _ {G : Type 0} (heard : G → Option (List Heard)) (passes : G → Bool) 
   pub told_of_threads : (setup : Parts) (commands : List (List Command)) (fault : ThreadFault) → (fault ≡ threads.JournalFull → MayFill setup turns commands) → IsTold heard passes setup turns commands gates fault
       → IsToldOfCommands heard passes setup turns commands gates (race_fault_of_threads fault)
   told_of_threads setup commands threads.NoMemory most is = tt
-  told_of_threads setup commands threads.Spawn most is = tt
+  told_of_threads setup commands (threads.Spawn refused) most is = tt
   told_of_threads setup commands threads.JournalFull most (inl none) = absurd none
   told_of_threads setup commands threads.JournalFull most (inr it) = (most refl, it)
   told_of_threads setup commands (threads.Stopped seat) most (inl none) = absurd none
@@ -76,7 +76,7 @@ module _ {G : Type 0} (heard : G → Option (List Heard)) (passes : G → Bool) 
   told_on_setup setup commands scripts read (ScriptTooLong place) is = tt
   told_on_setup setup commands scripts read Write is = tt
   told_on_setup setup commands scripts read NoMemory is = tt
-  told_on_setup setup commands scripts read Spawn is = tt
+  told_on_setup setup commands scripts read (Spawn refused) is = tt
 
   pub told_of_race : (json : List ℕ) (setup : Parts) (scripts : List (List ℕ)) → StandsFor json setup → (fault : RaceFault)
       → IsToldOnSetup heard passes setup turns scripts gates fault → IsToldOfRace heard passes json turns scripts gates fault
@@ -87,7 +87,7 @@ module _ {G : Type 0} (heard : G → Option (List Heard)) (passes : G → Bool) 
   told_of_race json setup scripts stands (ScriptTooLong place) is = tt
   told_of_race json setup scripts stands Write is = tt
   told_of_race json setup scripts stands NoMemory is = tt
-  told_of_race json setup scripts stands Spawn is = tt
+  told_of_race json setup scripts stands (Spawn refused) is = tt
 
   pub told_of_setup : (json : List ℕ) (scripts : List (List ℕ)) (fault : SetupFault) → IsToldOfRace heard passes json turns scripts gates (race_fault_of_setup fault)
   told_of_setup json scripts setup.NoMemory = tt
@@ -103,7 +103,7 @@ module _ {G : Type 0} (heard : G → Option (List Heard)) (passes : G → Bool) 
   unstopped_on_setup setup commands scripts read (ScriptTooLong place) is none = tt
   unstopped_on_setup setup commands scripts read Write is none = tt
   unstopped_on_setup setup commands scripts read NoMemory is none = tt
-  unstopped_on_setup setup commands scripts read Spawn is none = tt
+  unstopped_on_setup setup commands scripts read (Spawn refused) is none = tt
 
 pub unstopped_of_reading : (setup : Parts) (turns : ℕ) (scripts : List (List ℕ)) (fault : RaceFault) → IsFaultOfScripts fault scripts → IsUnstoppedOnSetup setup turns scripts fault
 unstopped_of_reading setup turns scripts (Line place line fault) is = tt
@@ -120,7 +120,7 @@ unstopped_of_race json setup turns scripts stands (Line place line fault) is = t
 unstopped_of_race json setup turns scripts stands (ScriptTooLong place) is = tt
 unstopped_of_race json setup turns scripts stands Write is = tt
 unstopped_of_race json setup turns scripts stands NoMemory is = tt
-unstopped_of_race json setup turns scripts stands Spawn is = tt
+unstopped_of_race json setup turns scripts stands (Spawn refused) is = tt
 
 pub unstopped_of_setup : (json : List ℕ) (turns : ℕ) (scripts : List (List ℕ)) (fault : SetupFault) → IsUnstoppedOfRace json turns scripts (race_fault_of_setup fault)
 unstopped_of_setup json turns scripts setup.NoMemory = tt

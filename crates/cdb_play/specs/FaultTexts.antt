@@ -32,7 +32,7 @@ race_fault_text (race.ScriptTooLong script) = too_long_text script
 race_fault_text race.Write = codes "output failed"
 race_fault_text race.NoMemory = codes "no memory"
 race_fault_text race.JournalFull = codes "journal full"
-race_fault_text race.Spawn = codes "no thread"
+race_fault_text (race.Spawn refused) = codes "no thread"
 race_fault_text (race.Stopped seat) = codes "no thread"
 
 -- where a text is reported it is a line, which ends with byte 10

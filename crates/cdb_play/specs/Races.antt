@@ -117,7 +117,7 @@ race_fault_of_script place script.NoMemory = NoMemory
 abbrev pub race_fault_of_threads : ThreadFault → RaceFault
 race_fault_of_threads threads.NoMemory = NoMemory
 race_fault_of_threads threads.JournalFull = JournalFull
-race_fault_of_threads threads.Spawn = Spawn
+race_fault_of_threads (threads.Spawn refused) = Spawn refused
 race_fault_of_threads (threads.Stopped seat) = Stopped seat
 
 abbrev pub race_fault_of_output : OutputFault → RaceFault
@@ -133,7 +133,7 @@ IsFaultOnSetup (Setup fault) setup scripts = ⊥
 IsFaultOnSetup (Line place line fault) setup scripts = IsFirstBad place (script.Line line fault) scripts
 IsFaultOnSetup (ScriptTooLong place) setup scripts = IsFirstBad place script.TooLong scripts
 IsFaultOnSetup JournalFull setup scripts = AreAllRead scripts
-IsFaultOnSetup Spawn setup scripts = AreAllRead scripts
+IsFaultOnSetup (Spawn refused) setup scripts = AreAllRead scripts
 IsFaultOnSetup (Stopped seat) setup scripts = AreAllRead scripts × IsWithin 1 (setup.processes + length scripts) seat
 IsFaultOnSetup Write setup scripts = AreAllRead scripts
 IsFaultOnSetup NoMemory setup scripts = Unit {0}

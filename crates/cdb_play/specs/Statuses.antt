@@ -20,5 +20,5 @@ race_status (race.ScriptTooLong script) = 5
 race_status race.NoMemory = 6
 race_status race.Write = 7
 race_status race.JournalFull = 8
-race_status race.Spawn = 9
+race_status (race.Spawn refused) = 9
 race_status (race.Stopped seat) = 9

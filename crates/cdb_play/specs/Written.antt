@@ -41,7 +41,7 @@ module _ {W : Type 0} (contents : W → Option (List ℕ)) (failures : W → ℕ
   RaceWrites (Err (race.Line script line fault)) old new IsText = new ≡ old
   RaceWrites (Err (race.ScriptTooLong script)) old new IsText = new ≡ old
   RaceWrites (Err race.JournalFull) old new IsText = new ≡ old
-  RaceWrites (Err race.Spawn) old new IsText = new ≡ old
+  RaceWrites (Err (race.Spawn refused)) old new IsText = new ≡ old
   RaceWrites (Err (race.Stopped seat)) old new IsText = new ≡ old
 
   -- where the race ended well, the last line that the writer took says that the decisions agree

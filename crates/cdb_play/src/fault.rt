@@ -7,6 +7,7 @@ use crate::buffer::OutputFault;
 use crate::script::ScriptFault;
 use crate::source::ReadFault;
 use cdb_base::NoMemory;
+use cdb_race::RefusedStart;
 use cdb_setup::SetupFault;
 use cdb_text::LineFault;
 use std::error::Error;
@@ -43,7 +44,7 @@ pub enum RaceFault {
     /// The journal took no further entry.
     JournalFull,
     /// The start of a thread was refused.
-    Spawn,
+    Spawn(RefusedStart),
     /// The gate of this seat stopped its calls.
     Stopped(u8),
 }
@@ -85,7 +86,7 @@ impl fmt::Display for RaceFault {
             RaceFault::Write => f.write_str("output failed"),
             RaceFault::NoMemory => f.write_str("no memory"),
             RaceFault::JournalFull => f.write_str("journal full"),
-            RaceFault::Spawn | RaceFault::Stopped(_) => f.write_str("no thread"),
+            RaceFault::Spawn(_) | RaceFault::Stopped(_) => f.write_str("no thread"),
         }
     }
 }

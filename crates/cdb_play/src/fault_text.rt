@@ -133,6 +133,6 @@ pub fn write_race_fault<W: Sink>(fault: &RaceFault, err: &mut W) -> Result<(), F
         RaceFault::Write => write_each(err, &[Text(OUTPUT_FAILED), END]),
         RaceFault::NoMemory => write_each(err, &[Text(NO_MEMORY), END]),
         RaceFault::JournalFull => write_each(err, &[Text("journal full"), END]),
-        RaceFault::Spawn | RaceFault::Stopped(_) => write_each(err, &[Text("no thread"), END]),
+        RaceFault::Spawn(_) | RaceFault::Stopped(_) => write_each(err, &[Text("no thread"), END]),
     }
 }

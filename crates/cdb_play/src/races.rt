@@ -74,7 +74,7 @@ impl From<ThreadFault> for RaceFault {
         match fault {
             ThreadFault::NoMemory => RaceFault::NoMemory,
             ThreadFault::JournalFull => RaceFault::JournalFull,
-            ThreadFault::Spawn => RaceFault::Spawn,
+            ThreadFault::Spawn(refused) => RaceFault::Spawn(refused),
             ThreadFault::Stopped(seat) => RaceFault::Stopped(seat),
         }
     }

@@ -30,7 +30,7 @@ pub fn race_status_of(fault: &RaceFault) -> u8
         RaceFault::NoMemory => 6,
         RaceFault::Write => 7,
         RaceFault::JournalFull => 8,
-        RaceFault::Spawn | RaceFault::Stopped(_) => 9,
+        RaceFault::Spawn(_) | RaceFault::Stopped(_) => 9,
     }
 }
 

@@ -35,7 +35,7 @@ module _ {W : Type 0} (held : W → Option (List ℕ)) (failed : W → ℕ) (IsT
   race_wrote (Err (race.Line script line fault)) old new same = ap (stream_of held failed) same
   race_wrote (Err (race.ScriptTooLong script)) old new same = ap (stream_of held failed) same
   race_wrote (Err race.JournalFull) old new same = ap (stream_of held failed) same
-  race_wrote (Err race.Spawn) old new same = ap (stream_of held failed) same
+  race_wrote (Err (race.Spawn refused)) old new same = ap (stream_of held failed) same
   race_wrote (Err (race.Stopped seat)) old new same = ap (stream_of held failed) same
 
 -- what a play says of its reader and its writer

@@ -66,13 +66,13 @@ not_stopped : (why : RaceFault) → ((seat : ℕ) → why ≡ fault.Stopped seat
 not_stopped (fault.Stopped seat) never = never seat refl
 not_stopped fault.NoMemory never = tt
 not_stopped fault.JournalFull never = tt
-not_stopped fault.Spawn never = tt
+not_stopped (fault.Spawn refused) never = tt
 
 not_of_threads : (why : RaceFault) → IsFaultOfThreads why → IsNotStopped why
 not_of_threads (fault.Stopped seat) it = it
 not_of_threads fault.NoMemory it = tt
 not_of_threads fault.JournalFull it = tt
-not_of_threads fault.Spawn it = tt
+not_of_threads (fault.Spawn refused) it = tt
 
 pub told_passes : {G : Type 0} (heard : G → Option (List Heard)) (passes : G → Bool) (setup : Parts) (turns : ℕ) (scripts : List (List Command)) (gates : List G) (why : RaceFault) → length gates ≡ setup.processes + length scripts
     → IsTold heard passes setup turns scripts gates why → AllPass passes gates → IsNotStopped why

@@ -6,5 +6,5 @@ use Rattle.cdb_race.specs.declared.threads.RaceFault.TheVariants as fault
 abbrev pub fault_text : RaceFault → List ℕ
 fault_text fault.NoMemory = codes "no memory"
 fault_text fault.JournalFull = codes "journal full"
-fault_text fault.Spawn = codes "no thread"
+fault_text (fault.Spawn refused) = codes "no thread"
 fault_text (fault.Stopped seat) = codes "no thread"

@@ -61,7 +61,7 @@ IsNotStopped other = Unit {0}
 -- the faults of starting the threads and of joining them
 abbrev pub IsFaultOfThreads : RaceFault → Type 0
 IsFaultOfThreads fault.NoMemory = Unit {0}
-IsFaultOfThreads fault.Spawn = Unit {0}
+IsFaultOfThreads (fault.Spawn refused) = Unit {0}
 IsFaultOfThreads other = ⊥
 
 -- the seats of a control in which nothing has happened

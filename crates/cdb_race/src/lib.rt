@@ -8,8 +8,10 @@
 #![tactic(auto)]
 
 mod plan;
+mod start;
 mod threads;
 mod worker;
 
 pub use plan::Script;
+pub use start::{RefusedStart, start};
 pub use threads::{RaceFault, Raced, race};

@@ -7,6 +7,7 @@ ghost use Rattle.cdb_race.specs.Races.{AllRan, AllEnded, AllPass, AreSeatsOf, Fi
 ghost use Rattle.cdb_shared.specs.Seats.{HasHeadline};
 
 use crate::plan::{Plan, Script};
+use crate::start::{RefusedStart, start};
 use crate::worker::{Ran, SeatPromise, run};
 use cdb_control::{Control, Reply, RunOfSetup};
 use cdb_setup::Setup;
@@ -24,7 +25,7 @@ pub enum RaceFault {
     NoMemory,
     JournalFull,
     /// The start of a thread was refused.
-    Spawn,
+    Spawn(RefusedStart),
     /// The gate of this seat stopped its session.
     Stopped(u8),
 }
@@ -39,7 +40,7 @@ impl fmt::Display for RaceFault {
         f.write_str(match self {
             RaceFault::NoMemory => "no memory",
             RaceFault::JournalFull => "journal full",
-            RaceFault::Spawn | RaceFault::Stopped(_) => "no thread",
+            RaceFault::Spawn(_) | RaceFault::Stopped(_) => "no thread",
         })
     }
 }
@@ -65,7 +66,8 @@ fn start_one<'s, E, G: Gate + Drop + Send + 's, R: Threads + Wait + Sync>(
         seat: Snapshot::of(&seat),
         gate: Snapshot::of(&gate),
     };
-    let started = scope.spawn_with(
+    let started = start(
+        scope,
         promise,
         move || -> Ran
             requires { IsReady shared.now plan seat }
@@ -73,7 +75,7 @@ fn start_one<'s, E, G: Gate + Drop + Send + 's, R: Threads + Wait + Sync>(
             ensures ended { HasEnded G.heard G.passes gate seat result.seat result.end }
         { run(shared, rt, alloc, plan, seat, gate) },
     );
-    started.map_err(|_| RaceFault::Spawn)
+    started.map_err(RaceFault::Spawn)
 }
 
 /// Starts a thread for each seat, the last seat's first.

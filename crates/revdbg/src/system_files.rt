@@ -29,9 +29,13 @@ impl<'a> SystemFiles<'a> {
     }
 }
 
-/// What can be written to under this name, where it is there.
-fn to_write(rt: &HostRuntime, name: &str) -> io::Result<File> {
-    File::options().write(true).open(rt, name)
+/// The terminal of this name, to read from and to write to. What is no terminal is left as it is.
+fn terminal(rt: &HostRuntime, name: &str) -> io::Result<(File, File)> {
+    let input = File::open(rt, name)?;
+    if !input.is_terminal() {
+        return Err(io::Error::from(ErrorKind::InvalidInput));
+    }
+    Ok((input, File::options().write(true).open(rt, name)?))
 }
 
 /// The seat of this name: a terminal device, or `IN:OUT`, a pair of files or pipes, cut at the first colon. Of a pair the
@@ -39,7 +43,7 @@ fn to_write(rt: &HostRuntime, name: &str) -> io::Result<File> {
 fn seat_of(rt: &HostRuntime, name: &str) -> io::Result<Place<Talk>> {
     let (input, output) = match name.split_once(':') {
         Some((input, output)) => (File::open(rt, input)?, File::create(rt, output)?),
-        None => (File::open(rt, name)?, to_write(rt, name)?),
+        None => terminal(rt, name)?,
     };
     let prompt = if input.is_terminal() { PROMPT } else { b"" };
     let talk = Streams::new(Input::new(input), Output::new(output));
@@ -59,7 +63,18 @@ impl<'a> Files for SystemFiles<'a> {
 
     ghost use Rattle.std.specs.Prelude.{[], None};
 
-    ghost seen = { λ files. record { known = []; opened = None; failures = files.failures } };
+    ghost seen = { λ files. record {
+      known = [];
+      opened = None;
+      failures = files.failures;
+      seats = λ _. record {
+        moves = None;
+        left = None;
+        held = None;
+        failed_reads = 0;
+        failed_writes = 0;
+      };
+    } };
 
     fn read(&mut self, alloc: Global, name: &str, most: usize) -> Result<Vec<u8>, ReadFault> {
         let read = match File::open(self.rt, name) {

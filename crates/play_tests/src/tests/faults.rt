@@ -63,7 +63,6 @@ fn faults_of_races(rt: HostRuntime) {
     check_race(&rt, RaceFault::NoMemory, "no memory\n", 6);
     check_race(&rt, RaceFault::Write, "output failed\n", 7);
     check_race(&rt, RaceFault::JournalFull, "journal full\n", 8);
-    check_race(&rt, RaceFault::Spawn, "no thread\n", 9);
     check_race(&rt, RaceFault::Stopped(3), "no thread\n", 9);
 }
 

@@ -120,7 +120,7 @@ fn race_at_last<R: Abort + Threads + Wait + Sync + AllocGlobal>(
     let Err(fault) = race_once(rt, ONE_PROCESS.as_bytes(), scripts, out) else {
         return Ok(());
     };
-    assert!(rt; fault == RaceFault::NoMemory || fault == RaceFault::Spawn);
+    assert!(rt; matches!(fault, RaceFault::NoMemory | RaceFault::Spawn(_)));
     assert_eq!(rt; out.held.len(), 0);
     race_once(rt, ONE_PROCESS.as_bytes(), scripts, out)
 }

@@ -119,7 +119,7 @@ fn a_picture(rt: HostRuntime) -> Result<(), Fail> {
         (0, 0, 2)
     );
     let text = str::from_utf8(ended.output.as_slice())?;
-    // As tools/picture draws it. The texts of worked pictures are in `draw_tests`.
+    // As tools/picture draws it. The texts of worked pictures are in `explain_tests`.
     assert_eq!(rt; text.len(), 3_819);
     assert!(rt; text.starts_with("<svg "));
     assert!(rt; text.contains("<g class='full' transform='translate(108,72)'><title>1.2 send"));

@@ -1,5 +1,7 @@
 //! A reader and a writer over memory, which move few bytes a call, and fail once their good calls are over.
 
+ghost use Rattle.std.specs.Prelude.{◌≡◌, []};
+
 use cdb_play::{Failed, Sink, Source};
 use std::alloc::Global;
 
@@ -83,7 +85,10 @@ pub struct Writer {
 
 impl Writer {
     /// It holds nothing, and this many calls go well.
-    pub fn new(alloc: Global, good_calls: usize) -> Self {
+    pub fn new(alloc: Global, good_calls: usize) -> Self
+        ensures held { result.held.items ≡ [] }
+        ensures failures { result.failures ≡ 0 }
+    {
         Writer {
             held: Vec::new(alloc),
             good_calls,

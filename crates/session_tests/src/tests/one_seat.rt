@@ -1,4 +1,4 @@
-//! Worked sessions, and whom they talk with.
+//! Worked sessions of one seat, and whom they talk with.
 
 mod dialogues;
 mod failures;

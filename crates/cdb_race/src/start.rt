@@ -1,0 +1,28 @@
+//! The start of a thread, and its refusal.
+
+ghost use Rattle.std.specs.Prelude.{◌≡◌, IfOk};
+
+use std::thread::{Promise, PromisedHandle, Scope};
+
+/// The start of a thread was refused. `start` alone makes one, so a fault that holds one comes of a refused start.
+#[derive(Debug, Clone, Copy, PartialEq, Eq)]
+pub struct RefusedStart {
+    /// Private, so that no other module makes one.
+    refused: (),
+}
+
+/// Starts a thread in this scope, whose result keeps the promise. The closure is dropped where the start is refused.
+pub fn start<'s, E, P: Promise<T> + Drop, F: FnOnce() -> T + Send + 's, T: Send + Drop + 's>(
+    scope: &Scope<'s, E>,
+    promise: P,
+    f: F,
+) -> Result<PromisedHandle<T, P>, RefusedStart>
+    requires runs { F.pre f }
+    requires keeps { (r : T) → F.post f r → P.kept_by promise r }
+    ensures { IfOk result (λ handle. handle.promise ≡ promise) }
+{
+    match scope.spawn_with(promise, f) {
+        Ok(handle) => Ok(handle),
+        Err(_) => Err(RefusedStart { refused: () }),
+    }
+}

@@ -1,0 +1,4 @@
+//! Worked runs, explained and drawn.
+
+mod explanations;
+mod pictures;

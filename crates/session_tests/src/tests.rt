@@ -1,0 +1,4 @@
+//! Worked sessions, and whom they talk with.
+
+mod one_seat;
+mod several_seats;
