@@ -8,10 +8,10 @@
 #![tactic(auto)]
 
 mod plan;
-mod start;
+mod starting;
 mod threads;
 mod worker;
 
 pub use plan::Script;
-pub use start::{RefusedStart, start};
+pub use starting::{RefusedStart, start};
 pub use threads::{RaceFault, Raced, race};

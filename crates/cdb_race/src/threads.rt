@@ -7,7 +7,7 @@ ghost use Rattle.cdb_race.specs.Races.{AllRan, AllEnded, AllPass, AreSeatsOf, Fi
 ghost use Rattle.cdb_shared.specs.Seats.{HasHeadline};
 
 use crate::plan::{Plan, Script};
-use crate::start::{RefusedStart, start};
+use crate::starting::{RefusedStart, start};
 use crate::worker::{Ran, SeatPromise, run};
 use cdb_control::{Control, Reply, RunOfSetup};
 use cdb_setup::Setup;

@@ -1,43 +1,29 @@
-use Rattle.std.proofs.Common.{◌∙◌, List, ap, sym, subst}
-use Rattle.std.proofs.lemmas.Result.{err_from_is_err_and}
-use Rattle.cdb_base.specs.declared.event.Event.{Event}
-use Rattle.cdb_explain.proofs.Answered.{no_err, output_fault, output_is_no_setup, output_reads_none}
-use Rattle.cdb_play.specs.Left.{Leaves}
+use Rattle.cdb_play.specs.Left.{run_of}
 use Rattle.cdb_run.specs.Algorithms.{rules}
-use Rattle.cdb_run.specs.Current.{RunView}
-use Rattle.cdb_draw.specs.Drawn.{Draws, IsPlaceFor}
-use Rattle.cdb_draw.specs.Picture.{IsPicture}
-use Rattle.cdb_draw.proofs.Ended.{as_play}
+use Rattle.cdb_explain.proofs.Answered.{no_err}
+use Rattle.cdb_draw.specs.Drawn.{Draws, IsPictureFor}
+use Rattle.cdb_draw.proofs.Ended.{fault_left, writes_of_kind, is_no_setup, reads_none}
 use Rattle.cdb_draw.proofs.script.draw.Goals as goal
 
-pub returns-in_err-draw_run-clause-wrote : goal.returns-in_err-draw_run-clause-wrote
-returns-in_err-draw_run-clause-wrote g c =
-    let p = err_from_is_err_and c.from_residual-in_err-draw_run.result c.from_residual-in_err-draw_run.ensures.1 in
+pub returns-clause-wrote : goal.returns-clause-wrote
+returns-clause-wrote g c =
     let old = g.R.Source.remaining c.args.script.now in
     let new = g.R.Source.remaining c.left_by.new.script in
-    let run : RunView = c.run_of-run.result.now in
-    let place = c.in_ok-place.place in
-    let left = subst (Leaves rules c.args.setup.now old new) (sym c.run_of-run.ensures.is) c.in_ok-control.ensures.left in
-    let events = c.history.ensures.events ∙ ap (λ (r : RunView). r.history) c.any.ensures.run in
-    let at = subst (λ (h : List Event). IsPlaceFor h c.args.step place) events c.in_ok-place.ensures.place in
-    rw (p.1, p.2)
-    (as_play g.W.Sink.contents g.W.Sink.failures (Unit {0}) (Draws rules c.args.setup.now c.args.step old new) c.in_err-draw_run.field-0.0 c.args.out.now c.draw_run.new.out (IsPicture rules run place)
-    (λ text picture. (run, left, (place, at, picture))) c.in_err-draw_run.ensures)
+    let run = run_of rules c.in_ok-control.control in
+    writes_of_kind g.W.Sink.contents g.W.Sink.failures (Unit {0}) (IsPictureFor rules run c.args.step) (Draws rules c.args.setup.now c.args.step old new) (λ text is. (run, c.in_ok-control.ensures.left, is))
+    c.write_drawing.result c.args.out.now c.write_drawing.new.out c.write_drawing.ensures.wrote
 
-pub returns-in_err-draw_run-clause-fault : goal.returns-in_err-draw_run-clause-fault
-returns-in_err-draw_run-clause-fault g c =
-    let p = err_from_is_err_and c.from_residual-in_err-draw_run.result c.from_residual-in_err-draw_run.ensures.1 in
-    let left = c.in_ok-control.ensures.left in
-    rw (p.1, p.2) (output_fault c.in_err-draw_run.field-0.0 c.args.setup.now _ _ (left.2.setup, left.2.stands))
+pub returns-clause-fault : goal.returns-clause-fault
+returns-clause-fault g c =
+    let old = g.R.Source.remaining c.args.script.now in
+    let new = g.R.Source.remaining c.left_by.new.script in
+    fault_left rules c.args.setup.now c.args.step old new (run_of rules c.in_ok-control.control) c.in_ok-control.ensures.left c.write_drawing.result c.write_drawing.ensures.fault
 
-pub returns-in_err-draw_run-clause-unread : goal.returns-in_err-draw_run-clause-unread
-returns-in_err-draw_run-clause-unread g c =
-    let p = err_from_is_err_and c.from_residual-in_err-draw_run.result c.from_residual-in_err-draw_run.ensures.1 in
-    λ fault same. absurd (output_is_no_setup _ p.0 c.in_err-draw_run.field-0.0 fault p.1 p.2 same)
+pub returns-clause-unread : goal.returns-clause-unread
+returns-clause-unread g c = λ fault same. absurd (is_no_setup c.write_drawing.result _ c.args.step fault c.write_drawing.ensures.fault same)
 
-pub returns-in_err-draw_run-clause-read : goal.returns-in_err-draw_run-clause-read
-returns-in_err-draw_run-clause-read g c =
-    let p = err_from_is_err_and c.from_residual-in_err-draw_run.result c.from_residual-in_err-draw_run.ensures.1 in (
-      λ same. absurd (output_reads_none _ p.0 c.in_err-draw_run.field-0.0 p.1 p.2 same),
-      λ _. c.in_ok-control.ensures.read.1 (λ same. absurd (no_err _ _ same)),
-    )
+pub returns-clause-read : goal.returns-clause-read
+returns-clause-read g c = (
+    λ same. absurd (reads_none c.write_drawing.result _ c.args.step c.write_drawing.ensures.fault same),
+    λ _. c.in_ok-control.ensures.read.1 (λ same. absurd (no_err _ _ same)),
+  )
