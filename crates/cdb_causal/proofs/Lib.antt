@@ -24,3 +24,4 @@ pub mod Symmetry
 pub mod Undone
 pub mod Waiting
 pub mod Walks
+pub mod AboveDependents

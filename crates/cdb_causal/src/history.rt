@@ -237,6 +237,15 @@ impl History {
         self.events.place_above(bound)
     }
 
+    /// A place, from 0, above all events that depend on the one at place `i`.
+    pub(crate) fn end_of_dependents(&self, i: usize) -> usize
+        requires { i < length self.now }
+        ensures { (j : ℕ) → IsLink depends_of self.now i j → j < result }
+    {
+        let event = self.events.get(i);
+        self.events.place_above(self.bounds.end_of_dependents(event))
+    }
+
     /// The event at a place, from 1 to the number of events.
     pub fn get(&self, at: usize) -> Event
         requires from_one { 1 ≤ at }
