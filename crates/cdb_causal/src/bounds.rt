@@ -308,13 +308,20 @@ impl Bounds {
         }
     }
 
+    /// The bound of all steps of a process.
+    pub fn end_of_process(&self, p: Proc) -> usize
+        ensures { result ≡ own_bound self.now p }
+    {
+        self.own[p.index()]
+    }
+
     /// The bound of all steps of the event's process.
     pub fn end_of_own(&self, event: &Event) -> usize
         ensures { (p k : ℕ) (kind : AKind) → event.now ≡ Step p k kind →
             result ≡ own_bound self.now p }
     {
         match event {
-            Event::Step { p, .. } => self.own[p.index()],
+            Event::Step { p, .. } => self.end_of_process(*p),
             Event::Lost(_) => 0,
         }
     }

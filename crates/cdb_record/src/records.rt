@@ -195,7 +195,7 @@ fn last_of(history: &History, p: Proc) -> Option<usize>
     ensures { MatchOption result ((i : ℕ) → IsStepOf history.now p i → ⊥)
         (λ at. (1 ≤ at) × IsLastStepOf history.now p (at - 1)) }
 {
-    for i in (0..history.len()).rev() {
+    for i in (0..history.end_of_steps(p)).rev() {
         let event = history.event(i);
         if event.is_step_of(p) {
             return Some(i + 1);
