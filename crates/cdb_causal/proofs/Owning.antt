@@ -1,6 +1,7 @@
 -- The bounds of a process's steps stay right where bounds are raised, an event is added or one is taken out.
-use Rattle.std.proofs.Common.{◌≡◌, ℕ, suc, ◌+◌, ◌-◌, ◌<◌, ◌≤◌, ◌==◌, ⊎_elim, Bool, true, false, if◌then◌else◌, List, [], ◌∷◌, ◌++◌, Some, length, slice_get, slice_index, refl, sym, ap, ◌∙◌, subst, eqb-true, arith}
+use Rattle.std.proofs.Common.{◌≡◌, ℕ, suc, ◌+◌, ◌-◌, ◌<◌, ◌≤◌, ◌==◌, ⊎_elim, Bool, true, false, if◌then◌else◌, List, [], ◌∷◌, ◌++◌, Some, length, slice_get, slice_index, refl, sym, ap, ◌∙◌, subst, true≢false, eqb-true, arith}
 use Rattle.std.proofs.lemmas.Option.{slice_get_within}
+use Rattle.cdb_base.specs.Event.{is_step_of}
 use Rattle.cdb_base.specs.declared.event.Event.{Event}
 use Rattle.cdb_base.specs.declared.event.Event.TheVariants.{Step, Lost}
 use Rattle.cdb_base.specs.declared.event.Kind.{Kind}
@@ -15,6 +16,11 @@ use Rattle.cdb_causal.specs.declared.bounds.Bounds.{Bounds}
 use Rattle.cdb_causal.proofs.Bounding.{place_not_gone}
 use Rattle.cdb_causal.proofs.Counting.{slice_get-without, place_rises}
 use Rattle.cdb_causal.proofs.Lists.{push_cases}
+
+-- a step of the process stands under a mark below the bound of all its steps
+pub own_mark : (bounds : Bounds) (marks : ℕ → ℕ) (history : List Event) → AreOwn bounds marks history → (i p : ℕ) (event : Event) → slice_get history i ≡ Some event → is_step_of p event ≡ true → marks i < own_bound bounds p
+own_mark bounds marks history own i p (Step q k kind) at step = subst (λ n. marks i < own_bound bounds n) (eqb-true q p step) (own.all i q k kind at)
+own_mark bounds marks history own i p (Lost copy) at step = absurd (true≢false (sym step))
 
 pub own_raised : (old new : Bounds) (marks : ℕ → ℕ) (history : List Event) → ((top : ℕ) → AreRaised top old new) → AreOwn old marks history → AreOwn new marks history
 own_raised old new marks history raised own =

@@ -11,6 +11,7 @@ pub mod Reach
 pub mod Rollback
 pub mod Standing
 -- what the code keeps for itself: tests by effect, and the bounds from which events are sought
+pub mod AboveDependents
 pub mod Alone
 pub mod Between
 pub mod Bounds

@@ -11,7 +11,7 @@ ghost use Rattle.cdb_base.specs.declared.event.Kind.{Kind as AKind};
 ghost use Rattle.cdb_base.specs.declared.event.Kind.TheVariants.{Send, Recv, Read, Write};
 ghost use Rattle.cdb_base.specs.declared.name.CopyName.{CopyName as ACopy};
 ghost use Rattle.cdb_causal.specs.Cells.{row, register_cell as register_cell_of, named_cell as named_cell_of, copy_cell as copy_cell_of};
-ghost use Rattle.cdb_causal.specs.Dependence.{accesses as accesses_of, send_and_loss, depends as depends_of};
+ghost use Rattle.cdb_causal.specs.Dependence.{accesses as accesses_of, same_process, send_and_loss, depends as depends_of};
 ghost use Rattle.cdb_causal.specs.Effects.{kind_affects};
 ghost use Rattle.cdb_causal.specs.LastCauses.{IsSlot};
 ghost use Rattle.cdb_causal.specs.Raised.{IsRaised, joined, left};
@@ -156,7 +156,19 @@ fn highest(table: &[usize], register: &Reg) -> usize
     end
 }
 
+/// Whether the slot is that of the event's process.
+fn is_own_slot(event: &Event, slot: usize) -> bool
+    ensures { IsTrue result → (other : AnEvent) → IsSlot other slot →
+        same_process event.now other ≡ true }
+{
+    match event {
+        Event::Step { p, .. } => p.index() == slot,
+        Event::Lost(_) => false,
+    }
+}
+
 impl Bounds {
+    ghost use Rattle.cdb_causal.specs.AboveDependents.{IsAboveInSlot, IsAboveLosses, IsAboveOthers};
     ghost use Rattle.cdb_causal.specs.Between.{IsBetween};
     ghost use Rattle.cdb_causal.specs.Bounds.{IsWithin, IsKindWithin, AreRaised, HasRoom, HasRoomFor};
     ghost use Rattle.cdb_causal.specs.Named.{IsRanged, IsNameForgotten};
@@ -296,13 +308,20 @@ impl Bounds {
         }
     }
 
+    /// The bound of all steps of a process.
+    pub fn end_of_process(&self, p: Proc) -> usize
+        ensures { result ≡ own_bound self.now p }
+    {
+        self.own[p.index()]
+    }
+
     /// The bound of all steps of the event's process.
     pub fn end_of_own(&self, event: &Event) -> usize
         ensures { (p k : ℕ) (kind : AKind) → event.now ≡ Step p k kind →
             result ≡ own_bound self.now p }
     {
         match event {
-            Event::Step { p, .. } => self.own[p.index()],
+            Event::Step { p, .. } => self.end_of_process(*p),
             Event::Lost(_) => 0,
         }
     }
@@ -475,6 +494,65 @@ impl Bounds {
             Event::Step { p, kind, .. } => self.end_for_step(*p, *kind, slot),
             Event::Lost(copy) => self.end_for_loss(copy, slot),
         }
+    }
+
+    /// Above all events in a slot that depend on the event, but for those of its process and for losses of what it
+    /// sends.
+    fn end_in_slot(&self, event: &Event, slot: usize) -> usize
+        requires { slot < 10 }
+        ensures { IsAboveInSlot self.now event.now slot result }
+    {
+        if is_own_slot(event, slot) {
+            return 0;
+        }
+        self.end(event, usize::MAX, slot)
+    }
+
+    /// The same in all slots.
+    fn end_in_slots(&self, event: &Event) -> usize
+        ensures { (slot : ℕ) → slot < 10 → IsAboveInSlot self.now event.now slot result }
+    {
+        let mut end = 0;
+        for slot in 0..10 {
+            end = end.max(self.end_in_slot(event, slot));
+        }
+        end
+    }
+
+    /// Above all losses of copies of the m-th message of process `p`.
+    fn end_of_copies(&self, p: Proc, m: u16) -> usize
+        ensures { (slot : ℕ) → slot < 9 →
+            slice_index self.now.losses.items (copy_cell_of p m slot) ≤ result }
+    {
+        let mut end = 0;
+        for slot in 0..9 {
+            end = end.max(self.end_of_losses(p, m, slot));
+        }
+        end
+    }
+
+    /// Above all losses of copies of what the event sends.
+    fn end_of_lost_copies(&self, event: &Event) -> usize
+        ensures { IsAboveLosses self.now event.now result }
+    {
+        match event {
+            Event::Step {
+                p,
+                kind: Kind::Send(m),
+                ..
+            } => self.end_of_copies(*p, *m),
+            _ => 0,
+        }
+    }
+
+    /// Above all events that depend on the event, its process's own steps among them.
+    pub fn end_of_dependents(&self, event: &Event) -> usize
+        ensures others { IsAboveOthers self.now event.now result }
+        ensures own { (p k : ℕ) (kind : AKind) → event.now ≡ Step p k kind →
+            own_bound self.now p ≤ result }
+    {
+        let others = self.end_in_slots(event).max(self.end_of_lost_copies(event));
+        self.end_of_own(event).max(others)
     }
 
     /// Above all receives by process `p` of the m-th message of process `q`, but for the receive of the

@@ -19,8 +19,8 @@ fn first_linked(history: &History, i: usize) -> Option<StepId>
         (λ name. IsFirstDependent history.now i name) }
 {
     let cause = history.event(i);
-    let count = history.len();
-    for j in i + 1..count {
+    let end = history.len().min(history.end_of_dependents(i));
+    for j in i + 1..end {
         let event = history.event(j);
         if depends(cause, event) {
             return Some(event.name());

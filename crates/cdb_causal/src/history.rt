@@ -1,7 +1,7 @@
 //! The standing events of a run, in the order in which they were taken.
 
 ghost use Rattle.std.specs.Prelude.{◌≡◌, ℕ, ◌-◌, ◌<◌, ◌≤◌, List, [], ◌∷◌, ◌++◌, Some, false, length, slice_get, take, MatchOption, OnOk, OnErr, IfOk, IsTrue, ◌==◌, ◌↔◌};
-ghost use Rattle.cdb_base.specs.Event.{event_name};
+ghost use Rattle.cdb_base.specs.Event.{event_name, is_step_of};
 ghost use Rattle.cdb_base.specs.declared.event.Event.{Event as AnEvent};
 ghost use Rattle.cdb_base.specs.declared.event.Event.TheVariants.{Step};
 ghost use Rattle.cdb_base.specs.declared.event.Kind.{Kind as AKind};
@@ -235,6 +235,24 @@ impl History {
         let effect = self.events.get(j);
         let bound = self.bounds.end_between(cause, effect, ABOVE_ALL);
         self.events.place_above(bound)
+    }
+
+    /// A place, from 0, above all events that depend on the one at place `i`.
+    pub(crate) fn end_of_dependents(&self, i: usize) -> usize
+        requires { i < length self.now }
+        ensures { (j : ℕ) → IsLink depends_of self.now i j → j < result }
+    {
+        let event = self.events.get(i);
+        self.events.place_above(self.bounds.end_of_dependents(event))
+    }
+
+    /// A place, from 0, above all steps of a process.
+    pub fn end_of_steps(&self, p: Proc) -> usize
+        ensures within { result ≤ length self.now }
+        ensures above { (i : ℕ) (event : AnEvent) → slice_get self.now i ≡ Some event →
+            IsTrue (is_step_of p event) → i < result }
+    {
+        self.events.place_above(self.bounds.end_of_process(p))
     }
 
     /// The event at a place, from 1 to the number of events.

@@ -29,5 +29,6 @@ pub returns : goal.returns
 returns c =
     λ j l.
     let within = slice_get_within c.args.history.now j l.effect l.at_effect in
+    let linked = c.end_of_dependents.ensures j l in
     let below : j < c.loop-j.j = omega arith in
     c.loop-j.invariant j below l

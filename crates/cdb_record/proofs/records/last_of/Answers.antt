@@ -7,7 +7,7 @@ use Rattle.cdb_record.specs.Taken.{IsStepOf, IsLastStepOf}
 use Rattle.cdb_record.proofs.records.last_of.Goals as goal
 
 pub loop-i-init : goal.loop-i-init
-loop-i-init c = λ k low step. let within = slice_get_within c.args.history.now k step.0 step.1 in let len = c.len-i.ensures.count in omega (arith, low, within, len)
+loop-i-init c = λ k low step. let below = c.end_of_steps-i.ensures.above k step.0 step.1 step.2 in omega (arith, low, below)
 
 pub loop-i-preserved : goal.loop-i-preserved
 loop-i-preserved c =
