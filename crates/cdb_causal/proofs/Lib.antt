@@ -17,6 +17,7 @@ pub mod Orders
 pub mod PastLaws
 pub mod Owning
 pub mod Paths
+pub mod Prefixes
 pub mod Reaches
 pub mod SlotsOfCauses
 pub mod Receives

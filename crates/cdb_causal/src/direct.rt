@@ -76,7 +76,7 @@ fn leads_on(first: &Event, event: &Event, last: &Event) -> bool
 
 /// Whether no event between the two depends on the first and has the second depend on it.
 /// All such events are below the end.
-fn is_direct(history: &History, i: usize, j: usize, end: usize) -> bool
+pub(crate) fn is_direct(history: &History, i: usize, j: usize, end: usize) -> bool
     requires order { i < j }
     requires within { j < length history.now }
     requires end { (k : ℕ) → IsLink depends_of history.now i k →

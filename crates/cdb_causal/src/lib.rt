@@ -9,6 +9,7 @@
 
 mod bounds;
 pub mod causes;
+pub mod counts;
 pub mod dependence;
 pub mod direct;
 pub mod history;
@@ -16,6 +17,7 @@ pub mod laws;
 pub mod past;
 
 pub use causes::{consequences, first_dependent};
+pub use counts::count_direct_dependents;
 pub use dependence::depends;
 pub use direct::direct_causes;
 pub use history::History;

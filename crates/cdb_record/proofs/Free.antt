@@ -1,15 +1,15 @@
 -- An event is free exactly where it is a direct cause of none, by its count.
-use Rattle.std.proofs.Common.{◌≡◌, ℕ, suc, ◌+◌, ◌-◌, ◌<◌, ◌↔◌, List, drop, Some, slice_get, sym, ap, ◌∙◌, subst, arith}
+use Rattle.std.proofs.Common.{◌≡◌, ℕ, suc, ◌+◌, ◌-◌, ◌<◌, ◌↔◌, List, drop, Some, slice_get, sym, ap, ◌∙◌, arith}
+use Rattle.cdb_base.specs.Event.{event_name}
 use Rattle.cdb_base.specs.declared.event.Event.{Event}
 use Rattle.cdb_base.specs.declared.name.StepId.{StepId}
 use Rattle.cdb_causal.specs.Causality.{IsFree}
 use Rattle.cdb_causal.specs.Dependence.{depends}
+use Rattle.cdb_causal.specs.DirectDependents.{direct_dependents}
 use Rattle.cdb_causal.specs.Names.{IsNamedAt, IsPlaceOf}
 use Rattle.cdb_causal.proofs.Dependents.{no_direct_dependent, no_dependent, free_behind, behind_free}
-use Rattle.cdb_record.specs.Accounts.{AreAccounts, dependents_at}
-use Rattle.cdb_record.specs.declared.accounts.Account.{Account}
-use Rattle.cdb_record.proofs.Adding.{there_too}
-use Rattle.cdb_record.proofs.TakingOut.{get_drop}
+use Rattle.cdb_causal.proofs.Prefixes.{get_drop}
+use Rattle.cdb_record.specs.Counts.{dependents_at}
 
 place_behind : (i j : ℕ) → i < j → suc i + (j - suc i) ≡ j
 place_behind i j less = omega (arith, less)
@@ -27,19 +27,16 @@ module _ (history : List Event) (i : ℕ) (event : Event) (at : slice_get histor
       no_dependent depends event (drop (suc i) history)
       (λ m other at_other. behind_free depends history i event at free (suc i + m) other (omega arith) (sym (get_drop history (suc i) m) ∙ at_other))
 
-module _ (history : List Event) (accounts : List Account) (are : AreAccounts history accounts) (name : StepId) (place : ℕ) (is : IsPlaceOf history name place) (account : Account) (at_account : slice_get accounts (place - 1) ≡ Some account) where
-  pub counted : (i : ℕ) (event : Event) → slice_get history i ≡ Some event → IsNamedAt history i name → account.count ≡ dependents_at history i event
+-- what is counted of the event at the place of a name, the place counting from 1
+module _ (history : List Event) (name : StepId) (place : ℕ) (is : IsPlaceOf history name place) (count : ℕ) (counts : (event : Event) → slice_get history (place - 1) ≡ Some event → count ≡ direct_dependents depends event (drop place history)) where
+  pub counted : (i : ℕ) (event : Event) → slice_get history i ≡ Some event → event_name event ≡ name → count ≡ dependents_at history i event
   counted i event at named =
-      are.counts i account event (subst (λ n. slice_get accounts n ≡ Some account) (sym (is.only i named)) at_account) at
+      let same = is.only i (event, at, named) in
+      let from_one = is.from_one in
+      let next : place ≡ suc i = omega (arith, same, from_one) in
+      counts event (ap (slice_get history) (sym same) ∙ at) ∙ ap (λ n. direct_dependents depends event (drop n history)) next
 
-  pub counted_free : (i : ℕ) → IsNamedAt history i name → (account.count ≡ 0) ↔ IsFree depends history i
+  pub counted_free : (i : ℕ) → IsNamedAt history i name → (count ≡ 0) ↔ IsFree depends history i
   counted_free i named =
-      let same = counted i named.0 named.1 named in
+      let same = counted i named.0 named.1 named.2 in
       ((λ zeros. zero_free history i named.0 named.1 (sym same ∙ zeros)), (λ free. same ∙ free_zero history i named.0 named.1 free))
-
--- the account at a place says whether the event there is free
-pub place_free : (history : List Event) (accounts : List Account) (i : ℕ) (account : Account) → AreAccounts history accounts → slice_get accounts i ≡ Some account → (account.count ≡ 0) ↔ IsFree depends history i
-place_free history accounts i account are at =
-    let event = there_too history accounts i account are.same_length at in
-    let same = are.counts i account event.0 at event.1 in
-    ((λ zeros. zero_free history i event.0 event.1 (sym same ∙ zeros)), (λ free. same ∙ free_zero history i event.0 event.1 free))

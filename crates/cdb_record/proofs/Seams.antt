@@ -1,16 +1,13 @@
 -- What a call says of lists, carried over to lists that are equal to them.
-use Rattle.std.proofs.Common.{◌≡◌, ℕ, zero, suc, ◌+◌, ◌-◌, ◌≤◌, List, [], ◌∷◌, ◌++◌, length, take, Option, None, Some, MatchOption, slice_get, slice_set, refl, sym, ap, ◌∙◌, subst, arith}
+use Rattle.std.proofs.Common.{◌≡◌, ℕ, zero, suc, ◌+◌, ◌-◌, ◌≤◌, List, [], ◌∷◌, ◌++◌, length, Option, None, Some, MatchOption, slice_get, slice_set, set, refl, sym, ap, ◌∙◌, arith}
 use Rattle.std.proofs.lemmas.List.{length_push}
 use Rattle.std.proofs.lemmas.Option.{same_Some}
-use Rattle.std.proofs.Math.Seq.{take-append_seam}
 use Rattle.cdb_base.specs.Places.{nth}
 use Rattle.cdb_base.specs.declared.event.Event.{Event}
 use Rattle.cdb_base.specs.declared.register.Cell.{Cell}
+use Rattle.cdb_causal.specs.Rollback.{without}
 use Rattle.cdb_record.specs.Entries.{events_of}
 use Rattle.cdb_record.specs.declared.entry.Entry.{Entry}
-
-pub moved : {A B C : Type 0} (P : A → B → C → Type 0) {a other_a : A} {b other_b : B} {c other_c : C} → a ≡ other_a → b ≡ other_b → c ≡ other_c → P a b c → P other_a other_b other_c
-moved P {a} {other_a} {b} {other_b} {c} {other_c} e f g h = subst (λ x. P x other_b other_c) e (subst (λ y. P a y other_c) f (subst (λ z. P a b z) g h))
 
 pub before_nth : {A : Type 0} (xs : List A) (at : ℕ) (x : A) → 1 ≤ at → nth xs at ≡ Some x → slice_get xs (at - 1) ≡ Some x
 before_nth xs zero x from_one at = absurd (omega (arith, from_one))
@@ -18,13 +15,6 @@ before_nth xs (suc i) x from_one at = ap (slice_get xs) (less_one i) ∙ at
   where
     less_one : (i : ℕ) → suc i - 1 ≡ i
     less_one i = omega arith
-
--- a slice that keeps the length of its vector, written back to it
-pub written_back : {A : Type 0} (items rest : List A) (n : ℕ) → length items ≡ n → take n (items ++ rest) ≡ items
-written_back items rest n same = subst (λ m. take m (items ++ rest) ≡ items) same (take-append_seam items rest)
-
-pub last_place : {A : Type 0} (xs longer seen : List A) (x : A) → longer ≡ xs ++ x ∷ [] → seen ≡ longer → length seen - 1 ≡ length xs
-last_place xs longer seen x is same = let l = ap length (same ∙ is) in let p = length_push xs x in omega (arith, l, p)
 
 pub events_push : {B : Type 0} (entries : List (Entry B)) (event : Event) (back : Option B) (overwritten : Option Cell) → events_of (entries ++ record { event = event; back = back; overwritten = overwritten } ∷ []) ≡ events_of entries ++ event ∷ []
 events_push [] event back overwritten = refl
@@ -35,6 +25,21 @@ pub events_set : {B : Type 0} (entries : List (Entry B)) (i : ℕ) (old new : En
 events_set {B} [] i old new at same = refl
 events_set {B} (x ∷ xs) zero old new at same = ap (λ e. e ∷ events_of xs) (same ∙ ap (λ (e : Entry B). e.event) (sym (same_Some x old at)))
 events_set {B} (x ∷ xs) (suc i) old new at same = ap (λ l. x.event ∷ l) (events_set xs i old new at same)
+
+pub events_without : {B : Type 0} (entries : List (Entry B)) (i : ℕ) → events_of (without entries i) ≡ without (events_of entries) i
+events_without [] i = refl
+events_without (x ∷ xs) zero = refl
+events_without (x ∷ xs) (suc i) = ap (λ l. x.event ∷ l) (events_without xs i)
+
+pub fewer_without : {A : Type 0} (xs : List A) (i : ℕ) → length (without xs i) ≤ length xs
+fewer_without [] i = omega arith
+fewer_without (x ∷ xs) zero = omega arith
+fewer_without (x ∷ xs) (suc i) = let rest = fewer_without xs i in omega (arith, rest)
+
+pub set-slice_set : {A : Type 0} (xs : List A) (i : ℕ) (x : A) → set xs i x ≡ slice_set xs i x
+set-slice_set [] i x = refl
+set-slice_set (z ∷ zs) zero x = refl
+set-slice_set (z ∷ zs) (suc i) x = ap (λ l. z ∷ l) (set-slice_set zs i x)
 
 pub set_last_place : {A : Type 0} (xs : List A) (x y : A) → slice_set (xs ++ x ∷ []) (length xs) y ≡ xs ++ y ∷ []
 set_last_place [] x y = refl

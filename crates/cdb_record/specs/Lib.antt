@@ -1,5 +1,4 @@
--- what a reader of the contracts believes: what stands, what is taken back, and how much room that needs
+-- what a reader of the contracts believes: what stands, what is counted of it, and what is taken back
 pub mod Entries
-pub mod Changes
+pub mod Counts
 pub mod Taken
-pub mod Accounts

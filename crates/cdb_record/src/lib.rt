@@ -1,7 +1,6 @@
 //! Records of standing events, by which they are taken back.
 #![tactic(auto)]
 
-mod accounts;
 mod entry;
 mod records;
 

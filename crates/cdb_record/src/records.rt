@@ -10,15 +10,14 @@ ghost use Rattle.cdb_causal.specs.Dependence.{depends as depends_of};
 ghost use Rattle.cdb_causal.specs.Names.{IsNamedAt, IsNewName};
 ghost use Rattle.cdb_causal.specs.Rollback.{without};
 ghost use Rattle.cdb_causal.specs.Standing.{HasNoLostCopy};
-ghost use Rattle.cdb_record.specs.Accounts.{dependents_at};
+ghost use Rattle.cdb_record.specs.Counts.{dependents_at};
 ghost use Rattle.cdb_record.specs.Entries.{events_of};
 ghost use Rattle.cdb_record.specs.Taken.{IsKept, IsTakenFree, IsTakenOut, IsStepOf, IsLastStepOf, TakesWhereFree};
 ghost use Rattle.cdb_record.specs.declared.entry.Entry.{Entry as AnEntry};
 
-use crate::accounts::{Account, Change, change_counts};
 use crate::entry::Entry;
 use cdb_base::{Cell, CopyName, Event, NoMemory, Proc, StepId};
-use cdb_causal::{History, direct_causes};
+use cdb_causal::{History, count_direct_dependents, first_dependent};
 use cdb_log::Log;
 use std::alloc::Global;
 use std::marker::Model;
@@ -29,24 +28,20 @@ use std::marker::Model;
 pub struct Records<B: Drop> {
     history: History,
     entries: Log<Entry<B>>,
-    accounts: Log<Account>,
-    // For lists of direct causes, which have places of their own and never allocate.
-    alloc: Global,
 }
 
 impl<B: Drop> Model for Records<B> {
-    ghost use Rattle.std.specs.Prelude.{◌≡◌, List};
+    ghost use Rattle.std.specs.Prelude.{◌≡◌, ◌≤◌, List, length};
     ghost use Rattle.cdb_record.specs.declared.entry.Entry.{Entry};
 
     ghost Value = { List (Entry B) };
 
-    ghost use Rattle.cdb_record.specs.Accounts.{AreAccounts};
     ghost use Rattle.cdb_record.specs.Entries.{events_of};
     ghost use Rattle.cdb_log.specs.Pieces.{joined};
 
     ghost view = { λ records. joined records.entries };
 
-    ghost invariant = { λ records. (records.history ≡ events_of (joined records.entries)) × AreAccounts records.history (joined records.accounts) };
+    ghost invariant = { λ records. (records.history ≡ events_of (joined records.entries)) × (length records.history ≤ 4294967295) };
 }
 
 impl<B: Drop> Records<B> {
@@ -57,8 +52,6 @@ impl<B: Drop> Records<B> {
         Records {
             history: History::new(alloc),
             entries: Log::new(alloc),
-            accounts: Log::new(alloc),
-            alloc,
         }
     }
 
@@ -79,7 +72,7 @@ impl<B: Drop> Records<B> {
         ensures none { IsNewName (events_of self.now) name → result ≡ 0 }
     {
         match self.history.position(name) {
-            Some(at) => self.accounts.get(at - 1).count,
+            Some(at) => count_direct_dependents(&self.history, at) as u32,
             None => 0,
         }
     }
@@ -88,7 +81,7 @@ impl<B: Drop> Records<B> {
     /// `withdraw` takes the event out again, both without memory. No event of its name stands, and of a
     /// send no copy is lost. After `NoMemory`, which also says that 4,294,967,295 events stand, the
     /// records are as they were.
-    pub fn push(&mut self, alloc: Global, event: Event) -> Result<(), NoMemory>
+    pub fn push(&mut self, _alloc: Global, event: Event) -> Result<(), NoMemory>
         requires new_name { IsNewName (events_of self.old) (event_name event) }
         requires not_lost { HasNoLostCopy (events_of self.old) event }
         ensures ok { OnOk result (self.new
@@ -99,12 +92,8 @@ impl<B: Drop> Records<B> {
             return Err(NoMemory);
         }
         self.entries.reserve()?;
-        self.accounts.reserve()?;
         let added = event;
         self.history.push(added)?;
-        let causes = direct_causes(alloc, &self.history, self.history.len());
-        change_counts(&self.history, &mut self.accounts, &causes, Change::Raise);
-        self.accounts.push_reserved(Account { count: 0 });
         self.entries.push_reserved(Entry {
             event,
             back: None,
@@ -131,8 +120,8 @@ impl<B: Drop> Records<B> {
         self.entries.set(last, entry);
     }
 
-    /// Takes the free event at a place out, from 1 to the number of events, with its entry, and
-    /// counts one direct dependent less of each of its direct causes. It takes no memory.
+    /// Takes the free event at a place out, from 1 to the number of events, with its entry. It takes
+    /// no memory.
     pub fn take_out(&mut self, at: usize) -> Entry<B>
         requires from_one { 1 ≤ at }
         requires to_len { at ≤ length self.old }
@@ -140,10 +129,7 @@ impl<B: Drop> Records<B> {
         ensures entry { nth self.old at ≡ Some result }
         ensures rest { self.new ≡ without self.old (at - 1) }
     {
-        let causes = direct_causes(self.alloc, &self.history, at);
         self.history.remove(at);
-        self.accounts.take_out(at - 1);
-        change_counts(&self.history, &mut self.accounts, &causes, Change::Lower);
         self.entries.take_out(at - 1)
     }
 
@@ -164,10 +150,10 @@ impl<B: Drop> Records<B> {
         ensures { MatchOption result (IsKept self.old (at - 1) self.new)
             (λ entry. IsTakenFree self.old (at - 1) entry self.new) }
     {
-        if self.accounts.get(at - 1).count > 0 {
-            return None;
+        match first_dependent(&self.history, at) {
+            Some(_) => None,
+            None => Some(self.take_out(at)),
         }
-        Some(self.take_out(at))
     }
 
     /// Takes the last step of a process out, where one stands and no event depends on it; else

@@ -1,11 +1,10 @@
 //! Steps and losses of a run, found by their names and taken back in place.
 
-ghost use Rattle.std.specs.Prelude.{◌≡◌, ◌↔◌, ◌-◌, ◌≤◌, length, Some, MatchOption, IsOk, IfOk};
+ghost use Rattle.std.specs.Prelude.{◌≡◌, ◌↔◌, ◌-◌, ◌≤◌, length, Some, IsOk, IfOk};
 ghost use Rattle.std.specs.Result.{result_err};
 ghost use Rattle.cdb_base.specs.Places.{nth};
 ghost use Rattle.cdb_causal.specs.Causality.{IsFree};
 ghost use Rattle.cdb_causal.specs.Dependence.{depends as depends_of};
-ghost use Rattle.cdb_causal.specs.Names.{IsFirstDependent};
 ghost use Rattle.cdb_causal.specs.Rollback.{without};
 ghost use Rattle.cdb_run.specs.EventRefs.{name_of};
 ghost use Rattle.cdb_run.specs.Runs.{step_name, loss_name, IsPlaceFound, CanUndo, LeadsTo, undo_at_place, undo_answer, after_undo, with_history, with_left};
@@ -101,21 +100,6 @@ impl<P: Process> Run<P> {
         taken
     }
 
-    /// The name of the first event that depends on the one at a place, from 1. It is looked for only
-    /// where the count of the event says that there is one.
-    fn first_needing(&self, at: usize) -> Option<StepId>
-        requires from_one { 1 ≤ at }
-        requires to_len { at ≤ length self.now.history }
-        ensures { MatchOption result (IsFree depends_of self.now.history (at - 1))
-            (λ name. IsFirstDependent self.now.history (at - 1) name) }
-    {
-        let name = self.history().get(at).name();
-        if self.records.count_of(name) == 0 {
-            return None;
-        }
-        first_dependent(self.history(), at)
-    }
-
     /// Takes the event at a place, from 1, back where it is free, else names the first that needs it.
     fn undo_at(&mut self, at: usize) -> Result<Event, Refusal>
         requires from_one { 1 ≤ at }
@@ -123,7 +107,7 @@ impl<P: Process> Run<P> {
         ensures answer { result ≡ answered (undo_at_place self.old (at - 1)) }
         ensures after { self.new ≡ with_left self.old (undo_at_place self.old (at - 1)) }
     {
-        match self.first_needing(at) {
+        match first_dependent(self.history(), at) {
             Some(name) => Err(Refusal::NeededBy(name)),
             None => Ok(self.take_back(at)),
         }
@@ -149,7 +133,7 @@ impl<P: Process> Run<P> {
         ensures { result ≡ result_err (undo_answer self.now (name_of event)) }
     {
         match self.find(event) {
-            Ok(at) => Some(Refusal::NeededBy(self.first_needing(at)?)),
+            Ok(at) => Some(Refusal::NeededBy(first_dependent(self.history(), at)?)),
             Err(refusal) => Some(refusal),
         }
     }

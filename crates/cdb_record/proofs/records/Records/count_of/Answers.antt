@@ -4,23 +4,22 @@ use Rattle.cdb_base.specs.declared.event.Event.{Event}
 use Rattle.cdb_causal.specs.Causality.{IsFree}
 use Rattle.cdb_causal.specs.Dependence.{depends}
 use Rattle.cdb_causal.specs.Names.{IsNamedAt, IsNewName}
-use Rattle.cdb_record.specs.Accounts.{dependents_at}
+use Rattle.cdb_record.specs.Counts.{dependents_at}
 use Rattle.cdb_record.specs.Entries.{events_of}
 use Rattle.cdb_record.proofs.Free.{counted, counted_free}
-use Rattle.cdb_log.specs.Pieces.{joined}
 use Rattle.cdb_record.proofs.records.Records.count_of.Goals as goal
 
 pub returns-in-Some-clause-count : goal.returns-in-Some-clause-count
 returns-in-Some-clause-count g c =
     let seen = c.self.invariant.0 ∙ ap events_of c.self.view_is in
-    subst (λ h. (i : ℕ) (event : Event) → slice_get h i ≡ Some event → event_name event ≡ c.args.name → c.get.result.now.count ≡ dependents_at h i event) seen
-    (λ i event at_event same. counted c.self.inside.history (joined c.self.inside.accounts) c.self.invariant.1 c.args.name c.in-Some.at c.in-Some.ensures c.get.result.now c.get.ensures i event at_event (event, at_event, same))
+    subst (λ h. (i : ℕ) (event : Event) → slice_get h i ≡ Some event → event_name event ≡ c.args.name → c.count_direct_dependents.result ≡ dependents_at h i event) seen
+    (counted c.self.inside.history c.args.name c.in-Some.at c.in-Some.ensures c.count_direct_dependents.result c.count_direct_dependents.ensures.count)
 
 pub returns-in-Some-clause-free : goal.returns-in-Some-clause-free
 returns-in-Some-clause-free g c =
     let seen = c.self.invariant.0 ∙ ap events_of c.self.view_is in
-    subst (λ h. (i : ℕ) → IsNamedAt h i c.args.name → (c.get.result.now.count ≡ 0) ↔ IsFree depends h i) seen
-    (counted_free c.self.inside.history (joined c.self.inside.accounts) c.self.invariant.1 c.args.name c.in-Some.at c.in-Some.ensures c.get.result.now c.get.ensures)
+    subst (λ h. (i : ℕ) → IsNamedAt h i c.args.name → (c.count_direct_dependents.result ≡ 0) ↔ IsFree depends h i) seen
+    (counted_free c.self.inside.history c.args.name c.in-Some.at c.in-Some.ensures c.count_direct_dependents.result c.count_direct_dependents.ensures.count)
 
 pub returns-in-Some-clause-none : goal.returns-in-Some-clause-none
 returns-in-Some-clause-none g c =

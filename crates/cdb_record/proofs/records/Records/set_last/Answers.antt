@@ -2,8 +2,7 @@ use Rattle.std.proofs.Common.{◌≡◌, ◌+◌, ◌-◌, ◌<◌, [], ◌∷�
 use Rattle.std.proofs.lemmas.Grind.{common_steps}
 use Rattle.cdb_record.specs.declared.entry.Entry.{Entry}
 use Rattle.cdb_record.specs.Entries.{events_of}
-use Rattle.cdb_record.proofs.Changing.{set-slice_set}
-use Rattle.cdb_record.proofs.Seams.{events_set, last_set, last_found}
+use Rattle.cdb_record.proofs.Seams.{events_set, last_set, last_found, set-slice_set}
 use Rattle.cdb_log.specs.Pieces.{joined}
 use Rattle.cdb_record.proofs.records.Records.set_last.Goals as goal
 

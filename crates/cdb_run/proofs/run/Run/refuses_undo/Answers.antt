@@ -1,24 +1,27 @@
-use Rattle.std.proofs.Common.{◌-◌, length, ◌<◌, ap, sym, ◌∙◌, arith}
+use Rattle.std.proofs.Common.{◌-◌, length, ◌<◌, ap, sym, ◌∙◌, subst, arith}
 use Rattle.std.specs.Result.{result_err}
+use Rattle.cdb_causal.specs.Causality.{IsFree}
+use Rattle.cdb_causal.specs.Dependence.{depends}
+use Rattle.cdb_causal.specs.Names.{IsFirstDependent}
 use Rattle.cdb_run.specs.Undo.{answered, for_standing, undo_found}
 use Rattle.cdb_run.proofs.Answering.{free_unrefused, needed_refused}
 use Rattle.cdb_run.proofs.run.Run.refuses_undo.Goals as goal
 
-pub returns-in_err-first_needing-in-Ok : goal.returns-in_err-first_needing-in-Ok
-returns-in_err-first_needing-in-Ok g c =
+pub returns-in_err-first_dependent-in-Ok : goal.returns-in_err-first_dependent-in-Ok
+returns-in_err-first_dependent-in-Ok g c =
     let history = c.args.self.now.history in
     let first = c.in-Ok.ensures.within.0 in
     let last = c.in-Ok.ensures.within.1 in
     let within : c.in-Ok.at - 1 < length history = omega (arith, first, last) in
     c.from_residual.ensures
-    ∙ free_unrefused history (c.in-Ok.at - 1) within c.in_err-first_needing-in-Ok.ensures
+    ∙ free_unrefused history (c.in-Ok.at - 1) within (subst (λ h. IsFree depends h (c.in-Ok.at - 1)) c.history.ensures.events c.in_err-first_dependent-in-Ok.ensures)
     ∙ sym (ap (λ f. result_err (answered (for_standing f (undo_found history)))) c.in-Ok.ensures.found)
 
-pub returns-in_ok-first_needing-in-Ok : goal.returns-in_ok-first_needing-in-Ok
-returns-in_ok-first_needing-in-Ok g c =
+pub returns-in_ok-first_dependent-in-Ok : goal.returns-in_ok-first_dependent-in-Ok
+returns-in_ok-first_dependent-in-Ok g c =
     let history = c.args.self.now.history in
     let first = c.in-Ok.ensures.within.0 in
     let last = c.in-Ok.ensures.within.1 in
     let within : c.in-Ok.at - 1 < length history = omega (arith, first, last) in
-    needed_refused history (c.in-Ok.at - 1) within c.in_ok-first_needing-in-Ok.field-0 c.in_ok-first_needing-in-Ok.ensures
+    needed_refused history (c.in-Ok.at - 1) within c.in_ok-first_dependent-in-Ok.field-0 (subst (λ h. IsFirstDependent h (c.in-Ok.at - 1) c.in_ok-first_dependent-in-Ok.field-0) c.history.ensures.events c.in_ok-first_dependent-in-Ok.ensures)
     ∙ sym (ap (λ f. result_err (answered (for_standing f (undo_found history)))) c.in-Ok.ensures.found)

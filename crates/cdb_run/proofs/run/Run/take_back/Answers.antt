@@ -7,8 +7,7 @@ use Rattle.cdb_causal.specs.Dependence.{depends}
 use Rattle.cdb_causal.specs.Rollback.{without}
 use Rattle.cdb_base.specs.declared.event.Event.{Event}
 use Rattle.cdb_record.specs.Entries.{events_of}
-use Rattle.cdb_record.proofs.Seams.{before_nth}
-use Rattle.cdb_record.proofs.TakingOut.{events_without}
+use Rattle.cdb_record.proofs.Seams.{before_nth, events_without}
 use Rattle.cdb_run.specs.Current.{RunView}
 use Rattle.cdb_setup.specs.Parts.{Parts}
 use Rattle.cdb_run.proofs.Admitting.{nth_events}

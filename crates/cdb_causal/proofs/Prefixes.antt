@@ -1,10 +1,11 @@
 -- The direct causes of an event depend on nothing that stands after it.
-use Rattle.std.proofs.Common.{◌≡◌, ℕ, zero, suc, ◌+◌, ◌<◌, Bool, true, ◌↔◌, List, [], ◌∷◌, ◌++◌, length, Some, slice_get, take, drop, refl, sym, ap, ◌∙◌, subst, arith}
-use Rattle.std.proofs.lemmas.Option.{same_Some, none-some}
+use Rattle.std.proofs.Common.{◌≡◌, ℕ, zero, suc, ◌+◌, ◌<◌, Bool, true, false, IsTrue, ◌↔◌, List, [], ◌∷◌, ◌++◌, length, Some, slice_get, take, drop, refl, sym, ap, ◌∙◌, subst, arith}
+use Rattle.std.proofs.Math.Seq.{take-suc}
+use Rattle.std.proofs.lemmas.Option.{same_Some, none-some, slice_get_within, get_or_from_slice_get}
 use Rattle.std.proofs.lemmas.List.{length_push, drop-take}
 use Rattle.cdb_causal.specs.Causality.{IsLink, IsDirectCause}
-use Rattle.cdb_causal.specs.DirectDependents.{is_direct}
-use Rattle.cdb_causal.proofs.Dependents.{get_append_front}
+use Rattle.cdb_causal.specs.DirectDependents.{is_direct, as_number, direct_dependents}
+use Rattle.cdb_causal.proofs.Dependents.{get_append_front, dependents_added}
 use Rattle.cdb_causal.proofs.DirectByList.{direct_between}
 
 module _ {E : Type 0} where
@@ -22,6 +23,14 @@ module _ {E : Type 0} where
   split_at i [] x at = absurd (none-some x at)
   split_at zero (z ∷ zs) x at = ap (λ y. y ∷ zs) (sym (same_Some z x at))
   split_at (suc i) (z ∷ zs) x at = ap (λ l. z ∷ l) (split_at i zs x at)
+
+  pub get_drop : (xs : List E) (k m : ℕ) → slice_get (drop k xs) m ≡ slice_get xs (k + m)
+  get_drop xs zero m = let e : 0 + m ≡ m = omega arith in ap (slice_get xs) (sym e)
+  get_drop [] (suc k) m = refl
+  get_drop (x ∷ xs) (suc k) m = let e : suc k + m ≡ suc (k + m) = omega arith in get_drop xs k m ∙ ap (slice_get (x ∷ xs)) (sym e)
+
+  take_next : (xs : List E) (m : ℕ) (x : E) → slice_get xs m ≡ Some x → take (suc m) xs ≡ take m xs ++ x ∷ []
+  take_next xs m x at = take-suc xs m x (slice_get_within xs m x at) ∙ ap (λ y. take m xs ++ y ∷ []) (get_or_from_slice_get xs m x x at)
 
   get_take : (i k : ℕ) (xs : List E) (x : E) → k < i → slice_get xs k ≡ Some x → slice_get (take i xs) k ≡ Some x
   get_take i k [] x less at = absurd (none-some x at)
@@ -85,3 +94,17 @@ module _ {E : Type 0} (depends : E → E → Bool) (history : List E) (i k m : �
             subst (λ l. IsDirectCause depends l k i) whole
             (direct_longer depends long (drop (suc i) history) k i within (subst (IsDirectCause depends long k) n (by_list.1 (subst (λ l. is_direct depends cause l event ≡ true) (sym between) h))))),
       )
+
+  -- with the event one more direct dependent is counted where it is one
+  pub counted_next : (b : Bool) → (IsTrue b ↔ IsDirectCause depends history k i) → direct_dependents depends cause (take (suc m) (drop (suc k) history)) ≡ direct_dependents depends cause (take m (drop (suc k) history)) + as_number b
+  counted_next b tested =
+      let behind : List E = drop (suc k) history in
+      let there = get_drop history (suc k) m ∙ ap (slice_get history) (sym is) ∙ at_event in
+      ap (direct_dependents depends cause) (take_next behind m event there)
+      ∙ dependents_added depends cause (take m behind) event
+      ∙ ap (λ a. direct_dependents depends cause (take m behind) + as_number a) (both_or_none (is_direct depends cause (take m behind) event) b (λ h. tested.1 (direct_by_between.1 h)) (λ h. direct_by_between.0 (tested.0 h)))
+    where
+      both_or_none : (a b : Bool) → (a ≡ true → b ≡ true) → (b ≡ true → a ≡ true) → a ≡ b
+      both_or_none true b from to = sym (from refl)
+      both_or_none false true from to = to refl
+      both_or_none false false from to = refl

@@ -1,0 +1,37 @@
+//! How many events have an event of a history as a direct cause.
+
+ghost use Rattle.std.specs.Prelude.{◌≡◌, ◌-◌, ◌<◌, ◌≤◌, ◌↔◌, Some, IsTrue, drop, length, slice_get};
+ghost use Rattle.cdb_base.specs.declared.event.Event.{Event as AnEvent};
+ghost use Rattle.cdb_causal.specs.Causality.{IsDirectCause};
+ghost use Rattle.cdb_causal.specs.Dependence.{depends as depends_of};
+ghost use Rattle.cdb_causal.specs.DirectDependents.{direct_dependents};
+
+use crate::dependence::depends;
+use crate::direct::is_direct;
+use crate::history::History;
+
+/// Whether the event at place `i` is a direct cause of the later one at place `j`, both from 0.
+fn is_direct_cause(history: &History, i: usize, j: usize) -> bool
+    requires order { i < j }
+    requires within { j < length history.now }
+    ensures { IsTrue result ↔ IsDirectCause depends_of history.now i j }
+{
+    depends(history.event(i), history.event(j)) && is_direct(history, i, j, j)
+}
+
+/// How many later events the event at a place, from 1 to the number of events, is a direct cause of.
+pub fn count_direct_dependents(history: &History, at: usize) -> usize
+    requires from_one { 1 ≤ at }
+    requires to_len { at ≤ length history.now }
+    ensures count { (event : AnEvent) → slice_get history.now (at - 1) ≡ Some event →
+        result ≡ direct_dependents depends_of event (drop at history.now) }
+    ensures few { result ≤ length history.now }
+{
+    let mut count = 0;
+    for j in at..history.len() {
+        if is_direct_cause(history, at - 1, j) {
+            count += 1;
+        }
+    }
+    count
+}
