@@ -12,7 +12,7 @@ use Rattle.cdb_causal.specs.DirectCauses.{AreDirectCauses, NamesDirectCause}
 use Rattle.cdb_causal.specs.Names.{IsNamedAt, IsNewName}
 use Rattle.cdb_causal.specs.Standing.{IsStanding, HasNoLostCopy}
 use Rattle.cdb_causal.proofs.Lists.{push_cases, push_front, push_back}
-use Rattle.cdb_record.proofs.Prefixes.{direct_shorter, direct_longer}
+use Rattle.cdb_causal.proofs.Prefixes.{direct_shorter, direct_longer}
 use Rattle.cdb_past.specs.Pairs.{ArePairs}
 use Rattle.cdb_past.specs.declared.pairs.Pair.{Pair}
 

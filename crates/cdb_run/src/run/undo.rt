@@ -1,11 +1,10 @@
 //! Steps and losses of a run, found by their names and taken back in place.
 
-ghost use Rattle.std.specs.Prelude.{◌≡◌, ◌↔◌, ◌-◌, ◌≤◌, length, Some, MatchOption, IsOk, IfOk};
+ghost use Rattle.std.specs.Prelude.{◌≡◌, ◌↔◌, ◌-◌, ◌≤◌, length, Some, IsOk, IfOk};
 ghost use Rattle.std.specs.Result.{result_err};
 ghost use Rattle.cdb_base.specs.Places.{nth};
 ghost use Rattle.cdb_causal.specs.Causality.{IsFree};
 ghost use Rattle.cdb_causal.specs.Dependence.{depends as depends_of};
-ghost use Rattle.cdb_causal.specs.Names.{IsFirstDependent};
 ghost use Rattle.cdb_causal.specs.Rollback.{without};
 ghost use Rattle.cdb_run.specs.EventRefs.{name_of};
 ghost use Rattle.cdb_run.specs.Runs.{step_name, loss_name, IsPlaceFound, CanUndo, LeadsTo, undo_at_place, undo_answer, after_undo, with_history, with_left};
