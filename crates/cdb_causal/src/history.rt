@@ -243,7 +243,8 @@ impl History {
         ensures { (j : ℕ) → IsLink depends_of self.now i j → j < result }
     {
         let event = self.events.get(i);
-        self.events.place_above(self.bounds.end_of_dependents(event))
+        self.events
+            .place_above(self.bounds.end_of_dependents(event))
     }
 
     /// A place, from 0, above all steps of a process.

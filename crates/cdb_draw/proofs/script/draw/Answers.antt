@@ -24,6 +24,6 @@ returns-clause-unread g c = λ fault same. absurd (is_no_setup c.write_drawing.r
 
 pub returns-clause-read : goal.returns-clause-read
 returns-clause-read g c = (
-    λ same. absurd (reads_none c.write_drawing.result _ c.args.step c.write_drawing.ensures.fault same),
-    λ _. c.in_ok-control.ensures.read.1 (λ same. absurd (no_err _ _ same)),
-  )
+  λ same. absurd (reads_none c.write_drawing.result _ c.args.step c.write_drawing.ensures.fault same),
+  λ _. c.in_ok-control.ensures.read.1 (λ same. absurd (no_err _ _ same)),
+)

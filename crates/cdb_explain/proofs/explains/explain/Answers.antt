@@ -31,6 +31,6 @@ returns-clause-unread g c = λ fault same. absurd (is_no_setup c.write_explanati
 
 pub returns-clause-read : goal.returns-clause-read
 returns-clause-read g c = (
-    λ same. absurd (reads_none c.write_explanation.result _ c.args.p c.args.k c.write_explanation.ensures.fault same),
-    λ _. c.in_ok-control.ensures.read.1 (λ same. absurd (no_err _ _ same)),
-  )
+  λ same. absurd (reads_none c.write_explanation.result _ c.args.p c.args.k c.write_explanation.ensures.fault same),
+  λ _. c.in_ok-control.ensures.read.1 (λ same. absurd (no_err _ _ same)),
+)
