@@ -1,7 +1,7 @@
 -- Seats are opened one after the other, and what is known of their sessions.
 use Rattle.std.proofs.Common.{◌≡◌, ℕ, zero, suc, ◌+◌, ◌<◌, List, [], ◌∷◌, ◌++◌, length, get_or, take, drop, map, Option, Bor, refl, sym, ap, subst, ◌∙◌, append_assoc, arith}
 use Rattle.std.specs.Prelude.{Result, Ok, Err}
-use Rattle.std.proofs.lemmas.List.{length-map, get_or-map, map-append}
+use Rattle.std.proofs.lemmas.List.{length-map, get_or-map}
 use Rattle.cdb_debug.specs.Moves.{Known}
 use Rattle.cdb_hall.specs.Halls.{IsAttended, IsHall}
 use Rattle.cdb_hall.specs.Holding.{Holds}
@@ -18,15 +18,15 @@ use Rattle.cdb_program.specs.declared.fault.Fault.TheVariants.{Play, Race, NoSte
 use Rattle.cdb_play.specs.Faults.{of_reading}
 use Rattle.cdb_play.specs.declared.source.ReadFault.{ReadFault}
 use Rattle.cdb_play.specs.declared.source.ReadFault.TheVariants as reading
-use Rattle.cdb_program.specs.Seating.{OpensSeat, IsFaultOfSeats, known_talks}
+use Rattle.cdb_program.specs.Seating.{OpensSeat, IsFaultOfSeats}
 use Rattle.cdb_program.proofs.Opening.{read_none, opened_then, failed_then, fails_before, one_more_name, taken_and_left}
 
 -- ---- seats that are opened
 
 -- it can't be opened
-pub one_fails : (T : Type 0) (known : T → Known) (old new : FilesSeen) (name : Bor (List ℕ)) (fault : ReadFault) → (let opened : Result (Place T) ReadFault = Err fault in OpensSeat known old new name.now opened) → FailsToRead old new (name.now ∷ []) (Play (of_reading fault) name)
-one_fails T known old new name reading.Failed is = ([], [], refl, is)
-one_fails T known old new name reading.NoMemory is = ([], name.now ∷ [], refl, is ∙ (read_none old).0)
+pub one_fails : (T : Type 0) (old new : FilesSeen) (name : Bor (List ℕ)) (fault : ReadFault) → (let opened : Result (Place T) ReadFault = Err fault in OpensSeat old new name.now opened) → FailsToRead old new (name.now ∷ []) (Play (of_reading fault) name)
+one_fails T old new name reading.Failed is = ([], [], refl, is)
+one_fails T old new name reading.NoMemory is = ([], name.now ∷ [], refl, is ∙ (read_none old).0)
 
 -- what can't be read or opened is why no sessions are held
 pub as_fault : (setup : List ℕ) (seats : List (List ℕ)) (old new : FilesSeen) (fault : Fault) → FailsToRead old new (setup ∷ seats) fault → IsFaultOfSeats setup seats old new fault
@@ -73,18 +73,6 @@ pub seat_opened : (old mid new : FilesSeen) (names : List (Bor (List ℕ))) (i :
 seat_opened old mid new names i d below before after =
     opened_then old mid new (texts (take i names)) ((get_or names i d).now ∷ []) before after ∙ ap (after_opening old) (sym (one_more_name names i d below))
 
--- it talks with whom its name says
-pub talk_added : {T : Type 0} (known : T → Known) (old mid : FilesSeen) (places : List (Place T)) (place : Place T) (names : List (Bor (List ℕ))) (i : ℕ) (d : Bor (List ℕ)) → i < length names
-    → mid ≡ after_opening old (texts (take i names)) → known_talks known places ≡ map old.seats (texts (take i names)) → known place.talk ≡ mid.seats (get_or names i d).now
-    → known_talks known (places ++ place ∷ []) ≡ map old.seats (texts (take (i + 1) names))
-talk_added known old mid places place names i d below before talks its =
-    let name = (get_or names i d).now in
-    map-append (λ (p : Place T). known p.talk) places (place ∷ [])
-    ∙ ap (λ (l : List Known). l ++ known place.talk ∷ []) talks
-    ∙ ap (λ (k : Known). map old.seats (texts (take i names)) ++ k ∷ []) (its ∙ ap (λ (f : FilesSeen). f.seats name) before)
-    ∙ sym (map-append old.seats (texts (take i names)) (name ∷ []))
-    ∙ ap (map old.seats) (sym (one_more_name names i d below))
-
 -- ---- what is known of their sessions
 
 some_of : {A : Type 0} (xs : List A) → 0 < length xs → A
@@ -94,10 +82,6 @@ some_of (x ∷ xs) low = x
 module _ {T : Type 0} (known : T → Known) where
   abbrev pub known_place : Place T → Place Known
   known_place place = record { talk = known place.talk; prompt = place.prompt }
-
-  pub known_of_talks : (places : List (Place T)) → known_talks (λ (k : Known). k) (map known_place places) ≡ known_talks known places
-  known_of_talks [] = refl
-  known_of_talks (place ∷ places) = ap (λ (l : List Known). known place.talk ∷ l) (known_of_talks places)
 
   abbrev known_attended : Attended T → Attended Known
   known_attended attended = record { talk = known attended.talk; outcome = attended.outcome }

@@ -1,7 +1,6 @@
 -- What is known of the outside of the program.
 use Rattle.std.specs.Prelude.{ℕ, List, ◌++◌, Option, option_map, bytes_eq}
 use Rattle.std.specs.List.{find}
-use Rattle.cdb_debug.specs.Moves.{Known}
 use Rattle.cdb_play.specs.Streams.{one_more}
 
 -- A stream: of standard input the bytes that are left, of an output those that it holds, where they are known; and how many
@@ -11,12 +10,11 @@ pub record Stream : Type 0 where
   pub failures : ℕ
 
 -- Files: those that are known, each a name and its bytes; the names of those that were opened, in order, where these are known;
--- how many could not be read, in 64 bits; and what is known of whom the seat of a name talks with, once it is opened
+-- and how many could not be read, in 64 bits
 pub record FilesSeen : Type 0 where
   pub known : List (List ℕ × List ℕ)
   pub opened : Option (List (List ℕ))
   pub failures : ℕ
-  pub seats : List ℕ → Known
 
 -- all of the outside
 pub record Seen : Type 0 where

@@ -1,5 +1,5 @@
 -- What sessions of several seats do.
-use Rattle.std.specs.Prelude.{◌≡◌, ◌⊎◌, ℕ, ◌<◌, List, [], ◌∷◌, length, map, Result, Ok, Err}
+use Rattle.std.specs.Prelude.{◌≡◌, ◌⊎◌, ℕ, ◌<◌, List, [], ◌∷◌, length, Result, Ok, Err}
 use Rattle.cdb_debug.specs.Moves.{Known}
 use Rattle.cdb_hall.specs.Holding.{Holds, IsFaultOfHall}
 use Rattle.cdb_hall.specs.declared.place.Place.{Place}
@@ -11,15 +11,11 @@ use Rattle.cdb_program.specs.Reports.{IsReported}
 use Rattle.cdb_program.specs.declared.fault.Fault.{Fault}
 use Rattle.cdb_program.specs.declared.fault.Fault.TheVariants.{Race, TooManySeats}
 
--- One seat is opened, by how that ended; it talks with whom the name says. Where an allocation failed it counts as not opened.
-abbrev pub OpensSeat : {T : Type 0} → (T → Known) → FilesSeen → FilesSeen → List ℕ → Result (Place T) ReadFault → Type 0
-OpensSeat known old new name (Ok place) = (new ≡ after_opening old (name ∷ [])) × (known place.talk ≡ old.seats name)
-OpensSeat known old new name (Err reading.Failed) = new ≡ after_failing old (name ∷ [])
-OpensSeat known old new name (Err reading.NoMemory) = new ≡ old
-
--- what is known of whom each seat talks with
-abbrev pub known_talks : {T : Type 0} → (T → Known) → List (Place T) → List Known
-known_talks known places = map (λ place. known place.talk) places
+-- One seat is opened, by how that ended. Where an allocation failed it counts as not opened.
+abbrev pub OpensSeat : {T : Type 0} → FilesSeen → FilesSeen → List ℕ → Result (Place T) ReadFault → Type 0
+OpensSeat old new name (Ok place) = new ≡ after_opening old (name ∷ [])
+OpensSeat old new name (Err reading.Failed) = new ≡ after_failing old (name ∷ [])
+OpensSeat old new name (Err reading.NoMemory) = new ≡ old
 
 -- the file of the setup was read, and gave these bytes, and then these seats were opened, in order
 abbrev pub HasSeated : FilesSeen → FilesSeen → List ℕ → List (List ℕ) → List ℕ → Type 0
@@ -37,12 +33,12 @@ abbrev pub RefusesSeats : List ℕ → List (List ℕ) → Seen → Seen → ℕ
 RefusesSeats setup seats old new status =
     (fault : Fault) × IsFaultOfSeats setup seats old.files new.files fault × (new.output ≡ old.output) × IsReported (Err fault) old.error new.error status
 
--- The sessions were held, one for each name, in order, with whom the name says, and it is known what each was asked and answered.
--- The journal was written to standard output, and what failed was reported.
+-- The sessions were held, one for each seat, of which it is known what each was asked and answered. The journal was written to
+-- standard output, and what failed was reported.
 abbrev pub HoldsSeats : List ℕ → List (List ℕ) → Seen → Seen → ℕ → Type 0
 HoldsSeats setup seats old new status =
     (json : List ℕ) × HasSeated old.files new.files setup seats json
-    × ((places : List (Place Known)) × (known_talks (λ known. known) places ≡ map old.files.seats seats)
+    × ((places : List (Place Known)) × (length places ≡ length seats)
     × Holds (λ known. known) contents failures contents failures json places old.output new.output old.error new.error status)
 
 -- sessions of these seats were held, or not; standard input is left as it is

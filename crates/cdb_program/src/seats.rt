@@ -1,9 +1,9 @@
 //! Sessions of several seats, of what is outside.
 
-ghost use Rattle.std.specs.Prelude.{◌≡◌, ◌≤◌, ◌∷◌, [], length, map, vec_len, IfOk, IfErr};
+ghost use Rattle.std.specs.Prelude.{◌≡◌, ◌≤◌, ◌∷◌, [], length, vec_len, IfOk, IfErr};
 ghost use Rattle.cdb_program.specs.Known.{after_opening};
 ghost use Rattle.cdb_program.specs.Reading.{texts, FailsToRead};
-ghost use Rattle.cdb_program.specs.Seating.{HoldsSeats, IsFaultOfSeats, PerformsHall, known_talks};
+ghost use Rattle.cdb_program.specs.Seating.{HoldsSeats, IsFaultOfSeats, PerformsHall};
 
 use crate::fault::Fault;
 use crate::files::{Files, read_file};
@@ -29,8 +29,6 @@ fn open_one<'a, F: Files>(
 ) -> Result<Place<F::Seat>, Fault<'a>>
     ensures opened { IfOk result
         (λ _. F.seen files.new ≡ after_opening (F.seen files.old) (name.entry.now ∷ [])) }
-    ensures seat { IfOk result
-        (λ place. F.Seat.known place.talk ≡ (F.seen files.old).seats name.entry.now) }
     ensures fault { IfErr result
         (FailsToRead (F.seen files.old) (F.seen files.new) (name.entry.now ∷ [])) }
 {
@@ -52,8 +50,6 @@ fn open_each<'a, F: Files>(
 ) -> Result<Vec<Place<F::Seat>>, Fault<'a>>
     ensures opened { IfOk result
         (λ _. F.seen files.new ≡ after_opening (F.seen files.old) (texts names.now)) }
-    ensures seats { IfOk result (λ places.
-        known_talks F.Seat.known places.items ≡ map (F.seen files.old).seats (texts names.now)) }
     ensures count { IfOk result (λ places. vec_len places ≡ length names.now) }
     ensures fault { IfErr result
         (FailsToRead (F.seen files.old) (F.seen files.new) (texts names.now)) }

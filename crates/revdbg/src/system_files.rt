@@ -63,18 +63,7 @@ impl<'a> Files for SystemFiles<'a> {
 
     ghost use Rattle.std.specs.Prelude.{[], None};
 
-    ghost seen = { λ files. record {
-      known = [];
-      opened = None;
-      failures = files.failures;
-      seats = λ _. record {
-        moves = None;
-        left = None;
-        held = None;
-        failed_reads = 0;
-        failed_writes = 0;
-      };
-    } };
+    ghost seen = { λ files. record { known = []; opened = None; failures = files.failures } };
 
     fn read(&mut self, alloc: Global, name: &str, most: usize) -> Result<Vec<u8>, ReadFault> {
         let read = match File::open(self.rt, name) {

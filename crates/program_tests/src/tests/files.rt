@@ -60,20 +60,13 @@ fn content_of(files: &[Named], name: &str) -> Option<&'static [u8]> {
 impl Files for Folder {
     type Seat = Streams<Lines, Writer>;
 
-    ghost use Rattle.std.specs.Prelude.{[], Some, None};
+    ghost use Rattle.std.specs.Prelude.{[], Some};
     ghost use Rattle.cdb_play.specs.Races.{bytes_of};
 
     ghost seen = { λ folder. record {
       known = [];
       opened = Some (bytes_of folder.opened.items);
       failures = folder.failures;
-      seats = λ _. record {
-        moves = None;
-        left = None;
-        held = Some [];
-        failed_reads = 0;
-        failed_writes = 0;
-      };
     } };
 
     fn read(&mut self, alloc: Global, name: &str, most: usize) -> Result<Vec<u8>, ReadFault> {

@@ -1,7 +1,5 @@
 //! A reader and a writer over memory, which move few bytes a call, and fail once their good calls are over.
 
-ghost use Rattle.std.specs.Prelude.{◌≡◌, []};
-
 use cdb_play::{Failed, Sink, Source};
 use std::alloc::Global;
 
@@ -85,10 +83,7 @@ pub struct Writer {
 
 impl Writer {
     /// It holds nothing, and this many calls go well.
-    pub fn new(alloc: Global, good_calls: usize) -> Self
-        ensures held { result.held.items ≡ [] }
-        ensures failures { result.failures ≡ 0 }
-    {
+    pub fn new(alloc: Global, good_calls: usize) -> Self {
         Writer {
             held: Vec::new(alloc),
             good_calls,

@@ -1,12 +1,10 @@
-use Rattle.std.proofs.Common.{◌≡◌, take, map, vec_len}
+use Rattle.std.proofs.Common.{◌≡◌, take, vec_len}
 use Rattle.cdb_program.specs.Known.{after_opening}
 use Rattle.cdb_program.specs.Reading.{texts}
-use Rattle.cdb_program.specs.Seating.{known_talks}
 use Rattle.cdb_program.proofs.seats.open_each.Given as goal
 
 abbrev pub invariant-loop-name : goal.invariant-loop-name
 invariant-loop-name g l = record {
   opened : g.F.Files.seen l.files ≡ after_opening (g.F.Files.seen l.initial.files) (texts (take l.name-index l.names));
-  seats : known_talks g.F.Seat.Talk.known l.places.items ≡ map (g.F.Files.seen l.initial.files).seats (texts (take l.name-index l.names));
   count : vec_len l.places ≡ l.name-index;
 }
