@@ -1,7 +1,6 @@
 //! Files in memory.
 
-use super::streams::{Lines, Writer};
-use cdb_debug::Streams;
+use super::streams::Visitor;
 use cdb_hall::Place;
 use cdb_play::ReadFault;
 use cdb_program::Files;
@@ -58,7 +57,7 @@ fn content_of(files: &[Named], name: &str) -> Option<&'static [u8]> {
 }
 
 impl Files for Folder {
-    type Seat = Streams<Lines, Writer>;
+    type Seat = Visitor;
 
     ghost use Rattle.std.specs.Prelude.{[], Some};
     ghost use Rattle.cdb_play.specs.Races.{bytes_of};
@@ -97,7 +96,7 @@ impl Files for Folder {
             self.failures = self.failures.wrapping_add(1);
             return Err(ReadFault::Failed);
         }
-        let talk = Streams::new(Lines::new(lines), Writer::new(alloc, usize::MAX));
+        let talk = Visitor::new(lines);
         Ok(Place { talk, prompt: b"" })
     }
 }

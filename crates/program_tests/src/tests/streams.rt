@@ -1,5 +1,6 @@
 //! A reader and a writer over memory, which move few bytes a call, and fail once their good calls are over.
 
+use cdb_debug::Talk;
 use cdb_play::{Failed, Sink, Source};
 use std::alloc::Global;
 
@@ -45,31 +46,39 @@ impl<'a> Source for Reader<'a> {
     }
 }
 
-/// The lines of a seat, which are given at once.
+/// Whom a seat talks with: the lines are given at once, and what is answered is lost.
 #[derive(Drop)]
-pub struct Lines {
+pub struct Visitor {
     rest: Vec<u8>,
 }
 
-impl Lines {
+impl Visitor {
     /// All of these bytes are left.
     pub fn new(rest: Vec<u8>) -> Self {
-        Lines { rest }
+        Visitor { rest }
     }
 }
 
-impl Source for Lines {
+impl Talk for Visitor {
     ghost use Rattle.std.specs.Prelude.{None};
 
-    ghost remaining = { λ _. None };
-
-    ghost failures = { λ _. 0 };
+    ghost known = { λ _. record {
+      moves = None;
+      left = None;
+      held = None;
+      failed_reads = 0;
+      failed_writes = 0;
+    } };
 
     fn read(&mut self, buffer: &mut [u8]) -> Result<usize, Failed> {
         let count = buffer.len().min(self.rest.len());
         buffer[..count].copy_from_slice(&self.rest.as_slice()[..count]);
         self.rest.clear();
         Ok(count)
+    }
+
+    fn write(&mut self, piece: &[u8]) -> Result<usize, Failed> {
+        Ok(piece.len())
     }
 }
 
