@@ -1,8 +1,8 @@
 -- What was written of the picture of a script, by how it ended.
 use Rattle.std.proofs.Common.{◌≡◌, ℕ, List, Option, Result, Ok, Err, sym, subst, inl, inr}
 use Rattle.std.specs.Prelude.{IfErr}
-use Rattle.cdb_base.specs.declared.event.Event.{Event}
 use Rattle.cdb_explain.proofs.Answered.{output_fault}
+use Rattle.cdb_explain.specs.StepFaults.{IsFaultOfStep}
 use Rattle.cdb_explain.specs.declared.fault.ExplainFault.{ExplainFault}
 use Rattle.cdb_explain.specs.declared.fault.ExplainFault.TheVariants.{NoStep, Play}
 use Rattle.cdb_play.specs.Faults.{IsFaultOfPlay, of_output}
@@ -15,9 +15,7 @@ use Rattle.cdb_play.specs.declared.fault.PlayFault.TheVariants as play
 use Rattle.cdb_run.specs.Current.{RunView}
 use Rattle.cdb_run.specs.Rules.{Rules}
 use Rattle.cdb_setup.specs.Parts.{Parts}
-use Rattle.cdb_setup.specs.declared.fault.SetupFault.{SetupFault}
-use Rattle.cdb_draw.specs.Drawn.{DrawWrites, IsFaultOfDraw}
-use Rattle.cdb_draw.specs.StepFaults.{IsFaultOfDrawing}
+use Rattle.cdb_draw.specs.Drawn.{DrawWrites, IsFaultOfDraw, IsMissing}
 use Rattle.cdb_draw.specs.Written.{WritesOne}
 use Rattle.cdb_draw.specs.declared.script.StepAsked.{StepAsked}
 
@@ -31,25 +29,11 @@ module _ {W : Type 0} (contents : W → Option (List ℕ)) (failures : W → ℕ
 -- ---- the run that a script left
 
 pub fault_left : (rules : Parts → Rules) (json : List ℕ) (step : Option StepAsked) (old new : Option (List ℕ)) (run : RunView) → Leaves rules json old new run
-    → (result : Result (Unit {0}) ExplainFault) → IfErr result (λ fault. IsFaultOfDrawing fault run.history step) → IfErr result (λ fault. IsFaultOfDraw fault rules json step old new)
+    → (result : Result (Unit {0}) ExplainFault) → IfErr result (IsFaultOfStep (IsMissing run.history step)) → IfErr result (λ fault. IsFaultOfDraw fault rules json step old new)
 fault_left rules json step old new run left (Ok done) none = tt
 fault_left rules json step old new run left (Err NoStep) missing = (run, left, missing)
 fault_left rules json step old new run left (Err (Play fault)) (why, is) =
     subst (λ (f : PlayFault). IsFaultOfPlay f json old new) (sym is) (output_fault why json old new (left.2.setup, left.2.stands))
-
--- what is said of a fault after the run stood: it is none of reading
-pub is_no_setup : (result : Result (Unit {0}) ExplainFault) (history : List Event) (step : Option StepAsked) (fault : SetupFault) → IfErr result (λ f. IsFaultOfDrawing f history step)
-    → result ≡ Err (Play (play.Setup fault)) → ⊥
-is_no_setup (Ok done) history step fault is same = cc
-is_no_setup (Err NoStep) history step fault is same = cc
-is_no_setup (Err (Play made)) history step fault (output.Write, is) same = cc
-is_no_setup (Err (Play made)) history step fault (output.NoMemory, is) same = cc
-
-pub reads_none : (result : Result (Unit {0}) ExplainFault) (history : List Event) (step : Option StepAsked) → IfErr result (λ f. IsFaultOfDrawing f history step) → result ≡ Err (Play play.Read) → ⊥
-reads_none (Ok done) history step is same = cc
-reads_none (Err NoStep) history step is same = cc
-reads_none (Err (Play made)) history step (output.Write, is) same = cc
-reads_none (Err (Play made)) history step (output.NoMemory, is) same = cc
 
 module _ {W : Type 0} (contents : W → Option (List ℕ)) (failures : W → ℕ) (A : Type 0) (P Q : List ℕ → Type 0) (is : (text : List ℕ) → P text → Q text) where
   -- a text of this kind is one of that

@@ -9,4 +9,3 @@ pub mod Written
 pub mod Drawn
 -- ---- what the code keeps for itself
 pub mod Sends
-pub mod StepFaults

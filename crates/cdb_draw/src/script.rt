@@ -2,7 +2,7 @@
 
 ghost use Rattle.std.specs.Prelude.{◌≡◌, ◌<◌, ◌≤◌, length, Err, IfErr, IfOk, IfSome};
 ghost use Rattle.cdb_draw.specs.Drawn.{Draws, DrawWrites, IsFaultOfDraw, IsMissing, IsPictureFor, IsPlaceFor};
-ghost use Rattle.cdb_draw.specs.StepFaults.{IsFaultOfDrawing};
+ghost use Rattle.cdb_explain.specs.StepFaults.{IsFaultOfStep};
 ghost use Rattle.cdb_explain.specs.declared.fault.ExplainFault.TheVariants.{NoStep as no_step, Play as of_play};
 ghost use Rattle.cdb_play.specs.Left.{run_of};
 ghost use Rattle.cdb_play.specs.Streams.{FailsWhere};
@@ -61,8 +61,8 @@ fn write_drawing<W: Sink>(
 ) -> Result<(), ExplainFault>
     ensures wrote { DrawWrites W.contents W.failures result out.old out.new
         (IsPictureFor rules (run_of rules control.now) step) }
-    ensures fault { IfErr result (λ fault.
-        IsFaultOfDrawing fault (run_of rules control.now).history step) }
+    ensures fault { IfErr result
+        (IsFaultOfStep (IsMissing (run_of rules control.now).history step)) }
 {
     let run = run_of(control);
     let place = place_for(run.any().history(), step)?;

@@ -1,7 +1,6 @@
 -- A step that was asked for, and what was answered.
 use Rattle.std.proofs.Common.{◌≡◌, ◌∙◌, ℕ, List, Option, Some, Result, Ok, Err, ap, sym, subst}
 use Rattle.std.specs.Prelude.{MatchOption, IfErr}
-use Rattle.cdb_base.specs.declared.event.Event.{Event}
 use Rattle.cdb_control.specs.Journal.{Journaled, state_in}
 use Rattle.cdb_play.specs.Faults.{IsFaultOfPlay, IsSetup, of_output}
 use Rattle.cdb_play.specs.Left.{Leaves, run_of}
@@ -12,6 +11,7 @@ use Rattle.cdb_play.specs.declared.fault.PlayFault.{PlayFault}
 use Rattle.cdb_play.specs.declared.fault.PlayFault.TheVariants as play
 use Rattle.cdb_explain.specs.declared.fault.ExplainFault.{ExplainFault}
 use Rattle.cdb_explain.specs.declared.fault.ExplainFault.TheVariants.{NoStep, Play}
+use Rattle.cdb_explain.specs.Asked.{StandsNoStep}
 use Rattle.cdb_explain.specs.Explained.{ExplainWrites, IsFaultOfExplain}
 use Rattle.cdb_explain.specs.StepFaults.{IsFaultOfStep}
 use Rattle.cdb_setup.specs.declared.fault.SetupFault.{SetupFault}
@@ -36,25 +36,25 @@ output_fault output.Write json old new setup = setup
 output_fault output.NoMemory json old new setup = tt
 
 pub fault_left : (rules : Parts → Rules) (json : List ℕ) (p : ℕ) (k : Option ℕ) (old new : Option (List ℕ)) (run : RunView) → Leaves rules json old new run
-    → (result : Result (Unit {0}) ExplainFault) → IfErr result (λ fault. IsFaultOfStep fault run.history p k) → IfErr result (λ fault. IsFaultOfExplain fault rules json p k old new)
+    → (result : Result (Unit {0}) ExplainFault) → IfErr result (IsFaultOfStep (StandsNoStep run.history p k)) → IfErr result (λ fault. IsFaultOfExplain fault rules json p k old new)
 fault_left rules json p k old new run left (Ok done) none = tt
 fault_left rules json p k old new run left (Err NoStep) none = (run, left, none)
 fault_left rules json p k old new run left (Err (Play fault)) (why, is) =
     subst (λ (f : PlayFault). IsFaultOfPlay f json old new) (sym is) (output_fault why json old new (left.2.setup, left.2.stands))
 
 -- what is said of a fault after the run stood: it is none of reading
-pub is_no_setup : (result : Result (Unit {0}) ExplainFault) (history : List Event) (p : ℕ) (k : Option ℕ) (fault : SetupFault) → IfErr result (λ f. IsFaultOfStep f history p k)
-    → result ≡ Err (Play (play.Setup fault)) → ⊥
-is_no_setup (Ok done) history p k fault is same = cc
-is_no_setup (Err NoStep) history p k fault is same = cc
-is_no_setup (Err (Play made)) history p k fault (output.Write, is) same = cc
-is_no_setup (Err (Play made)) history p k fault (output.NoMemory, is) same = cc
+module _ (Missing : Type 0) where
+  pub is_no_setup : (result : Result (Unit {0}) ExplainFault) (fault : SetupFault) → IfErr result (IsFaultOfStep Missing) → result ≡ Err (Play (play.Setup fault)) → ⊥
+  is_no_setup (Ok done) fault is same = cc
+  is_no_setup (Err NoStep) fault is same = cc
+  is_no_setup (Err (Play made)) fault (output.Write, is) same = cc
+  is_no_setup (Err (Play made)) fault (output.NoMemory, is) same = cc
 
-pub reads_none : (result : Result (Unit {0}) ExplainFault) (history : List Event) (p : ℕ) (k : Option ℕ) → IfErr result (λ f. IsFaultOfStep f history p k) → result ≡ Err (Play play.Read) → ⊥
-reads_none (Ok done) history p k is same = cc
-reads_none (Err NoStep) history p k is same = cc
-reads_none (Err (Play made)) history p k (output.Write, is) same = cc
-reads_none (Err (Play made)) history p k (output.NoMemory, is) same = cc
+  pub reads_none : (result : Result (Unit {0}) ExplainFault) → IfErr result (IsFaultOfStep Missing) → result ≡ Err (Play play.Read) → ⊥
+  reads_none (Ok done) is same = cc
+  reads_none (Err NoStep) is same = cc
+  reads_none (Err (Play made)) (output.Write, is) same = cc
+  reads_none (Err (Play made)) (output.NoMemory, is) same = cc
 
 pub no_err : {A E : Type 0} (value : A) (error : E) → (let result : Result A E = Ok value in result) ≡ Err error → ⊥
 no_err value error same = cc

@@ -1,6 +1,7 @@
 //! A script is carried out without its replies, and a step of the run that it leaves is explained.
 
 ghost use Rattle.std.specs.Prelude.{◌≡◌, Err, IfErr};
+ghost use Rattle.cdb_explain.specs.Asked.{StandsNoStep};
 ghost use Rattle.cdb_explain.specs.Explained.{Explains, ExplainWrites, IsFaultOfExplain};
 ghost use Rattle.cdb_explain.specs.Explanations.{IsStepExplained};
 ghost use Rattle.cdb_explain.specs.StepFaults.{IsFaultOfStep};
@@ -27,7 +28,7 @@ fn write_explanation<W: Sink>(
 ) -> Result<(), ExplainFault>
     ensures wrote { ExplainWrites W.contents W.failures result out.old out.new
         (IsStepExplained rules run.now p k) }
-    ensures fault { IfErr result (λ fault. IsFaultOfStep fault run.now.history p k) }
+    ensures fault { IfErr result (IsFaultOfStep (StandsNoStep run.now.history p k)) }
 {
     let Some(text) = explain_step(alloc, run, p, k)? else {
         return Err(ExplainFault::NoStep);

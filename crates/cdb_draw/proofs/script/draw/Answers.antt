@@ -1,8 +1,8 @@
 use Rattle.cdb_play.specs.Left.{run_of}
 use Rattle.cdb_run.specs.Algorithms.{rules}
-use Rattle.cdb_explain.proofs.Answered.{no_err}
+use Rattle.cdb_explain.proofs.Answered.{is_no_setup, reads_none, no_err}
 use Rattle.cdb_draw.specs.Drawn.{Draws, IsPictureFor}
-use Rattle.cdb_draw.proofs.Ended.{fault_left, writes_of_kind, is_no_setup, reads_none}
+use Rattle.cdb_draw.proofs.Ended.{fault_left, writes_of_kind}
 use Rattle.cdb_draw.proofs.script.draw.Goals as goal
 
 pub returns-clause-wrote : goal.returns-clause-wrote
@@ -20,10 +20,10 @@ returns-clause-fault g c =
     fault_left rules c.args.setup.now c.args.step old new (run_of rules c.in_ok-control.control) c.in_ok-control.ensures.left c.write_drawing.result c.write_drawing.ensures.fault
 
 pub returns-clause-unread : goal.returns-clause-unread
-returns-clause-unread g c = λ fault same. absurd (is_no_setup c.write_drawing.result _ c.args.step fault c.write_drawing.ensures.fault same)
+returns-clause-unread g c = λ fault same. absurd (is_no_setup _ c.write_drawing.result fault c.write_drawing.ensures.fault same)
 
 pub returns-clause-read : goal.returns-clause-read
 returns-clause-read g c = (
-  λ same. absurd (reads_none c.write_drawing.result _ c.args.step c.write_drawing.ensures.fault same),
+  λ same. absurd (reads_none _ c.write_drawing.result c.write_drawing.ensures.fault same),
   λ _. c.in_ok-control.ensures.read.1 (λ same. absurd (no_err _ _ same)),
 )

@@ -27,10 +27,10 @@ returns-clause-fault g c =
     fault_left rules c.args.setup.now c.args.p c.args.k old new run left c.write_explanation.result c.write_explanation.ensures.fault
 
 pub returns-clause-unread : goal.returns-clause-unread
-returns-clause-unread g c = λ fault same. absurd (is_no_setup c.write_explanation.result _ c.args.p c.args.k fault c.write_explanation.ensures.fault same)
+returns-clause-unread g c = λ fault same. absurd (is_no_setup _ c.write_explanation.result fault c.write_explanation.ensures.fault same)
 
 pub returns-clause-read : goal.returns-clause-read
 returns-clause-read g c = (
-  λ same. absurd (reads_none c.write_explanation.result _ c.args.p c.args.k c.write_explanation.ensures.fault same),
+  λ same. absurd (reads_none _ c.write_explanation.result c.write_explanation.ensures.fault same),
   λ _. c.in_ok-control.ensures.read.1 (λ same. absurd (no_err _ _ same)),
 )
