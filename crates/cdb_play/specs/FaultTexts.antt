@@ -1,5 +1,6 @@
 -- The texts of faults, and the lines that report them.
 use Rattle.std.specs.Prelude.{ℕ, List, ◌++◌, codes, decimal}
+use Rattle.cdb_race.specs.FaultTexts.{refused_start_text}
 use Rattle.cdb_setup.specs.Numbers.{setup_fault_text}
 use Rattle.cdb_text.specs.LineFaults.{line_fault_text}
 use Rattle.cdb_text.specs.declared.fault.LineFault.{LineFault}
@@ -32,7 +33,7 @@ race_fault_text (race.ScriptTooLong script) = too_long_text script
 race_fault_text race.Write = codes "output failed"
 race_fault_text race.NoMemory = codes "no memory"
 race_fault_text race.JournalFull = codes "journal full"
-race_fault_text (race.Spawn refused) = codes "no thread"
+race_fault_text (race.Spawn refused) = refused_start_text
 race_fault_text (race.Stopped seat) = codes "no thread"
 
 -- where a text is reported it is a line, which ends with byte 10

@@ -3,8 +3,12 @@ use Rattle.std.specs.Prelude.{ℕ, List, codes}
 use Rattle.cdb_race.specs.declared.threads.RaceFault.{RaceFault}
 use Rattle.cdb_race.specs.declared.threads.RaceFault.TheVariants as fault
 
+-- the start of a thread was refused
+abbrev pub refused_start_text : List ℕ
+refused_start_text = codes "no thread"
+
 abbrev pub fault_text : RaceFault → List ℕ
 fault_text fault.NoMemory = codes "no memory"
 fault_text fault.JournalFull = codes "journal full"
-fault_text (fault.Spawn refused) = codes "no thread"
+fault_text (fault.Spawn refused) = refused_start_text
 fault_text (fault.Stopped seat) = codes "no thread"

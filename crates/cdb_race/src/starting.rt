@@ -2,6 +2,8 @@
 
 ghost use Rattle.std.specs.Prelude.{◌≡◌, IfOk};
 
+use std::error::Error;
+use std::fmt;
 use std::thread::{Promise, PromisedHandle, Scope};
 
 /// The start of a thread was refused. `start` alone makes one, so a fault that holds one comes of a refused start.
@@ -10,6 +12,20 @@ pub struct RefusedStart {
     /// Private, so that no other module makes one.
     refused: (),
 }
+
+/// The text that the program reports, without the end of the line.
+impl fmt::Display for RefusedStart {
+    ghost use Rattle.std.specs.Prelude.{Some};
+    ghost use Rattle.cdb_race.specs.FaultTexts.{refused_start_text};
+
+    ghost output = { λ _. Some refused_start_text };
+
+    fn fmt<W: fmt::Write>(&self, f: &mut fmt::Formatter<W>) -> fmt::Result {
+        f.write_str("no thread")
+    }
+}
+
+impl Error for RefusedStart {}
 
 /// Starts a thread in this scope, whose result keeps the promise. The closure is dropped where the start is refused.
 pub fn start<'s, E, P: Promise<T> + Drop, F: FnOnce() -> T + Send + 's, T: Send + Drop + 's>(
