@@ -5,6 +5,7 @@ pub mod Sessions
 pub mod Halls
 pub mod Reports
 pub mod Holding
+pub mod Faults
 -- ---- what the code keeps for itself
 pub mod Lines
 pub mod Held

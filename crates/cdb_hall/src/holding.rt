@@ -1,7 +1,8 @@
 //! Sessions of several seats, from the text of their setup to what is written once they have ended.
 
 ghost use Rattle.std.specs.Prelude.{◌≡◌, ◌≤◌, vec_len, IfOk, IfErr, OnErr};
-ghost use Rattle.cdb_hall.specs.Holding.{Holds, IsFaultOfHall, IsFaultOfThreads};
+ghost use Rattle.cdb_hall.specs.Faults.{of_hall};
+ghost use Rattle.cdb_hall.specs.Holding.{Holds, IsFaultOfHall};
 
 use crate::place::Place;
 use crate::reports::{status_after, write_failures, write_journal};
@@ -15,7 +16,7 @@ use std::thread::Threads;
 
 /// The fault of sessions that were not held.
 fn of_hall(fault: HallFault) -> RaceFault
-    ensures { IsFaultOfThreads result }
+    ensures { result ≡ of_hall fault }
 {
     match fault {
         HallFault::NoMemory => RaceFault::NoMemory,

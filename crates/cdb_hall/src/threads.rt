@@ -13,10 +13,11 @@ use cdb_race::{RefusedStart, start};
 use cdb_setup::Setup;
 use cdb_shared::{Seat, Shared};
 use std::alloc::Global;
+use std::error::Error;
 use std::snapshot::Snapshot;
 use std::sync::Wait;
-use std::thread;
 use std::thread::{PromisedHandle, Scope, Threads};
+use std::{fmt, thread};
 
 /// Why no sessions were held, or why their journal was lost.
 #[derive(Debug, Clone, Copy, PartialEq)]
@@ -25,6 +26,23 @@ pub enum HallFault {
     /// The start of a thread was refused.
     Spawn(RefusedStart),
 }
+
+/// The text that the program reports, without the end of the line.
+impl fmt::Display for HallFault {
+    ghost use Rattle.std.specs.Prelude.{Some};
+    ghost use Rattle.cdb_hall.specs.Faults.{hall_fault_text};
+
+    ghost output = { λ fault. Some (hall_fault_text fault) };
+
+    fn fmt<W: fmt::Write>(&self, f: &mut fmt::Formatter<W>) -> fmt::Result {
+        f.write_str(match self {
+            HallFault::NoMemory => "no memory",
+            HallFault::Spawn(_) => "no thread",
+        })
+    }
+}
+
+impl Error for HallFault {}
 
 /// Starts a thread for one seat.
 fn start_one<'s, E, T: Talk + Drop + Send + 's, R: Threads + Wait + Sync>(

@@ -11,7 +11,7 @@ pub returns-in-Err-clause-fault : goal.returns-in-Err-clause-fault
 returns-in-Err-clause-fault g c = subst (IsFaultOfHall c.args.setup.now) (sym c.from.ensures) (setup_failed c.args.setup.now c.in-Err.fault c.in-Err.ensures.fault)
 
 pub returns-in-Err-debug_seats-clause-fault : goal.returns-in-Err-debug_seats-clause-fault
-returns-in-Err-debug_seats-clause-fault g c = threads_failed c.args.setup.now c.of_hall.result c.of_hall.ensures
+returns-in-Err-debug_seats-clause-fault g c = subst (IsFaultOfHall c.args.setup.now) (sym c.of_hall.ensures) (threads_failed c.args.setup.now _)
 
 pub write_failures-requires : goal.write_failures-requires
 write_failures-requires g c = omega (arith, c.requires.fits, ap length c.as_slice.ensures.value, c.in-Ok-debug_seats.ensures.hall.many, c.args.places.ok.0)
