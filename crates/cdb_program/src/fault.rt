@@ -4,10 +4,11 @@ ghost use Rattle.cdb_program.specs.Outcomes.{IsOfExplain, IsOfPlay, IsOfRace};
 
 use cdb_explain::ExplainFault;
 use cdb_play::{PlayFault, RaceFault};
+use std::error::Error;
 use std::fmt;
 
 /// Why a request was not carried out to its end.
-#[derive(Clone, Copy)]
+#[derive(Clone, Copy, Debug)]
 pub enum Fault<'a> {
     /// A fault of a play, or of what was to be read for a play or a race, which has this name.
     Play(PlayFault, &'a str),
@@ -38,6 +39,8 @@ impl fmt::Display for Fault<'_> {
         }
     }
 }
+
+impl Error for Fault<'_> {}
 
 /// How a request ended that was a play of the script of this name.
 pub fn of_play<'a>(played: Result<(), PlayFault>, name: &'a str) -> Result<(), Fault<'a>>
