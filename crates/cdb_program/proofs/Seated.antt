@@ -1,9 +1,9 @@
 -- Seats are opened one after the other, and what is known of their sessions.
-use Rattle.std.proofs.Common.{◌≡◌, ℕ, zero, suc, ◌+◌, ◌<◌, List, [], ◌∷◌, ◌++◌, length, get_or, take, drop, map, Option, Bor, refl, sym, ap, subst, ◌∙◌, append_assoc, arith}
+use Rattle.std.proofs.Common.{◌≡◌, ℕ, ◌+◌, ◌<◌, List, [], ◌∷◌, ◌++◌, length, get_or, take, drop, map, Option, Bor, refl, sym, ap, subst, ◌∙◌, append_assoc, arith}
 use Rattle.std.specs.Prelude.{Result, Ok, Err}
 use Rattle.std.proofs.lemmas.List.{length-map, get_or-map}
 use Rattle.cdb_debug.specs.Moves.{Known}
-use Rattle.cdb_hall.specs.Halls.{IsAttended, IsHall}
+use Rattle.cdb_hall.specs.Halls.{IsAttended}
 use Rattle.cdb_hall.specs.Holding.{Holds}
 use Rattle.cdb_hall.specs.Reports.{IsPut, outcomes, failures_text, status_of}
 use Rattle.cdb_hall.specs.declared.place.Place.{Place}
@@ -18,15 +18,15 @@ use Rattle.cdb_program.specs.declared.fault.Fault.TheVariants.{Play, Race, NoSte
 use Rattle.cdb_play.specs.Faults.{of_reading}
 use Rattle.cdb_play.specs.declared.source.ReadFault.{ReadFault}
 use Rattle.cdb_play.specs.declared.source.ReadFault.TheVariants as reading
-use Rattle.cdb_program.specs.Seating.{OpensSeat, IsFaultOfSeats}
+use Rattle.cdb_program.specs.Seating.{AreSeatsOf, IsFaultOfSeats, IsSeatOf, OpensSeat}
 use Rattle.cdb_program.proofs.Opening.{read_none, opened_then, failed_then, fails_before, one_more_name, taken_and_left}
 
 -- ---- seats that are opened
 
 -- it can't be opened
-pub one_fails : (T : Type 0) (old new : FilesSeen) (name : Bor (List ℕ)) (fault : ReadFault) → (let opened : Result (Place T) ReadFault = Err fault in OpensSeat old new name.now opened) → FailsToRead old new (name.now ∷ []) (Play (of_reading fault) name)
-one_fails T old new name reading.Failed is = ([], [], refl, is)
-one_fails T old new name reading.NoMemory is = ([], name.now ∷ [], refl, is ∙ (read_none old).0)
+pub one_fails : (T : Type 0) (known : T → Known) (old new : FilesSeen) (name : Bor (List ℕ)) (fault : ReadFault) → (let opened : Result (Place T) ReadFault = Err fault in OpensSeat known old new name.now opened) → FailsToRead old new (name.now ∷ []) (Play (of_reading fault) name)
+one_fails T known old new name reading.Failed is = ([], [], refl, is)
+one_fails T known old new name reading.NoMemory is = ([], name.now ∷ [], refl, is ∙ (read_none old).0)
 
 -- what can't be read or opened is why no sessions are held
 pub as_fault : (setup : List ℕ) (seats : List (List ℕ)) (old new : FilesSeen) (fault : Fault) → FailsToRead old new (setup ∷ seats) fault → IsFaultOfSeats setup seats old new fault
@@ -73,6 +73,22 @@ pub seat_opened : (old mid new : FilesSeen) (names : List (Bor (List ℕ))) (i :
 seat_opened old mid new names i d below before after =
     opened_then old mid new (texts (take i names)) ((get_or names i d).now ∷ []) before after ∙ ap (after_opening old) (sym (one_more_name names i d below))
 
+module _ {T : Type 0} (known : T → Known) where
+  one_more_seat : (files : FilesSeen) (names : List (List ℕ)) (places : List (Place T)) (name : List ℕ) (place : Place T)
+      → AreSeatsOf known files names places → IsSeatOf known files name place → AreSeatsOf known files (names ++ name ∷ []) (places ++ place ∷ [])
+  one_more_seat files [] [] name place before its = (its, tt)
+  one_more_seat files [] (p ∷ places) name place before its = absurd before
+  one_more_seat files (n ∷ names) [] name place before its = absurd before
+  one_more_seat files (n ∷ names) (p ∷ places) name place before its = (before.0, one_more_seat files names places name place before.1 its)
+
+  -- and its place is that of its name
+  pub seat_placed : (old mid : FilesSeen) (names : List (Bor (List ℕ))) (i : ℕ) (d : Bor (List ℕ)) (places : List (Place T)) (place : Place T) → i < length names → mid ≡ after_opening old (texts (take i names))
+      → AreSeatsOf known old (texts (take i names)) places → IsSeatOf known mid (get_or names i d).now place → AreSeatsOf known old (texts (take (i + 1) names)) (places ++ place ∷ [])
+  seat_placed old mid names i d places place below before seats its =
+      let name = (get_or names i d).now in
+      subst (λ (l : List (List ℕ)). AreSeatsOf known old l (places ++ place ∷ [])) (sym (one_more_name names i d below))
+      (one_more_seat old (texts (take i names)) places name place seats (subst (λ (f : FilesSeen). IsSeatOf known f name place) before its))
+
 -- ---- what is known of their sessions
 
 some_of : {A : Type 0} (xs : List A) → 0 < length xs → A
@@ -82,6 +98,17 @@ some_of (x ∷ xs) low = x
 module _ {T : Type 0} (known : T → Known) where
   abbrev pub known_place : Place T → Place Known
   known_place place = record { talk = known place.talk; prompt = place.prompt }
+
+  same_seats : (files : FilesSeen) (names : List (List ℕ)) (places : List (Place T)) → AreSeatsOf known files names places → AreSeatsOf (λ (k : Known). k) files names (map known_place places)
+  same_seats files [] [] are = are
+  same_seats files [] (place ∷ places) are = absurd are
+  same_seats files (name ∷ names) [] are = absurd are
+  same_seats files (name ∷ names) (place ∷ places) are = (are.0, same_seats files names places are.1)
+
+  -- the places are those of the names, whatever was opened before, and by what is known of whom they talk with
+  pub seats_known : (old mid : FilesSeen) (first names : List (List ℕ)) (places : List (Place T)) → mid ≡ after_opening old first
+      → AreSeatsOf known mid names places → AreSeatsOf (λ (k : Known). k) old names (map known_place places)
+  seats_known old mid first names places before are = same_seats old names places (subst (λ (f : FilesSeen). AreSeatsOf known f names places) before are)
 
   abbrev known_attended : Attended T → Attended Known
   known_attended attended = record { talk = known attended.talk; outcome = attended.outcome }

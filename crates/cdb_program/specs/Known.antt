@@ -1,6 +1,7 @@
 -- What is known of the outside of the program.
 use Rattle.std.specs.Prelude.{ℕ, List, ◌++◌, Option, option_map, bytes_eq}
 use Rattle.std.specs.List.{find}
+use Rattle.cdb_debug.specs.Moves.{Known}
 use Rattle.cdb_play.specs.Streams.{one_more}
 
 -- A stream: of standard input the bytes that are left, of an output those that it holds, where they are known; and how many
@@ -10,11 +11,12 @@ pub record Stream : Type 0 where
   pub failures : ℕ
 
 -- Files: those that are known, each a name and its bytes; the names of those that were opened, in order, where these are known;
--- and how many could not be read, in 64 bits
+-- how many could not be read, in 64 bits; and the seats that are known, each a name and whom its session talks with
 pub record FilesSeen : Type 0 where
   pub known : List (List ℕ × List ℕ)
   pub opened : Option (List (List ℕ))
   pub failures : ℕ
+  pub seats : List (List ℕ × Known)
 
 -- all of the outside
 pub record Seen : Type 0 where
@@ -37,6 +39,10 @@ in_memory bytes = record { bytes = bytes; failures = 0 }
 -- the bytes of the file of this name, where they are known
 abbrev pub content_of : FilesSeen → List ℕ → Option (List ℕ)
 content_of files name = option_map (λ file. file.1) (find (λ file. bytes_eq file.0 name) files.known)
+
+-- whom the session of the seat of this name talks with, where that is known
+abbrev pub seat_of : FilesSeen → List ℕ → Option Known
+seat_of files name = option_map (λ seat. seat.1) (find (λ seat. bytes_eq seat.0 name) files.seats)
 
 -- files once these were opened too, one after the other
 abbrev pub after_opening : FilesSeen → List (List ℕ) → FilesSeen

@@ -20,7 +20,8 @@ pub trait Files {
     /// Whom the session of a seat talks with.
     type Seat: Talk + Drop + Send;
 
-    /// What is known of the files: their bytes, the names of those that were opened, and how many could not be read.
+    /// What is known of the files: their bytes, the names of those that were opened, how many could not be read, and
+    /// whom the session of the seat of a name talks with.
     ghost seen: { Self → FilesSeen };
 
     /// Reads the file of this name to its end, or this many bytes where it has more.
@@ -37,7 +38,7 @@ pub trait Files {
     /// `Failed` where it can't be opened, and `NoMemory` where an allocation fails, which counts as if it had not been
     /// opened.
     fn open_seat(&mut self, alloc: Global, name: &str) -> Result<Place<Self::Seat>, ReadFault>
-        ensures { OpensSeat (seen self.old) (seen self.new) name.now result };
+        ensures { OpensSeat Self.Seat.known (seen self.old) (seen self.new) name.now result };
 }
 
 /// The bytes of the file of this name, at most 1,048,577 of them.

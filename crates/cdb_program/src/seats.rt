@@ -3,7 +3,7 @@
 ghost use Rattle.std.specs.Prelude.{◌≡◌, ◌≤◌, ◌∷◌, [], length, vec_len, IfOk, IfErr};
 ghost use Rattle.cdb_program.specs.Known.{after_opening};
 ghost use Rattle.cdb_program.specs.Reading.{texts, FailsToRead};
-ghost use Rattle.cdb_program.specs.Seating.{HoldsSeats, IsFaultOfSeats, PerformsHall};
+ghost use Rattle.cdb_program.specs.Seating.{AreSeatsOf, HoldsSeats, IsFaultOfSeats, IsSeatOf, PerformsHall};
 
 use crate::fault::Fault;
 use crate::files::{Files, read_file};
@@ -18,7 +18,7 @@ use std::thread::Threads;
 /// How many seats there can be.
 const MOST_SEATS: usize = 64;
 
-/// The seat of this name.
+/// The place of the seat of this name.
 ///
 /// # Errors
 /// `Play(Read, name)` where it can't be opened, and `Play(NoMemory, name)` where an allocation fails.
@@ -29,6 +29,7 @@ fn open_one<'a, F: Files>(
 ) -> Result<Place<F::Seat>, Fault<'a>>
     ensures opened { IfOk result
         (λ _. F.seen files.new ≡ after_opening (F.seen files.old) (name.entry.now ∷ [])) }
+    ensures seat { IfOk result (IsSeatOf F.Seat.known (F.seen files.old) name.entry.now) }
     ensures fault { IfErr result
         (FailsToRead (F.seen files.old) (F.seen files.new) (name.entry.now ∷ [])) }
 {
@@ -38,7 +39,7 @@ fn open_one<'a, F: Files>(
     }
 }
 
-/// The seats of these names, which are opened one after the other.
+/// The places of the seats of these names, in their order, which are opened one after the other.
 ///
 /// # Errors
 /// `Play(Read, name)` with the name of the first seat that can't be opened; those after it are not opened.
@@ -50,6 +51,8 @@ fn open_each<'a, F: Files>(
 ) -> Result<Vec<Place<F::Seat>>, Fault<'a>>
     ensures opened { IfOk result
         (λ _. F.seen files.new ≡ after_opening (F.seen files.old) (texts names.now)) }
+    ensures seats { IfOk result
+        (λ places. AreSeatsOf F.Seat.known (F.seen files.old) (texts names.now) places.items) }
     ensures count { IfOk result (λ places. vec_len places ≡ length names.now) }
     ensures fault { IfErr result
         (FailsToRead (F.seen files.old) (F.seen files.new) (texts names.now)) }

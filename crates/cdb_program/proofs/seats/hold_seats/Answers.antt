@@ -1,9 +1,8 @@
-use Rattle.std.proofs.Common.{◌≡◌, ◌∙◌, ◌∷◌, [], sym, arith, map, length, Bor, List, ℕ}
-use Rattle.std.proofs.lemmas.List.{length-map}
+use Rattle.std.proofs.Common.{◌∷◌, [], map}
 use Rattle.std.proofs.lemmas.Result.{err_from_is_err_and}
 use Rattle.cdb_program.specs.Reading.{texts}
 use Rattle.cdb_program.proofs.Opening.{fails_before, opened_then}
-use Rattle.cdb_program.proofs.Seated.{as_fault, fails_later, known_place, holds_seen}
+use Rattle.cdb_program.proofs.Seated.{as_fault, fails_later, holds_seen, known_place, seats_known}
 use Rattle.cdb_program.proofs.seats.hold_seats.Goals as goal
 
 pub returns-in_err-json-clause-fault : goal.returns-in_err-json-clause-fault
@@ -19,11 +18,12 @@ returns-in_err-places-clause-fault g c =
 
 pub returns-in-Ok-clause-held : goal.returns-in-Ok-clause-held
 returns-in-Ok-clause-held g c =
-    let places = c.in_ok-places.places in
-    let many : length places.items ≡ length c.args.seats.now = omega (arith, places.ok.0, c.in_ok-places.ensures.count) in
-    let long = length-map places.items (known_place g.F.Seat.Talk.known) ∙ many ∙ sym (length-map c.args.seats.now (λ (n : Bor (List ℕ)). n.now)) in
+    let known = g.F.Seat.Talk.known in
+    let places = c.in_ok-places.places.items in
+    let names = texts c.args.seats.now in
+    let seats = seats_known known _ _ (c.args.setup.now ∷ []) names places c.in_ok-json.ensures.read.0 c.in_ok-places.ensures.seats in
     rw (← c.outside.view_is) (
       c.in_ok-json.json.items,
-      (opened_then _ _ _ (c.args.setup.now ∷ []) (texts c.args.seats.now) c.in_ok-json.ensures.read.0 c.in_ok-places.ensures.opened, c.in_ok-json.ensures.read.1.0),
-      (map (known_place g.F.Seat.Talk.known) places.items, long, rw (← c.as_slice.ensures.value) (holds_seen g.F.Seat.Talk.known g.O.Sink.contents g.O.Sink.failures g.E.Sink.contents g.E.Sink.failures _ places.items _ _ _ _ _ c.in-Ok.ensures.held)),
+      (opened_then _ _ _ (c.args.setup.now ∷ []) names c.in_ok-json.ensures.read.0 c.in_ok-places.ensures.opened, c.in_ok-json.ensures.read.1.0),
+      (map (known_place known) places, seats, rw (← c.as_slice.ensures.value) (holds_seen known g.O.Sink.contents g.O.Sink.failures g.E.Sink.contents g.E.Sink.failures _ places _ _ _ _ _ c.in-Ok.ensures.held)),
     )

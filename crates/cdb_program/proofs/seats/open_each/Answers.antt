@@ -1,14 +1,15 @@
-use Rattle.std.proofs.Common.{◌≡◌, ◌+◌, ◌∙◌, arith, sym, ap, take, drop, List, Bor, ℕ}
+use Rattle.std.proofs.Common.{◌≡◌, ◌+◌, ◌++◌, ◌∷◌, ◌∙◌, [], arith, rules, ap, subst, take, drop, List, Bor, ℕ}
 use Rattle.std.proofs.lemmas.List.{take_all}
 use Rattle.std.proofs.lemmas.Result.{err_from_is_err_and}
 use Rattle.cdb_program.specs.Known.{after_opening}
 use Rattle.cdb_program.specs.Reading.{texts}
+use Rattle.cdb_program.specs.Seating.{AreSeatsOf}
 use Rattle.cdb_program.proofs.Opening.{read_none, taken_and_left}
-use Rattle.cdb_program.proofs.Seated.{seat_fails, seat_opened}
+use Rattle.cdb_program.proofs.Seated.{seat_fails, seat_opened, seat_placed}
 use Rattle.cdb_program.proofs.seats.open_each.Goals as goal
 
 pub loop-name-init : goal.loop-name-init
-loop-name-init g c = record { opened = (read_none _).0; count = omega (arith, c.new-places.ensures.len) }
+loop-name-init g c = record { opened = (read_none _).0; seats = rw c.new-places.ensures.items tt; count = omega (arith, c.new-places.ensures.len) }
 
 pub returns-in_err-place-clause-fault : goal.returns-in_err-place-clause-fault
 returns-in_err-place-clause-fault g c =
@@ -24,9 +25,16 @@ returns-then-is_err-clause-fault g c =
 pub loop-name-preserved : goal.loop-name-preserved
 loop-name-preserved g c = record {
   opened = seat_opened _ _ _ c.args.names.now c.loop-name.name-index _ c.loop-name-test.true c.loop-name.invariant.opened c.in_ok-place.ensures.opened;
+  seats =
+      let items : c.push.new.self.items ≡ c.loop-name.places.items ++ c.in_ok-place.place ∷ [] = search rules in
+      rw items (seat_placed g.F.Seat.Talk.known _ _ c.args.names.now c.loop-name.name-index _ c.loop-name.places.items c.in_ok-place.place c.loop-name-test.true c.loop-name.invariant.opened c.loop-name.invariant.seats c.in_ok-place.ensures.seat);
   count = let more = c.push.ensures.len in grind (arith, more, c.loop-name.invariant.count);
 }
 
 pub returns-clause-opened : goal.returns-clause-opened
 returns-clause-opened g c =
     c.loop-name.invariant.opened ∙ ap (λ (names : List (Bor (List ℕ))). after_opening (g.F.Files.seen c.args.files.now) (texts names)) (take_all c.loop-name.name-index c.args.names.now c.loop-name-test.false)
+
+pub returns-clause-seats : goal.returns-clause-seats
+returns-clause-seats g c =
+    subst (λ (names : List (Bor (List ℕ))). AreSeatsOf g.F.Seat.Talk.known (g.F.Files.seen c.args.files.now) (texts names) c.loop-name.places.items) (take_all c.loop-name.name-index c.args.names.now c.loop-name-test.false) c.loop-name.invariant.seats
