@@ -110,3 +110,8 @@ words_status kind = 2
 abbrev pub ask_status_of : AskFault → ℕ
 ask_status_of (Words error) = words_status (kind_of error)
 ask_status_of NoMemory = 6
+
+-- the text of a fault; of what `clap` writes nothing is known
+abbrev pub ask_fault_text : AskFault → Option (List ℕ)
+ask_fault_text (Words error) = None
+ask_fault_text NoMemory = Some (codes "no memory")
