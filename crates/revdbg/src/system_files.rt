@@ -63,7 +63,12 @@ impl<'a> Files for SystemFiles<'a> {
 
     ghost use Rattle.std.specs.Prelude.{[], None};
 
-    ghost seen = { λ files. record { known = []; opened = None; failures = files.failures } };
+    ghost seen = { λ files. record {
+      known = [];
+      opened = None;
+      failures = files.failures;
+      seats = [];
+    } };
 
     fn read(&mut self, alloc: Global, name: &str, most: usize) -> Result<Vec<u8>, ReadFault> {
         let read = match File::open(self.rt, name) {
