@@ -66,6 +66,7 @@ impl Files for Folder {
       known = [];
       opened = Some (bytes_of folder.opened.items);
       failures = folder.failures;
+      seats = [];
     } };
 
     fn read(&mut self, alloc: Global, name: &str, most: usize) -> Result<Vec<u8>, ReadFault> {
@@ -84,6 +85,7 @@ impl Files for Folder {
         }
         Ok(bytes)
     }
+
     /// A seat's input is the file of its name, and its output is lost.
     fn open_seat(&mut self, alloc: Global, name: &str) -> Result<Place<Self::Seat>, ReadFault> {
         let copy = Vec::from_slice(alloc, name.as_bytes())?;

@@ -269,6 +269,23 @@ fn sessions_of_seats_leave_their_journal(rt: HostRuntime) -> Result<(), Fail> {
 }
 
 #[test]
+fn the_kth_session_is_that_of_the_kth_name(rt: HostRuntime) -> Result<(), Fail> {
+    let hall = Request::Hall {
+        setup: "two.json",
+        seats: &["decisions.txt", "redo.txt", "decisions.txt"],
+    };
+    let ended = performed(&rt, hall, "", ALL_GOOD);
+    let journal = str::from_utf8(ended.output.as_slice())?;
+    // In which order the seats come is not known.
+    for line in ["1 decisions\n", "2 redo\n", "3 decisions\n"] {
+        assert!(rt; journal.contains(line));
+    }
+    assert_eq!(rt; journal.len(), 31);
+    assert_eq!(rt; (ended.status, ended.error.len()), (0, 0));
+    Ok(())
+}
+
+#[test]
 fn a_seat_that_is_not_there(rt: HostRuntime) -> Result<(), Fail> {
     let hall = Request::Hall {
         setup: "two.json",
