@@ -15,6 +15,7 @@ use Rattle.cdb_causal.specs.Standing.{IsStanding}
 use Rattle.cdb_causal.specs.declared.bounds.Bounds.{Bounds}
 use Rattle.cdb_causal.proofs.SlotsOfCauses.{has_slot_in, slot_within}
 use Rattle.cdb_causal.proofs.Symmetry.{depends-symmetric}
+use Rattle.cdb_log.specs.declared.log.TheConstants.{ABOVE_ALL}
 
 module _ (bounds : Bounds) (event : Event) (slots losses end : ℕ) (in_slots : (slot : ℕ) → slot < 10 → IsAboveInSlot bounds event slot slots) (lost : IsAboveLosses bounds event losses) (more : slots ≤ end) (most : losses ≤ end) where
   pub above_others : IsAboveOthers bounds event end
@@ -41,7 +42,7 @@ module _ (history : List Event) (bounds : Bounds) (marks : ℕ → ℕ) (own : A
   own_below (Lost copy) effect all same j at = absurd (true≢false (sym same))
 
   -- each event that depends on it stands under a lower mark
-  pub above_linked : IsStanding history → AreWithin bounds marks history → AreRanged history → (i : ℕ) (event : Event) → slice_get history i ≡ Some event → ((j : ℕ) → j < length history → marks j < 18446744073709551615)
+  pub above_linked : IsStanding history → AreWithin bounds marks history → AreRanged history → (i : ℕ) (event : Event) → slice_get history i ≡ Some event → ((j : ℕ) → j < length history → marks j < ABOVE_ALL)
       → IsAboveOthers bounds event end → ((p k : ℕ) (kind : Kind) → event ≡ Step p k kind → own_bound bounds p ≤ end) → (j : ℕ) → IsLink depends history i j → marks j < end
   above_linked standing within ranged i event at small others all j l =
       let linked = subst (λ e. depends e l.effect ≡ true) (same_Some l.cause event (sym l.at_cause ∙ at)) l.linked in

@@ -16,6 +16,7 @@ use Rattle.cdb_causal.specs.declared.bounds.Bounds.{Bounds}
 use Rattle.cdb_causal.proofs.Bounding.{place_not_gone}
 use Rattle.cdb_causal.proofs.Counting.{slice_get-without, place_rises}
 use Rattle.cdb_causal.proofs.Lists.{push_cases}
+use Rattle.cdb_log.specs.declared.log.TheConstants.{ABOVE_ALL}
 
 -- a step of the process stands under a mark below the bound of all its steps
 pub own_mark : (bounds : Bounds) (marks : ℕ → ℕ) (history : List Event) → AreOwn bounds marks history → (i p : ℕ) (event : Event) → slice_get history i ≡ Some event → is_step_of p event ≡ true → marks i < own_bound bounds p
@@ -120,16 +121,16 @@ own_same old new marks history same_own same_before own =
     }
 
 -- all events in a slot before an event stand below the slot's bound
-module _ (bounds : Bounds) (marks : ℕ → ℕ) (history : List Event) (standing : IsStanding history) (own : AreOwn bounds marks history) (small : (i : ℕ) → i < length history → marks i < 18446744073709551615) (i j slot : ℕ) (later : i < j) where
+module _ (bounds : Bounds) (marks : ℕ → ℕ) (history : List Event) (standing : IsStanding history) (own : AreOwn bounds marks history) (small : (i : ℕ) → i < length history → marks i < ABOVE_ALL) (i j slot : ℕ) (later : i < j) where
   pub below_slot : (effect cause : Event) → slice_get history j ≡ Some effect → slice_get history i ≡ Some cause → IsSlot cause slot → marks i < bound_of_slot bounds effect slot
   below_slot (Step p k kind) (Step q n other) at_j at_i in_slot =
-      same_or_other (slot + 1 == p) (bound_before bounds p k) 18446744073709551615 (marks i)
+      same_or_other (slot + 1 == p) (bound_before bounds p k) ABOVE_ALL (marks i)
       (λ same.
       let is = sym in_slot.0 ∙ eqb-true (slot + 1) p same in
       own.earlier i j p n k other kind later (subst (λ x. slice_get history i ≡ Some (Step x n other)) is at_i) at_j)
       (λ _. small i (slice_get_within history i (Step q n other) at_i))
   below_slot (Step p k kind) (Lost copy) at_j at_i in_slot =
-      same_or_other (slot + 1 == p) (bound_before bounds p k) 18446744073709551615 (marks i)
+      same_or_other (slot + 1 == p) (bound_before bounds p k) ABOVE_ALL (marks i)
       (λ same. let is = eqb-true (slot + 1) p same in let most = (standing.processes j p k kind at_j).1 in absurd (omega arith))
       (λ _. small i (slice_get_within history i (Lost copy) at_i))
   below_slot (Lost copy) cause at_j at_i in_slot = small i (slice_get_within history i cause at_i)

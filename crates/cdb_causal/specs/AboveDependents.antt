@@ -8,11 +8,12 @@ use Rattle.cdb_causal.specs.Dependence.{same_process, send_and_loss, depends}
 use Rattle.cdb_causal.specs.LastCauses.{IsSlot}
 use Rattle.cdb_causal.specs.Named.{IsRanged}
 use Rattle.cdb_causal.specs.declared.bounds.Bounds.{Bounds}
+use Rattle.cdb_log.specs.declared.log.TheConstants.{ABOVE_ALL}
 
 -- above all events in the slot that depend on the event, but for those of its process and for losses of what it sends
 abbrev pub IsAboveInSlot : Bounds → Event → ℕ → ℕ → Type 0
 IsAboveInSlot bounds event slot end =
-    (i : ℕ) (other : Event) → i < 18446744073709551615 → IsWithin bounds i other → IsSlot other slot
+    (i : ℕ) (other : Event) → i < ABOVE_ALL → IsWithin bounds i other → IsSlot other slot
     → same_process event other ≡ false → ((copy : CopyName) → other ≡ Lost copy → send_and_loss event (Lost copy) ≡ false)
     → depends other event ≡ true → i < end
 
@@ -24,6 +25,6 @@ IsAboveLosses bounds event end =
 -- above all events of a history that depend on the event, but for those of its process
 abbrev pub IsAboveOthers : Bounds → Event → ℕ → Type 0
 IsAboveOthers bounds event end =
-    (i slot : ℕ) (other : Event) → i < 18446744073709551615 → IsWithin bounds i other → IsSlot other slot
+    (i slot : ℕ) (other : Event) → i < ABOVE_ALL → IsWithin bounds i other → IsSlot other slot
     → ((copy : CopyName) → other ≡ Lost copy → IsRanged copy) → same_process event other ≡ false
     → depends event other ≡ true → i < end

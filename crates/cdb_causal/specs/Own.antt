@@ -5,6 +5,7 @@ use Rattle.cdb_base.specs.declared.event.Event.TheVariants.{Step, Lost}
 use Rattle.cdb_base.specs.declared.event.Kind.{Kind}
 use Rattle.cdb_causal.specs.Cells.{named_cell}
 use Rattle.cdb_causal.specs.declared.bounds.Bounds.{Bounds}
+use Rattle.cdb_log.specs.declared.log.TheConstants.{ABOVE_ALL}
 
 -- the bound of all steps of process p, and that of its steps before the k-th
 abbrev pub own_bound : Bounds → ℕ → ℕ
@@ -24,8 +25,8 @@ IsOwnNoted old new mark (Lost copy) = Unit {0}
 
 -- above all steps of the slot's process before the event, where it is a step of that process; else above all marks
 abbrev pub bound_of_slot : Bounds → Event → ℕ → ℕ
-bound_of_slot bounds (Step p k kind) slot = if slot + 1 == p then bound_before bounds p k else 18446744073709551615
-bound_of_slot bounds (Lost copy) slot = 18446744073709551615
+bound_of_slot bounds (Step p k kind) slot = if slot + 1 == p then bound_before bounds p k else ABOVE_ALL
+bound_of_slot bounds (Lost copy) slot = ABOVE_ALL
 
 -- cell n now has the bound of the steps before the event, which is the last of its process
 abbrev pub IsLoweredAt : Bounds → Bounds → Bool → Event → ℕ → Type 0

@@ -18,33 +18,34 @@ ghost use Rattle.cdb_causal.specs.Raised.{IsRaised, joined, left};
 
 use crate::dependence::accesses;
 use cdb_base::{CopyName, Event, Kind, NoMemory, Proc, Reg, StepId};
+use cdb_log::{ABOVE_ALL, Mark};
 use std::alloc::Global;
 
 /// Cells of a table of the registers and processes.
 const REGISTER_CELLS: usize = 90;
 
 /// The bound of a copy that several standing events may receive.
-const SEVERAL: usize = usize::MAX;
+const SEVERAL: Mark = ABOVE_ALL;
 
 /// Each bound is one above the mark under which the last such event was added.
 #[derive(Drop)]
 pub struct Bounds {
     /// By process and number of the step.
-    steps: Vec<usize>,
+    steps: Vec<Mark>,
     /// By sender and number of the message sent.
-    sends: Vec<usize>,
+    sends: Vec<Mark>,
     /// By copy received: 0 where no such event stands, and `SEVERAL` where more than one may.
-    receives: Vec<usize>,
+    receives: Vec<Mark>,
     /// By copy lost.
-    losses: Vec<usize>,
+    losses: Vec<Mark>,
     /// By register written and process.
-    writes: [usize; REGISTER_CELLS],
+    writes: [Mark; REGISTER_CELLS],
     /// By register read or written and process.
-    accesses: [usize; REGISTER_CELLS],
+    accesses: [Mark; REGISTER_CELLS],
     /// By process, of all its steps.
-    own: [usize; 9],
+    own: [Mark; 9],
     /// By process and number of the step, of the process's steps before that.
-    before: Vec<usize>,
+    before: Vec<Mark>,
 }
 
 /// The row of a register in a table.
@@ -85,7 +86,7 @@ fn copy_cell(s: Proc, m: u16, slot: usize) -> usize
 }
 
 /// Makes room for a cell. The new cells are 0.
-fn grow(table: &mut Vec<usize>, cell: usize) -> Result<(), NoMemory>
+fn grow(table: &mut Vec<Mark>, cell: usize) -> Result<(), NoMemory>
     requires { cell < 9437184 }
     ensures others { (n : ℕ) → slice_index table.new.items n ≡ slice_index table.old.items n }
     ensures room { OnOk result (cell < vec_len table.new) }
@@ -97,7 +98,7 @@ fn grow(table: &mut Vec<usize>, cell: usize) -> Result<(), NoMemory>
 }
 
 /// Gives a cell a bound above all marks. One that was left too high falls to it.
-fn raise(table: &mut [usize], cell: usize, bound: usize)
+fn raise(table: &mut [Mark], cell: usize, bound: Mark)
     requires { cell < length table.old }
     ensures others { IsRaised bound table.old table.new }
     ensures raised { bound ≤ slice_index table.new cell }
@@ -106,7 +107,7 @@ fn raise(table: &mut [usize], cell: usize, bound: usize)
 }
 
 /// Gives a cell its bound, where it has none, or marks that several events may stand there.
-fn join(table: &mut [usize], cell: usize, bound: usize)
+fn join(table: &mut [Mark], cell: usize, bound: Mark)
     requires cell { cell < length table.old }
     requires bound { bound ≤ SEVERAL }
     ensures joined { (n : ℕ) → slice_index table.new n
@@ -117,7 +118,7 @@ fn join(table: &mut [usize], cell: usize, bound: usize)
 }
 
 /// Takes the bound from a cell in which one event stands.
-fn leave(table: &mut [usize], cell: usize)
+fn leave(table: &mut [Mark], cell: usize)
     ensures { (n : ℕ) → slice_index table.new n
         ≡ (if n == cell then left (slice_index table.old n) else slice_index table.old n) }
 {
@@ -127,7 +128,7 @@ fn leave(table: &mut [usize], cell: usize)
 }
 
 /// Takes the bound from a cell.
-fn clear(table: &mut [usize], cell: usize)
+fn clear(table: &mut [Mark], cell: usize)
     ensures { (n : ℕ) → (cell ≡ n → ⊥) → slice_index table.new n ≡ slice_index table.old n }
 {
     if cell < table.len() {
@@ -136,14 +137,14 @@ fn clear(table: &mut [usize], cell: usize)
 }
 
 /// The bound in a cell; 0 beyond the end of the table.
-fn bound_in(table: &[usize], cell: usize) -> usize
+fn bound_in(table: &[Mark], cell: usize) -> Mark
     ensures { result ≡ slice_index table.now cell }
 {
     table.get(cell).copied().unwrap_or(0)
 }
 
 /// The highest bound of a register in a table.
-fn highest(table: &[usize], register: &Reg) -> usize
+fn highest(table: &[Mark], register: &Reg) -> Mark
     requires { length table.now ≡ 90 }
     ensures { (slot : ℕ) → slot < 9 →
         slice_index table.now (register_cell_of register.now slot) ≤ result }
@@ -235,8 +236,8 @@ impl Bounds {
     }
 
     /// Raises the bounds for what a step of that kind does.
-    fn note_kind(&mut self, mark: usize, p: Proc, kind: Kind)
-        requires mark { mark < 18446744073709551615 }
+    fn note_kind(&mut self, mark: Mark, p: Proc, kind: Kind)
+        requires mark { mark < ABOVE_ALL }
         requires room { HasRoomFor self.old p kind }
         ensures others { AreRaised (mark + 1) self.old self.new }
         ensures steps { self.new.steps ≡ self.old.steps }
@@ -266,8 +267,8 @@ impl Bounds {
     }
 
     /// Raises the bounds of a process's steps, for which there is room, by the `k`-th under that mark.
-    fn note_own(&mut self, mark: usize, p: Proc, k: u16)
-        requires mark { mark < 18446744073709551615 }
+    fn note_own(&mut self, mark: Mark, p: Proc, k: u16)
+        requires mark { mark < ABOVE_ALL }
         requires room { named_cell_of p k < vec_len self.old.before }
         ensures others { AreRaised (mark + 1) self.old self.new }
         ensures steps { self.new.steps ≡ self.old.steps }
@@ -282,8 +283,8 @@ impl Bounds {
     }
 
     /// Raises the bounds, for which there is room, so that the event under that mark is within them.
-    pub fn note(&mut self, mark: usize, event: &Event)
-        requires mark { mark < 18446744073709551615 }
+    pub fn note(&mut self, mark: Mark, event: &Event)
+        requires mark { mark < ABOVE_ALL }
         requires room { HasRoom self.old event.now }
         ensures others { AreRaised (mark + 1) self.old self.new }
         ensures receives { Joins self.old self.new event.now }
@@ -309,14 +310,14 @@ impl Bounds {
     }
 
     /// The bound of all steps of a process.
-    pub fn end_of_process(&self, p: Proc) -> usize
+    pub fn end_of_process(&self, p: Proc) -> Mark
         ensures { result ≡ own_bound self.now p }
     {
         self.own[p.index()]
     }
 
     /// The bound of all steps of the event's process.
-    pub fn end_of_own(&self, event: &Event) -> usize
+    pub fn end_of_own(&self, event: &Event) -> Mark
         ensures { (p k : ℕ) (kind : AKind) → event.now ≡ Step p k kind →
             result ≡ own_bound self.now p }
     {
@@ -367,21 +368,21 @@ impl Bounds {
     }
 
     /// The bound of a step.
-    fn end_of_step(&self, p: Proc, k: u16) -> usize
+    fn end_of_step(&self, p: Proc, k: u16) -> Mark
         ensures { result ≡ slice_index self.now.steps.items (named_cell_of p k) }
     {
         bound_in(&self.steps, named_cell(p, k))
     }
 
     /// The bound of the sends of a message.
-    fn end_of_sends(&self, s: Proc, m: u16) -> usize
+    fn end_of_sends(&self, s: Proc, m: u16) -> Mark
         ensures { result ≡ slice_index self.now.sends.items (named_cell_of s m) }
     {
         bound_in(&self.sends, named_cell(s, m))
     }
 
     /// The bound of the receives of a copy for the slot's process.
-    pub fn end_of_receives(&self, s: Proc, m: u16, slot: usize) -> usize
+    pub fn end_of_receives(&self, s: Proc, m: u16, slot: usize) -> Mark
         requires { slot < 9 }
         ensures { result ≡ slice_index self.now.receives.items (copy_cell_of s m slot) }
     {
@@ -397,7 +398,7 @@ impl Bounds {
     }
 
     /// The bound of the losses of a copy for the slot's process.
-    fn end_of_losses(&self, s: Proc, m: u16, slot: usize) -> usize
+    fn end_of_losses(&self, s: Proc, m: u16, slot: usize) -> Mark
         requires { slot < 9 }
         ensures { result ≡ slice_index self.now.losses.items (copy_cell_of s m slot) }
     {
@@ -405,14 +406,14 @@ impl Bounds {
     }
 
     /// The bound of the loss of a copy.
-    fn end_of_lost(&self, copy: &CopyName) -> usize
+    fn end_of_lost(&self, copy: &CopyName) -> Mark
         ensures { (i : ℕ) → IsWithin self.now i (Lost copy.now) → i < result }
     {
         self.end_of_losses(copy.msg.s, copy.msg.m, copy.to.index())
     }
 
     /// Above the event of a name.
-    pub fn end_of_name(&self, name: &StepId) -> usize
+    pub fn end_of_name(&self, name: &StepId) -> Mark
         ensures { (i : ℕ) (event : AnEvent) → IsWithin self.now i event →
             event_name event ≡ name.now → i < result }
     {
@@ -424,7 +425,7 @@ impl Bounds {
 
     /// Above all steps of the slot's process on which a step of another process `p`, of that kind,
     /// depends.
-    fn end_for_step(&self, p: Proc, kind: Kind, slot: usize) -> usize
+    fn end_for_step(&self, p: Proc, kind: Kind, slot: usize) -> Mark
         requires { slot < 9 }
         ensures { (i q l : ℕ) (other : AKind) → IsWithin self.now i (Step q l other) → slot + 1 ≡ q
             → (kind_affects q other kind || kind_affects p kind other) ≡ true → i < result }
@@ -439,7 +440,7 @@ impl Bounds {
     }
 
     /// Above all events in a slot on which the loss of the copy depends.
-    fn end_for_loss(&self, copy: &CopyName, slot: usize) -> usize
+    fn end_for_loss(&self, copy: &CopyName, slot: usize) -> Mark
         requires { slot < 10 }
         ensures { (i : ℕ) (cause : AnEvent) → IsWithin self.now i cause → IsSlot cause slot
             → depends_of cause (Lost copy.now) ≡ true → i < result }
@@ -456,7 +457,7 @@ impl Bounds {
 
     /// Above all losses on which a step of process `p` of that kind depends that is no send of the
     /// copy.
-    fn end_of_lost_for(&self, p: Proc, kind: Kind) -> usize
+    fn end_of_lost_for(&self, p: Proc, kind: Kind) -> Mark
         ensures { (i k : ℕ) (copy : ACopy) → IsWithin self.now i (Lost copy)
             → send_and_loss (Step p k kind) (Lost copy) ≡ false
             → depends_of (Lost copy) (Step p k kind) ≡ true → i < result }
@@ -469,7 +470,7 @@ impl Bounds {
 
     /// Above all steps of the slot's process that stand before the effect, where it is a step of that
     /// process; else above all marks.
-    pub fn end_before(&self, effect: &Event, slot: usize) -> usize
+    pub fn end_before(&self, effect: &Event, slot: usize) -> Mark
         requires { slot < 10 }
         ensures { result ≡ bound_of_slot self.now effect.now slot }
     {
@@ -477,12 +478,12 @@ impl Bounds {
             Event::Step { p, k, .. } if p.index() == slot => {
                 bound_in(&self.before, named_cell(*p, *k))
             }
-            _ => usize::MAX,
+            _ => ABOVE_ALL,
         }
     }
 
     /// A mark above all events in a slot on which the event under mark `j` depends.
-    pub fn end(&self, event: &Event, j: usize, slot: usize) -> usize
+    pub fn end(&self, event: &Event, j: Mark, slot: usize) -> Mark
         requires { slot < 10 }
         ensures { (i : ℕ) (cause : AnEvent) → i < j → IsWithin self.now i cause → IsSlot cause slot
             → ((copy : ACopy) → cause ≡ Lost copy → send_and_loss event.now (Lost copy) ≡ false)
@@ -498,18 +499,18 @@ impl Bounds {
 
     /// Above all events in a slot that depend on the event, but for those of its process and for losses of what it
     /// sends.
-    fn end_in_slot(&self, event: &Event, slot: usize) -> usize
+    fn end_in_slot(&self, event: &Event, slot: usize) -> Mark
         requires { slot < 10 }
         ensures { IsAboveInSlot self.now event.now slot result }
     {
         if is_own_slot(event, slot) {
             return 0;
         }
-        self.end(event, usize::MAX, slot)
+        self.end(event, ABOVE_ALL, slot)
     }
 
     /// The same in all slots.
-    fn end_in_slots(&self, event: &Event) -> usize
+    fn end_in_slots(&self, event: &Event) -> Mark
         ensures { (slot : ℕ) → slot < 10 → IsAboveInSlot self.now event.now slot result }
     {
         let mut end = 0;
@@ -520,7 +521,7 @@ impl Bounds {
     }
 
     /// Above all losses of copies of the m-th message of process `p`.
-    fn end_of_copies(&self, p: Proc, m: u16) -> usize
+    fn end_of_copies(&self, p: Proc, m: u16) -> Mark
         ensures { (slot : ℕ) → slot < 9 →
             slice_index self.now.losses.items (copy_cell_of p m slot) ≤ result }
     {
@@ -532,7 +533,7 @@ impl Bounds {
     }
 
     /// Above all losses of copies of what the event sends.
-    fn end_of_lost_copies(&self, event: &Event) -> usize
+    fn end_of_lost_copies(&self, event: &Event) -> Mark
         ensures { IsAboveLosses self.now event.now result }
     {
         match event {
@@ -546,7 +547,7 @@ impl Bounds {
     }
 
     /// Above all events that depend on the event, its process's own steps among them.
-    pub fn end_of_dependents(&self, event: &Event) -> usize
+    pub fn end_of_dependents(&self, event: &Event) -> Mark
         ensures others { IsAboveOthers self.now event.now result }
         ensures own { (p k : ℕ) (kind : AKind) → event.now ≡ Step p k kind →
             own_bound self.now p ≤ result }
@@ -557,7 +558,7 @@ impl Bounds {
 
     /// Above all receives by process `p` of the m-th message of process `q`, but for the receive of the
     /// r-th message of process `s` itself.
-    fn end_of_other_receives(&self, q: Proc, m: u16, p: Proc, s: Proc, r: u16) -> usize
+    fn end_of_other_receives(&self, q: Proc, m: u16, p: Proc, s: Proc, r: u16) -> Mark
         ensures { (i k l : ℕ) → IsWithin self.now i (Step p k (Recv q m))
             → (ShareCell self.now (Step p k (Recv q m)) (Step p l (Recv s r)) → ⊥) → i < result }
     {
@@ -570,7 +571,7 @@ impl Bounds {
 
     /// Above all events that depend on the m-th send of process `q` and on which the receive, by
     /// another process `p`, of the r-th message of process `s` depends.
-    fn end_of_waiting(&self, q: Proc, m: u16, p: Proc, s: Proc, r: u16) -> usize
+    fn end_of_waiting(&self, q: Proc, m: u16, p: Proc, s: Proc, r: u16) -> Mark
         requires { nat_eq q p ≡ false }
         ensures { (i k l : ℕ) (between : AnEvent) → IsWithin self.now i between
             → (ShareCell self.now between (Step p l (Recv s r)) → ⊥)
@@ -584,7 +585,7 @@ impl Bounds {
     }
 
     /// Above all writes of the register.
-    fn end_of_writes(&self, register: &Reg) -> usize
+    fn end_of_writes(&self, register: &Reg) -> Mark
         ensures { (i x n slot : ℕ) → IsWithin self.now i (Step x n (Write register.now))
             → slot + 1 ≡ x → slot ≤ 8 → i < result }
     {
@@ -592,7 +593,7 @@ impl Bounds {
     }
 
     /// Above all accesses of the register.
-    fn end_of_accesses(&self, register: &Reg) -> usize
+    fn end_of_accesses(&self, register: &Reg) -> Mark
         ensures { (i x n slot : ℕ) (kind : AKind) → accesses_of register.now kind ≡ true
             → IsWithin self.now i (Step x n kind) → slot + 1 ≡ x → slot ≤ 8 → i < result }
     {
@@ -600,7 +601,7 @@ impl Bounds {
     }
 
     /// Above all accesses of the register by one process.
-    fn end_of_accesses_by(&self, p: Proc, register: &Reg) -> usize
+    fn end_of_accesses_by(&self, p: Proc, register: &Reg) -> Mark
         ensures { (i n : ℕ) (kind : AKind) → accesses_of register.now kind ≡ true
             → IsWithin self.now i (Step p n kind) → i < result }
     {
@@ -609,7 +610,7 @@ impl Bounds {
 
     /// Above what stands between a step of process `q` and a read of the register by process `p`,
     /// under mark `j`.
-    fn end_before_read(&self, q: Proc, first: Kind, p: Proc, register: Reg, j: usize) -> usize
+    fn end_before_read(&self, q: Proc, first: Kind, p: Proc, register: Reg, j: Mark) -> Mark
         ensures { (i k l : ℕ) (between : AnEvent) → i < j
             → IsBetween self.now (Step q k first) (Step p l (Read register)) i between → i < result }
     {
@@ -621,7 +622,7 @@ impl Bounds {
     }
 
     /// Above what stands between two accesses of the register, the second a write.
-    fn end_before_write_of(&self, first: &Kind, register: &Reg) -> usize
+    fn end_before_write_of(&self, first: &Kind, register: &Reg) -> Mark
         requires { accesses_of register.now first.now ≡ true }
         ensures { (i q k p l : ℕ) (between : AnEvent)
             → IsBetween self.now (Step q k first.now) (Step p l (Write register.now)) i between
@@ -635,7 +636,7 @@ impl Bounds {
 
     /// Above what stands between a step of process `q` and a write of the register by process `p`,
     /// under mark `j`.
-    fn end_before_write(&self, q: Proc, first: Kind, p: Proc, register: Reg, j: usize) -> usize
+    fn end_before_write(&self, q: Proc, first: Kind, p: Proc, register: Reg, j: Mark) -> Mark
         ensures { (i k l : ℕ) (between : AnEvent) → i < j
             → IsBetween self.now (Step q k first) (Step p l (Write register)) i between
             → i < result }
@@ -648,7 +649,7 @@ impl Bounds {
 
     /// Above what stands between a step of process `q` and the receive of a message by process `p`,
     /// under mark `j`.
-    fn end_before_receive(&self, q: Proc, first: Kind, p: Proc, s: Proc, r: u16, j: usize) -> usize
+    fn end_before_receive(&self, q: Proc, first: Kind, p: Proc, s: Proc, r: u16, j: Mark) -> Mark
         ensures { (i k l : ℕ) (between : AnEvent) → i < j
             → IsBetween self.now (Step q k first) (Step p l (Recv s r)) i between → i < result }
     {
@@ -659,7 +660,7 @@ impl Bounds {
     }
 
     /// The same for steps of any kind of the processes `q` and `p`, the second under mark `j`.
-    fn end_between_steps(&self, q: Proc, first: Kind, p: Proc, second: Kind, j: usize) -> usize
+    fn end_between_steps(&self, q: Proc, first: Kind, p: Proc, second: Kind, j: Mark) -> Mark
         ensures { (i k l : ℕ) (between : AnEvent) → i < j
             → IsBetween self.now (Step q k first) (Step p l second) i between → i < result }
     {
@@ -673,7 +674,7 @@ impl Bounds {
 
     /// A mark above all events of other processes that depend on the cause and on which the effect
     /// under mark `j` depends.
-    pub fn end_between(&self, cause: &Event, effect: &Event, j: usize) -> usize
+    pub fn end_between(&self, cause: &Event, effect: &Event, j: Mark) -> Mark
         ensures { (i : ℕ) (between : AnEvent) → i < j
             → IsBetween self.now cause.now effect.now i between → i < result }
     {

@@ -19,12 +19,9 @@ ghost use Rattle.cdb_log.specs.Marks.{IsPushed};
 
 use crate::bounds::Bounds;
 use cdb_base::{Event, Kind, NoMemory, Proc, Reg, StepId};
-use cdb_log::Log;
+use cdb_log::{ABOVE_ALL, Log, Mark};
 use std::alloc::Global;
 use std::marker::Model;
-
-/// A mark above those of all events.
-const ABOVE_ALL: usize = usize::MAX;
 
 /// The standing events, each under a name of its own. A contract sees their list. Places count
 /// from 1.
@@ -61,9 +58,9 @@ pub(crate) fn append(events: &mut Vec<Event>, event: Event) -> Result<(), NoMemo
 }
 
 /// Adds an event at the end of a log, and returns its mark.
-fn append_to_log(log: &mut Log<Event>, event: Event) -> Result<usize, NoMemory>
+fn append_to_log(log: &mut Log<Event>, event: Event) -> Result<Mark, NoMemory>
     ensures ok { IfOk result (λ mark. IsPushed log.old event mark log.new) }
-    ensures small { IfOk result (λ mark. mark < 18446744073709551615) }
+    ensures small { IfOk result (λ mark. mark < ABOVE_ALL) }
     ensures err { OnErr result (log.new ≡ log.old) }
 {
     let _kind: Option<Kind> = None;

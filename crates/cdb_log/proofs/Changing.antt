@@ -227,7 +227,7 @@ module _ {T Z : Type 0} where
               omega arith),
         )
 
-    pub ends_added : length pieces < 4294967295 → 128 ≤ vec_capacity v → HasEnds (pieces ++ v ∷ []) (ends ++ start ends (length ends) ∷ [])
+    pub ends_added : length pieces < 33554431 → 128 ≤ vec_capacity v → HasEnds (pieces ++ v ∷ []) (ends ++ start ends (length ends) ∷ [])
     ends_added few room =
         record {
           same_length = let a = length_push ends (start ends (length ends)) in let b = length_push pieces v in let c = h.same_length in omega arith;

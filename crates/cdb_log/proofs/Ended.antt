@@ -92,7 +92,7 @@ module _ {T Z : Type 0} where
         let m = mark_at (lists pieces) a.k i a.within a.low a.high in
         omega arith
 
-    pub marks_small : (i : ℕ) → i < length (joined (lists pieces)) → mark (lists pieces) i < 18446744073709551615
+    pub marks_small : (i : ℕ) → i < length (joined (lists pieces)) → mark (lists pieces) i < 4294967295
     marks_small i less = let few = h.few in let m = all_marked (128 * length pieces) i (omega arith) less in omega arith
 
     pub place_marked : (k extra i : ℕ) → k < length pieces → extra < 128 → i < length (joined (lists pieces))

@@ -33,5 +33,5 @@ pub record HasEnds {T Z : Type 0} (pieces : List (Vec T Z)) (ends : List ℕ) : 
   pub same_length : length ends ≡ length pieces
   pub each : (k : ℕ) → k < length pieces → slice_index ends k ≡ before (lists pieces) (suc k)
   pub small : (k : ℕ) → before (lists pieces) (suc k) ≤ before (lists pieces) k + 128
-  pub few : length pieces ≤ 4294967295
+  pub few : length pieces ≤ 33554431
   pub roomy : AreRoomy pieces

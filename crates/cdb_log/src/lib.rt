@@ -11,4 +11,4 @@
 mod ends;
 mod log;
 
-pub use log::Log;
+pub use log::{ABOVE_ALL, Log, Mark};

@@ -10,8 +10,14 @@ use cdb_base::NoMemory;
 use std::alloc::Global;
 use std::marker::Model;
 
-/// How many pieces a log has at most, so that each mark fits in 64 bits.
-const PIECES: usize = u32::MAX as usize;
+/// How many pieces a log has at most, so that each mark is below `ABOVE_ALL`.
+const PIECES: usize = 33_554_431;
+
+/// The mark of an item.
+pub type Mark = u32;
+
+/// Above the marks of all items.
+pub const ABOVE_ALL: Mark = u32::MAX;
 
 /// A list of items. To take one out moves at most the items of one piece. A contract sees the pieces;
 /// places count from 0, over all of them. The mark of an item is a number that rises along the list,
@@ -86,15 +92,16 @@ impl<T: Drop> Log<T> {
         &piece[i]
     }
 
-    /// How many items have a mark below the bound: those before the result. No mark is as high as the
-    /// greatest number.
-    pub fn place_above(&self, bound: usize) -> usize
+    /// How many items have a mark below the bound: those before the result. No mark is as high as
+    /// `ABOVE_ALL`.
+    pub fn place_above(&self, bound: Mark) -> usize
         ensures within { result ≤ length (joined self.now) }
         ensures marks { (i : ℕ) → i < length (joined self.now) →
             (i < result) ↔ (mark self.now i < bound) }
         ensures small { (i : ℕ) → i < length (joined self.now) →
-            mark self.now i < 18446744073709551615 }
+            mark self.now i < ABOVE_ALL }
     {
+        let bound = bound as usize;
         let k = bound / PIECE;
         if k >= self.ends.len() {
             return self.len();
@@ -133,24 +140,24 @@ impl<T: Drop> Log<T> {
     }
 
     /// Adds an item at the end, for which there is room, and returns its mark. It takes no memory.
-    pub fn push_reserved(&mut self, item: T) -> usize
+    pub fn push_reserved(&mut self, item: T) -> Mark
         requires { HasRoom self.old }
         ensures pushed { IsPushed self.old item result self.new }
-        ensures small { result < 18446744073709551615 }
+        ensures small { result < ABOVE_ALL }
     {
         let last = self.ends.len() - 1;
         let piece = &mut self.pieces[last];
         let place = piece.len();
         piece.push_reserved(item);
         self.ends[last] += 1;
-        last * PIECE + place
+        (last * PIECE + place) as Mark
     }
 
     /// Adds an item at the end, and returns its mark. Where an allocation fails, the log is as it
     /// was.
-    pub fn push(&mut self, item: T) -> Result<usize, NoMemory>
+    pub fn push(&mut self, item: T) -> Result<Mark, NoMemory>
         ensures ok { IfOk result (λ mark. IsPushed self.old item mark self.new) }
-        ensures small { IfOk result (λ mark. mark < 18446744073709551615) }
+        ensures small { IfOk result (λ mark. mark < ABOVE_ALL) }
         ensures err { OnErr result (self.new ≡ self.old) }
     {
         self.reserve()?;

@@ -7,6 +7,7 @@ use Rattle.cdb_causal.proofs.Ends.{end_above_between}
 use Rattle.cdb_log.specs.Marks.{mark}
 use Rattle.cdb_log.specs.Pieces.{joined}
 use Rattle.cdb_causal.proofs.history.History.end_between.Goals as goal
+use Rattle.cdb_log.specs.declared.log.TheConstants.{ABOVE_ALL}
 
 pub returns : goal.returns
 returns c =
@@ -16,5 +17,5 @@ returns c =
     subst (λ h. (k : ℕ) (l : IsLink depends h c.args.i k) → IsLink depends h k c.args.j → same_process l.cause l.effect ≡ false → k < c.place_above.result) c.self.view_is
     (λ k one two another.
     (c.place_above.ensures.marks k (slice_get_within (joined log) k two.cause two.at_cause)).1
-    (end_above_between (joined log) c.self.invariant.standing c.self.inside.bounds (mark log) c.self.invariant.within c.self.invariant.alone c.args.i c.args.j c.end_between-bound.result 18446744073709551615 cause effect c.get-cause.ensures c.get-effect.ensures
+    (end_above_between (joined log) c.self.invariant.standing c.self.inside.bounds (mark log) c.self.invariant.within c.self.invariant.alone c.args.i c.args.j c.end_between-bound.result ABOVE_ALL cause effect c.get-cause.ensures c.get-effect.ensures
     (λ i less. c.place_above.ensures.small i (let within = slice_get_within (joined log) c.args.j effect c.get-effect.ensures in omega (arith, less, within))) c.end_between-bound.ensures k one two another))

@@ -74,11 +74,11 @@ returns-clause-marks g c =
 pub returns-then-k-len-clause-small : goal.returns-then-k-len-clause-small
 returns-then-k-len-clause-small g c =
     λ i less.
-    subst (λ l. mark l i < 18446744073709551615) c.self.view_is
+    subst (λ l. mark l i < 4294967295) c.self.view_is
     (marks_small c.self.inside.pieces.items c.self.inside.ends.items c.self.invariant i (subst (λ l. i < length (joined l)) (sym c.self.view_is) less))
 
 pub returns-clause-small : goal.returns-clause-small
 returns-clause-small g c =
     λ i less.
-    subst (λ l. mark l i < 18446744073709551615) c.self.view_is
+    subst (λ l. mark l i < 4294967295) c.self.view_is
     (marks_small c.self.inside.pieces.items c.self.inside.ends.items c.self.invariant i (subst (λ l. i < length (joined l)) (sym c.self.view_is) less))

@@ -92,3 +92,29 @@ returns-clause-pushed g c =
     subst (λ l. IsPushed l c.args.item (k * 128 + c.len-place.result) (lists (set pieces k c.push_reserved.new.self))) c.self.view_is
     (subst (λ n. IsPushed (lists pieces) c.args.item (k * 128 + n) (lists (set pieces k c.push_reserved.new.self))) (sym (c.len-place.ensures ∙ v.ok.0))
     (pushed pieces c.self.inside.ends.items h k v c.push_reserved.new.self c.index_mut-piece.ensures.value c.args.item is_last c.push_reserved.ensures.items))
+
+pub returns-clause-small : goal.returns-clause-small
+returns-clause-small g c =
+    let pieces = c.self.inside.pieces.items in
+    let h = c.self.invariant in
+    let k : ℕ = c.len-last.result - 1 in
+    let v = c.index_mut-piece.result.now in
+    let room = subst HasRoom (sym c.self.view_is) c.requires in
+    let long = lists_long pieces in
+    let same = h.same_length in
+    let few = h.few in
+    let ok = c.self.inside.ends.ok.0 in
+    let len = c.len-last.ensures in
+    let place = c.len-place.ensures in
+    let v_ok = v.ok.0 in
+    let last = room.1 in
+    let is_last : room.0 ≡ k = omega arith in
+    let within : k < length pieces = omega arith in
+    let at = lists_at pieces k v within c.index_mut-piece.ensures.value in
+    let step = before_step (lists pieces) k v.items at in
+    let has = subst (λ k. before (lists pieces) (suc k) < before (lists pieces) k + 128) is_last room.2 in
+    let mark : k * 128 + c.len-place.result < 4294967295 = omega arith in
+    mark
+
+pub overflow_cast-result : goal.overflow_cast-result
+overflow_cast-result g c = let small : (c.len-last.result - 1) * 128 + c.len-place.result < 4294967295 = returns-clause-small g c in omega arith
