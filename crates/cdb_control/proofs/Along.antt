@@ -6,14 +6,14 @@ use Rattle.cdb_control.specs.declared.command.Command.{Command}
 use Rattle.cdb_control.specs.declared.control.Entry.{Entry}
 use Rattle.cdb_setup.proofs.Walk.{push_all}
 use Rattle.cdb_setup.specs.Parts.{Parts, AreInRange}
-use Rattle.cdb_run.specs.Rules.{Rules}
-use Rattle.cdb_run.specs.Lawful.{AreLawful}
+use Rattle.cdb_rules.specs.Rules.{Rules}
+use Rattle.cdb_rules.specs.Lawful.{AreLawful}
 use Rattle.cdb_control.specs.State.{State, first_state, waiting}
 use Rattle.cdb_control.specs.Commands.{obey}
 use Rattle.cdb_control.specs.Journal.{entry, replay, IsReplayed}
-use Rattle.cdb_control.proofs.Alls.{all-replicate}
+use Rattle.cdb_rules.proofs.Alls.{all-replicate}
 use Rattle.cdb_control.proofs.Table.{Adds, obey-adds}
-use Rattle.cdb_run.specs.Refusals.{IsOfRun}
+use Rattle.cdb_rules.specs.Refusals.{IsOfRun}
 use Rattle.std.specs.List.{AllByRecursion}
 
 pub replay-push : (rules : Rules) (setup : Parts) (seats : ℕ) (es : List Entry) (e : Entry) → replay rules setup seats (es ++ e ∷ []) ≡ obey rules (replay rules setup seats es) e.seat e.command

@@ -25,7 +25,7 @@ use Rattle.cdb_control.specs.Auto.{choice}
 use Rattle.cdb_control.specs.Commands.{Outcome, refused, unless, granted, found, unpaused, stepped, step, lost, taken_back, undo, rollback, why, redone, shown, outcome, answer, obey}
 use Rattle.cdb_control.specs.Headline.{undoing, rolling_back, TellsTaken, TellsRedone, IsUndoneWhereFree, IsUndoneNext, RedosLeadBack, IsRolledBackAndForth, HoldsAt, Headline}
 use Rattle.cdb_control.specs.Journal.{replay_from, replay, AreOfSeats, IsReplayed}
-use Rattle.cdb_run.specs.EventRefs.{name_of}
+use Rattle.cdb_rules.specs.EventRefs.{name_of}
 use Rattle.cdb_control.specs.State.{State, first_state, redo_of, last_of, AreOfRun}
 use Rattle.cdb_control.specs.Stops.{names_none_of}
 use Rattle.cdb_control.specs.declared.command.Command.{Command}
@@ -33,18 +33,18 @@ use Rattle.cdb_control.specs.declared.command.Command.TheVariants.{Step, Auto, L
 use Rattle.cdb_control.specs.declared.command.View.{View}
 use Rattle.cdb_control.specs.declared.command.View.TheVariants as view
 use Rattle.cdb_control.specs.declared.control.Entry.{Entry}
-use Rattle.cdb_run.specs.declared.event_ref.EventRef.TheVariants as named
-use Rattle.cdb_control.proofs.Alls.{all-get_or, all-replicate, all-slice_get}
+use Rattle.cdb_rules.specs.declared.event_ref.EventRef.TheVariants as named
+use Rattle.cdb_rules.proofs.Alls.{all-get_or, all-replicate, all-slice_get}
 use Rattle.cdb_control.proofs.FirstDependent.{free_or_needed}
 use Rattle.cdb_control.proofs.Table.{obey-adds}
 use Rattle.cdb_message.specs.Mail.{message_name}
-use Rattle.cdb_run.specs.Agreement.{AllAgree, HasMajorityIfNeeded}
-use Rattle.cdb_run.specs.Lawful.{AreLawful, KeepHistories}
-use Rattle.cdb_run.specs.Refusals.{IsOfRun}
-use Rattle.cdb_run.specs.Rules.{Rules}
-use Rattle.cdb_run.specs.Undo.{undo_of, rollback_of, causes_of}
-use Rattle.cdb_run.proofs.Answered.{undone_free, rolled_back_answered}
-use Rattle.cdb_run.proofs.Standing.{free_undone, needed_refused, standing_rolled_back}
+use Rattle.cdb_rules.specs.Agreement.{AllAgree, HasMajorityIfNeeded}
+use Rattle.cdb_rules.specs.Lawful.{AreLawful, KeepHistories}
+use Rattle.cdb_rules.specs.Refusals.{IsOfRun}
+use Rattle.cdb_rules.specs.Rules.{Rules}
+use Rattle.cdb_rules.specs.Undo.{undo_of, rollback_of, causes_of}
+use Rattle.cdb_rules.proofs.Answered.{undone_free, rolled_back_answered}
+use Rattle.cdb_rules.proofs.Standing.{free_undone, needed_refused, standing_rolled_back}
 use Rattle.cdb_setup.specs.Parts.{Parts, IsWithin, AreInRange}
 
 -- ---- what one command does to a valid history

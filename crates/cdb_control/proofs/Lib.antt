@@ -1,10 +1,5 @@
 pub mod Numbers
 pub mod Held
-pub mod Alls
-pub mod OpenCopies
-pub mod Cells
-pub mod Nameable
-pub mod Removed
 pub mod Table
 pub mod Room
 pub mod Along

@@ -4,7 +4,7 @@ use Rattle.cdb_control.specs.declared.command.Command.{Command}
 use Rattle.cdb_control.specs.declared.control.Entry.{Entry}
 use Rattle.cdb_setup.specs.Parts.{Parts}
 use Rattle.cdb_control.specs.Answer.{Answer}
-use Rattle.cdb_run.specs.Rules.{Rules}
+use Rattle.cdb_rules.specs.Rules.{Rules}
 use Rattle.cdb_control.specs.State.{State, first_state}
 use Rattle.cdb_control.specs.Commands.{answer, obey}
 use Rattle.cdb_control.specs.Journal.{entry, replay_from, replay, own, replies_from, replies_of, Begins}

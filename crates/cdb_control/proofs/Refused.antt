@@ -13,12 +13,12 @@ use Rattle.cdb_control.specs.declared.command.View.{View}
 use Rattle.cdb_control.specs.declared.command.View.TheVariants as view
 use Rattle.cdb_control.specs.Answer as reply
 use Rattle.cdb_control.specs.Auto.{choice}
-use Rattle.cdb_run.specs.Rules.{Rules}
+use Rattle.cdb_rules.specs.Rules.{Rules}
 use Rattle.cdb_control.specs.Stops.{names_none_of}
-use Rattle.cdb_run.specs.EventRefs.{name_of}
-use Rattle.cdb_run.specs.declared.event_ref.EventRef.TheVariants as named
+use Rattle.cdb_rules.specs.EventRefs.{name_of}
+use Rattle.cdb_rules.specs.declared.event_ref.EventRef.TheVariants as named
 use Rattle.cdb_message.specs.Mail.{message_name}
-use Rattle.cdb_run.specs.Undo.{undo_of, rollback_of, causes_of}
+use Rattle.cdb_rules.specs.Undo.{undo_of, rollback_of, causes_of}
 use Rattle.cdb_control.specs.State.{State, redo_of, last_of}
 use Rattle.cdb_control.specs.Commands.{Outcome, unless, granted, found, unpaused, stepped, step, lost, undo, rollback, why, redone, shown, outcome, answer, obey}
 

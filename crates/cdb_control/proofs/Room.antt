@@ -13,8 +13,8 @@ use Rattle.cdb_control.specs.Answer as reply
 use Rattle.cdb_control.specs.Auto.{choice}
 use Rattle.cdb_control.specs.Commands.{Outcome, unless, granted, found, unpaused, stepped, step, lost, undo, rollback, why, redone, shown, outcome}
 use Rattle.cdb_control.specs.Done.{NoneShrinks}
-use Rattle.cdb_run.specs.EventRefs.{name_of}
-use Rattle.cdb_control.proofs.Removed.{removed-one}
+use Rattle.cdb_rules.specs.EventRefs.{name_of}
+use Rattle.cdb_rules.proofs.Removed.{removed-one}
 use Rattle.cdb_control.specs.Room.{StoredList, StoredState, HasRoom, cost, room_of, lowered, raised, rooms_at}
 use Rattle.cdb_control.specs.State.{State, redo_of, last_of}
 use Rattle.cdb_control.specs.Stops.{names_none_of}
@@ -22,10 +22,10 @@ use Rattle.cdb_control.specs.declared.command.Command.{Command}
 use Rattle.cdb_control.specs.declared.command.Command.TheVariants.{Step, Auto, Lose, Undo, UndoLost, Redo, Forget, Rollback, RollbackLost, Why, WhyLost, Break, Unbreak, Resume, Show, Decisions}
 use Rattle.cdb_control.specs.declared.command.View.{View}
 use Rattle.cdb_control.specs.declared.command.View.TheVariants as view
-use Rattle.cdb_run.specs.declared.event_ref.EventRef.TheVariants as named
+use Rattle.cdb_rules.specs.declared.event_ref.EventRef.TheVariants as named
 use Rattle.cdb_message.specs.Mail.{message_name}
-use Rattle.cdb_run.specs.Rules.{Rules}
-use Rattle.cdb_run.specs.Undo.{undo_of, rollback_of, causes_of}
+use Rattle.cdb_rules.specs.Rules.{Rules}
+use Rattle.cdb_rules.specs.Undo.{undo_of, rollback_of, causes_of}
 
 -- ---- lists of redo lists
 

@@ -12,13 +12,13 @@ use Rattle.cdb_control.specs.Answer.{is_refused}
 use Rattle.cdb_control.specs.Answer as reply
 use Rattle.cdb_control.specs.Auto.{choice}
 use Rattle.cdb_control.specs.Commands.{Outcome, granted, found, unpaused, taken_back, redone, decides, step, undo, rollback, why, answer, outcome}
-use Rattle.cdb_run.specs.EventRefs.{name_of}
+use Rattle.cdb_rules.specs.EventRefs.{name_of}
 use Rattle.cdb_control.specs.State.{State, redo_of, last_of}
 use Rattle.cdb_control.specs.declared.command.Command.TheVariants as command
-use Rattle.cdb_run.specs.declared.event_ref.EventRef.TheVariants.{Step, Lost}
-use Rattle.cdb_run.specs.Refusals.{with_taken}
-use Rattle.cdb_run.specs.Rules.{Rules}
-use Rattle.cdb_run.specs.Undo.{answered, left_by, number_removed, with_removed}
+use Rattle.cdb_rules.specs.declared.event_ref.EventRef.TheVariants.{Step, Lost}
+use Rattle.cdb_rules.specs.Refusals.{with_taken}
+use Rattle.cdb_rules.specs.Rules.{Rules}
+use Rattle.cdb_rules.specs.Undo.{answered, left_by, number_removed, with_removed}
 
 pub as_step : (rules : Rules) (t : State) (seat p : ℕ) (act : Act) (o : Outcome) → o ≡ step rules t p act → o ≡ outcome rules t seat (command.Step p act)
 unfolding outcome

@@ -12,23 +12,23 @@ use Rattle.cdb_base.specs.declared.refusal.Refusal.{Refusal}
 use Rattle.cdb_base.specs.declared.refusal.Refusal.TheVariants.{NoProcess, NothingToRedo, NoBreak, BreakLimit}
 use Rattle.cdb_control.specs.Auto.{choice}
 use Rattle.cdb_control.specs.Commands.{Outcome, unless, granted, found, unpaused, stepped, step, lost, taken_back, undo, rollback, why, redone, shown, outcome, obey}
-use Rattle.cdb_run.specs.EventRefs.{name_of}
+use Rattle.cdb_rules.specs.EventRefs.{name_of}
 use Rattle.cdb_control.specs.State.{State, held, redo_of, last_of, AreOfRun}
 use Rattle.cdb_control.specs.Stops.{names_none_of}
 use Rattle.cdb_control.specs.declared.command.Command.{Command}
 use Rattle.cdb_control.specs.declared.command.Command.TheVariants.{Step, Auto, Lose, Undo, UndoLost, Redo, Forget, Rollback, RollbackLost, Why, WhyLost, Break, Unbreak, Resume, Show, Decisions}
 use Rattle.cdb_control.specs.declared.command.View.{View}
 use Rattle.cdb_control.specs.declared.command.View.TheVariants as view
-use Rattle.cdb_run.specs.declared.event_ref.EventRef.TheVariants as named
-use Rattle.cdb_control.proofs.Alls.{all-append, all-take, all-set, all-get_or, all-slice_get}
+use Rattle.cdb_rules.specs.declared.event_ref.EventRef.TheVariants as named
+use Rattle.cdb_rules.proofs.Alls.{all-append, all-take, all-set, all-get_or, all-slice_get}
 use Rattle.cdb_control.proofs.Held.{waiting-set}
-use Rattle.cdb_control.proofs.Removed.{Parted, undone-parted, rolled_back-parted}
+use Rattle.cdb_rules.proofs.Removed.{Parted, undone-parted, rolled_back-parted}
 use Rattle.cdb_message.specs.Mail.{message_name}
-use Rattle.cdb_run.specs.Lawful.{AreLawful}
-use Rattle.cdb_run.specs.Refusals.{IsOfRun}
-use Rattle.cdb_run.specs.Rules.{Rules}
+use Rattle.cdb_rules.specs.Lawful.{AreLawful}
+use Rattle.cdb_rules.specs.Refusals.{IsOfRun}
+use Rattle.cdb_rules.specs.Rules.{Rules}
 use Rattle.cdb_setup.proofs.Walk.{push_all}
-use Rattle.cdb_run.specs.Undo.{undo_of, rollback_of, causes_of}
+use Rattle.cdb_rules.specs.Undo.{undo_of, rollback_of, causes_of}
 
 -- what one command can add to a state
 pub record Adds (t u : State) : Type 0 where

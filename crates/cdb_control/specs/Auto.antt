@@ -9,7 +9,7 @@ use Rattle.cdb_base.specs.declared.name.MsgName.{MsgName}
 use Rattle.cdb_base.specs.declared.refusal.Refusal.{Refusal}
 use Rattle.cdb_base.specs.declared.refusal.Refusal.TheVariants as refusal
 use Rattle.cdb_message.specs.Mail.{next_pending}
-use Rattle.cdb_run.specs.Rules.{Rules, Shown}
+use Rattle.cdb_rules.specs.Rules.{Rules, Shown}
 
 -- what is tried in turn: a learn, a receive of the least pending copy, what the machine wishes, a query
 abbrev pub acts_after_learn : Option MsgName → List Act

@@ -5,7 +5,7 @@ use Rattle.cdb_control.specs.Commands.{Outcome, answer, outcome}
 use Rattle.cdb_control.specs.State.{State}
 use Rattle.cdb_control.specs.declared.command.Command.{Command}
 use Rattle.cdb_control.specs.declared.reply.Reply.{Reply}
-use Rattle.cdb_run.specs.Rules.{Rules}
+use Rattle.cdb_rules.specs.Rules.{Rules}
 use Rattle.cdb_setup.specs.Parts.{Parts}
 
 -- the reply that was given, and the state that was left

@@ -19,8 +19,8 @@ use Rattle.cdb_control.specs.State.{State, redo_of}
 use Rattle.cdb_control.specs.declared.command.Command.{Command}
 use Rattle.cdb_control.specs.declared.command.Command.TheVariants.{Undo, UndoLost, Redo, Rollback, RollbackLost, Decisions}
 use Rattle.cdb_control.specs.declared.control.Entry.{Entry}
-use Rattle.cdb_run.specs.Agreement.{AllAgree, HasMajorityIfNeeded}
-use Rattle.cdb_run.specs.Rules.{Rules}
+use Rattle.cdb_rules.specs.Agreement.{AllAgree, HasMajorityIfNeeded}
+use Rattle.cdb_rules.specs.Rules.{Rules}
 use Rattle.cdb_setup.specs.Parts.{Parts, IsWithin}
 
 -- ---- words

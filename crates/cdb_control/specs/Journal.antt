@@ -6,7 +6,7 @@ use Rattle.cdb_base.specs.declared.limits.TheConstants.{MAX_ENTRIES}
 use Rattle.cdb_control.specs.declared.command.Command.{Command}
 use Rattle.cdb_control.specs.declared.control.Entry.{Entry}
 use Rattle.cdb_setup.specs.Parts.{Parts, AreInRange}
-use Rattle.cdb_run.specs.Rules.{Rules}
+use Rattle.cdb_rules.specs.Rules.{Rules}
 use Rattle.cdb_control.specs.State.{State, first_state, held, AreOfRun}
 use Rattle.cdb_control.specs.Commands.{answer, obey}
 use Rattle.cdb_control.specs.Room.{lowered}

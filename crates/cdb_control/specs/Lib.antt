@@ -2,7 +2,6 @@
 pub mod Answer
 pub mod Auto
 pub mod Stops
-pub mod Views
 pub mod State
 pub mod Commands
 pub mod Journal

@@ -3,7 +3,7 @@ use Rattle.std.specs.Prelude.{ℕ, ◌+◌, ◌-◌, List, [], ◌∷◌, length
 use Rattle.std.specs.List.{AllByRecursion}
 use Rattle.cdb_base.specs.declared.event.Event.{Event}
 use Rattle.cdb_control.specs.Stops.{Stops}
-use Rattle.cdb_run.specs.Refusals.{IsOfRun}
+use Rattle.cdb_rules.specs.Refusals.{IsOfRun}
 use Rattle.cdb_setup.specs.Parts.{Parts}
 
 pub record State : Type 0 where

@@ -12,7 +12,7 @@ use Rattle.cdb_base.specs.declared.register.Reg.TheVariants.{R, Dec}
 use Rattle.cdb_control.specs.declared.command.Stop.{Stop}
 use Rattle.cdb_control.specs.declared.command.Stop.TheVariants as stop
 use Rattle.cdb_control.specs.declared.stops.Taken.{Taken}
-use Rattle.cdb_run.specs.Step.{is_among}
+use Rattle.cdb_rules.specs.Step.{is_among}
 
 abbrev pub Stops : Type 0
 Stops = List (ℕ × Stop)

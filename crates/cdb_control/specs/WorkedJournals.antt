@@ -9,13 +9,16 @@ use Rattle.cdb_control.specs.Journal.{entry, replies_of}
 use Rattle.cdb_control.specs.declared.command.Command.TheVariants.{Step, Undo, Redo, Rollback, Show, Decisions}
 use Rattle.cdb_control.specs.declared.command.View.TheVariants.{History}
 use Rattle.cdb_control.specs.declared.control.Entry.{Entry}
-use Rattle.cdb_run.specs.Algorithms.{rules}
-use Rattle.cdb_run.specs.WorkedRuns.{alone}
+use Rattle.cdb_rules.specs.Algorithms.{rules}
+use Rattle.cdb_setup.specs.Parts.{Parts}
 use Rattle.cdb_setup.specs.declared.setup.Algorithm.TheVariants.{Leader}
+
+abbrev pub one_process : Parts
+one_process = record { version = 1; algorithm = Leader; processes = 1; quorum = 1; inputs = 7 ∷ []; answers = [] }
 
 -- the replies to a seat along such a journal
 abbrev pub replies : ℕ → List Entry → List Answer
-replies seat journal = replies_of (rules (alone Leader (7 ∷ []))) (alone Leader (7 ∷ [])) 2 seat journal
+replies seat journal = replies_of (rules one_process) one_process 2 seat journal
 
 -- the first two steps of the process
 abbrev pub query : Event

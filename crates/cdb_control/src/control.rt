@@ -9,10 +9,10 @@ ghost use Rattle.cdb_control.specs.Room.{is_spared, cost, room_of, with_room, ra
 
 use crate::command::{Command, Stop, View};
 use crate::reply::Reply;
-use crate::runs::Runs;
 use crate::state::ControlState;
 use cdb_base::limits::{MAX_ENTRIES, MAX_SEATS};
 use cdb_base::{Act, NoMemory, Reg};
+use cdb_rules::Runs;
 use cdb_setup::Setup;
 use std::alloc::Global;
 use std::error::Error;

@@ -11,10 +11,10 @@ ghost use Rattle.cdb_control.specs.Headline.{Headline};
 ghost use Rattle.cdb_control.specs.Journal.{entry, replay, own, replies_of, AreOfSeats, Begins};
 ghost use Rattle.cdb_control.specs.State.{State, redo_of};
 ghost use Rattle.cdb_control.specs.WorkedJournals.{replies, query, send, undone_and_redone, rolled_back_and_redone};
-ghost use Rattle.cdb_run.specs.Algorithms.{rules};
-ghost use Rattle.cdb_run.specs.Rules.{Rules};
-ghost use Rattle.cdb_run.specs.SameState.{ReachSameState};
+ghost use Rattle.cdb_rules.specs.Rules.{Rules};
 ghost use Rattle.cdb_setup.specs.Parts.{Parts, AreInRange};
+
+use cdb_rules::Runs;
 
 /// A refused command changes nothing.
 #[tactic(auto, using(crate::proofs::Refused::refused_changes_nothing))]
@@ -55,10 +55,10 @@ pub fn others_add_no_reply()
         replies_of rules setup seats seat journal ≡ replies_of rules setup seats seat seen }
 {}
 
-/// The headline holds of every journal of commands of seats that there are, by either algorithm.
-pub fn headline()
+/// The headline holds of every journal of commands of seats that there are, by the rules of any run.
+pub fn headline<R: Runs>()
     ensures { (setup : Parts) → AreInRange setup → (seats : ℕ) (journal : List Entry) →
-        AreOfSeats seats journal → Headline rules ReachSameState setup seats journal }
+        AreOfSeats seats journal → Headline R.rules R.same_state setup seats journal }
 {}
 
 /// By the table of the commands: what one seat undoes or rolls back it takes again, whatever the other

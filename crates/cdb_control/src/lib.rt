@@ -8,20 +8,16 @@
 //! ```
 #![tactic(auto)]
 
-mod any_run;
 mod command;
 mod control;
 pub mod laws;
 mod redo;
 mod reply;
-mod runs;
 mod state;
 mod stops;
 
-pub use any_run::RunOfSetup;
 pub use cdb_base::Act;
-pub use cdb_run::EventRef;
+pub use cdb_rules::{EventRef, ProcView, Runs};
 pub use command::{Command, Stop, View};
 pub use control::{CallFault, Control, Entry, OpenFault};
-pub use reply::{ProcView, Reply};
-pub use runs::Runs;
+pub use reply::Reply;

@@ -2,13 +2,12 @@
 ghost use Rattle.std.specs.Prelude.{◌≡◌, ◌<◌, ◌≤◌, ◌+◌, [], IfOk, OnOk, OnErr, IsOk, length};
 ghost use Rattle.cdb_base.specs.Places.{without_last};
 ghost use Rattle.cdb_control.specs.State.{last_of};
-ghost use Rattle.cdb_run.specs.EventRefs.{name_of};
-ghost use Rattle.cdb_run.specs.Refusals.{with_taken};
-ghost use Rattle.cdb_run.specs.Runs.{RollsBackOnto, undo_answer, after_undo};
+ghost use Rattle.cdb_rules.specs.EventRefs.{name_of};
+ghost use Rattle.cdb_rules.specs.Refusals.{with_taken};
+ghost use Rattle.cdb_rules.specs.Runs.{RollsBackOnto, undo_answer, after_undo};
 
-use crate::runs::Runs;
 use cdb_base::{Event, Kind, NoMemory, Refusal, Reg};
-use cdb_run::EventRef;
+use cdb_rules::{EventRef, Runs};
 use std::alloc::Global;
 use std::marker::Model;
 

@@ -1,23 +1,8 @@
 //! The replies to a session's commands.
 
 use cdb_base::{Cell, Event, MsgName, Payload, Proc, Refusal, StepId, Val};
+use cdb_rules::ProcView;
 use smallvec::SmallVec;
-
-/// A process as it is shown.
-#[derive(Clone, Copy, Debug, PartialEq, Eq)]
-pub struct ProcView {
-    pub p: Proc,
-    /// Whether it runs Alpha; else it runs the leader-based algorithm.
-    pub alpha: bool,
-    pub place: u8,
-    pub round: u32,
-    pub alive: bool,
-    /// How many of its steps stand.
-    pub steps: u32,
-    /// How many of its queries stand.
-    pub queries: u32,
-    pub decision: Option<Val>,
-}
 
 /// The reply to a command.
 #[derive(Drop)]

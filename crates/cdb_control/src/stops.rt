@@ -3,7 +3,7 @@ ghost use Rattle.std.specs.Prelude.{◌≡◌, ◌≤◌, ◌==◌, ◌&&◌, []
 ghost use Rattle.std.specs.Map.{lookup};
 ghost use Rattle.cdb_base.specs.Event.{is_step_of};
 ghost use Rattle.cdb_control.specs.Stops.{fires, first_fired, is_receive, is_write_of, names_none_of, with_stop, without_stop};
-ghost use Rattle.cdb_run.specs.Step.{is_among};
+ghost use Rattle.cdb_rules.specs.Step.{is_among};
 
 use crate::Stop;
 use cdb_base::{Event, Kind, NoMemory, Reg, Val};

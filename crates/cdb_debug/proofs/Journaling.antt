@@ -8,7 +8,7 @@ use Rattle.cdb_base.specs.declared.limits.TheConstants.{MAX_ENTRIES}
 use Rattle.cdb_control.specs.Journal.{Journaled, entry, extended}
 use Rattle.cdb_control.specs.declared.command.Command.{Command}
 use Rattle.cdb_control.specs.declared.control.Entry.{Entry}
-use Rattle.cdb_run.specs.Algorithms.{rules}
+use Rattle.cdb_rules.specs.Algorithms.{rules}
 use Rattle.cdb_debug.specs.Dialogues.{Session, begun, after, control_after, session_after}
 use Rattle.cdb_debug.specs.Laws.{commands_of, JournalHasTheCommands}
 use Rattle.cdb_debug.specs.declared.request.Request.{Request}

@@ -5,7 +5,7 @@ use Rattle.cdb_control.specs.FaultTexts.{call_fault_text}
 use Rattle.cdb_control.specs.declared.control.CallFault.TheVariants.{JournalFull}
 use Rattle.cdb_control.specs.Journal.{Journaled, opened, extended, reply_in}
 use Rattle.cdb_play.specs.FaultTexts.{as_line}
-use Rattle.cdb_run.specs.Algorithms.{rules}
+use Rattle.cdb_rules.specs.Algorithms.{rules}
 use Rattle.cdb_setup.specs.Parts.{Parts}
 use Rattle.cdb_text.specs.LineFaults.{line_fault_text}
 use Rattle.cdb_text.specs.Texts.{text_of}

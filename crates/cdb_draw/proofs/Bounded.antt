@@ -7,10 +7,10 @@ use Rattle.cdb_control.specs.Commands.{obey}
 use Rattle.cdb_control.specs.Journal.{AreOfSeats, Journaled, replay, replay_from, state_in}
 use Rattle.cdb_control.specs.State.{State, first_state, held, waiting}
 use Rattle.cdb_control.specs.declared.control.Entry.{Entry}
-use Rattle.cdb_run.proofs.Lawful.{rules_are_lawful}
-use Rattle.cdb_run.specs.Algorithms.{rules}
-use Rattle.cdb_run.specs.Lawful.{AreLawful}
-use Rattle.cdb_run.specs.Rules.{Rules}
+use Rattle.cdb_agreement.proofs.Lawful.{rules_are_lawful}
+use Rattle.cdb_rules.specs.Algorithms.{rules}
+use Rattle.cdb_rules.specs.Lawful.{AreLawful}
+use Rattle.cdb_rules.specs.Rules.{Rules}
 use Rattle.cdb_setup.specs.Parts.{AreInRange}
 
 none_wait : (n : ℕ) → waiting (replicate n []) ≡ 0

@@ -12,8 +12,8 @@ use Rattle.cdb_play.specs.declared.buffer.OutputFault.{OutputFault}
 use Rattle.cdb_play.specs.declared.buffer.OutputFault.TheVariants as output
 use Rattle.cdb_play.specs.declared.fault.PlayFault.{PlayFault}
 use Rattle.cdb_play.specs.declared.fault.PlayFault.TheVariants as play
-use Rattle.cdb_run.specs.Current.{RunView}
-use Rattle.cdb_run.specs.Rules.{Rules}
+use Rattle.cdb_rules.specs.RunView.{RunView}
+use Rattle.cdb_rules.specs.Rules.{Rules}
 use Rattle.cdb_setup.specs.Parts.{Parts}
 use Rattle.cdb_draw.specs.Drawn.{DrawWrites, IsFaultOfDraw, IsMissing}
 use Rattle.cdb_draw.specs.Written.{WritesOne}

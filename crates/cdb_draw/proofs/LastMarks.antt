@@ -6,9 +6,9 @@ use Rattle.cdb_control.specs.Commands.{decides}
 use Rattle.cdb_explain.specs.Explanations.{run_after}
 use Rattle.cdb_explain.specs.Marked.{is_marked}
 use Rattle.cdb_explain.proofs.Along.{whole_of_last}
-use Rattle.cdb_run.specs.Algorithms.{rules}
-use Rattle.cdb_run.specs.Current.{RunView}
-use Rattle.cdb_run.specs.Runs.{with_history}
+use Rattle.cdb_rules.specs.Algorithms.{rules}
+use Rattle.cdb_rules.specs.RunView.{RunView}
+use Rattle.cdb_rules.specs.Runs.{with_history}
 use Rattle.cdb_draw.specs.Arrows.{spot_text}
 use Rattle.cdb_draw.specs.EventMarks.{body_text, decided_text, lane_of, mark_at, mark_close, mark_text, open_text, title_text}
 

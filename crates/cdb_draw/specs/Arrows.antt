@@ -7,7 +7,7 @@ use Rattle.cdb_base.specs.declared.event.Kind.{Kind}
 use Rattle.cdb_base.specs.declared.event.Kind.TheVariants.{Recv, Read, Write}
 use Rattle.cdb_explain.specs.Marked.{is_marked}
 use Rattle.cdb_message.specs.Mail.{message_name}
-use Rattle.cdb_run.specs.Current.{RunView}
+use Rattle.cdb_rules.specs.RunView.{RunView}
 use Rattle.cdb_setup.specs.Parts.{Parts}
 use Rattle.cdb_draw.specs.Layout.{x_of, lane_y, register_y}
 use Rattle.cdb_draw.specs.Places.{sent_at}

@@ -7,8 +7,8 @@ use Rattle.cdb_explain.specs.declared.fault.ExplainFault.TheVariants.{NoStep, Pl
 use Rattle.cdb_play.specs.Faults.{IsFaultOfPlay}
 use Rattle.cdb_play.specs.Left.{Leaves}
 use Rattle.cdb_play.specs.Written.{PlayWrites}
-use Rattle.cdb_run.specs.Current.{RunView}
-use Rattle.cdb_run.specs.Rules.{Rules}
+use Rattle.cdb_rules.specs.RunView.{RunView}
+use Rattle.cdb_rules.specs.Rules.{Rules}
 use Rattle.cdb_setup.specs.Parts.{Parts}
 use Rattle.cdb_draw.specs.Picture.{IsPicture}
 use Rattle.cdb_draw.specs.declared.script.StepAsked.{StepAsked}

@@ -8,8 +8,8 @@ use Rattle.cdb_base.specs.declared.event.Kind.TheVariants.{Query, Send, Recv, Re
 use Rattle.cdb_control.specs.Commands.{decides}
 use Rattle.cdb_explain.specs.Explanations.{run_after, whole_text}
 use Rattle.cdb_explain.specs.Marked.{is_marked}
-use Rattle.cdb_run.specs.Current.{RunView}
-use Rattle.cdb_run.specs.Rules.{Rules}
+use Rattle.cdb_rules.specs.RunView.{RunView}
+use Rattle.cdb_rules.specs.Rules.{Rules}
 use Rattle.cdb_setup.specs.Parts.{Parts}
 use Rattle.cdb_base.specs.NameTexts.{message_text, register_text, step_text}
 use Rattle.cdb_draw.specs.Arrows.{spot_text, weight_text}

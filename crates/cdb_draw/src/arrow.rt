@@ -10,8 +10,8 @@ ghost use Rattle.cdb_text.specs.Pushes.{Pushes};
 use crate::layout::{lane_y, register_y, x_of};
 use crate::piece::{push, push_number};
 use crate::sends::{Sends, place_of_send};
+use cdb_any_run::RunOfSetup;
 use cdb_base::{Event, Kind, MsgName, Proc, Reg};
-use cdb_control::RunOfSetup;
 use cdb_setup::Setup;
 use std::alloc::AllocError;
 

@@ -3,11 +3,11 @@
 ghost use Rattle.std.specs.Prelude.{◌≡◌, ◌<◌, ◌≤◌, length, IfOk, IfSome};
 ghost use Rattle.cdb_draw.specs.Picture.{AreInFull, IsPicture};
 ghost use Rattle.cdb_draw.specs.Written.{WritesOne};
-ghost use Rattle.cdb_run.specs.Algorithms.{rules};
+ghost use Rattle.cdb_rules.specs.Algorithms.{rules};
 
 use crate::picture::write_picture;
+use cdb_any_run::RunOfSetup;
 use cdb_base::NoMemory;
-use cdb_control::RunOfSetup;
 use cdb_explain::past_of;
 use cdb_play::{OutputFault, Sink};
 use std::alloc::Global;

@@ -8,9 +8,9 @@ ghost use Rattle.cdb_text.specs.Pushes.{Pushes};
 use crate::layout::{end_x, lane_y, register_y, x_of};
 use crate::piece::{push, push_number, push_process, push_register, push_val};
 use crate::sends::crashed_at;
+use cdb_any_run::RunOfSetup;
 use cdb_base::{Proc, Reg, Val};
 use cdb_causal::History;
-use cdb_control::RunOfSetup;
 use cdb_setup::Algorithm;
 use std::alloc::AllocError;
 

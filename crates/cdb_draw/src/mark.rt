@@ -5,14 +5,14 @@ ghost use Rattle.cdb_control.specs.Commands.{decides};
 ghost use Rattle.cdb_draw.specs.Arrows.{spot_text};
 ghost use Rattle.cdb_draw.specs.EventMarks.{body_text, decided_text, decision_text, kind_with, kind_word, lane_of, mark_close, mark_text, open_text, row_close, row_open, row_text, shape_text, title_text, to_text};
 ghost use Rattle.cdb_explain.specs.Explanations.{whole_text};
-ghost use Rattle.cdb_run.specs.Algorithms.{rules};
+ghost use Rattle.cdb_rules.specs.Algorithms.{rules};
 ghost use Rattle.cdb_base.specs.NameTexts.{message_text, step_text};
 ghost use Rattle.cdb_text.specs.Pushes.{Pushes};
 
 use crate::arrow::{push_spot, push_weight};
 use crate::piece::{push, push_message, push_number, push_process, push_register, push_val};
+use cdb_any_run::RunOfSetup;
 use cdb_base::{CopyName, Event, Kind, MsgName, Proc, Val};
-use cdb_control::RunOfSetup;
 use cdb_explain::{decision_by, push_whole};
 use cdb_setup::Setup;
 use std::alloc::{AllocError, Global};

@@ -9,7 +9,7 @@ ghost use Rattle.cdb_draw.specs.Picture.{algorithm_text, document_text, foot, he
 ghost use Rattle.cdb_draw.specs.Sends.{AreSendsOf};
 ghost use Rattle.cdb_explain.specs.Explanations.{run_after};
 ghost use Rattle.cdb_play.specs.Buffers.{Puts, Wrote};
-ghost use Rattle.cdb_run.specs.Algorithms.{rules};
+ghost use Rattle.cdb_rules.specs.Algorithms.{rules};
 ghost use Rattle.cdb_text.specs.Pushes.{Pushes};
 
 use crate::arrow::push_arrow;
@@ -19,7 +19,7 @@ use crate::mark::push_mark;
 use crate::piece::{push, push_number};
 use crate::sends::{Sends, sends_of};
 use crate::style::{NAMESPACE, SHAPES, STYLE};
-use cdb_control::RunOfSetup;
+use cdb_any_run::RunOfSetup;
 use cdb_explain::{fresh, take_next};
 use cdb_play::{Buffer, OutputFault, Sink};
 use cdb_setup::Algorithm;

@@ -7,12 +7,13 @@ ghost use Rattle.cdb_explain.specs.declared.fault.ExplainFault.TheVariants.{NoSt
 ghost use Rattle.cdb_play.specs.Left.{run_of};
 ghost use Rattle.cdb_play.specs.Streams.{FailsWhere};
 ghost use Rattle.cdb_play.specs.declared.fault.PlayFault.TheVariants as play;
-ghost use Rattle.cdb_run.specs.Algorithms.{rules};
+ghost use Rattle.cdb_rules.specs.Algorithms.{rules};
 ghost use Rattle.cdb_setup.specs.declared.fault.SetupFault.{SetupFault as SetupFaultName};
 
 use crate::draws::draw_run;
+use cdb_any_run::RunOfSetup;
 use cdb_causal::History;
-use cdb_control::{Control, RunOfSetup};
+use cdb_control::Control;
 use cdb_explain::{ExplainFault, place_of_step};
 use cdb_play::{Sink, Source, left_by};
 use std::alloc::Global;
@@ -92,6 +93,6 @@ pub fn draw<R: Source, W: Sink>(
         result ≡ Err (of_play (play.Setup fault)) → script.new ≡ script.old }
     ensures read { FailsWhere R.failures (result ≡ Err (of_play play.Read)) script.old script.new }
 {
-    let control = left_by(alloc, setup, script)?;
+    let control = left_by::<RunOfSetup, R>(alloc, setup, script)?;
     write_drawing(alloc, &control, step, out)
 }

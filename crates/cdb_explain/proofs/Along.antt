@@ -9,13 +9,13 @@ use Rattle.cdb_causal.specs.Standing.{IsStanding}
 use Rattle.cdb_control.specs.Commands.{decides}
 use Rattle.cdb_leader.specs.Machine.{leader_table}
 use Rattle.cdb_past.proofs.Pairing.{one_more}
-use Rattle.cdb_run.specs.Algorithms.{rules, rules_by}
-use Rattle.cdb_run.specs.Current.{RunView}
-use Rattle.cdb_run.specs.Machines.{machine_of}
-use Rattle.cdb_run.specs.Runs.{with_event, with_history}
-use Rattle.cdb_run.specs.State.{start}
-use Rattle.cdb_run.specs.Step.{after}
-use Rattle.cdb_run.specs.Undo.{causes_of}
+use Rattle.cdb_rules.specs.Algorithms.{rules, rules_by}
+use Rattle.cdb_rules.specs.RunView.{RunView}
+use Rattle.cdb_rules.specs.Machines.{machine_of}
+use Rattle.cdb_rules.specs.Runs.{with_event, with_history}
+use Rattle.cdb_rules.specs.State.{start}
+use Rattle.cdb_rules.specs.Step.{after}
+use Rattle.cdb_rules.specs.Undo.{causes_of}
 use Rattle.cdb_setup.specs.Parts.{Parts}
 use Rattle.cdb_setup.specs.declared.setup.Algorithm.{Algorithm}
 use Rattle.cdb_setup.specs.declared.setup.Algorithm.TheVariants.{Leader, Alpha}

@@ -9,10 +9,10 @@ use Rattle.cdb_base.specs.declared.refusal.Refusal.TheVariants as refusal
 use Rattle.cdb_causal.specs.Names.{IsNamedAt}
 use Rattle.cdb_causal.specs.Standing.{IsStanding}
 use Rattle.cdb_past.proofs.Pairing.{taken}
-use Rattle.cdb_run.specs.Undo.{causes_of, direct_among, for_standing, found_at, names_processes}
-use Rattle.cdb_run.proofs.Answering.{found_is}
-use Rattle.cdb_run.proofs.Finding.{no_process_named, stands_named}
-use Rattle.cdb_run.proofs.ListMembers.{get-take}
+use Rattle.cdb_rules.specs.Undo.{causes_of, direct_among, for_standing, found_at, names_processes}
+use Rattle.cdb_rules.proofs.Answering.{found_is}
+use Rattle.cdb_rules.proofs.Finding.{no_process_named, stands_named}
+use Rattle.cdb_rules.proofs.ListMembers.{get-take}
 
 -- the names of the direct causes of an event, before which these stand
 abbrev names_of : List Event → Event → List StepId

@@ -12,19 +12,19 @@ use Rattle.cdb_causal.specs.Standing.{IsStanding}
 use Rattle.cdb_leader.specs.Machine.{leader_table}
 use Rattle.cdb_message.specs.Mail.{is_sent, is_received, is_lost}
 use Rattle.cdb_process.specs.Table.{Table}
-use Rattle.cdb_run.specs.Algorithms.{rules, rules_by}
-use Rattle.cdb_run.specs.Machines.{machine_of}
-use Rattle.cdb_run.specs.Mail.{mail_of}
-use Rattle.cdb_run.specs.Refusals.{IsOfRun, NamesProcess}
-use Rattle.cdb_run.specs.State.{Machine, ProcessState, start}
-use Rattle.cdb_run.specs.Step.{after, is_among, is_due, state_of, IsEnabled, IsValid}
-use Rattle.cdb_run.specs.Undo.{names_processes}
-use Rattle.cdb_run.proofs.Commutes.{lost_from}
-use Rattle.cdb_run.proofs.Histories.{reached_state}
-use Rattle.cdb_run.proofs.KeptHistories.{rules_keep_histories}
-use Rattle.cdb_run.proofs.Naming.{valid_standing}
-use Rattle.cdb_run.proofs.Starting.{length-first_states}
-use Rattle.cdb_run.proofs.Taken.{both, parts, some_of, taken_from}
+use Rattle.cdb_rules.specs.Algorithms.{rules, rules_by}
+use Rattle.cdb_rules.specs.Machines.{machine_of}
+use Rattle.cdb_rules.specs.Mail.{mail_of}
+use Rattle.cdb_rules.specs.Refusals.{IsOfRun, NamesProcess}
+use Rattle.cdb_rules.specs.State.{Machine, ProcessState, start}
+use Rattle.cdb_rules.specs.Step.{after, is_among, is_due, state_of, IsEnabled, IsValid}
+use Rattle.cdb_rules.specs.Undo.{names_processes}
+use Rattle.cdb_rules.proofs.Commutes.{lost_from}
+use Rattle.cdb_rules.proofs.Histories.{reached_state}
+use Rattle.cdb_agreement.proofs.KeptHistories.{rules_keep_histories}
+use Rattle.cdb_rules.proofs.Naming.{valid_standing}
+use Rattle.cdb_rules.proofs.FirstStates.{length-first_states}
+use Rattle.cdb_rules.proofs.Taken.{both, parts, some_of, taken_from}
 use Rattle.cdb_setup.specs.Parts.{Parts, AreInRange}
 use Rattle.cdb_setup.specs.declared.setup.Algorithm.{Algorithm}
 use Rattle.cdb_setup.specs.declared.setup.Algorithm.TheVariants.{Leader, Alpha}

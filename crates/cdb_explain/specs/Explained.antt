@@ -3,8 +3,8 @@ use Rattle.std.specs.Prelude.{◌≡◌, ℕ, List, Option, Result, Ok, Err}
 use Rattle.cdb_play.specs.Faults.{IsFaultOfPlay}
 use Rattle.cdb_play.specs.Left.{Leaves}
 use Rattle.cdb_play.specs.Whole.{WritesWhole}
-use Rattle.cdb_run.specs.Current.{RunView}
-use Rattle.cdb_run.specs.Rules.{Rules}
+use Rattle.cdb_rules.specs.RunView.{RunView}
+use Rattle.cdb_rules.specs.Rules.{Rules}
 use Rattle.cdb_setup.specs.Parts.{Parts}
 use Rattle.cdb_explain.specs.Asked.{StandsNoStep}
 use Rattle.cdb_explain.specs.Explanations.{IsStepExplained}

@@ -18,10 +18,10 @@ use Rattle.cdb_explain.specs.Asked.{IsStepAsked}
 use Rattle.cdb_explain.specs.Marked.{marked_of_first}
 use Rattle.cdb_message.specs.Mail.{message_name, payload_of}
 use Rattle.cdb_past.specs.Marks.{MarkPast}
-use Rattle.cdb_run.specs.ByRules.{cell_in, mail_in}
-use Rattle.cdb_run.specs.Current.{RunView}
-use Rattle.cdb_run.specs.Rules.{Rules}
-use Rattle.cdb_run.specs.Runs.{causes_in, with_history}
+use Rattle.cdb_rules.specs.ByRules.{cell_in, mail_in}
+use Rattle.cdb_rules.specs.RunView.{RunView}
+use Rattle.cdb_rules.specs.Rules.{Rules}
+use Rattle.cdb_rules.specs.Runs.{causes_in, with_history}
 use Rattle.cdb_setup.specs.Parts.{Parts}
 use Rattle.cdb_text.specs.Events.{event_text}
 use Rattle.cdb_text.specs.Reports.{causes_text, payload_text, value_text}

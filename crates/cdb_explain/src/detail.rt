@@ -2,13 +2,13 @@
 
 ghost use Rattle.cdb_explain.specs.Explanations.{cell_detail, detail_text, kind_detail, message_detail};
 ghost use Rattle.cdb_message.specs.Mail.{payload_of};
-ghost use Rattle.cdb_run.specs.Algorithms.{rules};
-ghost use Rattle.cdb_run.specs.ByRules.{cell_in, mail_in};
+ghost use Rattle.cdb_rules.specs.Algorithms.{rules};
+ghost use Rattle.cdb_rules.specs.ByRules.{cell_in, mail_in};
 ghost use Rattle.cdb_text.specs.Pushes.{Pushes};
 ghost use Rattle.std.specs.Prelude.{◌≡◌, Some};
 
+use cdb_any_run::RunOfSetup;
 use cdb_base::{Cell, Event, Kind, MsgName, Proc, Reg};
-use cdb_control::RunOfSetup;
 use cdb_text::{push_payload, push_value};
 use std::alloc::AllocError;
 

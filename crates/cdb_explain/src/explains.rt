@@ -8,12 +8,12 @@ ghost use Rattle.cdb_explain.specs.StepFaults.{IsFaultOfStep};
 ghost use Rattle.cdb_explain.specs.declared.fault.ExplainFault.TheVariants.{Play as of_play};
 ghost use Rattle.cdb_play.specs.Streams.{FailsWhere};
 ghost use Rattle.cdb_play.specs.declared.fault.PlayFault.TheVariants as play;
-ghost use Rattle.cdb_run.specs.Algorithms.{rules};
+ghost use Rattle.cdb_rules.specs.Algorithms.{rules};
 ghost use Rattle.cdb_setup.specs.declared.fault.SetupFault.{SetupFault as SetupFaultName};
 
 use crate::fault::ExplainFault;
 use crate::step::explain_step;
-use cdb_control::RunOfSetup;
+use cdb_any_run::RunOfSetup;
 use cdb_play::{Sink, Source, left_by, write_text};
 use std::alloc::Global;
 
@@ -60,6 +60,6 @@ pub fn explain<R: Source, W: Sink>(
         result ≡ Err (of_play (play.Setup fault)) → script.new ≡ script.old }
     ensures read { FailsWhere R.failures (result ≡ Err (of_play play.Read)) script.old script.new }
 {
-    let control = left_by(alloc, setup, script)?;
+    let control = left_by::<RunOfSetup, R>(alloc, setup, script)?;
     write_explanation(alloc, control.run(), p, k, out)
 }

@@ -3,15 +3,16 @@
 ghost use Rattle.cdb_base.specs.Event.{event_name};
 ghost use Rattle.cdb_control.specs.Commands.{decides};
 ghost use Rattle.cdb_explain.specs.Explanations.{because_text, line_text, whole_text};
-ghost use Rattle.cdb_run.specs.Algorithms.{rules};
-ghost use Rattle.cdb_run.specs.EventRefs.{name_of};
-ghost use Rattle.cdb_run.specs.Runs.{causes_in};
+ghost use Rattle.cdb_rules.specs.Algorithms.{rules};
+ghost use Rattle.cdb_rules.specs.EventRefs.{name_of};
+ghost use Rattle.cdb_rules.specs.Runs.{causes_in};
 ghost use Rattle.cdb_text.specs.Pushes.{Pushes};
 ghost use Rattle.std.specs.Prelude.{◌≡◌};
 
 use crate::detail::push_detail;
+use cdb_any_run::RunOfSetup;
 use cdb_base::{CopyName, Event, MsgName, Val};
-use cdb_control::{EventRef, RunOfSetup, Runs};
+use cdb_control::{EventRef, Runs};
 use cdb_text::{push_causes, push_decides, push_event};
 use std::alloc::{AllocError, Global};
 

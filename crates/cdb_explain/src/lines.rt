@@ -2,7 +2,7 @@
 
 ghost use Rattle.cdb_explain.specs.Explanations.{count_text, line_at, lines_text, IsExplanation};
 ghost use Rattle.cdb_explain.specs.Marked.{marked_of_first};
-ghost use Rattle.cdb_run.specs.Algorithms.{rules};
+ghost use Rattle.cdb_rules.specs.Algorithms.{rules};
 ghost use Rattle.cdb_text.specs.Pushes.{Pushes};
 ghost use Rattle.std.specs.List.{flat_map};
 ghost use Rattle.std.specs.Prelude.{◌≡◌, ◌<◌, length, IfOk};
@@ -10,8 +10,8 @@ ghost use Rattle.std.specs.Prelude.{◌≡◌, ◌<◌, length, IfOk};
 use crate::line::push_line;
 use crate::past::past_of;
 use crate::replay::{fresh, take_next};
+use cdb_any_run::RunOfSetup;
 use cdb_base::NoMemory;
-use cdb_control::RunOfSetup;
 use std::alloc::{AllocError, Global};
 
 /// Adds the lines of the marked events, in the order of the history, and returns how many they are.

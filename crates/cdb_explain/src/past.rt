@@ -3,8 +3,8 @@
 ghost use Rattle.cdb_past.specs.Marks.{MarkPast};
 ghost use Rattle.std.specs.Prelude.{◌<◌, length, IfOk};
 
+use cdb_any_run::RunOfSetup;
 use cdb_base::NoMemory;
-use cdb_control::RunOfSetup;
 use cdb_past::mark_past;
 use std::alloc::Global;
 

@@ -1,11 +1,12 @@
 //! A run that is played again, event by event.
 
-ghost use Rattle.cdb_run.specs.Algorithms.{rules};
-ghost use Rattle.cdb_run.specs.Runs.{with_event, with_history};
+ghost use Rattle.cdb_rules.specs.Algorithms.{rules};
+ghost use Rattle.cdb_rules.specs.Runs.{with_event, with_history};
 ghost use Rattle.std.specs.Prelude.{◌≡◌, ◌++◌, ◌∷◌, [], IfOk, IsTrue, OnOk};
 
+use cdb_any_run::RunOfSetup;
 use cdb_base::{CopyName, Event, Kind, MsgName, NoMemory, Reg, StepId, StepName};
-use cdb_control::{RunOfSetup, Runs};
+use cdb_control::Runs;
 use std::alloc::Global;
 
 /// A run of the same setup in which nothing has happened.

@@ -2,13 +2,13 @@
 
 ghost use Rattle.cdb_explain.specs.Asked.{StandsNoStep};
 ghost use Rattle.cdb_explain.specs.Explanations.{IsStepExplained};
-ghost use Rattle.cdb_run.specs.Algorithms.{rules};
+ghost use Rattle.cdb_rules.specs.Algorithms.{rules};
 ghost use Rattle.std.specs.Prelude.{IfOk, MatchOption};
 
 use crate::asked::place_of_step;
 use crate::lines::explanation;
+use cdb_any_run::RunOfSetup;
 use cdb_base::NoMemory;
-use cdb_control::RunOfSetup;
 use std::alloc::Global;
 
 /// The explanation of the `k`-th standing step of process `p`; without `k` that of its last standing step,

@@ -18,9 +18,10 @@ use Rattle.cdb_hall.specs.Lines.{HasDone, Answers, Shows, own_answer}
 use Rattle.cdb_hall.specs.declared.session.Session.{Session}
 use Rattle.cdb_debug.proofs.Ordered.{Makes-nothing}
 use Rattle.cdb_hall.proofs.Going.{none_done, may_have_done}
+use Rattle.cdb_rules.specs.Algorithms.{rules}
 
 -- a command was carried out
-pub call_answers : {E : Type 0} (r : Result (Vec ℕ Global) E) (old new : Session) (command : Command) (reply : Answer) → IsLater old.seat new.seat → IsCall old.seat command reply new.seat → length new.seat.seen ≤ MAX_ENTRIES
+pub call_answers : {E : Type 0} (r : Result (Vec ℕ Global) E) (old new : Session) (command : Command) (reply : Answer) → IsLater old.seat new.seat → IsCall rules old.seat command reply new.seat → length new.seat.seen ≤ MAX_ENTRIES
     → IfOk r (λ text. text.items ≡ text_of reply) → Answers r old (Call command) new
 call_answers (Ok text) old new command reply later call few is =
     (reply ∷ [], record { later = later; calls = (command, refl, call, few); full = λ c asks none. let long = ap length none in absurd (omega (arith, long)) }, is)

@@ -6,7 +6,7 @@ use Rattle.cdb_play.specs.declared.buffer.OutputFault.{OutputFault}
 use Rattle.cdb_play.specs.declared.buffer.OutputFault.TheVariants as output
 use Rattle.cdb_play.specs.declared.fault.PlayFault.{PlayFault}
 use Rattle.cdb_play.specs.declared.fault.PlayFault.TheVariants as fault
-use Rattle.cdb_run.specs.Algorithms.{rules}
+use Rattle.cdb_rules.specs.Algorithms.{rules}
 use Rattle.cdb_debug.specs.Held.{Says, IsOver, ended_well, ended_by}
 use Rattle.cdb_debug.specs.Moves.{Known, Move, Read, ReadFailed, read_in, Makes}
 use Rattle.cdb_debug.specs.Sessions.{most_input}
@@ -51,7 +51,7 @@ module _ (prompt : List ℕ) (before now : Known) (session : Session) (new : ses
   no_calls : calls_of session.seat ≡ []
   no_calls = ap (own session.seat.number) new
 
-  no_replies : replies_to session.seat ≡ []
+  no_replies : replies_to rules session.seat ≡ []
   no_replies = let seat = session.seat in ap (replies_of (rules seat.setup) seat.setup seat.seats seat.number) new
 
   pub started : (A E : Type 0) (a : A) → session.lines ≡ 0 → Says {E = E} (Ok a) before now prompt → Stands prompt before now session [] 0
@@ -59,13 +59,13 @@ module _ (prompt : List ℕ) (before now : Known) (session : Session) (new : ses
     says.0,
     says.1,
     λ more may.
-        let first : begun (replies_to session.seat ++ more) ≡ at_line session more = λ i. record { replies = no_replies i ++ more; lines = sym none i } in
-        subst (λ (s : Along). IsAt prompt (replies_to session.seat ++ more) says.0 session.seat s [] []) first (prompted prompt (replies_to session.seat ++ more) session.seat no_calls says.0 says.2 says.3),
+        let first : begun (replies_to rules session.seat ++ more) ≡ at_line session more = λ i. record { replies = no_replies i ++ more; lines = sym none i } in
+        subst (λ (s : Along). IsAt prompt (replies_to rules session.seat ++ more) says.0 session.seat s [] []) first (prompted prompt (replies_to rules session.seat ++ more) session.seat no_calls says.0 says.2 says.3),
     ap length (nothing_read says.0 says.2),
   )
 
   pub not_started : (A E : Type 0) (e : E) → Says {A = A} (Err e) before now prompt → Converses (ended_by output.Write) before now prompt session
-  not_started A E e says = (says.0, says.1, not_prompted prompt (replies_to session.seat) session.seat no_calls says.0 says.2 says.3.0 says.3.1 says.3.2)
+  not_started A E e says = (says.0, says.1, not_prompted prompt (replies_to rules session.seat) session.seat no_calls says.0 says.2 says.3.0 says.3.1 says.3.2)
 
 -- ---- in between
 
@@ -74,7 +74,7 @@ module _ (prompt : List ℕ) (before now : Known) (session : Session) (held : Li
   not_read makes = (
     so.0 ++ ReadFailed ∷ [],
     Makes-more before now next so.0 (ReadFailed ∷ []) so.1 makes,
-    read_failed prompt (replies_to session.seat) so.0 session.seat (at_line session []) held [] (as_seen prompt so.0 session held [] so.2) refl,
+    read_failed prompt (replies_to rules session.seat) so.0 session.seat (at_line session []) held [] (as_seen prompt so.0 session held [] so.2) refl,
   )
 
   -- as much was read as may be
@@ -89,7 +89,7 @@ module _ (prompt : List ℕ) (before now : Known) (session : Session) (held : Li
         let long = ap length (read-append so.0 (Read bytes ∷ [])) ∙ length-append (read_in so.0) (bytes ++ []) in (
           so.0 ++ Read bytes ∷ [],
           Makes-more before now next so.0 (Read bytes ∷ []) so.1 makes,
-          λ more may. more_read prompt (replies_to session.seat ++ more) so.0 session.seat (at_line session more) held [] (so.2 more may) refl bytes,
+          λ more may. more_read prompt (replies_to rules session.seat ++ more) so.0 session.seat (at_line session more) held [] (so.2 more may) refl bytes,
           omega (arith, long, so.3, ap length (append-nil bytes)),
         )
 

@@ -15,12 +15,13 @@ use Rattle.cdb_hall.specs.Dialogues.{Along, answer_to, after, shown}
 use Rattle.cdb_hall.specs.Held.{MayFollow}
 use Rattle.cdb_hall.specs.Lines.{HasGot, FindsFull, HasDone, MayHaveDone}
 use Rattle.cdb_hall.specs.Parts.{part_seen, command_in, commands_in, HasCommands}
+use Rattle.cdb_rules.specs.Algorithms.{rules}
 
 pub IsLater-refl : (seat : SeatView) → seat.rests ≡ true → IsLater seat seat
 IsLater-refl seat rests = record { home = refl; setup = refl; seats = refl; number = refl; rests = rests; begins = Begins-refl seat.seen }
 
 -- a seat before a call that was answered had not seen a full journal
-room_before : (old new : SeatView) (command : Command) (reply : Answer) → IsCall old command reply new → length new.seen ≤ MAX_ENTRIES → SeesFull old → ⊥
+room_before : (old new : SeatView) (command : Command) (reply : Answer) → IsCall rules old command reply new → length new.seen ≤ MAX_ENTRIES → SeesFull old → ⊥
 room_before old new command reply call few full =
     let longer = ap length call.begins.1 in
     let parts = length-append old.seen call.begins.0 in
@@ -51,17 +52,17 @@ follow_got old request [] new is more may full = may (is.1 full)
 follow_got old request (reply ∷ []) new is more may full = absurd (room_before old new is.0 reply is.2 is.3 full)
 follow_got old request (reply ∷ other ∷ others) new is more may full = absurd is
 
-replies_got : (old : SeatView) (request : Request) (got : List Answer) (new : SeatView) → IsLater old new → HasGot old request got new → replies_to new ≡ replies_to old ++ got
-replies_got old request [] new later is = replies_to-fault old new later is.0 ∙ sym (append-nil (replies_to old))
-replies_got old request (reply ∷ []) new later is = replies_to-call old new is.0 reply later is.2
+replies_got : (old : SeatView) (request : Request) (got : List Answer) (new : SeatView) → IsLater old new → HasGot old request got new → replies_to rules new ≡ replies_to rules old ++ got
+replies_got old request [] new later is = replies_to-fault rules old new later is.0 ∙ sym (append-nil (replies_to rules old))
+replies_got old request (reply ∷ []) new later is = replies_to-call rules old new is.0 reply later is.2
 replies_got old request (reply ∷ other ∷ others) new later is = absurd is
 
 module _ (old : SeatView) (request : Request) (got : List Answer) (new : SeatView) (later : IsLater old new) (is : HasGot old request got new) (more : List Answer) where
   pub may_follow : MayFollow more new → MayFollow (got ++ more) old
   may_follow may = follow_got old request got new is more may
 
-  pub same_replies : replies_to old ++ (got ++ more) ≡ replies_to new ++ more
-  same_replies = sym (append_assoc (replies_to old) got more) ∙ ap (λ front. front ++ more) (sym (replies_got old request got new later is))
+  pub same_replies : replies_to rules old ++ (got ++ more) ≡ replies_to rules new ++ more
+  same_replies = sym (append_assoc (replies_to rules old) got more) ∙ ap (λ front. front ++ more) (sym (replies_got old request got new later is))
 
 -- the answer is that of the replies that were got
 call_text : (command : Command) (got more : List Answer) (lines : ℕ) → (got ≡ [] → more ≡ []) → (old : SeatView) (new : SeatView) → HasGot old (Call command) got new
@@ -112,10 +113,10 @@ commands-more : (requests : List Request) (request : Request) → commands_in (r
 commands-more requests request = flat_map-append command_in requests (request ∷ []) ∙ ap (λ more. commands_in requests ++ more) (append-nil (command_in request))
 
 -- a command that was called
-called : (old new : SeatView) (command : Command) (reply : Answer) → IsLater old new → IsCall old command reply new → length new.seen ≤ MAX_ENTRIES → (requests : List Request) → HasCommands (part_seen old) requests
+called : (old new : SeatView) (command : Command) (reply : Answer) → IsLater old new → IsCall rules old command reply new → length new.seen ≤ MAX_ENTRIES → (requests : List Request) → HasCommands (part_seen old) requests
     → HasCommands (part_seen new) (requests ++ Call command ∷ [])
 called old new command reply later call few requests (inl all) =
-    inl (calls_of-call old new command reply later call ∙ ap (λ calls. calls ++ command ∷ []) all ∙ sym (commands-more requests (Call command)))
+    inl (calls_of-call rules old new command reply later call ∙ ap (λ calls. calls ++ command ∷ []) all ∙ sym (commands-more requests (Call command)))
 called old new command reply later call few requests (inr some) = absurd (room_before old new command reply call few some.0)
 
 -- nothing was called, and the journal is full or nothing was asked for

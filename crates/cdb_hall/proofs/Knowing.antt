@@ -11,7 +11,7 @@ use Rattle.cdb_play.specs.Lines.{lines_of}
 use Rattle.cdb_debug.specs.Moves.{Move, read_in, written_in}
 use Rattle.cdb_debug.specs.Requests.{ended_lines}
 use Rattle.cdb_debug.specs.declared.request.Request.{Request}
-use Rattle.cdb_run.specs.Algorithms.{rules}
+use Rattle.cdb_rules.specs.Algorithms.{rules}
 use Rattle.cdb_shared.specs.Seats.{SeatView, IsKnownBy}
 use Rattle.cdb_shared.specs.Sessions.{calls_of, replies_to}
 use Rattle.cdb_hall.specs.Dialogues.{dialogue}
@@ -22,7 +22,7 @@ module _ (prompt : List ℕ) (c : Journaled) (seat : SeatView) (n : ℕ) (is : s
   calls_known : calls_of seat ≡ own n c.journal
   calls_known = sym known.calls ∙ ap (λ m. own m c.journal) is
 
-  replies_known : replies_to seat ≡ replies_of (rules c.setup) c.setup c.seats n c.journal
+  replies_known : replies_to rules seat ≡ replies_of (rules c.setup) c.setup c.seats n c.journal
   replies_known =
       sym (replies_of-same (rules seat.setup) seat.setup seat.seats seat.number seat.seen c.journal known.begins known.calls)
       ∙ (λ i. replies_of (rules (sym known.setup i)) (sym known.setup i) (sym known.seats i) (is i) c.journal)

@@ -21,6 +21,7 @@ use Rattle.cdb_hall.specs.Sessions.{IsSession}
 use Rattle.cdb_hall.specs.declared.session.Session.{Session}
 use Rattle.cdb_hall.proofs.Going.{may_follow, same_replies, same_line, commands_done, commands_lost}
 use Rattle.cdb_hall.proofs.Stepping.{part_with, more_held, lost_before, line_lost, line_broken, line_answered, line_quit, last_lost, last_broken, last_answered, no_last_line}
+use Rattle.cdb_rules.specs.Algorithms.{rules as rules_of_setup}
 
 false_is_not_true : (b : Bool) → b ≡ false → IsTrue b → ⊥
 false_is_not_true b is holds = search rules
@@ -29,22 +30,22 @@ true_is_true : (b : Bool) → b ≡ true → IsTrue b
 true_is_true b is = search rules
 
 -- where no reply follows, the replies are those of the seat
-finish : (prompt : List ℕ) (returned : Result (Unit {0}) PlayFault) (moves : List Move) (session : Session) → IsSession prompt (part_with (replies_to session.seat ++ []) session.seat) returned moves → HasEndedAs returned prompt moves session
-finish prompt returned moves session s = subst (λ (r : List Answer). IsSession prompt (part_with r session.seat) returned moves) (append-nil (replies_to session.seat)) s
+finish : (prompt : List ℕ) (returned : Result (Unit {0}) PlayFault) (moves : List Move) (session : Session) → IsSession prompt (part_with (replies_to rules_of_setup session.seat ++ []) session.seat) returned moves → HasEndedAs returned prompt moves session
+finish prompt returned moves session s = subst (λ (r : List Answer). IsSession prompt (part_with r session.seat) returned moves) (append-nil (replies_to rules_of_setup session.seat)) s
 
 no_more : (seat : SeatView) → MayFollow [] seat
 no_more seat full = refl
 
 module _ (prompt : List ℕ) (moves : List Move) (old : Session) (held left : List ℕ) (at : StandsAt prompt moves old held left) where
-  pub as_seen : IsAt prompt (replies_to old.seat) moves old.seat (at_line old []) held left
-  as_seen = subst (λ (r : List Answer). IsAt prompt r moves old.seat (at_line old []) held left) (append-nil (replies_to old.seat)) (at [] (no_more old.seat))
+  pub as_seen : IsAt prompt (replies_to rules_of_setup old.seat) moves old.seat (at_line old []) held left
+  as_seen = subst (λ (r : List Answer). IsAt prompt r moves old.seat (at_line old []) held left) (append-nil (replies_to rules_of_setup old.seat)) (at [] (no_more old.seat))
 
   -- memory is out before a line is looked at
   pub out_of_memory : HasEndedAs (ended_by output.NoMemory) prompt moves old
-  out_of_memory = lost_before prompt (replies_to old.seat) moves old.seat (at_line old []) held left as_seen old.seat as_seen.commands
+  out_of_memory = lost_before prompt (replies_to rules_of_setup old.seat) moves old.seat (at_line old []) held left as_seen old.seat as_seen.commands
 
   -- the replies that a line gets come first
-  before_line : (new : SeatView) (request : Request) (got : List Answer) → IsLater old.seat new → HasGot old.seat request got new → (more : List Answer) → MayFollow more new → IsAt prompt (replies_to new ++ more) moves old.seat (at_line old (got ++ more)) held left
+  before_line : (new : SeatView) (request : Request) (got : List Answer) → IsLater old.seat new → HasGot old.seat request got new → (more : List Answer) → MayFollow more new → IsAt prompt (replies_to rules_of_setup new ++ more) moves old.seat (at_line old (got ++ more)) held left
   before_line new request got later calls more may =
       subst (λ (r : List Answer). IsAt prompt r moves old.seat (at_line old (got ++ more)) held left) (same_replies old.seat request got new later calls more)
       (at (got ++ more) (may_follow old.seat request got new later calls more may))
@@ -56,7 +57,7 @@ module _ (prompt : List ℕ) (moves : List Move) (old : Session) (held left : Li
       let now = before_line prompt moves old held (10 ∷ left) at new.seat d.request d.got d.done.later d.done.calls more may in
       let same = same_line prompt old.seat d.request d.got new.seat d.done more may old.lines in
       let other : d.request ≢ Quit = λ is. (let yes : IsTrue stops = d.stopped.1 is in absurd (false_is_not_true stops goes_on yes)) in
-      line_answered prompt (replies_to new.seat ++ more) moves old.seat (at_line old (d.got ++ more)) held left now d.request d.asks new.seat (commands_done old.seat d.request d.got new.seat d.done now.requests now.commands) made d.writes
+      line_answered prompt (replies_to rules_of_setup new.seat ++ more) moves old.seat (at_line old (d.got ++ more)) held left now d.request d.asks new.seat (commands_done old.seat d.request d.got new.seat d.done now.requests now.commands) made d.writes
       (at_line new more) kept (d.said ∙ same.0) (ap (λ (n : ℕ). let s : Along = record { replies = more; lines = n } in s) d.lines ∙ sym same.1) d.lines d.emptied other
 
   line_quits : (kept : List ℕ) (stops : Bool) (made : List Move) → IsLineDone prompt old new held kept stops made → stops ≡ true → HasEndedAs ended_well prompt (moves ++ made) new
@@ -64,7 +65,7 @@ module _ (prompt : List ℕ) (moves : List Move) (old : Session) (held left : Li
       let now = before_line prompt moves old held (10 ∷ left) at new.seat d.request d.got d.done.later d.done.calls [] (no_more new.seat) in
       let same = same_line prompt old.seat d.request d.got new.seat d.done [] (no_more new.seat) old.lines in
       finish prompt ended_well (moves ++ made) new
-      (line_quit prompt (replies_to new.seat ++ []) moves old.seat (at_line old (d.got ++ [])) held left now d.request d.asks new.seat (commands_done old.seat d.request d.got new.seat d.done now.requests now.commands) made d.writes
+      (line_quit prompt (replies_to rules_of_setup new.seat ++ []) moves old.seat (at_line old (d.got ++ [])) held left now d.request d.asks new.seat (commands_done old.seat d.request d.got new.seat d.done now.requests now.commands) made d.writes
       (d.said ∙ same.0) (d.stopped.0 (true_is_true stops stopped)))
 
   line_breaks : (made : List Move) → IsLineBroken prompt old new held made → HasEndedAs (ended_by output.Write) prompt (moves ++ made) new
@@ -72,18 +73,18 @@ module _ (prompt : List ℕ) (moves : List Move) (old : Session) (held left : Li
       let now = before_line prompt moves old held (10 ∷ left) at new.seat d.request d.got d.done.later d.done.calls [] (no_more new.seat) in
       let same = same_line prompt old.seat d.request d.got new.seat d.done [] (no_more new.seat) old.lines in
       finish prompt (ended_by output.Write) (moves ++ made) new
-      (line_broken prompt (replies_to new.seat ++ []) moves old.seat (at_line old (d.got ++ [])) held left now d.request d.asks new.seat (commands_done old.seat d.request d.got new.seat d.done now.requests now.commands) made d.writes
+      (line_broken prompt (replies_to rules_of_setup new.seat ++ []) moves old.seat (at_line old (d.got ++ [])) held left now d.request d.asks new.seat (commands_done old.seat d.request d.got new.seat d.done now.requests now.commands) made d.writes
       d.missing (sym same.0 ∙ d.said) d.fails)
 
   line_loses : (made : List Move) → IsLineLost old new held made → HasEndedAs (ended_by output.NoMemory) prompt moves new
   line_loses made d =
       let now = before_line prompt moves old held (10 ∷ left) at new.seat d.request d.got d.done.later d.done.calls [] (no_more new.seat) in
       finish prompt (ended_by output.NoMemory) moves new
-      (line_lost prompt (replies_to new.seat ++ []) moves old.seat (at_line old (d.got ++ [])) held left now d.request d.asks new.seat (commands_lost old.seat d.request d.got new.seat d.done now.requests now.commands))
+      (line_lost prompt (replies_to rules_of_setup new.seat ++ []) moves old.seat (at_line old (d.got ++ [])) held left now d.request d.asks new.seat (commands_lost old.seat d.request d.got new.seat d.done now.requests now.commands))
 
 module _ (prompt : List ℕ) (moves : List Move) (old : Session) (held : List ℕ) (at : StandsAt prompt moves old held []) (over : IsOver moves) where
   pub last_is_none : length held ≡ 0 → HasEndedAs ended_well prompt moves old
-  last_is_none none = no_last_line prompt (replies_to old.seat) moves old.seat (at_line old []) held (as_seen prompt moves old held [] at) over none
+  last_is_none none = no_last_line prompt (replies_to rules_of_setup old.seat) moves old.seat (at_line old []) held (as_seen prompt moves old held [] at) over none
 
   module _ (some : 0 < length held) (new : Session) where
     pub last_is_done : (kept : List ℕ) (stops : Bool) (made : List Move) → IsLineDone prompt old new held kept stops made → HasEndedAs ended_well prompt (moves ++ made) new
@@ -91,7 +92,7 @@ module _ (prompt : List ℕ) (moves : List Move) (old : Session) (held : List �
         let now = before_line prompt moves old held [] at new.seat d.request d.got d.done.later d.done.calls [] (no_more new.seat) in
         let same = same_line prompt old.seat d.request d.got new.seat d.done [] (no_more new.seat) old.lines in
         finish prompt ended_well (moves ++ made) new
-        (last_answered prompt (replies_to new.seat ++ []) moves old.seat (at_line old (d.got ++ [])) held now over some d.request d.asks new.seat (commands_done old.seat d.request d.got new.seat d.done now.requests now.commands) made d.writes
+        (last_answered prompt (replies_to rules_of_setup new.seat ++ []) moves old.seat (at_line old (d.got ++ [])) held now over some d.request d.asks new.seat (commands_done old.seat d.request d.got new.seat d.done now.requests now.commands) made d.writes
         (d.said ∙ same.0))
 
     pub last_breaks : (made : List Move) → IsLineBroken prompt old new held made → HasEndedAs (ended_by output.Write) prompt (moves ++ made) new
@@ -99,14 +100,14 @@ module _ (prompt : List ℕ) (moves : List Move) (old : Session) (held : List �
         let now = before_line prompt moves old held [] at new.seat d.request d.got d.done.later d.done.calls [] (no_more new.seat) in
         let same = same_line prompt old.seat d.request d.got new.seat d.done [] (no_more new.seat) old.lines in
         finish prompt (ended_by output.Write) (moves ++ made) new
-        (last_broken prompt (replies_to new.seat ++ []) moves old.seat (at_line old (d.got ++ [])) held now over some d.request d.asks new.seat (commands_done old.seat d.request d.got new.seat d.done now.requests now.commands) made d.writes
+        (last_broken prompt (replies_to rules_of_setup new.seat ++ []) moves old.seat (at_line old (d.got ++ [])) held now over some d.request d.asks new.seat (commands_done old.seat d.request d.got new.seat d.done now.requests now.commands) made d.writes
         d.missing (sym same.0 ∙ d.said) d.fails)
 
     pub last_loses : (made : List Move) → IsLineLost old new held made → HasEndedAs (ended_by output.NoMemory) prompt moves new
     last_loses made d =
         let now = before_line prompt moves old held [] at new.seat d.request d.got d.done.later d.done.calls [] (no_more new.seat) in
         finish prompt (ended_by output.NoMemory) moves new
-        (last_lost prompt (replies_to new.seat ++ []) moves old.seat (at_line old (d.got ++ [])) held now over some d.request d.asks new.seat (commands_lost old.seat d.request d.got new.seat d.done now.requests now.commands))
+        (last_lost prompt (replies_to rules_of_setup new.seat ++ []) moves old.seat (at_line old (d.got ++ [])) held now over some d.request d.asks new.seat (commands_lost old.seat d.request d.got new.seat d.done now.requests now.commands))
 
 -- from the first of the bytes on, up to those that are left
 abbrev pub Goes : List ℕ → Known → Session → List ℕ → List ℕ → Known → Session → List ℕ → List ℕ → Type 0
@@ -128,7 +129,7 @@ module _ (prompt : List ℕ) (before : Known) (old : Session) (held bytes : List
   pub holds : (more behind all : List ℕ) → left ≡ more ++ behind → HasNoEnd more → all ≡ take (longest + 1) (kept ++ more) → Goes prompt before old held bytes now session all behind
   holds more behind all cut none is moves at =
       let s = so moves at in
-      (s.0, s.1, s.2, λ follow may. more_held prompt (replies_to session.seat ++ follow) (moves ++ s.0) session.seat (at_line session follow) kept left (s.3 follow may) more behind all cut none is)
+      (s.0, s.1, s.2, λ follow may. more_held prompt (replies_to rules_of_setup session.seat ++ follow) (moves ++ s.0) session.seat (at_line session follow) kept left (s.3 follow may) more behind all cut none is)
 
 -- a line has ended
 module _ (prompt : List ℕ) (before : Known) (old : Session) (held bytes : List ℕ) (now : Known) (session : Session) (kept left : List ℕ) (so : Goes prompt before old held bytes now session kept (10 ∷ left)) (behind : Known) (new : Session) (all : List ℕ) where

@@ -17,6 +17,7 @@ use Rattle.cdb_hall.specs.Lines.{HasDone, MayHaveDone, at_line}
 use Rattle.cdb_hall.specs.Parts.{part_seen, HasCommands}
 use Rattle.cdb_hall.specs.Sessions.{AnswersInTime, IsSession}
 use Rattle.cdb_hall.specs.declared.session.Session.{Session}
+use Rattle.cdb_rules.specs.Algorithms.{rules}
 
 -- After these moves the lines that have ended are answered, with these of the seat's replies. Of the next line this much is
 -- held, and these bytes that were read are not yet looked at.
@@ -44,7 +45,7 @@ MayFollow more seat = SeesFull seat → more ≡ []
 abbrev pub StandsAt : List ℕ → List Move → Session → List ℕ → List ℕ → Type 0
 StandsAt prompt moves session held left =
     (more : List Answer) → MayFollow more session.seat
-    → IsAt prompt (replies_to session.seat ++ more) moves session.seat (at_line session more) held left
+    → IsAt prompt (replies_to rules session.seat ++ more) moves session.seat (at_line session more) held left
 
 -- what a held line asks for was done and answered; it was `quit` where this is true
 pub record IsLineDone (prompt : List ℕ) (old new : Session) (held left : List ℕ) (stops : Bool) (made : List Move) : Type 0 where

@@ -12,6 +12,7 @@ use Rattle.cdb_hall.specs.declared.help.TheConstants.{HELP}
 use Rattle.cdb_shared.specs.Seats.{SeatView, IsLater, IsCall, SameCalls, SeesFull}
 use Rattle.cdb_hall.specs.Dialogues.{Along, answer_to, shown}
 use Rattle.cdb_hall.specs.declared.session.Session.{Session}
+use Rattle.cdb_rules.specs.Algorithms.{rules}
 
 -- the answer to a line that asks for no command, after this many lines
 abbrev pub own_answer : ℕ → Request → List ℕ
@@ -26,7 +27,7 @@ own_answer lines TooLong = too_long_text (lines + 1)
 abbrev pub HasGot : SeatView → Request → List Answer → SeatView → Type 0
 HasGot old request [] new = SameCalls old new.seen × (SeesFull old → SeesFull new)
 HasGot old request (reply ∷ []) new =
-    (command : Command) × (request ≡ Call command) × IsCall old command reply new × (length new.seen ≤ MAX_ENTRIES)
+    (command : Command) × (request ≡ Call command) × IsCall rules old command reply new × (length new.seen ≤ MAX_ENTRIES)
 HasGot old request (reply ∷ other ∷ more) new = ⊥
 
 -- a command without a reply found the journal full

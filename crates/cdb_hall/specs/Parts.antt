@@ -8,7 +8,7 @@ use Rattle.cdb_control.specs.declared.command.Command.{Command}
 use Rattle.cdb_debug.specs.Requests.{AreAsked}
 use Rattle.cdb_debug.specs.declared.request.Request.{Request}
 use Rattle.cdb_debug.specs.declared.request.Request.TheVariants.{Call, Seat, Help, Quit, Fault, TooLong}
-use Rattle.cdb_run.specs.Algorithms.{rules}
+use Rattle.cdb_rules.specs.Algorithms.{rules}
 use Rattle.cdb_shared.specs.Seats.{SeatView}
 use Rattle.cdb_shared.specs.Sessions.{calls_of, replies_to}
 
@@ -26,7 +26,7 @@ part_in c seat =
 
 -- in the journal that the seat has seen
 abbrev pub part_seen : SeatView → Part
-part_seen seat = record { calls = calls_of seat; replies = replies_to seat; entries = length seat.seen }
+part_seen seat = record { calls = calls_of seat; replies = replies_to rules seat; entries = length seat.seen }
 
 abbrev pub command_in : Request → List Command
 command_in (Call command) = command ∷ []

@@ -6,6 +6,7 @@ ghost use Rattle.cdb_shared.specs.Seats.{RestsAt, IsLater};
 
 use crate::hearing::{answer_held, hear};
 use crate::session::Session;
+use cdb_any_run::RunOfSetup;
 use cdb_debug::{Talk, say};
 use cdb_play::PlayFault;
 use cdb_shared::Shared;
@@ -20,7 +21,7 @@ const MOST_INPUT: u64 = 1 << 63;
 
 /// Answers a last line that has not ended, if there is one.
 fn answer_last<T: Talk, R: Wait>(
-    shared: &Shared,
+    shared: &Shared<RunOfSetup>,
     rt: &R,
     alloc: Global,
     prompt: &[u8],
@@ -46,7 +47,7 @@ fn answer_last<T: Talk, R: Wait>(
 /// that has ended is answered, after `Write` what was written is a beginning of the answers, and after `NoMemory` it is
 /// the answers to a beginning of the lines.
 pub(crate) fn converse<T: Talk, R: Wait>(
-    shared: &Shared,
+    shared: &Shared<RunOfSetup>,
     rt: &R,
     alloc: Global,
     prompt: &[u8],

@@ -6,6 +6,7 @@ ghost use Rattle.cdb_setup.specs.Format.{longest};
 ghost use Rattle.cdb_shared.specs.Seats.{RestsAt, IsLater};
 
 use crate::session::Session;
+use cdb_any_run::RunOfSetup;
 use cdb_debug::{Request, Talk, cut, hold, request_of, say};
 use cdb_play::OutputFault;
 use cdb_shared::Shared;
@@ -14,7 +15,7 @@ use std::sync::Wait;
 
 /// Answers the line that is held, and holds nothing then. Returns whether the line was `quit`.
 pub(crate) fn answer_held<T: Talk, R: Wait>(
-    shared: &Shared,
+    shared: &Shared<RunOfSetup>,
     rt: &R,
     alloc: Global,
     prompt: &[u8],
@@ -38,7 +39,7 @@ pub(crate) fn answer_held<T: Talk, R: Wait>(
 /// Answers each line that ends in these bytes, up to `quit`, and holds what follows the last. Returns whether one was
 /// `quit`.
 pub(crate) fn hear<T: Talk, R: Wait>(
-    shared: &Shared,
+    shared: &Shared<RunOfSetup>,
     rt: &R,
     alloc: Global,
     prompt: &[u8],

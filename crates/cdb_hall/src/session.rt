@@ -7,6 +7,7 @@ ghost use Rattle.cdb_hall.specs.Lines.{Answers, Shows, own_answer};
 ghost use Rattle.cdb_shared.specs.Seats.{RestsAt};
 
 use crate::help::HELP;
+use cdb_any_run::RunOfSetup;
 use cdb_base::NoMemory;
 use cdb_control::{CallFault, Command};
 use cdb_debug::{Request, push_fault, push_too_long};
@@ -18,7 +19,7 @@ use std::sync::Wait;
 /// A seat between two lines, and how many lines there were.
 #[derive(Drop)]
 pub(crate) struct Session {
-    pub(crate) seat: Seat,
+    pub(crate) seat: Seat<RunOfSetup>,
     pub(crate) lines: u64,
 }
 
@@ -26,7 +27,7 @@ impl Session {
     /// Carries a command out for the seat, and returns the text of the reply.
     fn call<R: Wait>(
         &mut self,
-        shared: &Shared,
+        shared: &Shared<RunOfSetup>,
         rt: &R,
         alloc: Global,
         command: Command,
@@ -45,7 +46,7 @@ impl Session {
     /// Does what a line asks for, and returns the answer. After an error the session is not to go on.
     fn answer<R: Wait>(
         &mut self,
-        shared: &Shared,
+        shared: &Shared<RunOfSetup>,
         rt: &R,
         alloc: Global,
         request: Request,
@@ -65,7 +66,7 @@ impl Session {
     /// `quit`. After an error the session is not to go on.
     pub(crate) fn show<R: Wait>(
         &mut self,
-        shared: &Shared,
+        shared: &Shared<RunOfSetup>,
         rt: &R,
         alloc: Global,
         prompt: &[u8],

@@ -3,11 +3,14 @@
 ghost use Rattle.std.specs.Prelude.{◌≡◌, ◌≤◌, length, vec_len, All, IfOk, IfErr, OnErr};
 ghost use Rattle.cdb_hall.specs.Halls.{IsHall};
 ghost use Rattle.cdb_hall.specs.Promises.{IsReady, IsPromise, ArePromises, AllAttended, AreOfLefts, HasAttended};
+ghost use Rattle.cdb_rules.specs.Algorithms.{rules};
+ghost use Rattle.cdb_rules.specs.SameState.{ReachSameState};
 ghost use Rattle.cdb_shared.specs.Seats.{HasHeadline};
 
 use crate::place::{Attended, Place};
 use crate::worker::{Left, SeatPromise, attend};
-use cdb_control::{Control, RunOfSetup};
+use cdb_any_run::RunOfSetup;
+use cdb_control::Control;
 use cdb_debug::Talk;
 use cdb_race::{RefusedStart, start};
 use cdb_setup::Setup;
@@ -49,8 +52,8 @@ fn start_one<'s, E, T: Talk + Drop + Send + 's, R: Threads + Wait + Sync>(
     scope: &Scope<'s, E>,
     rt: &'s R,
     alloc: Global,
-    shared: &'s Shared,
-    seat: Seat,
+    shared: &'s Shared<RunOfSetup>,
+    seat: Seat<RunOfSetup>,
     place: Place<T>,
 ) -> Result<PromisedHandle<Left<T>, SeatPromise<T>>, HallFault>
     requires { IsReady shared.now seat }
@@ -76,8 +79,8 @@ fn start_all<'s, E, T: Talk + Drop + Send + 's, R: Threads + Wait + Sync>(
     scope: &Scope<'s, E>,
     rt: &'s R,
     alloc: Global,
-    shared: &'s Shared,
-    mut seats: Vec<Seat>,
+    shared: &'s Shared<RunOfSetup>,
+    mut seats: Vec<Seat<RunOfSetup>>,
     mut places: Vec<Place<T>>,
 ) -> Result<Vec<PromisedHandle<Left<T>, SeatPromise<T>>>, HallFault>
     requires ready { All (λ seat. IsReady shared.now seat) seats.items }
@@ -102,8 +105,8 @@ fn start_all<'s, E, T: Talk + Drop + Send + 's, R: Threads + Wait + Sync>(
 fn attend_all<T: Talk + Drop + Send, R: Threads + Wait + Sync>(
     rt: &R,
     alloc: Global,
-    shared: &Shared,
-    seats: Vec<Seat>,
+    shared: &Shared<RunOfSetup>,
+    seats: Vec<Seat<RunOfSetup>>,
     places: Vec<Place<T>>,
 ) -> Result<Vec<Left<T>>, HallFault>
     requires ready { All (λ seat. IsReady shared.now seat) seats.items }
@@ -135,7 +138,7 @@ fn attend_all<T: Talk + Drop + Send, R: Threads + Wait + Sync>(
 fn collect<T: Talk + Drop>(
     alloc: Global,
     mut lefts: Vec<Left<T>>,
-) -> Result<(Vec<Seat>, Vec<Attended<T>>), HallFault>
+) -> Result<(Vec<Seat<RunOfSetup>>, Vec<Attended<T>>), HallFault>
     ensures count { IfOk result
         (λ r. (vec_len r.0 ≡ vec_len lefts) × (vec_len r.1 ≡ vec_len lefts)) }
     ensures each { IfOk result (λ r. AreOfLefts r.0.items r.1.items lefts.items) }
@@ -171,13 +174,13 @@ pub fn debug_seats<T: Talk + Drop + Send, R: Threads + Wait + Sync>(
     requires some { 1 ≤ vec_len places }
     requires fits { vec_len places ≤ 64 }
     ensures hall { IfOk result (λ r. IsHall T.known setup places.items r.0 r.1.items) }
-    ensures headline { IfOk result (λ r. HasHeadline r.0) }
+    ensures headline { IfOk result (λ r. HasHeadline rules ReachSameState r.0) }
 {
     let count = places.len() as u8;
     let Ok(control) = Control::open(alloc, setup, count) else {
         return Err(HallFault::NoMemory);
     };
-    let Ok((shared, seats)) = Shared::open(rt, alloc, control) else {
+    let Ok((shared, seats)) = Shared::<RunOfSetup>::open(rt, alloc, control) else {
         return Err(HallFault::NoMemory);
     };
     let lefts = attend_all(rt, alloc, &shared, seats, places)?;

@@ -5,6 +5,7 @@ ghost use Rattle.cdb_hall.specs.Promises.{IsReady, HasAttended};
 use crate::conversation::converse;
 use crate::place::{Attended, Place};
 use crate::session::Session;
+use cdb_any_run::RunOfSetup;
 use cdb_debug::Talk;
 use cdb_shared::{Seat, Shared};
 use std::alloc::Global;
@@ -15,14 +16,14 @@ use std::thread::Promise;
 /// A seat whose thread has ended.
 #[derive(Drop)]
 pub(crate) struct Left<T> {
-    pub(crate) seat: Seat,
+    pub(crate) seat: Seat<RunOfSetup>,
     pub(crate) attended: Attended<T>,
 }
 
 /// What the thread of a seat promises.
 #[derive(Drop)]
 pub(crate) struct SeatPromise<T> {
-    pub(crate) seat: Snapshot<Seat>,
+    pub(crate) seat: Snapshot<Seat<RunOfSetup>>,
     pub(crate) place: Snapshot<Place<T>>,
 }
 
@@ -34,10 +35,10 @@ impl<T: Talk> Promise<Left<T>> for SeatPromise<T> {
 
 /// A seat's session at its place, from its first line to its last.
 pub(crate) fn attend<T: Talk + Drop, R: Wait>(
-    shared: &Shared,
+    shared: &Shared<RunOfSetup>,
     rt: &R,
     alloc: Global,
-    seat: Seat,
+    seat: Seat<RunOfSetup>,
     place: Place<T>,
 ) -> Left<T>
     requires { IsReady shared.now seat }

@@ -7,6 +7,7 @@ use Rattle.cdb_control.specs.Journal.{Journaled}
 use Rattle.cdb_control.specs.declared.command.Command.{Command}
 use Rattle.cdb_control.specs.declared.reply.Reply.{Reply}
 use Rattle.cdb_race.specs.Races.{IsRaced, answers_to, all_told}
+use Rattle.cdb_rules.specs.Rules.{Rules}
 use Rattle.cdb_setup.specs.Parts.{Parts}
 use Rattle.cdb_play.specs.Races.{seat_text, seats_text, end_text, last_decisions, race_text, AreScripts, IsTextOnSetup, IsTextOfCommands}
 
@@ -27,29 +28,29 @@ these_items f first (answers ∷ lists) same =
     ap (λ list. list ∷ lists) head ∙ ap (λ rest. f first ∷ rest) others
 
 -- what the seats of the scripts were answered is what the journal says
-pub text_of_race : (setup : Parts) (turns : ℕ) (scripts : List (List Command)) (c : Journaled) (answers : List (List Answer)) → IsRaced setup turns scripts c answers
-    → seats_text (c.setup.processes + 1) (drop setup.processes answers) ++ end_text (last_decisions c) ≡ race_text c
+pub text_of_race : (rules : Parts → Rules) (setup : Parts) (turns : ℕ) (scripts : List (List Command)) (c : Journaled) (answers : List (List Answer)) → IsRaced rules setup turns scripts c answers
+    → seats_text (c.setup.processes + 1) (drop setup.processes answers) ++ end_text (last_decisions rules c) ≡ race_text rules c
 unfolding race_text
-text_of_race setup turns scripts c answers raced =
+text_of_race rules setup turns scripts c answers raced =
     let n = setup.processes in
     let same : c.setup.processes ≡ n = ap (λ (s : Parts). s.processes) raced.setup_is in
     let many : length (drop n answers) ≡ c.seats - c.setup.processes = omega (arith, length-drop n answers, raced.many, same) in
     let few : length (drop n answers) ≡ length scripts = omega (arith, length-drop n answers, raced.many, raced.seats_are) in
-    let item : (k : ℕ) → k < length (drop n answers) → get_or (drop n answers) k [] ≡ answers_to (c.setup.processes + 1 + k) c =
-    λ k below. get_or-drop n answers k [] ∙ raced.answered k (omega (arith, below, few)) ∙ ap (λ s. answers_to s c) (omega (arith, same)) in
-    ap (λ lists. seats_text (c.setup.processes + 1) lists ++ end_text (last_decisions c))
-    (these_items (λ s. answers_to s c) (c.setup.processes + 1) (drop n answers) item ∙ ap (λ k. map (λ s. answers_to s c) (range_with_len (c.setup.processes + 1) k)) many)
+    let item : (k : ℕ) → k < length (drop n answers) → get_or (drop n answers) k [] ≡ answers_to rules (c.setup.processes + 1 + k) c =
+    λ k below. get_or-drop n answers k [] ∙ raced.answered k (omega (arith, below, few)) ∙ ap (λ s. answers_to rules s c) (omega (arith, same)) in
+    ap (λ lists. seats_text (c.setup.processes + 1) lists ++ end_text (last_decisions rules c))
+    (these_items (λ s. answers_to rules s c) (c.setup.processes + 1) (drop n answers) item ∙ ap (λ k. map (λ s. answers_to rules s c) (range_with_len (c.setup.processes + 1) k)) many)
 
 -- the same of replies of which those of the scripts' seats are shown
-pub text_of_replies : (setup : Parts) (turns : ℕ) (scripts : List (List Command)) (c : Journaled) (replies shown : List (Vec Reply Global)) (n : ℕ) → shown ≡ replies → n ≡ setup.processes → IsRaced setup turns scripts c (all_told replies)
-    → seats_text (c.setup.processes + 1) (all_told (take (length shown - n) (drop n shown))) ++ end_text (last_decisions c) ≡ race_text c
-text_of_replies setup turns scripts c replies shown n same count raced =
-    ap (λ list. seats_text (c.setup.processes + 1) (all_told list) ++ end_text (last_decisions c)) (take_rest shown n ∙ ap (drop n) same)
-    ∙ ap (λ lists. seats_text (c.setup.processes + 1) lists ++ end_text (last_decisions c)) (sym (drop-map (λ (list : Vec Reply Global). map told list.items) n replies))
-    ∙ ap (λ k. seats_text (c.setup.processes + 1) (drop k (all_told replies)) ++ end_text (last_decisions c)) count
-    ∙ text_of_race setup turns scripts c (all_told replies) raced
+pub text_of_replies : (rules : Parts → Rules) (setup : Parts) (turns : ℕ) (scripts : List (List Command)) (c : Journaled) (replies shown : List (Vec Reply Global)) (n : ℕ) → shown ≡ replies → n ≡ setup.processes → IsRaced rules setup turns scripts c (all_told replies)
+    → seats_text (c.setup.processes + 1) (all_told (take (length shown - n) (drop n shown))) ++ end_text (last_decisions rules c) ≡ race_text rules c
+text_of_replies rules setup turns scripts c replies shown n same count raced =
+    ap (λ list. seats_text (c.setup.processes + 1) (all_told list) ++ end_text (last_decisions rules c)) (take_rest shown n ∙ ap (drop n) same)
+    ∙ ap (λ lists. seats_text (c.setup.processes + 1) lists ++ end_text (last_decisions rules c)) (sym (drop-map (λ (list : Vec Reply Global). map told list.items) n replies))
+    ∙ ap (λ k. seats_text (c.setup.processes + 1) (drop k (all_told replies)) ++ end_text (last_decisions rules c)) count
+    ∙ text_of_race rules setup turns scripts c (all_told replies) raced
 
 -- a text of a race of commands is one of the scripts that have them
-pub of_scripts : (setup : Parts) (turns : ℕ) (scripts : List (List ℕ)) (commands : List (List Command)) → AreScripts commands scripts → (text : List ℕ) → IsTextOfCommands setup turns commands text → IsTextOnSetup setup turns scripts text
-of_scripts setup turns scripts commands read text (control, answers, raced, is) =
+pub of_scripts : (rules : Parts → Rules) (setup : Parts) (turns : ℕ) (scripts : List (List ℕ)) (commands : List (List Command)) → AreScripts commands scripts → (text : List ℕ) → IsTextOfCommands rules setup turns commands text → IsTextOnSetup rules setup turns scripts text
+of_scripts rules setup turns scripts commands read text (control, answers, raced, is) =
     record { commands = commands; control = control; answers = answers; read = read; raced = raced; is = is }

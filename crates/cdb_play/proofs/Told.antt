@@ -8,6 +8,7 @@ use Rattle.cdb_race.specs.Races.{MayFill}
 use Rattle.cdb_race.specs.declared.threads.RaceFault.{RaceFault as ThreadFault}
 use Rattle.cdb_race.specs.declared.threads.RaceFault.TheVariants as threads
 use Rattle.cdb_setup.specs.Format.{StandsFor}
+use Rattle.cdb_rules.specs.Rules.{Rules}
 use Rattle.cdb_setup.specs.Parts.{Parts}
 use Rattle.cdb_setup.specs.declared.fault.SetupFault.{SetupFault}
 use Rattle.cdb_setup.specs.declared.fault.SetupFault.TheVariants as setup
@@ -47,9 +48,9 @@ not_of_setup fault = tt
 
 -- ---- what is reported behind gates
 
-module _ {G : Type 0} (heard : G → Option (List Heard)) (passes : G → Bool) (turns : ℕ) (gates : List G) where
-  pub told_of_threads : (setup : Parts) (commands : List (List Command)) (fault : ThreadFault) → (fault ≡ threads.JournalFull → MayFill setup turns commands) → IsTold heard passes setup turns commands gates fault
-      → IsToldOfCommands heard passes setup turns commands gates (race_fault_of_threads fault)
+module _ {G : Type 0} (T : Type 0) (rules : Parts → Rules) (heard : G → Option (List Heard)) (passes : G → Bool) (turns : ℕ) (gates : List G) where
+  pub told_of_threads : (setup : Parts) (commands : List (List Command)) (fault : ThreadFault) → (fault ≡ threads.JournalFull → MayFill setup turns commands) → IsTold T rules heard passes setup turns commands gates fault
+      → IsToldOfCommands T rules heard passes setup turns commands gates (race_fault_of_threads fault)
   told_of_threads setup commands threads.NoMemory most is = tt
   told_of_threads setup commands (threads.Spawn refused) most is = tt
   told_of_threads setup commands threads.JournalFull most (inl none) = absurd none
@@ -57,18 +58,18 @@ module _ {G : Type 0} (heard : G → Option (List Heard)) (passes : G → Bool) 
   told_of_threads setup commands (threads.Stopped seat) most (inl none) = absurd none
   told_of_threads setup commands (threads.Stopped seat) most (inr it) = it
 
-  pub told_of_writing : (setup : Parts) (commands : List (List Command)) (fault : OutputFault) → IsToldOfCommands heard passes setup turns commands gates (race_fault_of_output fault)
+  pub told_of_writing : (setup : Parts) (commands : List (List Command)) (fault : OutputFault) → IsToldOfCommands T rules heard passes setup turns commands gates (race_fault_of_output fault)
   told_of_writing setup commands output.Write = tt
   told_of_writing setup commands output.NoMemory = tt
 
-  pub told_of_reading : (setup : Parts) (scripts : List (List ℕ)) (fault : RaceFault) → IsFaultOfScripts fault scripts → IsToldOnSetup heard passes setup turns scripts gates fault
+  pub told_of_reading : (setup : Parts) (scripts : List (List ℕ)) (fault : RaceFault) → IsFaultOfScripts fault scripts → IsToldOnSetup T rules heard passes setup turns scripts gates fault
   told_of_reading setup scripts (Line place line fault) is = tt
   told_of_reading setup scripts (ScriptTooLong place) is = tt
   told_of_reading setup scripts NoMemory is = tt
   told_of_reading setup scripts fault is = absurd is
 
   pub told_on_setup : (setup : Parts) (commands : List (List Command)) (scripts : List (List ℕ)) → AreScripts commands scripts → (fault : RaceFault)
-      → IsToldOfCommands heard passes setup turns commands gates fault → IsToldOnSetup heard passes setup turns scripts gates fault
+      → IsToldOfCommands T rules heard passes setup turns commands gates fault → IsToldOnSetup T rules heard passes setup turns scripts gates fault
   told_on_setup setup commands scripts read JournalFull is = (commands, read, is.0, is.1)
   told_on_setup setup commands scripts read (Stopped seat) is = (commands, read, is)
   told_on_setup setup commands scripts read (Setup fault) is = tt
@@ -79,7 +80,7 @@ module _ {G : Type 0} (heard : G → Option (List Heard)) (passes : G → Bool) 
   told_on_setup setup commands scripts read (Spawn refused) is = tt
 
   pub told_of_race : (json : List ℕ) (setup : Parts) (scripts : List (List ℕ)) → StandsFor json setup → (fault : RaceFault)
-      → IsToldOnSetup heard passes setup turns scripts gates fault → IsToldOfRace heard passes json turns scripts gates fault
+      → IsToldOnSetup T rules heard passes setup turns scripts gates fault → IsToldOfRace T rules heard passes json turns scripts gates fault
   told_of_race json setup scripts stands JournalFull is = (setup, stands, is)
   told_of_race json setup scripts stands (Stopped seat) is = (setup, stands, is)
   told_of_race json setup scripts stands (Setup fault) is = tt
@@ -89,13 +90,13 @@ module _ {G : Type 0} (heard : G → Option (List Heard)) (passes : G → Bool) 
   told_of_race json setup scripts stands NoMemory is = tt
   told_of_race json setup scripts stands (Spawn refused) is = tt
 
-  pub told_of_setup : (json : List ℕ) (scripts : List (List ℕ)) (fault : SetupFault) → IsToldOfRace heard passes json turns scripts gates (race_fault_of_setup fault)
+  pub told_of_setup : (json : List ℕ) (scripts : List (List ℕ)) (fault : SetupFault) → IsToldOfRace T rules heard passes json turns scripts gates (race_fault_of_setup fault)
   told_of_setup json scripts setup.NoMemory = tt
   told_of_setup json scripts fault = tt
 
   -- behind gates that always pass
   pub unstopped_on_setup : (setup : Parts) (commands : List (List Command)) (scripts : List (List ℕ)) → AreScripts commands scripts → (fault : RaceFault)
-      → IsToldOfCommands heard passes setup turns commands gates fault → IsNotStopped fault → IsUnstoppedOnSetup setup turns scripts fault
+      → IsToldOfCommands T rules heard passes setup turns commands gates fault → IsNotStopped fault → IsUnstoppedOnSetup setup turns scripts fault
   unstopped_on_setup setup commands scripts read JournalFull is none = (commands, read, is.0)
   unstopped_on_setup setup commands scripts read (Stopped seat) is none = none
   unstopped_on_setup setup commands scripts read (Setup fault) is none = tt

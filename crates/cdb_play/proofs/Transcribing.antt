@@ -10,7 +10,7 @@ use Rattle.cdb_control.specs.Answer.{Answer}
 use Rattle.cdb_control.specs.Room.{cost, lowered}
 use Rattle.cdb_control.specs.State.{first_state}
 use Rattle.cdb_control.proofs.Own.{replies_from-append}
-use Rattle.cdb_run.specs.Rules.{Rules}
+use Rattle.cdb_rules.specs.Rules.{Rules}
 use Rattle.cdb_setup.specs.Parts.{Parts}
 use Rattle.cdb_text.specs.Texts.{text_of}
 use Rattle.cdb_play.specs.Transcripts.{journal_of, reply_to, transcript}

@@ -9,7 +9,7 @@ use Rattle.cdb_race.specs.Faults.{IsFaultOfSeats}
 use Rattle.cdb_race.specs.Races.{IsRaced, MayFill, answers_to}
 use Rattle.cdb_race.specs.declared.threads.RaceFault.{RaceFault as ThreadFault}
 use Rattle.cdb_race.specs.declared.threads.RaceFault.TheVariants as threads
-use Rattle.cdb_run.specs.Algorithms.{rules}
+use Rattle.cdb_rules.specs.Rules.{Rules}
 use Rattle.cdb_setup.specs.Format.{StandsFor}
 use Rattle.cdb_setup.specs.Order.{IsFirstFault}
 use Rattle.cdb_setup.specs.Parts.{Parts, IsWithin}
@@ -59,16 +59,16 @@ abbrev pub end_text : List (ℕ × ℕ) → List ℕ
 end_text decisions = decisions_text decisions ++ verdict_text decisions
 
 -- the decisions of the last state
-abbrev pub last_decisions : Journaled → List (ℕ × ℕ)
-last_decisions c = (rules c.setup).decisions (state_of (rules c.setup) c).history
+abbrev pub last_decisions : (Parts → Rules) → Journaled → List (ℕ × ℕ)
+last_decisions rules c = (rules c.setup).decisions (state_of (rules c.setup) c).history
 
 -- the seats of the scripts, which are those behind the processes'
 abbrev pub script_seats : Journaled → List ℕ
 script_seats c = range_with_len (c.setup.processes + 1) (c.seats - c.setup.processes)
 
 -- the text of a race with this journal
-unfoldable pub race_text : Journaled → List ℕ
-race_text c = seats_text (c.setup.processes + 1) (map (λ seat. answers_to seat c) (script_seats c)) ++ end_text (last_decisions c)
+unfoldable pub race_text : (Parts → Rules) → Journaled → List ℕ
+race_text rules c = seats_text (c.setup.processes + 1) (map (λ seat. answers_to rules seat c) (script_seats c)) ++ end_text (last_decisions rules c)
 
 -- ---- the scripts
 
@@ -90,17 +90,17 @@ abbrev pub AreAllRead : List (List ℕ) → Type 0
 AreAllRead scripts = (read : List (List Command)) × AreScripts read scripts
 
 -- the text is that of a race of these scripts on a setup, each process with this many turns
-pub record IsTextOnSetup (setup : Parts) (turns : ℕ) (scripts : List (List ℕ)) (text : List ℕ) : Type 0 where
+pub record IsTextOnSetup (rules : Parts → Rules) (setup : Parts) (turns : ℕ) (scripts : List (List ℕ)) (text : List ℕ) : Type 0 where
   pub commands : List (List Command)
   pub control : Journaled
   pub answers : List (List Answer)
   pub read : AreScripts commands scripts
-  pub raced : IsRaced setup turns commands control answers
-  pub is : text ≡ race_text control
+  pub raced : IsRaced rules setup turns commands control answers
+  pub is : text ≡ race_text rules control
 
 -- the same on the setup that a text of JSON encodes
-abbrev pub IsTextOfRace : List ℕ → ℕ → List (List ℕ) → List ℕ → Type 0
-IsTextOfRace json turns scripts text = (setup : Parts) × StandsFor json setup × IsTextOnSetup setup turns scripts text
+abbrev pub IsTextOfRace : (Parts → Rules) → List ℕ → ℕ → List (List ℕ) → List ℕ → Type 0
+IsTextOfRace rules json turns scripts text = (setup : Parts) × StandsFor json setup × IsTextOnSetup rules setup turns scripts text
 
 -- ---- which fault of a race each fault of its parts is; out of memory is one fault
 
@@ -148,22 +148,22 @@ IsFaultOfRace fault json scripts = (setup : Parts) × StandsFor json setup × Is
 
 -- A full journal and a stopped seat are told of the least seat whose session ended so. Such a race of these scripts
 -- makes, at most, as many calls as a journal has entries at most.
-abbrev pub IsToldOnSetup : {G : Type 0} → (G → Option (List Heard)) → (G → Bool) → Parts → ℕ → List (List ℕ) → List G → RaceFault → Type 0
-IsToldOnSetup heard passes setup turns scripts gates JournalFull =
+abbrev pub IsToldOnSetup : {G : Type 0} → Type 0 → (Parts → Rules) → (G → Option (List Heard)) → (G → Bool) → Parts → ℕ → List (List ℕ) → List G → RaceFault → Type 0
+IsToldOnSetup T rules heard passes setup turns scripts gates JournalFull =
     (commands : List (List Command)) × AreScripts commands scripts × MayFill setup turns commands
-    × IsFaultOfSeats heard passes setup turns commands gates threads.JournalFull
-IsToldOnSetup heard passes setup turns scripts gates (Stopped seat) =
+    × IsFaultOfSeats T rules heard passes setup turns commands gates threads.JournalFull
+IsToldOnSetup T rules heard passes setup turns scripts gates (Stopped seat) =
     (commands : List (List Command)) × AreScripts commands scripts
-    × IsFaultOfSeats heard passes setup turns commands gates (threads.Stopped seat)
-IsToldOnSetup heard passes setup turns scripts gates other = Unit {0}
+    × IsFaultOfSeats T rules heard passes setup turns commands gates (threads.Stopped seat)
+IsToldOnSetup T rules heard passes setup turns scripts gates other = Unit {0}
 
 -- the same on the setup that a text of JSON encodes
-abbrev pub IsToldOfRace : {G : Type 0} → (G → Option (List Heard)) → (G → Bool) → List ℕ → ℕ → List (List ℕ) → List G → RaceFault → Type 0
-IsToldOfRace heard passes json turns scripts gates JournalFull =
-    (setup : Parts) × StandsFor json setup × IsToldOnSetup heard passes setup turns scripts gates JournalFull
-IsToldOfRace heard passes json turns scripts gates (Stopped seat) =
-    (setup : Parts) × StandsFor json setup × IsToldOnSetup heard passes setup turns scripts gates (Stopped seat)
-IsToldOfRace heard passes json turns scripts gates other = Unit {0}
+abbrev pub IsToldOfRace : {G : Type 0} → Type 0 → (Parts → Rules) → (G → Option (List Heard)) → (G → Bool) → List ℕ → ℕ → List (List ℕ) → List G → RaceFault → Type 0
+IsToldOfRace T rules heard passes json turns scripts gates JournalFull =
+    (setup : Parts) × StandsFor json setup × IsToldOnSetup T rules heard passes setup turns scripts gates JournalFull
+IsToldOfRace T rules heard passes json turns scripts gates (Stopped seat) =
+    (setup : Parts) × StandsFor json setup × IsToldOnSetup T rules heard passes setup turns scripts gates (Stopped seat)
+IsToldOfRace T rules heard passes json turns scripts gates other = Unit {0}
 
 -- no gate stopped a session
 abbrev pub IsNotStopped : RaceFault → Type 0
@@ -186,16 +186,16 @@ IsUnstoppedOfRace json turns scripts other = Unit {0}
 -- ---- what the code keeps for itself
 
 -- the same of a race of these commands
-abbrev pub IsToldOfCommands : {G : Type 0} → (G → Option (List Heard)) → (G → Bool) → Parts → ℕ → List (List Command) → List G → RaceFault → Type 0
-IsToldOfCommands heard passes setup turns commands gates JournalFull =
-    MayFill setup turns commands × IsFaultOfSeats heard passes setup turns commands gates threads.JournalFull
-IsToldOfCommands heard passes setup turns commands gates (Stopped seat) = IsFaultOfSeats heard passes setup turns commands gates (threads.Stopped seat)
-IsToldOfCommands heard passes setup turns commands gates other = Unit {0}
+abbrev pub IsToldOfCommands : {G : Type 0} → Type 0 → (Parts → Rules) → (G → Option (List Heard)) → (G → Bool) → Parts → ℕ → List (List Command) → List G → RaceFault → Type 0
+IsToldOfCommands T rules heard passes setup turns commands gates JournalFull =
+    MayFill setup turns commands × IsFaultOfSeats T rules heard passes setup turns commands gates threads.JournalFull
+IsToldOfCommands T rules heard passes setup turns commands gates (Stopped seat) = IsFaultOfSeats T rules heard passes setup turns commands gates (threads.Stopped seat)
+IsToldOfCommands T rules heard passes setup turns commands gates other = Unit {0}
 
 -- the text is that of a race of these commands
-abbrev pub IsTextOfCommands : Parts → ℕ → List (List Command) → List ℕ → Type 0
-IsTextOfCommands setup turns commands text =
-    (control : Journaled) × (answers : List (List Answer)) × IsRaced setup turns commands control answers × (text ≡ race_text control)
+abbrev pub IsTextOfCommands : (Parts → Rules) → Parts → ℕ → List (List Command) → List ℕ → Type 0
+IsTextOfCommands rules setup turns commands text =
+    (control : Journaled) × (answers : List (List Answer)) × IsRaced rules setup turns commands control answers × (text ≡ race_text rules control)
 
 -- a fault of reading the scripts
 abbrev pub IsFaultOfScripts : RaceFault → List (List ℕ) → Type 0

@@ -1,14 +1,13 @@
 -- What a play writes.
 use Rattle.std.specs.Prelude.{◌≡◌, ℕ, ◌≤◌, List, length, map, Option}
 use Rattle.std.specs.List.{flat_map}
+use Rattle.cdb_base.specs.declared.event.Event.{Event}
 use Rattle.cdb_control.specs.declared.command.Command.{Command}
 use Rattle.cdb_control.specs.declared.control.Entry.{Entry}
 use Rattle.cdb_control.specs.Commands.{answer}
 use Rattle.cdb_control.specs.Headline.{Headline}
 use Rattle.cdb_control.specs.Journal.{Journaled, entry, replies_of, state_of}
-use Rattle.cdb_run.specs.Algorithms.{rules}
-use Rattle.cdb_run.specs.Rules.{Rules}
-use Rattle.cdb_run.specs.SameState.{ReachSameState}
+use Rattle.cdb_rules.specs.Rules.{Rules}
 use Rattle.cdb_setup.specs.Parts.{Parts}
 use Rattle.cdb_setup.specs.Format.{StandsFor, longest}
 use Rattle.cdb_text.specs.Texts.{text_of}
@@ -41,7 +40,7 @@ pub record IsTranscriptOf (rules : Parts → Rules) (json script text : List ℕ
 abbrev pub Plays : (Parts → Rules) → List ℕ → Option (List ℕ) → Option (List ℕ) → List ℕ → Type 0
 Plays rules json old new text = (script : List ℕ) × IsReadToEnd old script new × IsTranscriptOf rules json script text
 
--- such a play by the rules of either algorithm, and the headline holds of the journal whose replies the transcript tells
-pub record RestsOnHeadline (json : List ℕ) (old new : Option (List ℕ)) (text : List ℕ) : Type 0 where
+-- such a play, and the headline holds of the journal whose replies the transcript tells
+pub record RestsOnHeadline (rules : Parts → Rules) (SameState : Parts → List Event → List Event → Type 0) (json : List ℕ) (old new : Option (List ℕ)) (text : List ℕ) : Type 0 where
   pub plays : Plays rules json old new text
-  pub headline : Headline rules ReachSameState plays.2.setup 1 (journal_of plays.2.commands)
+  pub headline : Headline rules SameState plays.2.setup 1 (journal_of plays.2.commands)

@@ -3,8 +3,6 @@
 ghost use Rattle.std.specs.Prelude.{◌≡◌, ◌≢◌, ◌<◌, length, Err, IfErr, IfOk, OnOk};
 ghost use Rattle.cdb_control.specs.Headline.{Headline};
 ghost use Rattle.cdb_control.specs.Journal.{extended};
-ghost use Rattle.cdb_run.specs.Algorithms.{rules};
-ghost use Rattle.cdb_run.specs.SameState.{ReachSameState};
 ghost use Rattle.cdb_setup.specs.declared.fault.SetupFault.{SetupFault as SetupFaultName};
 ghost use Rattle.cdb_play.specs.Buffers.{Wrote};
 ghost use Rattle.cdb_play.specs.Faults.{IsFaultOfPlay};
@@ -18,20 +16,20 @@ use crate::sink::Sink;
 use crate::source::{Source, read_up_to};
 use cdb_base::NoMemory;
 use cdb_base::limits::MAX_BYTES;
-use cdb_control::{CallFault, Command, Control, RunOfSetup};
+use cdb_control::{CallFault, Command, Control, Runs};
 use cdb_setup::Setup;
 use std::alloc::Global;
 
 /// Carries a command out for the only seat.
-fn carry_out(
+fn carry_out<T: Runs>(
     alloc: Global,
-    control: &mut Control<RunOfSetup>,
+    control: &mut Control<T>,
     command: Command,
 ) -> Result<(), NoMemory>
     requires seats { control.old.seats ≡ 1 }
     requires room { length control.old.journal < 999999 }
     ensures { OnOk result
-        (control.new ≡ extended (rules control.old.setup) control.old 1 command) }
+        (control.new ≡ extended (T.rules control.old.setup) control.old 1 command) }
 {
     match control.execute(alloc, 1, command) {
         Ok(_) => Ok(()),
@@ -41,15 +39,15 @@ fn carry_out(
 }
 
 /// A control that has carried the commands out, one after the other.
-fn control_after(
+fn control_after<T: Runs>(
     alloc: Global,
     setup: Setup,
     commands: &[Command],
-) -> Result<Control<RunOfSetup>, NoMemory>
+) -> Result<Control<T>, NoMemory>
     requires { length commands.now < 999999 }
     ensures { IfOk result (λ control. control ≡ carried_out setup commands.now) }
 {
-    let Ok(mut control) = Control::<RunOfSetup>::open(alloc, setup, 1) else {
+    let Ok(mut control) = Control::<T>::open(alloc, setup, 1) else {
         return Err(NoMemory);
     };
     for command in commands {
@@ -63,15 +61,15 @@ fn control_after(
 ///
 /// The setup is read first, then the whole script, then all its lines. The faults are those of a play, without
 /// `Write`; after `Setup` the script is not read, and `Read` comes only where the reader failed in this call.
-pub fn left_by<R: Source>(
+pub fn left_by<T: Runs, R: Source>(
     alloc: Global,
     setup: &[u8],
     script: &mut R,
-) -> Result<Control<RunOfSetup>, PlayFault>
-    ensures left { IfOk result (λ control. Leaves rules setup.now
-        (R.remaining script.old) (R.remaining script.new) (run_of rules control)) }
+) -> Result<Control<T>, PlayFault>
+    ensures left { IfOk result (λ control. Leaves T.rules setup.now
+        (R.remaining script.old) (R.remaining script.new) (run_of T.rules control)) }
     ensures headline { IfOk result (λ control.
-        Headline rules ReachSameState control.setup control.seats control.journal) }
+        Headline T.rules T.same_state control.setup control.seats control.journal) }
     ensures fault { IfErr result (λ fault.
         IsFaultOfPlay fault setup.now (R.remaining script.old) (R.remaining script.new)) }
     ensures written { result ≢ Err PlayFault.Write }

@@ -2,7 +2,6 @@
 
 ghost use Rattle.std.specs.Prelude.{◌≡◌, ◌<◌, length, Err, IfErr, OnOk};
 ghost use Rattle.cdb_control.specs.Journal.{extended};
-ghost use Rattle.cdb_run.specs.Algorithms.{rules};
 ghost use Rattle.cdb_setup.specs.declared.fault.SetupFault.{SetupFault as SetupFaultName};
 ghost use Rattle.cdb_play.specs.Buffers.{Puts, Wrote};
 ghost use Rattle.cdb_play.specs.Faults.{IsFaultOfPlay};
@@ -16,7 +15,7 @@ use crate::script::commands_of;
 use crate::sink::Sink;
 use crate::source::{Source, read_up_to};
 use cdb_base::limits::MAX_BYTES;
-use cdb_control::{CallFault, Command, Control, RunOfSetup, Runs, laws};
+use cdb_control::{CallFault, Command, Control, Runs, laws};
 use cdb_setup::Setup;
 use cdb_text::reply_text;
 use std::alloc::Global;
@@ -115,16 +114,17 @@ fn play_by<T: Runs, R: Source, W: Sink>(
 /// only where the reader or the writer failed in this call.
 ///
 /// The replies in the transcript are those to a journal of which the headline holds.
-pub fn play<R: Source, W: Sink>(
+pub fn play<T: Runs, R: Source, W: Sink>(
     alloc: Global,
     setup: &[u8],
     script: &mut R,
     out: &mut W,
 ) -> Result<(), PlayFault>
     ensures wrote { PlayWrites W.contents W.failures result out.old out.new
-        (Plays rules setup.now (R.remaining script.old) (R.remaining script.new)) }
+        (Plays T.rules setup.now (R.remaining script.old) (R.remaining script.new)) }
     ensures headline { PlayWrites W.contents W.failures result out.old out.new
-        (RestsOnHeadline setup.now (R.remaining script.old) (R.remaining script.new)) }
+        (RestsOnHeadline T.rules T.same_state setup.now
+        (R.remaining script.old) (R.remaining script.new)) }
     ensures fault { IfErr result (λ fault.
         IsFaultOfPlay fault setup.now (R.remaining script.old) (R.remaining script.new)) }
     ensures unread { (fault : SetupFaultName) → result ≡ Err (PlayFault.Setup fault) →
@@ -132,6 +132,6 @@ pub fn play<R: Source, W: Sink>(
     ensures read { FailsWhere R.failures (result ≡ Err PlayFault.Read) script.old script.new }
 {
     // Its clause says that the headline holds of every journal.
-    laws::headline();
-    play_by::<RunOfSetup, R, W>(alloc, setup, script, out)
+    laws::headline::<T>();
+    play_by::<T, R, W>(alloc, setup, script, out)
 }

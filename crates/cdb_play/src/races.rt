@@ -2,7 +2,7 @@
 
 ghost use Rattle.std.specs.Prelude.{◌≡◌, ◌+◌, ◌≤◌, length, vec_len, IfOk, IfErr};
 ghost use Rattle.cdb_race.specs.Races.{AllPass};
-ghost use Rattle.cdb_run.specs.Agreement.{HasMajorityIfNeeded};
+ghost use Rattle.cdb_rules.specs.Agreement.{HasMajorityIfNeeded};
 ghost use Rattle.cdb_setup.specs.Format.{StandsFor};
 ghost use Rattle.cdb_setup.specs.Parts.{Parts};
 ghost use Rattle.cdb_play.specs.Races.{race_fault_of_script, bytes_of, AreScripts, IsTextOnSetup, IsTextOfRace, IsFaultOnSetup, IsFaultOfRace};
@@ -16,6 +16,7 @@ use crate::buffer::{Buffer, OutputFault};
 use crate::fault::RaceFault;
 use crate::script::{ScriptFault, commands_of};
 use crate::sink::Sink;
+use cdb_control::Runs;
 use cdb_race::{RaceFault as ThreadFault, Script};
 use cdb_setup::{Setup, SetupFault};
 use cdb_shared::{Gate, Seat};
@@ -89,11 +90,11 @@ impl Gate for Open {
 
     ghost passes = { λ _. true };
 
-    fn before(&mut self, _call: u32, _seat: &Seat) -> bool {
+    fn before<T: Runs>(&mut self, _call: u32, _seat: &Seat<T>) -> bool {
         true
     }
 
-    fn after(&mut self, _call: u32, _seat: &Seat) {}
+    fn after<T: Runs>(&mut self, _call: u32, _seat: &Seat<T>) {}
 }
 
 /// This many gates that always pass.
@@ -131,7 +132,7 @@ fn scripts_of(alloc: Global, scripts: &[Vec<u8>]) -> Result<Vec<Script>, RaceFau
 }
 
 /// Runs the race, and then writes its text. The memory of the buffer is there before the threads start.
-fn run_race<G: Gate + Drop + Send, R: Threads + Wait + Sync, W: Sink>(
+fn run_race<T: Runs + Send, G: Gate + Drop + Send, R: Threads + Wait + Sync, W: Sink>(
     rt: &R,
     alloc: Global,
     setup: Setup,
@@ -143,17 +144,17 @@ fn run_race<G: Gate + Drop + Send, R: Threads + Wait + Sync, W: Sink>(
     requires fits { setup.processes + length scripts.now ≤ 64 }
     requires gates { vec_len gates ≡ setup.processes + length scripts.now }
     ensures wrote { RaceWrites W.contents W.failures result out.old out.new
-        (IsTextOfCommands setup turns scripts.now) }
+        (IsTextOfCommands T.rules setup turns scripts.now) }
     ensures agree { HasMajorityIfNeeded setup
         → AgreesAtEnd W.contents W.failures result out.old out.new }
     ensures fault { IfErr result (IsFaultOfRunning (setup.processes + length scripts.now)) }
     ensures told { IfErr result
-        (IsToldOfCommands G.heard G.passes setup turns scripts.now gates.items) }
+        (IsToldOfCommands T T.rules G.heard G.passes setup turns scripts.now gates.items) }
     ensures passes { AllPass G.passes gates.items → IfErr result IsNotStopped }
 {
     let buffer = Buffer::new(alloc)?;
     let processes = usize::from(setup.n());
-    let raced = cdb_race::race(rt, alloc, setup, turns, scripts, gates)?;
+    let raced = cdb_race::race::<T, G, R>(rt, alloc, setup, turns, scripts, gates)?;
     write_race(
         alloc,
         &raced.control,
@@ -176,7 +177,7 @@ fn run_race<G: Gate + Drop + Send, R: Threads + Wait + Sync, W: Sink>(
 /// With a majority, or in Alpha, the last line of a race that ended well is `decisions agree`. Of several faults of
 /// sessions that of the least seat is reported; `JournalFull` comes only where processes times turns and the commands
 /// of the scripts are 999,999 at least, and `Stopped` only of a gate that did not let a call go on.
-pub fn race_on_with<G: Gate + Drop + Send, R: Threads + Wait + Sync, W: Sink>(
+pub fn race_on_with<T: Runs + Send, G: Gate + Drop + Send, R: Threads + Wait + Sync, W: Sink>(
     rt: &R,
     alloc: Global,
     setup: Setup,
@@ -189,20 +190,20 @@ pub fn race_on_with<G: Gate + Drop + Send, R: Threads + Wait + Sync, W: Sink>(
     requires fits { setup.processes + length scripts.now ≤ 64 }
     requires gates { vec_len gates ≡ setup.processes + length scripts.now }
     ensures wrote { RaceWrites W.contents W.failures result out.old out.new
-        (IsTextOnSetup setup turns (bytes_of scripts.now)) }
+        (IsTextOnSetup T.rules setup turns (bytes_of scripts.now)) }
     ensures agree { HasMajorityIfNeeded setup
         → AgreesAtEnd W.contents W.failures result out.old out.new }
     ensures fault { IfErr result (λ fault. IsFaultOnSetup fault setup (bytes_of scripts.now)) }
     ensures told { IfErr result
-        (IsToldOnSetup G.heard G.passes setup turns (bytes_of scripts.now) gates.items) }
+        (IsToldOnSetup T T.rules G.heard G.passes setup turns (bytes_of scripts.now) gates.items) }
     ensures passes { AllPass G.passes gates.items → IfErr result IsNotStopped }
 {
     let commands = scripts_of(alloc, scripts)?;
-    run_race(rt, alloc, setup, turns, commands.as_slice(), gates, out)
+    run_race::<T, G, R, W>(rt, alloc, setup, turns, commands.as_slice(), gates, out)
 }
 
 /// Runs a race as `race_on_with` does, with gates that always pass.
-pub fn race_on<R: Threads + Wait + Sync, W: Sink>(
+pub fn race_on<T: Runs + Send, R: Threads + Wait + Sync, W: Sink>(
     rt: &R,
     alloc: Global,
     setup: Setup,
@@ -213,7 +214,7 @@ pub fn race_on<R: Threads + Wait + Sync, W: Sink>(
     requires turns { turns ≤ 99999 }
     requires fits { setup.processes + length scripts.now ≤ 64 }
     ensures wrote { RaceWrites W.contents W.failures result out.old out.new
-        (IsTextOnSetup setup turns (bytes_of scripts.now)) }
+        (IsTextOnSetup T.rules setup turns (bytes_of scripts.now)) }
     ensures agree { HasMajorityIfNeeded setup
         → AgreesAtEnd W.contents W.failures result out.old out.new }
     ensures fault { IfErr result (λ fault. IsFaultOnSetup fault setup (bytes_of scripts.now)) }
@@ -221,12 +222,12 @@ pub fn race_on<R: Threads + Wait + Sync, W: Sink>(
 {
     let commands = scripts_of(alloc, scripts)?;
     let gates = open_gates(alloc, usize::from(setup.n()) + commands.len())?;
-    run_race(rt, alloc, setup, turns, commands.as_slice(), gates, out)
+    run_race::<T, Open, R, W>(rt, alloc, setup, turns, commands.as_slice(), gates, out)
 }
 
 /// Runs a race as `race_on_with` does, on the setup that a text of JSON encodes. The setup is read first: after
 /// `Setup` nothing was written.
-pub fn race_with<G: Gate + Drop + Send, R: Threads + Wait + Sync, W: Sink>(
+pub fn race_with<T: Runs + Send, G: Gate + Drop + Send, R: Threads + Wait + Sync, W: Sink>(
     rt: &R,
     alloc: Global,
     setup: &[u8],
@@ -241,20 +242,20 @@ pub fn race_with<G: Gate + Drop + Send, R: Threads + Wait + Sync, W: Sink>(
     requires gates { (parts : Parts) → StandsFor setup.now parts
         → vec_len gates ≡ parts.processes + length scripts.now }
     ensures wrote { RaceWrites W.contents W.failures result out.old out.new
-        (IsTextOfRace setup.now turns (bytes_of scripts.now)) }
+        (IsTextOfRace T.rules setup.now turns (bytes_of scripts.now)) }
     ensures agree { (parts : Parts) → StandsFor setup.now parts → HasMajorityIfNeeded parts
         → AgreesAtEnd W.contents W.failures result out.old out.new }
     ensures fault { IfErr result (λ fault. IsFaultOfRace fault setup.now (bytes_of scripts.now)) }
     ensures told { IfErr result
-        (IsToldOfRace G.heard G.passes setup.now turns (bytes_of scripts.now) gates.items) }
+        (IsToldOfRace T T.rules G.heard G.passes setup.now turns (bytes_of scripts.now) gates.items) }
     ensures passes { AllPass G.passes gates.items → IfErr result IsNotStopped }
 {
     let parts = Setup::read(alloc, setup)?;
-    race_on_with(rt, alloc, parts, turns, scripts, gates, out)
+    race_on_with::<T, G, R, W>(rt, alloc, parts, turns, scripts, gates, out)
 }
 
 /// Runs a race as `race_with` does, with gates that always pass.
-pub fn race<R: Threads + Wait + Sync, W: Sink>(
+pub fn race<T: Runs + Send, R: Threads + Wait + Sync, W: Sink>(
     rt: &R,
     alloc: Global,
     setup: &[u8],
@@ -266,12 +267,12 @@ pub fn race<R: Threads + Wait + Sync, W: Sink>(
     requires fits { (parts : Parts) → StandsFor setup.now parts →
         parts.processes + length scripts.now ≤ 64 }
     ensures wrote { RaceWrites W.contents W.failures result out.old out.new
-        (IsTextOfRace setup.now turns (bytes_of scripts.now)) }
+        (IsTextOfRace T.rules setup.now turns (bytes_of scripts.now)) }
     ensures agree { (parts : Parts) → StandsFor setup.now parts → HasMajorityIfNeeded parts
         → AgreesAtEnd W.contents W.failures result out.old out.new }
     ensures fault { IfErr result (λ fault. IsFaultOfRace fault setup.now (bytes_of scripts.now)) }
     ensures told { IfErr result (IsUnstoppedOfRace setup.now turns (bytes_of scripts.now)) }
 {
     let parts = Setup::read(alloc, setup)?;
-    race_on(rt, alloc, parts, turns, scripts, out)
+    race_on::<T, R, W>(rt, alloc, parts, turns, scripts, out)
 }

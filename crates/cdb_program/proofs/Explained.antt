@@ -6,7 +6,7 @@ use Rattle.cdb_explain.specs.declared.fault.ExplainFault.{ExplainFault}
 use Rattle.cdb_explain.specs.declared.fault.ExplainFault.TheVariants.{NoStep, Play}
 use Rattle.cdb_play.specs.Streams.{FailsWhere}
 use Rattle.cdb_play.specs.declared.fault.PlayFault.TheVariants as play
-use Rattle.cdb_run.specs.Algorithms.{rules}
+use Rattle.cdb_rules.specs.Algorithms.{rules}
 use Rattle.cdb_setup.specs.declared.fault.SetupFault.{SetupFault}
 use Rattle.cdb_program.specs.Known.{contents, failures}
 use Rattle.cdb_program.specs.Explaining.{IsExplained}

@@ -9,11 +9,12 @@ use Rattle.cdb_play.specs.declared.fault.PlayFault.{PlayFault}
 use Rattle.cdb_play.specs.declared.fault.PlayFault.TheVariants as play
 use Rattle.cdb_play.specs.declared.fault.RaceFault.{RaceFault}
 use Rattle.cdb_play.specs.declared.fault.RaceFault.TheVariants as race
-use Rattle.cdb_run.specs.Algorithms.{rules}
+use Rattle.cdb_rules.specs.Algorithms.{rules}
 use Rattle.cdb_setup.specs.declared.fault.SetupFault.{SetupFault}
 use Rattle.cdb_program.specs.Known.{contents, failures}
 use Rattle.cdb_program.specs.Playing.{IsPlay}
 use Rattle.cdb_program.specs.Streaming.{stream_of}
+use Rattle.cdb_rules.specs.SameState.{ReachSameState}
 
 module _ {W : Type 0} (held : W → Option (List ℕ)) (failed : W → ℕ) (IsText : List ℕ → Type 0) where
   pub play_wrote : (played : Result (Unit {0}) PlayFault) (old new : W) → PlayWrites held failed played old new IsText → PlayWrites contents failures played (stream_of held failed old) (stream_of held failed new) IsText
@@ -40,12 +41,12 @@ module _ {W : Type 0} (held : W → Option (List ℕ)) (failed : W → ℕ) (IsT
 
 -- what a play says of its reader and its writer
 pub play_seen : {R W : Type 0} (left : R → Option (List ℕ)) (unread : R → ℕ) (held : W → Option (List ℕ)) (failed : W → ℕ) (json : List ℕ) (played : Result (Unit {0}) PlayFault) (script rest : R) (old new : W)
-    → PlayWrites held failed played old new (Plays rules json (left script) (left rest)) → PlayWrites held failed played old new (RestsOnHeadline json (left script) (left rest)) → IfErr played (λ fault. IsFaultOfPlay fault json (left script) (left rest))
+    → PlayWrites held failed played old new (Plays rules json (left script) (left rest)) → PlayWrites held failed played old new (RestsOnHeadline rules ReachSameState json (left script) (left rest)) → IfErr played (λ fault. IsFaultOfPlay fault json (left script) (left rest))
     → ((fault : SetupFault) → played ≡ Err (play.Setup fault) → rest ≡ script) → FailsWhere unread (played ≡ Err play.Read) script rest
     → IsPlay json played (stream_of left unread script) (stream_of left unread rest) (stream_of held failed old) (stream_of held failed new)
 play_seen left unread held failed json played script rest old new wrote headline fault same read = record {
   wrote = play_wrote held failed (Plays rules json (left script) (left rest)) played old new wrote;
-  headline = play_wrote held failed (RestsOnHeadline json (left script) (left rest)) played old new headline;
+  headline = play_wrote held failed (RestsOnHeadline rules ReachSameState json (left script) (left rest)) played old new headline;
   fault = fault;
   unread = λ why is. ap (stream_of left unread) (same why is);
   read = read;

@@ -5,7 +5,7 @@ use Rattle.cdb_explain.specs.declared.fault.ExplainFault.{ExplainFault}
 use Rattle.cdb_explain.specs.declared.fault.ExplainFault.TheVariants.{Play}
 use Rattle.cdb_play.specs.Streams.{FailsWhere}
 use Rattle.cdb_play.specs.declared.fault.PlayFault.TheVariants as play
-use Rattle.cdb_run.specs.Algorithms.{rules}
+use Rattle.cdb_rules.specs.Algorithms.{rules}
 use Rattle.cdb_setup.specs.declared.fault.SetupFault.{SetupFault}
 use Rattle.cdb_program.specs.Known.{Stream, Seen, contents, failures, in_memory}
 use Rattle.cdb_program.specs.Outcomes.{Outcome, IsOfExplain}

@@ -6,6 +6,7 @@ ghost use Rattle.cdb_program.specs.Playing.{PlaysInput, PlaysFiles};
 use crate::fault::{Fault, of_play};
 use crate::files::{Files, read_two};
 use crate::outside::Outside;
+use cdb_any_run::RunOfSetup;
 use cdb_play::{Bytes, Sink, Source, play};
 use std::alloc::Global;
 
@@ -22,7 +23,12 @@ pub fn play_input<F: Files + Drop, I: Source + Drop, O: Sink + Drop, E: Sink + D
     ensures error { outside.new.error ≡ outside.old.error }
 {
     let streams = &mut outside.streams;
-    let played = play(alloc, ONE_PROCESS, &mut streams.input, &mut streams.output);
+    let played = play::<RunOfSetup, I, O>(
+        alloc,
+        ONE_PROCESS,
+        &mut streams.input,
+        &mut streams.output,
+    );
     of_play(played, "standard input")
 }
 
@@ -38,7 +44,7 @@ pub fn play_files<'a, F: Files + Drop, I: Source + Drop, O: Sink + Drop, E: Sink
 {
     let (json, bytes) = read_two(alloc, &mut outside.files, setup, script)?;
     let mut commands = Bytes::new(bytes.as_slice());
-    let played = play(
+    let played = play::<RunOfSetup, _, O>(
         alloc,
         json.as_slice(),
         &mut commands,

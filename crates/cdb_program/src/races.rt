@@ -9,6 +9,7 @@ ghost use Rattle.cdb_program.specs.Streaming.{stream_of};
 use crate::fault::{Fault, of_race};
 use crate::files::{Files, read_each, read_file};
 use crate::outside::Outside;
+use cdb_any_run::RunOfSetup;
 use cdb_play::{RaceFault, Sink, Source, fits, race_on};
 use cdb_setup::Setup;
 use std::alloc::Global;
@@ -35,7 +36,7 @@ fn race_bytes<R: Threads + Wait + Sync, O: Sink>(
     if !fits(&parts, scripts.len()) {
         return Err(Fault::TooManySeats);
     }
-    let raced = race_on(threads, alloc, parts, turns, scripts, output);
+    let raced = race_on::<RunOfSetup, R, O>(threads, alloc, parts, turns, scripts, output);
     of_race(raced)
 }
 

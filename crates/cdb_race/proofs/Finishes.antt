@@ -7,18 +7,20 @@ use Rattle.cdb_race.specs.Faults.{fault_at}
 use Rattle.cdb_race.specs.Plans.{script_of}
 use Rattle.cdb_race.specs.Runs.{HasDriven, HasServed, HasRun, EndsWell, IsDrivenOut, HasFinished}
 use Rattle.cdb_race.specs.declared.plan.Plan.{Plan}
+use Rattle.cdb_rules.specs.Rules.{Rules}
+use Rattle.cdb_setup.specs.Parts.{Parts}
 use Rattle.cdb_shared.specs.Seats.{SeatView}
 use Rattle.cdb_shared.specs.Sessions.{calls_of, replies_to, IsDriven}
 use Rattle.cdb_shared.specs.declared.session.End.{End}
 use Rattle.cdb_shared.specs.declared.session.End.TheVariants.{All, Done, Stopped, NoMemory, JournalFull}
 
-driven_out : (turns : ℕ) (seat : SeatView) (end : End) → EndsWell end → HasDriven turns seat end → IsDrivenOut seat.number turns (calls_of seat) (replies_to seat)
-driven_out turns seat end (inl is) h = record { count = h.count; few = h.few; calls_are = h.calls; ended = inl (subst (λ (e : End). IsDriven e h.count turns (replies_to seat)) is h.ended) }
-driven_out turns seat end (inr is) h = record { count = h.count; few = h.few; calls_are = h.calls; ended = inr (subst (λ (e : End). IsDriven e h.count turns (replies_to seat)) is h.ended) }
+driven_out : (rules : Parts → Rules) (turns : ℕ) (seat : SeatView) (end : End) → EndsWell end → HasDriven rules turns seat end → IsDrivenOut seat.number turns (calls_of seat) (replies_to rules seat)
+driven_out rules turns seat end (inl is) h = record { count = h.count; few = h.few; calls_are = h.calls; ended = inl (subst (λ (e : End). IsDriven e h.count turns (replies_to rules seat)) is h.ended) }
+driven_out rules turns seat end (inr is) h = record { count = h.count; few = h.few; calls_are = h.calls; ended = inr (subst (λ (e : End). IsDriven e h.count turns (replies_to rules seat)) is h.ended) }
 
-served_out : (commands : List Command) (seat : SeatView) (answered : List Answer) (end : End) → EndsWell end → HasServed commands seat answered end → (calls_of seat ≡ commands) × (replies_to seat ≡ answered)
-served_out commands seat answered end (inl is) h = (h.calls ∙ ap (λ n. take n commands) (h.whole is) ∙ take_all (length commands) commands (omega arith), h.replies)
-served_out commands seat answered end (inr is) h = absurd (h.done is)
+served_out : (rules : Parts → Rules) (commands : List Command) (seat : SeatView) (answered : List Answer) (end : End) → EndsWell end → HasServed rules commands seat answered end → (calls_of seat ≡ commands) × (replies_to rules seat ≡ answered)
+served_out rules commands seat answered end (inl is) h = (h.calls ∙ ap (λ n. take n commands) (h.whole is) ∙ take_all (length commands) commands (omega arith), h.replies)
+served_out rules commands seat answered end (inr is) h = absurd (h.done is)
 
 -- a seat without a fault
 pub ends_well : (seat : ℕ) (end : End) → fault_at seat end ≡ None → EndsWell end
@@ -29,9 +31,9 @@ ends_well seat NoMemory none = absurd (cc)
 ends_well seat JournalFull none = absurd (cc)
 
 -- a session that ended well
-pub finished : (plan : Plan) (before seat : SeatView) (answered : List Answer) (end : End) → EndsWell end → HasRun plan before seat answered end → HasFinished plan before seat answered
-finished plan before seat answered end well h = record {
+pub finished : (rules : Parts → Rules) (plan : Plan) (before seat : SeatView) (answered : List Answer) (end : End) → EndsWell end → HasRun rules plan before seat answered end → HasFinished rules plan before seat answered
+finished rules plan before seat answered end well h = record {
   later = h.later;
-  driven = λ low. let driven = h.driven low in (driven_out plan.turns seat end well driven.0, driven.1);
-  served = λ high. served_out (script_of plan before.number) seat answered end well (h.served high);
+  driven = λ low. let driven = h.driven low in (driven_out rules plan.turns seat end well driven.0, driven.1);
+  served = λ high. served_out rules (script_of plan before.number) seat answered end well (h.served high);
 }

@@ -12,7 +12,7 @@ use Rattle.cdb_race.specs.Races.{AllFinished, AllRan, AreSeatsOf, IsRaced, answe
 use Rattle.cdb_race.specs.Runs.{IsDrivenOut, HasFinished}
 use Rattle.cdb_race.specs.declared.plan.Plan.{Plan}
 use Rattle.cdb_race.specs.declared.worker.Ran.{Ran}
-use Rattle.cdb_run.specs.Algorithms.{rules}
+use Rattle.cdb_rules.specs.Rules.{Rules}
 use Rattle.cdb_setup.specs.Parts.{Parts}
 use Rattle.cdb_shared.specs.Seats.{SeatView, RestsAt, IsKnownBy, fresh_seat, fresh_seats}
 use Rattle.cdb_shared.specs.Sessions.{calls_of, replies_to}
@@ -32,13 +32,13 @@ all_ready shared plan setup seats new k d low =
     let below : k < seats_of plan = omega (arith, new.many) in
     subst (λ (s : SeatView). IsReady shared plan s) (sym (new.each k d below)) (record { rests = (refl, refl); new = refl; planned = omega arith })
 
-some_of : (rans : List Ran) → 0 < length rans → Ran
+some_of : {T : Type 0} (rans : List (Ran T)) → 0 < length rans → Ran T
 some_of [] low = absurd (omega arith)
 some_of (ran ∷ rans) low = ran
 
-pub all_rest : (shared : TableId) (plan : Plan) (setup : Parts) (before seats : List SeatView) (rans : List Ran) → AreFresh shared setup (seats_of plan) before → length rans ≡ seats_of plan → length seats ≡ length rans
-    → AllRan plan before rans → AreSeatsOf seats rans → All (λ seat. RestsAt shared seat) seats
-all_rest shared plan setup before seats rans new many long all gathered k d low =
+pub all_rest : {T : Type 0} (rules : Parts → Rules) (shared : TableId) (plan : Plan) (setup : Parts) (before seats : List SeatView) (rans : List (Ran T)) → AreFresh shared setup (seats_of plan) before → length rans ≡ seats_of plan → length seats ≡ length rans
+    → AllRan rules plan before rans → AreSeatsOf seats rans → All (λ seat. RestsAt shared seat) seats
+all_rest rules shared plan setup before seats rans new many long all gathered k d low =
     let nobody = some_of rans (omega (arith, long, low)) in
     let none = fresh_seat shared (opened setup 0) 0 in
     let place = length rans - 1 - k in
@@ -50,27 +50,27 @@ all_rest shared plan setup before seats rans new many long all gathered k d low 
 pub own_known : (c : Journaled) (seat : SeatView) (n : ℕ) → seat.number ≡ n → IsKnownBy c seat → own n c.journal ≡ calls_of seat
 own_known c seat n is known = ap (λ m. own m c.journal) (sym is) ∙ known.calls
 
-answers_known : (c : Journaled) (seat : SeatView) (n : ℕ) → seat.number ≡ n → IsKnownBy c seat → answers_to n c ≡ replies_to seat
-answers_known c seat n is known =
+answers_known : (rules : Parts → Rules) (c : Journaled) (seat : SeatView) (n : ℕ) → seat.number ≡ n → IsKnownBy c seat → answers_to rules n c ≡ replies_to rules seat
+answers_known rules c seat n is known =
     (λ i. replies_of (rules (known.setup i)) (known.setup i) (known.seats i) (sym is i) c.journal)
     ∙ replies_of-same (rules seat.setup) seat.setup seat.seats seat.number seat.seen c.journal known.begins known.calls
 
-module _ (shared : TableId) (plan : Plan) (setup : Parts) (c : Journaled) (before seats : List SeatView) (answers : List (List Answer))
+module _ (rules : Parts → Rules) (shared : TableId) (plan : Plan) (setup : Parts) (c : Journaled) (before seats : List SeatView) (answers : List (List Answer))
     (same : plan.processes ≡ setup.processes) (new : AreFresh shared setup (seats_of plan) before) (many : length seats ≡ seats_of plan)
-    (finished : AllFinished plan before seats answers) (known : All (λ seat. IsKnownBy c seat) seats) where
+    (finished : AllFinished rules plan before seats answers) (known : All (λ seat. IsKnownBy c seat) seats) where
   abbrev nobody : SeatView
   nobody = fresh_seat shared (opened setup 0) 0
 
   abbrev seat_at : ℕ → SeatView
   seat_at k = get_or seats k nobody
 
-  finished_at : (k : ℕ) → k < seats_of plan → HasFinished plan (fresh_seat shared (opened setup (seats_of plan)) (1 + k)) (seat_at k) (get_or answers k [])
-  finished_at k low = subst (λ (b : SeatView). HasFinished plan b (seat_at k) (get_or answers k [])) (new.each k nobody low) (finished k nobody [] (omega arith) nobody)
+  finished_at : (k : ℕ) → k < seats_of plan → HasFinished rules plan (fresh_seat shared (opened setup (seats_of plan)) (1 + k)) (seat_at k) (get_or answers k [])
+  finished_at k low = subst (λ (b : SeatView). HasFinished rules plan b (seat_at k) (get_or answers k [])) (new.each k nobody low) (finished k nobody [] (omega arith) nobody)
 
   known_at : (k : ℕ) → k < seats_of plan → IsKnownBy c (seat_at k)
   known_at k low = known k nobody (omega arith)
 
-  driven_at : (p : ℕ) → 1 ≤ p → p ≤ plan.processes → IsDrivenOut p plan.turns (own p c.journal) (answers_to p c)
+  driven_at : (p : ℕ) → 1 ≤ p → p ≤ plan.processes → IsDrivenOut p plan.turns (own p c.journal) (answers_to rules p c)
   driven_at p from to =
       let k = p - 1 in
       let low : k < seats_of plan = omega arith in
@@ -78,10 +78,10 @@ module _ (shared : TableId) (plan : Plan) (setup : Parts) (c : Journaled) (befor
       let seat = seat_at k in
       let is : seat.number ≡ p = f.later.number ∙ omega arith in
       let at = known_at k low in
-      subst (λ (y : ℕ × List Command × List Answer). IsDrivenOut y.0 plan.turns y.1 y.2) (λ i. (is i, sym (own_known c seat p is at) i, sym (answers_known c seat p is at) i)) (f.driven (omega arith)).0
+      subst (λ (y : ℕ × List Command × List Answer). IsDrivenOut y.0 plan.turns y.1 y.2) (λ i. (is i, sym (own_known c seat p is at) i, sym (answers_known rules c seat p is at) i)) (f.driven (omega arith)).0
 
   served_at : (k : ℕ) → k < length plan.scripts.now
-      → (own (plan.processes + k + 1) c.journal ≡ get_or plan.scripts.now k []) × (get_or answers (plan.processes + k) [] ≡ answers_to (plan.processes + k + 1) c)
+      → (own (plan.processes + k + 1) c.journal ≡ get_or plan.scripts.now k []) × (get_or answers (plan.processes + k) [] ≡ answers_to rules (plan.processes + k + 1) c)
   served_at k below =
       let place = plan.processes + k in
       let low : place < seats_of plan = omega arith in
@@ -91,10 +91,10 @@ module _ (shared : TableId) (plan : Plan) (setup : Parts) (c : Journaled) (befor
       let at = known_at place low in
       let served = f.served (omega arith) in
       let its : 1 + place - plan.processes - 1 ≡ k = omega arith in
-      (own_known c seat (place + 1) is at ∙ served.0 ∙ ap (λ n. get_or plan.scripts.now n []) its, sym (answers_known c seat (place + 1) is at ∙ served.1))
+      (own_known c seat (place + 1) is at ∙ served.0 ∙ ap (λ n. get_or plan.scripts.now n []) its, sym (answers_known rules c seat (place + 1) is at ∙ served.1))
 
   -- the whole race
-  pub raced : 1 ≤ setup.processes → length answers ≡ length seats → AreOfSeats c.seats c.journal → IsRaced setup plan.turns plan.scripts.now c answers
+  pub raced : 1 ≤ setup.processes → length answers ≡ length seats → AreOfSeats c.seats c.journal → IsRaced rules setup plan.turns plan.scripts.now c answers
   raced some long entries =
       let low : 0 < seats_of plan = omega arith in
       let first = (finished_at 0 low).later in
@@ -108,5 +108,5 @@ module _ (shared : TableId) (plan : Plan) (setup : Parts) (c : Journaled) (befor
         served = λ k below. ap (λ n. own (n + k + 1) c.journal) (sym same) ∙ (served_at k below).0;
         many = long ∙ many ∙ sym seats_are;
         none = λ k below. ((finished_at k (omega arith)).driven (omega arith)).1;
-        answered = λ k below. ap (λ n. get_or answers (n + k) []) (sym same) ∙ (served_at k below).1 ∙ ap (λ n. answers_to (n + k + 1) c) same;
+        answered = λ k below. ap (λ n. get_or answers (n + k) []) (sym same) ∙ (served_at k below).1 ∙ ap (λ n. answers_to rules (n + k + 1) c) same;
       }

@@ -10,6 +10,7 @@ use Rattle.cdb_race.specs.declared.plan.Plan.{Plan}
 use Rattle.cdb_race.specs.declared.threads.RaceFault.{RaceFault}
 use Rattle.cdb_race.specs.declared.threads.RaceFault.TheVariants as fault
 use Rattle.cdb_race.specs.declared.worker.Ran.{Ran}
+use Rattle.cdb_rules.specs.Rules.{Rules}
 use Rattle.cdb_setup.specs.Parts.{Parts, IsWithin}
 use Rattle.cdb_shared.specs.Gates.{Heard}
 use Rattle.cdb_shared.specs.Seats.{SeatView, fresh_seat}
@@ -25,16 +26,16 @@ of_end n seat NoMemory why has within = let same : fault.NoMemory ≡ why = cc i
 of_end n seat JournalFull why has within = let same : fault.JournalFull ≡ why = cc in subst (IsAmongSeats n) same tt
 
 -- and so does that of the least seat
-pub of_least : (shared : TableId) (plan : Plan) (setup : Parts) (before : List SeatView) (rans : List Ran) (why : RaceFault) → AreFresh shared setup (seats_of plan) before → length rans ≡ seats_of plan
-    → AllRan plan before rans → IsOfLeastSeat why rans → IsAmongSeats (seats_of plan) why
-of_least shared plan setup before rans why new many all least =
+pub of_least : {T : Type 0} (rules : Parts → Rules) (shared : TableId) (plan : Plan) (setup : Parts) (before : List SeatView) (rans : List (Ran T)) (why : RaceFault) → AreFresh shared setup (seats_of plan) before → length rans ≡ seats_of plan
+    → AllRan rules plan before rans → IsOfLeastSeat why rans → IsAmongSeats (seats_of plan) why
+of_least {T} rules shared plan setup before rans why new many all least =
     let its = least.its in
     let k = least.place in
     let nobody = fresh_seat shared (opened setup 0) 0 in
     let place = length before - 1 - k in
     let later = (all k its least.within nobody).later.number in
     let first = ap (λ (s : SeatView). s.number) (new.each place nobody (omega (arith, new.many, least.within))) in
-    let number : its.seat.number ≡ 1 + place = ap (λ (r : Ran). r.seat.number) (sym least.at) ∙ later ∙ first in
+    let number : its.seat.number ≡ 1 + place = ap (λ (r : Ran T). r.seat.number) (sym least.at) ∙ later ∙ first in
     of_end (seats_of plan) its.seat.number its.end why least.has (omega (arith, number), omega (arith, number, new.many))
 
 -- a seat that is told to have stopped did stop
@@ -50,15 +51,15 @@ some_gate [] low = absurd (omega arith)
 some_gate (gate ∷ gates) low = gate
 
 -- where all gates let every call go on no seat stopped
-never_stopped : {G : Type 0} (heard : G → Option (List Heard)) (passes : G → Bool) (setup : Parts) (turns : ℕ) (scripts : List (List Command)) (gates : List G) (why : RaceFault) → length gates ≡ setup.processes + length scripts
-    → IsFaultOfSeats heard passes setup turns scripts gates why → AllPass passes gates → (seat : ℕ) → why ≡ fault.Stopped seat → ⊥
-never_stopped heard passes setup turns scripts gates why many it all seat is =
+never_stopped : {G : Type 0} (T : Type 0) (rules : Parts → Rules) (heard : G → Option (List Heard)) (passes : G → Bool) (setup : Parts) (turns : ℕ) (scripts : List (List Command)) (gates : List G) (why : RaceFault) → length gates ≡ setup.processes + length scripts
+    → IsFaultOfSeats T rules heard passes setup turns scripts gates why → AllPass passes gates → (seat : ℕ) → why ≡ fault.Stopped seat → ⊥
+never_stopped T rules heard passes setup turns scripts gates why many it all seat is =
     let least = it.least in
     let its = least.its in
     let nobody = fresh_seat it.shared (opened setup 0) 0 in
     let first = some_gate gates (omega (arith, many, it.many, least.within, it.processes_are, ap length it.scripts_are)) in
     let ended = it.ended least.place its first least.within nobody in
-    let end : (get_or it.rans least.place its).end ≡ Stopped = ap (λ (r : Ran). r.end) least.at ∙ stopped its.seat.number seat its.end (least.has ∙ ap (λ (f : RaceFault). Some f) is) in
+    let end : (get_or it.rans least.place its).end ≡ Stopped = ap (λ (r : Ran T). r.end) least.at ∙ stopped its.seat.number seat its.end (least.has ∙ ap (λ (f : RaceFault). Some f) is) in
     ended.passed (all (length gates - 1 - least.place) first (omega (arith, many, it.many, least.within, it.processes_are, ap length it.scripts_are))) end
 
 -- so it is told of none
@@ -74,7 +75,7 @@ not_of_threads fault.NoMemory it = tt
 not_of_threads fault.JournalFull it = tt
 not_of_threads (fault.Spawn refused) it = tt
 
-pub told_passes : {G : Type 0} (heard : G → Option (List Heard)) (passes : G → Bool) (setup : Parts) (turns : ℕ) (scripts : List (List Command)) (gates : List G) (why : RaceFault) → length gates ≡ setup.processes + length scripts
-    → IsTold heard passes setup turns scripts gates why → AllPass passes gates → IsNotStopped why
-told_passes heard passes setup turns scripts gates why many (inl threads) all = not_of_threads why threads
-told_passes heard passes setup turns scripts gates why many (inr it) all = not_stopped why (never_stopped heard passes setup turns scripts gates why many it all)
+pub told_passes : {G : Type 0} (T : Type 0) (rules : Parts → Rules) (heard : G → Option (List Heard)) (passes : G → Bool) (setup : Parts) (turns : ℕ) (scripts : List (List Command)) (gates : List G) (why : RaceFault) → length gates ≡ setup.processes + length scripts
+    → IsTold T rules heard passes setup turns scripts gates why → AllPass passes gates → IsNotStopped why
+told_passes T rules heard passes setup turns scripts gates why many (inl threads) all = not_of_threads why threads
+told_passes T rules heard passes setup turns scripts gates why many (inr it) all = not_stopped why (never_stopped T rules heard passes setup turns scripts gates why many it all)

@@ -12,6 +12,7 @@ use Rattle.cdb_race.specs.declared.plan.Plan.{Plan}
 use Rattle.cdb_race.specs.declared.threads.RaceFault.{RaceFault}
 use Rattle.cdb_race.specs.declared.threads.RaceFault.TheVariants as fault
 use Rattle.cdb_race.specs.declared.worker.Ran.{Ran}
+use Rattle.cdb_rules.specs.Rules.{Rules}
 use Rattle.cdb_setup.specs.Parts.{Parts}
 use Rattle.cdb_shared.specs.Seats.{SeatView, IsKnownBy, fresh_seat}
 use Rattle.cdb_shared.specs.declared.session.End.{End}
@@ -30,11 +31,11 @@ met_full seat Stopped has = absurd cc
 met_full seat NoMemory has = absurd cc
 met_full seat JournalFull has = cc
 
-module _ (shared : TableId) (plan : Plan) (setup : Parts) (c : Journaled) (before : List SeatView) (rans : List Ran) (nobody : Ran)
+module _ {T : Type 0} (rules : Parts → Rules) (shared : TableId) (plan : Plan) (setup : Parts) (c : Journaled) (before : List SeatView) (rans : List (Ran T)) (nobody : Ran T)
     (same : plan.processes ≡ setup.processes) (new : AreFresh shared setup (seats_of plan) before) (many : length rans ≡ seats_of plan)
-    (all : AllRan plan before rans) (seats : List SeatView) (long : length seats ≡ length rans) (gathered : AreSeatsOf seats rans) (known : All (λ seat. IsKnownBy c seat) seats) where
+    (all : AllRan rules plan before rans) (seats : List SeatView) (long : length seats ≡ length rans) (gathered : AreSeatsOf seats rans) (known : All (λ seat. IsKnownBy c seat) seats) where
   -- the outcome of the seat at this place
-  abbrev ran_at : ℕ → Ran
+  abbrev ran_at : ℕ → Ran T
   ran_at k = get_or rans (seats_of plan - 1 - k) nobody
 
   knows : (k : ℕ) → k < length rans → IsKnownBy c (get_or rans k nobody).seat
@@ -43,11 +44,11 @@ module _ (shared : TableId) (plan : Plan) (setup : Parts) (c : Journaled) (befor
       let back : length rans - 1 - place ≡ k = omega (arith, low) in
       subst (IsKnownBy c) (gathered place nobody.seat nobody (omega (arith, low)) ∙ ap (λ i. (get_or rans i nobody).seat) back) (known place nobody.seat (omega (arith, long, low)))
 
-  has_ran : (k : ℕ) → k < seats_of plan → HasRan plan (fresh_seat shared (opened setup (seats_of plan)) (1 + k)) (ran_at k)
+  has_ran : (k : ℕ) → k < seats_of plan → HasRan rules plan (fresh_seat shared (opened setup (seats_of plan)) (1 + k)) (ran_at k)
   has_ran k low =
       let none = fresh_seat shared (opened setup 0) 0 in
       let place : length before - 1 - (seats_of plan - 1 - k) ≡ k = omega (arith, new.many) in
-      subst (λ (b : SeatView). HasRan plan b (ran_at k)) (ap (λ i. get_or before i none) place ∙ new.each k none low) (all (seats_of plan - 1 - k) nobody (omega (arith, many)) none)
+      subst (λ (b : SeatView). HasRan rules plan b (ran_at k)) (ap (λ i. get_or before i none) place ∙ new.each k none low) (all (seats_of plan - 1 - k) nobody (omega (arith, many)) none)
 
   driven_at : (p : ℕ) → 1 ≤ p → p ≤ plan.processes → (count : ℕ) × (count ≤ plan.turns) × (own p c.journal ≡ replicate count (Auto p))
   driven_at p from to =

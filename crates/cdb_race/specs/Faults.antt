@@ -11,6 +11,7 @@ use Rattle.cdb_race.specs.declared.plan.Plan.{Plan}
 use Rattle.cdb_race.specs.declared.threads.RaceFault.{RaceFault}
 use Rattle.cdb_race.specs.declared.threads.RaceFault.TheVariants as fault
 use Rattle.cdb_race.specs.declared.worker.Ran.{Ran}
+use Rattle.cdb_rules.specs.Rules.{Rules}
 use Rattle.cdb_setup.specs.Parts.{Parts, IsWithin}
 use Rattle.cdb_shared.specs.Gates.{Heard}
 use Rattle.cdb_shared.specs.Seats.{SeatView, fresh_seat}
@@ -26,27 +27,27 @@ fault_at seat NoMemory = Some fault.NoMemory
 fault_at seat JournalFull = Some fault.JournalFull
 
 -- that of what a thread hands back
-abbrev pub fault_in : Ran → Option RaceFault
+abbrev pub fault_in : {T : Type 0} → Ran T → Option RaceFault
 fault_in ran = fault_at ran.seat.number ran.end
 
 -- none of the sessions has one
-abbrev pub AreWell : List Ran → Type 0
+abbrev pub AreWell : {T : Type 0} → List (Ran T) → Type 0
 AreWell rans = All (λ ran. fault_in ran ≡ None) rans
 
 -- where none has, these are the seats and the replies of a race whose seats have finished
-abbrev pub HaveFinished : Vec Ran Global → Vec SeatView Global → Vec (Vec Reply Global) Global → Type 0
-HaveFinished rans seats replies =
-    (plan : Plan) (before : List SeatView) → length before ≡ vec_len rans → AllRan plan before rans.items → AreWell rans.items
-    → AllFinished plan before seats.items (all_told replies.items)
+abbrev pub HaveFinished : {T : Type 0} → (Parts → Rules) → Vec (Ran T) Global → Vec SeatView Global → Vec (Vec Reply Global) Global → Type 0
+HaveFinished rules rans seats replies =
+    (plan : Plan) (before : List SeatView) → length before ≡ vec_len rans → AllRan rules plan before rans.items → AreWell rans.items
+    → AllFinished rules plan before seats.items (all_told replies.items)
 
 -- of the seats that have a fault the least has this one. The last seat's outcome comes first
-pub record IsOfLeastSeat (fault : RaceFault) (rans : List Ran) : Type 0 where
-  pub its : Ran
+pub record IsOfLeastSeat {T : Type 0} (fault : RaceFault) (rans : List (Ran T)) : Type 0 where
+  pub its : Ran T
   pub place : ℕ
   pub within : place < length rans
   pub at : slice_index_or rans place its ≡ its
   pub has : fault_in its ≡ Some fault
-  pub least : (k : ℕ) (ran : Ran) → place < k → k < length rans → fault_in (slice_index_or rans k ran) ≡ None
+  pub least : (k : ℕ) (ran : Ran T) → place < k → k < length rans → fault_in (slice_index_or rans k ran) ≡ None
 
 -- a stopped seat is one of this many
 abbrev pub IsAmongSeats : ℕ → RaceFault → Type 0
@@ -70,7 +71,7 @@ pub record AreFresh (shared : TableId) (setup : Parts) (count : ℕ) (seats : Li
   pub each : (k : ℕ) (d : SeatView) → k < count → slice_index_or seats k d ≡ fresh_seat shared (opened setup count) (1 + k)
 
 -- each seat has run, its session ended by its gate, and of the seats whose session a fault ended the least has this one
-pub record IsFaultOfSeats {G : Type 0} (heard : G → Option (List Heard)) (passes : G → Bool) (setup : Parts) (turns : ℕ) (scripts : List (List Command)) (gates : List G) (fault : RaceFault) : Type 0 where
+pub record IsFaultOfSeats {G : Type 0} (T : Type 0) (rules : Parts → Rules) (heard : G → Option (List Heard)) (passes : G → Bool) (setup : Parts) (turns : ℕ) (scripts : List (List Command)) (gates : List G) (fault : RaceFault) : Type 0 where
   pub plan : Plan
   pub processes_are : plan.processes ≡ setup.processes
   pub turns_are : plan.turns ≡ turns
@@ -78,13 +79,13 @@ pub record IsFaultOfSeats {G : Type 0} (heard : G → Option (List Heard)) (pass
   pub shared : TableId
   pub seats : List SeatView
   pub new : AreFresh shared setup (seats_of plan) seats
-  pub rans : List Ran
+  pub rans : List (Ran T)
   pub many : length rans ≡ seats_of plan
-  pub ran : AllRan plan seats rans
+  pub ran : AllRan rules plan seats rans
   pub ended : AllEnded heard passes gates seats rans
   pub least : IsOfLeastSeat fault rans
 
 -- a fault of starting or joining the threads, or that of a seat
-abbrev pub IsTold : {G : Type 0} → (G → Option (List Heard)) → (G → Bool) → Parts → ℕ → List (List Command) → List G → RaceFault → Type 0
-IsTold heard passes setup turns scripts gates fault =
-    IsFaultOfThreads fault ⊎ IsFaultOfSeats heard passes setup turns scripts gates fault
+abbrev pub IsTold : {G : Type 0} → Type 0 → (Parts → Rules) → (G → Option (List Heard)) → (G → Bool) → Parts → ℕ → List (List Command) → List G → RaceFault → Type 0
+IsTold T rules heard passes setup turns scripts gates fault =
+    IsFaultOfThreads fault ⊎ IsFaultOfSeats T rules heard passes setup turns scripts gates fault

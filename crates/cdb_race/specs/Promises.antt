@@ -7,26 +7,28 @@ use Rattle.cdb_race.specs.Runs.{HasRun}
 use Rattle.cdb_race.specs.declared.plan.Plan.{Plan}
 use Rattle.cdb_race.specs.declared.worker.Ran.{Ran}
 use Rattle.cdb_race.specs.declared.worker.SeatPromise.{SeatPromise}
+use Rattle.cdb_rules.specs.Rules.{Rules}
+use Rattle.cdb_setup.specs.Parts.{Parts}
 use Rattle.cdb_shared.specs.Gates.{Heard, HearsServed}
 use Rattle.cdb_shared.specs.Seats.{SeatView}
 use Rattle.cdb_shared.specs.declared.session.End.{End}
 use Rattle.cdb_shared.specs.declared.session.End.TheVariants.{Stopped}
 
 -- a promise of this seat, with this gate, by this plan
-pub record IsPromise {G : Type 0} (plan : Plan) (seat : SeatView) (gate : G) (promise : SeatPromise G) : Type 0 where
+pub record IsPromise {T G : Type 0} (plan : Plan) (seat : SeatView) (gate : G) (promise : SeatPromise T G) : Type 0 where
   pub plan_is : promise.plan ≡ plan
   pub seat_is : promise.seat.value ≡ seat
   pub gate_is : promise.gate.value ≡ gate
 
 -- each handle promises that of a seat and its gate, the last seat's first
-abbrev pub ArePromises : {G : Type 0} → Plan → Vec SeatView Global → Vec G Global → Vec (PromisedHandle Ran (SeatPromise G)) Global → Type 0
-ArePromises {G} plan seats gates handles =
-    (k : ℕ) (before : SeatView) (gate : G) (handle : PromisedHandle Ran (SeatPromise G)) → k < vec_len seats
+abbrev pub ArePromises : {T G : Type 0} → Plan → Vec SeatView Global → Vec G Global → Vec (PromisedHandle (Ran T) (SeatPromise T G)) Global → Type 0
+ArePromises {T} {G} plan seats gates handles =
+    (k : ℕ) (before : SeatView) (gate : G) (handle : PromisedHandle (Ran T) (SeatPromise T G)) → k < vec_len seats
     → IsPromise plan (slice_index_or seats.items (vec_len seats - 1 - k) before) (slice_index_or gates.items (vec_len gates - 1 - k) gate) (slice_index_or handles.items k handle).promise
 
 -- what the seat's thread hands back says what the seat has done
-abbrev pub HasRan : Plan → SeatView → Ran → Type 0
-HasRan plan before ran = HasRun plan before ran.seat (map told ran.replies.items) ran.end
+abbrev pub HasRan : {T : Type 0} → (Parts → Rules) → Plan → SeatView → Ran T → Type 0
+HasRan rules plan before ran = HasRun rules plan before ran.seat (map told ran.replies.items) ran.end
 
 -- how a session ended, by its gate: the gate has heard of it, and one that lets all calls go on has stopped none
 pub record HasEnded {G : Type 0} (heard : G → Option (List Heard)) (passes : G → Bool) (gate : G) (before after : SeatView) (end : End) : Type 0 where

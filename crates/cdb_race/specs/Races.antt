@@ -12,7 +12,7 @@ use Rattle.cdb_race.specs.Runs.{HasFinished, IsDrivenOut}
 use Rattle.cdb_race.specs.declared.plan.Plan.{Plan}
 use Rattle.cdb_race.specs.declared.threads.Raced.{Raced}
 use Rattle.cdb_race.specs.declared.worker.Ran.{Ran}
-use Rattle.cdb_run.specs.Algorithms.{rules}
+use Rattle.cdb_rules.specs.Rules.{Rules}
 use Rattle.cdb_setup.specs.Parts.{Parts}
 use Rattle.cdb_shared.specs.Gates.{Heard}
 use Rattle.cdb_shared.specs.Seats.{SeatView}
@@ -22,14 +22,14 @@ abbrev pub all_told : List (Vec Reply Global) → List (List Answer)
 all_told replies = map (λ list. map told list.items) replies
 
 -- the outcomes of the threads of these seats, the last seat's first
-abbrev pub AllRan : Plan → List SeatView → List Ran → Type 0
-AllRan plan seats rans =
-    (k : ℕ) (ran : Ran) → k < length rans → (before : SeatView) → HasRan plan (slice_index_or seats (length seats - 1 - k) before) (slice_index_or rans k ran)
+abbrev pub AllRan : {T : Type 0} → (Parts → Rules) → Plan → List SeatView → List (Ran T) → Type 0
+AllRan {T} rules plan seats rans =
+    (k : ℕ) (ran : Ran T) → k < length rans → (before : SeatView) → HasRan rules plan (slice_index_or seats (length seats - 1 - k) before) (slice_index_or rans k ran)
 
 -- how the sessions of these outcomes ended, by their gates; the last gate's and seat's first
-abbrev pub AllEnded : {G : Type 0} → (G → Option (List Heard)) → (G → Bool) → List G → List SeatView → List Ran → Type 0
-AllEnded {G} heard passes gates seats rans =
-    (k : ℕ) (ran : Ran) (gate : G) → k < length rans → (before : SeatView)
+abbrev pub AllEnded : {T G : Type 0} → (G → Option (List Heard)) → (G → Bool) → List G → List SeatView → List (Ran T) → Type 0
+AllEnded {T} {G} heard passes gates seats rans =
+    (k : ℕ) (ran : Ran T) (gate : G) → k < length rans → (before : SeatView)
     → HasEnded heard passes (slice_index_or gates (length gates - 1 - k) gate) (slice_index_or seats (length seats - 1 - k) before) (slice_index_or rans k ran).seat (slice_index_or rans k ran).end
 
 -- each of these gates lets every call go on
@@ -37,29 +37,29 @@ abbrev pub AllPass : {G : Type 0} → (G → Bool) → List G → Type 0
 AllPass passes gates = All (λ gate. passes gate ≡ true) gates
 
 -- these are the seats of the outcomes, the first seat first
-abbrev pub AreSeatsOf : List SeatView → List Ran → Type 0
-AreSeatsOf seats rans = (k : ℕ) (seat : SeatView) (ran : Ran) → k < length rans → slice_index_or seats k seat ≡ (slice_index_or rans (length rans - 1 - k) ran).seat
+abbrev pub AreSeatsOf : {T : Type 0} → List SeatView → List (Ran T) → Type 0
+AreSeatsOf {T} seats rans = (k : ℕ) (seat : SeatView) (ran : Ran T) → k < length rans → slice_index_or seats k seat ≡ (slice_index_or rans (length rans - 1 - k) ran).seat
 
 -- each of these seats has finished, and each has its replies
-abbrev pub AllFinished : Plan → List SeatView → List SeatView → List (List Answer) → Type 0
-AllFinished plan before seats answers =
+abbrev pub AllFinished : (Parts → Rules) → Plan → List SeatView → List SeatView → List (List Answer) → Type 0
+AllFinished rules plan before seats answers =
     (k : ℕ) (seat : SeatView) (list : List Answer) → k < length seats
-    → (b : SeatView) → HasFinished plan (slice_index_or before k b) (slice_index_or seats k seat) (slice_index_or answers k list)
+    → (b : SeatView) → HasFinished rules plan (slice_index_or before k b) (slice_index_or seats k seat) (slice_index_or answers k list)
 
 -- the replies to a seat's commands in the journal of a control
-abbrev pub answers_to : ℕ → Journaled → List Answer
-answers_to seat c = replies_of (rules c.setup) c.setup c.seats seat c.journal
+abbrev pub answers_to : (Parts → Rules) → ℕ → Journaled → List Answer
+answers_to rules seat c = replies_of (rules c.setup) c.setup c.seats seat c.journal
 
 -- the final control and the replies of each seat: each process was driven by its seat, each script was served by its seat, and the journal has no other entries
-pub record IsRaced (setup : Parts) (turns : ℕ) (scripts : List (List Command)) (c : Journaled) (answers : List (List Answer)) : Type 0 where
+pub record IsRaced (rules : Parts → Rules) (setup : Parts) (turns : ℕ) (scripts : List (List Command)) (c : Journaled) (answers : List (List Answer)) : Type 0 where
   pub setup_is : c.setup ≡ setup
   pub seats_are : c.seats ≡ setup.processes + length scripts
   pub entries : AreOfSeats c.seats c.journal
-  pub driven : (p : ℕ) → 1 ≤ p → p ≤ setup.processes → IsDrivenOut p turns (own p c.journal) (answers_to p c)
+  pub driven : (p : ℕ) → 1 ≤ p → p ≤ setup.processes → IsDrivenOut p turns (own p c.journal) (answers_to rules p c)
   pub served : (k : ℕ) → k < length scripts → own (setup.processes + k + 1) c.journal ≡ slice_index_or scripts k []
   pub many : length answers ≡ c.seats
   pub none : (k : ℕ) → k < setup.processes → slice_index_or answers k [] ≡ []
-  pub answered : (k : ℕ) → k < length scripts → slice_index_or answers (setup.processes + k) [] ≡ answers_to (setup.processes + k + 1) c
+  pub answered : (k : ℕ) → k < length scripts → slice_index_or answers (setup.processes + k) [] ≡ answers_to rules (setup.processes + k + 1) c
 
 -- A race that is not at its end: each process was driven by its seat for no more than its turns, of each script its seat served
 -- a beginning, and the journal has no other entries.
@@ -75,8 +75,8 @@ abbrev pub most_calls : Parts → ℕ → List (List Command) → ℕ
 most_calls setup turns scripts = setup.processes * turns + sum (map length scripts)
 
 -- a race whose final control and replies are these
-abbrev pub HasRaced : Parts → ℕ → List (List Command) → Raced → Type 0
-HasRaced setup turns scripts raced = IsRaced setup turns scripts raced.control (all_told raced.replies.items)
+abbrev pub HasRaced : {T : Type 0} → (Parts → Rules) → Parts → ℕ → List (List Command) → Raced T → Type 0
+HasRaced rules setup turns scripts raced = IsRaced rules setup turns scripts raced.control (all_told raced.replies.items)
 
 -- a race under way has come to a full journal
 abbrev pub FillsJournal : Parts → ℕ → List (List Command) → Type 0

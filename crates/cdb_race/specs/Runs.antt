@@ -6,30 +6,32 @@ use Rattle.cdb_control.specs.declared.command.Command.{Command}
 use Rattle.cdb_control.specs.declared.command.Command.TheVariants.{Auto}
 use Rattle.cdb_race.specs.Plans.{script_of}
 use Rattle.cdb_race.specs.declared.plan.Plan.{Plan}
+use Rattle.cdb_rules.specs.Rules.{Rules}
+use Rattle.cdb_setup.specs.Parts.{Parts}
 use Rattle.cdb_shared.specs.Seats.{SeatView, IsLater}
 use Rattle.cdb_shared.specs.Sessions.{calls_of, replies_to, IsDriven}
 use Rattle.cdb_shared.specs.declared.session.End.{End}
 use Rattle.cdb_shared.specs.declared.session.End.TheVariants.{All, Done, JournalFull}
 
 -- the calls of the seat are steps of its process by `auto`, as many as the turns, or fewer where the session ended before
-pub record HasDriven (turns : ℕ) (seat : SeatView) (end : End) : Type 0 where
+pub record HasDriven (rules : Parts → Rules) (turns : ℕ) (seat : SeatView) (end : End) : Type 0 where
   pub count : ℕ
   pub few : count ≤ turns
   pub calls : calls_of seat ≡ replicate count (Auto seat.number)
-  pub ended : IsDriven end count turns (replies_to seat)
+  pub ended : IsDriven end count turns (replies_to rules seat)
 
 -- the calls of the seat are the first of these commands, and all of them where the session ended so
-pub record HasServed (commands : List Command) (seat : SeatView) (answered : List Answer) (end : End) : Type 0 where
+pub record HasServed (rules : Parts → Rules) (commands : List Command) (seat : SeatView) (answered : List Answer) (end : End) : Type 0 where
   pub calls : calls_of seat ≡ take (length answered) commands
-  pub replies : replies_to seat ≡ answered
+  pub replies : replies_to rules seat ≡ answered
   pub whole : end ≡ All → length answered ≡ length commands
   pub done : end ≢ Done
 
 -- what a seat has done when its thread has ended: the first seats drive the processes, and the others serve the scripts
-pub record HasRun (plan : Plan) (before seat : SeatView) (answered : List Answer) (end : End) : Type 0 where
+pub record HasRun (rules : Parts → Rules) (plan : Plan) (before seat : SeatView) (answered : List Answer) (end : End) : Type 0 where
   pub later : IsLater before seat
-  pub driven : before.number ≤ plan.processes → HasDriven plan.turns seat end × (answered ≡ [])
-  pub served : plan.processes < before.number → HasServed (script_of plan before.number) seat answered end
+  pub driven : before.number ≤ plan.processes → HasDriven rules plan.turns seat end × (answered ≡ [])
+  pub served : plan.processes < before.number → HasServed rules (script_of plan before.number) seat answered end
   pub full : end ≡ JournalFull → length seat.seen ≡ MAX_ENTRIES
 
 -- the session ended well: its script was served to the end, or its process was done or had its turns
@@ -44,7 +46,7 @@ pub record IsDrivenOut (process turns : ℕ) (calls : List Command) (answered : 
   pub ended : IsDriven All count turns answered ⊎ IsDriven Done count turns answered
 
 -- what a seat has done where its session ended well
-pub record HasFinished (plan : Plan) (before seat : SeatView) (answered : List Answer) : Type 0 where
+pub record HasFinished (rules : Parts → Rules) (plan : Plan) (before seat : SeatView) (answered : List Answer) : Type 0 where
   pub later : IsLater before seat
-  pub driven : before.number ≤ plan.processes → IsDrivenOut seat.number plan.turns (calls_of seat) (replies_to seat) × (answered ≡ [])
-  pub served : plan.processes < before.number → (calls_of seat ≡ script_of plan before.number) × (replies_to seat ≡ answered)
+  pub driven : before.number ≤ plan.processes → IsDrivenOut seat.number plan.turns (calls_of seat) (replies_to rules seat) × (answered ≡ [])
+  pub served : plan.processes < before.number → (calls_of seat ≡ script_of plan before.number) × (replies_to rules seat ≡ answered)

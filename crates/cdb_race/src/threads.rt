@@ -9,7 +9,8 @@ ghost use Rattle.cdb_shared.specs.Seats.{HasHeadline};
 use crate::plan::{Plan, Script};
 use crate::starting::{RefusedStart, start};
 use crate::worker::{Ran, SeatPromise, run};
-use cdb_control::{Control, Reply, RunOfSetup};
+use cdb_control::{Control, Reply};
+use cdb_rules::Runs;
 use cdb_setup::Setup;
 use cdb_shared::{End, Gate, Seat, Shared};
 use std::alloc::Global;
@@ -48,15 +49,15 @@ impl fmt::Display for RaceFault {
 impl Error for RaceFault {}
 
 /// Starts a thread for one seat.
-fn start_one<'s, E, G: Gate + Drop + Send + 's, R: Threads + Wait + Sync>(
+fn start_one<'s, E, T: Runs + Send + 's, G: Gate + Drop + Send + 's, R: Threads + Wait + Sync>(
     scope: &Scope<'s, E>,
     rt: &'s R,
     alloc: Global,
-    shared: &'s Shared,
+    shared: &'s Shared<T>,
     plan: Plan<'s>,
-    seat: Seat,
+    seat: Seat<T>,
     gate: G,
-) -> Result<PromisedHandle<Ran, SeatPromise<'s, G>>, RaceFault>
+) -> Result<PromisedHandle<Ran<T>, SeatPromise<'s, T, G>>, RaceFault>
     requires { IsReady shared.now plan seat }
     ensures promise { IfOk result (λ handle. IsPromise plan.entry seat gate handle.promise) }
     ensures fault { IfErr result IsFaultOfThreads }
@@ -69,9 +70,9 @@ fn start_one<'s, E, G: Gate + Drop + Send + 's, R: Threads + Wait + Sync>(
     let started = start(
         scope,
         promise,
-        move || -> Ran
+        move || -> Ran<T>
             requires { IsReady shared.now plan seat }
-            ensures ran { HasRan plan.entry seat result }
+            ensures ran { HasRan T.rules plan.entry seat result }
             ensures ended { HasEnded G.heard G.passes gate seat result.seat result.end }
         { run(shared, rt, alloc, plan, seat, gate) },
     );
@@ -79,15 +80,15 @@ fn start_one<'s, E, G: Gate + Drop + Send + 's, R: Threads + Wait + Sync>(
 }
 
 /// Starts a thread for each seat, the last seat's first.
-fn start_all<'s, E, G: Gate + Drop + Send + 's, R: Threads + Wait + Sync>(
+fn start_all<'s, E, T: Runs + Send + 's, G: Gate + Drop + Send + 's, R: Threads + Wait + Sync>(
     scope: &Scope<'s, E>,
     rt: &'s R,
     alloc: Global,
-    shared: &'s Shared,
+    shared: &'s Shared<T>,
     plan: Plan<'s>,
-    mut seats: Vec<Seat>,
+    mut seats: Vec<Seat<T>>,
     mut gates: Vec<G>,
-) -> Result<Vec<PromisedHandle<Ran, SeatPromise<'s, G>>>, RaceFault>
+) -> Result<Vec<PromisedHandle<Ran<T>, SeatPromise<'s, T, G>>>, RaceFault>
     requires ready { All (λ seat. IsReady shared.now plan seat) seats.items }
     requires gates { vec_len gates ≡ vec_len seats }
     ensures count { IfOk result (λ handles. vec_len handles ≡ vec_len seats) }
@@ -108,18 +109,18 @@ fn start_all<'s, E, G: Gate + Drop + Send + 's, R: Threads + Wait + Sync>(
 }
 
 /// Runs every seat in a thread of its own, and joins them all. The last seat's outcome comes first.
-fn run_all<G: Gate + Drop + Send, R: Threads + Wait + Sync>(
+fn run_all<T: Runs + Send, G: Gate + Drop + Send, R: Threads + Wait + Sync>(
     rt: &R,
     alloc: Global,
-    shared: &Shared,
+    shared: &Shared<T>,
     plan: Plan<'_>,
-    seats: Vec<Seat>,
+    seats: Vec<Seat<T>>,
     gates: Vec<G>,
-) -> Result<Vec<Ran>, RaceFault>
+) -> Result<Vec<Ran<T>>, RaceFault>
     requires ready { All (λ seat. IsReady shared.now plan seat) seats.items }
     requires gates { vec_len gates ≡ vec_len seats }
     ensures count { IfOk result (λ rans. vec_len rans ≡ vec_len seats) }
-    ensures each { IfOk result (λ rans. AllRan plan.entry seats.items rans.items) }
+    ensures each { IfOk result (λ rans. AllRan T.rules plan.entry seats.items rans.items) }
     ensures ended { IfOk result
         (λ rans. AllEnded G.heard G.passes gates.items seats.items rans.items) }
     ensures fault { IfErr result IsFaultOfThreads }
@@ -127,11 +128,11 @@ fn run_all<G: Gate + Drop + Send, R: Threads + Wait + Sync>(
     thread::scope(
         thread::scope_env(),
         rt,
-        |scope| -> Result<Vec<Ran>, RaceFault>
+        |scope| -> Result<Vec<Ran<T>>, RaceFault>
             requires ready { All (λ seat. IsReady shared.now plan seat) seats.items }
             requires gates { vec_len gates ≡ vec_len seats }
             ensures count { IfOk result (λ rans. vec_len rans ≡ vec_len seats) }
-            ensures each { IfOk result (λ rans. AllRan plan.entry seats.items rans.items) }
+            ensures each { IfOk result (λ rans. AllRan T.rules plan.entry seats.items rans.items) }
             ensures ended { IfOk result
                 (λ rans. AllEnded G.heard G.passes gates.items seats.items rans.items) }
             ensures fault { IfErr result IsFaultOfThreads }
@@ -146,7 +147,7 @@ fn run_all<G: Gate + Drop + Send, R: Threads + Wait + Sync>(
 }
 
 /// The fault of a seat whose session did not end well.
-fn fault_of(ran: &Ran) -> Option<RaceFault>
+fn fault_of<T: Runs>(ran: &Ran<T>) -> Option<RaceFault>
     ensures { result ≡ fault_in ran.now }
 {
     match ran.end {
@@ -158,7 +159,7 @@ fn fault_of(ran: &Ran) -> Option<RaceFault>
 }
 
 /// The fault of the least seat that has one. The last seat's outcome comes first.
-fn first_fault(rans: &[Ran]) -> Option<RaceFault>
+fn first_fault<T: Runs>(rans: &[Ran<T>]) -> Option<RaceFault>
     ensures { MatchOption result (AreWell rans.now) (λ fault. IsOfLeastSeat fault rans.now) }
 {
     for place in (0..rans.len()).rev() {
@@ -170,12 +171,15 @@ fn first_fault(rans: &[Ran]) -> Option<RaceFault>
 }
 
 /// The seats and their replies, the first seat's first.
-fn collect(alloc: Global, mut rans: Vec<Ran>) -> Result<(Vec<Seat>, Vec<Vec<Reply>>), RaceFault>
+fn collect<T: Runs>(
+    alloc: Global,
+    mut rans: Vec<Ran<T>>,
+) -> Result<(Vec<Seat<T>>, Vec<Vec<Reply>>), RaceFault>
     ensures fault { IfErr result (λ fault. fault ≡ RaceFault.NoMemory) }
     ensures count { IfOk result
         (λ r. (vec_len r.0 ≡ vec_len rans) × (vec_len r.1 ≡ vec_len rans)) }
     ensures seats { IfOk result (λ r. AreSeatsOf r.0.items rans.items) }
-    ensures each { IfOk result (λ r. HaveFinished rans r.0 r.1) }
+    ensures each { IfOk result (λ r. HaveFinished T.rules rans r.0 r.1) }
 {
     let Ok(mut seats) = Vec::with_capacity(alloc, rans.len()) else {
         return Err(RaceFault::NoMemory);
@@ -197,8 +201,8 @@ fn collect(alloc: Global, mut rans: Vec<Ran>) -> Result<(Vec<Seat>, Vec<Vec<Repl
 
 /// The final control, and for each seat the replies to its script, none where it drove a process.
 #[derive(Drop)]
-pub struct Raced {
-    pub control: Control<RunOfSetup>,
+pub struct Raced<T: Runs> {
+    pub control: Control<T>,
     pub replies: Vec<Vec<Reply>>,
 }
 
@@ -207,22 +211,22 @@ pub struct Raced {
 /// are at most 64. Of several faults of sessions the one of the least seat is returned, and the race leaves nothing
 /// then. `Stopped` comes only from a gate that did not let a call go on, and `JournalFull` only where these processes
 /// and scripts make as many calls as a journal has entries at most.
-pub fn race<G: Gate + Drop + Send, R: Threads + Wait + Sync>(
+pub fn race<T: Runs + Send, G: Gate + Drop + Send, R: Threads + Wait + Sync>(
     rt: &R,
     alloc: Global,
     setup: Setup,
     turns: u32,
     scripts: &[Script],
     gates: Vec<G>,
-) -> Result<Raced, RaceFault>
+) -> Result<Raced<T>, RaceFault>
     requires fits { setup.processes + length scripts.now ≤ 64 }
     requires gates { vec_len gates ≡ setup.processes + length scripts.now }
-    ensures raced { IfOk result (HasRaced setup turns scripts.now) }
-    ensures headline { IfOk result (λ r. HasHeadline r.control) }
+    ensures raced { IfOk result (HasRaced T.rules setup turns scripts.now) }
+    ensures headline { IfOk result (λ r. HasHeadline T.rules T.same_state r.control) }
     ensures fault { IfErr result (IsAmongSeats (setup.processes + length scripts.now)) }
     ensures full { result ≡ Err RaceFault.JournalFull → FillsJournal setup turns scripts.now }
     ensures most { result ≡ Err RaceFault.JournalFull → MayFill setup turns scripts.now }
-    ensures told { IfErr result (IsTold G.heard G.passes setup turns scripts.now gates.items) }
+    ensures told { IfErr result (IsTold T T.rules G.heard G.passes setup turns scripts.now gates.items) }
     ensures passes { AllPass G.passes gates.items → IfErr result IsNotStopped }
 {
     let processes = setup.n();

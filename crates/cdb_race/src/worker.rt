@@ -4,6 +4,7 @@ ghost use Rattle.cdb_race.specs.Promises.{HasRan, HasEnded};
 
 use crate::plan::Plan;
 use cdb_control::Reply;
+use cdb_rules::Runs;
 use cdb_shared::{End, Gate, Seat, Shared, drive, serve};
 use std::alloc::Global;
 use std::snapshot::Snapshot;
@@ -12,38 +13,38 @@ use std::thread::Promise;
 
 /// A seat whose thread has ended, with the replies to its script and why its session ended.
 #[derive(Drop)]
-pub(crate) struct Ran {
-    pub(crate) seat: Seat,
+pub(crate) struct Ran<T: Runs> {
+    pub(crate) seat: Seat<T>,
     pub(crate) replies: Vec<Reply>,
     pub(crate) end: End,
 }
 
 /// What the thread of a seat promises.
 #[derive(Drop)]
-pub(crate) struct SeatPromise<'a, G> {
+pub(crate) struct SeatPromise<'a, T: Runs, G> {
     pub(crate) plan: Plan<'a>,
-    pub(crate) seat: Snapshot<Seat>,
+    pub(crate) seat: Snapshot<Seat<T>>,
     pub(crate) gate: Snapshot<G>,
 }
 
-impl<'a, G: Gate> Promise<Ran> for SeatPromise<'a, G> {
+impl<'a, T: Runs, G: Gate> Promise<Ran<T>> for SeatPromise<'a, T, G> {
     ghost use Rattle.cdb_race.specs.Promises.{HasRan, HasEnded};
 
-    ghost kept_by = { λ p r. HasRan p.plan p.seat.value r
+    ghost kept_by = { λ p r. HasRan T.rules p.plan p.seat.value r
         × HasEnded G.heard G.passes p.gate.value p.seat.value r.seat r.end };
 }
 
 /// Drives a process, or serves a script, by the seat's number.
-pub(crate) fn run<G: Gate + Drop, R: Wait>(
-    shared: &Shared,
+pub(crate) fn run<T: Runs, G: Gate + Drop, R: Wait>(
+    shared: &Shared<T>,
     rt: &R,
     alloc: Global,
     plan: Plan<'_>,
-    seat: Seat,
+    seat: Seat<T>,
     gate: G,
-) -> Ran
+) -> Ran<T>
     requires { IsReady shared.now plan seat }
-    ensures ran { HasRan plan.entry seat result }
+    ensures ran { HasRan T.rules plan.entry seat result }
     ensures ended { HasEnded G.heard G.passes gate seat result.seat result.end }
 {
     let number = seat.number();

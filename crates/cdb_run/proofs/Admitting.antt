@@ -15,11 +15,11 @@ use Rattle.cdb_record.specs.declared.entry.Entry.{Entry}
 use Rattle.cdb_register.specs.Registers.{RegisterStates}
 use Rattle.cdb_run.specs.Current.{IsCurrent}
 use Rattle.cdb_run.specs.Recorded.{IsRecorded}
-use Rattle.cdb_run.specs.State.{Machine, start}
-use Rattle.cdb_run.specs.Step.{after, state_of}
-use Rattle.cdb_run.specs.declared.progress.Progress.{Progress}
+use Rattle.cdb_rules.specs.State.{Machine, start}
+use Rattle.cdb_rules.specs.Step.{after, state_of}
+use Rattle.cdb_rules.specs.declared.progress.Progress.{Progress}
 use Rattle.cdb_run.proofs.Held.{valid, state_is}
-use Rattle.cdb_run.proofs.Naming.{valid_standing}
+use Rattle.cdb_rules.proofs.Naming.{valid_standing}
 
 module _ (history : List Event) (event : Event) (standing : IsStanding (history ++ event ∷ [])) where
   pub new_name : IsNewName history (event_name event)

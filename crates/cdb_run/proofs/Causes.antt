@@ -20,14 +20,14 @@ use Rattle.cdb_causal.specs.Exchange.{IsIn, here, there}
 use Rattle.cdb_causal.specs.Standing.{IsStanding}
 use Rattle.cdb_causal.proofs.DirectByList.{direct_between}
 use Rattle.cdb_causal.proofs.SlotsOfCauses.{lost_received}
-use Rattle.cdb_run.specs.State.{Machine}
-use Rattle.cdb_run.specs.Step.{IsValid}
-use Rattle.cdb_run.specs.Undo.{direct_among}
-use Rattle.cdb_run.proofs.Kept.{is_false}
-use Rattle.cdb_run.proofs.ListMembers.{nothing_in, place_in, in_filter, from_filter, filter_none, any_none, get-take, get_up_to, length_up_to, in_map, from_map, in_flat, from_flat}
-use Rattle.cdb_run.proofs.Mails.{not_true}
-use Rattle.cdb_run.proofs.Naming.{in_cases, in_place, lost_unreceived, valid_standing}
-use Rattle.cdb_run.proofs.Taken.{both}
+use Rattle.cdb_rules.specs.State.{Machine}
+use Rattle.cdb_rules.specs.Step.{IsValid}
+use Rattle.cdb_rules.specs.Undo.{direct_among}
+use Rattle.cdb_rules.proofs.Kept.{is_false}
+use Rattle.cdb_rules.proofs.ListMembers.{nothing_in, place_in, in_filter, from_filter, filter_none, any_none, get-take, get_up_to, length_up_to, in_map, from_map, in_flat, from_flat}
+use Rattle.cdb_rules.proofs.Mails.{not_true}
+use Rattle.cdb_rules.proofs.Naming.{in_cases, in_place, lost_unreceived, valid_standing}
+use Rattle.cdb_rules.proofs.Taken.{both}
 
 -- Two rows of names with the same members, both in order, are one.
 

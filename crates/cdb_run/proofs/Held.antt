@@ -23,16 +23,16 @@ use Rattle.cdb_register.specs.Registers.{RegisterStates, register_of}
 use Rattle.cdb_register.specs.declared.RegisterState.{RegisterState}
 use Rattle.cdb_run.specs.Back.{put_back, overwritten_cell}
 use Rattle.cdb_run.specs.Current.{IsCurrent}
-use Rattle.cdb_run.specs.Mail.{mail_of, mail_after, IsPostable}
+use Rattle.cdb_rules.specs.Mail.{mail_of, mail_after, IsPostable}
 use Rattle.cdb_run.specs.Recorded.{IsRecorded}
 use Rattle.cdb_run.specs.Registers.{IsWritable}
-use Rattle.cdb_run.specs.State.{Machine, ProcessState, RunState, start}
-use Rattle.cdb_run.specs.Step.{is_among, sight, sight_in, meets, is_due, input_of, wished_payload, wished_cell, taken_local, progress_after, process_after, registers_after, may_lose, after, fold, state_of}
-use Rattle.cdb_run.specs.declared.progress.Progress.{Progress}
-use Rattle.cdb_run.proofs.Bounds.{IsSound, path_sound, start_sound, writes_below}
-use Rattle.cdb_run.proofs.Mails.{mail_left, postable, not_true}
-use Rattle.cdb_run.proofs.Places.{nth-map, map-set_nth, set_at, get_at, set_nth_same, nth-set_nth_same, nth_within}
-use Rattle.cdb_run.proofs.Taken.{IsTaken, taken_from, parts, some_of, both, where_true}
+use Rattle.cdb_rules.specs.State.{Machine, ProcessState, RunState, start}
+use Rattle.cdb_rules.specs.Step.{is_among, sight, sight_in, meets, is_due, input_of, wished_payload, wished_cell, taken_local, progress_after, process_after, registers_after, may_lose, after, fold, state_of}
+use Rattle.cdb_rules.specs.declared.progress.Progress.{Progress}
+use Rattle.cdb_rules.proofs.Bounds.{IsSound, event_sound, start_sound, writes_below}
+use Rattle.cdb_rules.proofs.Mails.{mail_left, postable, not_true}
+use Rattle.cdb_rules.proofs.Places.{nth-map, map-set_nth, set_at, get_at, set_nth_same, nth-set_nth_same, nth_within}
+use Rattle.cdb_rules.proofs.Taken.{IsTaken, taken_from, parts, some_of, both, where_true}
 
 -- a write finds its register
 writable_by : {L : Type 0} (machine : Machine L) (process : ProcessState L) (mail : MailState) (registers : RegisterStates) (p : ℕ) (kind : Kind) → is_due machine process kind ≡ true → meets kind (sight mail registers p kind) ≡ true → ((register : _) (stands : RegisterState) → register_of registers register ≡ Some stands → stands.writes < 999999) → IsWritable registers kind (machine.wish process.progress.local)
@@ -68,6 +68,12 @@ led_reached : {L B : Type 0} (machine : Machine L) (before : L → B → L) (sta
 led_reached machine before state to [] p = ap Some p
 led_reached machine before state to (entry ∷ entries) p =
     ap (option_and_then (λ next. reached (after machine) next (events_of entries))) p.1.leads ∙ led_reached machine before p.0 to entries p.2
+
+-- a run is sound wherever recorded events lead it
+path_sound : {L B : Type 0} (machine : Machine L) (before : L → B → L) (state to : RunState L) (entries : List (Entry B)) → IsPath (IsRecorded machine before) state entries to → IsSound machine state → IsSound machine to
+path_sound machine before state to [] p sound = subst (IsSound machine) p sound
+path_sound machine before state to (entry ∷ entries) p sound =
+    path_sound machine before p.0 to entries p.2 (event_sound machine state p.0 entry.event p.1.leads sound)
 
 module _ {L B : Type 0} {machine : Machine L} {before : L → B → L} where
   module _ {processes : List (Progress L)} {mail : MailState} {registers : RegisterStates} {history : List Event} {entries : List (Entry B)} (current : IsCurrent machine before processes mail registers history entries) where

@@ -20,11 +20,11 @@ use Rattle.cdb_record.specs.declared.entry.Entry.{Entry}
 use Rattle.cdb_register.specs.declared.RegisterState.{RegisterState}
 use Rattle.cdb_run.specs.Back.{overwritten_cell}
 use Rattle.cdb_run.specs.Recorded.{IsRecorded, LeadsBack, overwritten_by}
-use Rattle.cdb_run.specs.State.{Machine, RunState}
-use Rattle.cdb_run.specs.Step.{after}
-use Rattle.cdb_run.proofs.Commutes.{after_commutes, lost_from}
-use Rattle.cdb_run.proofs.Kept.{nat_eq-ne, affects_read, process_kept, register_kept}
-use Rattle.cdb_run.proofs.Taken.{IsTaken, taken_from}
+use Rattle.cdb_rules.specs.State.{Machine, RunState}
+use Rattle.cdb_rules.specs.Step.{after}
+use Rattle.cdb_rules.proofs.Commutes.{after_commutes, lost_from}
+use Rattle.cdb_rules.proofs.Kept.{nat_eq-ne, affects_read, process_kept, register_kept}
+use Rattle.cdb_rules.proofs.Taken.{IsTaken, taken_from}
 
 abbrev pub entries_depend : {B : Type 0} → Entry B → Entry B → Bool
 entries_depend first second = depends first.event second.event

@@ -28,22 +28,22 @@ use Rattle.cdb_register.specs.Registers.{RegisterStates, register_of, with_regis
 use Rattle.cdb_register.specs.declared.RegisterState.{RegisterState}
 use Rattle.cdb_run.specs.Back.{put_back, overwritten_cell}
 use Rattle.cdb_run.specs.Current.{IsCurrent}
-use Rattle.cdb_run.specs.Mail.{mail_of, mail_after}
+use Rattle.cdb_rules.specs.Mail.{mail_of, mail_after}
 use Rattle.cdb_run.specs.Recorded.{IsRecorded, LeadsBack, overwritten_by}
 use Rattle.cdb_run.specs.Restored.{queries_before, progress_before, mail_before, registers_before, IsCountable, IsUnpostable, IsRestorable}
-use Rattle.cdb_run.specs.State.{Machine, ProcessState, RunState, start}
-use Rattle.cdb_run.specs.Step.{sight, sight_in, meets, is_due, wished_payload, wished_cell, queries_after, sent_after, registers_after, after}
-use Rattle.cdb_run.specs.declared.progress.Progress.{Progress}
-use Rattle.cdb_run.proofs.Commutes.{lost_from}
+use Rattle.cdb_rules.specs.State.{Machine, ProcessState, RunState, start}
+use Rattle.cdb_rules.specs.Step.{sight, sight_in, meets, is_due, wished_payload, wished_cell, queries_after, sent_after, registers_after, after}
+use Rattle.cdb_rules.specs.declared.progress.Progress.{Progress}
+use Rattle.cdb_rules.proofs.Commutes.{lost_from}
 use Rattle.cdb_run.proofs.Held.{valid}
-use Rattle.cdb_run.proofs.Kept.{is_false, left, at_left, lost_kept, received_kept, with_loss}
-use Rattle.cdb_run.proofs.Mails.{sent_is, mail_left}
-use Rattle.cdb_run.proofs.Members.{now_lost, losable}
-use Rattle.cdb_run.proofs.Numbers.{sends_of, send_number, received_first, received_now}
-use Rattle.cdb_run.proofs.Places.{nth-map, nth-update_nth_same, map-set_nth, set_at, get_at, set_nth_same, nth-set_nth_same, nth_within}
+use Rattle.cdb_rules.proofs.Kept.{is_false, left, at_left, lost_kept, received_kept, with_loss}
+use Rattle.cdb_rules.proofs.Mails.{sent_is, mail_left}
+use Rattle.cdb_rules.proofs.Members.{now_lost, losable}
+use Rattle.cdb_rules.proofs.Numbers.{sends_of, send_number, received_first, received_now}
+use Rattle.cdb_rules.proofs.Places.{nth-map, nth-update_nth_same, map-set_nth, set_at, get_at, set_nth_same, nth-set_nth_same, nth_within}
 use Rattle.cdb_run.proofs.Records.{free_recorded_last}
 use Rattle.cdb_run.proofs.SentFirst.{IsSentFirst, sent_first}
-use Rattle.cdb_run.proofs.Taken.{IsTaken, IsAccepted, taken_from, parts, some_of, both}
+use Rattle.cdb_rules.proofs.Taken.{IsTaken, IsAccepted, taken_from, parts, some_of, both}
 
 -- lists
 

@@ -14,10 +14,10 @@ use Rattle.cdb_causal.specs.Names.{IsNamedAt}
 use Rattle.cdb_causal.specs.Rollback.{without, consequences, rolled_back, remaining}
 use Rattle.cdb_causal.proofs.Undone.{rolled_back_alone, rolled_back_last}
 use Rattle.cdb_causal.proofs.Walks.{rolled_back_split}
-use Rattle.cdb_run.specs.State.{Machine}
-use Rattle.cdb_run.specs.Step.{IsValid}
-use Rattle.cdb_run.specs.Undo.{event_named, found_at, for_standing, rollback_of, causes_of, answered, left_by, number_removed, with_removed, direct_among}
-use Rattle.cdb_run.proofs.Answering.{found_is}
+use Rattle.cdb_rules.specs.State.{Machine}
+use Rattle.cdb_rules.specs.Step.{IsValid}
+use Rattle.cdb_rules.specs.Undo.{event_named, found_at, for_standing, rollback_of, causes_of, answered, left_by, number_removed, with_removed, direct_among}
+use Rattle.cdb_rules.proofs.Answering.{found_is}
 use Rattle.cdb_run.proofs.Causes.{causes_are}
 
 -- the last of the names is that of the last of the events

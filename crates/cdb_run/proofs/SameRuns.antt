@@ -11,18 +11,18 @@ use Rattle.cdb_base.specs.declared.name.CopyName.{CopyName}
 use Rattle.cdb_causal.specs.Dependence.{depends}
 use Rattle.cdb_causal.specs.Exchange.{IsExchanged, IsIn, here, there}
 use Rattle.cdb_message.specs.Mail.{MailState, is_lost}
-use Rattle.cdb_run.specs.Mail.{mail_of}
-use Rattle.cdb_run.specs.OwnSteps.{own_steps, own_of, is_lost_too, AreAlike}
-use Rattle.cdb_run.specs.State.{Machine, ProcessState, RunState, fresh_process, start}
-use Rattle.cdb_run.specs.Step.{after, fold, IsValid, state_of}
-use Rattle.cdb_run.proofs.FoldKeeps.{reached_keeps}
-use Rattle.cdb_run.proofs.Histories.{fold_exchanged}
-use Rattle.cdb_run.proofs.Members.{member, lost_comes, start_counted, start_unlost}
-use Rattle.cdb_run.proofs.Naming.{count_kept}
-use Rattle.cdb_run.proofs.Numbers.{own_at}
-use Rattle.cdb_run.proofs.OwnOfState.{own_of_history}
-use Rattle.cdb_run.proofs.SameState.{ShowTheSame, shown_exchanged}
-use Rattle.cdb_run.proofs.Taken.{both, some_of}
+use Rattle.cdb_rules.specs.Mail.{mail_of}
+use Rattle.cdb_rules.specs.OwnSteps.{own_steps, own_of, is_lost_too, AreAlike}
+use Rattle.cdb_rules.specs.State.{Machine, ProcessState, RunState, fresh_process, start}
+use Rattle.cdb_rules.specs.Step.{after, fold, IsValid, state_of}
+use Rattle.cdb_rules.proofs.FoldKeeps.{reached_keeps}
+use Rattle.cdb_rules.proofs.Histories.{fold_exchanged}
+use Rattle.cdb_rules.proofs.Members.{member, lost_comes, start_counted, start_unlost}
+use Rattle.cdb_rules.proofs.Naming.{count_kept}
+use Rattle.cdb_rules.proofs.Numbers.{own_at}
+use Rattle.cdb_rules.proofs.OwnOfState.{own_of_history}
+use Rattle.cdb_rules.proofs.SameState.{ShowTheSame, shown_exchanged}
+use Rattle.cdb_rules.proofs.Taken.{both, some_of}
 
 -- tests that all of a list pass
 

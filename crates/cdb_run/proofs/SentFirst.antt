@@ -10,16 +10,16 @@ use Rattle.cdb_base.specs.declared.name.MsgName.{MsgName}
 use Rattle.cdb_causal.specs.Dependence.{sends, receives}
 use Rattle.cdb_message.specs.Mail.{payload_of, sent_by, is_sent, is_received, is_lost}
 use Rattle.cdb_message.specs.Names.{name_cmp}
-use Rattle.cdb_run.specs.Mail.{mail_of}
-use Rattle.cdb_run.specs.State.{Machine, ProcessState, RunState, start}
-use Rattle.cdb_run.specs.Step.{after, fold}
-use Rattle.cdb_run.proofs.Commutes.{lost_from}
-use Rattle.cdb_run.proofs.Kept.{payload_kept, received_kept}
-use Rattle.cdb_run.proofs.Members.{Reaches, first_step, losable, nth-fresh, start_unlost}
-use Rattle.cdb_run.proofs.Numbers.{sends_of, send_number, arrived, lost_cases}
-use Rattle.cdb_run.proofs.Places.{nth-map, nth_within}
-use Rattle.cdb_run.proofs.SameState.{receives_it, sends_it}
-use Rattle.cdb_run.proofs.Taken.{taken_from, both, some_of}
+use Rattle.cdb_rules.specs.Mail.{mail_of}
+use Rattle.cdb_rules.specs.State.{Machine, ProcessState, RunState, start}
+use Rattle.cdb_rules.specs.Step.{after, fold}
+use Rattle.cdb_rules.proofs.Commutes.{lost_from}
+use Rattle.cdb_rules.proofs.Kept.{payload_kept, received_kept}
+use Rattle.cdb_rules.proofs.Members.{Reaches, first_step, losable, nth-fresh, start_unlost}
+use Rattle.cdb_rules.proofs.Numbers.{sends_of, send_number, arrived, lost_cases}
+use Rattle.cdb_rules.proofs.Places.{nth-map, nth_within}
+use Rattle.cdb_rules.proofs.SameState.{receives_it, sends_it}
+use Rattle.cdb_rules.proofs.Taken.{taken_from, both, some_of}
 
 pub record IsSentFirst {L : Type 0} (state : RunState L) : Type 0 where
   pub received : (q : ℕ) (name : MsgName) → is_received (mail_of state) q name ≡ true → is_sent (mail_of state) name ≡ true

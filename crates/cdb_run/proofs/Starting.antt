@@ -10,14 +10,10 @@ use Rattle.cdb_record.specs.Entries.{events_of}
 use Rattle.cdb_record.specs.declared.entry.Entry.{Entry}
 use Rattle.cdb_register.specs.Registers.{RegisterStates, fresh_registers}
 use Rattle.cdb_run.specs.Current.{IsCurrent}
-use Rattle.cdb_run.specs.Machines.{first_states}
+use Rattle.cdb_rules.specs.Machines.{first_states}
 use Rattle.cdb_run.specs.Recorded.{IsRecorded}
-use Rattle.cdb_run.specs.State.{Machine, start, fresh_process, fresh_progress}
-use Rattle.cdb_run.specs.declared.progress.Progress.{Progress}
-
-pub length-first_states : {L : Type 0} (first : ℕ → ℕ → ℕ → ℕ → L) (p n q : ℕ) (values : List ℕ) → length (first_states first p n q values) ≡ length values
-length-first_states first p n q [] = refl
-length-first_states first p n q (value ∷ values) = ap suc (length-first_states first (suc p) n q values)
+use Rattle.cdb_rules.specs.State.{Machine, start, fresh_process, fresh_progress}
+use Rattle.cdb_rules.specs.declared.progress.Progress.{Progress}
 
 drop_at : (xs : List ℕ) (i value : ℕ) → slice_get xs i ≡ Some value → drop i xs ≡ value ∷ drop (suc i) xs
 drop_at [] i value at = absurd (none-some value at)

@@ -17,16 +17,16 @@ use Rattle.cdb_message.specs.Mail.{MailState, copy_name}
 use Rattle.cdb_record.specs.declared.entry.Entry.{Entry}
 use Rattle.cdb_register.specs.Registers.{RegisterStates}
 use Rattle.cdb_run.specs.Current.{IsCurrent}
-use Rattle.cdb_run.specs.Mail.{mail_of}
-use Rattle.cdb_run.specs.Refusals.{first_refusal, planned, step_answer, again_checks, again_answer, lose_checks, lose_answer, unless_refused}
-use Rattle.cdb_run.specs.State.{Machine, ProcessState, RunState}
-use Rattle.cdb_run.specs.Step.{is_among, after, fold, state_of}
-use Rattle.cdb_run.specs.declared.progress.Progress.{Progress}
-use Rattle.cdb_run.proofs.Bounds.{IsBounded}
+use Rattle.cdb_rules.specs.Mail.{mail_of}
+use Rattle.cdb_rules.specs.Refusals.{first_refusal, planned, step_answer, again_checks, again_answer, lose_checks, lose_answer, unless_refused}
+use Rattle.cdb_rules.specs.State.{Machine, ProcessState, RunState}
+use Rattle.cdb_rules.specs.Step.{is_among, after, fold, state_of}
+use Rattle.cdb_rules.specs.declared.progress.Progress.{Progress}
+use Rattle.cdb_rules.proofs.Bounds.{IsBounded}
 use Rattle.cdb_run.proofs.Held.{valid, state_is, sound, count_is, process_there, process_absent, progress_at}
-use Rattle.cdb_run.proofs.Places.{get_at}
-use Rattle.cdb_run.proofs.Granted.{IsLawful}
-use Rattle.cdb_run.proofs.Planned.{planned_enabled}
+use Rattle.cdb_rules.proofs.Places.{get_at}
+use Rattle.cdb_rules.proofs.Granted.{IsLawful}
+use Rattle.cdb_rules.proofs.Planned.{planned_enabled}
 use Rattle.cdb_setup.proofs.InRange.{answer_in_range}
 use Rattle.cdb_setup.specs.Parts.{Parts, IsWithin, AreInRange, answer_of}
 

@@ -6,16 +6,10 @@ use Rattle.cdb_message.specs.Mail.{MailState}
 use Rattle.cdb_record.specs.Entries.{events_of}
 use Rattle.cdb_record.specs.declared.entry.Entry.{Entry}
 use Rattle.cdb_register.specs.Registers.{RegisterStates}
-use Rattle.cdb_run.specs.Mail.{mail_of}
+use Rattle.cdb_rules.specs.Mail.{mail_of}
 use Rattle.cdb_run.specs.Recorded.{IsRecorded}
-use Rattle.cdb_run.specs.State.{Machine, RunState, start}
-use Rattle.cdb_run.specs.declared.progress.Progress.{Progress}
-use Rattle.cdb_setup.specs.Parts.{Parts}
-
--- what a contract sees of a run: its setup, and its standing events in the order in which they were taken
-pub record RunView : Type 0 where
-  pub setup : Parts
-  pub history : List Event
+use Rattle.cdb_rules.specs.State.{Machine, RunState, start}
+use Rattle.cdb_rules.specs.declared.progress.Progress.{Progress}
 
 -- The standing events lead, one after another and each with its record, from the start to a state, and what is held
 -- is that state.

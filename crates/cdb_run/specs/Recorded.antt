@@ -6,8 +6,8 @@ use Rattle.cdb_base.specs.declared.event.Event.TheVariants.{Step, Lost}
 use Rattle.cdb_base.specs.declared.register.Cell.{Cell}
 use Rattle.cdb_record.specs.declared.entry.Entry.{Entry}
 use Rattle.cdb_run.specs.Back.{put_back, overwritten_cell}
-use Rattle.cdb_run.specs.State.{Machine, ProcessState, RunState}
-use Rattle.cdb_run.specs.Step.{after}
+use Rattle.cdb_rules.specs.State.{Machine, ProcessState, RunState}
+use Rattle.cdb_rules.specs.Step.{after}
 
 -- what the event left leads from the local state of its process back to the one before it
 abbrev pub LeadsBack : {L B : Type 0} → (L → B → L) → RunState L → Event → Option B → RunState L → Type 0

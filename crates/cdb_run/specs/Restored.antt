@@ -7,7 +7,7 @@ use Rattle.cdb_base.specs.declared.register.Cell.{Cell}
 use Rattle.cdb_message.specs.Mail.{MailState, message_name, copy_name, sent_by, is_received, is_lost, remove_send, remove_receive}
 use Rattle.cdb_register.specs.Registers.{RegisterStates, register_of, with_register, restored}
 use Rattle.cdb_run.specs.Back.{put_back}
-use Rattle.cdb_run.specs.declared.progress.Progress.{Progress}
+use Rattle.cdb_rules.specs.declared.progress.Progress.{Progress}
 
 abbrev pub queries_before : ℕ → Kind → ℕ
 queries_before queries (Query leader) = queries - 1

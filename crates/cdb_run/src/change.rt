@@ -2,16 +2,17 @@
 
 ghost use Rattle.std.specs.Prelude.{◌≡◌, ◌<◌, ◌≤◌, Some, IsSome, IfOk, OnOk, OnErr};
 ghost use Rattle.cdb_run.specs.Back.{put_back, overwritten_cell};
-ghost use Rattle.cdb_run.specs.Mail.{mail_after, IsPostable};
-ghost use Rattle.cdb_run.specs.Step.{sight, arriving, input_of, wished_payload, wished_cell, progress_after, registers_after};
+ghost use Rattle.cdb_rules.specs.Mail.{mail_after, IsPostable};
+ghost use Rattle.cdb_rules.specs.Step.{sight, arriving, input_of, wished_payload, wished_cell, progress_after, registers_after};
 ghost use Rattle.cdb_run.specs.Plans.{local_after, payload_due, cell_due};
 ghost use Rattle.cdb_run.specs.Registers.{IsWritable};
 
-use crate::progress::{Progress, count, give_back, take_input};
+use crate::progress::{count, give_back, take_input};
 use cdb_base::{Cell, Kind, MsgName, NoMemory, Payload, Proc};
 use cdb_message::mail::Mail;
 use cdb_process::{Input, Process, Wish};
 use cdb_register::Registers;
+use cdb_rules::Progress;
 use std::alloc::Global;
 
 /// What a step leaves for going back.

@@ -1,11 +1,11 @@
 //! The processes of a run in which nothing has happened.
 
 ghost use Rattle.std.specs.Prelude.{◌≡◌, IfOk};
-ghost use Rattle.cdb_run.specs.Machines.{progress_at_start};
+ghost use Rattle.cdb_rules.specs.Machines.{progress_at_start};
 
-use crate::progress::Progress;
 use cdb_base::{NoMemory, Proc};
 use cdb_process::Process;
+use cdb_rules::Progress;
 use cdb_setup::Setup;
 use std::alloc::Global;
 

@@ -4,18 +4,12 @@
 ghost use Rattle.std.specs.Prelude.{◌≡◌, ◌+◌, ◌<◌, ◌^◌, ◌↔◌, length, IsTrue};
 ghost use Rattle.cdb_base.specs.declared.register.Reg.{Reg as ARegister};
 ghost use Rattle.std.specs.Iterator.{YieldsFirst, item_count};
-ghost use Rattle.cdb_run.specs.OwnSteps.{no_writes, with_write, writes_with, writes_met, noted, own_steps};
+ghost use Rattle.cdb_rules.specs.OwnSteps.{no_writes, with_write, writes_with, writes_met, noted, own_steps};
 
 use cdb_base::{Event, Kind, Proc, Reg};
 use cdb_causal::History;
+use cdb_rules::OwnEvent;
 use std::marker::Model;
-
-/// An event and, at a read or a write, how many writes of that register stood before it.
-#[derive(Clone, Copy, PartialEq, Eq)]
-pub struct OwnEvent {
-    pub event: Event,
-    pub writes_before: Option<usize>,
-}
 
 /// How many writes of each register stand before a place of a history.
 #[derive(Drop)]
@@ -102,9 +96,9 @@ struct Noted<'a> {
 impl<'a> Model for Noted<'a> {
     ghost use Rattle.std.specs.Prelude.{◌+◌, ◌<◌, ◌^◌, List, drop, length};
     ghost use Rattle.cdb_base.specs.declared.register.Reg.{Reg as ARegister};
-    ghost use Rattle.cdb_run.specs.declared.own_steps.OwnEvent.{OwnEvent};
+    ghost use Rattle.cdb_rules.specs.declared.own_event.OwnEvent.{OwnEvent};
     ghost use Rattle.cdb_run.specs.WriteCounts.{count_of};
-    ghost use Rattle.cdb_run.specs.OwnSteps.{noted};
+    ghost use Rattle.cdb_rules.specs.OwnSteps.{noted};
 
     ghost Value = { List OwnEvent };
 

@@ -3,15 +3,15 @@
 ghost use Rattle.std.specs.Prelude.{◌≡◌, ◌≤◌, ◌==◌, true, false, None, Some, length};
 ghost use Rattle.cdb_message.specs.Mail.{message_name};
 ghost use Rattle.cdb_run.specs.Plans.{plan_at, plan_again_at, refusal_again_at, copy_refusal, next_step_of, step_if_accepted};
-ghost use Rattle.cdb_run.specs.Refusals.{wished_kind, accepts_kind, planned_loss};
+ghost use Rattle.cdb_rules.specs.Refusals.{wished_kind, accepts_kind, planned_loss};
 
 use crate::among::process_among;
-use crate::progress::Progress;
 use cdb_base::limits::MAX_STEPS;
 use cdb_base::{Act, CopyName, Event, Kind, MsgName, Proc, Refusal};
 use cdb_message::mail::Mail;
 use cdb_process::{Input, Process, Wish, accepts_query, accepts_receive};
 use cdb_register::Registers;
+use cdb_rules::Progress;
 use cdb_setup::Setup;
 
 /// The kind of step that a wish names, after this many sends.

@@ -1,24 +1,15 @@
-//! How far a process has come.
+//! What a step changes in how far its process has come.
 
 ghost use Rattle.std.specs.Prelude.{◌≡◌, ◌<◌, ◌≤◌, length, map, Some, IsSome, IfOk, OnErr};
 ghost use Rattle.std.specs.Option.{ForSome};
-ghost use Rattle.cdb_run.specs.Decisions.{decided_from};
+ghost use Rattle.cdb_rules.specs.Decisions.{decided_from};
 ghost use Rattle.cdb_run.specs.Back.{put_back};
-ghost use Rattle.cdb_run.specs.Step.{taken_local, progress_after};
+ghost use Rattle.cdb_rules.specs.Step.{taken_local, progress_after};
 
 use cdb_base::{Kind, NoMemory, Proc, Val};
 use cdb_process::{Input, Process};
+use cdb_rules::Progress;
 use std::alloc::Global;
-
-/// How far a process has come: its local state, whether it is alive, and how many of its steps and of
-/// its queries stand.
-#[derive(Drop)]
-pub struct Progress<L: Drop> {
-    pub local: L,
-    pub alive: bool,
-    pub steps: u32,
-    pub queries: u32,
-}
 
 /// Gives a machine its input, if a step has one. A refused growth changes nothing.
 pub(crate) fn take_input<P: Process>(

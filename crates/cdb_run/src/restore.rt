@@ -4,11 +4,12 @@ ghost use Rattle.std.specs.Prelude.{◌≡◌, ◌<◌};
 ghost use Rattle.cdb_run.specs.Restored.{progress_before, mail_before, registers_before, IsCountable, IsUnpostable, IsRestorable};
 
 use crate::change::Left;
-use crate::progress::{Progress, give_back};
+use crate::progress::give_back;
 use cdb_base::{Cell, Kind, MsgName, Proc};
 use cdb_message::mail::Mail;
 use cdb_process::Process;
 use cdb_register::Registers;
+use cdb_rules::Progress;
 
 /// Takes a step of that kind out of the counts of its process, and gives back what its input left.
 fn count_back<P: Process>(progress: &mut Progress<P>, kind: &Kind, back: Option<P::Back>)

@@ -6,14 +6,14 @@ ghost use Rattle.std.specs.Option.{option_copied};
 ghost use Rattle.std.specs.Result.{result_err};
 ghost use Rattle.cdb_message.specs.Mail.{next_pending, payload_of, is_lost};
 ghost use Rattle.cdb_record.specs.Entries.{events_of};
-ghost use Rattle.cdb_run.specs.Refusals.{IsOfRun};
-ghost use Rattle.cdb_run.specs.Runs.{IsNumberAmong, IsNext, IsInOrder, process_in, progress_in, alive_in, steps_in, queries_in, local_in, mail_in, registers_in, register_in, cell_in, writes_in, decisions_in, answer_to_step, answer_to_again, answer_to_loss, with_event, with_answer, IsJustTaken};
+ghost use Rattle.cdb_rules.specs.Refusals.{IsOfRun};
+ghost use Rattle.cdb_rules.specs.Runs.{IsNumberAmong, IsNext, IsInOrder, process_in, progress_in, alive_in, steps_in, queries_in, local_in, mail_in, registers_in, register_in, cell_in, writes_in, decisions_in, answer_to_step, answer_to_again, answer_to_loss, with_event, with_answer, IsJustTaken};
 
 use crate::among::process_among;
 use crate::change::change;
 use crate::first::first_processes;
 use crate::plan::{plan, plan_again, plan_loss, plan_loss_again};
-use crate::progress::{Progress, decided};
+use crate::progress::decided;
 use cdb_base::{
     Act, Cell, CopyName, Event, Kind, MsgName, NoMemory, Payload, Proc, Refusal, Reg, Val,
 };
@@ -22,6 +22,7 @@ use cdb_message::mail::Mail;
 use cdb_process::Process;
 use cdb_record::Records;
 use cdb_register::Registers;
+use cdb_rules::Progress;
 use cdb_setup::{Algorithm, Setup};
 use std::alloc::Global;
 use std::marker::Model;
@@ -43,8 +44,9 @@ pub struct Run<P: Process> {
 
 impl<P: Process> Model for Run<P> {
     ghost use Rattle.cdb_record.specs.Entries.{events_of};
-    ghost use Rattle.cdb_run.specs.Machines.{machine_of};
-    ghost use Rattle.cdb_run.specs.Current.{RunView, IsCurrent};
+    ghost use Rattle.cdb_rules.specs.Machines.{machine_of};
+    ghost use Rattle.cdb_rules.specs.RunView.{RunView};
+    ghost use Rattle.cdb_run.specs.Current.{IsCurrent};
 
     ghost Value = { RunView };
 

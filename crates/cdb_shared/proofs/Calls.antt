@@ -12,8 +12,8 @@ use Rattle.cdb_control.specs.Commands.{answer}
 use Rattle.cdb_control.specs.Headline.{Headline}
 use Rattle.cdb_control.specs.Journal.{Journaled, Begins, entry, extended, replay, state_of}
 use Rattle.cdb_control.proofs.Own.{Begins-refl, Begins-push}
-use Rattle.cdb_run.specs.Algorithms.{rules}
-use Rattle.cdb_run.specs.SameState.{ReachSameState}
+use Rattle.cdb_base.specs.declared.event.Event.{Event}
+use Rattle.cdb_rules.specs.Rules.{Rules}
 use Rattle.cdb_setup.specs.Parts.{Parts}
 use Rattle.cdb_shared.specs.declared.knowledge.Stage.{Stage}
 use Rattle.cdb_shared.specs.declared.knowledge.Stage.TheVariants.{Spent, Resting, Holding}
@@ -29,19 +29,19 @@ pub knows_one : (number : ℕ) (v : Knowledge) (c : Story) → IsPassFor number 
 knows_one number v c one all = (subst (λ (ps : List Place). AllKnow c ps) one.only all).0
 
 -- an executed command, or a refused one, may be given back
-pub may_give : (number : ℕ) (v w : Knowledge) (c after : Journaled) (command : Command) (r : Result Reply CallFault) → IsPassFor number v → Taken v c w → IfOk r (λ _. after ≡ extended (rules c.setup) c number command) → OnErr r (after ≡ c) → MayGive w after
-may_give number v w c after command (Ok reply) one taken ok err =
+pub may_give : (rules : Parts → Rules) (number : ℕ) (v w : Knowledge) (c after : Journaled) (command : Command) (r : Result Reply CallFault) → IsPassFor number v → Taken v c w → IfOk r (λ _. after ≡ extended (rules c.setup) c number command) → OnErr r (after ≡ c) → MayGive w after
+may_give rules number v w c after command (Ok reply) one taken ok err =
     let is = taken.0 in (
       ap (λ (u : Knowledge). u.stage) is,
       subst (λ (u : Knowledge). MayFollow u.held u.places (story after)) (sym is) (inr (place_of v.places, command, one.only, ap story ok ∙ ap (λ n. longer (story c) n command) (sym one.same))),
     )
-may_give number v w c after command (Err fault) one taken ok err =
+may_give rules number v w c after command (Err fault) one taken ok err =
     let is = taken.0 in (ap (λ (u : Knowledge). u.stage) is, subst (λ (u : Knowledge). MayFollow u.held u.places (story after)) (sym is) (inl (ap story err)))
 
 -- the journal has grown by no more than one command
-pub begins_after : (c after : Journaled) (number : ℕ) (command : Command) (r : Result Reply CallFault) (seen : List Entry) → IfOk r (λ _. after ≡ extended (rules c.setup) c number command) → OnErr r (after ≡ c) → Begins seen c.journal → Begins seen after.journal
-begins_after c after number command (Ok reply) seen ok err begins = subst (λ (y : Journaled). Begins seen y.journal) (sym ok) (Begins-push seen c.journal (entry number command) begins)
-begins_after c after number command (Err fault) seen ok err begins = subst (λ (y : Journaled). Begins seen y.journal) (sym err) begins
+pub begins_after : (rules : Parts → Rules) (c after : Journaled) (number : ℕ) (command : Command) (r : Result Reply CallFault) (seen : List Entry) → IfOk r (λ _. after ≡ extended (rules c.setup) c number command) → OnErr r (after ≡ c) → Begins seen c.journal → Begins seen after.journal
+begins_after rules c after number command (Ok reply) seen ok err begins = subst (λ (y : Journaled). Begins seen y.journal) (sym ok) (Begins-push seen c.journal (entry number command) begins)
+begins_after rules c after number command (Err fault) seen ok err begins = subst (λ (y : Journaled). Begins seen y.journal) (sym err) begins
 
 later_of : (number : ℕ) (home home' : TableId) (v w x : Knowledge) (c after : Journaled) → home' ≡ home → IsPassFor number v → Taken v c w → Given w after x → Begins (place_of v.places).seen after.journal → IsLater (seat_of home v) (seat_of home' x)
 later_of number home home' v w x c after same one taken given begins =
@@ -170,9 +170,9 @@ met_begins home u v y z c a is known first second =
       subst (λ (s : SeatView × List Entry). SameCalls s.0 s.1) (λ i. (is i, sym two i)) known.calls,
     )
 
-call_at : (number : ℕ) (home home' : TableId) (v w x : Knowledge) (c after : Journaled) (command : Command) (reply : Answer) → IsPassFor number v → Taken v c w → Given w after x
-    → reply ≡ answer (rules c.setup) (state_of (rules c.setup) c) number command → after ≡ extended (rules c.setup) c number command → IsCall (seat_of home v) command reply (seat_of home' x)
-call_at number home home' v w x c after command reply one taken given answered extends =
+call_at : (rules : Parts → Rules) (number : ℕ) (home home' : TableId) (v w x : Knowledge) (c after : Journaled) (command : Command) (reply : Answer) → IsPassFor number v → Taken v c w → Given w after x
+    → reply ≡ answer (rules c.setup) (state_of (rules c.setup) c) number command → after ≡ extended (rules c.setup) c number command → IsCall rules (seat_of home v) command reply (seat_of home' x)
+call_at rules number home home' v w x c after command reply one taken given answered extends =
     let p = place_of v.places in
     let known = knows_one number v (story c) one taken.1 in
     let mine = ap place_of (ap (λ (u : Knowledge). u.places) given ∙ ap (λ (u : Knowledge). seats_after u.held u.places (story after)) taken.0 ∙ ap (seen_by (story after)) one.only) in
@@ -185,25 +185,25 @@ call_at number home home' v w x c after command reply one taken given answered e
     }
 
 -- a call that was answered
-pub is_call : (number : ℕ) (home home' : TableId) (v w x : Knowledge) (c after : Journaled) (command : Command) (r : Result Reply CallFault) (old : SeatView) → seat_of home v ≡ old → IsPassFor number v → Taken v c w → Given w after x
-    → IfOk r (λ reply. told reply ≡ answer (rules c.setup) (state_of (rules c.setup) c) number command) → IfOk r (λ _. after ≡ extended (rules c.setup) c number command) → IfOk r (λ reply. IsCall old command (told reply) (seat_of home' x))
-is_call number home home' v w x c after command (Ok reply) old is one taken given answered extends =
-    subst (λ (s : SeatView). IsCall s command (told reply) (seat_of home' x)) is (call_at number home home' v w x c after command (told reply) one taken given answered extends)
-is_call number home home' v w x c after command (Err fault) old is one taken given answered extends = tt
+pub is_call : (rules : Parts → Rules) (number : ℕ) (home home' : TableId) (v w x : Knowledge) (c after : Journaled) (command : Command) (r : Result Reply CallFault) (old : SeatView) → seat_of home v ≡ old → IsPassFor number v → Taken v c w → Given w after x
+    → IfOk r (λ reply. told reply ≡ answer (rules c.setup) (state_of (rules c.setup) c) number command) → IfOk r (λ _. after ≡ extended (rules c.setup) c number command) → IfOk r (λ reply. IsCall rules old command (told reply) (seat_of home' x))
+is_call rules number home home' v w x c after command (Ok reply) old is one taken given answered extends =
+    subst (λ (s : SeatView). IsCall rules s command (told reply) (seat_of home' x)) is (call_at rules number home home' v w x c after command (told reply) one taken given answered extends)
+is_call rules number home home' v w x c after command (Err fault) old is one taken given answered extends = tt
 
 -- a call leaves the setup and the number of seats
-same_parts : (c after : Journaled) (number : ℕ) (command : Command) (r : Result Reply CallFault) → IfOk r (λ _. after ≡ extended (rules c.setup) c number command) → OnErr r (after ≡ c) → (after.setup ≡ c.setup) × (after.seats ≡ c.seats)
-same_parts c after number command (Ok reply) ok err = (ap (λ (y : Journaled). y.setup) ok, ap (λ (y : Journaled). y.seats) ok)
-same_parts c after number command (Err fault) ok err = (ap (λ (y : Journaled). y.setup) err, ap (λ (y : Journaled). y.seats) err)
+same_parts : (rules : Parts → Rules) (c after : Journaled) (number : ℕ) (command : Command) (r : Result Reply CallFault) → IfOk r (λ _. after ≡ extended (rules c.setup) c number command) → OnErr r (after ≡ c) → (after.setup ≡ c.setup) × (after.seats ≡ c.seats)
+same_parts rules c after number command (Ok reply) ok err = (ap (λ (y : Journaled). y.setup) ok, ap (λ (y : Journaled). y.seats) ok)
+same_parts rules c after number command (Err fault) ok err = (ap (λ (y : Journaled). y.setup) err, ap (λ (y : Journaled). y.seats) err)
 
 -- the headline of the control that is given back is that of the seat
-pub sees_headline : (number : ℕ) (home' : TableId) (v w x : Knowledge) (c after : Journaled) (command : Command) (r : Result Reply CallFault) → IsPassFor number v → Taken v c w → Given w after x
-    → IfOk r (λ _. after ≡ extended (rules c.setup) c number command) → OnErr r (after ≡ c) → HasHeadline after → SeesHeadline (seat_of home' x)
-sees_headline number home' v w x c after command r one taken given ok err headline =
+pub sees_headline : (rules : Parts → Rules) (SameState : Parts → List Event → List Event → Type 0) (number : ℕ) (home' : TableId) (v w x : Knowledge) (c after : Journaled) (command : Command) (r : Result Reply CallFault) → IsPassFor number v → Taken v c w → Given w after x
+    → IfOk r (λ _. after ≡ extended (rules c.setup) c number command) → OnErr r (after ≡ c) → HasHeadline rules SameState after → SeesHeadline rules SameState (seat_of home' x)
+sees_headline rules SameState number home' v w x c after command r one taken given ok err headline =
     let known = knows_one number v (story c) one taken.1 in
     let mine = ap place_of (ap (λ (u : Knowledge). u.places) given ∙ ap (λ (u : Knowledge). seats_after u.held u.places (story after)) taken.0 ∙ ap (seen_by (story after)) one.only) in
-    let parts = same_parts c after number command r ok err in
+    let parts = same_parts rules c after number command r ok err in
     let setup = parts.0 ∙ known.setup ∙ sym (ap (λ (q : Place). q.setup) mine) in
     let seats = parts.1 ∙ known.seats ∙ sym (ap (λ (q : Place). q.seats) mine) in
     let seen = sym (ap (λ (q : Place). q.seen) mine) in
-    subst (λ (y : Parts × ℕ × List Entry). Headline rules ReachSameState y.0 y.1 y.2) (λ i. (setup i, seats i, seen i)) headline
+    subst (λ (y : Parts × ℕ × List Entry). Headline rules SameState y.0 y.1 y.2) (λ i. (setup i, seats i, seen i)) headline

@@ -8,7 +8,8 @@ use Rattle.cdb_control.specs.declared.control.Entry.{Entry}
 use Rattle.cdb_control.specs.declared.control.CallFault.{CallFault}
 use Rattle.cdb_control.specs.declared.control.CallFault.TheVariants.{JournalFull, NoMemory}
 use Rattle.cdb_control.specs.Journal.{entry, replies_of, own}
-use Rattle.cdb_run.specs.Algorithms.{rules}
+use Rattle.cdb_rules.specs.Rules.{Rules}
+use Rattle.cdb_setup.specs.Parts.{Parts}
 use Rattle.cdb_control.proofs.Own.{Begins-trans, own-push, replies_of-push, replies_of-same}
 use Rattle.cdb_shared.specs.declared.session.End.{End}
 use Rattle.cdb_shared.specs.Seats.{SeatView, IsLater, IsCall, SameCalls}
@@ -25,23 +26,23 @@ IsLater-trans a b c x y = record {
 }
 
 -- a call is one more of the seat's own
-pub calls_of-call : (old new : SeatView) (command : Command) (reply : Answer) → IsLater old new → IsCall old command reply new → calls_of new ≡ calls_of old ++ command ∷ []
-calls_of-call old new command reply later call =
+pub calls_of-call : (rules : Parts → Rules) (old new : SeatView) (command : Command) (reply : Answer) → IsLater old new → IsCall rules old command reply new → calls_of new ≡ calls_of old ++ command ∷ []
+calls_of-call rules old new command reply later call =
     (λ i. own (later.number i) (call.entry i)) ∙ own-push old.number call.journal command ∙ ap (λ l. l ++ command ∷ []) call.calls
 
-same_replies : (old new : SeatView) → IsLater old new → (journal : List Entry) → new.seen ≡ journal → replies_to new ≡ replies_of (rules old.setup) old.setup old.seats old.number journal
-same_replies old new later journal is = λ i. replies_of (rules (later.setup i)) (later.setup i) (later.seats i) (later.number i) (is i)
+same_replies : (rules : Parts → Rules) (old new : SeatView) → IsLater old new → (journal : List Entry) → new.seen ≡ journal → replies_to rules new ≡ replies_of (rules old.setup) old.setup old.seats old.number journal
+same_replies rules old new later journal is = λ i. replies_of (rules (later.setup i)) (later.setup i) (later.seats i) (later.number i) (is i)
 
 -- and its reply is one more of the seat's replies
-pub replies_to-call : (old new : SeatView) (command : Command) (reply : Answer) → IsLater old new → IsCall old command reply new → replies_to new ≡ replies_to old ++ reply ∷ []
-replies_to-call old new command reply later call =
-    same_replies old new later (call.journal ++ entry old.number command ∷ []) call.entry
+pub replies_to-call : (rules : Parts → Rules) (old new : SeatView) (command : Command) (reply : Answer) → IsLater old new → IsCall rules old command reply new → replies_to rules new ≡ replies_to rules old ++ reply ∷ []
+replies_to-call rules old new command reply later call =
+    same_replies rules old new later (call.journal ++ entry old.number command ∷ []) call.entry
     ∙ replies_of-push (rules old.setup) old.setup old.seats old.number call.journal command
     ∙ (λ i. replies_of-same (rules old.setup) old.setup old.seats old.number old.seen call.journal call.begins call.calls i ++ sym call.reply i ∷ [])
 
 -- a call that met a fault adds no reply
-pub replies_to-fault : (old new : SeatView) → IsLater old new → SameCalls old new.seen → replies_to new ≡ replies_to old
-replies_to-fault old new later same = same_replies old new later new.seen refl ∙ replies_of-same (rules old.setup) old.setup old.seats old.number old.seen new.seen later.begins same
+pub replies_to-fault : (rules : Parts → Rules) (old new : SeatView) → IsLater old new → SameCalls old new.seen → replies_to rules new ≡ replies_to rules old
+replies_to-fault rules old new later same = same_replies rules old new later new.seen refl ∙ replies_of-same (rules old.setup) old.setup old.seats old.number old.seen new.seen later.begins same
 
 pub calls_of-fault : (old new : SeatView) → IsLater old new → SameCalls old new.seen → calls_of new ≡ calls_of old
 calls_of-fault old new later same = ap (λ n. own n new.seen) later.number ∙ same

@@ -2,6 +2,7 @@
 use Rattle.std.specs.Prelude.{◌≡◌, ℕ, ◌<◌, Bool, true, List, [], ◌∷◌, ◌++◌, length, map}
 use Rattle.std.specs.List.{range_with_len}
 use Rattle.atomic_table.specs.Seated.{TableId}
+use Rattle.cdb_base.specs.declared.event.Event.{Event}
 use Rattle.cdb_base.specs.declared.limits.TheConstants.{MAX_ENTRIES}
 use Rattle.cdb_control.specs.declared.command.Command.{Command}
 use Rattle.cdb_control.specs.declared.control.Entry.{Entry}
@@ -9,8 +10,7 @@ use Rattle.cdb_control.specs.Answer.{Answer}
 use Rattle.cdb_control.specs.Commands.{answer}
 use Rattle.cdb_control.specs.Headline.{Headline}
 use Rattle.cdb_control.specs.Journal.{Journaled, Begins, entry as entry_of, own, replay}
-use Rattle.cdb_run.specs.Algorithms.{rules}
-use Rattle.cdb_run.specs.SameState.{ReachSameState}
+use Rattle.cdb_rules.specs.Rules.{Rules}
 use Rattle.cdb_setup.specs.Parts.{Parts}
 
 -- A seat: which shared control it is of, that control's setup and number of seats, its own number, the journal
@@ -50,18 +50,18 @@ abbrev pub SameCalls : SeatView → List Entry → Type 0
 SameCalls seat journal = own seat.number journal ≡ own seat.number seat.seen
 
 -- the reply to a command of the seat at a journal
-abbrev pub answer_at : SeatView → List Entry → Command → Answer
-answer_at seat journal command =
+abbrev pub answer_at : (Parts → Rules) → SeatView → List Entry → Command → Answer
+answer_at rules seat journal command =
     let rules_of = rules seat.setup in
     answer rules_of (replay rules_of seat.setup seat.seats journal) seat.number command
 
 -- one call: before it the others had made the journal what it was, and the reply is the one there
-pub record IsCall (old : SeatView) (command : Command) (answered : Answer) (new : SeatView) : Type 0 where
+pub record IsCall (rules : Parts → Rules) (old : SeatView) (command : Command) (answered : Answer) (new : SeatView) : Type 0 where
   pub journal : List Entry
   pub begins : Begins old.seen journal
   pub calls : SameCalls old journal
   pub entry : new.seen ≡ journal ++ entry_of old.number command ∷ []
-  pub reply : answered ≡ answer_at old journal command
+  pub reply : answered ≡ answer_at rules old journal command
 
 -- The control has the setup and the number of seats that the seat knows. Its journal begins with what the seat
 -- has seen, and has of the seat's calls just those.
@@ -80,9 +80,9 @@ abbrev pub SeesRoom : SeatView → Type 0
 SeesRoom seat = length seat.seen < MAX_ENTRIES
 
 -- the headline holds of the journal that the seat has seen
-abbrev pub SeesHeadline : SeatView → Type 0
-SeesHeadline seat = Headline rules ReachSameState seat.setup seat.seats seat.seen
+abbrev pub SeesHeadline : (Parts → Rules) → (Parts → List Event → List Event → Type 0) → SeatView → Type 0
+SeesHeadline rules SameState seat = Headline rules SameState seat.setup seat.seats seat.seen
 
 -- and of the journal of a control
-abbrev pub HasHeadline : Journaled → Type 0
-HasHeadline c = Headline rules ReachSameState c.setup c.seats c.journal
+abbrev pub HasHeadline : (Parts → Rules) → (Parts → List Event → List Event → Type 0) → Journaled → Type 0
+HasHeadline rules SameState c = Headline rules SameState c.setup c.seats c.journal

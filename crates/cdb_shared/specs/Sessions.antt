@@ -7,7 +7,8 @@ use Rattle.cdb_control.specs.Answer.{Answer, Refused}
 use Rattle.cdb_control.specs.declared.control.CallFault.{CallFault}
 use Rattle.cdb_control.specs.declared.control.CallFault.TheVariants.{JournalFull, NoMemory}
 use Rattle.cdb_control.specs.Journal.{own, replies_of}
-use Rattle.cdb_run.specs.Algorithms.{rules}
+use Rattle.cdb_rules.specs.Rules.{Rules}
+use Rattle.cdb_setup.specs.Parts.{Parts}
 use Rattle.cdb_shared.specs.declared.session.End.{End}
 use Rattle.cdb_shared.specs.declared.session.End.TheVariants.{All, Done, Stopped, NoMemory as Short, JournalFull as Full}
 use Rattle.cdb_shared.specs.Seats.{SeatView}
@@ -17,8 +18,8 @@ abbrev pub calls_of : SeatView → List Command
 calls_of seat = own seat.number seat.seen
 
 -- the replies to them
-abbrev pub replies_to : SeatView → List Answer
-replies_to seat = replies_of (rules seat.setup) seat.setup seat.seats seat.number seat.seen
+abbrev pub replies_to : (Parts → Rules) → SeatView → List Answer
+replies_to rules seat = replies_of (rules seat.setup) seat.setup seat.seats seat.number seat.seen
 
 -- how a session ends at a fault
 abbrev pub end_at : CallFault → End
@@ -39,6 +40,6 @@ IsDriven Short count turns replies = (count < turns) × NoneDone replies
 IsDriven Full count turns replies = (count < turns) × NoneDone replies
 
 -- the replies that led one seat to the other are those of a driven seat
-abbrev pub IsDrivenFrom : SeatView → SeatView → End → ℕ → ℕ → Type 0
-IsDrivenFrom before after end count turns =
-    (replies : List Answer) × (replies_to after ≡ replies_to before ++ replies) × IsDriven end count turns replies
+abbrev pub IsDrivenFrom : (Parts → Rules) → SeatView → SeatView → End → ℕ → ℕ → Type 0
+IsDrivenFrom rules before after end count turns =
+    (replies : List Answer) × (replies_to rules after ≡ replies_to rules before ++ replies) × IsDriven end count turns replies

@@ -1,6 +1,7 @@
 //! The rule of the turn: what each pass of the queue knows. Values of these types exist in proofs alone.
 
-use cdb_control::{Control, Entry, RunOfSetup};
+use cdb_control::{Control, Entry};
+use cdb_rules::Runs;
 use cdb_setup::Setup;
 use crossbeam_queue::protocol::{Join, Lesson, Outcome, Protocol, Split};
 use std::collections::LinkedList;
@@ -37,7 +38,7 @@ pub struct Knowledge {
 /// The rule: one control, which stands in the queue or is with one pass.
 pub struct OneControl;
 
-impl Protocol<Control<RunOfSetup>, Knowledge> for OneControl {
+impl<T: Runs> Protocol<Control<T>, Knowledge> for OneControl {
     ghost use Rattle.cdb_shared.specs.Turn.{opening, IsRuled};
 
     ghost holds = { IsRuled };
@@ -48,7 +49,7 @@ impl Protocol<Control<RunOfSetup>, Knowledge> for OneControl {
 /// The turn is taken.
 pub struct Takes;
 
-impl Outcome<Control<RunOfSetup>, Knowledge> for Takes {
+impl<T: Runs> Outcome<Control<T>, Knowledge> for Takes {
     ghost use Rattle.cdb_shared.specs.Turn.{Taken};
 
     ghost then = { Taken };
@@ -57,13 +58,13 @@ impl Outcome<Control<RunOfSetup>, Knowledge> for Takes {
 /// The turn is given back, at first with the control that is handed in.
 pub struct Gives;
 
-impl Outcome<Control<RunOfSetup>, Knowledge> for Gives {
+impl<T: Runs> Outcome<Control<T>, Knowledge> for Gives {
     ghost use Rattle.cdb_shared.specs.Turn.{Given};
 
     ghost then = { Given };
 }
 
-impl Lesson<Control<RunOfSetup>, Knowledge> for Gives {
+impl<T: Runs> Lesson<Control<T>, Knowledge> for Gives {
     ghost use Rattle.cdb_shared.specs.Turn.{NoneStands};
 
     ghost fact = { NoneStands };

@@ -2,18 +2,19 @@
 ghost use Rattle.std.specs.Prelude.{◌≡◌, ◌≤◌};
 
 use crate::turn::TurnPass;
+use cdb_rules::Runs;
 use std::marker::Model;
 
 /// One session's place at a shared control. A contract sees which control it is of, with its setup and its
 /// number of seats, the seat's own number, the journal that it has seen, and whether it rests, that is,
 /// has not the turn.
 #[derive(Drop)]
-pub struct Seat {
+pub struct Seat<T: Runs> {
     pub(crate) number: u8,
-    pub(crate) pass: TurnPass,
+    pub(crate) pass: TurnPass<T>,
 }
 
-impl Model for Seat {
+impl<T: Runs> Model for Seat<T> {
     ghost use Rattle.std.specs.Prelude.{◌≡◌, []};
     ghost use Rattle.crossbeam_queue.specs.Passes.{view as view_of};
     ghost use Rattle.cdb_shared.specs.Passes.{seat_of, IsPassFor};
@@ -26,7 +27,7 @@ impl Model for Seat {
     ghost invariant = { λ s. (s.pass.me.1 ≡ []) × IsPassFor s.number (view_of s.pass) };
 }
 
-impl Seat {
+impl<T: Runs> Seat<T> {
     /// Its number, from 1 to the number of seats.
     pub fn number(&self) -> u8
         ensures number { result ≡ self.now.number }

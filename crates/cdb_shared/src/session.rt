@@ -9,6 +9,7 @@ use crate::seat::Seat;
 use crate::shared::Shared;
 use cdb_base::Refusal;
 use cdb_control::{CallFault, Command, Reply};
+use cdb_rules::Runs;
 use std::alloc::Global;
 use std::sync::Wait;
 
@@ -22,13 +23,13 @@ pub trait Gate {
     ghost passes: { Self → Bool } = { λ _. false };
 
     /// Whether the session goes on with this call.
-    fn before(&mut self, call: u32, seat: &Seat) -> bool
+    fn before<T: Runs>(&mut self, call: u32, seat: &Seat<T>) -> bool
         requires rests { seat.now.rests ≡ true }
         ensures heard { HearsAsked (heard self.old) (heard self.new) call seat.now result }
         ensures passes { passes self.old ≡ true → (result ≡ true) × (passes self.new ≡ true) };
 
     /// This call has had its reply.
-    fn after(&mut self, call: u32, seat: &Seat)
+    fn after<T: Runs>(&mut self, call: u32, seat: &Seat<T>)
         requires rests { seat.now.rests ≡ true }
         ensures heard { HearsTold (heard self.old) (heard self.new) call seat.now }
         ensures passes { passes self.old ≡ true → passes self.new ≡ true };
@@ -67,18 +68,19 @@ fn is_done(reply: &Reply) -> bool
 /// Makes a session's calls in order, each after the gate was asked, and hands the seat back with the replies. It
 /// ends with `Stopped` where the gate says so, and with `JournalFull` or `NoMemory` where a call meets
 /// that; the replies are those before. Room for all of them is reserved first.
-pub fn serve<G: Gate + Drop, R: Wait>(
-    shared: &Shared,
+pub fn serve<T: Runs, G: Gate + Drop, R: Wait>(
+    shared: &Shared<T>,
     rt: &R,
     alloc: Global,
-    mut seat: Seat,
+    mut seat: Seat<T>,
     mut gate: G,
     commands: &[Command],
-) -> (Seat, Vec<Reply>, End)
+) -> (Seat<T>, Vec<Reply>, End)
     requires { RestsAt shared.now seat }
     ensures seat { IsLater seat result.0 }
     ensures calls { calls_of result.0 ≡ calls_of seat ++ take (vec_len result.1) commands.now }
-    ensures replies { replies_to result.0 ≡ replies_to seat ++ map told result.1.items }
+    ensures replies { replies_to T.rules result.0
+        ≡ replies_to T.rules seat ++ map told result.1.items }
     ensures fewer { vec_len result.1 ≤ length commands.now }
     ensures all { (result.2 ≡ End.All) ↔ (vec_len result.1 ≡ length commands.now) }
     ensures done { result.2 ≢ End.Done }
@@ -109,21 +111,21 @@ pub fn serve<G: Gate + Drop, R: Wait>(
 /// Steps a process by `auto`, each call after the gate was asked, until one is refused as the process is done
 /// or the turns are used up, and hands the seat back with the number of calls. It ends with `Done` at that
 /// answer, also at the last turn, and with `Stopped`, `JournalFull` and `NoMemory` as `serve` does.
-pub fn drive<G: Gate + Drop, R: Wait>(
-    shared: &Shared,
+pub fn drive<T: Runs, G: Gate + Drop, R: Wait>(
+    shared: &Shared<T>,
     rt: &R,
     alloc: Global,
-    mut seat: Seat,
+    mut seat: Seat<T>,
     mut gate: G,
     process: u32,
     turns: u32,
-) -> (Seat, u32, End)
+) -> (Seat<T>, u32, End)
     requires { RestsAt shared.now seat }
     ensures seat { IsLater seat result.0 }
     ensures calls { calls_of result.0 ≡ calls_of seat
         ++ replicate result.1 (Command.Auto process) }
     ensures turns { result.1 ≤ turns }
-    ensures replies { IsDrivenFrom seat result.0 result.2 result.1 turns }
+    ensures replies { IsDrivenFrom T.rules seat result.0 result.2 result.1 turns }
     ensures full { result.2 ≡ End.JournalFull → SeesFull result.0 }
     ensures short { result.2 ≡ End.NoMemory → SeesRoom result.0 }
     ensures gate { (last : G) × Hears (G.heard gate) (G.heard last) seat result.0 result.2 }

@@ -11,18 +11,19 @@ use crate::seat::Seat;
 use crate::turn::{Turn, TurnPass, give, take};
 use cdb_base::NoMemory;
 use cdb_base::limits::MAX_ENTRIES;
-use cdb_control::{CallFault, Command, Control, Reply, RunOfSetup};
+use cdb_control::{CallFault, Command, Control, Reply};
+use cdb_rules::Runs;
 use std::alloc::Global;
 use std::marker::Model;
 use std::sync::Wait;
 
 /// A control that threads share. A contract sees which one it is; what its journal has, the seats know.
 #[derive(Drop)]
-pub struct Shared {
-    pub(crate) turn: Turn,
+pub struct Shared<T: Runs> {
+    pub(crate) turn: Turn<T>,
 }
 
-impl Model for Shared {
+impl<T: Runs> Model for Shared<T> {
     ghost use Rattle.std.specs.Prelude.{◌≡◌};
     ghost use Rattle.atomic_table.specs.Seated.{TableId, table_id_coded};
 
@@ -37,7 +38,7 @@ impl Model for Shared {
     ghost invariant = { λ s. ruled_capacity s.turn ≡ 1 };
 }
 
-impl Shared {
+impl<T: Runs> Shared<T> {
     /// Carries a command out for a seat: takes the turn, executes and gives the turn back. It tries until
     /// it has the turn, so it may wait. After `JournalFull`, where the journal has as many entries as it
     /// can, and after `NoMemory` the control is as it was, and the seat has seen what others did.
@@ -45,16 +46,16 @@ impl Shared {
         &self,
         rt: &R,
         alloc: Global,
-        seat: &mut Seat,
+        seat: &mut Seat<T>,
         command: Command,
     ) -> Result<Reply, CallFault>
         requires { RestsAt self.now seat.old }
         ensures seat { IsLater seat.old seat.new }
-        ensures call { IfOk result (λ reply. IsCall seat.old command (told reply) seat.new) }
+        ensures call { IfOk result (λ reply. IsCall T.rules seat.old command (told reply) seat.new) }
         ensures fault { OnErr result (SameCalls seat.old seat.new.seen) }
         ensures full { IfErr result (λ f. (f ≡ CallFault.JournalFull) ↔ SeesFull seat.new) }
         ensures limit { length seat.new.seen ≤ MAX_ENTRIES }
-        ensures headline { SeesHeadline seat.new }
+        ensures headline { SeesHeadline T.rules T.same_state seat.new }
     {
         let mut control = take(rt, &self.turn, &mut seat.pass);
         let reply = control.execute(alloc, seat.number, command);
@@ -67,8 +68,8 @@ impl Shared {
     pub fn open<R: Wait>(
         rt: &R,
         alloc: Global,
-        control: Control<RunOfSetup>,
-    ) -> Result<(Shared, Vec<Seat>), (Control<RunOfSetup>, NoMemory)>
+        control: Control<T>,
+    ) -> Result<(Shared<T>, Vec<Seat<T>>), (Control<T>, NoMemory)>
         ensures opened { IfOk result (λ r. r.1.items ≡ fresh_seats r.0 control 1 control.seats) }
         ensures rest { IfOk result (λ r. All (λ seat. RestsAt r.0 seat) r.1.items) }
         ensures refused { IfErr result (λ r. r.0 ≡ control) }
@@ -77,7 +78,7 @@ impl Shared {
         let Ok(seats) = Vec::with_capacity(alloc, usize::from(count)) else {
             return Err((control, NoMemory));
         };
-        let Ok((turn, mut pass)) = Turn::ruled(alloc, 1) else {
+        let Ok((turn, mut pass)) = Turn::<T>::ruled(alloc, 1) else {
             return Err((control, NoMemory));
         };
         give(rt, &turn, &mut pass, control);
@@ -87,7 +88,7 @@ impl Shared {
 
     /// Lets two seats see the journal, and hands both back. What `a` has seen is then a beginning of what
     /// `b` has seen. It may wait for the turn.
-    pub fn meet<R: Wait>(&self, rt: &R, a: Seat, b: Seat) -> (Seat, Seat)
+    pub fn meet<R: Wait>(&self, rt: &R, a: Seat<T>, b: Seat<T>) -> (Seat<T>, Seat<T>)
         requires a { RestsAt self.now a }
         requires b { RestsAt self.now b }
         ensures a { IsLater a result.0 × SameCalls a result.0.seen }
@@ -120,11 +121,11 @@ impl Shared {
 
     /// Takes the turn for good and gives the control out of it. The seats, one at least, are used up. It may
     /// wait for the turn.
-    pub fn finish<R: Wait>(self, rt: &R, seats: Vec<Seat>) -> Control<RunOfSetup>
+    pub fn finish<R: Wait>(self, rt: &R, seats: Vec<Seat<T>>) -> Control<T>
         requires some { 0 < vec_len seats }
         requires rest { All (λ seat. RestsAt self seat) seats.items }
         ensures known { All (λ seat. IsKnownBy result seat) seats.items }
-        ensures headline { HasHeadline result }
+        ensures headline { HasHeadline T.rules T.same_state result }
     {
         let Shared { turn } = self;
         let mut pass = gather(&turn, seats);
@@ -136,7 +137,12 @@ impl Shared {
 }
 
 /// A pass for each seat, by the numbers from 1 on.
-fn deal(turn: &Turn, mut pass: TurnPass, count: u8, mut seats: Vec<Seat>) -> Vec<Seat>
+fn deal<T: Runs>(
+    turn: &Turn<T>,
+    mut pass: TurnPass<T>,
+    count: u8,
+    mut seats: Vec<Seat<T>>,
+) -> Vec<Seat<T>>
     requires queue { IsPassOf turn.now pass }
     requires all { (c : Journaled) × (view pass ≡ resting (places_from (story c) 1 count))
         × (count ≤ c.seats) }
@@ -155,7 +161,7 @@ fn deal(turn: &Turn, mut pass: TurnPass, count: u8, mut seats: Vec<Seat>) -> Vec
 }
 
 /// One pass for all the seats.
-fn gather(turn: &Turn, mut seats: Vec<Seat>) -> TurnPass
+fn gather<T: Runs>(turn: &Turn<T>, mut seats: Vec<Seat<T>>) -> TurnPass<T>
     requires some { 0 < vec_len seats }
     requires rest { All (λ seat. RestsAt turn.now.table.shared.table_id seat) seats.items }
     ensures queue { IsPassOf turn.now result }

@@ -4,19 +4,20 @@ ghost use Rattle.crossbeam_queue.specs.Passes.{view, IsPassOf, IsSamePass, ruled
 ghost use Rattle.cdb_shared.specs.Turn.{Taken, Given, MayGive};
 
 use crate::knowledge::{Gives, Knowledge, OneControl, Stage, Takes};
-use cdb_control::{Control, RunOfSetup};
+use cdb_control::Control;
+use cdb_rules::Runs;
 use crossbeam_queue::{Pass, RuledArrayQueue};
 use std::sync::Wait;
 use std::thread;
 
 /// The queue whose one place is the turn.
-pub type Turn = RuledArrayQueue<Control<RunOfSetup>, Knowledge, OneControl>;
+pub type Turn<T> = RuledArrayQueue<Control<T>, Knowledge, OneControl>;
 
 /// What a thread shows to take the turn.
-pub type TurnPass = Pass<Control<RunOfSetup>, Knowledge>;
+pub type TurnPass<T> = Pass<Control<T>, Knowledge>;
 
 /// Takes the turn, and tries again until it has it.
-pub fn take<R: Wait>(rt: &R, turn: &Turn, pass: &mut TurnPass) -> Control<RunOfSetup>
+pub fn take<T: Runs, R: Wait>(rt: &R, turn: &Turn<T>, pass: &mut TurnPass<T>) -> Control<T>
     requires queue { IsPassOf turn.now pass.old }
     requires rests { (view pass.old).stage ≡ Stage.Resting }
     ensures queue { IsSamePass pass.old pass.new }
@@ -32,7 +33,7 @@ pub fn take<R: Wait>(rt: &R, turn: &Turn, pass: &mut TurnPass) -> Control<RunOfS
 }
 
 /// Gives the turn back; the first pass gives the control that is handed in.
-pub fn give<R: Wait>(rt: &R, turn: &Turn, pass: &mut TurnPass, control: Control<RunOfSetup>)
+pub fn give<T: Runs, R: Wait>(rt: &R, turn: &Turn<T>, pass: &mut TurnPass<T>, control: Control<T>)
     requires queue { IsPassOf turn.now pass.old × (ruled_capacity turn.now ≡ 1) }
     requires control { MayGive (view pass.old) control }
     ensures queue { IsSamePass pass.old pass.new }

@@ -12,6 +12,7 @@ mod rollback;
 mod setups;
 mod undo;
 
+use cdb_any_run::RunOfSetup;
 use cdb_play::{Bytes, Failed, PlayFault, Sink, Source, play};
 use setups::ONE_PROCESS;
 use std::process::Abort;
@@ -99,7 +100,7 @@ fn check(
     let mut out = writer(rt, 1_000);
     let mut source = Bytes::new(script.as_bytes());
     assert_eq!(rt;
-        play(rt.alloc(), setup.as_bytes(), &mut source, &mut out),
+        play::<RunOfSetup, _, _>(rt.alloc(), setup.as_bytes(), &mut source, &mut out),
         Ok(())
     );
     assert_eq!(rt; str::from_utf8(out.held.as_slice()), Ok(transcript));
@@ -111,7 +112,7 @@ fn check_fault(rt: &(impl Abort + AllocGlobal), setup: &str, script: &[u8], faul
     let mut out = writer(rt, 1_000);
     let mut source = Bytes::new(script);
     assert_eq!(rt;
-        play(rt.alloc(), setup.as_bytes(), &mut source, &mut out),
+        play::<RunOfSetup, _, _>(rt.alloc(), setup.as_bytes(), &mut source, &mut out),
         Err(fault)
     );
     assert_eq!(rt; out.held.len(), 0);

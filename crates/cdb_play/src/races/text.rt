@@ -11,7 +11,7 @@ ghost use Rattle.cdb_play.specs.Buffers.{Puts, Wrote};
 use crate::buffer::{Buffer, OutputFault};
 use crate::sink::Sink;
 use cdb_base::{Proc, Val};
-use cdb_control::{Control, Reply, RunOfSetup, Runs};
+use cdb_control::{Control, Reply, Runs};
 use cdb_text::reply_text;
 use itoa::Buffer as Digits;
 use std::alloc::Global;
@@ -132,16 +132,16 @@ fn put_end<W: Sink>(
 }
 
 /// Puts what the seats of the scripts were answered, and then the decisions of the last state.
-fn put_race<W: Sink>(
+fn put_race<T: Runs, W: Sink>(
     alloc: Global,
-    control: &Control<RunOfSetup>,
+    control: &Control<T>,
     replies: &[Vec<Reply>],
     buffer: &mut Buffer,
     out: &mut W,
 ) -> Result<(), OutputFault>
     requires { control.now.setup.processes + length replies.now ≤ 64 }
     ensures { Puts W.contents W.failures result out.old buffer.old out.new buffer.new
-        (seats_text (control.now.setup.processes + 1) (all_told replies.now) ++ end_text (last_decisions control.now)) }
+        (seats_text (control.now.setup.processes + 1) (all_told replies.now) ++ end_text (last_decisions T.rules control.now)) }
 {
     let run = control.run();
     put_seats(
@@ -156,9 +156,9 @@ fn put_race<W: Sink>(
 }
 
 /// Puts the same into an empty buffer, and writes what is left in it.
-pub(super) fn write_race<W: Sink>(
+pub(super) fn write_race<T: Runs, W: Sink>(
     alloc: Global,
-    control: &Control<RunOfSetup>,
+    control: &Control<T>,
     replies: &[Vec<Reply>],
     buffer: Buffer,
     out: &mut W,
@@ -166,7 +166,7 @@ pub(super) fn write_race<W: Sink>(
     requires seats { control.now.setup.processes + length replies.now ≤ 64 }
     requires empty { buffer ≡ [] }
     ensures { Wrote W.contents W.failures result out.old out.new
-        (seats_text (control.now.setup.processes + 1) (all_told replies.now) ++ end_text (last_decisions control.now)) }
+        (seats_text (control.now.setup.processes + 1) (all_told replies.now) ++ end_text (last_decisions T.rules control.now)) }
 {
     let mut buffer = buffer;
     put_race(alloc, control, replies, &mut buffer, out)?;

@@ -5,15 +5,15 @@ ghost use Rattle.std.specs.Prelude.{◌≡◌, ℕ, ◌+◌, ◌-◌, ◌<◌, �
 ghost use Rattle.std.specs.Vec.{vec_items};
 ghost use Rattle.cdb_causal.specs.Names.{IsNamedAt};
 ghost use Rattle.cdb_causal.specs.Rollback.{without};
-ghost use Rattle.cdb_run.specs.EventRefs.{name_of};
-ghost use Rattle.cdb_run.specs.Runs.{step_name, loss_name, AllLeadTo, RollsBackOnto, Tells, rollback_answer, causes_in, rolled_back_at, after_rollback, after_rollback_at, with_history};
-ghost use Rattle.cdb_run.specs.Undo.{IsFreeName};
+ghost use Rattle.cdb_rules.specs.EventRefs.{name_of};
+ghost use Rattle.cdb_rules.specs.Runs.{step_name, loss_name, AllLeadTo, RollsBackOnto, Tells, rollback_answer, causes_in, rolled_back_at, after_rollback, after_rollback_at, with_history};
+ghost use Rattle.cdb_rules.specs.Undo.{IsFreeName};
 
-use crate::event_ref::EventRef;
 use crate::run::Run;
 use cdb_base::{Event, Kind, NoMemory, Refusal, Reg, StepId};
 use cdb_causal::{consequences, direct_causes};
 use cdb_process::Process;
+use cdb_rules::EventRef;
 use smallvec::SmallVec;
 use std::alloc::Global;
 

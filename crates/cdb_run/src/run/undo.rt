@@ -6,18 +6,18 @@ ghost use Rattle.cdb_base.specs.Places.{nth};
 ghost use Rattle.cdb_causal.specs.Causality.{IsFree};
 ghost use Rattle.cdb_causal.specs.Dependence.{depends as depends_of};
 ghost use Rattle.cdb_causal.specs.Rollback.{without};
-ghost use Rattle.cdb_run.specs.EventRefs.{name_of};
-ghost use Rattle.cdb_run.specs.Runs.{step_name, loss_name, IsPlaceFound, CanUndo, LeadsTo, undo_at_place, undo_answer, after_undo, with_history, with_left};
-ghost use Rattle.cdb_run.specs.Undo.{answered};
+ghost use Rattle.cdb_rules.specs.EventRefs.{name_of};
+ghost use Rattle.cdb_rules.specs.Runs.{step_name, loss_name, IsPlaceFound, CanUndo, LeadsTo, undo_at_place, undo_answer, after_undo, with_history, with_left};
+ghost use Rattle.cdb_rules.specs.Undo.{answered};
 
 use crate::change::Left;
-use crate::event_ref::EventRef;
 use crate::restore::change_back;
 use crate::run::Run;
 use cdb_base::{CopyName, Event, MsgName, Refusal, StepId, StepName};
 use cdb_causal::first_dependent;
 use cdb_process::Process;
 use cdb_record::Entry;
+use cdb_rules::EventRef;
 
 impl<P: Process> Run<P> {
     /// The place, from 1, of the `k`-th standing step of process `p`; or `NoProcess` or `NoStep`.

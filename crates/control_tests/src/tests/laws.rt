@@ -1,5 +1,6 @@
 //! The laws of commands, journals and lines.
 
+use cdb_any_run::RunOfSetup;
 use cdb_control::laws;
 use cdb_text::laws as lines;
 
@@ -11,7 +12,7 @@ fn laws_of_commands() {
     laws::numbers_rise();
     laws::own_command_adds_its_reply();
     laws::others_add_no_reply();
-    laws::headline();
+    laws::headline::<RunOfSetup>();
     laws::worked_journals();
 }
 

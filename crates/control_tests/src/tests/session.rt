@@ -1,7 +1,8 @@
 //! Sessions: what is given in each turn, and what is expected.
 
+use cdb_any_run::RunOfSetup;
 use cdb_base::NoMemory;
-use cdb_control::{Act, CallFault, Command, Control, Reply, RunOfSetup};
+use cdb_control::{Act, CallFault, Command, Control, Reply};
 use cdb_setup::Setup;
 use cdb_text::reply_text;
 use std::marker::Model;

@@ -1,6 +1,7 @@
 //! Worked runs, explained. The texts are worked out by hand from the definition.
 
-use cdb_control::{Command, Control, RunOfSetup};
+use cdb_any_run::RunOfSetup;
+use cdb_control::{Command, Control};
 use cdb_explain::{explanation, place_of_step};
 use cdb_setup::Setup;
 use std::process::Abort;

@@ -2,6 +2,7 @@
 
 use super::setups::{MAJORITY, ONE_PROCESS};
 use super::{Halting, Memory, check_fault, writer};
+use cdb_any_run::RunOfSetup;
 use cdb_play::{Bytes, Input, Output, PlayFault, RaceFault, fits, play, race_on};
 use cdb_setup::{Setup, SetupFault};
 use cdb_text::LineFault;
@@ -35,7 +36,12 @@ fn a_reader_that_fails_at_each_call(rt: HostRuntime) {
             failures: 0,
         };
         let mut out = writer(&rt, 1_000);
-        let answer = play(rt.alloc(), ONE_PROCESS.as_bytes(), &mut source, &mut out);
+        let answer = play::<RunOfSetup, _, _>(
+            rt.alloc(),
+            ONE_PROCESS.as_bytes(),
+            &mut source,
+            &mut out,
+        );
         assert_eq!(rt; answer, Err(PlayFault::Read), "after {good_calls} calls");
         assert_eq!(rt; source.failures, 1);
         assert_eq!(rt; out.held.len(), 0);
@@ -51,7 +57,7 @@ fn a_reader_that_comes_to_its_end(rt: HostRuntime) {
     };
     let mut out = writer(&rt, 1_000);
     assert_eq!(rt;
-        play(rt.alloc(), ONE_PROCESS.as_bytes(), &mut source, &mut out),
+        play::<RunOfSetup, _, _>(rt.alloc(), ONE_PROCESS.as_bytes(), &mut source, &mut out),
         Ok(())
     );
     assert_eq!(rt;
@@ -78,7 +84,12 @@ fn a_writer_that_stops_at_each_call(rt: HostRuntime) {
         for good_calls in 0..23 {
             let mut out = stopping(&rt, good_calls, takes_none);
             let mut source = Bytes::new(SCRIPT.as_bytes());
-            let answer = play(rt.alloc(), MAJORITY.as_bytes(), &mut source, &mut out);
+            let answer = play::<RunOfSetup, _, _>(
+                rt.alloc(),
+                MAJORITY.as_bytes(),
+                &mut source,
+                &mut out,
+            );
             assert_eq!(rt; answer, Err(PlayFault::Write), "after {good_calls} calls");
             assert_eq!(rt; out.failures, 1);
             assert_eq!(rt; out.held.len(), 7 * good_calls);
@@ -96,7 +107,14 @@ fn a_writer_that_stops_at_each_call_of_a_race(rt: HostRuntime) -> Result<(), Fai
         let setup = Setup::read(rt.alloc(), ONE_PROCESS.as_bytes())?;
         let mut out = stopping(&rt, good_calls, false);
         if fits(&setup, scripts.len()) {
-            let answer = race_on(&rt, rt.alloc(), setup, 0, scripts.as_slice(), &mut out);
+            let answer = race_on::<RunOfSetup, _, _>(
+                &rt,
+                rt.alloc(),
+                setup,
+                0,
+                scripts.as_slice(),
+                &mut out,
+            );
             assert_eq!(rt; answer, Err(RaceFault::Write), "after {good_calls} calls");
         }
         assert_eq!(rt; out.failures, 1);
@@ -110,7 +128,7 @@ fn a_writer_that_stops_at_each_call_of_a_race(rt: HostRuntime) -> Result<(), Fai
 fn the_readers_and_writers_of_the_library(rt: HostRuntime) {
     let mut source = Input::new(SCRIPT.as_bytes());
     let mut out = Output::new(Vec::new(rt.alloc()));
-    let answer = play(rt.alloc(), MAJORITY.as_bytes(), &mut source, &mut out);
+    let answer = play::<RunOfSetup, _, _>(rt.alloc(), MAJORITY.as_bytes(), &mut source, &mut out);
     assert_eq!(rt; answer, Ok(()));
     assert_eq!(rt; out.into_inner().as_slice(), TRANSCRIPT.as_bytes());
 }
@@ -120,7 +138,12 @@ fn a_writer_that_takes_few_bytes_a_call(rt: HostRuntime) {
     for most in [1, 2, 7] {
         let mut out = writer(&rt, most);
         let mut source = Bytes::new(SCRIPT.as_bytes());
-        let answer = play(rt.alloc(), MAJORITY.as_bytes(), &mut source, &mut out);
+        let answer = play::<RunOfSetup, _, _>(
+            rt.alloc(),
+            MAJORITY.as_bytes(),
+            &mut source,
+            &mut out,
+        );
         assert_eq!(rt; answer, Ok(()), "{most} bytes a call");
         assert_eq!(rt; out.held.as_slice(), TRANSCRIPT.as_bytes());
     }

@@ -2,6 +2,7 @@
 
 use super::setups::{ALPHA, ONE_PROCESS};
 use super::{check_fault, writer};
+use cdb_any_run::RunOfSetup;
 use cdb_play::{Bytes, MAX_BYTES, PlayFault, play};
 use std::alloc::{AllocError, Global};
 use std::test::Fail;
@@ -25,7 +26,7 @@ fn the_greatest_script(rt: HostRuntime) -> Result<(), Fail> {
     let mut out = writer(&rt, MAX_BYTES);
     let mut source = Bytes::new(script.as_bytes());
     assert_eq!(rt;
-        play(rt.alloc(), ONE_PROCESS.as_bytes(), &mut source, &mut out),
+        play::<RunOfSetup, _, _>(rt.alloc(), ONE_PROCESS.as_bytes(), &mut source, &mut out),
         Ok(())
     );
     assert!(rt; out.held.as_slice() == transcript.as_bytes());
@@ -48,7 +49,7 @@ fn the_most_steps(rt: HostRuntime) -> Result<(), Fail> {
     let mut out = writer(&rt, 1_000);
     let mut source = Bytes::new(script.as_bytes());
     assert_eq!(rt;
-        play(rt.alloc(), ALPHA.as_bytes(), &mut source, &mut out),
+        play::<RunOfSetup, _, _>(rt.alloc(), ALPHA.as_bytes(), &mut source, &mut out),
         Ok(())
     );
     let end = b"\n1.9999 read dec\nrefused 9 StepLimit\nrefused 9 StepLimit\n";
@@ -62,7 +63,7 @@ fn hundred_breakpoints(rt: HostRuntime) -> Result<(), Fail> {
     let mut out = writer(&rt, 1_000);
     let mut source = Bytes::new(script.as_bytes());
     assert_eq!(rt;
-        play(rt.alloc(), ONE_PROCESS.as_bytes(), &mut source, &mut out),
+        play::<RunOfSetup, _, _>(rt.alloc(), ONE_PROCESS.as_bytes(), &mut source, &mut out),
         Ok(())
     );
     let end = b"\nbreak 98\nbreak 99\nrefused 16 BreakLimit\n";

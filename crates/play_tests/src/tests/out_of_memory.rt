@@ -6,6 +6,7 @@ ghost use Rattle.cdb_setup.specs.Format.{StandsFor};
 
 use super::Memory;
 use super::setups::{MAJORITY, ONE_PROCESS};
+use cdb_any_run::RunOfSetup;
 use cdb_play::{Bytes, PlayFault, RaceFault, fits, play, race};
 use cdb_setup::{Setup, SetupFault};
 use std::alloc::{AllocError, Global};
@@ -62,11 +63,11 @@ fn writer_with_room(alloc: Global) -> Result<Memory, AllocError> {
 fn a_play_without_memory(rt: HostRuntime) -> Result<(), Fail> {
     let mut out = writer_with_room(rt.alloc())?;
     let (setup, script) = (MAJORITY.as_bytes(), SCRIPT.as_bytes());
-    let ended = play(rt.alloc(), setup, &mut Bytes::new(script), &mut out);
+    let ended = play::<RunOfSetup, _, _>(rt.alloc(), setup, &mut Bytes::new(script), &mut out);
     if ended.is_err() {
         assert_eq!(rt; ended, Err(PlayFault::NoMemory));
         assert_eq!(rt; out.held.len(), 0);
-        let ended = play(rt.alloc(), setup, &mut Bytes::new(script), &mut out);
+        let ended = play::<RunOfSetup, _, _>(rt.alloc(), setup, &mut Bytes::new(script), &mut out);
         assert_eq!(rt; ended, Ok(()));
     }
     assert_eq!(rt; str::from_utf8(out.held.as_slice()), Ok(TRANSCRIPT));
@@ -108,7 +109,7 @@ fn race_once<R: Threads + Wait + Sync + AllocGlobal>(
     if !fits(&parts, scripts.len()) {
         return Ok(());
     }
-    race(rt, rt.alloc(), setup, 0, scripts, out)
+    race::<RunOfSetup, _, _>(rt, rt.alloc(), setup, 0, scripts, out)
 }
 
 /// Runs the race, and once more where memory was out or a thread was not started, which has written nothing.

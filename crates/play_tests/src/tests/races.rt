@@ -4,7 +4,9 @@ ghost use Rattle.std.specs.Prelude.{◌≡◌, ◌≤◌, IfOk, vec_len};
 
 use super::setups::{MAJORITY, ONE_PROCESS};
 use super::writer;
+use cdb_any_run::RunOfSetup;
 use cdb_play::{fits, race, race_with};
+use cdb_rules::Runs;
 use cdb_setup::Setup;
 use cdb_shared::{Gate, Seat};
 use std::alloc::{AllocError, Global};
@@ -38,7 +40,7 @@ fn text_of_race<R: Threads + Wait + Sync + AllocGlobal>(
     let setup = setup.as_bytes();
     let parts = Setup::read(rt.alloc(), setup)?;
     if fits(&parts, scripts.len()) {
-        race(rt, rt.alloc(), setup, turns, scripts, &mut out)?;
+        race::<RunOfSetup, _, _>(rt, rt.alloc(), setup, turns, scripts, &mut out)?;
     }
     Ok(out.held)
 }
@@ -102,7 +104,7 @@ struct Crossing<'a> {
 }
 
 impl Gate for Crossing<'_> {
-    fn before(&mut self, call: u32, _seat: &Seat) -> bool {
+    fn before<T: Runs>(&mut self, call: u32, _seat: &Seat<T>) -> bool {
         let Some((_, other)) = self.flags else {
             return true;
         };
@@ -118,7 +120,7 @@ impl Gate for Crossing<'_> {
         false
     }
 
-    fn after(&mut self, call: u32, _seat: &Seat) {
+    fn after<T: Runs>(&mut self, call: u32, _seat: &Seat<T>) {
         if let Some((mine, _)) = self.flags
             && call == 1
         {
@@ -166,7 +168,7 @@ fn do_cross<R: Threads + Wait + Sync + AllocGlobal>(
         return Ok(false);
     }
     let mut out = writer(rt, 1_000);
-    race_with(rt, alloc, setup, turns, scripts.as_slice(), gates, &mut out)?;
+    race_with::<RunOfSetup, _, _, _>(rt, alloc, setup, turns, scripts.as_slice(), gates, &mut out)?;
     Ok(out.held.as_slice().ends_with(AGREE.as_bytes()))
 }
 

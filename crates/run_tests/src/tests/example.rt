@@ -2,13 +2,14 @@
 //! what the run holds.
 
 ghost use Rattle.std.specs.Prelude.{◌≡◌, IsTrue};
-ghost use Rattle.cdb_run.specs.Refusals.{IsOfRun};
+ghost use Rattle.cdb_rules.specs.Refusals.{IsOfRun};
 
+use cdb_any_run::AnyRun;
 use cdb_base::{
     Act, Cell, CopyName, Event, Kind, MsgName, NoMemory, Payload, Proc, Refusal, Reg, StepId, Val,
 };
 use cdb_causal::History;
-use cdb_run::{AnyRun, EventRef};
+use cdb_rules::EventRef;
 use cdb_setup::{Algorithm, Setup, SetupFault};
 use smallvec::SmallVec;
 use std::alloc::Global;
@@ -51,7 +52,7 @@ pub struct Example {
 
 impl Model for Example {
     ghost use Rattle.std.specs.Prelude.{⊤};
-    ghost use Rattle.cdb_run.specs.Any.{IsTrueToSetup};
+    ghost use Rattle.cdb_any_run.specs.Any.{IsTrueToSetup};
 
     ghost Value = { ⊤ };
 

@@ -1,7 +1,7 @@
 //! The laws of histories and of agreement.
 
+use cdb_agreement::{agreement, laws};
 use cdb_leader::{Back, Leader};
-use cdb_run::{agreement, laws};
 
 /// Events that do not depend on each other may be exchanged, taken back and taken again.
 #[test]
@@ -29,7 +29,7 @@ fn laws_of_valid_histories() {
     laws::valid_histories_stand::<Leader>();
     laws::losses::<Leader>();
     laws::own_events::<Leader>();
-    laws::undo_with_records::<Leader, Back>();
+    cdb_run::laws::undo_with_records::<Leader, Back>();
     laws::rules_keep_histories();
 }
 

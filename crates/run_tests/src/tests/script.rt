@@ -6,7 +6,7 @@ use super::words::{push_answer, push_causes, push_count, push_refusal};
 use cdb_base::{
     Act, CopyName, Event, Kind, MsgName, NoMemory, Proc, Refusal, Reg, StepId, StepName,
 };
-use cdb_run::EventRef;
+use cdb_rules::EventRef;
 use smallvec::SmallVec;
 use std::process::Abort;
 use std::test::Fail;

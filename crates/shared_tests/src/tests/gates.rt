@@ -1,5 +1,6 @@
 //! Gates of the examples.
 
+use cdb_rules::Runs;
 use cdb_shared::{Gate, Seat};
 use std::sync::atomic::{AtomicBool, Ordering};
 use std::thread;
@@ -9,11 +10,11 @@ use std::thread;
 pub struct Before(pub u32);
 
 impl Gate for Before {
-    fn before(&mut self, call: u32, _seat: &Seat) -> bool {
+    fn before<T: Runs>(&mut self, call: u32, _seat: &Seat<T>) -> bool {
         call < self.0
     }
 
-    fn after(&mut self, _call: u32, _seat: &Seat) {}
+    fn after<T: Runs>(&mut self, _call: u32, _seat: &Seat<T>) {}
 }
 
 /// The gate that always passes.
@@ -26,7 +27,7 @@ pub struct Crossing<'a> {
 }
 
 impl Gate for Crossing<'_> {
-    fn before(&mut self, call: u32, _seat: &Seat) -> bool {
+    fn before<T: Runs>(&mut self, call: u32, _seat: &Seat<T>) -> bool {
         let Some((_, other)) = self.flags else {
             return true;
         };
@@ -42,7 +43,7 @@ impl Gate for Crossing<'_> {
         false
     }
 
-    fn after(&mut self, call: u32, _seat: &Seat) {
+    fn after<T: Runs>(&mut self, call: u32, _seat: &Seat<T>) {
         if let Some((mine, _)) = self.flags {
             if call == 1 {
                 mine.store(true, Ordering::SeqCst);

@@ -4,7 +4,8 @@
 ghost use Rattle.std.specs.Prelude.{◌≡◌, ◌≤◌, All, IfOk};
 ghost use Rattle.cdb_shared.specs.Seats.{RestsAt};
 
-use cdb_control::{Control, Entry, Reply, RunOfSetup};
+use cdb_any_run::RunOfSetup;
+use cdb_control::{Control, Entry, Reply};
 use cdb_setup::Setup;
 use cdb_shared::{Seat, Shared};
 use cdb_text::reply_text;
@@ -44,7 +45,7 @@ pub fn control_of<R: AllocGlobal>(rt: &R, setup: &str) -> Result<Control<RunOfSe
 fn try_share<R: Wait + AllocGlobal>(
     rt: &R,
     control: Control<RunOfSetup>,
-) -> Result<(Shared, Vec<Seat>), Control<RunOfSetup>>
+) -> Result<(Shared<RunOfSetup>, Vec<Seat<RunOfSetup>>), Control<RunOfSetup>>
     ensures { IfOk result (λ r. All (λ seat. RestsAt r.0 seat) r.1.items) }
 {
     match Shared::open(rt, rt.alloc(), control) {
@@ -57,7 +58,7 @@ fn try_share<R: Wait + AllocGlobal>(
 pub fn share<R: Wait + AllocGlobal>(
     rt: &R,
     control: Control<RunOfSetup>,
-) -> Result<(Shared, Vec<Seat>), Fail>
+) -> Result<(Shared<RunOfSetup>, Vec<Seat<RunOfSetup>>), Fail>
     ensures { IfOk result (λ r. All (λ seat. RestsAt r.0 seat) r.1.items) }
 {
     match try_share(rt, control) {

@@ -6,7 +6,8 @@ ghost use Rattle.cdb_shared.specs.Seats.{RestsAt};
 
 use super::gates::{Before, Crossing};
 use super::opening::{control_of, seats_of, share};
-use cdb_control::{CallFault, Command, Control, Reply, RunOfSetup};
+use cdb_any_run::RunOfSetup;
+use cdb_control::{CallFault, Command, Control, Reply};
 use cdb_shared::{End, Seat, Shared, drive, serve};
 use std::alloc::Global;
 use std::marker::Model;
@@ -17,9 +18,9 @@ use std::thread::{self, Threads};
 /// A shared control and its two seats, which rest. Its calls are those of the shared control that it holds.
 #[derive(Drop)]
 pub struct Pair {
-    shared: Shared,
-    first: Seat,
-    second: Seat,
+    shared: Shared<RunOfSetup>,
+    first: Seat<RunOfSetup>,
+    second: Seat<RunOfSetup>,
 }
 
 impl Model for Pair {
@@ -162,7 +163,7 @@ impl Pair {
     }
 
     /// Ends the sharing, and gives the control.
-    fn end<R: Wait>(self, rt: &R, room: Vec<Seat>) -> Control<RunOfSetup>
+    fn end<R: Wait>(self, rt: &R, room: Vec<Seat<RunOfSetup>>) -> Control<RunOfSetup>
         requires { (room.items ≡ []) × (2 ≤ vec_capacity room) }
     {
         let Pair {
@@ -183,7 +184,7 @@ impl Pair {
 }
 
 /// The pair of a shared control and its seats, which are two.
-fn seated(shared: Shared, mut seats: Vec<Seat>) -> Result<Pair, Fail>
+fn seated(shared: Shared<RunOfSetup>, mut seats: Vec<Seat<RunOfSetup>>) -> Result<Pair, Fail>
     requires { All (λ seat. RestsAt shared seat) seats.items }
 {
     let Some(second) = seats.pop() else {
@@ -200,7 +201,13 @@ fn seated(shared: Shared, mut seats: Vec<Seat>) -> Result<Pair, Fail>
 }
 
 /// Asks twice for the decisions, behind a gate.
-fn ask_twice<R: Wait>(shared: &Shared, rt: &R, alloc: Global, seat: Seat, gate: Crossing) -> End
+fn ask_twice<R: Wait>(
+    shared: &Shared<RunOfSetup>,
+    rt: &R,
+    alloc: Global,
+    seat: Seat<RunOfSetup>,
+    gate: Crossing,
+) -> End
     requires { RestsAt shared.now seat }
 {
     let commands = [Command::Decisions, Command::Decisions];
@@ -209,7 +216,7 @@ fn ask_twice<R: Wait>(shared: &Shared, rt: &R, alloc: Global, seat: Seat, gate: 
 }
 
 /// Room for both seats, at the second try if an allocation fails in the first.
-fn room_for_two<R: AllocGlobal>(rt: &R) -> Result<Vec<Seat>, Fail>
+fn room_for_two<R: AllocGlobal>(rt: &R) -> Result<Vec<Seat<RunOfSetup>>, Fail>
     ensures { IfOk result (λ seats. (seats.items ≡ []) × (2 ≤ vec_capacity seats)) }
 {
     match Vec::with_capacity(rt.alloc(), 2) {
@@ -219,7 +226,12 @@ fn room_for_two<R: AllocGlobal>(rt: &R) -> Result<Vec<Seat>, Fail>
 }
 
 /// Both seats, which rest.
-fn gathered(shared: &Shared, first: Seat, second: Seat, room: Vec<Seat>) -> Vec<Seat>
+fn gathered(
+    shared: &Shared<RunOfSetup>,
+    first: Seat<RunOfSetup>,
+    second: Seat<RunOfSetup>,
+    room: Vec<Seat<RunOfSetup>>,
+) -> Vec<Seat<RunOfSetup>>
     requires first { RestsAt shared.now first }
     requires second { RestsAt shared.now second }
     requires room { (room.items ≡ []) × (2 ≤ vec_capacity room) }

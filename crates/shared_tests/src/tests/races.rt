@@ -2,6 +2,7 @@
 
 use super::gates::Crossing;
 use super::opening::{ALONE, ONE_LEADER, try_setup};
+use cdb_any_run::RunOfSetup;
 use cdb_base::{Proc, Val};
 use cdb_control::{Command, Reply, Runs};
 use cdb_race::{RaceFault, Raced, Script, race};
@@ -30,7 +31,7 @@ fn counts(alloc: Global, replies: &[Vec<Reply>]) -> Result<Vec<usize>, AllocErro
     Ok(counts)
 }
 
-fn outcome_of(alloc: Global, raced: &Raced) -> Result<Outcome, Fail> {
+fn outcome_of(alloc: Global, raced: &Raced<RunOfSetup>) -> Result<Outcome, Fail> {
     let decisions = raced.control.run().decisions(alloc)?;
     let replies = counts(alloc, &raced.replies)?;
     Ok(Outcome {
@@ -47,7 +48,7 @@ fn run<R: Threads + Wait + Sync + Abort + AllocGlobal>(
     turns: u32,
     scripts: &[Script],
     gates: Vec<Crossing>,
-) -> Result<Raced, RaceFault> {
+) -> Result<Raced<RunOfSetup>, RaceFault> {
     assert!(rt; setup.n() <= 9 && scripts.len() <= 9);
     assert!(rt; gates.len() == usize::from(setup.n()) + scripts.len());
     race(rt, rt.alloc(), setup, turns, scripts, gates)

@@ -1,7 +1,7 @@
 use Rattle.std.proofs.Common.{refl, inl, sym, subst}
 use Rattle.std.proofs.lemmas.Result.{err_from_is_err_and}
 use Rattle.cdb_draw.specs.Picture.{picture_text}
-use Rattle.cdb_run.specs.Algorithms.{rules}
+use Rattle.cdb_rules.specs.Algorithms.{rules}
 use Rattle.cdb_draw.proofs.Drawing.{wrote_in_one}
 use Rattle.cdb_draw.proofs.draws.draw_run.Goals as goal
 

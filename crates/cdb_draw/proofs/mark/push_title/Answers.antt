@@ -1,7 +1,7 @@
 use Rattle.std.specs.Prelude.{List, codes, string_bytes, ℕ, ◌++◌, ◌≡◌}
 use Rattle.cdb_draw.specs.EventMarks.{title_text}
 use Rattle.cdb_explain.specs.Explanations.{whole_text}
-use Rattle.cdb_run.specs.Algorithms.{rules}
+use Rattle.cdb_rules.specs.Algorithms.{rules}
 use Rattle.cdb_draw.proofs.Pushing.{last, next}
 use Rattle.cdb_draw.proofs.mark.push_title.Goals as goal
 

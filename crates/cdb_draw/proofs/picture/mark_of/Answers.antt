@@ -2,8 +2,8 @@ use Rattle.std.proofs.Common.{◌≡◌, ◌<◌, ℕ, Bool, false, List, ◌++�
 use Rattle.cdb_base.specs.declared.event.Event.{Event}
 use Rattle.cdb_causal.specs.Standing.{IsStanding}
 use Rattle.cdb_explain.proofs.Marking.{mark_read}
-use Rattle.cdb_run.specs.Algorithms.{rules}
-use Rattle.cdb_run.specs.Current.{RunView}
+use Rattle.cdb_rules.specs.Algorithms.{rules}
+use Rattle.cdb_rules.specs.RunView.{RunView}
 use Rattle.cdb_draw.specs.EventMarks.{mark_text}
 use Rattle.cdb_draw.proofs.LastMarks.{mark_of_last}
 use Rattle.cdb_draw.proofs.picture.mark_of.Goals as goal

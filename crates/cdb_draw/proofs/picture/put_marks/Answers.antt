@@ -8,8 +8,8 @@ use Rattle.cdb_play.specs.Buffers.{IsPut}
 use Rattle.cdb_explain.proofs.Along.{next_along, next_valid}
 use Rattle.cdb_play.specs.declared.buffer.OutputFault.TheVariants.{NoMemory}
 use Rattle.cdb_play.proofs.Putting.{put_nothing, puts_nothing}
-use Rattle.cdb_run.specs.Algorithms.{rules}
-use Rattle.cdb_run.specs.Current.{RunView}
+use Rattle.cdb_rules.specs.Algorithms.{rules}
+use Rattle.cdb_rules.specs.RunView.{RunView}
 use Rattle.cdb_draw.proofs.Parted.{cut_one, put_one}
 use Rattle.cdb_draw.proofs.picture.put_marks.Goals as goal
 

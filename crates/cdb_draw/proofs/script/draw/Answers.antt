@@ -1,5 +1,5 @@
 use Rattle.cdb_play.specs.Left.{run_of}
-use Rattle.cdb_run.specs.Algorithms.{rules}
+use Rattle.cdb_rules.specs.Algorithms.{rules}
 use Rattle.cdb_explain.proofs.Answered.{is_no_setup, reads_none, no_err}
 use Rattle.cdb_draw.specs.Drawn.{Draws, IsPictureFor}
 use Rattle.cdb_draw.proofs.Ended.{fault_left, writes_of_kind}

@@ -2,8 +2,8 @@ use Rattle.std.proofs.Common.{◌∙◌, ℕ, List, ap, subst}
 use Rattle.std.proofs.lemmas.Result.{err_from_is_err_and}
 use Rattle.cdb_base.specs.declared.event.Event.{Event}
 use Rattle.cdb_play.specs.Left.{run_of}
-use Rattle.cdb_run.specs.Algorithms.{rules}
-use Rattle.cdb_run.specs.Current.{RunView}
+use Rattle.cdb_rules.specs.Algorithms.{rules}
+use Rattle.cdb_rules.specs.RunView.{RunView}
 use Rattle.cdb_draw.specs.Drawn.{IsPictureFor, IsPlaceFor}
 use Rattle.cdb_draw.specs.Picture.{IsPicture}
 use Rattle.cdb_draw.proofs.Ended.{as_play}

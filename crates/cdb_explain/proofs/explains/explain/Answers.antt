@@ -1,6 +1,6 @@
 use Rattle.std.proofs.Common.{ℕ, List, sym, subst}
-use Rattle.cdb_run.specs.Algorithms.{rules}
-use Rattle.cdb_run.specs.Current.{RunView}
+use Rattle.cdb_rules.specs.Algorithms.{rules}
+use Rattle.cdb_rules.specs.RunView.{RunView}
 use Rattle.cdb_play.specs.Left.{Leaves}
 use Rattle.cdb_explain.specs.Explained.{Explains}
 use Rattle.cdb_explain.specs.Explanations.{IsStepExplained}

@@ -1,5 +1,5 @@
 use Rattle.std.proofs.Common.{ap, ◌∙◌}
-use Rattle.cdb_run.specs.Algorithms.{rules}
+use Rattle.cdb_rules.specs.Algorithms.{rules}
 use Rattle.cdb_explain.specs.Explanations.{lines_text}
 use Rattle.cdb_explain.proofs.lines.explanation.Goals as goal
 

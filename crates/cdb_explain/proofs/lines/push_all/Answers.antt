@@ -1,7 +1,7 @@
 use Rattle.std.proofs.Common.{ℕ, List, ◌++◌, length, string_bytes, ap, append_assoc, ◌∙◌}
 use Rattle.std.specs.List.{flat_map}
-use Rattle.cdb_run.specs.Algorithms.{rules}
-use Rattle.cdb_run.specs.Current.{RunView}
+use Rattle.cdb_rules.specs.Algorithms.{rules}
+use Rattle.cdb_rules.specs.RunView.{RunView}
 use Rattle.cdb_explain.specs.Explanations.{count_text, line_at}
 use Rattle.cdb_explain.specs.Marked.{marked_of_first}
 use Rattle.cdb_explain.proofs.lines.push_all.Goals as goal

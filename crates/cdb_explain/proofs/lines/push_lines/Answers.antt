@@ -1,8 +1,8 @@
 use Rattle.std.proofs.Common.{◌≡◌, ℕ, ◌+◌, ◌<◌, List, length, Some, slice_get, string_bytes, IsTrue, true, false, sym, ap, ◌∙◌, subst, arith}
 use Rattle.cdb_base.specs.declared.event.Event.{Event}
 use Rattle.cdb_causal.specs.Standing.{IsStanding}
-use Rattle.cdb_run.specs.Algorithms.{rules}
-use Rattle.cdb_run.specs.Current.{RunView}
+use Rattle.cdb_rules.specs.Algorithms.{rules}
+use Rattle.cdb_rules.specs.RunView.{RunView}
 use Rattle.cdb_explain.specs.Explanations.{line_at, line_text}
 use Rattle.cdb_explain.proofs.Along.{next_valid, next_along, its_line}
 use Rattle.cdb_explain.proofs.Marking.{count_more, mark_read, text_more, text_same, unmarked_more}

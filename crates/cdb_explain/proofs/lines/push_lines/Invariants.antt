@@ -1,7 +1,7 @@
 use Rattle.std.proofs.Common.{◌≡◌, ◌++◌, ◌≤◌, length, string_bytes, take}
 use Rattle.std.specs.List.{flat_map}
-use Rattle.cdb_run.specs.Algorithms.{rules}
-use Rattle.cdb_run.specs.Runs.{with_history}
+use Rattle.cdb_rules.specs.Algorithms.{rules}
+use Rattle.cdb_rules.specs.Runs.{with_history}
 use Rattle.cdb_explain.specs.Explanations.{line_at}
 use Rattle.cdb_explain.specs.Marked.{marked_of_first}
 use Rattle.cdb_explain.proofs.lines.push_lines.Given as goal

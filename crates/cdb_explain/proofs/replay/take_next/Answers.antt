@@ -1,6 +1,6 @@
 use Rattle.std.proofs.Common.{sym, ap, ◌∙◌, subst, is_ok, true≢false}
 use Rattle.cdb_setup.specs.Parts.{AreInRange}
-use Rattle.cdb_run.specs.Runs.{with_answer}
+use Rattle.cdb_rules.specs.Runs.{with_answer}
 use Rattle.cdb_explain.proofs.OfRun.{next_of_run, taken_again}
 use Rattle.cdb_explain.proofs.replay.take_next.Goals as goal
 

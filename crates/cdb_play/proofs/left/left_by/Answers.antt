@@ -1,5 +1,4 @@
 use Rattle.std.proofs.Common.{ap, arith}
-use Rattle.cdb_run.specs.Algorithms.{rules}
 use Rattle.cdb_play.specs.Left.{run_of}
 use Rattle.std.proofs.lemmas.Result.{err_from_is_err_and}
 use Rattle.cdb_play.proofs.WholeTexts.{no_failed_write, setup_writes_none, reading_writes_none, script_writes_none}
@@ -17,7 +16,7 @@ returns-clause-left g c =
         stands = c.in_ok-setup.ensures.found;
         short = rw c.as_slice.ensures.value at found.short;
         lines = rw c.as_slice.ensures.value at found.commands;
-        is = ap (run_of rules) (rw c.as_slice-2.ensures.value at c.in_ok-control.ensures);
+        is = ap (run_of g.T.Runs.rules) (rw c.as_slice-2.ensures.value at c.in_ok-control.ensures);
       },
     )
 

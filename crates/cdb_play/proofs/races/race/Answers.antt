@@ -1,6 +1,6 @@
 use Rattle.std.proofs.Common.{Ok, refl, sym, subst}
 use Rattle.std.proofs.lemmas.Result.{err_from_is_err_and, IfErr-weaker}
-use Rattle.cdb_run.specs.Agreement.{HasMajorityIfNeeded}
+use Rattle.cdb_rules.specs.Agreement.{HasMajorityIfNeeded}
 use Rattle.cdb_play.specs.Races.{bytes_of, IsTextOnSetup, IsTextOfRace}
 use Rattle.cdb_play.proofs.Ending.{race_unwritten_setup, race_writes_weaker}
 use Rattle.cdb_play.proofs.RunningFaults.{of_race, of_setup_read}
@@ -17,7 +17,7 @@ pub returns-clause-wrote : goal.returns-clause-wrote
 returns-clause-wrote g c =
     let parts = c.in_ok-parts.parts in
     let scripts = bytes_of c.args.scripts.now in
-    race_writes_weaker g.W.Sink.contents g.W.Sink.failures _ (IsTextOnSetup parts c.args.turns scripts) c.race_on.result c.args.out.now c.race_on.new.out (IsTextOfRace c.args.setup.now c.args.turns scripts)
+    race_writes_weaker g.W.Sink.contents g.W.Sink.failures _ (IsTextOnSetup g.T.Runs.rules parts c.args.turns scripts) c.race_on.result c.args.out.now c.race_on.new.out (IsTextOfRace g.T.Runs.rules c.args.setup.now c.args.turns scripts)
     (λ text is. (parts, c.in_ok-parts.ensures.found, is)) c.race_on.ensures.wrote
 
 pub returns-clause-fault : goal.returns-clause-fault

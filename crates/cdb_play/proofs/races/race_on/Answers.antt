@@ -21,8 +21,8 @@ pub returns-clause-wrote : goal.returns-clause-wrote
 returns-clause-wrote g c =
     let commands = c.in_ok-commands.commands.items in
     let scripts = bytes_of c.args.scripts.now in
-    race_writes_weaker g.W.Sink.contents g.W.Sink.failures _ (IsTextOfCommands c.args.setup c.args.turns commands) c.run_race.result c.args.out.now c.run_race.new.out (IsTextOnSetup c.args.setup c.args.turns scripts)
-    (of_scripts c.args.setup c.args.turns scripts commands c.in_ok-commands.ensures.read) (rw c.as_slice.ensures.value at c.run_race.ensures.wrote)
+    race_writes_weaker g.W.Sink.contents g.W.Sink.failures _ (IsTextOfCommands g.T.Runs.rules c.args.setup c.args.turns commands) c.run_race.result c.args.out.now c.run_race.new.out (IsTextOnSetup g.T.Runs.rules c.args.setup c.args.turns scripts)
+    (of_scripts g.T.Runs.rules c.args.setup c.args.turns scripts commands c.in_ok-commands.ensures.read) (rw c.as_slice.ensures.value at c.run_race.ensures.wrote)
 
 pub returns-clause-fault : goal.returns-clause-fault
 returns-clause-fault g c =
@@ -42,5 +42,5 @@ returns-in_err-commands-clause-told g c =
 pub returns-clause-told : goal.returns-clause-told
 returns-clause-told g c =
     let commands = c.in_ok-commands.commands.items in
-    both c.run_race.result _ _ _ (unstopped_on_setup _ _ c.args.turns _ c.args.setup commands (bytes_of c.args.scripts.now) c.in_ok-commands.ensures.read)
+    both c.run_race.result _ _ _ (unstopped_on_setup _ _ _ _ c.args.turns _ c.args.setup commands (bytes_of c.args.scripts.now) c.in_ok-commands.ensures.read)
     (rw c.as_slice.ensures.value at c.run_race.ensures.told) (c.run_race.ensures.passes (λ k gate low. refl))

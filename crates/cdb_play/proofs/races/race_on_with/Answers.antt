@@ -20,8 +20,8 @@ pub returns-clause-wrote : goal.returns-clause-wrote
 returns-clause-wrote g c =
     let commands = c.in_ok-commands.commands.items in
     let scripts = bytes_of c.args.scripts.now in
-    race_writes_weaker g.W.Sink.contents g.W.Sink.failures _ (IsTextOfCommands c.args.setup c.args.turns commands) c.run_race.result c.args.out.now c.run_race.new.out (IsTextOnSetup c.args.setup c.args.turns scripts)
-    (of_scripts c.args.setup c.args.turns scripts commands c.in_ok-commands.ensures.read) (rw c.as_slice.ensures.value at c.run_race.ensures.wrote)
+    race_writes_weaker g.W.Sink.contents g.W.Sink.failures _ (IsTextOfCommands g.T.Runs.rules c.args.setup c.args.turns commands) c.run_race.result c.args.out.now c.run_race.new.out (IsTextOnSetup g.T.Runs.rules c.args.setup c.args.turns scripts)
+    (of_scripts g.T.Runs.rules c.args.setup c.args.turns scripts commands c.in_ok-commands.ensures.read) (rw c.as_slice.ensures.value at c.run_race.ensures.wrote)
 
 pub returns-clause-fault : goal.returns-clause-fault
 returns-clause-fault g c =
@@ -37,7 +37,7 @@ pub returns-in_err-commands-clause-told : goal.returns-in_err-commands-clause-to
 returns-in_err-commands-clause-told g c =
     let p = err_from_is_err_and c.from_residual.result c.from_residual.ensures.1 in
     rw (p.1, p.2)
-    (told_of_reading g.G.Gate.heard g.G.Gate.passes c.args.turns c.args.gates.items c.args.setup (bytes_of c.args.scripts.now) c.in_err-commands.field-0.0 c.in_err-commands.ensures.fault)
+    (told_of_reading g.row.T.Denot g.T.Runs.rules g.G.Gate.heard g.G.Gate.passes c.args.turns c.args.gates.items c.args.setup (bytes_of c.args.scripts.now) c.in_err-commands.field-0.0 c.in_err-commands.ensures.fault)
 
 pub returns-in_err-commands-clause-passes : goal.returns-in_err-commands-clause-passes
 returns-in_err-commands-clause-passes g c = λ all.
@@ -47,5 +47,5 @@ returns-in_err-commands-clause-passes g c = λ all.
 pub returns-clause-told : goal.returns-clause-told
 returns-clause-told g c =
     let commands = c.in_ok-commands.commands.items in
-    IfErr-weaker c.run_race.result _ _ (told_on_setup g.G.Gate.heard g.G.Gate.passes c.args.turns c.args.gates.items c.args.setup commands (bytes_of c.args.scripts.now) c.in_ok-commands.ensures.read)
+    IfErr-weaker c.run_race.result _ _ (told_on_setup g.row.T.Denot g.T.Runs.rules g.G.Gate.heard g.G.Gate.passes c.args.turns c.args.gates.items c.args.setup commands (bytes_of c.args.scripts.now) c.in_ok-commands.ensures.read)
     (rw c.as_slice.ensures.value at c.run_race.ensures.told)

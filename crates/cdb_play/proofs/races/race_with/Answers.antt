@@ -1,6 +1,6 @@
 use Rattle.std.proofs.Common.{Ok, refl, sym, subst}
 use Rattle.std.proofs.lemmas.Result.{err_from_is_err_and, IfErr-weaker}
-use Rattle.cdb_run.specs.Agreement.{HasMajorityIfNeeded}
+use Rattle.cdb_rules.specs.Agreement.{HasMajorityIfNeeded}
 use Rattle.cdb_play.specs.Races.{bytes_of, IsTextOnSetup, IsTextOfRace}
 use Rattle.cdb_play.proofs.Ending.{race_unwritten_setup, race_writes_weaker}
 use Rattle.cdb_play.proofs.RunningFaults.{of_race, of_setup_read}
@@ -17,7 +17,7 @@ pub returns-clause-wrote : goal.returns-clause-wrote
 returns-clause-wrote g c =
     let parts = c.in_ok-parts.parts in
     let scripts = bytes_of c.args.scripts.now in
-    race_writes_weaker g.W.Sink.contents g.W.Sink.failures _ (IsTextOnSetup parts c.args.turns scripts) c.race_on_with.result c.args.out.now c.race_on_with.new.out (IsTextOfRace c.args.setup.now c.args.turns scripts)
+    race_writes_weaker g.W.Sink.contents g.W.Sink.failures _ (IsTextOnSetup g.T.Runs.rules parts c.args.turns scripts) c.race_on_with.result c.args.out.now c.race_on_with.new.out (IsTextOfRace g.T.Runs.rules c.args.setup.now c.args.turns scripts)
     (λ text is. (parts, c.in_ok-parts.ensures.found, is)) c.race_on_with.ensures.wrote
 
 pub returns-clause-fault : goal.returns-clause-fault
@@ -37,7 +37,7 @@ returns-in_err-parts-clause-agree g c = λ parts stands majority.
 pub returns-in_err-parts-clause-told : goal.returns-in_err-parts-clause-told
 returns-in_err-parts-clause-told g c =
     let p = err_from_is_err_and c.from_residual.result c.from_residual.ensures.1 in
-    rw (p.1, p.2) (told_of_setup g.G.Gate.heard g.G.Gate.passes c.args.turns c.args.gates.items c.args.setup.now (bytes_of c.args.scripts.now) c.in_err-parts.field-0.0)
+    rw (p.1, p.2) (told_of_setup g.row.T.Denot g.T.Runs.rules g.G.Gate.heard g.G.Gate.passes c.args.turns c.args.gates.items c.args.setup.now (bytes_of c.args.scripts.now) c.in_err-parts.field-0.0)
 
 pub returns-clause-agree : goal.returns-clause-agree
 returns-clause-agree g c = λ parts stands majority.
@@ -45,7 +45,7 @@ returns-clause-agree g c = λ parts stands majority.
     c.race_on_with.ensures.agree (subst HasMajorityIfNeeded (sym (same_setup (Ok found) found parts refl (c.in_ok-parts.ensures.only parts stands))) majority)
 
 pub returns-clause-told : goal.returns-clause-told
-returns-clause-told g c = IfErr-weaker c.race_on_with.result _ _ (told_of_race g.G.Gate.heard g.G.Gate.passes c.args.turns c.args.gates.items c.args.setup.now c.in_ok-parts.parts (bytes_of c.args.scripts.now) c.in_ok-parts.ensures.found) c.race_on_with.ensures.told
+returns-clause-told g c = IfErr-weaker c.race_on_with.result _ _ (told_of_race g.row.T.Denot g.T.Runs.rules g.G.Gate.heard g.G.Gate.passes c.args.turns c.args.gates.items c.args.setup.now c.in_ok-parts.parts (bytes_of c.args.scripts.now) c.in_ok-parts.ensures.found) c.race_on_with.ensures.told
 
 pub returns-in_err-parts-clause-passes : goal.returns-in_err-parts-clause-passes
 returns-in_err-parts-clause-passes g c = λ all.

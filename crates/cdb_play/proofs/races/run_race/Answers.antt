@@ -25,9 +25,9 @@ returns-in_err-write_race-clause-wrote g c =
     let p = err_from_is_err_and c.from_residual-in_err-write_race.result c.from_residual-in_err-write_race.ensures.1 in
     let raced = c.in_ok-raced.raced in
     let same =
-    text_of_replies c.args.setup c.args.turns c.args.scripts.now raced.control raced.replies.items c.deref.result.now c.from-processes.result c.deref.ensures.value (c.from-processes.ensures ∙ c.n.ensures.value) c.in_ok-raced.ensures.raced in
+    text_of_replies g.T.Runs.rules c.args.setup c.args.turns c.args.scripts.now raced.control raced.replies.items c.deref.result.now c.from-processes.result c.deref.ensures.value (c.from-processes.ensures ∙ c.n.ensures.value) c.in_ok-raced.ensures.raced in
     rw (p.1, p.2)
-    (race_wrote g.W.Sink.contents g.W.Sink.failures (Unit {0}) (IsTextOfCommands c.args.setup c.args.turns c.args.scripts.now) c.in_err-write_race.field-0.0 c.args.out.now c.write_race.new.out _ (raced.control, all_told raced.replies.items, c.in_ok-raced.ensures.raced, same) c.in_err-write_race.ensures)
+    (race_wrote g.W.Sink.contents g.W.Sink.failures (Unit {0}) (IsTextOfCommands g.T.Runs.rules c.args.setup c.args.turns c.args.scripts.now) c.in_err-write_race.field-0.0 c.args.out.now c.write_race.new.out _ (raced.control, all_told raced.replies.items, c.in_ok-raced.ensures.raced, same) c.in_err-write_race.ensures)
 
 pub returns-in_err-write_race-clause-fault : goal.returns-in_err-write_race-clause-fault
 returns-in_err-write_race-clause-fault g c =
@@ -38,14 +38,14 @@ pub returns-clause-wrote : goal.returns-clause-wrote
 returns-clause-wrote g c =
     let raced = c.in_ok-raced.raced in
     let same =
-    text_of_replies c.args.setup c.args.turns c.args.scripts.now raced.control raced.replies.items c.deref.result.now c.from-processes.result c.deref.ensures.value (c.from-processes.ensures ∙ c.n.ensures.value) c.in_ok-raced.ensures.raced in
+    text_of_replies g.T.Runs.rules c.args.setup c.args.turns c.args.scripts.now raced.control raced.replies.items c.deref.result.now c.from-processes.result c.deref.ensures.value (c.from-processes.ensures ∙ c.n.ensures.value) c.in_ok-raced.ensures.raced in
     (_, (raced.control, all_told raced.replies.items, c.in_ok-raced.ensures.raced, same), c.in_ok-write_race.ensures)
 
 pub returns-clause-agree : goal.returns-clause-agree
 returns-clause-agree g c = λ majority.
     let raced = c.in_ok-raced.raced in
     let said = c.in_ok-raced.ensures in
-    (_, ends_in_agreement _ (last_decisions raced.control) (agrees raced.control c.args.setup said.raced.setup_is said.headline majority), c.in_ok-write_race.ensures)
+    (_, ends_in_agreement _ (last_decisions g.T.Runs.rules raced.control) (agrees g.T.Runs.rules g.T.Runs.same_state raced.control c.args.setup said.raced.setup_is said.headline majority), c.in_ok-write_race.ensures)
 
 pub returns-in_err-raced-clause-agree : goal.returns-in_err-raced-clause-agree
 returns-in_err-raced-clause-agree g c = λ majority.
@@ -62,12 +62,12 @@ returns-in_err-raced-clause-told g c =
     let p = err_from_is_err_and c.from_residual-in_err-raced.result c.from_residual-in_err-raced.ensures.1 in
     let said = c.in_err-raced.ensures in
     rw (p.1, p.2)
-    (told_of_threads g.G.Gate.heard g.G.Gate.passes c.args.turns c.args.gates.items c.args.setup c.args.scripts.now c.in_err-raced.field-0.0 (λ is. said.most (ap (λ (f : ThreadFault). Err f) is)) said.told)
+    (told_of_threads g.row.T.Denot g.T.Runs.rules g.G.Gate.heard g.G.Gate.passes c.args.turns c.args.gates.items c.args.setup c.args.scripts.now c.in_err-raced.field-0.0 (λ is. said.most (ap (λ (f : ThreadFault). Err f) is)) said.told)
 
 pub returns-in_err-write_race-clause-told : goal.returns-in_err-write_race-clause-told
 returns-in_err-write_race-clause-told g c =
     let p = err_from_is_err_and c.from_residual-in_err-write_race.result c.from_residual-in_err-write_race.ensures.1 in
-    rw (p.1, p.2) (told_of_writing g.G.Gate.heard g.G.Gate.passes c.args.turns c.args.gates.items c.args.setup c.args.scripts.now c.in_err-write_race.field-0.0)
+    rw (p.1, p.2) (told_of_writing g.row.T.Denot g.T.Runs.rules g.G.Gate.heard g.G.Gate.passes c.args.turns c.args.gates.items c.args.setup c.args.scripts.now c.in_err-write_race.field-0.0)
 
 pub returns-in_err-raced-clause-passes : goal.returns-in_err-raced-clause-passes
 returns-in_err-raced-clause-passes g c = λ all.

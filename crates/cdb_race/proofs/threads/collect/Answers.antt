@@ -13,7 +13,7 @@ use Rattle.cdb_race.proofs.Finishes.{ends_well, finished}
 use Rattle.cdb_race.proofs.threads.collect.Goals as goal
 
 pub loop-ran-init : goal.loop-ran-init
-loop-ran-init c = record {
+loop-ran-init g c = record {
   rans = λ plan seats same all. all;
   clean = λ none. none;
   left = ([], sym (append-nil c.args.rans.items));
@@ -25,7 +25,7 @@ loop-ran-init c = record {
 }
 
 pub loop-ran-preserved : goal.loop-ran-preserved
-loop-ran-preserved c =
+loop-ran-preserved g c =
     let was = c.loop-ran.invariant in
     let all = c.args.rans.items in
     let many = vec_len c.args.rans in
@@ -43,19 +43,19 @@ loop-ran-preserved c =
     let at : length all - 1 - length c.loop-ran.seats.items ≡ length c.pop.new.self.items = omega (arith, c.args.rans.ok.0, was.count, left, front, seats_now) in
     record {
       left = (ran ∷ was.left.0, whole);
-      clean = λ none. (each_front (λ (k : ℕ) (r : Ran). fault_in r ≡ None) _ _ _ popped (was.clean none)).0;
-      rans = λ plan before same outcomes. (each_front (λ (k : ℕ) (r : Ran). (b : SeatView) → HasRan plan (get_or before (length before - 1 - k) b) r) _ _ _ popped (was.rans plan before same outcomes)).0;
+      clean = λ none. (each_front (λ (k : ℕ) (r : Ran g.row.T.Denot). fault_in r ≡ None) _ _ _ popped (was.clean none)).0;
+      rans = λ plan before same outcomes. (each_front (λ (k : ℕ) (r : Ran g.row.T.Denot). (b : SeatView) → HasRan g.T.Runs.rules plan (get_or before (length before - 1 - k) b) r) _ _ _ popped (was.rans plan before same outcomes)).0;
       count = omega (arith, left, seats.len, was.count);
       answered = omega (arith, seats.len, answered.len, was.answered);
       room = (omega (arith, seats.capacity, was.room.0), omega (arith, answered.capacity, was.room.1));
       gathered = λ k seat other low.
           each_push (λ (i : ℕ) (s : SeatView). s ≡ (get_or all (length all - 1 - i) other).seat) c.loop-ran.seats.items _ ran.seat seats.items (λ i s below. was.gathered i s other below)
-          (ap (λ (r : Ran). r.seat) (sym (get_or-middle c.pop.new.self.items was.left.0 all ran other _ whole at))) k seat low;
+          (ap (λ (r : Ran g.row.T.Denot). r.seat) (sym (get_or-middle c.pop.new.self.items was.left.0 all ran other _ whole at))) k seat low;
       each = λ plan before same outcomes none.
-          let clean = (each_front (λ (k : ℕ) (r : Ran). fault_in r ≡ None) _ _ _ popped (was.clean none)).1 in
-          let one = (each_front (λ (k : ℕ) (r : Ran). (b : SeatView) → HasRan plan (get_or before (length before - 1 - k) b) r) _ _ _ popped (was.rans plan before same outcomes)).1 in
+          let clean = (each_front (λ (k : ℕ) (r : Ran g.row.T.Denot). fault_in r ≡ None) _ _ _ popped (was.clean none)).1 in
+          let one = (each_front (λ (k : ℕ) (r : Ran g.row.T.Denot). (b : SeatView) → HasRan g.T.Runs.rules plan (get_or before (length before - 1 - k) b) r) _ _ _ popped (was.rans plan before same outcomes)).1 in
           let place : length before - 1 - length c.pop.new.self.items ≡ length c.loop-ran.seats.items = omega (arith, same, was.count, left, front, seats_now) in
           let long : length (all_told c.loop-ran.answered.items) ≡ length c.loop-ran.seats.items = length-map c.loop-ran.answered.items _ ∙ omega (arith, was.answered, seats_now, answered_now) in
-          pair_push (λ (k : ℕ) (s : SeatView) (a : List Answer). (b : SeatView) → HasFinished plan (get_or before k b) s a) c.loop-ran.seats.items _ (all_told c.loop-ran.answered.items) _ ran.seat tells seats.items told_more long (was.each plan before same outcomes none)
-          (λ b. subst (λ n. HasFinished plan (get_or before n b) ran.seat tells) place (finished plan _ ran.seat tells ran.end (ends_well _ _ clean) (one b)));
+          pair_push (λ (k : ℕ) (s : SeatView) (a : List Answer). (b : SeatView) → HasFinished g.T.Runs.rules plan (get_or before k b) s a) c.loop-ran.seats.items _ (all_told c.loop-ran.answered.items) _ ran.seat tells seats.items told_more long (was.each plan before same outcomes none)
+          (λ b. subst (λ n. HasFinished g.T.Runs.rules plan (get_or before n b) ran.seat tells) place (finished g.T.Runs.rules plan _ ran.seat tells ran.end (ends_well _ _ clean) (one b)));
     }

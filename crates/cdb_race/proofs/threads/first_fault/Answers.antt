@@ -2,7 +2,7 @@ use Rattle.std.proofs.Common.{◌-◌, ◌∙◌, rules, sym, arith}
 use Rattle.cdb_race.proofs.threads.first_fault.Goals as goal
 
 pub returns-in-Some : goal.returns-in-Some
-returns-in-Some c =
+returns-in-Some g c =
     let before = c.loop-place.auto.place in
     let test = c.loop-place-test.true in
     record {

@@ -39,7 +39,7 @@ finish-control-requires-clause-rest g c =
     let before = c.in-Ok-open.seats in
     let long : length seats.items ≡ length rans.items = omega (arith, c.in_ok-seats.ensures.count.0, seats.ok.0, rans.ok.0) in
     let many : length rans.items ≡ seats_of plan = omega (arith, c.in_ok-rans.ensures.count, new.many, rans.ok.0, before.ok.0) in
-    all_rest c.in-Ok-open.shared plan c.args.setup before.items seats.items rans.items new many long c.in_ok-rans.ensures.each c.in_ok-seats.ensures.seats
+    all_rest g.T.Runs.rules c.in-Ok-open.shared plan c.args.setup before.items seats.items rans.items new many long c.in_ok-rans.ensures.each c.in_ok-seats.ensures.seats
 
 pub returns-in-None-clause-raced : goal.returns-in-None-clause-raced
 returns-in-None-clause-raced g c =
@@ -50,11 +50,11 @@ returns-in-None-clause-raced g c =
     let seats = c.in_ok-seats.seats in
     let got = c.in_ok-seats.ensures in
     let replies = c.in_ok-seats.replies in
-    let clean : All (λ ran. fault_in ran ≡ None) rans.items = subst (λ (l : List Ran). All (λ ran. fault_in ran ≡ None) l) c.as_slice.ensures.value c.in-None.ensures in
+    let clean : All (λ ran. fault_in ran ≡ None) rans.items = subst (λ (l : List (Ran g.row.T.Denot)). All (λ ran. fault_in ran ≡ None) l) c.as_slice.ensures.value c.in-None.ensures in
     let finished = got.each plan before.items (omega (arith, c.in_ok-rans.ensures.count, before.ok.0)) c.in_ok-rans.ensures.each clean in
     let many : length seats.items ≡ length before.items = omega (arith, got.count.0, c.in_ok-rans.ensures.count, seats.ok.0, before.ok.0) in
     let long : length (all_told replies.items) ≡ length seats.items = length-map replies.items _ ∙ omega (arith, got.count.0, got.count.1, replies.ok.0, seats.ok.0) in
-    raced c.in-Ok-open.shared plan c.args.setup c.finish-control.result before.items seats.items _ c.n-processes.ensures.value new (many ∙ new.many) finished c.finish-control.ensures.known c.n-processes.ensures.ranges.processes.0 long c.journal.ensures.seats
+    raced g.T.Runs.rules c.in-Ok-open.shared plan c.args.setup c.finish-control.result before.items seats.items _ c.n-processes.ensures.value new (many ∙ new.many) finished c.finish-control.ensures.known c.n-processes.ensures.ranges.processes.0 long c.journal.ensures.seats
 
 pub returns-in-Some-clause-fault : goal.returns-in-Some-clause-fault
 returns-in-Some-clause-fault g c =
@@ -65,7 +65,7 @@ returns-in-Some-clause-fault g c =
     let why = c.in-Some.fault in
     let least : IsOfLeastSeat why rans.items = subst (IsOfLeastSeat why) c.as_slice.ensures.value c.in-Some.ensures in
     let many : length rans.items ≡ seats_of plan = omega (arith, c.in_ok-rans.ensures.count, new.many, rans.ok.0, before.ok.0) in
-    let it = of_least c.in-Ok-open.shared plan c.args.setup before.items rans.items why new many c.in_ok-rans.ensures.each least in
+    let it = of_least g.T.Runs.rules c.in-Ok-open.shared plan c.args.setup before.items rans.items why new many c.in_ok-rans.ensures.each least in
     subst (λ n. IsAmongSeats (n + length c.args.scripts.now) why) c.n-processes.ensures.value it
 
 pub returns-in-Some-clause-full : goal.returns-in-Some-clause-full
@@ -83,9 +83,9 @@ returns-in-Some-clause-full g c = λ full.
     let same : why ≡ fault.JournalFull = same_fault (Err why) (Err fault.JournalFull) why fault.JournalFull refl refl full in
     let met = met_full least.its.seat.number least.its.end (least.has ∙ ap (λ (f : RaceFault). Some f) same) in
     let final = c.finish-control.result in
-    let so_far = under_way c.in-Ok-open.shared plan c.args.setup final before.items rans.items least.its c.n-processes.ensures.value new many c.in_ok-rans.ensures.each seats.items long got.seats c.finish-control.ensures.known c.n-processes.ensures.ranges.processes.0 c.journal.ensures.seats in
+    let so_far = under_way g.T.Runs.rules c.in-Ok-open.shared plan c.args.setup final before.items rans.items least.its c.n-processes.ensures.value new many c.in_ok-rans.ensures.each seats.items long got.seats c.finish-control.ensures.known c.n-processes.ensures.ranges.processes.0 c.journal.ensures.seats in
     let whole =
-    full_at c.in-Ok-open.shared plan c.args.setup final before.items rans.items least.its c.n-processes.ensures.value new many c.in_ok-rans.ensures.each seats.items long got.seats c.finish-control.ensures.known least.place least.within (ap (λ (r : Ran). r.end) least.at ∙ met) c.journal.ensures.limit in
+    full_at g.T.Runs.rules c.in-Ok-open.shared plan c.args.setup final before.items rans.items least.its c.n-processes.ensures.value new many c.in_ok-rans.ensures.each seats.items long got.seats c.finish-control.ensures.known least.place least.within (ap (λ (r : Ran g.row.T.Denot). r.end) least.at ∙ met) c.journal.ensures.limit in
     (final, so_far, whole)
 
 pub returns-in-Some-clause-told : goal.returns-in-Some-clause-told
@@ -122,4 +122,4 @@ pub returns-in-Some-clause-passes : goal.returns-in-Some-clause-passes
 returns-in-Some-clause-passes g c = λ all.
     let why = c.in-Some.fault in
     let many : length c.args.gates.items ≡ c.args.setup.processes + length c.args.scripts.now = omega (arith, c.requires.gates, c.args.gates.ok.0) in
-    told_passes g.G.Gate.heard g.G.Gate.passes c.args.setup c.args.turns c.args.scripts.now c.args.gates.items why many (returns-in-Some-clause-told g c) all
+    told_passes g.row.T.Denot g.T.Runs.rules g.G.Gate.heard g.G.Gate.passes c.args.setup c.args.turns c.args.scripts.now c.args.gates.items why many (returns-in-Some-clause-told g c) all

@@ -37,7 +37,7 @@ loop-seat-preserved g c =
           let here : seat ≡ get_or all (vec_len c.args.seats - 1 - length c.loop-seat.handles.items) before = sym (get_or-middle front was.left.0 all seat before _ whole place) in
           let there : its ≡ get_or c.args.gates.items (vec_len c.args.gates - 1 - length c.loop-seat.handles.items) gate = sym (get_or-middle c.pop-in-Some.new.self.items was.left_gates.0 c.args.gates.items its gate _ all_gates place_gate) in
           let one = subst (λ (x : SeatView × g.row.G.Denot). IsPromise plan x.0 x.1 c.in_ok-handle.handle.promise) (λ i. (here i, there i)) c.in_ok-handle.ensures.promise in
-          each_push (λ (i : ℕ) (h : PromisedHandle Ran (SeatPromise g.row.G.Denot)). IsPromise plan (get_or all (vec_len c.args.seats - 1 - i) before) (get_or c.args.gates.items (vec_len c.args.gates - 1 - i) gate) h.promise) c.loop-seat.handles.items c.push_reserved.new.self.items c.in_ok-handle.handle
+          each_push (λ (i : ℕ) (h : PromisedHandle (Ran g.row.T.Denot) (SeatPromise g.row.T.Denot g.row.G.Denot)). IsPromise plan (get_or all (vec_len c.args.seats - 1 - i) before) (get_or c.args.gates.items (vec_len c.args.gates - 1 - i) gate) h.promise) c.loop-seat.handles.items c.push_reserved.new.self.items c.in_ok-handle.handle
           c.push_reserved.ensures.items (λ i h below. was.each i before gate h (omega (arith, handles))) one k handle (omega (arith, c.push_reserved.new.self.ok.0));
     }
 

@@ -1,6 +1,6 @@
 use Rattle.std.proofs.Common.{◌≡◌, ◌+◌, ◌++◌, map, drop}
-use Rattle.cdb_run.specs.Machines.{first_states}
-use Rattle.cdb_run.specs.State.{fresh_progress}
+use Rattle.cdb_rules.specs.Machines.{first_states}
+use Rattle.cdb_rules.specs.State.{fresh_progress}
 use Rattle.cdb_run.proofs.first.first_processes.Given as goal
 
 abbrev pub invariant-loop-i : goal.invariant-loop-i

@@ -2,9 +2,9 @@ use Rattle.std.proofs.Common.{◌≡◌, true, rules, arith}
 use Rattle.std.proofs.lemmas.Grind.{common_steps}
 use Rattle.std.proofs.lemmas.Iterator.Consumers.{YieldsList-from_filter, YieldsList-from_first}
 use Rattle.cdb_base.specs.Event.{is_step_of}
-use Rattle.cdb_run.specs.OwnSteps.{noted, no_writes}
-use Rattle.cdb_run.specs.contracts.own_steps.OwnEventPartialEq.TheImpl as compared
-use Rattle.cdb_run.specs.declared.own_steps.OwnEvent.{OwnEvent}
+use Rattle.cdb_rules.specs.OwnSteps.{noted, no_writes}
+use Rattle.cdb_rules.specs.contracts.own_event.OwnEventPartialEq.TheImpl as compared
+use Rattle.cdb_rules.specs.declared.own_event.OwnEvent.{OwnEvent}
 use Rattle.cdb_run.proofs.Compared.{answered_eq}
 use Rattle.cdb_run.proofs.own_steps.same_steps.Goals as goal
 

@@ -1,5 +1,5 @@
 use Rattle.std.proofs.Common.{◌≡◌, ◌+◌, ◌++◌, map, drop}
-use Rattle.cdb_run.specs.Decisions.{decided_from}
+use Rattle.cdb_rules.specs.Decisions.{decided_from}
 use Rattle.cdb_run.proofs.progress.decided.Given as goal
 
 abbrev pub invariant-loop-i : goal.invariant-loop-i

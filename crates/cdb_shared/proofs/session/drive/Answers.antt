@@ -38,20 +38,20 @@ returns-then-is_done-clause-gate g c =
     let count : c.loop-turn.turn + 1 ≡ length answered + 1 = omega (arith, length-replicate c.loop-turn.turn (Auto c.args.process)) in
     let asked = heard_asked (g.G.Gate.heard c.args.gate) (g.G.Gate.heard c.loop-turn.gate) (g.G.Gate.heard c.before-in-loop-turn.new.self) (calls_of c.args.seat) answered (calls_of c.loop-turn.seat) (c.loop-turn.turn + 1) true was.heard was.calls count
     (c.before-in-loop-turn.ensures.heard ∙ ap (λ b. heard_more (g.G.Gate.heard c.loop-turn.gate) (Asked (c.loop-turn.turn + 1) (calls_of c.loop-turn.seat) b ∷ [])) passed) in
-    let one_more = calls_of-call c.loop-turn.seat c.call.new.seat _ _ c.call.ensures.seat c.in-Ok.ensures.call ∙ ap (λ l. l ++ Auto c.args.process ∷ []) was.calls in
+    let one_more = calls_of-call g.T.Runs.rules c.loop-turn.seat c.call.new.seat _ _ c.call.ensures.seat c.in-Ok.ensures.call ∙ ap (λ l. l ++ Auto c.args.process ∷ []) was.calls in
     let told_it = heard_told (g.G.Gate.heard c.args.gate) (g.G.Gate.heard c.before-in-loop-turn.new.self) (g.G.Gate.heard c.after.new.self) (calls_of c.args.seat) answered (calls_of c.call.new.seat) (Auto c.args.process) (c.loop-turn.turn + 1) asked one_more count c.after.ensures.heard in
     let heard = told_it ∙ ap (λ l. heard_more (g.G.Gate.heard c.args.gate) (heard_of 1 (calls_of c.args.seat) l)) (sym (replicate-push c.loop-turn.turn (Auto c.args.process))) in
-    let calls = append_one (calls_of c.loop-turn.seat) (calls_of c.call.new.seat) (calls_of c.args.seat) _ _ _ was.calls (calls_of-call c.loop-turn.seat c.call.new.seat _ _ c.call.ensures.seat c.in-Ok.ensures.call) (replicate-push c.loop-turn.turn (Auto c.args.process)) in
+    let calls = append_one (calls_of c.loop-turn.seat) (calls_of c.call.new.seat) (calls_of c.args.seat) _ _ _ was.calls (calls_of-call g.T.Runs.rules c.loop-turn.seat c.call.new.seat _ _ c.call.ensures.seat c.in-Ok.ensures.call) (replicate-push c.loop-turn.turn (Auto c.args.process)) in
     (c.after.new.self, hears_all _ _ c.args.seat c.call.new.seat (replicate (c.loop-turn.turn + 1) (Auto c.args.process)) _ calls refl heard)
 
 pub returns-in-Err-clause-replies : goal.returns-in-Err-clause-replies
 returns-in-Err-clause-replies g c =
     let was = c.loop-turn.invariant.replies in
-    (was.0, replies_to-fault c.loop-turn.seat c.call.new.seat c.call.ensures.seat c.in-Err.ensures.fault ∙ was.1, driven_fault c.in-Err.fault _ _ _ was.0 c.ended_by.ensures c.loop-turn-test.true was.2)
+    (was.0, replies_to-fault g.T.Runs.rules c.loop-turn.seat c.call.new.seat c.call.ensures.seat c.in-Err.ensures.fault ∙ was.1, driven_fault c.in-Err.fault _ _ _ was.0 c.ended_by.ensures c.loop-turn-test.true was.2)
 
 pub returns-then-is_done-clause-calls : goal.returns-then-is_done-clause-calls
 returns-then-is_done-clause-calls g c =
-    append_one (calls_of c.loop-turn.seat) (calls_of c.call.new.seat) (calls_of c.args.seat) _ _ _ c.loop-turn.invariant.calls (calls_of-call c.loop-turn.seat c.call.new.seat _ _ c.call.ensures.seat c.in-Ok.ensures.call) (replicate-push c.loop-turn.turn (Auto c.args.process))
+    append_one (calls_of c.loop-turn.seat) (calls_of c.call.new.seat) (calls_of c.args.seat) _ _ _ c.loop-turn.invariant.calls (calls_of-call g.T.Runs.rules c.loop-turn.seat c.call.new.seat _ _ c.call.ensures.seat c.in-Ok.ensures.call) (replicate-push c.loop-turn.turn (Auto c.args.process))
 
 pub returns-then-is_done-clause-replies : goal.returns-then-is_done-clause-replies
 returns-then-is_done-clause-replies g c =
@@ -59,7 +59,7 @@ returns-then-is_done-clause-replies g c =
     let reply = told c.in-Ok.reply in
     let done : reply ≡ Refused Done = c.is_done.ensures.0 c.if-is_done.true in (
       was.0 ++ reply ∷ [],
-      append_one (replies_to c.loop-turn.seat) (replies_to c.call.new.seat) (replies_to c.args.seat) _ _ _ was.1 (replies_to-call c.loop-turn.seat c.call.new.seat _ _ c.call.ensures.seat c.in-Ok.ensures.call) refl,
+      append_one (replies_to g.T.Runs.rules c.loop-turn.seat) (replies_to g.T.Runs.rules c.call.new.seat) (replies_to g.T.Runs.rules c.args.seat) _ _ _ was.1 (replies_to-call g.T.Runs.rules c.loop-turn.seat c.call.new.seat _ _ c.call.ensures.seat c.in-Ok.ensures.call) refl,
       (was.0, ap (λ r. was.0 ++ r ∷ []) done, was.2),
     )
 
@@ -71,17 +71,17 @@ loop-turn-preserved g c =
     let count : c.loop-turn.turn + 1 ≡ length answered + 1 = omega (arith, length-replicate c.loop-turn.turn (Auto c.args.process)) in
     let asked = heard_asked (g.G.Gate.heard c.args.gate) (g.G.Gate.heard c.loop-turn.gate) (g.G.Gate.heard c.before-in-loop-turn.new.self) (calls_of c.args.seat) answered (calls_of c.loop-turn.seat) (c.loop-turn.turn + 1) true was.heard was.calls count
     (c.before-in-loop-turn.ensures.heard ∙ ap (λ b. heard_more (g.G.Gate.heard c.loop-turn.gate) (Asked (c.loop-turn.turn + 1) (calls_of c.loop-turn.seat) b ∷ [])) passed) in
-    let one_more = calls_of-call c.loop-turn.seat c.call.new.seat _ _ c.call.ensures.seat c.in-Ok.ensures.call ∙ ap (λ l. l ++ Auto c.args.process ∷ []) was.calls in
+    let one_more = calls_of-call g.T.Runs.rules c.loop-turn.seat c.call.new.seat _ _ c.call.ensures.seat c.in-Ok.ensures.call ∙ ap (λ l. l ++ Auto c.args.process ∷ []) was.calls in
     let told_it = heard_told (g.G.Gate.heard c.args.gate) (g.G.Gate.heard c.before-in-loop-turn.new.self) (g.G.Gate.heard c.after.new.self) (calls_of c.args.seat) answered (calls_of c.call.new.seat) (Auto c.args.process) (c.loop-turn.turn + 1) asked one_more count c.after.ensures.heard in
     let heard = told_it ∙ ap (λ l. heard_more (g.G.Gate.heard c.args.gate) (heard_of 1 (calls_of c.args.seat) l)) (sym (replicate-push c.loop-turn.turn (Auto c.args.process))) in
     let now = c.call.new.seat in
     let reply = told c.in-Ok.reply in
     record {
       seat = IsLater-trans c.args.seat c.loop-turn.seat now was.seat c.call.ensures.seat;
-      calls = append_one (calls_of c.loop-turn.seat) (calls_of now) (calls_of c.args.seat) _ _ _ was.calls (calls_of-call c.loop-turn.seat now _ _ c.call.ensures.seat c.in-Ok.ensures.call) (replicate-push c.loop-turn.turn (Auto c.args.process));
+      calls = append_one (calls_of c.loop-turn.seat) (calls_of now) (calls_of c.args.seat) _ _ _ was.calls (calls_of-call g.T.Runs.rules c.loop-turn.seat now _ _ c.call.ensures.seat c.in-Ok.ensures.call) (replicate-push c.loop-turn.turn (Auto c.args.process));
       replies = (
         was.replies.0 ++ reply ∷ [],
-        append_one (replies_to c.loop-turn.seat) (replies_to now) (replies_to c.args.seat) _ _ _ was.replies.1 (replies_to-call c.loop-turn.seat now _ _ c.call.ensures.seat c.in-Ok.ensures.call) refl,
+        append_one (replies_to g.T.Runs.rules c.loop-turn.seat) (replies_to g.T.Runs.rules now) (replies_to g.T.Runs.rules c.args.seat) _ _ _ was.replies.1 (replies_to-call g.T.Runs.rules c.loop-turn.seat now _ _ c.call.ensures.seat c.in-Ok.ensures.call) refl,
         NoneDone-push was.replies.0 reply was.replies.2 (λ is. true≢false (sym (c.is_done.ensures.1 is) ∙ c.if-is_done.false)),
       );
       heard = heard;

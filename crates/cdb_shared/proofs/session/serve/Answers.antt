@@ -34,7 +34,7 @@ returns-in-Err-clause-gate g c =
     (c.before-in-loop-command.new.self, inl (hears_fault _ _ c.args.seat c.call.new.seat answered c.in-Err.fault _ c.ended_by.ensures calls asked))
 
 pub returns-in-Err-clause-replies : goal.returns-in-Err-clause-replies
-returns-in-Err-clause-replies g c = replies_to-fault c.loop-command.seat c.call.new.seat c.call.ensures.seat c.in-Err.ensures.fault ∙ c.loop-command.invariant.replies
+returns-in-Err-clause-replies g c = replies_to-fault g.T.Runs.rules c.loop-command.seat c.call.new.seat c.call.ensures.seat c.in-Err.ensures.fault ∙ c.loop-command.invariant.replies
 
 pub loop-command-preserved : goal.loop-command-preserved
 loop-command-preserved g c =
@@ -43,13 +43,13 @@ loop-command-preserved g c =
     let commands = c.args.commands.now in
     let index = c.loop-command.command-index in
     let calls : calls_of now ≡ calls_of c.args.seat ++ take (index + 1) commands =
-    append_one (calls_of c.loop-command.seat) (calls_of now) (calls_of c.args.seat) _ _ _ was.calls (calls_of-call c.loop-command.seat now _ _ c.call.ensures.seat c.in-Ok.ensures.call) (take_one_more commands index c.command-item.result (omega arith) c.command-item.is) in
+    append_one (calls_of c.loop-command.seat) (calls_of now) (calls_of c.args.seat) _ _ _ was.calls (calls_of-call g.T.Runs.rules c.loop-command.seat now _ _ c.call.ensures.seat c.in-Ok.ensures.call) (take_one_more commands index c.command-item.result (omega arith) c.command-item.is) in
     let before = take index commands in
     let passed : c.before-in-loop-command.result ≡ true = search rules in
     let count_is : c.loop-command.number + 1 ≡ length before + 1 = omega (arith, length-take index commands, was.number) in
     let asked = heard_asked (g.G.Gate.heard c.args.gate) (g.G.Gate.heard c.loop-command.gate) (g.G.Gate.heard c.before-in-loop-command.new.self) (calls_of c.args.seat) before (calls_of c.loop-command.seat) (c.loop-command.number + 1) true was.heard was.calls count_is
     (c.before-in-loop-command.ensures.heard ∙ ap (λ b. heard_more (g.G.Gate.heard c.loop-command.gate) (Asked (c.loop-command.number + 1) (calls_of c.loop-command.seat) b ∷ [])) passed) in
-    let one_more = calls_of-call c.loop-command.seat now _ _ c.call.ensures.seat c.in-Ok.ensures.call ∙ ap (λ l. l ++ c.command-item.result ∷ []) was.calls in
+    let one_more = calls_of-call g.T.Runs.rules c.loop-command.seat now _ _ c.call.ensures.seat c.in-Ok.ensures.call ∙ ap (λ l. l ++ c.command-item.result ∷ []) was.calls in
     let told_it = heard_told (g.G.Gate.heard c.args.gate) (g.G.Gate.heard c.before-in-loop-command.new.self) (g.G.Gate.heard c.after.new.self) (calls_of c.args.seat) before (calls_of now) c.command-item.result (c.loop-command.number + 1) asked one_more count_is c.after.ensures.heard in
     let heard = told_it ∙ ap (λ l. heard_more (g.G.Gate.heard c.args.gate) (heard_of 1 (calls_of c.args.seat) l)) (sym (take_one_more commands index c.command-item.result (omega arith) c.command-item.is)) in
     let few = few_calls c.args.seat now (take (index + 1) commands) calls c.call.ensures.limit in
@@ -57,7 +57,7 @@ loop-command-preserved g c =
     record {
       seat = IsLater-trans c.args.seat c.loop-command.seat now was.seat c.call.ensures.seat;
       calls = calls;
-      replies = append_one (replies_to c.loop-command.seat) (replies_to now) (replies_to c.args.seat) _ _ _ was.replies (replies_to-call c.loop-command.seat now _ _ c.call.ensures.seat c.in-Ok.ensures.call) answered;
+      replies = append_one (replies_to g.T.Runs.rules c.loop-command.seat) (replies_to g.T.Runs.rules now) (replies_to g.T.Runs.rules c.args.seat) _ _ _ was.replies (replies_to-call g.T.Runs.rules c.loop-command.seat now _ _ c.call.ensures.seat c.in-Ok.ensures.call) answered;
       count = omega arith;
       number = omega arith;
       limit = omega (arith, length-take (index + 1) commands);

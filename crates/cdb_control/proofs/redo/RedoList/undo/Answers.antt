@@ -1,7 +1,7 @@
 use Rattle.std.proofs.Common.{sym, ap, ◌∙◌}
 use Rattle.cdb_control.proofs.Steps.{refused_leaves}
-use Rattle.cdb_run.specs.EventRefs.{name_of}
-use Rattle.cdb_run.specs.Runs.{undo_in, with_history}
+use Rattle.cdb_rules.specs.EventRefs.{name_of}
+use Rattle.cdb_rules.specs.Runs.{undo_in, with_history}
 use Rattle.cdb_control.proofs.redo.RedoList.undo.Goals as goal
 use Rattle.cdb_control.proofs.redo.RedoList.undo.Goals.{in-Some, in-None}
 

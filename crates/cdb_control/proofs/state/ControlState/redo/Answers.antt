@@ -3,13 +3,13 @@ use Rattle.std.specs.List.{AllByRecursion}
 use Rattle.std.proofs.lemmas.Grind.{common_steps}
 use Rattle.cdb_base.specs.Places.{without_last}
 use Rattle.cdb_base.specs.declared.event.Event.{Event}
-use Rattle.cdb_control.proofs.Alls.{all-get_or, all-slice_get}
+use Rattle.cdb_rules.proofs.Alls.{all-get_or, all-slice_get}
 use Rattle.cdb_control.proofs.Room.{swap}
 use Rattle.cdb_control.proofs.Steps.{redone-as, redo_taken}
 use Rattle.cdb_control.specs.Commands.{decides}
 use Rattle.cdb_control.specs.Room.{StoredState, StoredList}
 use Rattle.cdb_control.specs.State.{State, redo_of, last_of}
-use Rattle.cdb_run.specs.Refusals.{IsOfRun, with_taken}
+use Rattle.cdb_rules.specs.Refusals.{IsOfRun, with_taken}
 use Rattle.cdb_control.proofs.state.ControlState.redo.Goals as goal
 
 pub again-requires : goal.again-requires

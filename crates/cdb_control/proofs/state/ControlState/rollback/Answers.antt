@@ -6,10 +6,10 @@ use Rattle.cdb_control.specs.Answer as reply
 use Rattle.cdb_control.specs.Commands.{rollback, taken_back}
 use Rattle.cdb_control.proofs.Steps.{unchanged, rolled_back-as, rollback_refused-as, granted_taken, answered_ok}
 use Rattle.cdb_control.proofs.Room.{swap}
-use Rattle.cdb_run.specs.EventRefs.{name_of}
+use Rattle.cdb_rules.specs.EventRefs.{name_of}
 use Rattle.cdb_control.specs.Room.{StoredState, StoredList}
 use Rattle.cdb_control.specs.State.{State, redo_of}
-use Rattle.cdb_run.specs.Undo.{rollback_of, answered, left_by, number_removed, with_removed}
+use Rattle.cdb_rules.specs.Undo.{rollback_of, answered, left_by, number_removed, with_removed}
 use Rattle.cdb_control.proofs.state.ControlState.rollback.Goals as goal
 use Rattle.cdb_control.proofs.state.ControlState.rollback.Goals.{in-Ok, in-Err}
 

@@ -6,11 +6,11 @@ use Rattle.cdb_control.specs.Answer as reply
 use Rattle.cdb_control.specs.Commands.{undo, taken_back}
 use Rattle.cdb_control.proofs.Steps.{unchanged, undone-as, undo_refused-as, granted_taken, answered_ok}
 use Rattle.cdb_control.proofs.Room.{swap}
-use Rattle.cdb_run.specs.EventRefs.{name_of}
+use Rattle.cdb_rules.specs.EventRefs.{name_of}
 use Rattle.cdb_control.specs.Room.{StoredState, StoredList}
 use Rattle.cdb_control.specs.State.{State, redo_of}
-use Rattle.cdb_run.specs.Refusals.{with_taken}
-use Rattle.cdb_run.specs.Undo.{undo_of, answered, left_by}
+use Rattle.cdb_rules.specs.Refusals.{with_taken}
+use Rattle.cdb_rules.specs.Undo.{undo_of, answered, left_by}
 use Rattle.cdb_control.proofs.state.ControlState.undo.Goals as goal
 use Rattle.cdb_control.proofs.state.ControlState.undo.Goals.{in-Ok, in-Err}
 

@@ -1,9 +1,9 @@
 use Rattle.std.proofs.Common.{◌≡◌, ℕ, suc, ◌+◌, List, ◌∷◌, Option, length, drop, sym, ap, ◌∙◌, arith, rules}
 use Rattle.cdb_base.specs.declared.event.Event.{Event}
 use Rattle.cdb_causal.proofs.Lists.{drop_from}
-use Rattle.cdb_run.specs.OwnSteps.{writes_with, noted}
+use Rattle.cdb_rules.specs.OwnSteps.{writes_with, noted}
 use Rattle.cdb_run.specs.WriteCounts.{count_of}
-use Rattle.cdb_run.proofs.OwnOfState.{noted_same}
+use Rattle.cdb_rules.proofs.OwnOfState.{noted_same}
 use Rattle.cdb_run.proofs.own_steps.NotedIterator.next.Goals as goal
 
 pub returns-clause-steps : goal.returns-clause-steps

@@ -1,6 +1,6 @@
 use Rattle.std.proofs.Common.{◌≡◌, ◌+◌, ◌<◌, ◌^◌, length, rules, sym, ap, subst, ◌∙◌, arith}
 use Rattle.cdb_run.specs.WriteCounts.{count_of}
-use Rattle.cdb_run.specs.OwnSteps.{with_write}
+use Rattle.cdb_rules.specs.OwnSteps.{with_write}
 use Rattle.cdb_run.proofs.Counting.{counted_of_process, read_count}
 use Rattle.cdb_run.proofs.own_steps.WriteCounts.add.Goals as goal
 

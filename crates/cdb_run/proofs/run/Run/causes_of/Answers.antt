@@ -1,11 +1,11 @@
 use Rattle.std.proofs.Common.{◌-◌, ◌≤◌, length, subst, arith}
 use Rattle.cdb_causal.specs.DirectCauses.{AreDirectCauses}
-use Rattle.cdb_run.specs.EventRefs.{name_of}
-use Rattle.cdb_run.specs.Current.{RunView}
-use Rattle.cdb_run.specs.Runs.{IsInOrder}
-use Rattle.cdb_run.specs.Machines.{machine_of}
+use Rattle.cdb_rules.specs.EventRefs.{name_of}
+use Rattle.cdb_rules.specs.RunView.{RunView}
+use Rattle.cdb_rules.specs.Runs.{IsInOrder}
+use Rattle.cdb_rules.specs.Machines.{machine_of}
 use Rattle.cdb_run.proofs.RollingBack.{causes_answer}
-use Rattle.cdb_run.proofs.Starting.{length-first_states}
+use Rattle.cdb_rules.proofs.FirstStates.{length-first_states}
 use Rattle.cdb_run.proofs.Views.{history_valid}
 use Rattle.cdb_run.proofs.run.Run.causes_of.Goals as goal
 

@@ -1,9 +1,9 @@
 use Rattle.std.proofs.Common.{◌≡◌, ◌≤◌, List, length, map, IfOk, ap, ◌∙◌, subst, arith}
-use Rattle.cdb_run.specs.Current.{RunView}
-use Rattle.cdb_run.specs.Runs.{decisions_in}
-use Rattle.cdb_run.specs.Decisions.{decided_from}
+use Rattle.cdb_rules.specs.RunView.{RunView}
+use Rattle.cdb_rules.specs.Runs.{decisions_in}
+use Rattle.cdb_rules.specs.Decisions.{decided_from}
 use Rattle.cdb_run.proofs.Held.{count_is}
-use Rattle.cdb_run.proofs.Starting.{length-first_states}
+use Rattle.cdb_rules.proofs.FirstStates.{length-first_states}
 use Rattle.cdb_run.proofs.Views.{progresses_shown}
 use Rattle.cdb_run.proofs.run.Run.decisions.Goals as goal
 

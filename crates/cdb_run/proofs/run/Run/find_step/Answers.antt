@@ -2,9 +2,9 @@ use Rattle.std.proofs.Common.{◌≡◌, ℕ, ◌-◌, ◌≤◌, length, Err, M
 use Rattle.cdb_base.specs.declared.name.StepId.{StepId}
 use Rattle.cdb_base.specs.declared.name.StepId.TheVariants as named
 use Rattle.cdb_causal.specs.Names.{IsNewName, IsPlaceOf}
-use Rattle.cdb_run.specs.Machines.{machine_of}
-use Rattle.cdb_run.specs.Undo.{event_named, found_at}
-use Rattle.cdb_run.proofs.Finding.{among_is, beyond, none_named, too_great, found_answer, found_within}
+use Rattle.cdb_rules.specs.Machines.{machine_of}
+use Rattle.cdb_rules.specs.Undo.{event_named, found_at}
+use Rattle.cdb_rules.proofs.Finding.{among_is, beyond, none_named, too_great, found_answer, found_within}
 use Rattle.cdb_run.proofs.run.Run.find_step.Goals as goal
 
 abbrev step_name : ℕ → ℕ → StepId

@@ -1,6 +1,6 @@
 use Rattle.std.proofs.Common.{subst}
-use Rattle.cdb_run.specs.Current.{RunView}
-use Rattle.cdb_run.specs.Runs.{IsInOrder}
+use Rattle.cdb_rules.specs.RunView.{RunView}
+use Rattle.cdb_rules.specs.Runs.{IsInOrder}
 use Rattle.cdb_run.proofs.Views.{history_valid}
 use Rattle.cdb_run.proofs.run.Run.history.Goals as goal
 

@@ -1,11 +1,11 @@
 use Rattle.std.proofs.Common.{rules, ◌≡◌, ◌<◌, ◌≤◌, length, false, Result, Ok, Err, ap, ◌∙◌, sym, subst, refl, IfOk, arith}
 use Rattle.std.proofs.lemmas.Grind.{common_steps}
-use Rattle.cdb_run.specs.Current.{RunView}
-use Rattle.cdb_run.specs.Runs.{IsNext, answer_to_step}
-use Rattle.cdb_run.specs.Machines.{machine_of}
-use Rattle.cdb_run.specs.Step.{is_among}
-use Rattle.cdb_run.proofs.Granted.{IsLawful}
-use Rattle.cdb_run.proofs.Starting.{length-first_states}
+use Rattle.cdb_rules.specs.RunView.{RunView}
+use Rattle.cdb_rules.specs.Runs.{IsNext, answer_to_step}
+use Rattle.cdb_rules.specs.Machines.{machine_of}
+use Rattle.cdb_rules.specs.Step.{is_among}
+use Rattle.cdb_rules.proofs.Granted.{IsLawful}
+use Rattle.cdb_rules.proofs.FirstStates.{length-first_states}
 use Rattle.cdb_run.proofs.Views.{index_below, receives_shown, queries_shown, plan_shown, plan_absent, answer_enabled}
 use Rattle.cdb_run.proofs.run.Run.plan.Goals as goal
 

@@ -2,14 +2,14 @@ use Rattle.std.proofs.Common.{rules, ◌≡◌, ◌<◌, ◌↔◌, length, IsOk
 use Rattle.std.proofs.lemmas.Grind.{common_steps}
 use Rattle.cdb_base.specs.declared.event.Event.TheVariants.{Step, Lost}
 use Rattle.cdb_record.specs.Entries.{events_of}
-use Rattle.cdb_run.specs.Current.{RunView}
-use Rattle.cdb_run.specs.Runs.{answer_to_again}
-use Rattle.cdb_run.specs.Machines.{machine_of}
-use Rattle.cdb_run.specs.Refusals.{IsOfRun}
-use Rattle.cdb_run.specs.Step.{after, state_of}
-use Rattle.cdb_run.proofs.Again.{again_exact, again_same}
-use Rattle.cdb_run.proofs.Granted.{IsLawful}
-use Rattle.cdb_run.proofs.Starting.{length-first_states}
+use Rattle.cdb_rules.specs.RunView.{RunView}
+use Rattle.cdb_rules.specs.Runs.{answer_to_again}
+use Rattle.cdb_rules.specs.Machines.{machine_of}
+use Rattle.cdb_rules.specs.Refusals.{IsOfRun}
+use Rattle.cdb_rules.specs.Step.{after, state_of}
+use Rattle.cdb_rules.proofs.Again.{again_exact, again_same}
+use Rattle.cdb_rules.proofs.Granted.{IsLawful}
+use Rattle.cdb_rules.proofs.FirstStates.{length-first_states}
 use Rattle.cdb_run.proofs.Views.{index_below, receives_shown, steps_shown, again_shown, loss_shown, receivers_shown}
 use Rattle.cdb_run.proofs.run.Run.plan_again.Goals as goal
 

@@ -1,12 +1,12 @@
 use Rattle.std.proofs.Common.{◌≡◌, length, IfOk, IsSome, ap, ◌∙◌, sym, subst, refl}
 use Rattle.cdb_message.specs.Mail.{message_name}
 use Rattle.cdb_record.specs.Entries.{events_of}
-use Rattle.cdb_run.specs.Current.{RunView}
-use Rattle.cdb_run.specs.Machines.{machine_of}
-use Rattle.cdb_run.specs.Refusals.{lose_answer}
-use Rattle.cdb_run.specs.Step.{after, state_of}
-use Rattle.cdb_run.proofs.Again.{lose_enabled}
-use Rattle.cdb_run.proofs.Starting.{length-first_states}
+use Rattle.cdb_rules.specs.RunView.{RunView}
+use Rattle.cdb_rules.specs.Machines.{machine_of}
+use Rattle.cdb_rules.specs.Refusals.{lose_answer}
+use Rattle.cdb_rules.specs.Step.{after, state_of}
+use Rattle.cdb_rules.proofs.Again.{lose_enabled}
+use Rattle.cdb_rules.proofs.FirstStates.{length-first_states}
 use Rattle.cdb_run.proofs.Views.{loss_shown, receivers_shown}
 use Rattle.cdb_run.proofs.run.Run.plan_loss.Goals as goal
 

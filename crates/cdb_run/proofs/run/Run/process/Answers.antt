@@ -1,9 +1,9 @@
 use Rattle.std.proofs.Common.{◌≡◌, ◌≤◌, length, None, false, MatchOption, ◌∙◌, ap, subst}
-use Rattle.cdb_run.specs.Current.{RunView}
-use Rattle.cdb_run.specs.Runs.{process_in}
-use Rattle.cdb_run.specs.Step.{is_among}
-use Rattle.cdb_run.proofs.Finding.{among_some, among_none}
-use Rattle.cdb_run.proofs.Starting.{length-first_states}
+use Rattle.cdb_rules.specs.RunView.{RunView}
+use Rattle.cdb_rules.specs.Runs.{process_in}
+use Rattle.cdb_rules.specs.Step.{is_among}
+use Rattle.cdb_rules.proofs.Finding.{among_some, among_none}
+use Rattle.cdb_rules.proofs.FirstStates.{length-first_states}
 use Rattle.cdb_run.proofs.Views.{process_none}
 use Rattle.cdb_run.proofs.run.Run.process.Goals as goal
 

@@ -1,8 +1,8 @@
 use Rattle.std.proofs.Common.{rules, ◌≡◌, ◌<◌, ◌≤◌, length, Some, ◌∙◌, sym, subst, arith}
 use Rattle.std.proofs.lemmas.Grind.{common_steps}
-use Rattle.cdb_run.specs.Current.{RunView}
-use Rattle.cdb_run.specs.Runs.{progress_in}
-use Rattle.cdb_run.proofs.Starting.{length-first_states}
+use Rattle.cdb_rules.specs.RunView.{RunView}
+use Rattle.cdb_rules.specs.Runs.{progress_in}
+use Rattle.cdb_rules.proofs.FirstStates.{length-first_states}
 use Rattle.cdb_run.proofs.Views.{index_below, progress_shown}
 use Rattle.cdb_run.proofs.run.Run.progress.Goals as goal
 

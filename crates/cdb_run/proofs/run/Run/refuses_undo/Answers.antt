@@ -3,8 +3,8 @@ use Rattle.std.specs.Result.{result_err}
 use Rattle.cdb_causal.specs.Causality.{IsFree}
 use Rattle.cdb_causal.specs.Dependence.{depends}
 use Rattle.cdb_causal.specs.Names.{IsFirstDependent}
-use Rattle.cdb_run.specs.Undo.{answered, for_standing, undo_found}
-use Rattle.cdb_run.proofs.Answering.{free_unrefused, needed_refused}
+use Rattle.cdb_rules.specs.Undo.{answered, for_standing, undo_found}
+use Rattle.cdb_rules.proofs.Answering.{free_unrefused, needed_refused}
 use Rattle.cdb_run.proofs.run.Run.refuses_undo.Goals as goal
 
 pub returns-in_err-first_dependent-in-Ok : goal.returns-in_err-first_dependent-in-Ok

@@ -1,6 +1,6 @@
 use Rattle.std.proofs.Common.{ap, ◌∙◌}
-use Rattle.cdb_run.specs.Current.{RunView}
-use Rattle.cdb_run.specs.Runs.{registers_in}
+use Rattle.cdb_rules.specs.RunView.{RunView}
+use Rattle.cdb_rules.specs.Runs.{registers_in}
 use Rattle.cdb_run.proofs.Views.{registers_shown}
 use Rattle.cdb_run.proofs.run.Run.registers.Goals as goal
 

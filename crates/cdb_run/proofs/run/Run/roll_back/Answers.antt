@@ -5,8 +5,8 @@ use Rattle.cdb_base.specs.declared.event.Event.{Event}
 use Rattle.cdb_base.specs.declared.name.StepId.{StepId}
 use Rattle.cdb_causal.specs.Dependence.{depends}
 use Rattle.cdb_causal.specs.Rollback.{without, consequences}
-use Rattle.cdb_run.specs.Current.{RunView}
-use Rattle.cdb_run.proofs.Finding.{place_before}
+use Rattle.cdb_rules.specs.RunView.{RunView}
+use Rattle.cdb_rules.proofs.Finding.{place_before}
 use Rattle.cdb_run.proofs.RollingBack.{IsLeft, stands_at, left_first, number_left, next_free, alone_left}
 use Rattle.cdb_run.proofs.run.Run.roll_back.Goals as goal
 

@@ -1,6 +1,6 @@
 use Rattle.std.proofs.Common.{refl, ap, ◌∙◌}
-use Rattle.cdb_run.specs.EventRefs.{name_of}
-use Rattle.cdb_run.specs.Runs.{with_history}
+use Rattle.cdb_rules.specs.EventRefs.{name_of}
+use Rattle.cdb_rules.specs.Runs.{with_history}
 use Rattle.cdb_run.proofs.RollingBack.{number_answer, history_answer, list_answer}
 use Rattle.cdb_run.proofs.run.Run.rollback_event.Goals as goal
 

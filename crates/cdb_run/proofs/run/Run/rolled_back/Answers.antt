@@ -1,12 +1,12 @@
 use Rattle.std.proofs.Common.{List, reverse, sym, ap, ◌∙◌, subst}
 use Rattle.cdb_base.specs.declared.event.Event.{Event}
-use Rattle.cdb_run.specs.EventRefs.{name_of}
-use Rattle.cdb_run.specs.Current.{RunView}
-use Rattle.cdb_run.specs.Machines.{machine_of}
-use Rattle.cdb_run.specs.Runs.{rollback_in, rollback_answer, with_left, AllLeadTo}
-use Rattle.cdb_run.specs.Undo.{with_removed}
-use Rattle.cdb_run.proofs.Starting.{length-first_states}
-use Rattle.cdb_run.proofs.TakenBack.{rollback_leads_back}
+use Rattle.cdb_rules.specs.EventRefs.{name_of}
+use Rattle.cdb_rules.specs.RunView.{RunView}
+use Rattle.cdb_rules.specs.Machines.{machine_of}
+use Rattle.cdb_rules.specs.Runs.{rollback_in, rollback_answer, with_left, AllLeadTo}
+use Rattle.cdb_rules.specs.Undo.{with_removed}
+use Rattle.cdb_rules.proofs.FirstStates.{length-first_states}
+use Rattle.cdb_rules.proofs.TakenBack.{rollback_leads_back}
 use Rattle.cdb_setup.specs.Parts.{AreInRange}
 use Rattle.cdb_run.proofs.run.Run.rolled_back.Goals as goal
 

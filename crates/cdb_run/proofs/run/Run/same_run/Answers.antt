@@ -1,9 +1,9 @@
 use Rattle.std.proofs.Common.{◌≡◌, ◌≤◌, ◌↔◌, length, IsTrue, sym, subst, arith}
-use Rattle.cdb_run.specs.Machines.{machine_of}
-use Rattle.cdb_run.specs.Mail.{mail_of}
-use Rattle.cdb_run.specs.Step.{IsValid, fold, state_of}
+use Rattle.cdb_rules.specs.Machines.{machine_of}
+use Rattle.cdb_rules.specs.Mail.{mail_of}
+use Rattle.cdb_rules.specs.Step.{IsValid, fold, state_of}
 use Rattle.cdb_run.proofs.SameRuns.{answered}
-use Rattle.cdb_run.proofs.Starting.{length-first_states}
+use Rattle.cdb_rules.proofs.FirstStates.{length-first_states}
 use Rattle.cdb_setup.specs.Parts.{Parts, AreInRange}
 use Rattle.cdb_run.proofs.run.Run.same_run.Goals as goal
 

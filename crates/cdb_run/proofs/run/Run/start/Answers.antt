@@ -2,8 +2,9 @@ use Rattle.std.proofs.Common.{◌≡◌, if◌then◌else◌, sym, ap, ◌∙◌
 use Rattle.cdb_message.specs.Mail.{first_mail}
 use Rattle.cdb_record.specs.Entries.{events_of}
 use Rattle.cdb_register.specs.Registers.{fresh_registers}
-use Rattle.cdb_run.specs.Machines.{machine_of, uses_registers}
-use Rattle.cdb_run.proofs.Starting.{current_at_start, length-first_states}
+use Rattle.cdb_rules.specs.Machines.{machine_of, uses_registers}
+use Rattle.cdb_rules.proofs.FirstStates.{length-first_states}
+use Rattle.cdb_run.proofs.Starting.{current_at_start}
 use Rattle.cdb_run.proofs.run.Run.start.Goals as goal
 use Rattle.cdb_run.proofs.run.Run.start.Goals.{in-Leader, in-Alpha}
 

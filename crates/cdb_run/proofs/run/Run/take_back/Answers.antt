@@ -8,7 +8,7 @@ use Rattle.cdb_causal.specs.Rollback.{without}
 use Rattle.cdb_base.specs.declared.event.Event.{Event}
 use Rattle.cdb_record.specs.Entries.{events_of}
 use Rattle.cdb_record.proofs.Seams.{before_nth, events_without}
-use Rattle.cdb_run.specs.Current.{RunView}
+use Rattle.cdb_rules.specs.RunView.{RunView}
 use Rattle.cdb_setup.specs.Parts.{Parts}
 use Rattle.cdb_run.proofs.Admitting.{nth_events}
 use Rattle.cdb_run.proofs.Restoring.{stepped_within, stepped_there, may_unpost, may_restore, may_count_back, current_undone, is_lost_now, current_found}

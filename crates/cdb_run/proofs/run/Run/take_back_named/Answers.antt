@@ -3,8 +3,8 @@ use Rattle.cdb_causal.specs.Causality.{IsFree}
 use Rattle.cdb_causal.specs.Dependence.{depends}
 use Rattle.cdb_causal.specs.Names.{IsNewName, IsPlaceOf}
 use Rattle.cdb_causal.specs.Rollback.{without}
-use Rattle.cdb_run.specs.Current.{RunView}
-use Rattle.cdb_run.proofs.Finding.{place_before}
+use Rattle.cdb_rules.specs.RunView.{RunView}
+use Rattle.cdb_rules.proofs.Finding.{place_before}
 use Rattle.cdb_run.proofs.run.Run.take_back_named.Goals as goal
 
 pub take_back-requires-clause-free : goal.take_back-requires-clause-free

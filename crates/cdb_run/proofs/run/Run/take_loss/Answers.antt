@@ -2,10 +2,10 @@ use Rattle.std.proofs.Common.{None, sym, ap, ◌∙◌, subst, arith}
 use Rattle.cdb_base.specs.declared.event.Event.TheVariants.{Lost}
 use Rattle.cdb_record.specs.Entries.{events_of}
 use Rattle.cdb_record.proofs.Seams.{events_push}
-use Rattle.cdb_run.specs.Current.{RunView}
-use Rattle.cdb_run.specs.Runs.{IsNext}
+use Rattle.cdb_rules.specs.RunView.{RunView}
+use Rattle.cdb_rules.specs.Runs.{IsNext}
 use Rattle.cdb_run.proofs.Admitting.{enabled_standing, current_kept}
-use Rattle.cdb_run.proofs.Starting.{length-first_states}
+use Rattle.cdb_rules.proofs.FirstStates.{length-first_states}
 use Rattle.cdb_run.proofs.Held.{on_its_way, receiver_within, current_lost}
 use Rattle.cdb_run.proofs.run.Run.take_loss.Goals as goal
 

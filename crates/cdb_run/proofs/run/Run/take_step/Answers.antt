@@ -3,11 +3,11 @@ use Rattle.std.proofs.lemmas.Grind.{common_steps}
 use Rattle.cdb_base.specs.declared.event.Event.TheVariants.{Step}
 use Rattle.cdb_record.specs.Entries.{events_of}
 use Rattle.cdb_record.proofs.Seams.{events_push}
-use Rattle.cdb_run.specs.Current.{RunView}
-use Rattle.cdb_run.specs.Runs.{IsNext}
+use Rattle.cdb_rules.specs.RunView.{RunView}
+use Rattle.cdb_rules.specs.Runs.{IsNext}
 use Rattle.cdb_run.proofs.Admitting.{enabled_standing}
 use Rattle.cdb_run.proofs.Held.{within, held_there, steps_few, queries_few, accepted_input, may_post, may_write, current_same, current_stepped}
-use Rattle.cdb_run.proofs.Starting.{length-first_states}
+use Rattle.cdb_rules.proofs.FirstStates.{length-first_states}
 use Rattle.cdb_run.proofs.run.Run.take_step.Goals as goal
 
 pub admit-requires : goal.admit-requires

@@ -3,10 +3,10 @@ use Rattle.cdb_base.specs.declared.event.Event.{Event}
 use Rattle.cdb_causal.specs.Causality.{IsFree}
 use Rattle.cdb_causal.specs.Dependence.{depends}
 use Rattle.cdb_causal.specs.Names.{IsFirstDependent}
-use Rattle.cdb_run.specs.Current.{RunView}
-use Rattle.cdb_run.specs.Undo.{answered, left_by}
-use Rattle.cdb_run.proofs.Answering.{free_answer, needed_answer}
-use Rattle.cdb_run.proofs.Finding.{place_before}
+use Rattle.cdb_rules.specs.RunView.{RunView}
+use Rattle.cdb_rules.specs.Undo.{answered, left_by}
+use Rattle.cdb_rules.proofs.Answering.{free_answer, needed_answer}
+use Rattle.cdb_rules.proofs.Finding.{place_before}
 use Rattle.cdb_run.proofs.run.Run.undo_at.Goals as goal
 
 abbrev with_history : RunView → List Event → RunView

@@ -1,11 +1,11 @@
 use Rattle.std.proofs.Common.{rules, ◌≡◌, IfOk, sym, ap, ◌∙◌, subst}
-use Rattle.cdb_run.specs.EventRefs.{name_of}
-use Rattle.cdb_run.specs.Current.{RunView}
-use Rattle.cdb_run.specs.Machines.{machine_of}
-use Rattle.cdb_run.specs.Runs.{undo_answer, with_left, LeadsTo}
-use Rattle.cdb_run.specs.Undo.{answered, for_standing, undo_found}
-use Rattle.cdb_run.proofs.Starting.{length-first_states}
-use Rattle.cdb_run.proofs.TakenBack.{undo_ok_free, undo_leads_back}
+use Rattle.cdb_rules.specs.EventRefs.{name_of}
+use Rattle.cdb_rules.specs.RunView.{RunView}
+use Rattle.cdb_rules.specs.Machines.{machine_of}
+use Rattle.cdb_rules.specs.Runs.{undo_answer, with_left, LeadsTo}
+use Rattle.cdb_rules.specs.Undo.{answered, for_standing, undo_found}
+use Rattle.cdb_rules.proofs.FirstStates.{length-first_states}
+use Rattle.cdb_rules.proofs.TakenBack.{undo_ok_free, undo_leads_back}
 use Rattle.cdb_setup.specs.Parts.{AreInRange}
 use Rattle.cdb_run.proofs.run.Run.undo_event.Goals as goal
 

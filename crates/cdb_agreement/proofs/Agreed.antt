@@ -1,0 +1,38 @@
+-- The decisions that a valid history shows agree, by the rules of its setup.
+use Rattle.std.proofs.Common.{◌≡◌, ℕ, List, IfOk, Result, Ok, Err, Some, IsTrue, is_some, unwrap_or, refl, sym, ap, subst}
+use Rattle.cdb_alpha.specs.LocalState.{LocalState as AlphaState}
+use Rattle.cdb_base.specs.declared.event.Event.{Event}
+use Rattle.cdb_leader.specs.LocalState.{LocalState as LeaderState}
+use Rattle.cdb_setup.specs.Parts.{Parts, AreInRange}
+use Rattle.cdb_setup.specs.declared.setup.Algorithm.{Algorithm}
+use Rattle.cdb_setup.specs.declared.setup.Algorithm.TheVariants.{Leader, Alpha}
+use Rattle.cdb_rules.specs.Agreement.{AllAgree, HasMajorityIfNeeded}
+use Rattle.cdb_rules.specs.Algorithms.{leader_machine, alpha_machine, rules, rules_by}
+use Rattle.cdb_rules.specs.Decisions.{decisions_of}
+use Rattle.cdb_rules.specs.State.{Machine, RunState, start}
+use Rattle.cdb_rules.specs.Step.{fold, state_of}
+use Rattle.cdb_agreement.proofs.AlphaHistories.{alpha_agrees}
+use Rattle.cdb_agreement.proofs.LeaderHistories.{leader_agrees}
+use Rattle.cdb_rules.proofs.Taken.{some_of}
+
+-- what holds of each state that the history reaches holds of the state of a valid history
+of_state : {L : Type 0} (machine : Machine L) (Holds : RunState L → Type 0) (history : List Event) → ((state : RunState L) → fold machine history ≡ Some state → Holds state)
+    → IsTrue (is_some (fold machine history)) → Holds (state_of machine history)
+of_state machine Holds history each valid =
+    let reached = some_of (fold machine history) valid in
+    subst Holds (sym (ap (λ o. unwrap_or o (start machine)) reached.1)) (each reached.0 reached.1)
+
+pub agreed : (setup : Parts) → AreInRange setup → HasMajorityIfNeeded setup → (history : List Event) → IsTrue ((rules setup).valid history) → AllAgree ((rules setup).decisions history)
+agreed setup ranges majority history valid = by_algorithm setup.algorithm refl valid
+  where
+    by_algorithm : (algorithm : Algorithm) → setup.algorithm ≡ algorithm → IsTrue ((rules_by algorithm setup).valid history) → AllAgree ((rules_by algorithm setup).decisions history)
+    by_algorithm Leader is valid =
+        of_state (leader_machine setup) (λ state. AllAgree (decisions_of (λ (local : LeaderState). local.decision) state)) history (leader_agrees setup ranges (majority is) history) valid
+    by_algorithm Alpha is valid =
+        of_state (alpha_machine setup) (λ state. AllAgree (decisions_of (λ (local : AlphaState). local.decision) state)) history (alpha_agrees setup ranges history) valid
+
+-- what is answered, where it is the decisions that are shown
+pub answer_agrees : {V E : Type 0} (items : V → List (ℕ × ℕ)) (answer : Result V E) (setup : Parts) → AreInRange setup → (history : List Event) → IsTrue ((rules setup).valid history)
+    → IfOk answer (λ found. items found ≡ (rules setup).decisions history) → IfOk answer (λ found. HasMajorityIfNeeded setup → AllAgree (items found))
+answer_agrees items (Ok found) setup ranges history valid is = λ majority. subst AllAgree (sym is) (agreed setup ranges majority history valid)
+answer_agrees items (Err why) setup ranges history valid is = tt

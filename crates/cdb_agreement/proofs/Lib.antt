@@ -1,0 +1,15 @@
+pub mod Agreed
+pub mod AlphaHistories
+pub mod AlphaRuns
+pub mod AlphaStepFacts
+pub mod AlphaSteps
+pub mod Decided
+pub mod Firsts
+pub mod KeptHistories
+pub mod Lawful
+pub mod LeaderHistories
+pub mod LeaderLaws
+pub mod LeaderRuns
+pub mod Quorums
+pub mod RoundLaws
+pub mod Worked

@@ -1,0 +1,5 @@
+use Rattle.cdb_agreement.proofs.Agreed.{agreed}
+use Rattle.cdb_agreement.proofs.agreement.shown_decisions_agree.Goals as goal
+
+pub returns : goal.returns
+returns c = agreed

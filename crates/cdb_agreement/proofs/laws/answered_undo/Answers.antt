@@ -1,0 +1,18 @@
+use Rattle.cdb_rules.proofs.Answered.{undone_back}
+use Rattle.cdb_rules.proofs.Standing.{free_undone, needed_refused, new_undone, absent_undone}
+use Rattle.cdb_agreement.proofs.laws.answered_undo.Goals as goal
+
+pub returns-clause-taken : goal.returns-clause-taken
+returns-clause-taken g c = free_undone
+
+pub returns-clause-needed : goal.returns-clause-needed
+returns-clause-needed g c = needed_refused
+
+pub returns-clause-no_step : goal.returns-clause-no_step
+returns-clause-no_step g c = new_undone
+
+pub returns-clause-no_process : goal.returns-clause-no_process
+returns-clause-no_process g c = absent_undone
+
+pub returns-clause-back : goal.returns-clause-back
+returns-clause-back g c = λ machine. undone_back machine

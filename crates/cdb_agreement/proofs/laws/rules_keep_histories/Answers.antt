@@ -1,0 +1,5 @@
+use Rattle.cdb_agreement.proofs.KeptHistories.{rules_keep_histories}
+use Rattle.cdb_agreement.proofs.laws.rules_keep_histories.Goals as goal
+
+pub returns : goal.returns
+returns c = rules_keep_histories

@@ -1,0 +1,72 @@
+//! Agreement: no two decisions that stand in a run differ, whatever the oracle answers, whoever crashes,
+//! whatever is lost, and in whatever order the events stand. Each function does nothing: its contract
+//! is the law.
+
+ghost use Rattle.std.specs.Prelude.{◌≡◌, ◌*◌, ◌<◌, List, [], ◌∷◌, ◌++◌, Some, IsTrue};
+ghost use Rattle.cdb_alpha.specs.LocalState.{LocalState as AlphaState};
+ghost use Rattle.cdb_base.specs.declared.event.Event.{Event};
+ghost use Rattle.cdb_leader.specs.LocalState.{LocalState as LeaderState};
+ghost use Rattle.cdb_rules.specs.Agreement.{AllAgree, HasMajorityIfNeeded};
+ghost use Rattle.cdb_rules.specs.Algorithms.{leader_machine, alpha_machine, rules};
+ghost use Rattle.cdb_rules.specs.Decisions.{decisions_of};
+ghost use Rattle.cdb_agreement.specs.Rounds.{LeaderMessages, LeaderRounds, AlphaRounds};
+ghost use Rattle.cdb_rules.specs.State.{RunState};
+ghost use Rattle.cdb_rules.specs.Step.{fold};
+ghost use Rattle.cdb_agreement.specs.WorkedRuns.{leader_steps, leader_decisions, alpha_steps, alpha_decisions};
+ghost use Rattle.cdb_setup.specs.Parts.{Parts, AreInRange};
+
+/// No two standing decisions of the leader-based algorithm differ, where a quorum is more than half of
+/// the processes.
+pub fn leader_decisions_agree()
+    ensures { (setup : Parts) → AreInRange setup → setup.processes < 2 * setup.quorum →
+        (history : List Event) (state : RunState LeaderState) →
+        fold (leader_machine setup) history ≡ Some state →
+        AllAgree (decisions_of (λ local. local.decision) state) }
+{}
+
+/// No two standing decisions of Alpha differ, whatever the quorum.
+pub fn alpha_decisions_agree()
+    ensures { (setup : Parts) → AreInRange setup →
+        (history : List Event) (state : RunState AlphaState) →
+        fold (alpha_machine setup) history ≡ Some state →
+        AllAgree (decisions_of (λ local. local.decision) state) }
+{}
+
+/// The decisions that a valid history shows agree, by the rules of its setup.
+pub fn shown_decisions_agree()
+    ensures { (setup : Parts) → AreInRange setup → HasMajorityIfNeeded setup →
+        (history : List Event) → IsTrue ((rules setup).valid history) →
+        AllAgree ((rules setup).decisions history) }
+{}
+
+/// By either algorithm a process alone decides its input: the laws above are about decisions that are
+/// reached. Where a quorum is not more than half of the processes, two processes of the leader-based
+/// algorithm decide two values.
+pub fn worked_runs()
+    ensures leader { leader_decisions (7 ∷ []) (leader_steps 1) ≡ Some ((1, 7) ∷ []) }
+    ensures two_values { leader_decisions (5 ∷ 6 ∷ []) (leader_steps 1 ++ leader_steps 2)
+        ≡ Some ((1, 5) ∷ (2, 6) ∷ []) }
+    ensures alpha { alpha_decisions (7 ∷ []) alpha_steps ≡ Some ((1, 7) ∷ []) }
+{}
+
+/// In each state that a valid history of the leader-based algorithm reaches, a process has sent one message of
+/// each phase a round, what was received was sent, and what is sent or learnt as a decision a quorum answered in one
+/// round. Where a quorum is a majority the answers of a round have one value, and what is decided in it is the estimate
+/// of all later rounds.
+pub fn leader_rounds()
+    ensures messages { (setup : Parts) (history : List Event) (state : RunState LeaderState) →
+        fold (leader_machine setup) history ≡ Some state → LeaderMessages setup.quorum state }
+    ensures rounds { (setup : Parts) → AreInRange setup → setup.processes < 2 * setup.quorum →
+        (history : List Event) (state : RunState LeaderState) →
+        fold (leader_machine setup) history ≡ Some state → LeaderRounds setup.quorum state }
+{}
+
+/// In each state that a valid history of Alpha reaches, register i is written by process i alone and shows what it
+/// wrote last, no round in it ever falls, rounds are of one process, whoever settles a value has read every register in its round, and what is
+/// decided is what every write of a later round wrote.
+pub fn alpha_rounds()
+    ensures { (setup : Parts) → AreInRange setup →
+        (history : List Event) (state : RunState AlphaState) →
+        fold (alpha_machine setup) history ≡ Some state →
+        AlphaRounds (alpha_machine setup) setup.processes state }
+{}

@@ -1,0 +1,4 @@
+pub mod Cells
+pub mod Forwarding
+pub mod Nameable
+pub mod OpenCopies

@@ -1,0 +1,183 @@
+-- A process is found by its number, and an event by its name.
+use Rattle.std.proofs.Common.{◌≡◌, ℕ, zero, suc, ◌+◌, ◌-◌, ◌<◌, ◌≤◌, Bool, true, false, not, ◌&&◌, ◌==◌, List, [], ◌∷◌, length, Option, Some, None, Err, MatchOption, MatchResult, IfOk, IfNone, cond, nat_lt, slice_get, if◌then◌else◌, refl, sym, ap, ap₂, ◌∙◌, subst, true≢false, arith}
+use Rattle.std.proofs.lemmas.Option.{none-some, same_Some, slice_get_within}
+use Rattle.std.proofs.lemmas.Bool.Decides.{nat_tests}
+use Rattle.std.specs.List.{position, position_or_len}
+use Rattle.std.specs.Option.{option_map_or}
+use Rattle.std.specs.Prelude.{ok_or}
+use Rattle.cdb_base.specs.Event.{event_name}
+use Rattle.cdb_base.specs.Places.{nth}
+use Rattle.cdb_base.specs.declared.event.Event.{Event}
+use Rattle.cdb_base.specs.declared.event.Event.TheVariants.{Step, Lost}
+use Rattle.cdb_base.specs.declared.name.StepId.{StepId}
+use Rattle.cdb_base.specs.declared.name.StepId.TheVariants as named
+use Rattle.cdb_base.specs.declared.refusal.Refusal.TheVariants as refusal
+use Rattle.cdb_causal.specs.Names.{IsNewName, IsPlaceOf}
+use Rattle.cdb_rules.specs.State.{Machine}
+use Rattle.cdb_rules.specs.Step.{IsValid, is_among}
+use Rattle.cdb_rules.specs.Undo.{has_name, names_processes, found_at, event_named}
+use Rattle.cdb_rules.proofs.Kept.{is_false}
+use Rattle.cdb_rules.proofs.Limits.{step_within, loss_within}
+use Rattle.cdb_rules.proofs.Naming.{in_place}
+use Rattle.cdb_rules.proofs.Places.{get_at}
+use Rattle.cdb_rules.proofs.Taken.{both}
+
+module _ {E : Type 0} (test : E → Bool) where
+  place_or_len : (xs : List E) (i : ℕ) (x : E) → slice_get xs i ≡ Some x → test x ≡ true → ((k : ℕ) (y : E) → k < i → slice_get xs k ≡ Some y → test y ≡ false) → (position_or_len test xs ≡ i) × (i < length xs)
+  place_or_len [] i x at holds none = absurd (none-some x at)
+  place_or_len (y ∷ ys) zero x at holds none =
+      (ap (λ b. cond (not b) (1 + position_or_len test ys) 0) (ap test (same_Some y x at) ∙ holds), omega arith)
+  place_or_len (y ∷ ys) (suc i) x at holds none =
+      let rest = place_or_len ys i x at holds (λ k z less at_k. none (suc k) z (omega (arith, less)) at_k) in
+      let here = rest.0 in
+      let below = rest.1 in
+      let more : 1 + position_or_len test ys ≡ suc i = omega (arith, here) in
+      (ap (λ b. cond (not b) (1 + position_or_len test ys) 0) (none 0 y (omega arith) refl) ∙ more, omega (arith, below))
+
+  all_len : (xs : List E) → ((k : ℕ) (y : E) → slice_get xs k ≡ Some y → test y ≡ false) → position_or_len test xs ≡ length xs
+  all_len [] none = refl
+  all_len (y ∷ ys) none =
+      let rest = all_len ys (λ k z at_k. none (suc k) z at_k) in
+      let more : 1 + position_or_len test ys ≡ length (y ∷ ys) = omega (arith, rest) in
+      ap (λ b. cond (not b) (1 + position_or_len test ys) 0) (none 0 y refl) ∙ more
+
+  position_is : (xs : List E) (i : ℕ) (x : E) → slice_get xs i ≡ Some x → test x ≡ true → ((k : ℕ) (y : E) → k < i → slice_get xs k ≡ Some y → test y ≡ false) → position test xs ≡ Some i
+  position_is xs i x at holds none =
+      let place = place_or_len xs i x at holds none in
+      ap (λ n. cond (nat_lt n (length xs)) (Some n) None) place.0 ∙ ap (λ b. cond b (Some i) None) (is_below i (length xs) place.1)
+    where
+      is_below : (i n : ℕ) → i < n → nat_lt i n ≡ true
+      is_below i n below = grind (arith, nat_tests)
+
+  position_none : (xs : List E) → ((k : ℕ) (y : E) → slice_get xs k ≡ Some y → test y ≡ false) → position test xs ≡ None
+  position_none xs none =
+      ap (λ n. cond (nat_lt n (length xs)) (Some n) None) (all_len xs none) ∙ ap (λ b. cond b (Some (length xs)) None) (not_below (length xs))
+    where
+      not_below : (n : ℕ) → nat_lt n n ≡ false
+      not_below n = grind (arith, nat_tests)
+
+-- The test for a name is the equation of names.
+
+is_same : (a b : ℕ) → (a == b) ≡ true → a ≡ b
+is_same a b h = grind (arith, nat_tests)
+
+itself : (a : ℕ) → (a == a) ≡ true
+itself a = grind (arith, nat_tests)
+
+pub has_name_is : (name : StepId) (event : Event) → has_name name event ≡ true → event_name event ≡ name
+has_name_is (named.Step name) (Step p k kind) h =
+    let parts = both (p == name.p) (k == name.k) h in
+    ap₂ (λ q l. named.Step (record { p = q; k = l })) (is_same p name.p parts.0) (is_same k name.k parts.1)
+has_name_is (named.Step name) (Lost copy) h = absurd (true≢false (sym h))
+has_name_is (named.Lost copy) (Step p k kind) h = absurd (true≢false (sym h))
+has_name_is (named.Lost copy) (Lost other) h =
+    let parts = both ((other.msg.s == copy.msg.s) && (other.msg.m == copy.msg.m)) (other.to == copy.to) h in
+    let message = both (other.msg.s == copy.msg.s) (other.msg.m == copy.msg.m) parts.0 in
+    λ i.
+    named.Lost (record {
+      msg = record { s = is_same other.msg.s copy.msg.s message.0 i; m = is_same other.msg.m copy.msg.m message.1 i };
+      to = is_same other.to copy.to parts.1 i;
+    })
+
+has_own_name : (event : Event) → has_name (event_name event) event ≡ true
+has_own_name (Step p k kind) = ap₂ (λ a b. a && b) (itself p) (itself k)
+has_own_name (Lost copy) = ap₂ (λ a b. a && b) (ap₂ (λ a b. a && b) (itself copy.msg.s) (itself copy.msg.m)) (itself copy.to)
+
+named_has : (name : StepId) (event : Event) → event_name event ≡ name → has_name name event ≡ true
+named_has name event is = subst (λ n. has_name n event ≡ true) is (has_own_name event)
+
+module _ (history : List Event) (name : StepId) where
+  place_is : (at : ℕ) → IsPlaceOf history name at → position (has_name name) history ≡ Some (at - 1)
+  place_is at place =
+      position_is (has_name name) history (at - 1) place.named.0 place.named.1 (named_has name place.named.0 place.named.2)
+      (λ k y less at_k. is_false (has_name name y) (λ h. let same = place.only k (y, at_k, has_name_is name y h) in omega (arith, less, same)))
+
+  new_is : IsNewName history name → position (has_name name) history ≡ None
+  new_is new = position_none (has_name name) history (λ k y at_k. is_false (has_name name y) (λ h. new k (y, at_k, has_name_is name y h)))
+
+  module _ (n : ℕ) where
+    by_place : (o : Option ℕ) → names_processes n name ≡ true → position (has_name name) history ≡ o → event_named n history name ≡ option_map_or (found_at history) o (Err refusal.NoStep)
+    by_place o there is = ap₂ (λ b p. if b then option_map_or (found_at history) p (Err refusal.NoStep) else Err refusal.NoProcess) there is
+
+    pub stands_named : (at : ℕ) → names_processes n name ≡ true → IsPlaceOf history name at → event_named n history name ≡ found_at history (at - 1)
+    stands_named at there place = by_place (Some (at - 1)) there (place_is at place)
+
+    pub none_named : names_processes n name ≡ true → IsNewName history name → event_named n history name ≡ Err refusal.NoStep
+    none_named there new = by_place None there (new_is new)
+
+    pub no_process_named : names_processes n name ≡ false → event_named n history name ≡ Err refusal.NoProcess
+    no_process_named absent = ap (λ b. if b then option_map_or (found_at history) (position (has_name name) history) (Err refusal.NoStep) else Err refusal.NoProcess) absent
+
+pub place_within : (history : List Event) (name : StepId) (at : ℕ) → IsPlaceOf history name at → at ≤ length history
+place_within history name at place = let below = slice_get_within history (at - 1) place.named.0 place.named.1 in let first = place.from_one in omega (arith, below, first)
+
+-- In a valid history no event has a greater number.
+
+abbrev pub number_of : StepId → ℕ
+number_of (named.Step step) = step.k
+number_of (named.Lost copy) = copy.msg.m
+
+module _ {L : Type 0} (machine : Machine L) (history : List Event) (valid : IsValid machine history) where
+  number_few : (name : StepId) (i : ℕ) (event : Event) → slice_get history i ≡ Some event → event_name event ≡ name → number_of name ≤ 9999
+  number_few name i (Step p k kind) at is =
+      let few = step_within machine history valid p k kind (in_place history i (Step p k kind) at) in
+      let same = ap number_of is in
+      omega (arith, few, same)
+  number_few name i (Lost copy) at is =
+      let few = loss_within machine history valid copy (in_place history i (Lost copy) at) in
+      let same = ap number_of is in
+      omega (arith, few, same)
+
+  pub too_great : (name : StepId) → 9999 < number_of name → IsNewName history name
+  too_great name great i named_at = let few = number_few name i named_at.0 named_at.1 named_at.2 in omega (arith, great, few)
+
+-- A process among n.
+
+module _ (n p : ℕ) where
+  pub among_is : 1 ≤ p → p ≤ n → is_among n p ≡ true
+  among_is first last = grind (arith, nat_tests)
+
+  among_first : is_among n p ≡ true → 1 ≤ p
+  among_first h = grind (arith, nat_tests)
+
+  among_last : is_among n p ≡ true → p ≤ n
+  among_last h = grind (arith, nat_tests)
+
+  module _ (found : Option ℕ) (is : found ≡ (if is_among n p then Some p else None)) where
+    pub among_some : MatchOption found (is_among n p ≡ false) (λ q. (q ≡ p) × (p ≤ n) × (1 ≤ p))
+    among_some =
+        subst (λ o. MatchOption o (is_among n p ≡ false) (λ q. (q ≡ p) × (p ≤ n) × (1 ≤ p))) (sym is)
+        (elim (is_among n p) as (λ b. is_among n p ≡ b → MatchOption (if b then Some p else None) (is_among n p ≡ false) (λ q. (q ≡ p) × (p ≤ n) × (1 ≤ p))) [
+          | true ↦ λ e. (refl, among_last e, among_first e)
+          | false ↦ λ e. e
+        ] refl)
+
+    pub among_none : {P : Type 0} → (is_among n p ≡ false → P) → IfNone found P
+    among_none {P = P} none =
+        subst (λ o. IfNone o P) (sym is)
+        (elim (is_among n p) as (λ b. is_among n p ≡ b → IfNone (if b then Some p else None) P) [ true ↦ λ e. tt | false ↦ none ] refl)
+
+-- What is found, as it is answered.
+
+module _ (history : List Event) (name : StepId) (at : Option ℕ) (is : MatchOption at (IsNewName history name) (IsPlaceOf history name)) where
+  pub found_answer : (n : ℕ) → names_processes n name ≡ true → MatchResult (ok_or at refusal.NoStep) (λ place. event_named n history name ≡ found_at history (place - 1)) (λ why. event_named n history name ≡ Err why)
+  found_answer n there = by at is
+    where
+      by : (o : Option ℕ) → MatchOption o (IsNewName history name) (IsPlaceOf history name) → MatchResult (ok_or o refusal.NoStep) (λ place. event_named n history name ≡ found_at history (place - 1)) (λ why. event_named n history name ≡ Err why)
+      by None new = none_named history name n there new
+      by (Some place) stands = stands_named history name n place there stands
+
+  pub found_within : IfOk (ok_or at refusal.NoStep) (λ place. (1 ≤ place) × (place ≤ length history))
+  found_within = by at is
+    where
+      by : (o : Option ℕ) → MatchOption o (IsNewName history name) (IsPlaceOf history name) → IfOk (ok_or o refusal.NoStep) (λ place. (1 ≤ place) × (place ≤ length history))
+      by None new = tt
+      by (Some place) stands = (stands.from_one, place_within history name place stands)
+
+-- what stands at a place from 1 stands, counted from 0, at the one before
+pub place_before : {A : Type 0} (xs : List A) (at : ℕ) (x : A) → 1 ≤ at → nth xs at ≡ Some x → slice_get xs (at - 1) ≡ Some x
+place_before xs at x first stands = let same : (at - 1) + 1 ≡ at = omega (arith, first) in get_at xs (at - 1) at same ∙ stands
+
+-- what does not fit in 16 bits is greater than each number of a step or a message
+pub beyond : (k : ℕ) → (k < 65536 → ⊥) → 9999 < k
+beyond k wide = grind arith

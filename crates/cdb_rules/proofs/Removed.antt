@@ -1,0 +1,133 @@
+-- What undo and rollback take out of a history is missing from it.
+use Rattle.std.proofs.Common.{◌≡◌, ℕ, zero, suc, ◌+◌, ◌≤◌, Bool, true, false, cond, List, [], ◌∷◌, ◌++◌, length, Option, Some, None, Result, Ok, Err, reverse, slice_get, find, refl, sym, subst, arith}
+use Rattle.std.specs.List.{AllByRecursion, position}
+use Rattle.std.proofs.lemmas.List.{length-reverse, reverse-append}
+use Rattle.std.proofs.lemmas.Option.{none-some, same_Some}
+use Rattle.cdb_base.specs.declared.event.Event.{Event}
+use Rattle.cdb_base.specs.declared.name.StepId.{StepId}
+use Rattle.cdb_base.specs.declared.refusal.Refusal.{Refusal}
+use Rattle.cdb_causal.specs.Dependence.{depends}
+use Rattle.cdb_causal.specs.Rollback.{without, depends_on_one, caught, spared, rolled_back, remaining}
+use Rattle.cdb_rules.proofs.Alls.{all-append}
+use Rattle.cdb_rules.specs.Undo.{Found, has_name, names_processes, found_at, event_named, undo_of, rollback_of, answered, number_removed}
+
+option_cases : {A : Type 0} (G : Type 0) (o : Option A) → (o ≡ None → G) → ((a : A) → o ≡ Some a → G) → G
+option_cases G None none some = none refl
+option_cases G (Some a) none some = some a refl
+
+result_cases : {A : Type 0} (G : Type 0) (r : Result A Refusal) → ((a : A) → r ≡ Ok a → G) → ((why : Refusal) → r ≡ Err why → G) → G
+result_cases G (Ok a) ok err = ok a refl
+result_cases G (Err why) ok err = err why refl
+
+bool_cases : (G : Type 0) (b : Bool) → (b ≡ true → G) → (b ≡ false → G) → G
+bool_cases G true holds fails = holds refl
+bool_cases G false holds fails = fails refl
+
+ok_same : {A : Type 0} (a b : A) → (let r : Result A Refusal = Ok a in r) ≡ Ok b → a ≡ b
+ok_same a b h = cc
+
+-- what is found stands where it was found
+abbrev IsAt : List Event → Found → Type 0
+IsAt history found = slice_get history found.place ≡ Some found.event
+
+at-place : (history : List Event) (place : ℕ) (found : Found) → found_at history place ≡ Ok found → IsAt history found
+at-place history place found h =
+    option_cases (IsAt history found) (slice_get history place)
+    (λ none. let f : found_at history place ≡ Ok found → IsAt history found = rw none (λ k. absurd (cc)) in f h)
+    (λ event some. let f : found_at history place ≡ Ok found → IsAt history found = rw some (λ k. subst (IsAt history) (ok_same _ found k) some) in f h)
+
+standing-at : (n : ℕ) (history : List Event) (name : StepId) (found : Found) → event_named n history name ≡ Ok found → IsAt history found
+standing-at n history name found h =
+    bool_cases (IsAt history found) (names_processes n name)
+    (λ named. option_cases (IsAt history found) (position (has_name name) history)
+    (λ none. let f : event_named n history name ≡ Ok found → IsAt history found = rw (named, none) (λ k. absurd (cc)) in f h)
+    (λ place some. let f : event_named n history name ≡ Ok found → IsAt history found = rw (named, some) (λ k. at-place history place found k) in f h))
+    (λ unnamed. let f : event_named n history name ≡ Ok found → IsAt history found = rw unnamed (λ k. absurd (cc)) in f h)
+
+module _ (P : Event → Type 0) where
+  -- the events that went and those that are left are those that stood, in number and in what is true of each
+  pub record Parted (history events rest : List Event) : Type 0 where
+    pub count : length rest + length events ≡ length history
+    pub gone : AllByRecursion P history → AllByRecursion P events
+    pub left : AllByRecursion P history → AllByRecursion P rest
+
+  without-parted : (history : List Event) (i : ℕ) (event : Event) → slice_get history i ≡ Some event → Parted history (event ∷ []) (without history i)
+  without-parted [] i event at = absurd (none-some event at)
+  without-parted (x ∷ xs) zero event at = record { count = omega arith; gone = λ all. (subst P (same_Some x event at) all.0, tt); left = λ all. all.1 }
+  without-parted (x ∷ xs) (suc i) event at =
+      let rest = without-parted xs i event at in
+      record { count = omega (arith, rest.count); gone = λ all. rest.gone all.1; left = λ all. (all.0, rest.left all.1) }
+
+  one-more : (b : Bool) (x : Event) (xs taken left_taken spared_ left_spared : List Event) → Parted xs taken left_taken → Parted xs spared_ left_spared → Parted (x ∷ xs) (cond b (x ∷ taken) spared_) (cond b left_taken (x ∷ left_spared))
+  one-more true x xs taken left_taken spared_ left_spared h k =
+      record { count = omega (arith, h.count); gone = λ all. (all.0, h.gone all.1); left = λ all. h.left all.1 }
+  one-more false x xs taken left_taken spared_ left_spared h k =
+      record { count = omega (arith, k.count); gone = λ all. k.gone all.1; left = λ all. (all.0, k.left all.1) }
+
+  caught-parted : (causes events : List Event) → Parted events (caught depends causes events) (spared depends causes events)
+  caught-parted causes [] = record { count = refl; gone = λ all. tt; left = λ all. tt }
+  caught-parted causes (x ∷ xs) =
+      one-more (depends_on_one depends causes x) x xs _ _ _ _ (caught-parted (causes ++ x ∷ []) xs) (caught-parted causes xs)
+
+  rolled-parted : (history : List Event) (i : ℕ) → Parted history (rolled_back depends history i) (remaining depends history i)
+  rolled-parted [] i = record { count = refl; gone = λ all. tt; left = λ all. tt }
+  rolled-parted (x ∷ xs) zero = let rest = caught-parted (x ∷ []) xs in record { count = omega (arith, rest.count); gone = λ all. (all.0, rest.gone all.1); left = λ all. rest.left all.1 }
+  rolled-parted (x ∷ xs) (suc i) = let rest = rolled-parted xs i in record { count = omega (arith, rest.count); gone = λ all. rest.gone all.1; left = λ all. (all.0, rest.left all.1) }
+
+  all-reverse : (events : List Event) → AllByRecursion P events → AllByRecursion P (reverse events)
+  all-reverse [] all = tt
+  all-reverse (x ∷ xs) all = subst (AllByRecursion P) (sym (reverse-append (x ∷ []) xs)) (all-append P (reverse xs) (x ∷ []) (all-reverse xs all.1) (all.0, tt))
+
+  pub undone-parted : (n : ℕ) (history : List Event) (name : StepId) (undone : Event × List Event) → undo_of n history name ≡ Ok undone → Parted history (undone.0 ∷ []) undone.1
+  undone-parted n history name undone h =
+      result_cases (Parted history (undone.0 ∷ []) undone.1) (event_named n history name)
+      (λ found is. option_cases (Parted history (undone.0 ∷ []) undone.1) (find (depends found.event) found.later)
+      (λ none. let f : undo_of n history name ≡ Ok undone → Parted history (undone.0 ∷ []) undone.1 =
+      rw (is, none) (λ k. subst (λ (u : Event × List Event). Parted history (u.0 ∷ []) u.1) (ok_same _ undone k) (without-parted history found.place found.event (standing-at n history name found is)))
+      in
+      f h)
+      (λ dependent some. let f : undo_of n history name ≡ Ok undone → Parted history (undone.0 ∷ []) undone.1 = rw (is, some) (λ k. absurd (cc)) in f h))
+      (λ why is. let f : undo_of n history name ≡ Ok undone → Parted history (undone.0 ∷ []) undone.1 = rw is (λ k. absurd (cc)) in f h)
+
+  pub rolled_back-parted : (n : ℕ) (history : List Event) (name : StepId) (removed : List Event × List Event) → rollback_of n history name ≡ Ok removed → Parted history removed.0 removed.1
+  rolled_back-parted n history name removed h =
+      result_cases (Parted history removed.0 removed.1) (event_named n history name)
+      (λ found is. let f : rollback_of n history name ≡ Ok removed → Parted history removed.0 removed.1 =
+      rw is (λ k. subst (λ (r : List Event × List Event). Parted history r.0 r.1) (ok_same _ removed k) (turned history found.place)) in
+      f h)
+      (λ why is. let f : rollback_of n history name ≡ Ok removed → Parted history removed.0 removed.1 = rw is (λ k. absurd (cc)) in f h)
+    where
+      turned : (history : List Event) (i : ℕ) → Parted history (reverse (rolled_back depends history i)) (remaining depends history i)
+      turned history i =
+          let parted = rolled-parted history i in
+          record {
+            count = omega (arith, parted.count, length-reverse (rolled_back depends history i));
+            gone = λ all. all-reverse (rolled_back depends history i) (parted.gone all);
+            left = parted.left;
+          }
+
+-- a rollback removes one event at least
+rolled-one : (history : List Event) (i : ℕ) (event : Event) → slice_get history i ≡ Some event → 1 ≤ length (rolled_back depends history i)
+rolled-one [] i event at = absurd (none-some event at)
+rolled-one (x ∷ xs) zero event at = omega arith
+rolled-one (x ∷ xs) (suc i) event at = rolled-one xs i event at
+
+pub removed-one : (n : ℕ) (history : List Event) (name : StepId) (removed : List Event × List Event) → rollback_of n history name ≡ Ok removed → 1 ≤ length removed.0
+removed-one n history name removed h =
+    result_cases (1 ≤ length removed.0) (event_named n history name)
+    (λ found is. let f : rollback_of n history name ≡ Ok removed → 1 ≤ length removed.0 =
+    rw is (λ k. subst (λ (r : List Event × List Event). 1 ≤ length r.0) (ok_same _ removed k)
+    (omega (arith, length-reverse (rolled_back depends history found.place), rolled-one history found.place found.event (standing-at n history name found is)))) in
+    f h)
+    (λ why is. let f : rollback_of n history name ≡ Ok removed → 1 ≤ length removed.0 = rw is (λ k. absurd (cc)) in f h)
+
+-- no more events are removed than stood
+pub few-removed : (n : ℕ) (history : List Event) (name : StepId) (count most : ℕ) → length history ≤ most → number_removed (answered (rollback_of n history name)) ≡ Ok count → count ≤ most
+few-removed n history name count most few counted = go (rollback_of n history name) refl counted
+  where
+    go : (r : Result (List Event × List Event) Refusal) → rollback_of n history name ≡ r → number_removed (answered r) ≡ Ok count → count ≤ most
+    go (Ok removed) is h =
+        let parted = rolled_back-parted (λ _. Unit {0}) n history name removed is in
+        let same : length removed.0 ≡ count = cc in
+        omega (arith, parted.count, same, few)
+    go (Err why) is h = absurd (cc)

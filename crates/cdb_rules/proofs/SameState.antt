@@ -1,0 +1,166 @@
+-- Histories that reach the same state are equal up to exchange.
+use Rattle.std.proofs.Common.{◌≡◌, ℕ, Bool, true, false, ◌&&◌, ◌||◌, ◌⊎◌, inl, inr, ⊎_elim, List, [], ◌∷◌, Option, Some, nat_eq, refl, sym, ap, ap₂, ◌∙◌, subst, true≢false, lt_irrefl, arith}
+use Rattle.std.proofs.lemmas.Option.{same_Some}
+use Rattle.cdb_base.specs.Registers.{same_register-itself}
+use Rattle.cdb_base.specs.declared.event.Event.{Event}
+use Rattle.cdb_base.specs.declared.event.Event.TheVariants.{Step, Lost}
+use Rattle.cdb_base.specs.declared.event.Kind.{Kind}
+use Rattle.cdb_base.specs.declared.event.Kind.TheVariants.{Send, Recv, Write}
+use Rattle.cdb_base.specs.declared.name.CopyName.{CopyName}
+use Rattle.cdb_base.specs.declared.register.Reg.{Reg}
+use Rattle.cdb_causal.specs.Dependence.{accesses, sends, receives, depends}
+use Rattle.cdb_causal.specs.Effects.{kind_affects}
+use Rattle.cdb_causal.proofs.Effects.{by_effect}
+use Rattle.cdb_causal.specs.Exchange.{IsExchanged, IsIn, here, there, IsBefore, IsEachOnce, KeepsOrder}
+use Rattle.cdb_causal.proofs.Orders.{exchanged_from_order}
+use Rattle.cdb_causal.proofs.Symmetry.{depends-symmetric}
+use Rattle.cdb_message.specs.Mail.{is_lost}
+use Rattle.cdb_rules.specs.Mail.{mail_of}
+use Rattle.cdb_rules.specs.State.{Machine, OwnEvent, RunState, start}
+use Rattle.cdb_rules.specs.Step.{fold}
+use Rattle.cdb_rules.proofs.Kept.{nat_eq-is}
+use Rattle.cdb_rules.proofs.Members.{IsOrdered, AreStepsOrdered, member, ordered, own_comes, lost_comes, start_counted, start_empty, start_unlost}
+use Rattle.cdb_rules.proofs.Numbers.{own_at}
+use Rattle.cdb_rules.proofs.Taken.{both}
+
+or_cases : (a b : Bool) → (a || b) ≡ true → (a ≡ true) ⊎ (b ≡ true)
+or_cases true b h = inl refl
+or_cases false b h = inr h
+
+-- what sends a message is the send of that number, what receives it the receive
+
+pub receives_it : (s m : ℕ) (kind : Kind) → receives s m kind ≡ true → kind ≡ Recv s m
+receives_it s m (Recv t n) h = let q = both (nat_eq s t) (nat_eq m n) h in ap₂ Recv (sym (nat_eq-is s t q.0)) (sym (nat_eq-is m n q.1))
+receives_it s m _ h = absurd (true≢false (sym h))
+
+pub sends_it : (s m p : ℕ) (kind : Kind) → sends s m p kind ≡ true → (p ≡ s) × (kind ≡ Send m)
+sends_it s m p (Send n) h = let q = both (nat_eq p s) (nat_eq n m) h in (nat_eq-is p s q.0, ap Send (nat_eq-is n m q.1))
+sends_it s m p _ h = absurd (true≢false (sym h))
+
+affects_cases : (p : ℕ) (kind other : Kind) → kind_affects p kind other ≡ true → ((m : ℕ) × (kind ≡ Send m) × (other ≡ Recv p m)) ⊎ ((register : Reg) × (kind ≡ Write register) × (accesses register other ≡ true))
+affects_cases p (Send m) other h = inl (m, refl, receives_it p m other h)
+affects_cases p (Write register) other h = inr (register, refl, h)
+affects_cases p _ other h = absurd (true≢false (sym h))
+
+-- of two events of a list, the one stands before the other, or they are one
+pub stand_apart : (x y : Event) (events : List Event) → IsIn x events → IsIn y events → IsBefore x y events ⊎ ((x ≡ y) ⊎ IsBefore y x events)
+stand_apart x y [] i j = elim i [ ]
+stand_apart x y (e ∷ es) here here = inr (inl refl)
+stand_apart x y (e ∷ es) here (there j) = inl (here j)
+stand_apart x y (e ∷ es) (there i) here = inr (inr (here i))
+stand_apart x y (e ∷ es) (there i) (there j) =
+    ⊎_elim (λ b. inl (there b)) (⊎_elim (λ s. inr (inl s)) (λ b. inr (inr (there b)))) (stand_apart x y es i j)
+
+noted_number : (x : Event) (a b : ℕ) → ◌≡◌ {A = Option OwnEvent} (Some (record { event = x; writes_before = Some a })) (Some (record { event = x; writes_before = Some b })) → a ≡ b
+noted_number x a b h = same_Some a b (ap (λ (o : OwnEvent). o.writes_before) (same_Some (record { event = x; writes_before = Some a }) (record { event = x; writes_before = Some b }) h))
+
+module _ {L : Type 0} (machine : Machine L) where
+  module _ (to : RunState L) where
+    clash : (register : Reg) (p k : ℕ) (kind : Kind) (q l : ℕ) (other : Kind) → kind ≡ Write register → accesses register other ≡ true → AreStepsOrdered machine to p k kind q l other → AreStepsOrdered machine to q l other p k kind → ⊥
+    clash register p k kind q l other e two o b =
+        let one = ap (accesses register) e ∙ same_register-itself register in
+        let w = o.writes register one two in
+        let z = b.writes register two one in
+        let same_first = noted_number (Step p k kind) w.0 z.1 (sym w.2 ∙ z.3) in
+        let same_second = noted_number (Step q l other) w.1 z.0 (sym w.3 ∙ z.2) in
+        let less = w.5 e in
+        let most = z.4 in
+        omega (arith, same_first, same_second, less, most)
+
+    steps_not_both : (p k : ℕ) (kind : Kind) (q l : ℕ) (other : Kind) → depends (Step p k kind) (Step q l other) ≡ true → AreStepsOrdered machine to p k kind q l other → AreStepsOrdered machine to q l other p k kind → ⊥
+    steps_not_both p k kind q l other h o b =
+        ⊎_elim
+        (λ e. let same = nat_eq-is p q e in let one = o.numbers same in let two = b.numbers (sym same) in omega (arith, one, two))
+        (λ r. ⊎_elim
+        (λ a. ⊎_elim (λ c. b.no_early_receive c.0 c.2 c.1) (λ c. clash c.0 p k kind q l other c.1 c.2 o b) (affects_cases p kind other a))
+        (λ a. ⊎_elim (λ c. o.no_early_receive c.0 c.2 c.1) (λ c. clash c.0 q l other p k kind c.1 c.2 b o) (affects_cases q other kind a))
+        (or_cases (kind_affects p kind other) (kind_affects q other kind) r))
+        (or_cases (nat_eq p q) (kind_affects p kind other || kind_affects q other kind) (sym (by_effect (Step p k kind) (Step q l other)) ∙ h))
+
+    pub step_loss_not_both : (p k : ℕ) (kind : Kind) (copy : CopyName) → depends (Step p k kind) (Lost copy) ≡ true → IsOrdered machine to (Lost copy) (Step p k kind) → ⊥
+    step_loss_not_both p k kind copy h o =
+        ⊎_elim
+        (λ s. o.0 (sends_it copy.msg.s copy.msg.m p kind s))
+        (λ r. let q = both (nat_eq p copy.to) (receives copy.msg.s copy.msg.m kind) r in o.1 (nat_eq-is p copy.to q.0, receives_it copy.msg.s copy.msg.m kind q.1))
+        (or_cases (sends copy.msg.s copy.msg.m p kind) (nat_eq p copy.to && receives copy.msg.s copy.msg.m kind) (sym (by_effect (Step p k kind) (Lost copy)) ∙ h))
+
+    -- two events that depend on each other cannot stand in both orders
+    not_both_orders : (x y : Event) → depends x y ≡ true → IsOrdered machine to x y → IsOrdered machine to y x → ⊥
+    not_both_orders (Step p k kind) (Step q l other) h o b = steps_not_both p k kind q l other h o b
+    not_both_orders (Step p k kind) (Lost copy) h o b = step_loss_not_both p k kind copy h b
+    not_both_orders (Lost copy) (Step p k kind) h o b = step_loss_not_both p k kind copy (depends-symmetric (Step p k kind) (Lost copy) ∙ h) o
+    not_both_orders (Lost copy) (Lost other) h o b = true≢false (sym h)
+
+    once_ordered : (event : Event) → IsOrdered machine to event event → ⊥
+    once_ordered (Step p k kind) o = lt_irrefl k (o.numbers refl)
+    once_ordered (Lost copy) o = o refl
+
+  -- each event of a valid history is there once
+  pub once : (events : List Event) (to : RunState L) → fold machine events ≡ Some to → IsEachOnce events
+  once events to h event b = once_ordered to event (ordered machine events (start machine) to (start_counted machine) h event event b)
+
+  -- what two states have shown that two histories reach: the own events of each process, and what is lost
+  pub record ShowTheSame (to other : RunState L) : Type 0 where
+    pub own : (p k : ℕ) → own_at to p k ≡ own_at other p k
+    pub lost : (copy : CopyName) → is_lost (mail_of to) copy ≡ is_lost (mail_of other) copy
+
+  pub shown_turned : (to other : RunState L) → ShowTheSame to other → ShowTheSame other to
+  shown_turned to other shown = record { own = λ p k. sym (shown.own p k); lost = λ copy. sym (shown.lost copy) }
+
+  -- an order that the one state shows the other shows too
+  also_ordered : (to other : RunState L) → ShowTheSame to other → (x y : Event) → IsOrdered machine other x y → IsOrdered machine to x y
+  also_ordered to other shown (Step p k kind) (Step q l kind') o =
+      record {
+        numbers = o.numbers;
+        no_early_receive = o.no_early_receive;
+        writes = λ register one two.
+            let w = o.writes register one two in
+            (w.0, w.1, shown.own p k ∙ w.2, shown.own q l ∙ w.3, w.4, w.5);
+      }
+  also_ordered to other shown (Step p k kind) (Lost copy) o = o
+  also_ordered to other shown (Lost copy) (Step q l kind') o = o
+  also_ordered to other shown (Lost copy) (Lost copy') o = o
+
+  module _ (events others : List Event) (to other : RunState L) (shown : ShowTheSame to other) (h : fold machine events ≡ Some to) (g : fold machine others ≡ Some other) where
+    also_in : (event : Event) → IsIn event events → IsIn event others
+    also_in (Step p k kind) i =
+        let m = member machine events (start machine) to (start_counted machine) h (Step p k kind) i in
+        let own : OwnEvent = record { event = Step p k kind; writes_before = m.writes_before } in
+        ⊎_elim
+        (λ old. absurd (start_empty machine p k own old))
+        (λ j. j)
+        (own_comes machine others (start machine) other g p k own (sym (shown.own p k) ∙ m.stands))
+    also_in (Lost copy) i =
+        let m = member machine events (start machine) to (start_counted machine) h (Lost copy) i in
+        ⊎_elim
+        (λ old. absurd (start_unlost machine copy old))
+        (λ j. j)
+        (lost_comes machine others (start machine) other g copy (sym (shown.lost copy) ∙ m.stands))
+
+    same_order : KeepsOrder depends events others
+    same_order x y d b =
+        let o = ordered machine events (start machine) to (start_counted machine) h x y b in
+        ⊎_elim (λ c. c)
+        (⊎_elim
+        (λ same. absurd (once events to h x (subst (λ z. IsBefore x z events) (sym same) b)))
+        (λ c. absurd (not_both_orders to x y d o (also_ordered to other shown y x (ordered machine others (start machine) other (start_counted machine) g y x c)))))
+        (stand_apart x y others (also_in x (first_of b)) (also_in y (second_of b)))
+      where
+        first_of : {u v : Event} {l : List Event} → IsBefore u v l → IsIn u l
+        first_of (here i) = here
+        first_of (there c) = there (first_of c)
+
+        second_of : {u v : Event} {l : List Event} → IsBefore u v l → IsIn v l
+        second_of (here i) = there i
+        second_of (there c) = there (second_of c)
+
+  -- histories that reach states with the same own events and losses are equal up to exchange
+  pub shown_exchanged : (history others : List Event) (to other : RunState L) → ShowTheSame to other → fold machine history ≡ Some to → fold machine others ≡ Some other → IsExchanged depends history others
+  shown_exchanged history others to other shown h g =
+      exchanged_from_order depends history others (once history to h) (once others other g)
+      (λ event. (also_in history others to other shown h g event, also_in others history other to (shown_turned to other shown) g h event))
+      (same_order history others to other shown h g)
+
+  -- histories that reach the same state are equal up to exchange
+  pub same_state_exchanged : (history other : List Event) (state : RunState L) → fold machine history ≡ Some state → fold machine other ≡ Some state → IsExchanged depends history other
+  same_state_exchanged history other state h g = shown_exchanged history other state state (record { own = λ p k. refl; lost = λ copy. refl }) h g

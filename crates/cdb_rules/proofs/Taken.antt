@@ -1,0 +1,89 @@
+-- A step that is taken, and what it says of its process and of what it meets.
+use Rattle.std.proofs.Common.{◌≡◌, ℕ, ◌+◌, ◌≤◌, Bool, true, false, not, ◌&&◌, ◌==◌, Option, Some, None, IsSome, option_and_then, option_map, nat_le, if◌then◌else◌, refl, sym, true≢false, arith}
+use Rattle.std.proofs.lemmas.Option.{none-some, same_Some}
+use Rattle.std.proofs.lemmas.Bool.Decides.{nat_tests}
+use Rattle.cdb_base.specs.Places.{nth}
+use Rattle.cdb_base.specs.declared.event.Event.TheVariants.{Step}
+use Rattle.cdb_base.specs.declared.event.Kind.{Kind}
+use Rattle.cdb_rules.specs.State.{Machine, ProcessState, RunState}
+use Rattle.cdb_rules.specs.Step.{Sight, sight_in, meets, input_of, is_due, taken_local, may_step, accepted, state_after, after}
+
+-- where a choice among options is some
+
+pub mapped : {A B : Type 0} (f : A → B) (o : Option A) (y : B) → option_map f o ≡ Some y → (x : A) × (o ≡ Some x) × (f x ≡ y)
+mapped f None y h = absurd (none-some y h)
+mapped f (Some x) y h = (x, refl, same_Some (f x) y h)
+
+pub bound : {A B : Type 0} (f : A → Option B) (o : Option A) (y : B) → option_and_then f o ≡ Some y → (x : A) × (o ≡ Some x) × (f x ≡ Some y)
+bound f None y h = absurd (none-some y h)
+bound f (Some x) y h = (x, refl, h)
+
+pub where_true : {A : Type 0} (b : Bool) (o : Option A) (y : A) → (if b then o else None) ≡ Some y → (b ≡ true) × (o ≡ Some y)
+where_true true o y h = (refl, h)
+where_true false o y h = absurd (none-some y h)
+
+pub both : (a b : Bool) → (a && b) ≡ true → (a ≡ true) × (b ≡ true)
+both true b h = (refl, h)
+both false b h = absurd (true≢false (sym h))
+
+pub some_of : {A : Type 0} (o : Option A) → IsSome o → (a : A) × (o ≡ Some a)
+some_of None h = absurd (true≢false (sym h))
+some_of (Some a) h = (a, refl)
+
+module _ {L : Type 0} (machine : Machine L) where
+  pub record IsTaken (state : RunState L) (p k : ℕ) (kind : Kind) (to : RunState L) : Type 0 where
+    pub process : ProcessState L
+    pub next : L
+    pub at_process : nth state.processes p ≡ Some process
+    pub accepts : accepted machine process k kind (sight_in state p kind) ≡ Some next
+    pub leads_to : state_after machine state p k kind process next ≡ to
+
+  pub taken_from : (state to : RunState L) (p k : ℕ) (kind : Kind) → after machine state (Step p k kind) ≡ Some to → IsTaken state p k kind to
+  taken_from state to p k kind h =
+      let q = bound (λ process. option_map (state_after machine state p k kind process) (accepted machine process k kind (sight_in state p kind))) (nth state.processes p) to h in
+      let r = mapped (state_after machine state p k kind q.0) (accepted machine q.0 k kind (sight_in state p kind)) to q.2 in
+      record { process = q.0; next = r.0; at_process = q.1; accepts = r.1; leads_to = r.2 }
+
+  -- the parts of what a step needs
+  pub record IsAccepted (process : ProcessState L) (k : ℕ) (kind : Kind) (around : Sight) (next : L) : Type 0 where
+    pub alive : process.progress.alive ≡ true
+    pub going : machine.done process.progress.local ≡ false
+    pub number : k ≡ process.progress.steps + 1
+    pub limit : k ≤ 9999
+    pub due : is_due machine process kind ≡ true
+    pub met : meets kind around ≡ true
+    pub takes : taken_local machine.next process.progress.local (input_of kind around) ≡ Some next
+
+  pub accepted_parts : (process : ProcessState L) (k : ℕ) (kind : Kind) (around : Sight) (next : L) → accepted machine process k kind around ≡ Some next → IsAccepted process k kind around next
+  accepted_parts process k kind around next h =
+      let may = may_step machine process.progress k in
+      let alive = process.progress.alive in
+      let going = not (machine.done process.progress.local) in
+      let number = k == process.progress.steps + 1 in
+      let all = where_true (may && is_due machine process kind && meets kind around) (taken_local machine.next process.progress.local (input_of kind around)) next h in
+      let met = both (may && is_due machine process kind) (meets kind around) all.0 in
+      let due = both may (is_due machine process kind) met.0 in
+      let limit = both (alive && going && number) (nat_le k 9999) due.0 in
+      let counted = both (alive && going) number limit.0 in
+      record {
+        alive = (both alive going counted.0).0;
+        going = not_done (machine.done process.progress.local) (both alive going counted.0).1;
+        number = is_number k (process.progress.steps + 1) counted.1;
+        limit = is_limit k limit.1;
+        due = due.1;
+        met = met.1;
+        takes = all.1;
+      }
+    where
+      not_done : (b : Bool) → not b ≡ true → b ≡ false
+      not_done true h = absurd (true≢false (sym h))
+      not_done false h = refl
+
+      is_number : (a b : ℕ) → (a == b) ≡ true → a ≡ b
+      is_number a b h = grind (arith, nat_tests)
+
+      is_limit : (a : ℕ) → nat_le a 9999 ≡ true → a ≤ 9999
+      is_limit a h = grind (arith, nat_tests)
+
+  pub parts : (state to : RunState L) (p k : ℕ) (kind : Kind) (t : IsTaken state p k kind to) → IsAccepted t.process k kind (sight_in state p kind) t.next
+  parts state to p k kind t = accepted_parts t.process k kind (sight_in state p kind) t.next t.accepts

@@ -1,0 +1,76 @@
+-- What was just taken can be undone, what is undone can be taken again, and what stands in the way of an undo.
+use Rattle.std.proofs.Common.{◌≡◌, ◌↔◌, ℕ, List, [], ◌∷◌, ◌++◌, length, Some, Result, Ok, Err, IsOk, IfOk, IsSome, option_and_then, reverse, append-nil, refl, sym, ap, ◌∙◌, subst, true≢false}
+use Rattle.cdb_base.specs.Event.{event_name}
+use Rattle.cdb_base.specs.declared.event.Event.{Event}
+use Rattle.cdb_base.specs.declared.name.StepId.{StepId}
+use Rattle.cdb_base.specs.declared.refusal.Refusal.{Refusal}
+use Rattle.cdb_causal.specs.Dependence.{depends}
+use Rattle.cdb_causal.proofs.Dependents.{get_push_back, last_free, without_push_back}
+use Rattle.cdb_causal.proofs.Reaches.{reached_push}
+use Rattle.cdb_rules.specs.State.{Machine, start}
+use Rattle.cdb_rules.specs.Step.{IsValid, IsEnabled, after, fold, state_of}
+use Rattle.cdb_rules.specs.Undo.{IsEventNamed, IsFreeName, undo_of, rollback_of, answered, left_by, with_removed}
+use Rattle.cdb_rules.proofs.Answered.{undone_free, undone_back, rolled_back_back}
+use Rattle.cdb_rules.proofs.Finding.{has_name_is}
+use Rattle.cdb_rules.proofs.Histories.{reached_state}
+use Rattle.cdb_rules.proofs.Standing.{free_undone, valid_named}
+
+module _ {L : Type 0} (machine : Machine L) (n : ℕ) (number : length machine.firsts ≡ n) (history : List Event) (valid : IsValid machine history) where
+  module _ (name : StepId) where
+    free_where_ok : (r : Result (Event × List Event) Refusal) → undo_of n history name ≡ r → IsOk (answered r) → IsFreeName history name
+    free_where_ok (Ok done) is ok =
+        let u = undone_free n history name done.0 done.1 is in
+        (u.0, (done.0, u.2, has_name_is name done.0 u.1), u.3)
+    free_where_ok (Err why) is ok = absurd (true≢false (sym ok))
+
+    ok_where_free : IsFreeName history name → IsOk (answered (undo_of n history name))
+    ok_where_free stands =
+        let i = stands.0 in
+        let event = stands.1.0 in
+        let at = stands.1.1 in
+        let its_name : event_name event ≡ name = stands.1.2 in
+        let named = subst (λ (m : ℕ). IsEventNamed m history (event_name event) i event) number (valid_named machine history valid i event at) in
+        let is = subst (λ (x : StepId). IsEventNamed n history x i event) its_name named in
+        subst (λ (r : Result (Event × List Event) Refusal). IsOk (answered r)) (sym (free_undone n history name i event is stands.2)) refl
+
+    -- an undo is answered Ok exactly where the event stands and no standing event depends on it
+    pub undo_ok_free : (result : Result Event Refusal) → result ≡ answered (undo_of n history name) → IsOk result ↔ IsFreeName history name
+    undo_ok_free result is = (
+      (λ ok. free_where_ok (undo_of n history name) refl (subst IsOk is ok)),
+      (λ stands. subst IsOk (sym is) (ok_where_free stands)),
+    )
+
+    led_back : (r : Result (Event × List Event) Refusal) → undo_of n history name ≡ r → IfOk (answered r) (λ event. after machine (state_of machine (left_by history r)) event ≡ Some (state_of machine history))
+    led_back (Ok done) is = (undone_back machine n history name done.0 done.1 is valid).1
+    led_back (Err why) is = tt
+
+    -- the event, taken again, leads from what is left back to the state before the undo
+    pub undo_leads_back : (result : Result Event Refusal) → result ≡ answered (undo_of n history name)
+        → IfOk result (λ event. after machine (state_of machine (left_by history (undo_of n history name))) event ≡ Some (state_of machine history))
+    undo_leads_back result is =
+        subst (λ (r : Result Event Refusal). IfOk r (λ event. after machine (state_of machine (left_by history (undo_of n history name))) event ≡ Some (state_of machine history))) (sym is)
+        (led_back (undo_of n history name) refl)
+
+    rolled_again : (r : Result (List Event × List Event) Refusal) → rollback_of n history name ≡ r → fold machine (left_by history r ++ reverse (with_removed [] (answered r))) ≡ fold machine history
+    rolled_again (Ok done) is = (rolled_back_back machine n history name done.0 done.1 is valid).1
+    rolled_again (Err why) is = ap (fold machine) (append-nil history)
+
+    -- what a rollback took, taken again in order, leads back
+    pub rollback_leads_back : fold machine (left_by history (rollback_of n history name) ++ reverse (with_removed [] (answered (rollback_of n history name)))) ≡ fold machine history
+    rollback_leads_back = rolled_again (rollback_of n history name) refl
+
+  -- an event that is enabled can be taken
+  pub valid_push : (event : Event) → IsEnabled machine (state_of machine history) event → IsValid machine (history ++ event ∷ [])
+  valid_push event enabled =
+      subst IsSome
+      (sym (reached_push (after machine) (start machine) history event ∙ ap (option_and_then (λ next. after machine next event)) (reached_state machine history valid)))
+      enabled
+
+  -- and then be undone, which leaves the history before it
+  pub just_taken : (event : Event) → IsEnabled machine (state_of machine history) event → undo_of n (history ++ event ∷ []) (event_name event) ≡ Ok (event, history)
+  just_taken event enabled =
+      let longer = history ++ event ∷ [] in
+      let is = subst (λ (m : ℕ). IsEventNamed m longer (event_name event) (length history) event) number
+      (valid_named machine longer (valid_push event enabled) (length history) event (get_push_back history event)) in
+      free_undone n longer (event_name event) (length history) event is (last_free depends history event)
+      ∙ ap (λ (left : List Event). let r : Result (Event × List Event) Refusal = Ok (event, left) in r) (without_push_back history event)

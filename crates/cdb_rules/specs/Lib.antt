@@ -1,0 +1,20 @@
+-- what a reader of the contracts believes: the state of a run, its steps, what is refused, and what each call returns
+pub mod State
+pub mod Step
+pub mod Mail
+pub mod Machines
+pub mod Refusals
+pub mod Decisions
+pub mod EventRefs
+pub mod OwnSteps
+pub mod Undo
+pub mod RunView
+pub mod Runs
+pub mod Rules
+pub mod Algorithms
+pub mod ByRules
+pub mod Views
+-- the laws: what the rules keep, histories that reach one state, and agreement
+pub mod Lawful
+pub mod SameState
+pub mod Agreement

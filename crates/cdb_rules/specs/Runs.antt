@@ -1,0 +1,209 @@
+-- What a contract says of a run: of its setup and its standing events, with the table of its machine.
+use Rattle.std.specs.Prelude.{◌≡◌, ℕ, ◌-◌, ◌≤◌, List, [], ◌∷◌, ◌++◌, Bool, Option, Some, option_map, Result, Ok, Err, IfOk, OnOk, OnErr, IsOk, MatchOption, MatchResult, false}
+use Rattle.cdb_base.specs.Event.{event_name}
+use Rattle.cdb_base.specs.Places.{nth}
+use Rattle.cdb_base.specs.declared.act.Act.{Act}
+use Rattle.cdb_base.specs.declared.event.Event.{Event}
+use Rattle.cdb_base.specs.declared.name.StepId.{StepId}
+use Rattle.cdb_base.specs.declared.name.StepId.TheVariants as named
+use Rattle.cdb_base.specs.declared.refusal.Refusal.{Refusal}
+use Rattle.cdb_base.specs.declared.register.Cell.{Cell}
+use Rattle.cdb_base.specs.declared.register.Reg.{Reg}
+use Rattle.cdb_causal.specs.Dependence.{depends}
+use Rattle.cdb_causal.specs.Rollback.{rolled_back, remaining}
+use Rattle.cdb_message.specs.Mail.{MailState, message_name, copy_name}
+use Rattle.cdb_process.specs.Table.{Table}
+use Rattle.cdb_register.specs.Registers.{RegisterStates, register_of}
+use Rattle.cdb_register.specs.declared.RegisterState.{RegisterState}
+use Rattle.cdb_rules.specs.RunView.{RunView}
+use Rattle.cdb_rules.specs.Decisions.{decisions_of}
+use Rattle.cdb_rules.specs.Machines.{machine_of}
+use Rattle.cdb_rules.specs.Mail.{mail_of}
+use Rattle.cdb_rules.specs.Refusals.{step_answer, lose_answer, again_answer, with_taken}
+use Rattle.cdb_rules.specs.State.{Machine, ProcessState, RunState}
+use Rattle.cdb_rules.specs.Step.{after, fold, is_among, state_of, IsEnabled, IsValid}
+use Rattle.cdb_rules.specs.declared.progress.Progress.{Progress}
+use Rattle.cdb_rules.specs.Undo.{Found, IsFreeName, event_named, found_at, for_standing, undo_found, undo_of, rollback_of, causes_of, answered, left_by, number_removed, with_removed}
+
+-- ---- names
+
+-- the name of the k-th step of process p
+abbrev pub step_name : ℕ → ℕ → StepId
+step_name p k = named.Step (record { p = p; k = k })
+
+-- the name of the loss of the copy for process p of the m-th message of process s
+abbrev pub loss_name : ℕ → ℕ → ℕ → StepId
+loss_name s m p = named.Lost (copy_name (message_name s m) p)
+
+-- q is the number p, where that is one of 1 to n; else there is none
+abbrev pub IsNumberAmong : ℕ → ℕ → Option ℕ → Type 0
+IsNumberAmong n p q = MatchOption q (is_among n p ≡ false) (λ q. (q ≡ p) × (p ≤ n) × (1 ≤ p))
+
+-- ---- the state that a run is in, by the table of its machine
+
+abbrev pub machine_in : {L : Type 0} → Table L → RunView → Machine L
+machine_in table run = machine_of table run.setup
+
+-- what its standing events reach from the start; none where some event is not enabled in its turn
+abbrev pub reached_in : {L : Type 0} → Table L → RunView → Option (RunState L)
+reached_in table run = fold (machine_in table run) run.history
+
+-- the state that its standing events reach
+abbrev pub state_in : {L : Type 0} → Table L → RunView → RunState L
+state_in table run = state_of (machine_in table run) run.history
+
+abbrev pub process_in : {L : Type 0} → Table L → RunView → ℕ → Option (ProcessState L)
+process_in table run p = nth (state_in table run).processes p
+
+-- of a process its progress, and the parts of it
+abbrev pub progress_in : {L : Type 0} → Table L → RunView → ℕ → Option (Progress L)
+progress_in table run p = option_map (λ it. it.progress) (process_in table run p)
+
+abbrev pub alive_in : {L : Type 0} → Table L → RunView → ℕ → Option Bool
+alive_in table run p = option_map (λ it. it.progress.alive) (process_in table run p)
+
+abbrev pub steps_in : {L : Type 0} → Table L → RunView → ℕ → Option ℕ
+steps_in table run p = option_map (λ it. it.progress.steps) (process_in table run p)
+
+abbrev pub queries_in : {L : Type 0} → Table L → RunView → ℕ → Option ℕ
+queries_in table run p = option_map (λ it. it.progress.queries) (process_in table run p)
+
+abbrev pub local_in : {L : Type 0} → Table L → RunView → ℕ → Option L
+local_in table run p = option_map (λ it. it.progress.local) (process_in table run p)
+
+abbrev pub mail_in : {L : Type 0} → Table L → RunView → MailState
+mail_in table run = mail_of (state_in table run)
+
+abbrev pub registers_in : {L : Type 0} → Table L → RunView → RegisterStates
+registers_in table run = (state_in table run).registers
+
+abbrev pub register_in : {L : Type 0} → Table L → RunView → Reg → Option RegisterState
+register_in table run register = register_of (registers_in table run) register
+
+-- of a register what it holds, and how many writes of it stand
+abbrev pub cell_in : {L : Type 0} → Table L → RunView → Reg → Option Cell
+cell_in table run register = option_map (λ it. it.cell) (register_in table run register)
+
+abbrev pub writes_in : {L : Type 0} → Table L → RunView → Reg → Option ℕ
+writes_in table run register = option_map (λ it. it.writes) (register_in table run register)
+
+abbrev pub decisions_in : {L : Type 0} → Table L → RunView → List (ℕ × ℕ)
+decisions_in table run = decisions_of table.decision (state_in table run)
+
+abbrev pub AreInSameState : {L : Type 0} → Table L → RunView → RunView → Type 0
+AreInSameState table run other = reached_in table run ≡ reached_in table other
+
+-- each standing event was enabled in its turn
+abbrev pub IsInOrder : {L : Type 0} → Table L → RunView → Type 0
+IsInOrder table run = IsValid (machine_in table run) run.history
+
+-- ---- what can come next
+
+-- the event can be taken now
+abbrev pub IsNext : {L : Type 0} → Table L → RunView → Event → Type 0
+IsNext table run event = IsEnabled (machine_in table run) (state_in table run) event
+
+-- the first refusal that holds, else the event: of a step, of an undone event taken again, and of a loss
+abbrev pub answer_to_step : {L : Type 0} → Table L → RunView → ℕ → Act → Result Event Refusal
+answer_to_step table run p act = step_answer (machine_in table run) run.setup (state_in table run) p act
+
+abbrev pub answer_to_again : {L : Type 0} → Table L → RunView → Event → Result Event Refusal
+answer_to_again table run event = again_answer (machine_in table run) run.setup (state_in table run) event
+
+abbrev pub answer_to_loss : {L : Type 0} → Table L → RunView → ℕ → ℕ → ℕ → Result Event Refusal
+answer_to_loss table run s m p = lose_answer run.setup (state_in table run) (message_name s m) p
+
+-- ---- the run afterwards
+
+abbrev pub with_history : RunView → List Event → RunView
+with_history run history = record run { history = history }
+
+-- with one event more
+abbrev pub with_event : RunView → Event → RunView
+with_event run event = with_history run (run.history ++ event ∷ [])
+
+-- with the event that was returned, if there is one
+abbrev pub with_answer : RunView → Result Event Refusal → RunView
+with_answer run answer = with_history run (with_taken run.history answer)
+
+-- ---- what is undone: the result, and the history that is left
+
+-- the standing event of the name, and where it stands
+abbrev pub found_in : RunView → StepId → Result Found Refusal
+found_in run name = event_named run.setup.processes run.history name
+
+abbrev pub undo_in : RunView → StepId → Result (Event × List Event) Refusal
+undo_in run name = undo_of run.setup.processes run.history name
+
+abbrev pub rollback_in : RunView → StepId → Result (List Event × List Event) Refusal
+rollback_in run name = rollback_of run.setup.processes run.history name
+
+-- what an undo and a rollback return
+abbrev pub undo_answer : RunView → StepId → Result Event Refusal
+undo_answer run name = answered (undo_in run name)
+
+abbrev pub rollback_answer : RunView → StepId → Result (List Event) Refusal
+rollback_answer run name = answered (rollback_in run name)
+
+abbrev pub causes_in : RunView → StepId → Result (List StepId) Refusal
+causes_in run name = causes_of run.setup.processes run.history name
+
+-- the same by a place of the history, from 0
+abbrev pub found_at_place : RunView → ℕ → Result Found Refusal
+found_at_place run place = found_at run.history place
+
+abbrev pub undo_at_place : RunView → ℕ → Result (Event × List Event) Refusal
+undo_at_place run place = for_standing (found_at_place run place) (undo_found run.history)
+
+abbrev pub rolled_back_at : RunView → ℕ → List Event
+rolled_back_at run place = rolled_back depends run.history place
+
+-- the run that such a result leaves; a refusal leaves it as it was
+abbrev pub with_left : {A : Type 0} → RunView → Result (A × List Event) Refusal → RunView
+with_left run answer = with_history run (left_by run.history answer)
+
+abbrev pub after_undo : RunView → StepId → RunView
+after_undo run name = with_left run (undo_in run name)
+
+abbrev pub after_rollback : RunView → StepId → RunView
+after_rollback run name = with_left run (rollback_in run name)
+
+abbrev pub after_rollback_at : RunView → ℕ → RunView
+after_rollback_at run place = with_history run (remaining depends run.history place)
+
+-- the result says that, through a view of what it holds
+abbrev pub Tells : {A B : Type 0} → (A → B) → Result A Refusal → Result B Refusal → Type 0
+Tells view answer told = MatchResult answer (λ a. told ≡ Ok (view a)) (λ why. told ≡ Err why)
+
+-- the result is the place, from 1, of the event of the name, or why there is none
+abbrev pub IsPlaceFound : RunView → StepId → Result ℕ Refusal → Type 0
+IsPlaceFound run name answer =
+    MatchResult answer (λ at. found_in run name ≡ found_at_place run (at - 1)) (λ why. found_in run name ≡ Err why)
+
+-- ---- back and forth
+
+-- the event, taken now, leads to the state of that other run
+abbrev pub LeadsTo : {L : Type 0} → Table L → RunView → Event → RunView → Type 0
+LeadsTo table run event to = after (machine_in table run) (state_in table run) event ≡ Some (state_in table to)
+
+-- the events, taken one after another, lead there
+abbrev pub AllLeadTo : {L : Type 0} → Table L → RunView → List Event → RunView → Type 0
+AllLeadTo table run events to = reached_in table (with_history run (run.history ++ events)) ≡ reached_in table to
+
+-- the event was just taken: it can be undone, and that leaves the history of the run before it
+abbrev pub IsJustTaken : RunView → Event → RunView → Type 0
+IsJustTaken run event before = undo_in run (event_name event) ≡ Ok (event, before.history)
+
+-- the event can be undone: it stands, and no standing event depends on it
+abbrev pub CanUndo : RunView → StepId → Type 0
+CanUndo run name = IsFreeName run.history name
+
+-- A rollback that adds what it takes back to the end of a list, and returns how many events that are: with a refusal
+-- nothing is taken back, and out of memory run and list are as they were; a refusal needs no memory.
+pub record RollsBackOnto {E : Type 0} (run left : RunView) (name : StepId) (onto grown : List Event) (result : Result (Result ℕ Refusal) E) : Type 0 where
+  pub answer : IfOk result (λ answer. answer ≡ number_removed (rollback_answer run name))
+  pub after : OnOk result (left ≡ after_rollback run name)
+  pub list : OnOk result (grown ≡ with_removed onto (rollback_answer run name))
+  pub err : OnErr result (left ≡ run)
+  pub list_err : OnErr result (grown ≡ onto)
+  pub memory : OnErr result (IsOk (rollback_answer run name))

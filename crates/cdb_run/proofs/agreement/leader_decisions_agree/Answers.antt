@@ -1,5 +1,0 @@
-use Rattle.cdb_run.proofs.LeaderHistories.{leader_agrees}
-use Rattle.cdb_run.proofs.agreement.leader_decisions_agree.Goals as goal
-
-pub returns : goal.returns
-returns c = leader_agrees

@@ -1,9 +1,0 @@
-use Rattle.std.proofs.Common.{IsTrue}
-use Rattle.cdb_run.proofs.Forwarding.{in_leader, in_alpha}
-use Rattle.cdb_run.proofs.any.AnyRun.history.Goals as goal
-
-pub returns-in-Leader-clause-valid : goal.returns-in-Leader-clause-valid
-returns-in-Leader-clause-valid c = in_leader (λ rules history. IsTrue (rules.valid history)) c.requires c.in-Leader.is c.history.ensures.valid
-
-pub returns-in-Alpha-clause-valid : goal.returns-in-Alpha-clause-valid
-returns-in-Alpha-clause-valid c = in_alpha (λ rules history. IsTrue (rules.valid history)) c.requires c.in-Alpha.is c.history-in-Alpha.ensures.valid

@@ -1,9 +1,0 @@
-use Rattle.cdb_run.proofs.Naming.{names_differ}
-use Rattle.cdb_run.proofs.Standing.{valid_named}
-use Rattle.cdb_run.proofs.laws.names.Goals as goal
-
-pub returns-clause-apart : goal.returns-clause-apart
-returns-clause-apart g c = names_differ
-
-pub returns-clause-named : goal.returns-clause-named
-returns-clause-named g c = λ machine. valid_named machine

@@ -1,5 +1,0 @@
-use Rattle.cdb_run.proofs.KeptHistories.{rules_keep_histories}
-use Rattle.cdb_run.proofs.laws.rules_keep_histories.Goals as goal
-
-pub returns : goal.returns
-returns c = rules_keep_histories

@@ -1,5 +1,0 @@
-use Rattle.cdb_run.proofs.Standing.{last_undone}
-use Rattle.cdb_run.proofs.laws.step_then_undo.Goals as goal
-
-pub returns-clause-undone : goal.returns-clause-undone
-returns-clause-undone c = last_undone
