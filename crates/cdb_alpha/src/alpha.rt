@@ -169,7 +169,7 @@ impl Alpha {
         self.round += u32::from(self.processes);
     }
 
-    /// Goes on behind a write of that cell to the own register: a pass begins.
+    /// Goes on after a write of that cell to the own register: a pass begins.
     fn begin_pass(&mut self, alloc: Global, cell: Cell, reading: Place) -> Back
         requires not_done { is_last self.old.place ≡ false }
         requires not_done_then { is_last reading ≡ false }
@@ -197,7 +197,7 @@ impl Alpha {
         }
     }
 
-    /// Adds a cell to those that are seen in this pass, behind which the process is at `over`.
+    /// Adds a cell to those that are seen in this pass, after which the process is at `over`.
     fn see(&mut self, cell: Cell, over: Place) -> Result<(), NoMemory>
         requires not_done { is_last self.old.place ≡ false }
         requires not_done_then { is_last over ≡ false }
@@ -255,7 +255,7 @@ impl Alpha {
         }
     }
 
-    /// Goes on behind a write.
+    /// Goes on after a write.
     fn write(&mut self, alloc: Global, register: Reg) -> Back
         requires { IsSome (next_state self.old (Input.Write register)) }
         ensures after { next_state self.old (Input.Write register) ≡ Some self.new }

@@ -210,7 +210,7 @@ impl Leader {
         }
     }
 
-    /// Goes on behind a send.
+    /// Goes on after a send.
     fn send(&mut self)
         requires { IsSome (send_at self.old.place self.old) }
         ensures after { send_at self.old.place self.old ≡ Some self.new }

@@ -62,7 +62,7 @@ end_text decisions = decisions_text decisions ++ verdict_text decisions
 abbrev pub last_decisions : (Parts → Rules) → Journaled → List (ℕ × ℕ)
 last_decisions rules c = (rules c.setup).decisions (state_of (rules c.setup) c).history
 
--- the seats of the scripts, which are those behind the processes'
+-- the seats of the scripts, which are those after the processes'
 abbrev pub script_seats : Journaled → List ℕ
 script_seats c = range_with_len (c.setup.processes + 1) (c.seats - c.setup.processes)
 
@@ -170,7 +170,7 @@ abbrev pub IsNotStopped : RaceFault → Type 0
 IsNotStopped (Stopped seat) = ⊥
 IsNotStopped other = Unit {0}
 
--- Behind gates that always pass: a journal is full only where a race of these scripts may fill one, and none is stopped.
+-- With gates that always pass: a journal is full only where a race of these scripts may fill one, and none is stopped.
 abbrev pub IsUnstoppedOnSetup : Parts → ℕ → List (List ℕ) → RaceFault → Type 0
 IsUnstoppedOnSetup setup turns scripts JournalFull =
     (commands : List (List Command)) × AreScripts commands scripts × MayFill setup turns commands

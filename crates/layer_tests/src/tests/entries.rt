@@ -63,7 +63,7 @@ impl ExampleRecords {
         event_of(self.records.take_lost(copy))
     }
 
-    /// Notes what it takes to go back behind the last event, which is there.
+    /// Notes what it takes to take the last event back, which is there.
     pub fn set_last<R: Abort>(&mut self, rt: &R, back: Option<u32>, overwritten: Option<Cell>) {
         assert!(rt; 1 <= self.records.history().len());
         self.records.set_last(back, overwritten);

@@ -15,7 +15,7 @@ use std::test::Fail;
 pub enum Turn {
     /// Takes the input, which it accepts.
     Takes(Input),
-    /// Goes back to its first state, and wishes behind each input for what it wished before it.
+    /// Goes back to its first state, and wishes after each input for what it wished before it.
     GoesBack,
     /// Accepts no such input.
     Refuses(Input),

@@ -415,7 +415,7 @@ fn spaces(alloc: Global, len: usize) -> Result<Vec<u8>, NoMemory> {
     Ok(bytes)
 }
 
-/// The text with white space behind it, so that it has as many bytes, or one of its own.
+/// The text with white space after it, so that it has as many bytes, or one of its own.
 fn padded(alloc: Global, text: &str, len: usize) -> Result<Vec<u8>, NoMemory> {
     let mut bytes = text.as_bytes().to_vec(alloc)?;
     push_times(&mut bytes, b' ', len.saturating_sub(text.len()))?;
