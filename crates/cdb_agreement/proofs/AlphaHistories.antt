@@ -3,7 +3,7 @@ use Rattle.std.proofs.Common.{◌≡◌, ℕ, zero, suc, ◌≤◌, ◌==◌, Bo
 use Rattle.std.specs.FinSet as set
 use Rattle.std.proofs.lemmas.Bool.{cases_eq}
 use Rattle.std.proofs.lemmas.Option.{none-some, same_Some}
-use Rattle.cdb_base.specs.Places.{nth, update_nth}
+use Rattle.cdb_base.specs.Positions.{nth, update_nth}
 use Rattle.cdb_base.specs.declared.event.Event.{Event}
 use Rattle.cdb_base.specs.declared.event.Event.TheVariants as happening
 use Rattle.cdb_base.specs.declared.event.Kind.{Kind}
@@ -37,7 +37,7 @@ use Rattle.cdb_rules.proofs.Bounds.{length-set_nth}
 use Rattle.cdb_agreement.proofs.Decided.{HasDecided, agreeing}
 use Rattle.cdb_agreement.proofs.Firsts.{length-firsts, first_at}
 use Rattle.cdb_rules.proofs.FoldKeeps.{reached_keeps}
-use Rattle.cdb_rules.proofs.Places.{nth-set_nth_same, nth-set_nth_other, nth-update_nth_same, nth-update_nth_other, nth_within}
+use Rattle.cdb_rules.proofs.Positions.{nth-set_nth_same, nth-set_nth_other, nth-update_nth_same, nth-update_nth_other, nth_within}
 use Rattle.cdb_rules.proofs.Taken.{mapped, taken_from, parts, where_true}
 
 -- what every state of a valid history keeps to, of n processes: there is a run with traces that fits it

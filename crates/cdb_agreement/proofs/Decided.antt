@@ -2,11 +2,11 @@
 use Rattle.std.proofs.Common.{◌≡◌, ℕ, suc, List, [], ◌∷◌, map, Option, Some, None, option_map, option_to_list, slice_get, refl, sym, ap, ◌∙◌}
 use Rattle.std.specs.Prelude.{All}
 use Rattle.std.proofs.lemmas.List.Elements.{All-nil, All-cons, All-append, All-weaker, All-contains}
-use Rattle.cdb_base.specs.Places.{nth}
+use Rattle.cdb_base.specs.Positions.{nth}
 use Rattle.cdb_rules.specs.Agreement.{AllAgree}
 use Rattle.cdb_rules.specs.Decisions.{decided_from, decisions_of}
 use Rattle.cdb_rules.specs.State.{ProcessState, RunState}
-use Rattle.cdb_rules.proofs.Places.{nth-map}
+use Rattle.cdb_rules.proofs.Positions.{nth-map}
 use Rattle.cdb_rules.proofs.Taken.{mapped}
 
 -- process p has decided v

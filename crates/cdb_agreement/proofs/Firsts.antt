@@ -2,10 +2,10 @@
 use Rattle.std.proofs.Common.{◌≡◌, ℕ, zero, suc, ◌+◌, List, [], ◌∷◌, length, map, slice_index, Some, sym, ap, ◌∙◌, arith}
 use Rattle.std.proofs.lemmas.List.{length-map}
 use Rattle.std.proofs.lemmas.Option.{none-some, same_Some}
-use Rattle.cdb_base.specs.Places.{nth}
+use Rattle.cdb_base.specs.Positions.{nth}
 use Rattle.cdb_rules.specs.Machines.{first_states}
 use Rattle.cdb_rules.specs.State.{ProcessState, fresh_process}
-use Rattle.cdb_rules.proofs.Places.{nth-map}
+use Rattle.cdb_rules.proofs.Positions.{nth-map}
 use Rattle.cdb_rules.proofs.FirstStates.{length-first_states}
 use Rattle.cdb_rules.proofs.Taken.{mapped}
 

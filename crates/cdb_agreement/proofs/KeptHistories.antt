@@ -1,39 +1,45 @@
 -- The rules of every run keep valid histories, the state that they reach, and agreement.
-use Rattle.std.proofs.Common.{◌≡◌, ℕ, ◌+◌, List, [], ◌∷◌, ◌++◌, length, Result, Ok, IfOk, IsSome, IsTrue, is_ok, option_and_then, refl, sym, ap, ◌∙◌, subst}
+use Rattle.std.proofs.Common.{◌≡◌, ◌==◌, ◌&&◌, ℕ, ◌+◌, ◌≤◌, true, not, arith, List, [], ◌∷◌, ◌++◌, length, slice_get, Some, Result, Ok, IfOk, IsSome, IsTrue, is_ok, option_and_then, refl, sym, ap, ◌∙◌, subst}
+use Rattle.std.proofs.lemmas.Bool.Decides.{nat_tests}
 use Rattle.cdb_alpha.specs.Machine.{alpha_table}
 use Rattle.cdb_alpha.specs.TableLaws as alpha_laws
 use Rattle.cdb_base.specs.Event.{event_name}
-use Rattle.cdb_base.specs.Places.{nth}
+use Rattle.cdb_base.specs.Positions.{nth}
 use Rattle.cdb_base.specs.declared.act.Act.{Act}
 use Rattle.cdb_base.specs.declared.event.Event.{Event}
 use Rattle.cdb_base.specs.declared.event.Event.TheVariants.{Step, Lost}
+use Rattle.cdb_base.specs.declared.event.Kind.{Kind}
+use Rattle.cdb_base.specs.declared.event.Kind.TheVariants.{Query, Send, Recv, Read, Write, Local, Learn, Crash}
 use Rattle.cdb_base.specs.declared.refusal.Refusal.{Refusal}
 use Rattle.cdb_causal.proofs.Reaches.{reached_front_some, reached_push}
 use Rattle.cdb_leader.specs.Machine.{leader_table}
 use Rattle.cdb_leader.specs.TableLaws as leader_laws
+use Rattle.cdb_causal.specs.Standing.{IsStanding}
+use Rattle.cdb_message.specs.Mail.{is_sent, is_received, is_lost}
 use Rattle.cdb_process.specs.Table.{Table}
 use Rattle.cdb_rules.specs.Agreement.{AllAgree, HasMajorityIfNeeded}
 use Rattle.cdb_rules.specs.Algorithms.{leader_machine, alpha_machine, rules, rules_by}
 use Rattle.cdb_rules.specs.Lawful.{KeepHistories}
 use Rattle.cdb_rules.specs.Machines.{machine_of}
 use Rattle.cdb_rules.specs.Mail.{mail_of}
-use Rattle.cdb_rules.specs.Refusals.{planned, step_answer, lose_answer, again_answer, IsOfRun}
+use Rattle.cdb_rules.specs.Refusals.{planned, step_answer, lose_answer, again_answer, IsOfRun, NamesProcess}
 use Rattle.cdb_rules.specs.Rules.{rules_of}
 use Rattle.cdb_rules.specs.SameState.{ReachSameState, ReachSameStateBy}
 use Rattle.cdb_rules.specs.State.{Machine, ProcessState, start}
-use Rattle.cdb_rules.specs.Step.{after, fold, state_of, IsValid, IsEnabled}
-use Rattle.cdb_rules.specs.Undo.{IsEventNamed}
+use Rattle.cdb_rules.specs.Step.{after, fold, is_among, is_due, state_of, IsValid, IsEnabled}
+use Rattle.cdb_rules.specs.Undo.{IsEventNamed, names_processes}
 use Rattle.cdb_rules.proofs.Again.{loss_again, step_again, again_exact, lose_enabled}
 use Rattle.cdb_agreement.proofs.Agreed.{agreed}
+use Rattle.cdb_rules.proofs.Commutes.{lost_from}
 use Rattle.cdb_rules.proofs.Finding.{among_is}
 use Rattle.cdb_rules.proofs.Granted.{IsLawful}
 use Rattle.cdb_rules.proofs.Histories.{fold_exchanged, reached_state}
 use Rattle.cdb_agreement.proofs.Lawful.{of_some, answers_within}
-use Rattle.cdb_rules.proofs.Naming.{loss_free}
+use Rattle.cdb_rules.proofs.Naming.{loss_free, valid_standing}
 use Rattle.cdb_rules.proofs.Planned.{planned_enabled}
 use Rattle.cdb_rules.proofs.Standing.{valid_named}
 use Rattle.cdb_rules.proofs.FirstStates.{length-first_states}
-use Rattle.cdb_rules.proofs.Taken.{taken_from, some_of}
+use Rattle.cdb_rules.proofs.Taken.{both, parts, taken_from, some_of}
 use Rattle.cdb_rules.proofs.TakenBack.{valid_push}
 use Rattle.cdb_setup.specs.Parts.{Parts, AreInRange}
 use Rattle.cdb_setup.specs.declared.setup.Algorithm.{Algorithm}
@@ -41,6 +47,19 @@ use Rattle.cdb_setup.specs.declared.setup.Algorithm.TheVariants.{Leader, Alpha}
 
 when_ok : (answer : Result Event Refusal) (P : Event → Type 0) (event : Event) → answer ≡ Ok event → IfOk answer P → P event
 when_ok answer P event is holds = subst (λ (r : Result Event Refusal). IfOk r P) is holds
+
+from_one : (n p : ℕ) → is_among n p ≡ true → 1 ≤ p
+from_one n p h = grind (arith, nat_tests)
+
+at_most : (n p : ℕ) → is_among n p ≡ true → p ≤ n
+at_most n p h = grind (arith, nat_tests)
+
+second_version : (version : ℕ) → (version == 2) ≡ true → version ≡ 2
+second_version version h = grind (arith, nat_tests)
+
+at_end : {A : Type 0} (xs : List A) (x : A) → slice_get (xs ++ x ∷ []) (length xs) ≡ Some x
+at_end [] x = refl
+at_end (y ∷ ys) x = at_end ys x
 
 module _ {L : Type 0} (table : Table L) (setup : Parts) (range : AreInRange setup) (lawful : IsLawful (machine_of table setup)) where
   abbrev machine : Machine L
@@ -70,6 +89,48 @@ module _ {L : Type 0} (table : Table L) (setup : Parts) (range : AreInRange setu
       (reached_push (after machine) (start machine) history event ∙ ap (option_and_then (λ next. after machine next event)) (reached_state machine history was))
       valid
 
+  -- a query names a process of the run
+  names_process : (process : ProcessState L) (kind : Kind) → is_due machine process kind ≡ true → NamesProcess setup.processes kind
+  names_process process (Query leader) due =
+      let among = subst (λ (n : ℕ). is_among n leader ≡ true) number due in
+      (from_one setup.processes leader among, at_most setup.processes leader among)
+  names_process process (Send m) due = tt
+  names_process process (Recv s m) due = tt
+  names_process process (Read register) due = tt
+  names_process process (Write register) due = tt
+  names_process process Local due = tt
+  names_process process Learn due = tt
+  names_process process Crash due = tt
+
+  of_run : (history : List Event) (event : Event) → IsValid machine (history ++ event ∷ []) → names_processes setup.processes (event_name event) ≡ true → IsOfRun setup event
+  of_run history (Step p k kind) valid among =
+      let state = state_of machine history in
+      let to = some_of (after machine state (Step p k kind)) (last_enabled history (Step p k kind) valid) in
+      let taken = taken_from machine state to.0 p k kind to.1 in
+      let a = parts machine state to.0 p k kind taken in
+      let is = a.number in
+      (at_most setup.processes p among, (omega (arith, is), a.limit), names_process taken.process kind a.due)
+  of_run history (Lost copy) valid among =
+      let state = state_of machine history in
+      let mail = mail_of state in
+      let to = some_of (after machine state (Lost copy)) (last_enabled history (Lost copy) valid) in
+      let may = (lost_from machine state to.0 copy to.1).0 in
+      let loses = machine.loses_copies in
+      let receiver = is_among (length machine.firsts) copy.to in
+      let sent = is_sent mail copy.msg in
+      let open_to = not (is_received mail copy.to copy.msg) in
+      let kept = both (loses && receiver && sent && open_to) (not (is_lost mail copy)) may in
+      let received = both (loses && receiver && sent) open_to kept.0 in
+      let sends = both (loses && receiver) sent received.0 in
+      let first = both loses receiver sends.0 in
+      (second_version setup.version first.0, at_most setup.processes copy.to (subst (λ (n : ℕ). is_among n copy.to ≡ true) number first.1))
+
+  stands : (history : List Event) → IsValid machine history → IsStanding history
+  stands history valid =
+      let most = range.processes.1 in
+      let count = number in
+      valid_standing machine history valid (omega (arith, most, count))
+
   taken_again : (history : List Event) (event : Event) → IsEnabled machine (state_of machine history) event → again_answer machine setup (state_of machine history) event ≡ Ok event
   taken_again history (Step p k kind) enabled =
       let state = state_of machine history in
@@ -93,6 +154,10 @@ module _ {L : Type 0} (table : Table L) (setup : Parts) (range : AreInRange setu
         lose = λ history valid name p event h. pushed history valid event (when_ok (lose_answer setup (state_of machine history) name p) _ event h (lose_enabled machine setup number refl (state_of machine history) name p));
         again = λ history valid event of_run h. pushed history valid event (again_enabled history event of_run h);
         last_again = λ history event valid. taken_again history event (last_enabled history event valid);
+        of_run = λ history event valid.
+            let named = valid_named machine (history ++ event ∷ []) valid (length history) event (at_end history event) in
+            of_run history event valid (subst (λ (n : ℕ). names_processes n (event_name event) ≡ true) number named.among);
+        standing = stands;
         exchanged = λ history other exchanged valid. subst IsSome (fold_exchanged machine history other exchanged) valid;
         same_state = λ history other exchanged. same other history (sym (fold_exchanged machine history other exchanged));
         named = λ history valid i event at. subst (λ (n : ℕ). IsEventNamed n history (event_name event) i event) number (valid_named machine history valid i event at);

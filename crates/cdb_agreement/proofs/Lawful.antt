@@ -5,7 +5,7 @@ use Rattle.std.specs.Option.{option_map_or}
 use Rattle.std.proofs.lemmas.Bool.Decides.{nat_tests}
 use Rattle.std.proofs.lemmas.List.{length-map, length-replicate}
 use Rattle.std.proofs.lemmas.Option.{none-some, same_Some}
-use Rattle.cdb_base.specs.Places.{nth, update, update_nth}
+use Rattle.cdb_base.specs.Positions.{nth, update, update_nth}
 use Rattle.cdb_base.specs.declared.act.Act.{Act}
 use Rattle.cdb_base.specs.declared.act.Act.TheVariants as act
 use Rattle.cdb_base.specs.declared.event.Event.{Event}

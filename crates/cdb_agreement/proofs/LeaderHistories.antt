@@ -3,7 +3,7 @@ use Rattle.std.proofs.Common.{◌≡◌, ℕ, zero, suc, ◌+◌, ◌*◌, ◌<�
 use Rattle.std.specs.FinSet as set
 use Rattle.std.specs.Option.{option_or}
 use Rattle.std.proofs.lemmas.Option.{none-some, same_Some}
-use Rattle.cdb_base.specs.Places.{nth}
+use Rattle.cdb_base.specs.Positions.{nth}
 use Rattle.cdb_base.specs.declared.event.Event.{Event}
 use Rattle.cdb_base.specs.declared.event.Event.TheVariants as happening
 use Rattle.cdb_base.specs.declared.event.Kind.{Kind}
@@ -31,7 +31,7 @@ use Rattle.cdb_rules.specs.Step.{sight_in, arriving, wished_payload, taken_local
 use Rattle.cdb_agreement.proofs.Firsts.{length-firsts, first_at}
 use Rattle.cdb_rules.proofs.FoldKeeps.{reached_keeps}
 use Rattle.cdb_agreement.proofs.LeaderRuns.{Run, HasTaken, Moves, RunStep, RunLaws, first_taken, run_step_keeps, laws_agree}
-use Rattle.cdb_rules.proofs.Places.{nth-map, nth-set_nth_same, nth-set_nth_other, nth_within}
+use Rattle.cdb_rules.proofs.Positions.{nth-map, nth-set_nth_same, nth-set_nth_other, nth_within}
 use Rattle.cdb_rules.proofs.Bounds.{length-set_nth}
 use Rattle.cdb_agreement.proofs.Decided.{HasDecided, agreeing}
 use Rattle.cdb_rules.proofs.Taken.{taken_from, parts, where_true}

@@ -1,7 +1,7 @@
 -- What the rounds of both algorithms keep to, from the laws of the runs that valid histories are.
 use Rattle.std.proofs.Common.{◌≡◌, ℕ, suc, ◌+◌, ◌*◌, ◌<◌, ◌≤◌, List, length, Contains, Option, Some, None, ◌⊎◌, inl, inr, refl, sym, ap, subst, ◌∙◌, arith}
 use Rattle.std.proofs.lemmas.Bool.{cases_lt}
-use Rattle.cdb_base.specs.Places.{nth}
+use Rattle.cdb_base.specs.Positions.{nth}
 use Rattle.cdb_base.specs.declared.event.Event.{Event}
 use Rattle.cdb_base.specs.declared.payload.Payload.{Payload}
 use Rattle.cdb_base.specs.declared.payload.Payload.TheVariants.{P1, P2, D}
@@ -23,7 +23,7 @@ use Rattle.cdb_agreement.proofs.AlphaRuns.{Run, Settled, Dead, one_value, carrie
 use Rattle.cdb_agreement.proofs.LeaderHistories as leader
 use Rattle.cdb_agreement.proofs.LeaderLaws.{Chosen, JointLaws, one_aux, locked, one_chosen}
 use Rattle.cdb_agreement.proofs.LeaderRuns.{joint_laws}
-use Rattle.cdb_rules.proofs.Places.{nth_within}
+use Rattle.cdb_rules.proofs.Positions.{nth_within}
 use Rattle.cdb_agreement.proofs.Quorums.{quorum_follows}
 
 -- ---- the leader-based algorithm

@@ -2,7 +2,7 @@
 use Rattle.std.specs.Prelude.{◌≡◌, ℕ, suc, ◌+◌, ◌*◌, ◌≤◌, Contains, Option, Some, length}
 use Rattle.cdb_alpha.specs.LocalState.{LocalState as AlphaState}
 use Rattle.cdb_alpha.specs.Place.{place_number}
-use Rattle.cdb_base.specs.Places.{nth}
+use Rattle.cdb_base.specs.Positions.{nth}
 use Rattle.cdb_base.specs.declared.event.Event.{Event}
 use Rattle.cdb_base.specs.declared.event.Event.TheVariants.{Step}
 use Rattle.cdb_base.specs.declared.event.Kind.TheVariants.{Write}

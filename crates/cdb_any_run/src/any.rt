@@ -23,7 +23,7 @@ use cdb_base::{
 use cdb_causal::History;
 use cdb_leader::Leader;
 use cdb_process::Process;
-use cdb_rules::EventRef;
+use cdb_rules::{Chronicle, EventRef};
 use cdb_run::Run;
 use cdb_setup::{Algorithm, Setup};
 use smallvec::SmallVec;
@@ -303,6 +303,18 @@ impl AnyRun {
         match self {
             AnyRun::Leader(run) => run.history(),
             AnyRun::Alpha(run) => run.history(),
+        }
+    }
+
+    /// What stands in the run: each event was enabled in its turn. All else of the run is given up.
+    pub fn into_chronicle(self) -> Chronicle
+        requires { IsTrueToSetup self }
+        ensures run { result ≡ run_view self }
+        ensures valid { IsInOrder rules (run_view self) }
+    {
+        match self {
+            AnyRun::Leader(run) => run.into_chronicle(),
+            AnyRun::Alpha(run) => run.into_chronicle(),
         }
     }
 

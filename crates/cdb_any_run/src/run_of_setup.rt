@@ -8,14 +8,14 @@ ghost use Rattle.cdb_agreement.proofs.KeptHistories.{rules_keep_histories};
 ghost use Rattle.cdb_agreement.proofs.Lawful.{rules_are_lawful};
 ghost use Rattle.cdb_rules.specs.Algorithms.{rules as rules_of_setup};
 ghost use Rattle.cdb_any_run.specs.Any.{run_view, IsTrueToSetup};
-ghost use Rattle.cdb_rules.specs.ByRules.{cell_in, mail_in};
+ghost use Rattle.cdb_rules.specs.ByRules.{mail_in};
 ghost use Rattle.cdb_rules.specs.RunView.{RunView};
 ghost use Rattle.cdb_rules.specs.Runs.{RollsBackOnto, Tells, causes_in};
 ghost use Rattle.cdb_rules.specs.SameState.{ReachSameState};
 
 use crate::any::AnyRun;
 use cdb_base::{Act, Cell, Event, MsgName, NoMemory, Payload, Proc, Refusal, Reg, StepId, Val};
-use cdb_rules::{EventRef, ProcView, Runs};
+use cdb_rules::{Chronicle, EventRef, ProcView, Runs};
 use cdb_setup::{Algorithm, Setup};
 use smallvec::SmallVec;
 use std::alloc::Global;
@@ -79,17 +79,6 @@ impl RunOfSetup {
     {
         &self.run
     }
-
-    /// What the register holds, where the run has it.
-    fn cell(&self, register: Reg) -> Option<Cell>
-        ensures { result ≡ cell_in rules_of_setup self.now register }
-    {
-        let again = register;
-        if !self.run.has(again) {
-            return None;
-        }
-        Some(self.run.cell(register))
-    }
 }
 
 impl Runs for RunOfSetup {
@@ -149,6 +138,26 @@ impl Runs for RunOfSetup {
 
     fn refuses(&self, p: u32, act: Act) -> Option<Refusal> {
         self.run.refuses(p, act)
+    }
+
+    fn setup(&self) -> &Setup {
+        self.run.setup()
+    }
+
+    fn into_chronicle(self) -> Chronicle {
+        self.run.into_chronicle()
+    }
+
+    fn payload(&self, name: MsgName) -> Option<&Payload> {
+        self.run.payload(name)
+    }
+
+    fn cell(&self, register: Reg) -> Option<Cell> {
+        let again = register;
+        if !self.run.has(again) {
+            return None;
+        }
+        Some(self.run.cell(register))
     }
 
     fn processes(&self) -> u8 {

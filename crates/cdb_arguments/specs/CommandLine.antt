@@ -5,7 +5,7 @@ use Rattle.clap.specs.Simple.{on_top}
 use Rattle.clap.specs.Words.{App, Rule, Text, new_app, new_rule, with_rule, with_subcommand}
 use Rattle.clap.specs.declared.builder.value_parser.ValueParser.TheVariants as vp
 
--- an argument in its place that has to be given
+-- a positional argument that has to be given
 abbrev pub required_rule : Text → Rule
 required_rule id = record (new_rule id) { required = true }
 
@@ -21,7 +21,7 @@ numbered rule = record rule { parser = Some (vp.Signed (pos 1) (pos 999999)) }
 abbrev pub several : Rule → Rule
 several rule = record rule { range = Some (record { start_inclusive = 1; end_inclusive = usize_max }) }
 
--- a subcommand with these arguments, in their places
+-- a subcommand with these arguments, in this order
 abbrev pub with_arguments : Text → List Rule → App
 with_arguments name = fold with_rule (new_app name)
 

@@ -1,3 +1,4 @@
+-- what a contract names
 pub mod CommandLine
 pub mod Plain
 pub mod Asking

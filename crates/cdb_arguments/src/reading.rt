@@ -73,7 +73,7 @@ const SETUPS: &str = "A setup:
   oracle     for each process the leaders that its queries get, one after the other
   version    1, or 2 where copies of messages can be lost; may be left out";
 
-/// An argument in its place that has to be given.
+/// A positional argument that has to be given.
 fn required<'a>(alloc: Global, name: &'a str, help: &'a str) -> Arg<'a>
     ensures rule { rule_of result ≡ required_rule name.entry.now }
     ensures local { result.global ≡ false }

@@ -9,7 +9,7 @@ pub enum Act {
     /// Adopt a decision that it received.
     Learn,
     Crash,
-    /// Ask the oracle: the setup's next answer, or the leader given in its place.
+    /// Ask the oracle: the setup's next answer, or the leader that is given instead.
     Query(Option<u32>),
     /// Receive the message of that sender and number.
     Recv(u32, u32),

@@ -73,7 +73,7 @@ impl Proc {
         self.0
     }
 
-    /// The place of the process in a list of all processes, from 0.
+    /// The position of the process in a list of all processes, from 0.
     pub fn index(self) -> usize
         ensures value { result + 1 ≡ self }
         ensures below_nine { result ≤ 8 }
@@ -82,7 +82,7 @@ impl Proc {
     }
 }
 
-/// The first process, for lists that keep their places filled.
+/// The first process, for lists that have something in every cell.
 impl Default for Proc {
     fn default() -> Self {
         Proc(1)
@@ -159,7 +159,7 @@ impl fmt::Display for StepId {
     }
 }
 
-/// A name, for lists that keep their places filled.
+/// A name, for lists that have something in every cell.
 impl Default for StepId {
     fn default() -> Self {
         StepId::Step(StepName::default())

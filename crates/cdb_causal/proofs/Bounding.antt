@@ -13,7 +13,7 @@ use Rattle.cdb_base.specs.declared.event.Kind.TheVariants.{Send, Recv, Read, Wri
 use Rattle.cdb_causal.specs.Alone.{AreAlone, Leaves}
 use Rattle.cdb_causal.specs.Bounds.{IsKindWithin, IsWithin, AreWithin, AreRaised}
 use Rattle.cdb_causal.specs.Cells.{register_cell, named_cell, copy_cell}
-use Rattle.cdb_causal.specs.Rollback.{without, place_before}
+use Rattle.cdb_causal.specs.Rollback.{without, position_before}
 use Rattle.cdb_causal.specs.declared.bounds.Bounds.{Bounds}
 use Rattle.cdb_causal.proofs.Counting.{slice_get-without}
 use Rattle.cdb_causal.proofs.Lists.{push_cases}
@@ -74,16 +74,16 @@ pub all_raised : (old new : Bounds) (marks : ℕ → ℕ) (history : List Event)
 all_raised old new marks history raised within i event at =
     within_raised (suc (marks i)) old new (raised (suc (marks i))) (marks i) event (omega arith) (within i event at)
 
--- an event that stood before the one that is gone keeps its place, a later one stood one place above
-pub place_before_low : (gone i : ℕ) → i < gone → place_before gone i ≡ i
-place_before_low zero i less = absurd (omega arith)
-place_before_low (suc gone) zero less = refl
-place_before_low (suc gone) (suc i) less = ap suc (place_before_low gone i (omega arith))
+-- an event that stood before the one that is gone keeps its position, a later one stood one position above
+pub position_before_low : (gone i : ℕ) → i < gone → position_before gone i ≡ i
+position_before_low zero i less = absurd (omega arith)
+position_before_low (suc gone) zero less = refl
+position_before_low (suc gone) (suc i) less = ap suc (position_before_low gone i (omega arith))
 
-pub place_before_high : (gone i : ℕ) → gone ≤ i → place_before gone i ≡ suc i
-place_before_high zero i le = refl
-place_before_high (suc gone) zero le = absurd (omega arith)
-place_before_high (suc gone) (suc i) le = ap suc (place_before_high gone i (omega arith))
+pub position_before_high : (gone i : ℕ) → gone ≤ i → position_before gone i ≡ suc i
+position_before_high zero i le = refl
+position_before_high (suc gone) zero le = absurd (omega arith)
+position_before_high (suc gone) (suc i) le = ap suc (position_before_high gone i (omega arith))
 
 pub within_push : (top : ℕ) (old new : Bounds) (old_marks marks : ℕ → ℕ) (history : List Event) (event : Event) → AreRaised top old new → ((i : ℕ) → i < length history → old_marks i < top) → AreWithin old old_marks history → ((i : ℕ) → i < length history → marks i ≡ old_marks i)
     → IsWithin new (marks (length history)) event → AreWithin new marks (history ++ event ∷ [])
@@ -103,15 +103,15 @@ pub step_below : (bounds : Bounds) (name : StepId) (step : StepName) → name �
 step_below bounds name step is_step i (Step p k kind) within is = subst (λ (s : StepName). i < slice_index bounds.steps.items (named_cell s.p s.k)) (same_step (is ∙ is_step)) within.0
 step_below bounds name step is_step i (Lost other) within is = absurd (no_loss (sym (is ∙ is_step)))
 
-pub place_not_gone : (gone i : ℕ) → place_before gone i ≡ gone → ⊥
-place_not_gone zero i h = omega arith
-place_not_gone (suc gone) zero h = omega arith
-place_not_gone (suc gone) (suc i) h = place_not_gone gone i (omega arith)
+pub position_not_gone : (gone i : ℕ) → position_before gone i ≡ gone → ⊥
+position_not_gone zero i h = omega arith
+position_not_gone (suc gone) zero h = omega arith
+position_not_gone (suc gone) (suc i) h = position_not_gone gone i (omega arith)
 
 pub within_without : (old new : Bounds) (old_marks marks : ℕ → ℕ) (history : List Event) (gone : ℕ) (event : Event) → slice_get history gone ≡ Some event → Leaves old new event → AreAlone old history → AreWithin old old_marks history
-    → ((i : ℕ) → i < length (without history gone) → marks i ≤ old_marks (place_before gone i)) → AreWithin new marks (without history gone)
+    → ((i : ℕ) → i < length (without history gone) → marks i ≤ old_marks (position_before gone i)) → AreWithin new marks (without history gone)
 within_without old new old_marks marks history gone event at_gone leaves alone within fall i one at =
-    let place = place_before gone i in
+    let position = position_before gone i in
     let stood = sym (slice_get-without history gone i) ∙ at in
-    within_lower new (marks i) (old_marks place) one (fall i (slice_get_within (without history gone) i one at))
-    (within_left old new history gone event at_gone leaves alone (old_marks place) place one stood (place_not_gone gone i) (within place one stood))
+    within_lower new (marks i) (old_marks position) one (fall i (slice_get_within (without history gone) i one at))
+    (within_left old new history gone event at_gone leaves alone (old_marks position) position one stood (position_not_gone gone i) (within position one stood))

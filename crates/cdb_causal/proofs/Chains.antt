@@ -69,7 +69,7 @@ module _ {E : Type 0} (depends : E → E → Bool) where
   last_link history i (direct l) = (i, inl refl, l)
   last_link history i (onward {j = j} c l) = (j, inr c, l)
 
-  -- what is linked to a place that is rolled back is a consequence
+  -- what is linked to a position that is rolled back is a consequence
   linked_on : (history : List E) (i j k : ℕ) → IsRolledBack depends history i j → IsLink depends history j k → IsConsequence depends history i k
   linked_on history i j k (inl e) l = direct (subst (λ j. IsLink depends history j k) e l)
   linked_on history i j k (inr c) l = onward c l
@@ -85,7 +85,7 @@ module _ {E : Type 0} (depends : E → E → Bool) where
         | inr is ↦ in_back [] cause event (same_Some cause event (sym at_j ∙ ap (slice_get history) is ∙ at))
       ]
 
-  -- the causes are the events at the places below k that are rolled back
+  -- the causes are the events at the positions below k that are rolled back
   record AreCauses (history : List E) (i k : ℕ) (causes : List E) : Type 0 where
     only : (cause : E) → IsIn cause causes → (j : ℕ) × (j < k) × (slice_get history j ≡ Some cause) × IsRolledBack depends history i j
     each : (j : ℕ) (cause : E) → j < k → slice_get history j ≡ Some cause → IsRolledBack depends history i j → IsIn cause causes
@@ -148,7 +148,7 @@ module _ {E : Type 0} (depends : E → E → Bool) where
               kept not (parted_behind (suc k) causes events later next (causes_same history i k causes event at are not))
         ] refl
 
-    -- the walk up to the event itself, which stands m places further on
+    -- the walk up to the event itself, which stands m positions further on
     parted_from : (m k : ℕ) (rest : List E) → k + m ≡ i → drop k history ≡ rest → IsParted (IsRolledBack depends history i) k rest (remaining depends rest m) (rolled_back depends rest m)
     parted_from m k [] e is = done
     parted_from zero k (event ∷ events) e is =

@@ -71,7 +71,7 @@ module _ {E : Type 0} where
       or-false (test x && other x) (list_any (λ x. test x && other x) xs) (and-false_left (test x) (other x) parts.0) (none_narrower test other xs parts.1)
 
 module _ {E : Type 0} (depends : E → E → Bool) where
-  -- no later event of the list depends on the one at place k
+  -- no later event of the list depends on the one at position k
   abbrev pub IsIndependentBehind : List E → ℕ → E → Type 0
   IsIndependentBehind events k event = (j : ℕ) (other : E) → k < j → slice_get events j ≡ Some other → depends event other ≡ false
 

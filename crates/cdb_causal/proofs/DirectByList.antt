@@ -68,8 +68,8 @@ module _ {E : Type 0} (depends : E → E → Bool) (history : List E) (event : E
   at_longer : slice_get longer i ≡ Some cause
   at_longer = get_append_front history (event ∷ []) i cause at
 
-  direct_place : is_direct depends cause (drop (suc i) history) event ≡ true → IsDirectCause depends longer i (length history)
-  direct_place h =
+  direct_position : is_direct depends cause (drop (suc i) history) event ≡ true → IsDirectCause depends longer i (length history)
+  direct_position h =
       let parts = both_true (depends cause event) (not (list_any stands_between (drop (suc i) history))) h in
       record {
         link = link_at depends longer i (length history) cause event (slice_get_within history i cause at) at_longer (get_push_back history event) parts.0;
@@ -83,8 +83,8 @@ module _ {E : Type 0} (depends : E → E → Bool) (history : List E) (event : E
             ∙ not_is (list_any stands_between (drop (suc i) history)) parts.1);
       }
 
-  place_direct : IsDirectCause depends longer i (length history) → is_direct depends cause (drop (suc i) history) event ≡ true
-  place_direct d =
+  position_direct : IsDirectCause depends longer i (length history) → is_direct depends cause (drop (suc i) history) event ≡ true
+  position_direct d =
       true_both (depends cause event) (not (list_any stands_between (drop (suc i) history)))
       (linked_events depends longer i (length history) cause event at_longer (get_push_back history event) d.link)
       (is_not (list_any stands_between (drop (suc i) history)) (λ h.
@@ -97,4 +97,4 @@ module _ {E : Type 0} (depends : E → E → Bool) (history : List E) (event : E
       (link_at depends longer n.0 (length history) q.1 event (slice_get_within history n.0 q.1 n.2) at_n (get_push_back history event) parts.1)))
 
   pub direct_between : IsDirectCause depends longer i (length history) ↔ (is_direct depends cause (drop (suc i) history) event ≡ true)
-  direct_between = (place_direct, direct_place)
+  direct_between = (position_direct, direct_position)

@@ -141,7 +141,7 @@ module _ (history : List Event) (standing : IsStanding history) (j : ℕ) (names
   two_before_loss : AreDirectCausesBelow history j 9 names → (found : StepId) → NamesDirectCauseIn history j 9 found → length names ≤ 2
   two_before_loss are found is =
       let loss = last_slot is.direct.link.cause is.has_slot in
-      let receive = lost_received history standing j is.place is.direct.link loss.0 loss.1 in
+      let receive = lost_received history standing j is.position is.direct.link loss.0 loss.1 in
       two_at_most loss.0.to loss.0.msg.s names
       (λ k name at.
       let o = are.only k name at in
@@ -167,13 +167,13 @@ module _ (history : List Event) (standing : IsStanding history) (j : ℕ) (names
       record {
         only = λ k name at.
             let o = are.only k name at in
-            (o.2.place, o.2.direct, (o.2.direct.link.cause, o.2.direct.link.at_cause, o.2.has_name));
+            (o.2.position, o.2.direct, (o.2.direct.link.cause, o.2.direct.link.at_cause, o.2.has_name));
         each = λ name n.
             let d = n.1 in
             let slot = has_slot_in history standing n.0 d.link.cause d.link.at_cause in
             are.each slot.0 name (slot_within d.link.cause slot.0 slot.1)
             (record {
-              place = n.0;
+              position = n.0;
               direct = d;
               has_name = ap event_name (same_Some d.link.cause n.2.0 (sym d.link.at_cause ∙ n.2.1)) ∙ n.2.2;
               has_slot = slot.1;

@@ -45,7 +45,7 @@ module _ (bounds : Bounds) (slot result : ℕ) where
       (sym (ap (λ b. b || (kind_affects q other kind || kind_affects p kind other)) apart) ∙ sym (by_effect (Step q l other) (Step p k kind)) ∙ ap (λ e. depends (Step q l other) e) (sym is) ∙ h)
   above_steps event p k kind is not_last other_process above i (Lost copy) within in_slot h = absurd (not_last in_slot)
 
--- the bound of a slot is above each event of a history on which the one at place j depends
+-- the bound of a slot is above each event of a history on which the one at position j depends
 pub end_above : (history : List Event) → IsStanding history → (bounds : Bounds) (marks : ℕ → ℕ) → AreWithin bounds marks history → (j slot result top : ℕ) (event : Event) → slice_get history j ≡ Some event → ((i : ℕ) (l : IsLink depends history i j) → IsSlot l.cause slot → marks i < top)
     → ((i : ℕ) (cause : Event) → i < top → IsWithin bounds i cause → IsSlot cause slot → ((copy : CopyName) → cause ≡ Lost copy → send_and_loss event (Lost copy) ≡ false) → depends cause event ≡ true → i < result)
     → (i : ℕ) (l : IsLink depends history i j) → IsSlot l.cause slot → marks i < result

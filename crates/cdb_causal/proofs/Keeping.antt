@@ -6,9 +6,9 @@ use Rattle.cdb_base.specs.declared.event.Event.TheVariants.{Step, Lost}
 use Rattle.cdb_base.specs.declared.event.Kind.{Kind}
 use Rattle.cdb_causal.specs.Dependence.{send_and_loss}
 use Rattle.cdb_causal.specs.Names.{IsNewName}
-use Rattle.cdb_causal.specs.Rollback.{without, place_before}
+use Rattle.cdb_causal.specs.Rollback.{without, position_before}
 use Rattle.cdb_causal.specs.Standing.{HasNoLostCopy, IsStanding}
-use Rattle.cdb_causal.proofs.Counting.{slice_get-without, place_rises, same_place_before}
+use Rattle.cdb_causal.proofs.Counting.{slice_get-without, position_rises, same_position_before}
 use Rattle.cdb_causal.proofs.Lists.{push_cases}
 
 abbrev IsOfProcess : Event → Type 0
@@ -49,9 +49,9 @@ module _ (history : List Event) (gone : ℕ) (standing : IsStanding history) whe
   standing_without =
       record {
         names_differ = λ i j name a b.
-            same_place_before gone i j
-            (standing.names_differ (place_before gone i) (place_before gone j) name (a.0, sym (slice_get-without history gone i) ∙ a.1, a.2) (b.0, sym (slice_get-without history gone j) ∙ b.1, b.2));
-        processes = λ i p k kind a. standing.processes (place_before gone i) p k kind (sym (slice_get-without history gone i) ∙ a);
+            same_position_before gone i j
+            (standing.names_differ (position_before gone i) (position_before gone j) name (a.0, sym (slice_get-without history gone i) ∙ a.1, a.2) (b.0, sym (slice_get-without history gone j) ∙ b.1, b.2));
+        processes = λ i p k kind a. standing.processes (position_before gone i) p k kind (sym (slice_get-without history gone i) ∙ a);
         lost_after_sent = λ i j copy sent less a b.
-            standing.lost_after_sent (place_before gone i) (place_before gone j) copy sent (place_rises gone i j less) (sym (slice_get-without history gone i) ∙ a) (sym (slice_get-without history gone j) ∙ b);
+            standing.lost_after_sent (position_before gone i) (position_before gone j) copy sent (position_rises gone i j less) (sym (slice_get-without history gone i) ∙ a) (sym (slice_get-without history gone j) ∙ b);
       }

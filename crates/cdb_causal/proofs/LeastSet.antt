@@ -4,35 +4,35 @@ use Rattle.cdb_causal.specs.Causality.{IsConsequence}
 use Rattle.cdb_causal.specs.Rollback.{IsParted, done, kept, gone, IsRolledBack, consequences}
 use Rattle.cdb_causal.proofs.Chains.{later_consequence, parted}
 
-at_or_before_next : (place i : ℕ) → (place < i) ⊎ (place ≡ i) → (place ≡ i → ⊥) → (suc place < i) ⊎ (suc place ≡ i)
-at_or_before_next place i low other = ⊎_elim (λ less. next place i less) (λ same. absurd (other same)) low
+at_or_before_next : (position i : ℕ) → (position < i) ⊎ (position ≡ i) → (position ≡ i → ⊥) → (suc position < i) ⊎ (suc position ≡ i)
+at_or_before_next position i low other = ⊎_elim (λ less. next position i less) (λ same. absurd (other same)) low
   where
-    next : (place i : ℕ) → place < i → (suc place < i) ⊎ (suc place ≡ i)
-    next place i less = grind arith
+    next : (position i : ℕ) → position < i → (suc position < i) ⊎ (suc position ≡ i)
+    next position i less = grind arith
 
-not_above : (place i : ℕ) → (place < i) ⊎ (place ≡ i) → i < place → ⊥
-not_above place i low above = ⊎_elim (λ less. (let l = less in omega (arith, above))) (λ same. (let e = same in omega (arith, above))) low
+not_above : (position i : ℕ) → (position < i) ⊎ (position ≡ i) → i < position → ⊥
+not_above position i low above = ⊎_elim (λ less. (let l = less in omega (arith, above))) (λ same. (let e = same in omega (arith, above))) low
 
 module _ {E : Type 0} (depends : E → E → Bool) (history : List E) (i : ℕ) where
   -- behind the event itself
-  parted_later : {place : ℕ} {events left taken : List E} → i < place → IsParted (IsRolledBack depends history i) place events left taken → IsParted (IsConsequence depends history i) place events left taken
+  parted_later : {position : ℕ} {events left taken : List E} → i < position → IsParted (IsRolledBack depends history i) position events left taken → IsParted (IsConsequence depends history i) position events left taken
   parted_later above done = done
   parted_later above (kept not p) = kept (λ c. not (inr c)) (parted_later (let a = above in omega arith) p)
-  parted_later {place} above (gone (inl e) p) = absurd (lt_irrefl i (subst (λ n. i < n) e above))
+  parted_later {position} above (gone (inl e) p) = absurd (lt_irrefl i (subst (λ n. i < n) e above))
   parted_later above (gone (inr c) p) = gone c (parted_later (let a = above in omega arith) p)
 
   abbrev IsPartedBut : ℕ → List E → List E → Type 0
-  IsPartedBut place events taken = (left : List E) × IsParted (IsConsequence depends history i) place events left taken
+  IsPartedBut position events taken = (left : List E) × IsParted (IsConsequence depends history i) position events left taken
 
   -- up to the event itself, which comes first of what is rolled back
-  parted_up_to : {place : ℕ} {events left taken : List E} → (place < i) ⊎ (place ≡ i) → IsParted (IsRolledBack depends history i) place events left taken → IsPartedBut place events (drop 1 taken)
+  parted_up_to : {position : ℕ} {events left taken : List E} → (position < i) ⊎ (position ≡ i) → IsParted (IsRolledBack depends history i) position events left taken → IsPartedBut position events (drop 1 taken)
   parted_up_to low done = ([], done)
-  parted_up_to low (kept {place = place} {event = event} not p) =
-      let rest = parted_up_to (at_or_before_next place i low (λ e. not (inl e))) p in
+  parted_up_to low (kept {position = position} {event = event} not p) =
+      let rest = parted_up_to (at_or_before_next position i low (λ e. not (inl e))) p in
       (event ∷ rest.0, kept (λ c. not (inr c)) rest.1)
-  parted_up_to low (gone {place = place} {event = event} {left = left} (inl e) p) =
-      (event ∷ left, kept (λ c. not_above place i low (later_consequence depends history i c)) (parted_later (let f = e in omega arith) p))
-  parted_up_to low (gone {place = place} (inr c) p) = absurd (not_above place i low (later_consequence depends history i c))
+  parted_up_to low (gone {position = position} {event = event} {left = left} (inl e) p) =
+      (event ∷ left, kept (λ c. not_above position i low (later_consequence depends history i c)) (parted_later (let f = e in omega arith) p))
+  parted_up_to low (gone {position = position} (inr c) p) = absurd (not_above position i low (later_consequence depends history i c))
 
 from_zero : (i : ℕ) → (0 < i) ⊎ (0 ≡ i)
 from_zero i = grind arith

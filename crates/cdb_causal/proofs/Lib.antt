@@ -9,7 +9,8 @@ pub mod Effects
 pub mod Ends
 pub mod Exchanges
 pub mod Keeping
-pub mod LastPlaces
+pub mod Indexing
+pub mod LastPositions
 pub mod LeastSet
 pub mod Lists
 pub mod Naming

@@ -9,10 +9,10 @@ use Rattle.cdb_base.specs.declared.name.StepId.TheVariants as named
 use Rattle.cdb_causal.specs.Bounds.{IsKindWithin, IsWithin, AreWithin}
 use Rattle.cdb_causal.specs.Cells.{register_cell, named_cell, copy_cell}
 use Rattle.cdb_causal.specs.Named.{IsRanged, AreRanged, IsStepIn, IsLossIn, IsNameForgotten}
-use Rattle.cdb_causal.specs.Rollback.{without, place_before}
+use Rattle.cdb_causal.specs.Rollback.{without, position_before}
 use Rattle.cdb_causal.specs.Standing.{IsStanding}
 use Rattle.cdb_causal.specs.declared.bounds.Bounds.{Bounds}
-use Rattle.cdb_causal.proofs.Bounding.{place_not_gone}
+use Rattle.cdb_causal.proofs.Bounding.{position_not_gone}
 use Rattle.cdb_causal.proofs.Counting.{slice_get-without}
 use Rattle.cdb_causal.proofs.Lists.{push_cases}
 
@@ -20,7 +20,7 @@ pub ranged_push : (history : List Event) (event : Event) → AreRanged history �
 ranged_push history event ranged new i copy at = ⊎_elim (λ old. ranged i copy old.0) (λ here. new copy here.0) (push_cases history event (Lost copy) i at)
 
 pub ranged_without : (history : List Event) (gone : ℕ) → AreRanged history → AreRanged (without history gone)
-ranged_without history gone ranged i copy at = ranged (place_before gone i) copy (sym (slice_get-without history gone i) ∙ at)
+ranged_without history gone ranged i copy at = ranged (position_before gone i) copy (sym (slice_get-without history gone i) ∙ at)
 
 same_number : (a b x y : ℕ) → x ≤ 8 → y ≤ 8 → a * 9 + x ≡ b * 9 + y → (a ≡ b) × (x ≡ y)
 same_number a b x y low high same = (omega arith, omega arith)
@@ -28,13 +28,13 @@ same_number a b x y low high same = (omega arith, omega arith)
 same_process : (p q : ℕ) → 1 ≤ p → 1 ≤ q → p - 1 ≡ q - 1 → p ≡ q
 same_process p q one two same = omega arith
 
-module _ (history : List Event) (standing : IsStanding history) (ranged : AreRanged history) (gone place : ℕ) (event one : Event) (at_gone : slice_get history gone ≡ Some event) (at : slice_get history place ≡ Some one) (other : place ≡ gone → ⊥) where
+module _ (history : List Event) (standing : IsStanding history) (ranged : AreRanged history) (gone position : ℕ) (event one : Event) (at_gone : slice_get history gone ≡ Some event) (at : slice_get history position ≡ Some one) (other : position ≡ gone → ⊥) where
   pub other_step : (n : ℕ) → IsStepIn one n → IsStepIn event n → ⊥
   other_step n in_one in_event = go one event at at_gone in_one in_event
     where
-      go : (one event : Event) → slice_get history place ≡ Some one → slice_get history gone ≡ Some event → IsStepIn one n → IsStepIn event n → ⊥
+      go : (one event : Event) → slice_get history position ≡ Some one → slice_get history gone ≡ Some event → IsStepIn one n → IsStepIn event n → ⊥
       go (Step p k kind) (Step q l second) at at_gone in_one in_event =
-          let a = standing.processes place p k kind at in
+          let a = standing.processes position p k kind at in
           let b = standing.processes gone q l second at_gone in
           let one_low = a.0 in
           let one_high = a.1 in
@@ -42,16 +42,16 @@ module _ (history : List Event) (standing : IsStanding history) (ranged : AreRan
           let two_high = b.1 in
           let same = same_number k l (p - 1) (q - 1) (omega arith) (omega arith) (in_one ∙ sym in_event) in
           let name = ap (λ x. named.Step (record { p = x; k = k })) (same_process p q one_low two_low same.1) ∙ ap (λ x. named.Step (record { p = q; k = x })) same.0 in
-          other (standing.names_differ place gone (named.Step (record { p = q; k = l })) (Step p k kind, at, name) (Step q l second, at_gone, refl))
+          other (standing.names_differ position gone (named.Step (record { p = q; k = l })) (Step p k kind, at, name) (Step q l second, at_gone, refl))
       go (Step p k kind) (Lost copy) at at_gone in_one in_event = in_event
       go (Lost copy) event at at_gone in_one in_event = in_one
 
   pub other_loss : (n : ℕ) → IsLossIn one n → IsLossIn event n → ⊥
   other_loss n in_one in_event = go one event at at_gone in_one in_event
     where
-      go : (one event : Event) → slice_get history place ≡ Some one → slice_get history gone ≡ Some event → IsLossIn one n → IsLossIn event n → ⊥
+      go : (one event : Event) → slice_get history position ≡ Some one → slice_get history gone ≡ Some event → IsLossIn one n → IsLossIn event n → ⊥
       go (Lost copy) (Lost second) at at_gone in_one in_event =
-          let a = ranged place copy at in
+          let a = ranged position copy at in
           let b = ranged gone second at_gone in
           let a0 = a.0 in
           let a1 = a.1 in
@@ -67,7 +67,7 @@ module _ (history : List Event) (standing : IsStanding history) (ranged : AreRan
           ap (λ x. named.Lost (record { msg = record { s = x; m = copy.msg.m }; to = copy.to })) (same_process copy.msg.s second.msg.s a0 b0 inner.1)
           ∙ ap (λ x. named.Lost (record { msg = record { s = second.msg.s; m = x }; to = copy.to })) inner.0
           ∙ ap (λ x. named.Lost (record { msg = second.msg; to = x })) (same_process copy.to second.to a2 b2 outer.1) in
-          other (standing.names_differ place gone (named.Lost second) (Lost copy, at, name) (Lost second, at_gone, refl))
+          other (standing.names_differ position gone (named.Lost second) (Lost copy, at, name) (Lost second, at_gone, refl))
       go (Lost copy) (Step q l second) at at_gone in_one in_event = in_event
       go (Step p k kind) event at at_gone in_one in_event = in_one
 
@@ -85,11 +85,11 @@ pub within_named : (old new : Bounds) (marks : ℕ → ℕ) (history : List Even
 within_named old new marks history standing ranged gone event at_gone forgotten within i one at =
     go one (sym (slice_get-without history gone i) ∙ at) (within i one at)
   where
-    go : (one : Event) → slice_get history (place_before gone i) ≡ Some one → IsWithin old (marks i) one → IsWithin new (marks i) one
+    go : (one : Event) → slice_get history (position_before gone i) ≡ Some one → IsWithin old (marks i) one → IsWithin new (marks i) one
     go (Step p k kind) stood inside = (
-      subst (λ b. marks i < b) (sym (forgotten.steps (named_cell p k) (λ is. other_step history standing ranged gone (place_before gone i) event (Step p k kind) at_gone stood (place_not_gone gone i) (named_cell p k) refl is))) inside.0,
+      subst (λ b. marks i < b) (sym (forgotten.steps (named_cell p k) (λ is. other_step history standing ranged gone (position_before gone i) event (Step p k kind) at_gone stood (position_not_gone gone i) (named_cell p k) refl is))) inside.0,
       kind_kept old new event forgotten (marks i) p kind inside.1,
     )
     go (Lost copy) stood inside =
         let cell : ℕ = copy_cell copy.msg.s copy.msg.m (copy.to - 1) in
-        subst (λ b. marks i < b) (sym (forgotten.losses cell (λ is. other_loss history standing ranged gone (place_before gone i) event (Lost copy) at_gone stood (place_not_gone gone i) cell refl is))) inside
+        subst (λ b. marks i < b) (sym (forgotten.losses cell (λ is. other_loss history standing ranged gone (position_before gone i) event (Lost copy) at_gone stood (position_not_gone gone i) cell refl is))) inside

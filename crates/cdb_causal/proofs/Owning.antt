@@ -10,11 +10,11 @@ use Rattle.cdb_causal.specs.Bounds.{AreRaised}
 use Rattle.cdb_causal.specs.Cells.{named_cell}
 use Rattle.cdb_causal.specs.LastCauses.{IsSlot}
 use Rattle.cdb_causal.specs.Own.{own_bound, bound_before, bound_of_slot, AreOwn, IsLoweredAt, IsOwnNoted, IsOwnForgotten}
-use Rattle.cdb_causal.specs.Rollback.{without, place_before}
+use Rattle.cdb_causal.specs.Rollback.{without, position_before}
 use Rattle.cdb_causal.specs.Standing.{IsStanding}
 use Rattle.cdb_causal.specs.declared.bounds.Bounds.{Bounds}
-use Rattle.cdb_causal.proofs.Bounding.{place_not_gone}
-use Rattle.cdb_causal.proofs.Counting.{slice_get-without, place_rises}
+use Rattle.cdb_causal.proofs.Bounding.{position_not_gone}
+use Rattle.cdb_causal.proofs.Counting.{slice_get-without, position_rises}
 use Rattle.cdb_causal.proofs.Lists.{push_cases}
 use Rattle.cdb_log.specs.declared.log.TheConstants.{ABOVE_ALL}
 
@@ -78,22 +78,22 @@ module _ (old new : Bounds) (old_marks marks : ℕ → ℕ) (history : List Even
       subst (λ b. old_marks i < b) (sym low.2) (own.earlier i gone p l k other kind less at_p at_event)
   lowered (Lost copy) at_event is_last i q l other apart at low = absurd low
 
-  pub own_without : ((i : ℕ) → i < length (without history gone) → marks i ≤ old_marks (place_before gone i)) → AreOwn new marks (without history gone)
+  pub own_without : ((i : ℕ) → i < length (without history gone) → marks i ≤ old_marks (position_before gone i)) → AreOwn new marks (without history gone)
   own_without fall =
       record {
         all = λ i p k kind at.
             let low = fall i (slice_get_within (without history gone) i (Step p k kind) at) in
-            let place = place_before gone i in
+            let position = position_before gone i in
             let stood = sym (slice_get-without history gone i) ∙ at in
-            let high : old_marks place < own_bound new p =
+            let high : old_marks position < own_bound new p =
             ⊎_elim
-            (λ same. subst (λ b. old_marks place < b) (sym same) (own.all place p k kind stood))
-            (λ less. lowered event at_gone is_last place p k kind (place_not_gone gone i) stood less)
+            (λ same. subst (λ b. old_marks position < b) (sym same) (own.all position p k kind stood))
+            (λ less. lowered event at_gone is_last position p k kind (position_not_gone gone i) stood less)
             (forgotten.own (p - 1)) in
             omega arith;
         earlier = λ h i p k l kind other less at_h at_i.
             let low = fall h (slice_get_within (without history gone) h (Step p k kind) at_h) in
-            let high = own.earlier (place_before gone h) (place_before gone i) p k l kind other (place_rises gone h i less) (sym (slice_get-without history gone h) ∙ at_h) (sym (slice_get-without history gone i) ∙ at_i) in
+            let high = own.earlier (position_before gone h) (position_before gone i) p k l kind other (position_rises gone h i less) (sym (slice_get-without history gone h) ∙ at_h) (sym (slice_get-without history gone i) ∙ at_i) in
             let same = ap (λ t. slice_index t.items (named_cell p l)) forgotten.before in
             omega arith;
       }

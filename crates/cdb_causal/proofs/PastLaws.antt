@@ -34,7 +34,7 @@ module _ {E : Type 0} (depends : E → E → Bool) (history : List E) where
   later_or_not : (i k : ℕ) → (i < k) ⊎ (k ≤ i)
   later_or_not i k = grind arith
 
-  -- whether a place is linked to another can be looked up
+  -- whether a position is linked to another can be looked up
   linked_or_not : (i k : ℕ) → IsLink depends history i k ⊎ (IsLink depends history i k → ⊥)
   linked_or_not i k = ⊎_elim (λ later. look later (slice_get history i) (slice_get history k) refl refl) (λ not. inr (λ l. let later = l.later in absurd (omega (arith, later, not)))) (later_or_not i k)
     where
@@ -50,11 +50,11 @@ module _ {E : Type 0} (depends : E → E → Bool) (history : List E) where
   below_next : (m n : ℕ) → m < suc n → (m < n) ⊎ (m ≡ n)
   below_next m n h = grind arith
 
-  -- below a bound no place stands between two others in a chain
+  -- below a bound no position stands between two others in a chain
   abbrev NoneBelow : ℕ → ℕ → ℕ → Type 0
   NoneBelow i l n = (m : ℕ) → m < n → IsLink depends history i m → IsLink depends history m l → ⊥
 
-  -- there is none, or there is such a place
+  -- there is none, or there is such a position
   between_or_not : (i l n : ℕ) → NoneBelow i l n ⊎ ((m : ℕ) × IsLink depends history i m × IsLink depends history m l)
   between_or_not i l zero = inl (λ m below one two. absurd (omega (arith, below)))
   between_or_not i l (suc n) = ⊎_elim (λ none. at_n none (linked_or_not i n) (linked_or_not n l)) (λ found. inr found) (between_or_not i l n)
@@ -69,7 +69,7 @@ module _ {E : Type 0} (depends : E → E → Bool) (history : List E) where
       at_n none (inl one) (inr not) = inl (not_at none (λ _ two. not two))
       at_n none (inr not) other = inl (not_at none (λ one _. not one))
 
-  -- what is linked to a place that has led to j is in the past
+  -- what is linked to a position that has led to j is in the past
   pub linked_past : (j m l : ℕ) → IsLink depends history m l → HasLedTo depends history j l → IsInPast depends history j m
   linked_past j m l link (inl e) = one_link (subst (λ x. IsLink depends history m x) e link)
   linked_past j m l link (inr p) = link_before link p
@@ -77,7 +77,7 @@ module _ {E : Type 0} (depends : E → E → Bool) (history : List E) where
   abbrev pub IsDirectCauseOfPast : ℕ → ℕ → Type 0
   IsDirectCauseOfPast j i = (k : ℕ) × IsDirectCause depends history i k × HasLedTo depends history j k
 
-  -- of the places that have led to j and to which place i is linked, the nearest has it as a direct cause
+  -- of the positions that have led to j and to which position i is linked, the nearest has it as a direct cause
   nearest : (n j i l : ℕ) → l ≤ n → IsLink depends history i l → HasLedTo depends history j l → IsDirectCauseOfPast j i
   nearest zero j i l few link led = let later = link.later in absurd (omega (arith, later, few))
   nearest (suc n) j i l few link led =

@@ -10,10 +10,10 @@ use Rattle.cdb_causal.specs.Cells.{register_cell, named_cell, copy_cell}
 use Rattle.cdb_causal.specs.Dependence.{depends}
 use Rattle.cdb_causal.specs.Effects.{kind_affects}
 use Rattle.cdb_causal.specs.LastCauses.{IsSlot}
-use Rattle.cdb_causal.specs.Rollback.{without, place_before}
+use Rattle.cdb_causal.specs.Rollback.{without, position_before}
 use Rattle.cdb_causal.specs.declared.bounds.Bounds.{Bounds}
 use Rattle.cdb_causal.specs.declared.bounds.TheConstants.{SEVERAL}
-use Rattle.cdb_causal.proofs.Counting.{slice_get-without, same_place_before}
+use Rattle.cdb_causal.proofs.Counting.{slice_get-without, same_position_before}
 use Rattle.cdb_causal.proofs.Effects.{by_effect}
 use Rattle.cdb_causal.proofs.Exchanges.{is_false}
 use Rattle.cdb_causal.proofs.Lists.{push_cases}
@@ -64,8 +64,8 @@ is_several n = grind arith
 module _ (old new : Bounds) (history : List Event) (gone : ℕ) (event : Event) (at_gone : slice_get history gone ≡ Some event) (leaves : Leaves old new event) (alone : AreAlone old history) where
   pub alone_without : AreAlone new (without history gone)
   alone_without n i j one two single at_i at_j in_i in_j =
-      same_place_before gone i j
-      (alone n (place_before gone i) (place_before gone j) one two (λ e. single (leaves.others n (λ _. e) ∙ e))
+      same_position_before gone i j
+      (alone n (position_before gone i) (position_before gone j) one two (λ e. single (leaves.others n (λ _. e) ∙ e))
       (sym (slice_get-without history gone i) ∙ at_i) (sym (slice_get-without history gone j) ∙ at_j) in_i in_j)
 
   -- what is left stands below the bounds that are left
@@ -97,8 +97,8 @@ receives_sent p k m slot (Step q l kind) in_slot low other h = go kind (other_tr
     go (Recv s r) h =
         let one = eqb-true p s (left_true (nat_eq p s) (nat_eq m r) h) in
         let two = eqb-true m r (right_true (nat_eq p s) (nat_eq m r) h) in
-        let place : q - 1 ≡ slot = (let e = in_slot.0 in omega arith) in
-        ap (λ n. copy_cell s r n) place ∙ ap (λ x. copy_cell x r slot) (sym one) ∙ ap (λ x. copy_cell p x slot) (sym two)
+        let position : q - 1 ≡ slot = (let e = in_slot.0 in omega arith) in
+        ap (λ n. copy_cell s r n) position ∙ ap (λ x. copy_cell x r slot) (sym one) ∙ ap (λ x. copy_cell p x slot) (sym two)
     go (Send r) h = absurd (true≢false (sym h))
     go (Write register) h = absurd (true≢false (sym h))
     go _ h = absurd (true≢false (sym h))

@@ -104,14 +104,14 @@ module _ (history : List Event) (standing : IsStanding history) (j : ℕ) where
 
   -- so a direct cause is the last cause of its slot
   pub none_without_cause : (slot : ℕ) → IsNoCause history j slot → (name : StepId) → NamesDirectCauseIn history j slot name → ⊥
-  none_without_cause slot none name n = none n.place n.direct.link n.has_slot
+  none_without_cause slot none name n = none n.position n.direct.link n.has_slot
 
-  same_last : (slot i : ℕ) → IsLastCause history j slot i → (name : StepId) (n : NamesDirectCauseIn history j slot name) → n.place ≡ i
+  same_last : (slot i : ℕ) → IsLastCause history j slot i → (name : StepId) (n : NamesDirectCauseIn history j slot name) → n.position ≡ i
   same_last slot i last name n =
       ⊎_elim
-      (λ less. absurd (n.direct.nothing_between i (same_slot_link n.place i slot n.direct.link last.link less n.has_slot last.has_slot) last.link))
+      (λ less. absurd (n.direct.nothing_between i (same_slot_link n.position i slot n.direct.link last.link less n.has_slot last.has_slot) last.link))
       (λ here. here)
-      (order_cases n.place i (last.last n.place n.direct.link n.has_slot))
+      (order_cases n.position i (last.last n.position n.direct.link n.has_slot))
 
   pub none_if_not_direct : (slot i : ℕ) → IsLastCause history j slot i → (((k : ℕ) → IsLink depends history i k → IsLink depends history k j → ⊥) → ⊥) → (name : StepId) → NamesDirectCauseIn history j slot name → ⊥
   none_if_not_direct slot i last not name n =
@@ -120,7 +120,7 @@ module _ (history : List Event) (standing : IsStanding history) (j : ℕ) where
   pub named_in : (slot i : ℕ) (event : Event) (name : StepId) → IsLastCause history j slot i → ((k : ℕ) → IsLink depends history i k → IsLink depends history k j → ⊥) → slice_get history i ≡ Some event → event_name event ≡ name → NamesDirectCauseIn history j slot name
   named_in slot i event name last direct at_i has_name =
       record {
-        place = i;
+        position = i;
         direct = record { link = last.link; nothing_between = direct };
         has_name = ap event_name (same_Some last.link.cause event (sym last.link.at_cause ∙ at_i)) ∙ has_name;
         has_slot = last.has_slot;
@@ -128,18 +128,18 @@ module _ (history : List Event) (standing : IsStanding history) (j : ℕ) where
 
   pub one_name : (slot : ℕ) (name other : StepId) → NamesDirectCauseIn history j slot name → NamesDirectCauseIn history j slot other → name ≡ other
   one_name slot name other n o =
-      let cause = same_Some n.direct.link.cause o.direct.link.cause (sym n.direct.link.at_cause ∙ ap (slice_get history) same_place_of ∙ o.direct.link.at_cause) in
+      let cause = same_Some n.direct.link.cause o.direct.link.cause (sym n.direct.link.at_cause ∙ ap (slice_get history) same_position_of ∙ o.direct.link.at_cause) in
       sym n.has_name ∙ ap event_name cause ∙ o.has_name
     where
-      same_place_of : n.place ≡ o.place
-      same_place_of =
+      same_position_of : n.position ≡ o.position
+      same_position_of =
           ⊎_elim
-          (λ less. absurd (n.direct.nothing_between o.place (same_slot_link n.place o.place slot n.direct.link o.direct.link less n.has_slot o.has_slot) o.direct.link))
+          (λ less. absurd (n.direct.nothing_between o.position (same_slot_link n.position o.position slot n.direct.link o.direct.link less n.has_slot o.has_slot) o.direct.link))
           (λ rest. ⊎_elim
           (λ same. same)
-          (λ more. absurd (o.direct.nothing_between n.place (same_slot_link o.place n.place slot o.direct.link n.direct.link more o.has_slot n.has_slot) n.direct.link))
+          (λ more. absurd (o.direct.nothing_between n.position (same_slot_link o.position n.position slot o.direct.link n.direct.link more o.has_slot n.has_slot) n.direct.link))
           rest)
-          (three_cases n.place o.place)
+          (three_cases n.position o.position)
 
 -- each event of a history has a slot
 slot_of_event : (event : Event) → ((p k : ℕ) (kind : Kind) → event ≡ Step p k kind → (1 ≤ p) × (p ≤ 9)) → (slot : ℕ) × IsSlot event slot

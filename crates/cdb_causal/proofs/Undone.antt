@@ -60,19 +60,19 @@ module _ {E : Type 0} (depends : E → E → Bool) where
 
   -- the last of what is caught
   record IsLastCaught (causes events taken : List E) (last : E) : Type 0 where
-    place : ℕ
-    at : slice_get events place ≡ Some last
-    independent : IsIndependentBehind depends events place last
-    others_caught : caught depends causes (without events place) ≡ taken
-    same_spared : spared depends causes (without events place) ≡ spared depends causes events
+    position : ℕ
+    at : slice_get events position ≡ Some last
+    independent : IsIndependentBehind depends events position last
+    others_caught : caught depends causes (without events position) ≡ taken
+    same_spared : spared depends causes (without events position) ≡ spared depends causes events
 
-  later_place : (x : E) (events : List E) (i : ℕ) (last : E) → IsIndependentBehind depends events i last → IsIndependentBehind depends (x ∷ events) (suc i) last
-  later_place x events i last independent zero other less at = absurd (omega (arith, less))
-  later_place x events i last independent (suc j) other less at = independent j other (omega (arith, less)) at
+  later_position : (x : E) (events : List E) (i : ℕ) (last : E) → IsIndependentBehind depends events i last → IsIndependentBehind depends (x ∷ events) (suc i) last
+  later_position x events i last independent zero other less at = absurd (omega (arith, less))
+  later_position x events i last independent (suc j) other less at = independent j other (omega (arith, less)) at
 
-  first_place : (x : E) (events : List E) → IsIndependent depends x events → IsIndependentBehind depends (x ∷ events) 0 x
-  first_place x events independent zero other less at = absurd (omega (arith, less))
-  first_place x events independent (suc j) other less at = independent j other at
+  first_position : (x : E) (events : List E) → IsIndependent depends x events → IsIndependentBehind depends (x ∷ events) 0 x
+  first_position x events independent zero other less at = absurd (omega (arith, less))
+  first_position x events independent (suc j) other less at = independent j other at
 
   caught_here : (causes : List E) (x : E) (xs : List E) (b : Bool) → depends_on_one depends causes x ≡ b → caught depends causes (x ∷ xs) ≡ cond b (x ∷ caught depends (causes ++ x ∷ []) xs) (caught depends causes xs)
   caught_here causes x xs b e = ap (λ b. cond b (x ∷ caught depends (causes ++ x ∷ []) xs) (caught depends causes xs)) e
@@ -86,23 +86,23 @@ module _ {E : Type 0} (depends : E → E → Bool) where
       let free = none_caught (causes ++ x ∷ []) xs (same_rest x last (caught depends (causes ++ x ∷ []) xs) [] h) in
       let fewer = fewer_causes causes x xs free in
       record {
-        place = 0;
+        position = 0;
         at = ap Some is;
-        independent = subst (λ y. IsIndependentBehind depends (x ∷ xs) 0 y) is (first_place x xs (last_cause causes x xs free));
+        independent = subst (λ y. IsIndependentBehind depends (x ∷ xs) 0 y) is (first_position x xs (last_cause causes x xs free));
         others_caught = free_caught causes xs fewer;
         same_spared = free_spared causes xs fewer ∙ sym (free_spared (causes ++ x ∷ []) xs free) ∙ sym (spared_here causes x xs true e);
       }
   taken_one causes x xs (t ∷ ts) last e h go =
       let rest = go ts (same_rest x t (caught depends (causes ++ x ∷ []) xs) (ts ++ last ∷ []) h) in
       record {
-        place = suc rest.place;
+        position = suc rest.position;
         at = rest.at;
-        independent = later_place x xs rest.place last rest.independent;
+        independent = later_position x xs rest.position last rest.independent;
         others_caught =
-            caught_here causes x (without xs rest.place) true e
+            caught_here causes x (without xs rest.position) true e
             ∙ ap (λ l. x ∷ l) rest.others_caught
             ∙ ap (λ y. y ∷ ts) (same_first x t (caught depends (causes ++ x ∷ []) xs) (ts ++ last ∷ []) h);
-        same_spared = spared_here causes x (without xs rest.place) true e ∙ rest.same_spared ∙ sym (spared_here causes x xs true e);
+        same_spared = spared_here causes x (without xs rest.position) true e ∙ rest.same_spared ∙ sym (spared_here causes x xs true e);
       }
 
   last_caught : (causes events taken : List E) (last : E) → caught depends causes events ≡ taken ++ last ∷ [] → IsLastCaught causes events taken last
@@ -113,15 +113,15 @@ module _ {E : Type 0} (depends : E → E → Bool) where
         | false ↦ λ e k.
             let rest = last_caught causes xs taken last k in
             record {
-              place = suc rest.place;
+              position = suc rest.position;
               at = rest.at;
-              independent = later_place x xs rest.place last rest.independent;
-              others_caught = caught_here causes x (without xs rest.place) false e ∙ rest.others_caught;
-              same_spared = spared_here causes x (without xs rest.place) false e ∙ ap (λ l. x ∷ l) rest.same_spared ∙ sym (spared_here causes x xs false e);
+              independent = later_position x xs rest.position last rest.independent;
+              others_caught = caught_here causes x (without xs rest.position) false e ∙ rest.others_caught;
+              same_spared = spared_here causes x (without xs rest.position) false e ∙ ap (λ l. x ∷ l) rest.same_spared ∙ sym (spared_here causes x xs false e);
             }
       ] refl h
 
-  -- Where the event at place i has no consequence, it is free, and all else remains.
+  -- Where the event at position i has no consequence, it is free, and all else remains.
   pub rolled_back_alone : (history : List E) (i : ℕ) (event : E) → rolled_back depends history i ≡ event ∷ [] → (slice_get history i ≡ Some event) × IsFree depends history i × (without history i ≡ remaining depends history i)
   rolled_back_alone history i event h =
       let q = alone history i event h in
@@ -133,12 +133,12 @@ module _ {E : Type 0} (depends : E → E → Bool) where
           let is = same_first x event (caught depends (x ∷ []) xs) [] h in
           let free = none_caught (x ∷ []) xs (same_rest x event (caught depends (x ∷ []) xs) [] h) in (
             ap Some is,
-            subst (λ y. IsIndependentBehind depends (x ∷ xs) 0 y) is (first_place x xs (last_cause [] x xs free)),
+            subst (λ y. IsIndependentBehind depends (x ∷ xs) 0 y) is (first_position x xs (last_cause [] x xs free)),
             sym (free_spared (x ∷ []) xs free),
           )
       alone (x ∷ xs) (suc i) event h =
           let q = alone xs i event h in
-          (q.0, later_place x xs i event q.1, ap (λ l. x ∷ l) q.2)
+          (q.0, later_position x xs i event q.1, ap (λ l. x ∷ l) q.2)
 
   -- Where it has some, the last of them is free, and without that one the others are its consequences, and the same events remain.
   pub rolled_back_last : (history : List E) (i : ℕ) (event last : E) (taken : List E) → rolled_back depends history i ≡ event ∷ (taken ++ last ∷ []) → (j : ℕ) × (slice_get history j ≡ Some last) × IsFree depends history j × (rolled_back depends (without history j) i ≡ event ∷ taken) × (remaining depends (without history j) i ≡ remaining depends history i)
@@ -150,12 +150,12 @@ module _ {E : Type 0} (depends : E → E → Bool) where
       some [] i event last taken h = absurd (not_cons event (taken ++ last ∷ []) (sym h))
       some (x ∷ xs) zero event last taken h =
           let q = last_caught (x ∷ []) xs taken last (same_rest x event (caught depends (x ∷ []) xs) (taken ++ last ∷ []) h) in (
-            suc q.place,
+            suc q.position,
             q.at,
-            later_place x xs q.place last q.independent,
+            later_position x xs q.position last q.independent,
             ap (λ l. x ∷ l) q.others_caught ∙ ap (λ y. y ∷ taken) (same_first x event (caught depends (x ∷ []) xs) (taken ++ last ∷ []) h),
             q.same_spared,
           )
       some (x ∷ xs) (suc i) event last taken h =
           let q = some xs i event last taken h in
-          (suc q.0, q.1, later_place x xs q.0 last q.2, q.3, ap (λ l. x ∷ l) q.4)
+          (suc q.0, q.1, later_position x xs q.0 last q.2, q.3, ap (λ l. x ∷ l) q.4)

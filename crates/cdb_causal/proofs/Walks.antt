@@ -1,4 +1,4 @@
--- One step of a walk along a history: what a link is at two events, and what is caught from a place on.
+-- One step of a walk along a history: what a link is at two events, and what is caught from a position on.
 use Rattle.std.proofs.Common.{◌≡◌, ℕ, zero, suc, ◌+◌, ◌-◌, ◌<◌, ◌≤◌, Bool, true, false, ◌⊎◌, ⊎_elim, List, [], ◌∷◌, ◌++◌, Some, length, slice_get, drop, sym, ap, ap₂, ◌∙◌, true≢false, add-one, arith}
 use Rattle.std.proofs.lemmas.Option.{same_Some, none-some}
 use Rattle.cdb_causal.specs.Causality.{IsLink}
@@ -46,7 +46,7 @@ module _ {E : Type 0} (depends : E → E → Bool) where
   rolled_back_some (x ∷ xs) zero h = omega arith
   rolled_back_some (x ∷ xs) (suc i) h = rolled_back_some xs i (omega arith)
 
--- a place from a bound on, of which all above are ruled out, is the bound
+-- a position from a bound on, of which all above are ruled out, is the bound
 pub below_or_at : {P : Type 0} (k n : ℕ) → n - 1 ≤ k → 0 < n → (n ≤ k → P) → (k ≡ n - 1 → P) → P
 below_or_at {P} k n low some above same = ⊎_elim above same (two k n low some)
   where

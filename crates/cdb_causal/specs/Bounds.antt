@@ -22,7 +22,7 @@ abbrev pub IsWithin : Bounds → ℕ → Event → Type 0
 IsWithin bounds i (Step p k kind) = (i < slice_index bounds.steps.items (named_cell p k)) × IsKindWithin bounds i p kind
 IsWithin bounds i (Lost copy) = i < slice_index bounds.losses.items (copy_cell copy.msg.s copy.msg.m (copy.to - 1))
 
--- each event of the history, under the mark of its place
+-- each event of the history, under the mark of its position
 abbrev pub AreWithin : Bounds → (ℕ → ℕ) → List Event → Type 0
 AreWithin bounds marks history = (i : ℕ) (event : Event) → slice_get history i ≡ Some event → IsWithin bounds (marks i) event
 

@@ -7,7 +7,7 @@ use Rattle.cdb_causal.specs.Causality.{IsDirectCause}
 use Rattle.cdb_causal.specs.Dependence.{depends}
 use Rattle.cdb_causal.specs.Names.{IsNamedAt}
 
--- the name is that of a direct cause of the event at place j
+-- the name is that of a direct cause of the event at position j
 abbrev pub NamesDirectCause : List Event → ℕ → StepId → Type 0
 NamesDirectCause history j name = (i : ℕ) × IsDirectCause depends history i j × IsNamedAt history i name
 
@@ -17,7 +17,7 @@ ComesBefore (named.Step step) (named.Step other) = step.p < other.p
 ComesBefore (named.Step step) (named.Lost copy) = ⊤
 ComesBefore (named.Lost copy) other = ⊥
 
--- the names are those of the direct causes of the event at place j, and stand in order
+-- the names are those of the direct causes of the event at position j, and stand in order
 pub record AreDirectCauses (history : List Event) (j : ℕ) (names : List StepId) : Type 0 where
   pub only : (k : ℕ) (name : StepId) → slice_get names k ≡ Some name → NamesDirectCause history j name
   pub each : (name : StepId) → NamesDirectCause history j name → (k : ℕ) × (slice_get names k ≡ Some name)

@@ -13,27 +13,27 @@ abbrev pub IsSlot : Event → ℕ → Type 0
 IsSlot (Step p k kind) slot = (slot + 1 ≡ p) × (slot ≤ 8)
 IsSlot (Lost copy) slot = slot ≡ 9
 
--- the event at place j depends on none in the slot
+-- the event at position j depends on none in the slot
 abbrev pub IsNoCause : List Event → ℕ → ℕ → Type 0
 IsNoCause history j slot = (i : ℕ) (l : IsLink depends history i j) → IsSlot l.cause slot → ⊥
 
--- of those in the slot on which the event at place j depends, the one at place i is the last
+-- of those in the slot on which the event at position j depends, the one at position i is the last
 pub record IsLastCause (history : List Event) (j slot i : ℕ) : Type 0 where
   pub link : IsLink depends history i j
   pub has_slot : IsSlot link.cause slot
   pub last : (k : ℕ) (l : IsLink depends history k j) → IsSlot l.cause slot → k ≤ i
 
--- the place is that of the last cause in the slot; none says that there is no cause
+-- the position is that of the last cause in the slot; none says that there is no cause
 abbrev pub IsLastOrNone : List Event → ℕ → ℕ → Option ℕ → Type 0
-IsLastOrNone history j slot place = MatchOption place (IsNoCause history j slot) (λ i. IsLastCause history j slot i)
+IsLastOrNone history j slot position = MatchOption position (IsNoCause history j slot) (λ i. IsLastCause history j slot i)
 
--- the places are those of the last causes in the first n slots
+-- the positions are those of the last causes in the first n slots
 abbrev pub AreLastCauses : List Event → ℕ → ℕ → List (Option ℕ) → Type 0
-AreLastCauses history j n places = (slot : ℕ) → slot < n → IsLastOrNone history j slot (get_or places slot None)
+AreLastCauses history j n positions = (slot : ℕ) → slot < n → IsLastOrNone history j slot (get_or positions slot None)
 
--- the name is that of a direct cause, in that slot, of the event at place j
+-- the name is that of a direct cause, in that slot, of the event at position j
 pub record NamesDirectCauseIn (history : List Event) (j slot : ℕ) (name : StepId) : Type 0 where
-  pub place : ℕ
-  pub direct : IsDirectCause depends history place j
+  pub position : ℕ
+  pub direct : IsDirectCause depends history position j
   pub has_name : event_name direct.link.cause ≡ name
   pub has_slot : IsSlot direct.link.cause slot

@@ -1,5 +1,6 @@
 -- what a reader of the contracts believes
 pub mod Causality
+pub mod Changing
 pub mod Dependence
 pub mod DirectCauses
 pub mod DirectDependents

@@ -3,17 +3,17 @@ use Rattle.std.specs.Prelude.{◌≡◌, ℕ, zero, suc, Bool, List, [], ◌∷�
 use Rattle.std.specs.List.{list_any}
 use Rattle.cdb_causal.specs.Causality.{IsConsequence}
 
--- a list parted in two, in order, by the set of the places that are taken; the first event has the place that is given
+-- a list parted in two, in order, by the set of the positions that are taken; the first event has the position that is given
 pub data IsParted {E : Type 0} (IsTaken : ℕ → Type 0) : ℕ → List E → List E → List E → Type 0 where
-  done : {place : ℕ} → IsParted IsTaken place [] [] []
-  kept : {place : ℕ} {event : E} {events left taken : List E} → (IsTaken place → ⊥) → IsParted IsTaken (suc place) events left taken → IsParted IsTaken place (event ∷ events) (event ∷ left) taken
-  gone : {place : ℕ} {event : E} {events left taken : List E} → IsTaken place → IsParted IsTaken (suc place) events left taken → IsParted IsTaken place (event ∷ events) left (event ∷ taken)
+  done : {position : ℕ} → IsParted IsTaken position [] [] []
+  kept : {position : ℕ} {event : E} {events left taken : List E} → (IsTaken position → ⊥) → IsParted IsTaken (suc position) events left taken → IsParted IsTaken position (event ∷ events) (event ∷ left) taken
+  gone : {position : ℕ} {event : E} {events left taken : List E} → IsTaken position → IsParted IsTaken (suc position) events left taken → IsParted IsTaken position (event ∷ events) left (event ∷ taken)
 
--- the places of the event at place i and of its consequences
+-- position i and those of its consequences
 abbrev pub IsRolledBack : {E : Type 0} → (E → E → Bool) → List E → ℕ → ℕ → Type 0
 IsRolledBack depends history i j = (j ≡ i) ⊎ IsConsequence depends history i j
 
--- the list without the event at place i
+-- the list without the event at position i
 abbrev pub without : {E : Type 0} → List E → ℕ → List E
 without [] i = []
 without (event ∷ events) zero = events
@@ -34,7 +34,7 @@ spared depends causes [] = []
 spared depends causes (event ∷ events) =
     cond (depends_on_one depends causes event) (spared depends (causes ++ event ∷ []) events) (event ∷ spared depends causes events)
 
--- the event at place i with its consequences, in order
+-- the event at position i with its consequences, in order
 abbrev pub rolled_back : {E : Type 0} → (E → E → Bool) → List E → ℕ → List E
 rolled_back depends [] i = []
 rolled_back depends (event ∷ events) zero = event ∷ caught depends (event ∷ []) events
@@ -44,14 +44,14 @@ rolled_back depends (event ∷ events) (suc i) = rolled_back depends events i
 abbrev pub consequences : {E : Type 0} → (E → E → Bool) → List E → ℕ → List E
 consequences depends history i = drop 1 (rolled_back depends history i)
 
--- the list without the event at place i and its consequences
+-- the list without the event at position i and its consequences
 abbrev pub remaining : {E : Type 0} → (E → E → Bool) → List E → ℕ → List E
 remaining depends [] i = []
 remaining depends (event ∷ events) zero = spared depends (event ∷ []) events
 remaining depends (event ∷ events) (suc i) = event ∷ remaining depends events i
 
--- the place, in the whole list, of what stands at place k of the list without place i
-abbrev pub place_before : ℕ → ℕ → ℕ
-place_before zero k = suc k
-place_before (suc i) zero = zero
-place_before (suc i) (suc k) = suc (place_before i k)
+-- the position, in the whole list, of what stands at position k of the list without position i
+abbrev pub position_before : ℕ → ℕ → ℕ
+position_before zero k = suc k
+position_before (suc i) zero = zero
+position_before (suc i) (suc k) = suc (position_before i k)

@@ -12,7 +12,7 @@ use crate::history::{History, append};
 use cdb_base::{Event, NoMemory, StepId};
 use std::alloc::Global;
 
-/// The first event that depends on the one at place `i`, from 0.
+/// The first event that depends on the one at position `i`, from 0.
 fn first_linked(history: &History, i: usize) -> Option<StepId>
     requires { i < length history.now }
     ensures { MatchOption result (IsFree depends_of history.now i)
@@ -29,7 +29,7 @@ fn first_linked(history: &History, i: usize) -> Option<StepId>
     None
 }
 
-/// The name of the first later event that depends on the one at a place, from 1 to the number of
+/// The name of the first later event that depends on the one at a position, from 1 to the number of
 /// events. None says that the event is free.
 pub fn first_dependent(history: &History, at: usize) -> Option<StepId>
     requires from_one { 1 ≤ at }
@@ -47,7 +47,7 @@ fn depends_on_one(causes: &[Event], event: &Event) -> bool
     causes.iter().any(|cause| depends(cause, event))
 }
 
-/// The event at a place, from 0, with its consequences, in order.
+/// The event at a position, from 0, with its consequences, in order.
 fn rolled_back_events(alloc: Global, history: &History, i: usize) -> Result<Vec<Event>, NoMemory>
     requires { i < length history.now }
     ensures { IfOk result (λ taken. taken.items ≡ rolled_back depends_of history.now i) }
@@ -75,7 +75,7 @@ fn names(alloc: Global, events: &[Event]) -> Result<Vec<StepId>, NoMemory>
     Ok(names)
 }
 
-/// The names of the consequences of the event at a place, from 1 to the number of events: of the
+/// The names of the consequences of the event at a position, from 1 to the number of events: of the
 /// later events to which a chain of dependences leads from it, in the order of the history. It can
 /// fail only where memory is out.
 pub fn consequences(alloc: Global, history: &History, at: usize) -> Result<Vec<StepId>, NoMemory>

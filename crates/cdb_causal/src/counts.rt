@@ -10,7 +10,7 @@ use crate::dependence::depends;
 use crate::direct::is_direct;
 use crate::history::History;
 
-/// Whether the event at place `i` is a direct cause of the later one at place `j`, both from 0.
+/// Whether the event at position `i` is a direct cause of the later one at position `j`, both from 0.
 fn is_direct_cause(history: &History, i: usize, j: usize) -> bool
     requires order { i < j }
     requires within { j < length history.now }
@@ -19,7 +19,7 @@ fn is_direct_cause(history: &History, i: usize, j: usize) -> bool
     depends(history.event(i), history.event(j)) && is_direct(history, i, j, j)
 }
 
-/// How many later events the event at a place, from 1 to the number of events, is a direct cause of.
+/// How many later events the event at a position, from 1 to the number of events, is a direct cause of.
 pub fn count_direct_dependents(history: &History, at: usize) -> usize
     requires from_one { 1 ≤ at }
     requires to_len { at ≤ length history.now }

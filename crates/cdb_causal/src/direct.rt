@@ -35,7 +35,7 @@ fn is_cause(event: &Event, effect: &Event, slot: usize) -> bool
     slot_of(event) == slot && depends(event, effect)
 }
 
-/// The place of the last event in a slot on which the one at place `j` depends. All such places are
+/// The position of the last event in a slot on which the one at position `j` depends. All such positions are
 /// below the end.
 fn last_cause(history: &History, effect: &Event, j: usize, slot: usize, end: usize) -> Option<usize>
     requires at { slice_get history.now j ≡ Some effect.now }
@@ -53,7 +53,7 @@ fn last_cause(history: &History, effect: &Event, j: usize, slot: usize, end: usi
     None
 }
 
-/// The place of the last event in a slot on which the one at place `j` depends.
+/// The position of the last event in a slot on which the one at position `j` depends.
 fn last_in_slot(history: &History, effect: &Event, j: usize, slot: usize) -> Option<usize>
     requires at { slice_get history.now j ≡ Some effect.now }
     requires slot { slot < 10 }
@@ -95,7 +95,7 @@ pub(crate) fn is_direct(history: &History, i: usize, j: usize, end: usize) -> bo
     true
 }
 
-/// The place of the last event in each slot on which the one at place `j` depends.
+/// The position of the last event in each slot on which the one at position `j` depends.
 fn last_causes(history: &History, j: usize) -> [Option<usize>; SLOTS]
     requires { j < length history.now }
     ensures last { AreLastCauses history.now j 10 result }
@@ -109,21 +109,21 @@ fn last_causes(history: &History, j: usize) -> [Option<usize>; SLOTS]
     causes
 }
 
-/// A place above all of these, which are below place `j`.
-fn end_of(places: &[Option<usize>], j: usize) -> usize
-    requires { (slot i : ℕ) → get_or places.now slot None ≡ Some i → i < j }
-    ensures { (slot i : ℕ) → get_or places.now slot None ≡ Some i → i < result }
+/// A position above all of these, which are below position `j`.
+fn end_of(positions: &[Option<usize>], j: usize) -> usize
+    requires { (slot i : ℕ) → get_or positions.now slot None ≡ Some i → i < j }
+    ensures { (slot i : ℕ) → get_or positions.now slot None ≡ Some i → i < result }
 {
     let mut end = 0;
-    for place in places {
-        if let Some(place) = *place {
-            end = end.max(place + 1);
+    for position in positions {
+        if let Some(position) = *position {
+            end = end.max(position + 1);
         }
     }
     end
 }
 
-/// The name of the direct cause in a slot, if there is one. The place of the last cause there is
+/// The name of the direct cause in a slot, if there is one. The position of the last cause there is
 /// given, and an end above all causes.
 fn direct_cause(
     history: &History,
@@ -148,9 +148,9 @@ fn direct_cause(
     None
 }
 
-/// The names of the earlier events on which the event at a place, from 1 to the number of events,
-/// depends directly: no event between depends on such an event and has the one at the place depend
-/// on it. Steps stand first, by process, at most one of each; a loss stands last. So nine places
+/// The names of the earlier events on which the event at a position, from 1 to the number of events,
+/// depends directly: no event between depends on such an event and has the one at the position depend
+/// on it. Steps stand first, by process, at most one of each; a loss stands last. So nine cells
 /// suffice, and no memory is taken.
 pub fn direct_causes(alloc: Global, history: &History, at: usize) -> SmallVec<StepId, 9>
     requires from_one { 1 ≤ at }

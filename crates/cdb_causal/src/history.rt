@@ -1,21 +1,26 @@
 //! The standing events of a run, in the order in which they were taken.
 
-ghost use Rattle.std.specs.Prelude.{◌≡◌, ℕ, ◌-◌, ◌<◌, ◌≤◌, List, [], ◌∷◌, ◌++◌, Some, false, length, slice_get, take, MatchOption, OnOk, OnErr, IfOk, IsTrue, ◌==◌, ◌↔◌};
+ghost use Rattle.std.specs.Prelude.{◌≡◌, ℕ, ◌-◌, ◌<◌, ◌≤◌, List, [], ◌∷◌, ◌++◌, Some, Ok, false, length, slice_get, take, MatchOption, OnOk, OnErr, IfOk, IfErr, IsTrue, ◌==◌, ◌↔◌};
+ghost use Rattle.std.specs.Fn.{FnOnceReturnsAtMut, FnOnceTakesAtMut};
 ghost use Rattle.cdb_base.specs.Event.{event_name, is_step_of};
 ghost use Rattle.cdb_base.specs.declared.event.Event.{Event as AnEvent};
 ghost use Rattle.cdb_base.specs.declared.event.Event.TheVariants.{Step};
 ghost use Rattle.cdb_base.specs.declared.event.Kind.{Kind as AKind};
 ghost use Rattle.cdb_base.specs.declared.event.Kind.TheVariants.{Send};
-ghost use Rattle.cdb_base.specs.Places.{nth};
+ghost use Rattle.cdb_base.specs.Positions.{nth};
 ghost use Rattle.cdb_causal.specs.Causality.{IsLink};
 ghost use Rattle.cdb_causal.specs.Dependence.{same_process as same_process_of, depends as depends_of};
 ghost use Rattle.cdb_causal.specs.Alone.{IsReceiveIn};
+ghost use Rattle.cdb_causal.specs.Bounds.{HasRoom as HasBoundsFor};
 ghost use Rattle.cdb_causal.specs.Cells.{copy_cell};
+ghost use Rattle.cdb_causal.specs.Changing.{HasFailed};
+ghost use Rattle.cdb_causal.specs.Indexed.{IsIndexed};
 ghost use Rattle.cdb_causal.specs.LastCauses.{IsSlot, IsNoCause};
-ghost use Rattle.cdb_causal.specs.Names.{IsNamedAt, IsNewName, IsPlaceOf};
+ghost use Rattle.cdb_causal.specs.Names.{IsNamedAt, IsNewName, IsPositionOf};
 ghost use Rattle.cdb_causal.specs.Rollback.{without};
 ghost use Rattle.cdb_causal.specs.Standing.{IsStanding, HasNoLostCopy};
-ghost use Rattle.cdb_log.specs.Marks.{IsPushed};
+ghost use Rattle.cdb_log.specs.Marks.{HasRoom, IsPushed};
+ghost use Rattle.cdb_log.specs.Pieces.{joined};
 
 use crate::bounds::Bounds;
 use cdb_base::{Event, Kind, NoMemory, Proc, Reg, StepId};
@@ -23,7 +28,7 @@ use cdb_log::{ABOVE_ALL, Log, Mark};
 use std::alloc::Global;
 use std::marker::Model;
 
-/// The standing events, each under a name of its own. A contract sees their list. Places count
+/// The standing events, each under a name of its own. A contract sees their list. Positions count
 /// from 1.
 #[derive(Drop)]
 pub struct History {
@@ -57,15 +62,43 @@ pub(crate) fn append(events: &mut Vec<Event>, event: Event) -> Result<(), NoMemo
     Ok(())
 }
 
-/// Adds an event at the end of a log, and returns its mark.
-fn append_to_log(log: &mut Log<Event>, event: Event) -> Result<Mark, NoMemory>
-    ensures ok { IfOk result (λ mark. IsPushed log.old event mark log.new) }
-    ensures small { IfOk result (λ mark. mark < ABOVE_ALL) }
-    ensures err { OnErr result (log.new ≡ log.old) }
+/// Adds an event at the end of a log, where there is room for it, and returns its mark.
+fn append_to_log(log: &mut Log<Event>, event: Event) -> Mark
+    requires { HasRoom log.old }
+    ensures pushed { IsPushed log.old event result log.new }
+    ensures small { result < ABOVE_ALL }
 {
     let _kind: Option<Kind> = None;
     let _register: Option<Reg> = None;
-    log.push(event)
+    log.push_reserved(event)
+}
+
+/// Makes room for an event in a log and in its bounds. No more changes, whatever is returned.
+fn make_room(events: &mut Log<Event>, bounds: &mut Bounds, event: &Event) -> Result<(), NoMemory>
+    requires { IsIndexed events.old bounds.old }
+    ensures same { joined events.new ≡ joined events.old }
+    ensures indexed { IsIndexed events.new bounds.new }
+    ensures room { OnOk result (HasRoom events.new) }
+    ensures bounds { OnOk result (HasBoundsFor bounds.new event.now) }
+{
+    events.reserve()?;
+    bounds.reserve(event)
+}
+
+/// Adds an event at the end of a log, where there is room for it, with its bounds. It takes no
+/// memory.
+fn add(events: &mut Log<Event>, bounds: &mut Bounds, event: Event)
+    requires indexed { IsIndexed events.old bounds.old }
+    requires room { HasRoom events.old }
+    requires bounds { HasBoundsFor bounds.old event }
+    requires new_name { IsNewName (joined events.old) (event_name event) }
+    requires not_lost { HasNoLostCopy (joined events.old) event }
+    ensures added { joined events.new ≡ joined events.old ++ event ∷ [] }
+    ensures indexed { IsIndexed events.new bounds.new }
+{
+    let added = event;
+    let mark = append_to_log(events, added);
+    bounds.note(mark, &event);
 }
 
 /// Whether the event is the receive of the m-th message of process s by the slot's process.
@@ -90,13 +123,13 @@ fn is_named(event: &Event, name: &StepId) -> bool
     event.name() == *name
 }
 
-/// The place, from 1, of the event of that name. It stands below the end.
-fn place_of(history: &History, name: &StepId, end: usize) -> Option<usize>
+/// The position, from 1, of the event of that name. It stands below the end.
+fn position_of(history: &History, name: &StepId, end: usize) -> Option<usize>
     requires standing { IsStanding history.now }
     requires within { end ≤ length history.now }
     requires end { (i : ℕ) → IsNamedAt history.now i name.now → i < end }
     ensures { MatchOption result (IsNewName history.now name.now)
-        (λ at. IsPlaceOf history.now name.now at) }
+        (λ at. IsPositionOf history.now name.now at) }
 {
     for i in (0..end).rev() {
         let event = history.event(i);
@@ -144,7 +177,7 @@ impl History {
         Ok(events)
     }
 
-    /// The event at a place, from 0.
+    /// The event at a position, from 0.
     pub fn event(&self, i: usize) -> &Event
         requires { i < length self.now }
         ensures { slice_get self.now i ≡ Some result.now }
@@ -152,7 +185,7 @@ impl History {
         self.events.get(i)
     }
 
-    /// Whether the slot's process receives the message at place `j`, from 0, or later, and at most once.
+    /// Whether the slot's process receives the message at position `j`, from 0, or later, and at most once.
     fn receives_later(&self, s: Proc, m: u16, j: usize, slot: usize) -> bool
         requires { slot < 9 }
         ensures { IsTrue result → (i : ℕ) (event : AnEvent) → i < j →
@@ -163,7 +196,7 @@ impl History {
         }
         let end = self
             .events
-            .place_above(self.bounds.end_of_receives(s, m, slot));
+            .position_above(self.bounds.end_of_receives(s, m, slot));
         for i in (j..end).rev() {
             if is_receive_of(self.events.get(i), s, m, slot) {
                 return true;
@@ -172,7 +205,7 @@ impl History {
         false
     }
 
-    /// The same of a message that process `p` sends at place `j`, to another process.
+    /// The same of a message that process `p` sends at position `j`, to another process.
     fn is_message_received_later(&self, p: &Proc, m: u16, j: usize, slot: usize) -> bool
         ensures { IsTrue result → (k : ℕ) → slice_get self.now j ≡ Some (Step p.now k (Send m)) →
             IsNoCause self.now j slot }
@@ -186,7 +219,7 @@ impl History {
         self.receives_later(*p, m, j, slot)
     }
 
-    /// The same of a step of process `p` of that kind at place `j`.
+    /// The same of a step of process `p` of that kind at position `j`.
     fn is_step_received_later(&self, p: &Proc, kind: &Kind, j: usize, slot: usize) -> bool
         ensures { IsTrue result → (k : ℕ) →
             slice_get self.now j ≡ Some (Step p.now k kind.now) → IsNoCause self.now j slot }
@@ -197,7 +230,7 @@ impl History {
         }
     }
 
-    /// Whether the event at place `j`, from 0, is a send to the slot's process that is received later: so
+    /// Whether the event at position `j`, from 0, is a send to the slot's process that is received later: so
     /// no earlier event in that slot is a cause of it.
     pub(crate) fn is_received_later(&self, effect: &Event, j: usize, slot: usize) -> bool
         requires at { slice_get self.now j ≡ Some effect.now }
@@ -209,7 +242,7 @@ impl History {
         }
     }
 
-    /// A place, from 0, above all events in a slot on which the effect depends, where it stands.
+    /// A position, from 0, above all events in a slot on which the effect depends, where it stands.
     pub(crate) fn end_of_causes(&self, effect: &Event, slot: usize) -> usize
         requires { slot < 10 }
         ensures { (i j : ℕ) (l : IsLink depends_of self.now i j) →
@@ -217,11 +250,11 @@ impl History {
     {
         let before = self.bounds.end_before(effect, slot);
         let bound = self.bounds.end(effect, before, slot);
-        self.events.place_above(bound)
+        self.events.position_above(bound)
     }
 
-    /// A place, from 0, above all events that depend on the event at place `i`, but for steps of its
-    /// process, and on which the one at place `j` depends.
+    /// A position, from 0, above all events that depend on the event at position `i`, but for steps of its
+    /// process, and on which the one at position `j` depends.
     pub(crate) fn end_between(&self, i: usize, j: usize) -> usize
         requires order { i < j }
         requires within { j < length self.now }
@@ -231,29 +264,29 @@ impl History {
         let cause = self.events.get(i);
         let effect = self.events.get(j);
         let bound = self.bounds.end_between(cause, effect, ABOVE_ALL);
-        self.events.place_above(bound)
+        self.events.position_above(bound)
     }
 
-    /// A place, from 0, above all events that depend on the one at place `i`.
+    /// A position, from 0, above all events that depend on the one at position `i`.
     pub(crate) fn end_of_dependents(&self, i: usize) -> usize
         requires { i < length self.now }
         ensures { (j : ℕ) → IsLink depends_of self.now i j → j < result }
     {
         let event = self.events.get(i);
         self.events
-            .place_above(self.bounds.end_of_dependents(event))
+            .position_above(self.bounds.end_of_dependents(event))
     }
 
-    /// A place, from 0, above all steps of a process.
+    /// A position, from 0, above all steps of a process.
     pub fn end_of_steps(&self, p: Proc) -> usize
         ensures within { result ≤ length self.now }
         ensures above { (i : ℕ) (event : AnEvent) → slice_get self.now i ≡ Some event →
             IsTrue (is_step_of p event) → i < result }
     {
-        self.events.place_above(self.bounds.end_of_process(p))
+        self.events.position_above(self.bounds.end_of_process(p))
     }
 
-    /// The event at a place, from 1 to the number of events.
+    /// The event at a position, from 1 to the number of events.
     pub fn get(&self, at: usize) -> Event
         requires from_one { 1 ≤ at }
         requires to_len { at ≤ length self.now }
@@ -262,12 +295,12 @@ impl History {
         *self.events.get(at - 1)
     }
 
-    /// The place of the event of that name, from 1, if one stands.
+    /// The position of the event of that name, from 1, if one stands.
     pub fn position(&self, name: StepId) -> Option<usize>
-        ensures { MatchOption result (IsNewName self.now name) (λ at. IsPlaceOf self.now name at) }
+        ensures { MatchOption result (IsNewName self.now name) (λ at. IsPositionOf self.now name at) }
     {
-        let end = self.events.place_above(self.bounds.end_of_name(&name));
-        place_of(self, &name, end)
+        let end = self.events.position_above(self.bounds.end_of_name(&name));
+        position_of(self, &name, end)
     }
 
     /// Adds an event at the end. No event of its name stands, and of a send no copy is lost. Without
@@ -278,14 +311,36 @@ impl History {
         ensures ok { OnOk result (self.new ≡ self.old ++ event ∷ []) }
         ensures err { OnErr result (self.new ≡ self.old) }
     {
-        self.bounds.reserve(&event)?;
-        let added = event;
-        let mark = append_to_log(&mut self.events, added)?;
-        self.bounds.note(mark, &event);
+        make_room(&mut self.events, &mut self.bounds, &event)?;
+        add(&mut self.events, &mut self.bounds, event);
         Ok(())
     }
 
-    /// Whether by the bounds no step of its process stands after the step at a place, from 1.
+    /// Changes a state as an event does, and adds the event at the end: makes room for it, then calls
+    /// `change`, then adds it, which takes no memory. No event of its name stands, and of a send no copy
+    /// is lost. Where there is no room, or `change` fails, nothing is added.
+    pub fn push_with<S, R, F: FnOnce(&mut S) -> Result<R, NoMemory>>(
+        &mut self,
+        event: Event,
+        state: &mut S,
+        change: F,
+    ) -> Result<R, NoMemory>
+        requires new_name { IsNewName self.old (event_name event) }
+        requires not_lost { HasNoLostCopy self.old event }
+        requires callable { FnOnceTakesAtMut F.FnOnce change state.old }
+        ensures changed { IfOk result
+            (λ left. FnOnceReturnsAtMut F.FnOnce change state.old (Ok left) state.new) }
+        ensures added { OnOk result (self.new ≡ self.old ++ event ∷ []) }
+        ensures failed { IfErr result (λ e. HasFailed F.FnOnce change state.old e state.new) }
+        ensures err { OnErr result (self.new ≡ self.old) }
+    {
+        make_room(&mut self.events, &mut self.bounds, &event)?;
+        let left = change(state)?;
+        add(&mut self.events, &mut self.bounds, event);
+        Ok(left)
+    }
+
+    /// Whether by the bounds no step of its process stands after the step at a position, from 1.
     fn last_of_its_process(&self, at: usize) -> bool
         requires from_one { 1 ≤ at }
         requires to_len { at ≤ length self.now }
@@ -294,10 +349,10 @@ impl History {
             slice_get self.now i ≡ Some (Step p l other) → i < at }
     {
         let event = self.events.get(at - 1);
-        self.events.place_above(self.bounds.end_of_own(event)) <= at
+        self.events.position_above(self.bounds.end_of_own(event)) <= at
     }
 
-    /// Takes the event at a place out, from 1 to the number of events. The others keep their order.
+    /// Takes the event at a position out, from 1 to the number of events. The others keep their order.
     pub fn remove(&mut self, at: usize) -> Event
         requires from_one { 1 ≤ at }
         requires to_len { at ≤ length self.old }

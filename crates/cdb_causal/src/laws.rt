@@ -7,7 +7,7 @@ ghost use Rattle.cdb_causal.specs.Dependence.{depends as depends_of};
 ghost use Rattle.cdb_causal.specs.DirectDependents.{is_direct, as_number, direct_dependents};
 ghost use Rattle.cdb_causal.specs.Exchange.{IsExchanged, IsEachOnce, HaveSameEvents, KeepsOrder};
 ghost use Rattle.cdb_causal.specs.Reach.{reached, IsCommuting, IsSymmetric};
-ghost use Rattle.cdb_causal.specs.Rollback.{IsParted, IsRolledBack, without, place_before, remaining, rolled_back, consequences};
+ghost use Rattle.cdb_causal.specs.Rollback.{IsParted, IsRolledBack, without, position_before, remaining, rolled_back, consequences};
 
 /// Dependence is symmetric: the order of the two events does not matter.
 #[tactic(auto, using(crate::proofs::Symmetry::symmetric))]
@@ -43,7 +43,7 @@ pub fn rolled_back_exactly<E>()
         (rolled_back depends history i) }
 {}
 
-/// The consequences are exactly the events at the places of the least set, in the order of the list.
+/// The consequences are exactly the events at the positions of the least set, in the order of the list.
 pub fn consequences_exactly<E>()
     ensures { (depends : E → E → Bool) (history : List E) (i : ℕ) →
         (left : List E)
@@ -105,7 +105,7 @@ pub fn free_without_effects<E>()
 pub fn direct_causes_stay<E>()
     ensures { (depends : E → E → Bool) (history : List E) (i k l : ℕ) → IsFree depends history i →
         IsDirectCause depends (without history i) k l
-        ↔ IsDirectCause depends history (place_before i k) (place_before i l) }
+        ↔ IsDirectCause depends history (position_before i k) (position_before i l) }
 {}
 
 /// The direct causes of the last event of a list are those events on which it depends directly, by

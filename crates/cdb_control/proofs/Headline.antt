@@ -4,7 +4,7 @@ use Rattle.std.specs.List.{AllByRecursion}
 use Rattle.std.specs.Map.{lookup}
 use Rattle.std.proofs.lemmas.List.{get_or-set_same, length-replicate, length-reverse, reverse-append}
 use Rattle.cdb_base.specs.Event.{event_name}
-use Rattle.cdb_base.specs.Places.{without_last}
+use Rattle.cdb_base.specs.Positions.{without_last}
 use Rattle.cdb_base.specs.declared.act.Act.{Act}
 use Rattle.cdb_base.specs.declared.event.Event.{Event}
 use Rattle.cdb_base.specs.declared.name.StepId.{StepId}
@@ -263,14 +263,14 @@ undone_last rules SameState before after event seat keeps valid is =
 last_pushed : (xs : List Event) (x : Event) → last_of (xs ++ x ∷ []) ≡ Some x
 last_pushed xs x =
     let long = length-append xs (x ∷ []) in
-    let place : length (xs ++ x ∷ []) - 1 ≡ length xs = omega (arith, long) in
-    ap (slice_get (xs ++ x ∷ [])) place ∙ get_push_back xs x
+    let position : length (xs ++ x ∷ []) - 1 ≡ length xs = omega (arith, long) in
+    ap (slice_get (xs ++ x ∷ [])) position ∙ get_push_back xs x
 
 front_pushed : (xs : List Event) (x : Event) → without_last (xs ++ x ∷ []) ≡ xs
 front_pushed xs x =
     let long = length-append xs (x ∷ []) in
-    let place : length (xs ++ x ∷ []) - 1 ≡ length xs = omega (arith, long) in
-    ap (λ n. take n (xs ++ x ∷ [])) place ∙ taken xs x
+    let position : length (xs ++ x ∷ []) - 1 ≡ length xs = omega (arith, long) in
+    ap (λ n. take n (xs ++ x ∷ [])) position ∙ taken xs x
   where
     taken : (xs : List Event) (x : Event) → take (length xs) (xs ++ x ∷ []) ≡ xs
     taken [] x = refl

@@ -2,7 +2,7 @@
 use Rattle.std.proofs.Common.{◌≡◌, ◌≢◌, ℕ, zero, suc, ◌+◌, ◌-◌, ◌<◌, ◌≤◌, max, Bool, true, false, not, List, [], ◌∷◌, ◌++◌, length, map, set, get_or, replicate, Option, Some, None, Result, Ok, Err, refl, sym, ap, ◌∙◌, subst, arith, length-append, nat_eq, nat_le, is_some}
 use Rattle.std.specs.Map.{lookup}
 use Rattle.std.proofs.lemmas.List.{length-set, length-map, length-take, length-replicate, get_or-map, map-set, get_or-set_same, get_or-set_other}
-use Rattle.cdb_base.specs.Places.{without_last}
+use Rattle.cdb_base.specs.Positions.{without_last}
 use Rattle.cdb_base.specs.declared.act.Act.{Act}
 use Rattle.cdb_base.specs.declared.event.Event.{Event}
 use Rattle.cdb_base.specs.declared.name.StepId.{StepId}
@@ -43,7 +43,7 @@ pub record Swap (t : StoredState) (lists : List StoredList) (seat : ℕ) (old ne
   pub low : seat - 1 < length t.state.redo
   pub at : redo_of t.state seat ≡ old.events
   pub put : map (λ l. l.events) (set lists (seat - 1) new) ≡ set t.state.redo (seat - 1) new.events
-  pub place : get_or t.capacities (seat - 1) 0 ≡ old.capacity
+  pub position : get_or t.capacities (seat - 1) 0 ≡ old.capacity
   pub placed : get_or (map (λ l. l.capacity) (set lists (seat - 1) new)) (seat - 1) 0 ≡ new.capacity
   pub grown : old.capacity ≤ new.capacity → (i : ℕ) → get_or t.capacities i 0 ≤ get_or (map (λ l. l.capacity) (set lists (seat - 1) new)) i 0
 
@@ -58,7 +58,7 @@ swap t lists seat old new events capacities from_one to_last is =
       low = omega (arith, from_one, to_last);
       at = ap (λ (e : List (List Event)). get_or e (seat - 1) []) (sym events) ∙ get_or-map (λ (l : StoredList). l.events) lists (seat - 1) old [] low ∙ ap (λ (l : StoredList). l.events) (sym is);
       put = map-set (λ (l : StoredList). l.events) lists (seat - 1) new ∙ ap (λ (e : List (List Event)). set e (seat - 1) new.events) events;
-      place = ap (λ (e : List ℕ). get_or e (seat - 1) 0) (sym capacities) ∙ get_or-map (λ (l : StoredList). l.capacity) lists (seat - 1) old 0 low ∙ ap (λ (l : StoredList). l.capacity) (sym is);
+      position = ap (λ (e : List ℕ). get_or e (seat - 1) 0) (sym capacities) ∙ get_or-map (λ (l : StoredList). l.capacity) lists (seat - 1) old 0 low ∙ ap (λ (l : StoredList). l.capacity) (sym is);
       placed = ap (λ (e : List ℕ). get_or e (seat - 1) 0) (map-set (λ (l : StoredList). l.capacity) lists (seat - 1) new) ∙ get_or-set_same (map (λ l. l.capacity) lists) (seat - 1) new.capacity 0 (omega (arith, length-map lists (λ (l : StoredList). l.capacity), low));
       grown = λ more i. subst (λ (e : List ℕ). get_or e i 0 ≤ get_or (map (λ l. l.capacity) (set lists (seat - 1) new)) i 0) capacities (capacities-set lists (seat - 1) old new low (sym is) more i);
     }
@@ -213,11 +213,11 @@ less-at (r ∷ rs) zero = refl
 less-at (r ∷ rs) (suc i) = less-at rs i
 
 -- after a command there is as much less room as it can have taken
-pub HasRoom-next : (n places places' : ℕ) (rooms : List ℕ) (seat : ℕ) (was next : StoredState) (o : Outcome)
-    → HasRoom n places rooms was → seat - 1 < length was.state.redo → Spends seat was.state o → o.after ≡ next.state → length next.state.redo ≡ length was.state.redo
-    → ((i : ℕ) → get_or was.capacities i 0 ≤ get_or next.capacities i 0) → places ≤ places'
-    → HasRoom (n + 1) places' (lowered rooms seat o.reply) next
-HasRoom-next n places places' rooms seat was next o room low spends after long grown more =
+pub HasRoom-next : (n space space' : ℕ) (rooms : List ℕ) (seat : ℕ) (was next : StoredState) (o : Outcome)
+    → HasRoom n space rooms was → seat - 1 < length was.state.redo → Spends seat was.state o → o.after ≡ next.state → length next.state.redo ≡ length was.state.redo
+    → ((i : ℕ) → get_or was.capacities i 0 ≤ get_or next.capacities i 0) → space ≤ space'
+    → HasRoom (n + 1) space' (lowered rooms seat o.reply) next
+HasRoom-next n space space' rooms seat was next o room low spends after long grown more =
     let seats = room.seats in
     let many = length-map rooms (λ r. r - 1) in
     let one = spends.one in
@@ -254,12 +254,12 @@ zero_or_some zero G none some = none refl
 zero_or_some (suc r) G none some = some (omega arith)
 
 -- memory was made for more
-pub HasRoom-raised : (n places places' : ℕ) (rooms : List ℕ) (seat count : ℕ) (was next : StoredState)
-    → HasRoom n places rooms was → seat - 1 < length was.state.redo → next.state ≡ was.state
-    → n + count ≤ places' → places ≤ places' → length (redo_of was.state seat) + count ≤ get_or next.capacities (seat - 1) 0
+pub HasRoom-raised : (n space space' : ℕ) (rooms : List ℕ) (seat count : ℕ) (was next : StoredState)
+    → HasRoom n space rooms was → seat - 1 < length was.state.redo → next.state ≡ was.state
+    → n + count ≤ space' → space ≤ space' → length (redo_of was.state seat) + count ≤ get_or next.capacities (seat - 1) 0
     → ((i : ℕ) → get_or was.capacities i 0 ≤ get_or next.capacities i 0)
-    → HasRoom n places' (raised rooms seat count) next
-HasRoom-raised n places places' rooms seat count was next room low same journal more list grown =
+    → HasRoom n space' (raised rooms seat count) next
+HasRoom-raised n space space' rooms seat count was next room low same journal more list grown =
     let seats = room.seats in
     let long = ap (λ (t : State). length t.redo) same in
     let raised-there = get_or-set_same rooms (seat - 1) (max count (room_of rooms seat)) 0 (omega (arith, seats, low)) in
@@ -279,10 +279,10 @@ HasRoom-raised n places places' rooms seat count was next room low same journal 
           (λ here.
           let is = ap (λ k. get_or (raised rooms seat count) k 0) here ∙ raised-there in
           let events = ap (λ k. length (get_or next.state.redo k [])) here ∙ ap (λ (t : State). length (redo_of t seat)) same in
-          let places_there = ap (λ k. get_or next.capacities k 0) here in
+          let space_there = ap (λ k. get_or next.capacities k 0) here in
           zero_or_some (room_of rooms seat) _
-          (λ none. omega (arith, is, none, events, places_there, list))
-          (λ positive. let promised = room.lists (seat - 1) positive in omega (arith, is, promised, events, places_there, list, grown (seat - 1))))
+          (λ none. omega (arith, is, none, events, space_there, list))
+          (λ positive. let promised = room.lists (seat - 1) positive in omega (arith, is, promised, events, space_there, list, grown (seat - 1))))
           (λ apart.
           let is = get_or-set_other rooms (seat - 1) i (max count (room_of rooms seat)) 0 apart in
           let promised = room.lists i (omega (arith, is, some)) in
@@ -291,8 +291,8 @@ HasRoom-raised n places places' rooms seat count was next room low same journal 
     }
 
 -- nobody was promised anything
-pub HasRoom-first : (places seats : ℕ) (stored : StoredState) → length stored.state.redo ≡ seats → HasRoom 0 places (rooms_at 0 (replicate seats 0)) stored
-HasRoom-first places seats stored long =
+pub HasRoom-first : (space seats : ℕ) (stored : StoredState) → length stored.state.redo ≡ seats → HasRoom 0 space (rooms_at 0 (replicate seats 0)) stored
+HasRoom-first space seats stored long =
     record {
       seats = length-map (replicate seats 0) (λ mark. mark - 0) ∙ length-replicate seats 0 ∙ sym long;
       journal = λ i some. absurd (let none = no-rooms seats i in omega (arith, none, some));
@@ -300,8 +300,8 @@ HasRoom-first places seats stored long =
     }
 
 -- where the state is as it was, and no memory was given back, the room is as it was
-pub HasRoom-kept : (n places places' : ℕ) (rooms : List ℕ) (was next : StoredState) → HasRoom n places rooms was → places ≤ places' → next.state ≡ was.state → NoneShrinks was.capacities next.capacities → HasRoom n places' rooms next
-HasRoom-kept n places places' rooms was next room more same grown =
+pub HasRoom-kept : (n space space' : ℕ) (rooms : List ℕ) (was next : StoredState) → HasRoom n space rooms was → space ≤ space' → next.state ≡ was.state → NoneShrinks was.capacities next.capacities → HasRoom n space' rooms next
+HasRoom-kept n space space' rooms was next room more same grown =
     record {
       seats = room.seats ∙ ap (λ (t : State). length t.redo) (sym same);
       journal = λ i some. let fits = room.journal i some in omega (arith, fits, more);

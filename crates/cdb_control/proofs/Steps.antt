@@ -3,7 +3,7 @@ use Rattle.std.proofs.Common.{◌≡◌, ℕ, ◌-◌, false, IsOk, OnErr, List,
 use Rattle.std.proofs.lemmas.List.{set-get_or}
 use Rattle.std.proofs.lemmas.Option.{none-some}
 use Rattle.std.specs.Result.{result_err}
-use Rattle.cdb_base.specs.Places.{without_last}
+use Rattle.cdb_base.specs.Positions.{without_last}
 use Rattle.cdb_base.specs.declared.act.Act.{Act}
 use Rattle.cdb_base.specs.declared.event.Event.{Event}
 use Rattle.cdb_base.specs.declared.refusal.Refusal.{Refusal}

@@ -60,7 +60,7 @@ TellsRedone _ taken = ⊥
 
 -- ---- the claims, of a control state t
 
--- The reply to the undo of the event at place i is Undone exactly where no standing event depends on it, and else NeededBy
+-- The reply to the undo of the event at position i is Undone exactly where no standing event depends on it, and else NeededBy
 -- the first later event that does. No event depends on a loss. After it the history is the one before without the event.
 pub record IsUndoneWhereFree (rules : Rules) (t : State) (seat i : ℕ) (event : Event) : Type 0 where
   pub exactly : (undo_reply rules t seat event ≡ Undone event) ↔ IsFree depends t.history i
@@ -88,7 +88,7 @@ RedosLeadBack rules SameState before seat t (event ∷ events) =
     → TellsRedone (answer rules now seat Redo) event
     × RedosLeadBack rules SameState before seat (obey rules now seat Redo) events
 
--- The event at place i is taken back with exactly its consequences, the reply says how many events that are, and as many
+-- The event at position i is taken back with exactly its consequences, the reply says how many events that are, and as many
 -- redos lead back.
 pub record IsRolledBackAndForth (rules : Rules) (SameState : List Event → List Event → Type 0) (t : State) (seat i : ℕ) (event : Event) : Type 0 where
   pub gone : List Event

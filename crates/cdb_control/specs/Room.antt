@@ -1,4 +1,4 @@
--- Room: how many more commands of any seat there may be before a seat's undo can want memory.
+-- Room: how many more commands of any seat there may be before a seat's undo can need memory.
 use Rattle.std.specs.Prelude.{◌≡◌, ℕ, ◌+◌, ◌-◌, ◌<◌, ◌≤◌, Bool, true, false, List, [], length, map, max, slice_index_or, slice_set}
 use Rattle.cdb_base.specs.declared.event.Event.{Event}
 use Rattle.cdb_control.specs.Answer.{Answer, RolledBack}
@@ -6,7 +6,7 @@ use Rattle.cdb_control.specs.State.{State}
 use Rattle.cdb_control.specs.declared.command.Command.{Command}
 use Rattle.cdb_control.specs.declared.command.Command.TheVariants.{Undo, UndoLost, Forget, Unbreak, Resume}
 
--- the commands that want no memory where their seat has room
+-- the commands that need no memory where their seat has room
 abbrev pub is_spared : Command → Bool
 is_spared (Undo p k) = true
 is_spared (UndoLost s m p) = true
@@ -49,8 +49,8 @@ pub record StoredState : Type 0 where
   pub state : State
   pub capacities : List ℕ
 
--- memory holds what each seat was promised: places in the journal, and in its redo list
-pub record HasRoom (entries places : ℕ) (rooms : List ℕ) (stored : StoredState) : Type 0 where
+-- memory holds what each seat was promised: space in the journal, and in its redo list
+pub record HasRoom (entries space : ℕ) (rooms : List ℕ) (stored : StoredState) : Type 0 where
   pub seats : length rooms ≡ length stored.state.redo
-  pub journal : (i : ℕ) → 0 < slice_index_or rooms i 0 → entries + slice_index_or rooms i 0 ≤ places
+  pub journal : (i : ℕ) → 0 < slice_index_or rooms i 0 → entries + slice_index_or rooms i 0 ≤ space
   pub lists : (i : ℕ) → 0 < slice_index_or rooms i 0 → length (slice_index_or stored.state.redo i []) + slice_index_or rooms i 0 ≤ slice_index_or stored.capacities i 0

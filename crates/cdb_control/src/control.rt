@@ -178,7 +178,7 @@ impl<R: Runs> Control<R> {
         Ok(())
     }
 
-    /// How many more commands there can be of any seat before one of this seat that is spared can want memory; at
+    /// How many more commands there can be of any seat before one of this seat that is spared can need memory; at
     /// first 0. A taken rollback of the seat counts as many as it takes back.
     pub fn room(&self, seat: u8) -> u32
         requires from_one { 1 ≤ seat }
@@ -202,6 +202,15 @@ impl<R: Runs> Control<R> {
         ensures history { (R.run result.now).history ≡ (state_in R.rules self.now).history }
     {
         self.state.run()
+    }
+
+    /// The run that the journal leads to; all else of the control is given up.
+    pub fn into_run(self) -> R
+        ensures setup { (R.run result).setup ≡ self.setup }
+        ensures history { (R.run result).history ≡ (state_in R.rules self).history }
+    {
+        let Control { state, .. } = self;
+        state.into_run()
     }
 
     /// How many seats there are, from 1 to 64.

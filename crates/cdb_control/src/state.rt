@@ -78,6 +78,15 @@ impl<R: Runs> ControlState<R> {
         &self.run
     }
 
+    /// The run; all else of the control state is given up.
+    pub fn into_run(self) -> R
+        ensures setup { (R.run result).setup ≡ self.state.setup }
+        ensures history { (R.run result).history ≡ self.state.history }
+    {
+        let ControlState { run, .. } = self;
+        run
+    }
+
     /// Ends the pause.
     #[tactic(auto, unfolding(crate::specs::Commands::outcome))]
     pub fn resume(&mut self) -> Reply
@@ -155,7 +164,7 @@ impl<R: Runs> ControlState<R> {
     }
 
     /// Takes an event back on which no standing event depends, and puts it at the end of the seat's
-    /// redo list. It wants no memory where there is room for the event.
+    /// redo list. It needs no memory where there is room for the event.
     pub fn undo(&mut self, seat: u8, name: EventRef) -> Result<Reply, NoMemory>
         requires from_one { 1 ≤ seat }
         requires to_last { seat ≤ length self.old.state.redo }

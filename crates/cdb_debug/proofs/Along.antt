@@ -2,7 +2,7 @@
 use Rattle.std.proofs.Common.{◌≡◌, ℕ, List, [], ◌∷◌, ◌++◌, refl, sym, ap, ◌∙◌, append_assoc, append-nil}
 use Rattle.std.proofs.lemmas.Grind.{fold-append}
 use Rattle.cdb_setup.specs.Parts.{Parts}
-use Rattle.cdb_debug.specs.Dialogues.{Session, begun, after, session_after, shown, shown_from, dialogue}
+use Rattle.cdb_debug.specs.Dialogues.{Session, after, session_after, shown, shown_from, dialogue}
 use Rattle.cdb_debug.specs.declared.request.Request.{Request}
 
 pub session_after-more : (s : Session) (requests : List Request) (request : Request) → session_after s (requests ++ request ∷ []) ≡ after (session_after s requests) request
@@ -15,8 +15,8 @@ shown_from-more prompt s (first ∷ requests) request =
     ap (λ text. shown prompt s first ++ text) (shown_from-more prompt (after s first) requests request)
     ∙ sym (append_assoc (shown prompt s first) (shown_from prompt (after s first) requests) (shown prompt (session_after (after s first) requests) request))
 
-pub dialogue-more : (prompt : List ℕ) (setup : Parts) (requests : List Request) (request : Request)
-    → dialogue prompt setup (requests ++ request ∷ []) ≡ dialogue prompt setup requests ++ shown prompt (session_after (begun setup) requests) request
-dialogue-more prompt setup requests request =
-    ap (λ text. prompt ++ text) (shown_from-more prompt (begun setup) requests request)
-    ∙ sym (append_assoc prompt (shown_from prompt (begun setup) requests) (shown prompt (session_after (begun setup) requests) request))
+pub dialogue-more : (prompt : List ℕ) (start : Session) (requests : List Request) (request : Request)
+    → dialogue prompt start (requests ++ request ∷ []) ≡ dialogue prompt start requests ++ shown prompt (session_after start requests) request
+dialogue-more prompt start requests request =
+    ap (λ text. prompt ++ text) (shown_from-more prompt start requests request)
+    ∙ sym (append_assoc prompt (shown_from prompt start requests) (shown prompt (session_after start requests) request))

@@ -3,7 +3,7 @@ use Rattle.std.proofs.Common.{◌≡◌, ◌≢◌, ℕ, ◌-◌, ◌+◌, ◌<�
 use Rattle.std.specs.List.{All, AllByRecursion, slice_split, flat_map}
 use Rattle.std.proofs.lemmas.List.Splits.{slice_split_none, slice_split_at, length-slice_split}
 use Rattle.std.proofs.Math.Seq.{take-append_seam, take-append-add}
-use Rattle.cdb_base.specs.Places.{without_last}
+use Rattle.cdb_base.specs.Positions.{without_last}
 use Rattle.cdb_play.specs.Lines.{without_empty_end, lines_of}
 use Rattle.cdb_debug.specs.Held.{HasNoEnd, joined}
 use Rattle.cdb_debug.specs.Requests.{ended_lines}

@@ -8,13 +8,12 @@ use Rattle.cdb_base.specs.declared.limits.TheConstants.{MAX_ENTRIES}
 use Rattle.cdb_control.specs.Journal.{Journaled, entry, extended}
 use Rattle.cdb_control.specs.declared.command.Command.{Command}
 use Rattle.cdb_control.specs.declared.control.Entry.{Entry}
-use Rattle.cdb_rules.specs.Algorithms.{rules}
 use Rattle.cdb_debug.specs.Dialogues.{Session, begun, after, control_after, session_after}
 use Rattle.cdb_debug.specs.Laws.{commands_of, JournalHasTheCommands}
 use Rattle.cdb_debug.specs.declared.request.Request.{Request}
 use Rattle.cdb_debug.specs.declared.request.Request.TheVariants.{Call, Seat, Help, Quit, Fault, TooLong}
 
--- the places are taken one after the other, up to the last
+-- the positions are taken one after the other, up to the last
 pick : (most : ℕ) (b : Bool) (c d : Journaled) (one : Entry) (others : List Entry) → (b ≡ true → most ≤ length c.journal) → d.journal ≡ c.journal ++ one ∷ []
     → let now : Journaled = if b then c else d in take most (now.journal ++ others) ≡ take most (c.journal ++ one ∷ others)
 pick most true c d one others full is =
@@ -33,7 +32,7 @@ grown : (s : Session) (requests : List Request) → length s.control.journal ≤
 grown s [] few = sym (ap (take MAX_ENTRIES) (append-nil s.control.journal) ∙ take_all MAX_ENTRIES s.control.journal few)
 grown s (Call command ∷ requests) few =
     let c = s.control in
-    let d = extended (rules c.setup) c s.seat command in
+    let d = extended (s.rules c.setup) c s.seat command in
     let full = length c.journal == MAX_ENTRIES in
     let is_full : full ≡ true → MAX_ENTRIES ≤ length c.journal = λ yes. let e = (Decides-eqb (length c.journal) MAX_ENTRIES).0 yes in omega (arith, e) in
     let has_room : full ≡ false → length c.journal < MAX_ENTRIES = λ no. not_full (length c.journal) MAX_ENTRIES few no in
@@ -46,4 +45,4 @@ grown s (Fault fault ∷ requests) few = grown (after s (Fault fault)) requests 
 grown s (TooLong ∷ requests) few = grown (after s TooLong) requests few
 
 pub journal_has_the_commands : JournalHasTheCommands
-journal_has_the_commands setup requests = grown (begun setup) requests (omega arith)
+journal_has_the_commands rules setup requests = grown (begun rules setup) requests (omega arith)

@@ -17,58 +17,58 @@ use Rattle.cdb_debug.proofs.Stepping.{more_held, out_of_memory, line_broken, lin
 -- from the first of the bytes on, up to those that are left
 abbrev pub Goes : List ℕ → Known → Session → List ℕ → List ℕ → Known → Session → List ℕ → List ℕ → Type 0
 Goes prompt before old held bytes now session kept left =
-    (setup : Parts) (moves : List Move) → IsAt prompt setup moves old held bytes
-    → (made : List Move) × Makes before now made × AreWrites made × IsAt prompt setup (moves ++ made) session kept left
+    (start : Session) (moves : List Move) → IsAt prompt start moves old held bytes
+    → (made : List Move) × Makes before now made × AreWrites made × IsAt prompt start (moves ++ made) session kept left
 
 pub starts : (prompt : List ℕ) (before : Known) (old : Session) (held bytes : List ℕ) → Goes prompt before old held bytes before old held bytes
-starts prompt before old held bytes setup moves at = ([], Makes-nothing before, tt, subst (λ all. IsAt prompt setup all old held bytes) (sym (append-nil moves)) at)
+starts prompt before old held bytes start moves at = ([], Makes-nothing before, tt, subst (λ all. IsAt prompt start all old held bytes) (sym (append-nil moves)) at)
 
 module _ (prompt : List ℕ) (before : Known) (old : Session) (held bytes : List ℕ) (now : Known) (session : Session) (kept left : List ℕ) (so : Goes prompt before old held bytes now session kept left) where
   -- memory is out
   pub no_memory : (new : Session) (all : List ℕ) → Hears (Err output.NoMemory) before now prompt old new held all bytes
-  no_memory new all setup moves at =
-      let s = so setup moves at in
-      (s.0, s.1, s.2, out_of_memory prompt setup (moves ++ s.0) session kept left s.3)
+  no_memory new all start moves at =
+      let s = so start moves at in
+      (s.0, s.1, s.2, out_of_memory prompt start (moves ++ s.0) session kept left s.3)
 
   -- the bytes up to some are held
   pub holds : (more behind all : List ℕ) → left ≡ more ++ behind → HasNoEnd more → all ≡ take (longest + 1) (kept ++ more) → Goes prompt before old held bytes now session all behind
-  holds more behind all cut none is setup moves at =
-      let s = so setup moves at in
-      (s.0, s.1, s.2, more_held prompt setup (moves ++ s.0) session kept left s.3 more behind all cut none is)
+  holds more behind all cut none is start moves at =
+      let s = so start moves at in
+      (s.0, s.1, s.2, more_held prompt start (moves ++ s.0) session kept left s.3 more behind all cut none is)
 
 -- a line has ended
 module _ (prompt : List ℕ) (before : Known) (old : Session) (held bytes : List ℕ) (now : Known) (session : Session) (kept left : List ℕ) (so : Goes prompt before old held bytes now session kept (10 ∷ left)) (behind : Known) (new : Session) (all : List ℕ) where
   pub answers : (stops : Bool) → AnswersHeld (Ok stops) now behind prompt session new kept all → stops ≡ false → Goes prompt before old held bytes behind new all left
-  answers stops a goes_on setup moves at =
-      let s = so setup moves at in (
+  answers stops a goes_on start moves at =
+      let s = so start moves at in (
         s.0 ++ a.0,
         Makes-more before now behind s.0 a.0 s.1 a.1,
         AreWrites-append s.0 a.0 s.2 a.2.writes,
-        subst (λ made. IsAt prompt setup made new all left) (append_assoc moves s.0 a.0) (line_answered prompt setup (moves ++ s.0) session kept left s.3 new all stops a.0 a.2 goes_on),
+        subst (λ made. IsAt prompt start made new all left) (append_assoc moves s.0 a.0) (line_answered prompt start (moves ++ s.0) session kept left s.3 new all stops a.0 a.2 goes_on),
       )
 
   pub quits : (stops : Bool) → AnswersHeld (Ok stops) now behind prompt session new kept all → stops ≡ true → Hears (Ok true) before behind prompt old new held all bytes
-  quits stops a stopped setup moves at =
-      let s = so setup moves at in (
+  quits stops a stopped start moves at =
+      let s = so start moves at in (
         s.0 ++ a.0,
         Makes-more before now behind s.0 a.0 s.1 a.1,
         AreWrites-append s.0 a.0 s.2 a.2.writes,
-        subst (λ made. IsSession prompt setup ended_well made) (append_assoc moves s.0 a.0) (line_quit prompt setup (moves ++ s.0) session kept left s.3 new all stops a.0 a.2 stopped),
+        subst (λ made. IsSession prompt start ended_well made) (append_assoc moves s.0 a.0) (line_quit prompt start (moves ++ s.0) session kept left s.3 new all stops a.0 a.2 stopped),
       )
 
   pub fails : (fault : OutputFault) → AnswersHeld (Err fault) now behind prompt session new kept all → Hears (Err fault) before behind prompt old new held all bytes
-  fails output.Write a setup moves at =
-      let s = so setup moves at in (
+  fails output.Write a start moves at =
+      let s = so start moves at in (
         s.0 ++ a.0,
         Makes-more before now behind s.0 a.0 s.1 a.1,
         AreWrites-append s.0 a.0 s.2 a.2.writes,
-        subst (λ made. IsSession prompt setup (ended_by output.Write) made) (append_assoc moves s.0 a.0) (line_broken prompt setup (moves ++ s.0) session kept left s.3 a.0 a.2),
+        subst (λ made. IsSession prompt start (ended_by output.Write) made) (append_assoc moves s.0 a.0) (line_broken prompt start (moves ++ s.0) session kept left s.3 a.0 a.2),
       )
-  fails output.NoMemory a setup moves at =
-      let s = so setup moves at in
+  fails output.NoMemory a start moves at =
+      let s = so start moves at in
       let made : s.0 ++ a.0 ≡ s.0 = ap (λ more. s.0 ++ more) a.2 ∙ append-nil s.0 in (
         s.0 ++ a.0,
         Makes-more before now behind s.0 a.0 s.1 a.1,
         subst AreWrites (sym made) s.2,
-        subst (λ more. IsSession prompt setup (ended_by output.NoMemory) (moves ++ more)) (sym made) (out_of_memory prompt setup (moves ++ s.0) session kept (10 ∷ left) s.3),
+        subst (λ more. IsSession prompt start (ended_by output.NoMemory) (moves ++ more)) (sym made) (out_of_memory prompt start (moves ++ s.0) session kept (10 ∷ left) s.3),
       )

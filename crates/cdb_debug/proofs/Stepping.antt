@@ -10,7 +10,7 @@ use Rattle.cdb_play.specs.declared.fault.PlayFault.{PlayFault}
 use Rattle.cdb_play.specs.declared.fault.PlayFault.TheVariants as fault
 use Rattle.cdb_setup.specs.Format.{longest}
 use Rattle.cdb_setup.specs.Parts.{Parts}
-use Rattle.cdb_debug.specs.Dialogues.{Session, begun, after, session_after, shown, dialogue, IsDialogue}
+use Rattle.cdb_debug.specs.Dialogues.{Session, after, session_after, shown, dialogue, IsDialogue}
 use Rattle.cdb_debug.specs.Held.{IsAt, IsOver, IsLineDone, IsLineBroken, HasNoEnd, joined, held_of, ended_well, ended_by, IsSaid}
 use Rattle.cdb_debug.specs.Moves.{Move, Read, ReadFailed, read_in, written_in, AsksForInput, AreWrites, FailsToWrite, EndsWith, FindsTheEnd}
 use Rattle.cdb_debug.specs.Requests.{Asks, AreAsked, HaveQuit, ended_lines, up_to_quit, quit_line}
@@ -40,23 +40,23 @@ false_is_not_true b is holds = search rules
 true_is_true : (b : Bool) → b ≡ true → IsTrue b
 true_is_true b is = search rules
 
-module _ (prompt : List ℕ) (setup : Parts) where
+module _ (prompt : List ℕ) (start : Session) where
   -- the text of lines none of which is `quit`
-  dialogue_of : (requests : List Request) (lines : List (List ℕ)) → AllZip Asks requests lines → AreOthers lines → IsDialogue prompt setup lines (dialogue prompt setup requests)
+  dialogue_of : (requests : List Request) (lines : List (List ℕ)) → AllZip Asks requests lines → AreOthers lines → IsDialogue prompt start lines (dialogue prompt start requests)
   dialogue_of requests lines asked others =
       let all : up_to_quit lines ≡ lines = ap up_to_quit (sym (append-nil lines)) ∙ up_to_quit-append lines [] others ∙ append-nil lines in
       (requests, subst (λ parts. AllZip Asks requests parts) (sym all) asked, refl)
 
   -- and of those and `quit`
   dialogue_to_quit : (requests : List Request) (lines : List (List ℕ)) (line : List ℕ) (others : List (List ℕ)) → AllZip Asks requests lines → AreOthers lines → line ≡ quit_line → Asks Quit line
-      → IsDialogue prompt setup (lines ++ line ∷ others) (dialogue prompt setup (requests ++ Quit ∷ []))
+      → IsDialogue prompt start (lines ++ line ∷ others) (dialogue prompt start (requests ++ Quit ∷ []))
   dialogue_to_quit requests lines line others asked are is asks =
       let all : up_to_quit (lines ++ line ∷ others) ≡ lines ++ line ∷ [] = up_to_quit-append lines (line ∷ others) are ∙ ap (λ parts. lines ++ parts) (up_to_quit-quit line others is) in
       (requests ++ Quit ∷ [], subst (λ parts. AllZip Asks (requests ++ Quit ∷ []) parts) (sym all) (AllZip-more requests lines Quit line asked asks), refl)
 
-  module _ (moves : List Move) (session : Session) (held left : List ℕ) (at : IsAt prompt setup moves session held left) where
+  module _ (moves : List Move) (session : Session) (held left : List ℕ) (at : IsAt prompt start moves session held left) where
     -- bytes that end no line are held
-    pub more_held : (more behind kept : List ℕ) → left ≡ more ++ behind → HasNoEnd more → kept ≡ take (longest + 1) (held ++ more) → IsAt prompt setup moves session kept behind
+    pub more_held : (more behind kept : List ℕ) → left ≡ more ++ behind → HasNoEnd more → kept ≡ take (longest + 1) (held ++ more) → IsAt prompt start moves session kept behind
     more_held more behind kept cut none is =
         record {
           lines = at.lines;
@@ -79,11 +79,11 @@ module _ (prompt : List ℕ) (setup : Parts) where
     lines_so_far none =
         ap ended_lines (at.read ∙ ap (λ bytes. joined at.lines ++ bytes) (ap (λ bytes. at.line ++ bytes) none ∙ append-nil at.line)) ∙ ended_of_joined at.lines at.line at.ended at.unended
 
-    answered_so_far : left ≡ [] → IsAnswered prompt setup moves
+    answered_so_far : left ≡ [] → IsAnswered prompt start moves
     answered_so_far none =
         let lines = lines_so_far none in
         record {
-          answered = subst (λ parts. IsDialogue prompt setup parts (written_in moves)) (sym lines) (subst (λ text. IsDialogue prompt setup at.lines text) (sym at.written) (dialogue_of at.requests at.lines at.asked at.goes_on));
+          answered = subst (λ parts. IsDialogue prompt start parts (written_in moves)) (sym lines) (subst (λ text. IsDialogue prompt start at.lines text) (sym at.written) (dialogue_of at.requests at.lines at.asked at.goes_on));
           goes_on = subst (λ parts. ¬ HaveQuit parts) (sym lines) (have_none at.lines at.goes_on);
         }
 
@@ -92,7 +92,7 @@ module _ (prompt : List ℕ) (setup : Parts) where
     lines_begin = ap lines_of at.read ∙ lines_of_joined at.lines (at.line ++ left) at.ended
 
     -- memory is out
-    pub out_of_memory : IsSession prompt setup (ended_by output.NoMemory) moves
+    pub out_of_memory : IsSession prompt start (ended_by output.NoMemory) moves
     out_of_memory =
         record {
           in_time = at.in_time;
@@ -100,12 +100,12 @@ module _ (prompt : List ℕ) (setup : Parts) where
             lines = at.lines;
             others = lines_of (at.line ++ left);
             begins = lines_begin;
-            answered = subst (λ text. IsDialogue prompt setup at.lines text) (sym at.written) (dialogue_of at.requests at.lines at.asked at.goes_on);
+            answered = subst (λ text. IsDialogue prompt start at.lines text) (sym at.written) (dialogue_of at.requests at.lines at.asked at.goes_on);
           };
         }
 
     -- more input is asked for
-    pub more_read : left ≡ [] → (bytes : List ℕ) → IsAt prompt setup (moves ++ Read bytes ∷ []) session held bytes
+    pub more_read : left ≡ [] → (bytes : List ℕ) → IsAt prompt start (moves ++ Read bytes ∷ []) session held bytes
     more_read none bytes =
         record {
           lines = at.lines;
@@ -123,16 +123,16 @@ module _ (prompt : List ℕ) (setup : Parts) where
           written = written-append moves (Read bytes ∷ []) ∙ append-nil (written_in moves) ∙ at.written;
           session_is = at.session_is;
           few = omega (arith, at.few, ap length (read-append moves (Read bytes ∷ [])), length-append (read_in moves) (bytes ++ []), ap length (append-nil bytes));
-          in_time = one_move (IsAnswered prompt setup) moves (Read bytes) at.in_time (λ asks. answered_so_far none);
+          in_time = one_move (IsAnswered prompt start) moves (Read bytes) at.in_time (λ asks. answered_so_far none);
         }
 
-    pub read_failed : left ≡ [] → let outcome : Result (Unit {0}) PlayFault = Err fault.Read in IsSession prompt setup outcome (moves ++ ReadFailed ∷ [])
+    pub read_failed : left ≡ [] → let outcome : Result (Unit {0}) PlayFault = Err fault.Read in IsSession prompt start outcome (moves ++ ReadFailed ∷ [])
     read_failed none =
         let now = answered_so_far none in
         let same_read : read_in (moves ++ ReadFailed ∷ []) ≡ read_in moves = read-append moves (ReadFailed ∷ []) ∙ append-nil (read_in moves) in
         let same_written : written_in (moves ++ ReadFailed ∷ []) ≡ written_in moves = written-append moves (ReadFailed ∷ []) ∙ append-nil (written_in moves) in
         record {
-          in_time = one_move (IsAnswered prompt setup) moves ReadFailed at.in_time (λ asks. now);
+          in_time = one_move (IsAnswered prompt start) moves ReadFailed at.in_time (λ asks. now);
           ends = (
             record {
               answered = rw (same_read, same_written) now.answered;
@@ -144,33 +144,33 @@ module _ (prompt : List ℕ) (setup : Parts) where
 
   -- the text of lines of which the last may be `quit`
   dialogue_with : (requests : List Request) (lines : List (List ℕ)) (request : Request) (line : List ℕ) → AllZip Asks requests lines → AreOthers lines → Asks request line
-      → IsDialogue prompt setup (lines ++ line ∷ []) (dialogue prompt setup (requests ++ request ∷ []))
+      → IsDialogue prompt start (lines ++ line ∷ []) (dialogue prompt start (requests ++ request ∷ []))
   dialogue_with requests lines request line asked others asks =
       let all : up_to_quit (lines ++ line ∷ []) ≡ lines ++ line ∷ [] = up_to_quit-append lines (line ∷ []) others ∙ ap (λ parts. lines ++ parts) (up_to_quit-one line) in
       (requests ++ request ∷ [], subst (λ parts. AllZip Asks (requests ++ request ∷ []) parts) (sym all) (AllZip-more requests lines request line asked asks), refl)
 
   -- what was written once one line more is answered, or the beginning of its answer
-  module _ (moves : List Move) (session : Session) (held left : List ℕ) (at : IsAt prompt setup moves session held left) (request : Request) (asks : Asks request held) (made : List Move) (writes : AreWrites made) where
+  module _ (moves : List Move) (session : Session) (held left : List ℕ) (at : IsAt prompt start moves session held left) (request : Request) (asks : Asks request held) (made : List Move) (writes : AreWrites made) where
     whole_line : Asks request at.line
     whole_line = asks_whole request at.line (subst (Asks request) at.held_is asks)
 
     same_read : read_in (moves ++ made) ≡ read_in moves
     same_read = read-append moves made ∙ ap (λ more. read_in moves ++ more) (nothing_read made writes) ∙ append-nil (read_in moves)
 
-    text_before : written_in moves ++ shown prompt session request ≡ dialogue prompt setup (at.requests ++ request ∷ [])
+    text_before : written_in moves ++ shown prompt session request ≡ dialogue prompt start (at.requests ++ request ∷ [])
     text_before =
-        ap (λ text. text ++ shown prompt session request) at.written ∙ ap (λ s. dialogue prompt setup at.requests ++ shown prompt s request) at.session_is
-        ∙ sym (dialogue-more prompt setup at.requests request)
+        ap (λ text. text ++ shown prompt session request) at.written ∙ ap (λ s. dialogue prompt start at.requests ++ shown prompt s request) at.session_is
+        ∙ sym (dialogue-more prompt start at.requests request)
 
-    text_now : written_in made ≡ shown prompt session request → written_in (moves ++ made) ≡ dialogue prompt setup (at.requests ++ request ∷ [])
+    text_now : written_in made ≡ shown prompt session request → written_in (moves ++ made) ≡ dialogue prompt start (at.requests ++ request ∷ [])
     text_now said = written-append moves made ∙ ap (λ text. written_in moves ++ text) said ∙ text_before
 
-    still_in_time : AnswersInTime prompt setup (moves ++ made)
-    still_in_time = writes_more (IsAnswered prompt setup) moves made at.in_time writes
+    still_in_time : AnswersInTime prompt start (moves ++ made)
+    still_in_time = writes_more (IsAnswered prompt start) moves made at.in_time writes
 
     -- the writing failed
     broken : (others : List (List ℕ)) → lines_of (read_in moves) ≡ (at.lines ++ at.line ∷ []) ++ others → (missing : List ℕ) → shown prompt session request ≡ written_in made ++ missing → EndsWith FailsToWrite made
-        → IsSession prompt setup (ended_by output.Write) (moves ++ made)
+        → IsSession prompt start (ended_by output.Write) (moves ++ made)
     broken others begins missing said fails =
         record {
           in_time = still_in_time;
@@ -178,7 +178,7 @@ module _ (prompt : List ℕ) (setup : Parts) where
             record {
               lines = at.lines ++ at.line ∷ [];
               others = others;
-              text = dialogue prompt setup (at.requests ++ request ∷ []);
+              text = dialogue prompt start (at.requests ++ request ∷ []);
               missing = missing;
               begins = ap lines_of same_read ∙ begins;
               answered = dialogue_with at.requests at.lines request at.line at.asked at.goes_on whole_line;
@@ -191,7 +191,7 @@ module _ (prompt : List ℕ) (setup : Parts) where
         }
 
   -- a line has ended
-  module _ (moves : List Move) (session : Session) (held left : List ℕ) (at : IsAt prompt setup moves session held (10 ∷ left)) where
+  module _ (moves : List Move) (session : Session) (held left : List ℕ) (at : IsAt prompt start moves session held (10 ∷ left)) where
     now_read : read_in moves ≡ joined (at.lines ++ at.line ∷ []) ++ left
     now_read =
         at.read
@@ -203,11 +203,11 @@ module _ (prompt : List ℕ) (setup : Parts) where
     now_lines : lines_of (read_in moves) ≡ (at.lines ++ at.line ∷ []) ++ lines_of left
     now_lines = ap lines_of now_read ∙ lines_of_joined (at.lines ++ at.line ∷ []) left now_ended
 
-    pub line_broken : (made : List Move) → IsLineBroken prompt session held made → IsSession prompt setup (ended_by output.Write) (moves ++ made)
+    pub line_broken : (made : List Move) → IsLineBroken prompt session held made → IsSession prompt start (ended_by output.Write) (moves ++ made)
     line_broken made b = broken moves session held (10 ∷ left) at b.request b.asks made b.writes (lines_of left) now_lines b.missing b.said b.fails
 
     -- it was another line than `quit`
-    pub line_answered : (new : Session) (kept : List ℕ) (stops : Bool) (made : List Move) → IsLineDone prompt session new held kept stops made → stops ≡ false → IsAt prompt setup (moves ++ made) new kept left
+    pub line_answered : (new : Session) (kept : List ℕ) (stops : Bool) (made : List Move) → IsLineDone prompt session new held kept stops made → stops ≡ false → IsAt prompt start (moves ++ made) new kept left
     line_answered new kept stops made d goes_on =
         let asked : Asks d.request at.line = whole_line moves session held (10 ∷ left) at d.request d.asks made d.writes in
         let read : read_in (moves ++ made) ≡ read_in moves = same_read moves session held (10 ∷ left) at d.request d.asks made d.writes in
@@ -223,13 +223,13 @@ module _ (prompt : List ℕ) (setup : Parts) where
           asked = AllZip-more at.requests at.lines d.request at.line at.asked asked;
           goes_on = AreOthers-more at.lines at.line at.goes_on (is_not_quit d.request at.line asked other);
           written = text_now moves session held (10 ∷ left) at d.request d.asks made d.writes d.said;
-          session_is = d.session ∙ ap (λ s. after s d.request) at.session_is ∙ sym (session_after-more (begun setup) at.requests d.request);
+          session_is = d.session ∙ ap (λ s. after s d.request) at.session_is ∙ sym (session_after-more start at.requests d.request);
           few = omega (arith, at.few, ap length read, ap (λ (s : Session). s.lines) d.session);
           in_time = still_in_time moves session held (10 ∷ left) at d.request d.asks made d.writes;
         }
 
     -- it was `quit`
-    pub line_quit : (new : Session) (kept : List ℕ) (stops : Bool) (made : List Move) → IsLineDone prompt session new held kept stops made → stops ≡ true → IsSession prompt setup ended_well (moves ++ made)
+    pub line_quit : (new : Session) (kept : List ℕ) (stops : Bool) (made : List Move) → IsLineDone prompt session new held kept stops made → stops ≡ true → IsSession prompt start ended_well (moves ++ made)
     line_quit new kept stops made d stopped =
         let is_quit : d.request ≡ Quit = d.stopped.0 (true_is_true stops stopped) in
         let asked : Asks Quit at.line = subst (λ r. Asks r at.line) is_quit (whole_line moves session held (10 ∷ left) at d.request d.asks made d.writes) in
@@ -238,14 +238,14 @@ module _ (prompt : List ℕ) (setup : Parts) where
         let ended : ended_lines (read_in (moves ++ made)) ≡ at.lines ++ quit_line ∷ ended_lines left =
         ap ended_lines (read ∙ now_read) ∙ ended_and_more (at.lines ++ at.line ∷ []) left now_ended
         ∙ append_assoc at.lines (at.line ∷ []) (ended_lines left) ∙ ap (λ line. at.lines ++ line ∷ ended_lines left) asked.1 in
-        let text : written_in (moves ++ made) ≡ dialogue prompt setup (at.requests ++ Quit ∷ []) =
-        text_now moves session held (10 ∷ left) at d.request d.asks made d.writes d.said ∙ ap (λ r. dialogue prompt setup (at.requests ++ r ∷ [])) is_quit in
+        let text : written_in (moves ++ made) ≡ dialogue prompt start (at.requests ++ Quit ∷ []) =
+        text_now moves session held (10 ∷ left) at d.request d.asks made d.writes d.said ∙ ap (λ r. dialogue prompt start (at.requests ++ r ∷ [])) is_quit in
         record {
           in_time = still_in_time moves session held (10 ∷ left) at d.request d.asks made d.writes;
           ends = record {
             answered =
-                subst (λ parts. IsDialogue prompt setup parts (written_in (moves ++ made))) (sym lines)
-                (subst (λ t. IsDialogue prompt setup (at.lines ++ at.line ∷ lines_of left) t) (sym text) (dialogue_to_quit at.requests at.lines at.line (lines_of left) at.asked at.goes_on asked.1 asked));
+                subst (λ parts. IsDialogue prompt start parts (written_in (moves ++ made))) (sym lines)
+                (subst (λ t. IsDialogue prompt start (at.lines ++ at.line ∷ lines_of left) t) (sym text) (dialogue_to_quit at.requests at.lines at.line (lines_of left) at.asked at.goes_on asked.1 asked));
             ended = by_quit (at.lines, ended_lines left, ended);
           };
         }
@@ -261,18 +261,18 @@ module _ (prompt : List ℕ) (setup : Parts) where
       at_most (subst (λ bytes. most_input ≤ length bytes) (sym (read-append moves made ∙ ap (λ more. read_in moves ++ more) (nothing_read made writes) ∙ append-nil (read_in moves))) most)
 
   -- there is no more input
-  module _ (moves : List Move) (session : Session) (held : List ℕ) (at : IsAt prompt setup moves session held []) (over : IsOver moves) where
+  module _ (moves : List Move) (session : Session) (held : List ℕ) (at : IsAt prompt start moves session held []) (over : IsOver moves) where
     last_lines : 0 < length held → lines_of (read_in moves) ≡ at.lines ++ at.line ∷ []
     last_lines some =
         let some_line : 0 < length at.line = omega (arith, some, ap length at.held_is, length-take (longest + 1) at.line) in
         ap lines_of (at.read ∙ ap (λ last. joined at.lines ++ last) (append-nil at.line)) ∙ lines_of_joined at.lines at.line at.ended ∙ ap (λ last. at.lines ++ last) (one_unended at.line some_line at.unended)
 
     -- a last line without its end
-    pub last_broken : 0 < length held → (made : List Move) → IsLineBroken prompt session held made → IsSession prompt setup (ended_by output.Write) (moves ++ made)
+    pub last_broken : 0 < length held → (made : List Move) → IsLineBroken prompt session held made → IsSession prompt start (ended_by output.Write) (moves ++ made)
     last_broken some made b =
         broken moves session held [] at b.request b.asks made b.writes [] (last_lines some ∙ sym (append-nil (at.lines ++ at.line ∷ []))) b.missing b.said b.fails
 
-    pub last_answered : 0 < length held → (new : Session) (kept : List ℕ) (stops : Bool) (made : List Move) → IsLineDone prompt session new held kept stops made → IsSession prompt setup ended_well (moves ++ made)
+    pub last_answered : 0 < length held → (new : Session) (kept : List ℕ) (stops : Bool) (made : List Move) → IsLineDone prompt session new held kept stops made → IsSession prompt start ended_well (moves ++ made)
     last_answered some new kept stops made d =
         let read : read_in (moves ++ made) ≡ read_in moves = same_read moves session held [] at d.request d.asks made d.writes in
         let lines : lines_of (read_in (moves ++ made)) ≡ at.lines ++ at.line ∷ [] = ap lines_of read ∙ last_lines some in
@@ -281,14 +281,14 @@ module _ (prompt : List ℕ) (setup : Parts) where
           in_time = still_in_time moves session held [] at d.request d.asks made d.writes;
           ends = record {
             answered =
-                subst (λ parts. IsDialogue prompt setup parts (written_in (moves ++ made))) (sym lines)
-                (subst (λ t. IsDialogue prompt setup (at.lines ++ at.line ∷ []) t) (sym (text_now moves session held [] at d.request d.asks made d.writes d.said)) (dialogue_with at.requests at.lines d.request at.line at.asked at.goes_on asked));
+                subst (λ parts. IsDialogue prompt start parts (written_in (moves ++ made))) (sym lines)
+                (subst (λ t. IsDialogue prompt start (at.lines ++ at.line ∷ []) t) (sym (text_now moves session held [] at d.request d.asks made d.writes d.said)) (dialogue_with at.requests at.lines d.request at.line at.asked at.goes_on asked));
             ended = over_more moves made d.writes over;
           };
         }
 
     -- or none
-    pub no_last_line : length held ≡ 0 → IsSession prompt setup ended_well moves
+    pub no_last_line : length held ≡ 0 → IsSession prompt start ended_well moves
     no_last_line none =
         let no_line : at.line ≡ [] = nil_from_length at.line (omega (arith, none, ap length at.held_is, length-take (longest + 1) at.line)) in
         let lines : lines_of (read_in moves) ≡ at.lines =
@@ -296,7 +296,7 @@ module _ (prompt : List ℕ) (setup : Parts) where
         record {
           in_time = at.in_time;
           ends = record {
-            answered = subst (λ parts. IsDialogue prompt setup parts (written_in moves)) (sym lines) (subst (λ t. IsDialogue prompt setup at.lines t) (sym at.written) (dialogue_of at.requests at.lines at.asked at.goes_on));
+            answered = subst (λ parts. IsDialogue prompt start parts (written_in moves)) (sym lines) (subst (λ t. IsDialogue prompt start at.lines t) (sym at.written) (dialogue_of at.requests at.lines at.asked at.goes_on));
             ended = subst HasEnded (append-nil moves) (over_more moves [] tt over);
           };
         }
@@ -304,8 +304,8 @@ module _ (prompt : List ℕ) (setup : Parts) where
   -- ---- before the first line
 
   module _ (made : List Move) (writes : AreWrites made) where
-    pub prompted : written_in made ≡ prompt → IsAt prompt setup made (begun setup) [] []
-    prompted said =
+    pub prompted : start.lines ≡ 0 → written_in made ≡ prompt → IsAt prompt start made start [] []
+    prompted first said =
         record {
           lines = [];
           line = [];
@@ -318,19 +318,19 @@ module _ (prompt : List ℕ) (setup : Parts) where
           goes_on = tt;
           written = said ∙ sym (append-nil prompt);
           session_is = refl;
-          few = omega (arith, ap length (nothing_read made writes));
-          in_time = writes_more (IsAnswered prompt setup) [] made (nothing_asked (IsAnswered prompt setup)) writes;
+          few = omega (arith, first, ap length (nothing_read made writes));
+          in_time = writes_more (IsAnswered prompt start) [] made (nothing_asked (IsAnswered prompt start)) writes;
         }
 
-    pub not_prompted : (missing : List ℕ) → prompt ≡ written_in made ++ missing → EndsWith FailsToWrite made → IsSession prompt setup (ended_by output.Write) made
+    pub not_prompted : (missing : List ℕ) → prompt ≡ written_in made ++ missing → EndsWith FailsToWrite made → IsSession prompt start (ended_by output.Write) made
     not_prompted missing said fails =
         record {
-          in_time = writes_more (IsAnswered prompt setup) [] made (nothing_asked (IsAnswered prompt setup)) writes;
+          in_time = writes_more (IsAnswered prompt start) [] made (nothing_asked (IsAnswered prompt start)) writes;
           ends = (
             record {
               lines = [];
               others = lines_of (read_in made);
-              text = dialogue prompt setup [];
+              text = dialogue prompt start [];
               missing = missing;
               begins = refl;
               answered = ([], tt, refl);

@@ -5,7 +5,7 @@ use Rattle.cdb_control.specs.FaultTexts.{call_fault_text}
 use Rattle.cdb_control.specs.declared.control.CallFault.TheVariants.{JournalFull}
 use Rattle.cdb_control.specs.Journal.{Journaled, opened, extended, reply_in}
 use Rattle.cdb_play.specs.FaultTexts.{as_line}
-use Rattle.cdb_rules.specs.Algorithms.{rules}
+use Rattle.cdb_rules.specs.Rules.{Rules}
 use Rattle.cdb_setup.specs.Parts.{Parts}
 use Rattle.cdb_text.specs.LineFaults.{line_fault_text}
 use Rattle.cdb_text.specs.Texts.{text_of}
@@ -15,16 +15,26 @@ use Rattle.cdb_debug.specs.declared.help.TheConstants.{HELP}
 use Rattle.cdb_debug.specs.declared.request.Request.{Request}
 use Rattle.cdb_debug.specs.declared.request.Request.TheVariants.{Call, Seat, Help, Quit, Fault, TooLong}
 
--- A session between two lines: its control, whose state is the replay of its journal, the seat that the next command is
--- of, and how many lines there were.
+-- A session between two lines: the rules of its run, its control, whose state is the replay of its journal, the seat that
+-- the next command is of, and how many lines there were.
 pub record Session : Type 0 where
+  pub rules : Parts → Rules
   pub control : Journaled
   pub seat : ℕ
   pub lines : ℕ
 
+-- what a contract sees of a session, which is of a run by rules that the code's type gives
+pub record SessionView : Type 0 where
+  pub control : Journaled
+  pub seat : ℕ
+  pub lines : ℕ
+
+abbrev pub session_by : (Parts → Rules) → SessionView → Session
+session_by rules s = record { rules = rules; control = s.control; seat = s.seat; lines = s.lines }
+
 -- before the first line
-abbrev pub begun : Parts → Session
-begun setup = record { control = opened setup most_seats; seat = 1; lines = 0 }
+abbrev pub begun : (Parts → Rules) → Parts → Session
+begun rules setup = record { rules = rules; control = opened setup most_seats; seat = 1; lines = 0 }
 
 -- ---- the texts
 
@@ -44,7 +54,7 @@ too_long_text line = as_line (codes "line " ++ decimal line ++ codes " too long"
 -- The answer to what a line asks for. A command has the text of its reply, unless the journal is full.
 abbrev pub answer_to : Session → Request → List ℕ
 answer_to s (Call command) =
-    if length s.control.journal == MAX_ENTRIES then full_text else text_of (reply_in rules s.control s.seat command)
+    if length s.control.journal == MAX_ENTRIES then full_text else text_of (reply_in s.rules s.control s.seat command)
 answer_to s (Seat seat) = seat_line seat ++ codes "\n"
 answer_to s Help = HELP.now
 answer_to s Quit = []
@@ -55,7 +65,7 @@ answer_to s TooLong = too_long_text (s.lines + 1)
 abbrev pub control_after : Session → Request → Journaled
 control_after s (Call command) =
     if length s.control.journal == MAX_ENTRIES then s.control
-    else extended (rules s.control.setup) s.control s.seat command
+    else extended (s.rules s.control.setup) s.control s.seat command
 control_after s (Seat seat) = s.control
 control_after s Help = s.control
 control_after s Quit = s.control
@@ -74,7 +84,12 @@ seat_after s TooLong = s.seat
 -- the session after a line that asks for this
 abbrev pub after : Session → Request → Session
 after s request =
-    record { control = control_after s request; seat = seat_after s request; lines = s.lines + 1 }
+    record {
+      rules = s.rules;
+      control = control_after s request;
+      seat = seat_after s request;
+      lines = s.lines + 1;
+    }
 
 -- ---- all lines
 
@@ -88,14 +103,14 @@ module _ (prompt : List ℕ) where
   shown_from s [] = []
   shown_from s (request ∷ requests) = shown s request ++ shown_from (after s request) requests
 
-  -- all that is shown in a session on this setup whose lines ask for this
-  abbrev pub dialogue : Parts → List Request → List ℕ
-  dialogue setup requests = prompt ++ shown_from (begun setup) requests
+  -- all that is shown in a session from this start whose lines ask for this
+  abbrev pub dialogue : Session → List Request → List ℕ
+  dialogue start requests = prompt ++ shown_from start requests
 
-  -- the text is that of a session on this setup with these lines, of which it answers those up to `quit`
-  abbrev pub IsDialogue : Parts → List (List ℕ) → List ℕ → Type 0
-  IsDialogue setup lines text =
-      (requests : List Request) × AreAsked requests lines × (text ≡ dialogue setup requests)
+  -- the text is that of a session from this start with these lines, of which it answers those up to `quit`
+  abbrev pub IsDialogue : Session → List (List ℕ) → List ℕ → Type 0
+  IsDialogue start lines text =
+      (requests : List Request) × AreAsked requests lines × (text ≡ dialogue start requests)
 
 -- the session after these requests
 abbrev pub session_after : Session → List Request → Session

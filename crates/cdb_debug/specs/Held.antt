@@ -6,8 +6,8 @@ use Rattle.cdb_play.specs.declared.buffer.OutputFault.TheVariants as output
 use Rattle.cdb_play.specs.declared.fault.PlayFault.{PlayFault}
 use Rattle.cdb_play.specs.Faults.{of_output}
 use Rattle.cdb_setup.specs.Format.{longest}
-use Rattle.cdb_setup.specs.Parts.{Parts, IsWithin}
-use Rattle.cdb_debug.specs.Dialogues.{Session, begun, after, session_after, shown, dialogue}
+use Rattle.cdb_setup.specs.Parts.{IsWithin}
+use Rattle.cdb_debug.specs.Dialogues.{Session, after, session_after, shown, dialogue}
 use Rattle.cdb_debug.specs.Moves.{Known, Move, read_in, written_in, AreWrites, FailsToWrite, EndsWith, FindsTheEnd, Makes}
 use Rattle.cdb_debug.specs.Requests.{Asks, quit_line}
 use Rattle.cdb_debug.specs.Sessions.{most_input, AnswersInTime, IsSession}
@@ -37,7 +37,7 @@ held_of line = take (longest + 1) line
 
 -- After these moves the lines that have ended are answered. Of the next line this much is held, and these bytes that
 -- were read are not yet looked at.
-pub record IsAt (prompt : List ℕ) (setup : Parts) (moves : List Move) (session : Session) (held left : List ℕ) : Type 0 where
+pub record IsAt (prompt : List ℕ) (start : Session) (moves : List Move) (session : Session) (held left : List ℕ) : Type 0 where
   pub lines : List (List ℕ)
   pub line : List ℕ
   pub requests : List Request
@@ -47,10 +47,10 @@ pub record IsAt (prompt : List ℕ) (setup : Parts) (moves : List Move) (session
   pub held_is : held ≡ held_of line
   pub asked : AllZip Asks requests lines
   pub goes_on : AllByRecursion (λ line. ¬ (line ≡ quit_line)) lines
-  pub written : written_in moves ≡ dialogue prompt setup requests
-  pub session_is : session ≡ session_after (begun setup) requests
+  pub written : written_in moves ≡ dialogue prompt start requests
+  pub session_is : session ≡ session_after start requests
   pub few : session.lines + length left ≤ length (read_in moves)
-  pub in_time : AnswersInTime prompt setup moves
+  pub in_time : AnswersInTime prompt start moves
 
 -- what a held line asks for was done and answered; it was `quit` where this is true
 pub record IsLineDone (prompt : List ℕ) (old new : Session) (held left : List ℕ) (stops : Bool) (made : List Move) : Type 0 where
@@ -89,16 +89,16 @@ abbrev pub ended_by : OutputFault → Result (Unit {0}) PlayFault
 ended_by fault = Err (of_output fault)
 
 -- where a session stands that was at some bytes to be looked at: behind them, or at its end
-abbrev pub StandsAs : Result Bool OutputFault → List ℕ → Parts → List Move → Session → List ℕ → Type 0
-StandsAs (Ok false) prompt setup moves session held = IsAt prompt setup moves session held []
-StandsAs (Ok true) prompt setup moves session held = IsSession prompt setup ended_well moves
-StandsAs (Err fault) prompt setup moves session held = IsSession prompt setup (ended_by fault) moves
+abbrev pub StandsAs : Result Bool OutputFault → List ℕ → Session → List Move → Session → List ℕ → Type 0
+StandsAs (Ok false) prompt start moves session held = IsAt prompt start moves session held []
+StandsAs (Ok true) prompt start moves session held = IsSession prompt start ended_well moves
+StandsAs (Err fault) prompt start moves session held = IsSession prompt start (ended_by fault) moves
 
 -- the bytes were looked at
 abbrev pub Hears : Result Bool OutputFault → Known → Known → List ℕ → Session → Session → List ℕ → List ℕ → List ℕ → Type 0
 Hears result before behind prompt old new held left bytes =
-    (setup : Parts) (moves : List Move) → IsAt prompt setup moves old held bytes
-    → (made : List Move) × Makes before behind made × AreWrites made × StandsAs result prompt setup (moves ++ made) new left
+    (start : Session) (moves : List Move) → IsAt prompt start moves old held bytes
+    → (made : List Move) × Makes before behind made × AreWrites made × StandsAs result prompt start (moves ++ made) new left
 
 -- the input was at its end, or as much was read as may be
 abbrev pub IsOver : List Move → Type 0
@@ -107,10 +107,10 @@ IsOver moves = FindsTheEnd moves ⊎ (most_input ≤ length (read_in moves))
 -- a last line that has not ended was answered
 abbrev pub AnswersLast : Result (Unit {0}) PlayFault → Known → Known → List ℕ → Session → List ℕ → Type 0
 AnswersLast result before behind prompt session held =
-    (setup : Parts) (moves : List Move) → IsAt prompt setup moves session held [] → IsOver moves
-    → (made : List Move) × Makes before behind made × IsSession prompt setup result (moves ++ made)
+    (start : Session) (moves : List Move) → IsAt prompt start moves session held [] → IsOver moves
+    → (made : List Move) × Makes before behind made × IsSession prompt start result (moves ++ made)
 
 -- all was answered from the first line on
 abbrev pub Converses : Result (Unit {0}) PlayFault → Known → Known → List ℕ → Session → Type 0
 Converses result before behind prompt session =
-    (setup : Parts) → session ≡ begun setup → (made : List Move) × Makes before behind made × IsSession prompt setup result made
+    session.lines ≡ 0 → (made : List Move) × Makes before behind made × IsSession prompt session result made

@@ -3,6 +3,7 @@ use Rattle.std.specs.Prelude.{◌≡◌, ℕ, List, [], ◌∷◌, take}
 use Rattle.cdb_base.specs.declared.limits.TheConstants.{MAX_ENTRIES}
 use Rattle.cdb_control.specs.Journal.{entry}
 use Rattle.cdb_control.specs.declared.control.Entry.{Entry}
+use Rattle.cdb_rules.specs.Rules.{Rules}
 use Rattle.cdb_setup.specs.Parts.{Parts}
 use Rattle.cdb_debug.specs.Dialogues.{begun, session_after}
 use Rattle.cdb_debug.specs.declared.request.Request.{Request}
@@ -18,8 +19,8 @@ commands_of seat (Quit ∷ requests) = commands_of seat requests
 commands_of seat (Fault fault ∷ requests) = commands_of seat requests
 commands_of seat (TooLong ∷ requests) = commands_of seat requests
 
--- the journal has the commands, in order and each once, as many as it has places for
+-- the journal has the commands, in order and each once, as many as it has room for
 abbrev pub JournalHasTheCommands : Type 0
 JournalHasTheCommands =
-    (setup : Parts) (requests : List Request)
-    → (session_after (begun setup) requests).control.journal ≡ take MAX_ENTRIES (commands_of 1 requests)
+    (rules : Parts → Rules) (setup : Parts) (requests : List Request)
+    → (session_after (begun rules setup) requests).control.journal ≡ take MAX_ENTRIES (commands_of 1 requests)

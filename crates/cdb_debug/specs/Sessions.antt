@@ -3,10 +3,11 @@ use Rattle.std.specs.Prelude.{◌≡◌, ◌⊎◌, ℕ, ◌≤◌, ◌^◌, Lis
 use Rattle.cdb_play.specs.Lines.{lines_of}
 use Rattle.cdb_play.specs.declared.fault.PlayFault.{PlayFault}
 use Rattle.cdb_play.specs.declared.fault.PlayFault.TheVariants as fault
-use Rattle.cdb_setup.specs.Format.{StandsFor}
+use Rattle.cdb_setup.specs.Format.{Encodes}
 use Rattle.cdb_setup.specs.Order.{IsFirstFault}
 use Rattle.cdb_setup.specs.Parts.{Parts}
-use Rattle.cdb_debug.specs.Dialogues.{IsDialogue}
+use Rattle.cdb_rules.specs.Rules.{Rules}
+use Rattle.cdb_debug.specs.Dialogues.{Session, begun, IsDialogue}
 use Rattle.cdb_debug.specs.Moves.{Known, Move, ReadFailed, read_in, written_in, AsksForInput, FailsToWrite, EndsWith, FindsTheEnd, Makes}
 use Rattle.cdb_debug.specs.Requests.{ended_lines, HaveQuit}
 
@@ -20,10 +21,10 @@ pub data HasEnded (moves : List Move) : Type 0 where
   at_end : FindsTheEnd moves → HasEnded moves
   at_most : most_input ≤ length (read_in moves) → HasEnded moves
 
-module _ (prompt : List ℕ) (setup : Parts) where
+module _ (prompt : List ℕ) (start : Session) where
   -- all lines that have ended are answered in full, and none of them is `quit`
   pub record IsAnswered (moves : List Move) : Type 0 where
-    pub answered : IsDialogue prompt setup (ended_lines (read_in moves)) (written_in moves)
+    pub answered : IsDialogue prompt start (ended_lines (read_in moves)) (written_in moves)
     pub goes_on : ¬ HaveQuit (ended_lines (read_in moves))
 
   -- whenever the session asks for more input, all lines that it was given so far are answered in full
@@ -34,7 +35,7 @@ module _ (prompt : List ℕ) (setup : Parts) where
 
   -- all is answered, a last line too that lacks its byte 10
   pub record IsWhole (moves : List Move) : Type 0 where
-    pub answered : IsDialogue prompt setup (lines_of (read_in moves)) (written_in moves)
+    pub answered : IsDialogue prompt start (lines_of (read_in moves)) (written_in moves)
     pub ended : HasEnded moves
 
   -- the first of the lines are answered in full, and the others not at all
@@ -42,7 +43,7 @@ module _ (prompt : List ℕ) (setup : Parts) where
     pub lines : List (List ℕ)
     pub others : List (List ℕ)
     pub begins : lines_of (read_in moves) ≡ lines ++ others
-    pub answered : IsDialogue prompt setup lines (written_in moves)
+    pub answered : IsDialogue prompt start lines (written_in moves)
 
   -- what was written is a beginning of the answers to the first of the lines
   pub record IsBroken (moves : List Move) : Type 0 where
@@ -51,7 +52,7 @@ module _ (prompt : List ℕ) (setup : Parts) where
     pub text : List ℕ
     pub missing : List ℕ
     pub begins : lines_of (read_in moves) ≡ lines ++ others
-    pub answered : IsDialogue prompt setup lines text
+    pub answered : IsDialogue prompt start lines text
     pub written : text ≡ written_in moves ++ missing
 
   -- the moves by what the session returned
@@ -69,19 +70,19 @@ module _ (prompt : List ℕ) (setup : Parts) where
     pub in_time : AnswersInTime moves
     pub ends : EndsAs returned moves
 
--- such a session on the setup that a text of JSON encodes
-abbrev pub IsSessionOn : {A : Type 0} → List ℕ → List ℕ → Result A PlayFault → List Move → Type 0
-IsSessionOn prompt json returned moves =
-    (setup : Parts) × StandsFor json setup × IsSession prompt setup returned moves
+module _ (rules : Parts → Rules) (prompt json : List ℕ) where
+  -- such a session on the setup that the text of JSON encodes
+  abbrev pub IsSessionOn : {A : Type 0} → Result A PlayFault → List Move → Type 0
+  IsSessionOn returned moves =
+      (setup : Parts) × Encodes json setup × IsSession prompt (begun rules setup) returned moves
 
--- The moves of a call, by what it returned. A fault of the setup comes before all else, and memory may run out before
--- there is a session.
-abbrev pub HasDebugged : {A : Type 0} → List ℕ → List ℕ → Result A PlayFault → List Move → Type 0
-HasDebugged prompt json (Err (fault.Setup why)) moves = IsFirstFault why json × (moves ≡ [])
-HasDebugged {A} prompt json (Err fault.NoMemory) moves =
-    (moves ≡ []) ⊎ IsSessionOn {A = A} prompt json (Err fault.NoMemory) moves
-HasDebugged prompt json returned moves = IsSessionOn prompt json returned moves
+  -- The moves of a call, by what it returned. A fault of the setup comes before all else, and memory may run out before
+  -- there is a session.
+  abbrev pub HasDebugged : {A : Type 0} → Result A PlayFault → List Move → Type 0
+  HasDebugged (Err (fault.Setup why)) moves = IsFirstFault why json × (moves ≡ [])
+  HasDebugged {A} (Err fault.NoMemory) moves = (moves ≡ []) ⊎ IsSessionOn {A = A} (Err fault.NoMemory) moves
+  HasDebugged returned moves = IsSessionOn returned moves
 
--- the moves that the call has made, where those before were known, are such
-abbrev pub Debugs : {A : Type 0} → List ℕ → List ℕ → Result A PlayFault → Known → Known → Type 0
-Debugs prompt json returned old new = (made : List Move) × Makes old new made × HasDebugged prompt json returned made
+  -- the moves that the call has made, where those before were known, are such
+  abbrev pub Debugs : {A : Type 0} → Result A PlayFault → Known → Known → Type 0
+  Debugs returned old new = (made : List Move) × Makes old new made × HasDebugged returned made

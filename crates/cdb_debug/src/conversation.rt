@@ -1,6 +1,7 @@
 //! A session from its first line to its last.
 
 ghost use Rattle.std.specs.Prelude.{◌≡◌, ◌-◌, ◌<◌, ◌^◌};
+ghost use Rattle.cdb_debug.specs.Dialogues.{session_by};
 ghost use Rattle.cdb_debug.specs.Held.{AnswersLast, Converses};
 ghost use Rattle.cdb_debug.specs.Sessions.{Debugs};
 
@@ -8,6 +9,7 @@ use crate::hearing::{answer_held, hear};
 use crate::session::Session;
 use crate::talk::{Talk, say};
 use cdb_play::PlayFault;
+use cdb_rules::Runs;
 use cdb_setup::Setup;
 use std::alloc::Global;
 
@@ -18,16 +20,16 @@ const PIECE: usize = 4096;
 const MOST_INPUT: u64 = 1 << 63;
 
 /// Answers a last line that has not ended, if there is one.
-fn answer_last<T: Talk>(
+fn answer_last<R: Runs, T: Talk>(
     alloc: Global,
     prompt: &[u8],
-    session: &mut Session,
+    session: &mut Session<R>,
     mut held: Vec<u8>,
     talk: &mut T,
 ) -> Result<(), PlayFault>
     requires { session.old.lines < 2 ^ 64 - 1 }
     ensures { AnswersLast result (T.known talk.old) (T.known talk.new)
-        prompt.now session.old held.items }
+        prompt.now (session_by R.rules session.old) held.items }
 {
     if held.is_empty() {
         return Ok(());
@@ -37,14 +39,15 @@ fn answer_last<T: Talk>(
 }
 
 /// Answers line after line, from the first one on, up to `quit` or the end of the input.
-fn converse<T: Talk>(
+fn converse<R: Runs, T: Talk>(
     alloc: Global,
     prompt: &[u8],
-    session: &mut Session,
+    session: &mut Session<R>,
     talk: &mut T,
 ) -> Result<(), PlayFault>
     requires { session.old.lines ≡ 0 }
-    ensures { Converses result (T.known talk.old) (T.known talk.new) prompt.now session.old }
+    ensures { Converses result (T.known talk.old) (T.known talk.new)
+        prompt.now (session_by R.rules session.old) }
 {
     let Ok(()) = say(talk, prompt) else {
         return Err(PlayFault::Write);
@@ -75,16 +78,16 @@ fn converse<T: Talk>(
 /// `Setup` with the setup's first fault, before any input is asked for. `Read` where the reading failed: each line is
 /// answered. `Write` where the writing failed: what was written is a beginning of the answers. `NoMemory` where an
 /// allocation fails: what was written are the answers to a beginning of the lines.
-pub fn debug<T: Talk>(
+pub fn debug<R: Runs, T: Talk>(
     alloc: Global,
     setup: &[u8],
     prompt: &[u8],
     talk: &mut T,
 ) -> Result<(), PlayFault>
-    ensures { Debugs prompt.now setup.now result (T.known talk.old) (T.known talk.new) }
+    ensures { Debugs R.rules prompt.now setup.now result (T.known talk.old) (T.known talk.new) }
 {
     let setup = Setup::read(alloc, setup)?;
-    let Ok(mut session) = Session::begin(alloc, setup) else {
+    let Ok(mut session) = Session::<R>::begin(alloc, setup) else {
         return Err(PlayFault::NoMemory);
     };
     converse(alloc, prompt, &mut session, talk)

@@ -2,6 +2,7 @@
 
 ghost use Rattle.std.specs.Prelude.{◌≡◌, ◌+◌, ◌-◌, ◌<◌, ◌≤◌, ◌^◌, length, OnOk};
 ghost use Rattle.cdb_setup.specs.Format.{longest};
+ghost use Rattle.cdb_debug.specs.Dialogues.{session_by};
 ghost use Rattle.cdb_debug.specs.Held.{AnswersHeld, Hears};
 
 use crate::held::{cut, hold};
@@ -9,19 +10,21 @@ use crate::request::{Request, request_of};
 use crate::session::Session;
 use crate::talk::{Talk, say};
 use cdb_play::OutputFault;
+use cdb_rules::Runs;
 use std::alloc::Global;
 
 /// Answers the line that is held, and holds nothing then. Returns whether the line was `quit`.
-pub(crate) fn answer_held<T: Talk>(
+pub(crate) fn answer_held<R: Runs, T: Talk>(
     alloc: Global,
     prompt: &[u8],
-    session: &mut Session,
+    session: &mut Session<R>,
     held: &mut Vec<u8>,
     talk: &mut T,
 ) -> Result<bool, OutputFault>
     requires { session.old.lines < 2 ^ 64 - 1 }
     ensures { AnswersHeld result (T.known talk.old) (T.known talk.new)
-        prompt.now session.old session.new held.old.items held.new.items }
+        prompt.now (session_by R.rules session.old) (session_by R.rules session.new)
+        held.old.items held.new.items }
 {
     let request = request_of(held.as_slice());
     let text = session.show(alloc, prompt, held.as_slice(), request)?;
@@ -32,10 +35,10 @@ pub(crate) fn answer_held<T: Talk>(
 
 /// Answers each line that ends in these bytes, up to `quit`, and holds what follows the last. Returns whether one was
 /// `quit`.
-pub(crate) fn hear<T: Talk>(
+pub(crate) fn hear<R: Runs, T: Talk>(
     alloc: Global,
     prompt: &[u8],
-    session: &mut Session,
+    session: &mut Session<R>,
     held: &mut Vec<u8>,
     talk: &mut T,
     bytes: &[u8],
@@ -43,7 +46,8 @@ pub(crate) fn hear<T: Talk>(
     requires lines { session.old.lines + length bytes.now < 2 ^ 64 }
     requires held { length held.old.items ≤ longest + 1 }
     ensures heard { Hears result (T.known talk.old) (T.known talk.new)
-        prompt.now session.old session.new held.old.items held.new.items bytes.now }
+        prompt.now (session_by R.rules session.old) (session_by R.rules session.new)
+        held.old.items held.new.items bytes.now }
     ensures held { OnOk result (length held.new.items ≤ longest + 1) }
     ensures lines { OnOk result (session.new.lines ≤ session.old.lines + length bytes.now) }
 {

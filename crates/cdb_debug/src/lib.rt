@@ -2,7 +2,7 @@
 //!
 //! ```text
 //! let mut talk = Streams::new(Input::new(rt.reader()), Output::new(io::writer(rt)));
-//! let outcome = debug(rt.alloc(), setup, &mut talk);
+//! let outcome = debug::<R, _>(rt.alloc(), setup, b"> ", &mut talk);
 //! ```
 #![tactic(auto)]
 

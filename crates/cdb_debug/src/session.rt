@@ -1,15 +1,15 @@
 //! A session: what its lines have led to.
 
 ghost use Rattle.std.specs.Prelude.{◌≡◌, ◌-◌, ◌<◌, ◌^◌, ◌++◌, IfOk, OnOk};
-ghost use Rattle.cdb_debug.specs.Dialogues.{begun, after, answer_to, shown};
+ghost use Rattle.cdb_debug.specs.Dialogues.{session_by, begun, after, answer_to, shown};
 ghost use Rattle.cdb_debug.specs.Requests.{Asks};
 
 use crate::answer::{push_fault, push_seat, push_too_long};
 use crate::help::HELP;
 use crate::request::Request;
-use cdb_any_run::RunOfSetup;
 use cdb_base::NoMemory;
 use cdb_control::{CallFault, Command, Control};
+use cdb_rules::Runs;
 use cdb_setup::Setup;
 use cdb_text::reply_text;
 use std::alloc::Global;
@@ -20,16 +20,16 @@ const SEATS: u8 = 9;
 
 /// A session between two lines: its control, the seat of the next command, and how many lines there were.
 #[derive(Drop)]
-pub(crate) struct Session {
-    control: Control<RunOfSetup>,
+pub(crate) struct Session<R: Runs> {
+    control: Control<R>,
     seat: u8,
     lines: u64,
 }
 
-impl Model for Session {
+impl<R: Runs> Model for Session<R> {
     ghost use Rattle.std.specs.Prelude.{◌≡◌};
     ghost use Rattle.cdb_setup.specs.Parts.{IsWithin};
-    ghost use Rattle.cdb_debug.specs.Dialogues.{Session as SessionView};
+    ghost use Rattle.cdb_debug.specs.Dialogues.{SessionView};
 
     ghost Value = { SessionView };
 
@@ -38,10 +38,10 @@ impl Model for Session {
     ghost invariant = { λ s. IsWithin 1 9 s.seat × (s.control.seats ≡ 9) };
 }
 
-impl Session {
+impl<R: Runs> Session<R> {
     /// A session on a setup, before its first line.
     pub(crate) fn begin(alloc: Global, setup: Setup) -> Result<Self, NoMemory>
-        ensures { IfOk result (λ session. session ≡ begun setup) }
+        ensures { IfOk result (λ session. session_by R.rules session ≡ begun R.rules setup) }
     {
         match Control::open(alloc, setup, SEATS) {
             Ok(control) => Ok(Session {
@@ -57,8 +57,9 @@ impl Session {
     fn call(&mut self, alloc: Global, command: Command) -> Result<Vec<u8>, NoMemory>
         requires { self.old.lines < 2 ^ 64 - 1 }
         ensures text { IfOk result
-            (λ text. text.items ≡ answer_to self.old (Request.Call command)) }
-        ensures after { OnOk result (self.new ≡ after self.old (Request.Call command)) }
+            (λ text. text.items ≡ answer_to (session_by R.rules self.old) (Request.Call command)) }
+        ensures after { OnOk result (session_by R.rules self.new
+            ≡ after (session_by R.rules self.old) (Request.Call command)) }
     {
         let text = match self.control.execute(alloc, self.seat, command) {
             Ok(reply) => reply_text(alloc, &reply)?,
@@ -73,8 +74,10 @@ impl Session {
     fn answer(&mut self, alloc: Global, line: &[u8], request: Request) -> Result<Vec<u8>, NoMemory>
         requires lines { self.old.lines < 2 ^ 64 - 1 }
         requires asks { Asks request line.now }
-        ensures text { IfOk result (λ text. text.items ≡ answer_to self.old request) }
-        ensures after { OnOk result (self.new ≡ after self.old request) }
+        ensures text { IfOk result
+            (λ text. text.items ≡ answer_to (session_by R.rules self.old) request) }
+        ensures after { OnOk result
+            (session_by R.rules self.new ≡ after (session_by R.rules self.old) request) }
     {
         let mut text = String::new(alloc);
         match request {
@@ -103,8 +106,10 @@ impl Session {
     ) -> Result<Vec<u8>, NoMemory>
         requires lines { self.old.lines < 2 ^ 64 - 1 }
         requires asks { Asks request line.now }
-        ensures text { IfOk result (λ text. text.items ≡ shown prompt.now self.old request) }
-        ensures after { OnOk result (self.new ≡ after self.old request) }
+        ensures text { IfOk result
+            (λ text. text.items ≡ shown prompt.now (session_by R.rules self.old) request) }
+        ensures after { OnOk result
+            (session_by R.rules self.new ≡ after (session_by R.rules self.old) request) }
     {
         let mut text = self.answer(alloc, line, request)?;
         if request != Request::Quit {

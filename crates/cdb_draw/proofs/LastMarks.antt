@@ -6,24 +6,26 @@ use Rattle.cdb_control.specs.Commands.{decides}
 use Rattle.cdb_explain.specs.Explanations.{run_after}
 use Rattle.cdb_explain.specs.Marked.{is_marked}
 use Rattle.cdb_explain.proofs.Along.{whole_of_last}
-use Rattle.cdb_rules.specs.Algorithms.{rules}
+use Rattle.cdb_rules.specs.Lawful.{KeepHistories}
+use Rattle.cdb_rules.specs.Rules.{Rules}
+use Rattle.cdb_setup.specs.Parts.{Parts, AreInRange}
 use Rattle.cdb_rules.specs.RunView.{RunView}
 use Rattle.cdb_rules.specs.Runs.{with_history}
 use Rattle.cdb_draw.specs.Arrows.{spot_text}
 use Rattle.cdb_draw.specs.EventMarks.{body_text, decided_text, lane_of, mark_at, mark_close, mark_text, open_text, title_text}
 
-pub mark_of_last : (run : RunView) (marks : List Bool) (place : ℕ) (event : Event) → IsStanding run.history → slice_get run.history place ≡ Some event
-    → (after : RunView) → after ≡ run_after run place → (full : Bool) → is_marked marks place ≡ full
-    → mark_text rules after after full place event ≡ mark_at rules run marks place
-mark_of_last run marks place event standing at after is full marked =
-    ap (λ r. mark_text rules r r full place event) is ∙ ap with_title (sym (whole_of_last run place event at (with_history run (take place run.history)) refl standing))
-    ∙ ap (λ b. mark_text rules run (run_after run place) b place event) (sym marked) ∙ sym stands
+pub mark_of_last : (rules : Parts → Rules) (SameState : Parts → List Event → List Event → Type 0) (kept : (setup : Parts) → AreInRange setup → KeepHistories (rules setup) (SameState setup) setup) (run : RunView) (marks : List Bool) (position : ℕ) (event : Event) → IsStanding run.history → slice_get run.history position ≡ Some event
+    → (after : RunView) → after ≡ run_after run position → (full : Bool) → is_marked marks position ≡ full
+    → mark_text rules after after full position event ≡ mark_at rules run marks position
+mark_of_last rules SameState kept run marks position event standing at after is full marked =
+    ap (λ r. mark_text rules r r full position event) is ∙ ap with_title (sym (whole_of_last rules SameState kept run position event at (with_history run (take position run.history)) refl standing))
+    ∙ ap (λ b. mark_text rules run (run_after run position) b position event) (sym marked) ∙ sym stands
   where
     with_title : List ℕ → List ℕ
     with_title whole =
-        let last = run_after run place in
-        open_text full (spot_text run.setup place (lane_of event)) ++ title_text whole
+        let last = run_after run position in
+        open_text full (spot_text run.setup position (lane_of event)) ++ title_text whole
         ++ decided_text (decides (rules last.setup) last.history event) ++ body_text event ++ mark_close
 
-    stands : mark_at rules run marks place ≡ mark_text rules run (run_after run place) (is_marked marks place) place event
+    stands : mark_at rules run marks position ≡ mark_text rules run (run_after run position) (is_marked marks position) position event
     stands = rw at refl

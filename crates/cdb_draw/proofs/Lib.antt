@@ -3,6 +3,5 @@ pub mod Growing
 pub mod Sending
 pub mod Parted
 pub mod Drawing
-pub mod Bounded
 pub mod Ended
 pub mod LastMarks

@@ -1,4 +1,4 @@
--- Texts of places that are put one after the other.
+-- Texts of positions that are put one after the other.
 use Rattle.std.proofs.Common.{◌≡◌, ℕ, zero, suc, ◌+◌, ◌<◌, ◌≤◌, List, [], ◌∷◌, ◌++◌, length, get_or, take, Option, Result, Ok, Err, refl, sym, ap, subst, ◌∙◌, arith}
 use Rattle.std.specs.List.{flat_map, range_with_len}
 use Rattle.std.proofs.lemmas.List.FromFn.{get_or-range_with_len, length-range_with_len}
@@ -14,7 +14,7 @@ take_range a (suc i) zero h = absurd (omega arith)
 take_range a (suc i) (suc n) h = ap (λ (xs : List ℕ). a ∷ xs) (take_range (a + 1) i n (omega arith))
 
 module _ {W : Type 0} (contents : W → Option (List ℕ)) (failures : W → ℕ) where
-  -- the text of one place more
+  -- the text of one position more
   pub put_one : (texts : ℕ → List ℕ) (old now new : W) (held middle left : List ℕ) (i : ℕ) → IsPut contents failures old held now middle (flat_map texts (range_with_len 0 i)) → IsPut contents failures now middle new left (texts i)
       → IsPut contents failures old held new left (flat_map texts (range_with_len 0 (i + 1)))
   put_one texts old now new held middle left i a b =
@@ -22,7 +22,7 @@ module _ {W : Type 0} (contents : W → Option (List ℕ)) (failures : W → ℕ
       subst (IsPut contents failures old held new left) (sym (each_more texts 0 i ∙ ap (λ (k : ℕ). flat_map texts (range_with_len 0 i) ++ texts k) here))
       (put_more contents failures old now new held middle left (flat_map texts (range_with_len 0 i)) (texts i) a b)
 
-  -- the text of one place is cut short
+  -- the text of one position is cut short
   pub cut_one : (A : Type 0) (why : OutputFault) (texts : ℕ → List ℕ) (old now new : W) (held middle left : List ℕ) (n i : ℕ) → i < n → IsPut contents failures old held now middle (flat_map texts (range_with_len 0 i)) → Puts contents failures {A = A} (Err why) now middle new left (texts i)
       → Puts contents failures {A = A} (Err why) old held new left (flat_map texts (range_with_len 0 n))
   cut_one A why texts old now new held middle left n i below a b =

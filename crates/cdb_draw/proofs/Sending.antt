@@ -10,10 +10,10 @@ use Rattle.cdb_base.specs.declared.event.Event.TheVariants.{Step, Lost}
 use Rattle.cdb_base.specs.declared.event.Kind.TheVariants.{Query, Send, Recv, Read, Write, Local, Learn, Crash}
 use Rattle.cdb_base.specs.declared.name.MsgName.{MsgName}
 use Rattle.cdb_message.specs.Mail.{message_name}
-use Rattle.cdb_draw.specs.Places.{is_send_of, sent_at}
+use Rattle.cdb_draw.specs.Positions.{is_send_of, sent_at}
 use Rattle.cdb_draw.specs.Sends.{AreSendsOf, kept_or_noted, message_code, message_of}
 
--- ---- the first place at which a test holds
+-- ---- the first position at which a test holds
 
 one_case : (b t : Bool) (i k : ℕ) (rest more : Option ℕ) → more ≡ kept_or_noted rest t k → cond b (Some i) more ≡ kept_or_noted (cond b (Some i) rest) t k
 one_case true t i k rest more h = refl
@@ -59,18 +59,18 @@ is_send name (Step p k Learn) = refl
 is_send name (Step p k Crash) = refl
 is_send name (Lost copy) = refl
 
-pub with_send : {A E S : Type 0} (result : Result A E) (old new : HashMap ℕ ℕ S) (event : Event) (name : MsgName) (code place : ℕ) → message_of event ≡ Some name → code ≡ message_code name.s name.m → name.m < 65536
-    → OnOk result ((q : ℕ) → get nat_eq new q ≡ kept_or_noted (get nat_eq old q) (nat_eq code q) place)
-    → OnOk result ((before : List Event) → length before ≡ place → AreSendsOf old before → AreSendsOf new (before ++ event ∷ []))
+pub with_send : {A E S : Type 0} (result : Result A E) (old new : HashMap ℕ ℕ S) (event : Event) (name : MsgName) (code position : ℕ) → message_of event ≡ Some name → code ≡ message_code name.s name.m → name.m < 65536
+    → OnOk result ((q : ℕ) → get nat_eq new q ≡ kept_or_noted (get nat_eq old q) (nat_eq code q) position)
+    → OnOk result ((before : List Event) → length before ≡ position → AreSendsOf old before → AreSendsOf new (before ++ event ∷ []))
 unfolding sends_named
-with_send (Ok done) old new event name code place is coded small noted = λ before count so s m below.
+with_send (Ok done) old new event name code position is coded small noted = λ before count so s m below.
     let other = message_name s m in
     let held = sent_at before other in
     let test = is_send_of other event in
-    noted (message_code s m) ∙ ap (λ o. kept_or_noted o (nat_eq code (message_code s m)) place) (so s m below)
-    ∙ ap (λ (b : Bool). kept_or_noted held b place) (ap (λ (n : ℕ). nat_eq n (message_code s m)) coded ∙ same_code name.s name.m s m small below ∙ sym (is_send other event ∙ ap (λ o. sends_named o other) is))
+    noted (message_code s m) ∙ ap (λ o. kept_or_noted o (nat_eq code (message_code s m)) position) (so s m below)
+    ∙ ap (λ (b : Bool). kept_or_noted held b position) (ap (λ (n : ℕ). nat_eq n (message_code s m)) coded ∙ same_code name.s name.m s m small below ∙ sym (is_send other event ∙ ap (λ o. sends_named o other) is))
     ∙ ap (λ (n : ℕ). kept_or_noted held test n) (sym count) ∙ sym (position_push (is_send_of other) before event)
-with_send (Err why) old new event name code place is coded small noted = tt
+with_send (Err why) old new event name code position is coded small noted = tt
 
 pub without_send : {S : Type 0} (table : HashMap ℕ ℕ S) (event : Event) (before : List Event) → message_of event ≡ None → AreSendsOf table before → AreSendsOf table (before ++ event ∷ [])
 unfolding sends_named

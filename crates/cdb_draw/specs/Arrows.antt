@@ -10,7 +10,7 @@ use Rattle.cdb_message.specs.Mail.{message_name}
 use Rattle.cdb_rules.specs.RunView.{RunView}
 use Rattle.cdb_setup.specs.Parts.{Parts}
 use Rattle.cdb_draw.specs.Layout.{x_of, lane_y, register_y}
-use Rattle.cdb_draw.specs.Places.{sent_at}
+use Rattle.cdb_draw.specs.Positions.{sent_at}
 
 -- how what is marked is drawn, and the rest
 unfoldable pub weight_text : Bool → List ℕ
@@ -20,24 +20,24 @@ weight_text full = if full then codes "full" else codes "pale"
 unfoldable pub point_text : ℕ → ℕ → List ℕ
 point_text x y = decimal x ++ codes "," ++ decimal y
 
--- the event at that place, on the lane of process p
+-- the event at that position, on the lane of process p
 abbrev pub spot_text : Parts → ℕ → ℕ → List ℕ
-spot_text setup place p = point_text (x_of place) (lane_y setup p)
+spot_text setup position p = point_text (x_of position) (lane_y setup p)
 
 -- the same 8 mm below the lane
 abbrev pub below_text : Parts → ℕ → ℕ → List ℕ
-below_text setup place p = point_text (x_of place) (lane_y setup p + 32)
+below_text setup position p = point_text (x_of position) (lane_y setup p + 32)
 
 -- to another lane: straight
 unfoldable pub straight_text : Parts → ℕ → ℕ → List ℕ
 straight_text setup j p = codes "L" ++ spot_text setup j p
 
--- from place i to place j of one lane: below it
+-- from position i to position j of one lane: below it
 unfoldable pub bend_text : Parts → ℕ → ℕ → ℕ → List ℕ
 bend_text setup i j p =
     codes "C" ++ below_text setup i p ++ codes " " ++ below_text setup j p ++ codes " " ++ spot_text setup j p
 
--- from place i on the lane of process s to place j on that of process p
+-- from position i on the lane of process s to position j on that of process p
 abbrev pub way_text : Parts → ℕ → ℕ → ℕ → ℕ → List ℕ
 way_text setup i s j p = if nat_eq s p then bend_text setup i j p else straight_text setup j p
 
@@ -51,7 +51,7 @@ arrow_close = codes "'/>\n"
 abbrev pub arrow_text : List ℕ → Bool → List ℕ → List ℕ
 arrow_text class full path = arrow_open class full ++ path ++ arrow_close
 
--- the arrow of a copy, from the place where its message was sent by s to place j on the lane of process p
+-- the arrow of a copy, from the position where its message was sent by s to position j on the lane of process p
 abbrev pub copy_arrow : Parts → List ℕ → Bool → Option ℕ → ℕ → ℕ → ℕ → List ℕ
 copy_arrow setup class full None s j p = []
 copy_arrow setup class full (Some i) s j p =
@@ -64,20 +64,20 @@ upright_text x from to = point_text x from ++ codes "V" ++ decimal to
 -- the arrow to a step of process p of that kind: to a receive from its send, to a read from the register; and of a
 -- write to the register
 abbrev pub step_arrow : RunView → Bool → ℕ → ℕ → Kind → List ℕ
-step_arrow run full place p (Recv s m) =
-    copy_arrow run.setup (codes "copy") full (sent_at run.history (message_name s m)) s place p
-step_arrow run full place p (Read register) =
-    arrow_text (codes "read") full (upright_text (x_of place) (register_y run.setup register) (lane_y run.setup p))
-step_arrow run full place p (Write register) =
-    arrow_text (codes "write") full (upright_text (x_of place) (lane_y run.setup p) (register_y run.setup register))
-step_arrow run full place p kind = []
+step_arrow run full position p (Recv s m) =
+    copy_arrow run.setup (codes "copy") full (sent_at run.history (message_name s m)) s position p
+step_arrow run full position p (Read register) =
+    arrow_text (codes "read") full (upright_text (x_of position) (register_y run.setup register) (lane_y run.setup p))
+step_arrow run full position p (Write register) =
+    arrow_text (codes "write") full (upright_text (x_of position) (lane_y run.setup p) (register_y run.setup register))
+step_arrow run full position p kind = []
 
--- the arrow of the event at that place; that of a lost copy ends on the lane of its receiver, where its cross stands
+-- the arrow of the event at that position; that of a lost copy ends on the lane of its receiver, where its cross stands
 abbrev pub event_arrow : RunView → Bool → ℕ → Event → List ℕ
-event_arrow run full place (Step p k kind) = step_arrow run full place p kind
-event_arrow run full place (Lost copy) =
-    copy_arrow run.setup (codes "lost") full (sent_at run.history copy.msg) (copy.msg).s place copy.to
+event_arrow run full position (Step p k kind) = step_arrow run full position p kind
+event_arrow run full position (Lost copy) =
+    copy_arrow run.setup (codes "lost") full (sent_at run.history copy.msg) (copy.msg).s position copy.to
 
 abbrev pub arrow_at : RunView → List Bool → ℕ → List ℕ
-arrow_at run marks place =
-    option_map_or (event_arrow run (is_marked marks place) place) (slice_get run.history place) []
+arrow_at run marks position =
+    option_map_or (event_arrow run (is_marked marks position) position) (slice_get run.history position) []

@@ -13,11 +13,11 @@ use Rattle.cdb_setup.specs.Parts.{Parts}
 use Rattle.cdb_draw.specs.Picture.{IsPicture}
 use Rattle.cdb_draw.specs.declared.script.StepAsked.{StepAsked}
 
--- the place, from 0, of the step that is asked for; none where none is
-abbrev pub IsPlaceFor : List Event → Option StepAsked → Option ℕ → Type 0
-IsPlaceFor history None None = Unit {0}
-IsPlaceFor history (Some step) (Some place) = IsStepAsked history step.p step.k place
-IsPlaceFor history step place = ⊥
+-- the position, from 0, of the step that is asked for; none where none is
+abbrev pub IsPositionFor : List Event → Option StepAsked → Option ℕ → Type 0
+IsPositionFor history None None = Unit {0}
+IsPositionFor history (Some step) (Some position) = IsStepAsked history step.p step.k position
+IsPositionFor history step position = ⊥
 
 -- a step is asked for, and none such stands
 abbrev pub IsMissing : List Event → Option StepAsked → Type 0
@@ -27,7 +27,7 @@ IsMissing history (Some step) = StandsNoStep history step.p step.k
 -- the text is the picture of the run, in which what led to the step is in full
 abbrev pub IsPictureFor : (Parts → Rules) → RunView → Option StepAsked → List ℕ → Type 0
 IsPictureFor rules run step text =
-    (place : Option ℕ) × IsPlaceFor run.history step place × IsPicture rules run place text
+    (position : Option ℕ) × IsPositionFor run.history step position × IsPicture rules run position text
 
 -- the text is the picture of the run that the script leaves
 abbrev pub Draws : (Parts → Rules) → List ℕ → Option StepAsked → Option (List ℕ) → Option (List ℕ) → List ℕ → Type 0

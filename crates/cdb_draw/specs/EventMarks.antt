@@ -89,12 +89,12 @@ title_text whole = codes "<title>" ++ whole ++ codes "</title>"
 unfoldable pub mark_close : List ℕ
 mark_close = codes "</g>\n"
 
--- the mark of an event at that place, where the run stands so after it
+-- the mark of an event at that position, where the run stands so after it
 abbrev pub mark_text : (Parts → Rules) → RunView → RunView → Bool → ℕ → Event → List ℕ
-mark_text rules run after full place event =
-    open_text full (spot_text run.setup place (lane_of event)) ++ title_text (whole_text rules run after event)
+mark_text rules run after full position event =
+    open_text full (spot_text run.setup position (lane_of event)) ++ title_text (whole_text rules run after event)
     ++ decided_text (decides (rules after.setup) after.history event) ++ body_text event ++ mark_close
 
 abbrev pub mark_at : (Parts → Rules) → RunView → List Bool → ℕ → List ℕ
-mark_at rules run marks place =
-    option_map_or (mark_text rules run (run_after run place) (is_marked marks place) place) (slice_get run.history place) []
+mark_at rules run marks position =
+    option_map_or (mark_text rules run (run_after run position) (is_marked marks position) position) (slice_get run.history position) []

@@ -2,7 +2,7 @@
 use Rattle.std.specs.Prelude.{ℕ, List, [], ◌++◌, codes, decimal, length, unwrap_or}
 use Rattle.std.specs.List.{flat_map, range_with_len}
 use Rattle.std.specs.Option.{option_map_or}
-use Rattle.cdb_base.specs.Places.{nth}
+use Rattle.cdb_base.specs.Positions.{nth}
 use Rattle.cdb_base.specs.declared.event.Event.{Event}
 use Rattle.cdb_base.specs.declared.register.Reg.{Reg}
 use Rattle.cdb_base.specs.declared.register.Reg.TheVariants.{R, Dec}
@@ -12,7 +12,7 @@ use Rattle.cdb_setup.specs.declared.setup.Algorithm.{Algorithm}
 use Rattle.cdb_setup.specs.declared.setup.Algorithm.TheVariants.{Leader, Alpha}
 use Rattle.cdb_base.specs.NameTexts.{register_text}
 use Rattle.cdb_draw.specs.Layout.{x_of, end_x, lane_y, register_y}
-use Rattle.cdb_draw.specs.Places.{crashed_at}
+use Rattle.cdb_draw.specs.Positions.{crashed_at}
 
 -- the line of a lane: to its crash, or else to the edge
 unfoldable pub line_text : ℕ → List ℕ

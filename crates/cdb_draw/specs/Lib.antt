@@ -1,6 +1,6 @@
 -- ---- what the public contracts name
 pub mod Layout
-pub mod Places
+pub mod Positions
 pub mod Lanes
 pub mod Arrows
 pub mod EventMarks

@@ -49,9 +49,9 @@ abbrev pub head_text : RunView → List ℕ
 head_text run =
     document_text (width (length run.history)) (height run.setup) run.setup.algorithm run.setup.quorum
 
--- the places of a history
-abbrev pub places : List Event → List ℕ
-places history = range_with_len 0 (length history)
+-- the positions of a history
+abbrev pub positions : List Event → List ℕ
+positions history = range_with_len 0 (length history)
 
 unfoldable pub foot : List ℕ
 foot = codes "</svg>\n"
@@ -61,16 +61,16 @@ foot = codes "</svg>\n"
 abbrev pub picture_text : (Parts → Rules) → RunView → List Bool → List ℕ
 picture_text rules run marks =
     head_text run ++ lanes_text run
-    ++ flat_map (arrow_at run marks) (places run.history)
-    ++ flat_map (mark_at rules run marks) (places run.history)
+    ++ flat_map (arrow_at run marks) (positions run.history)
+    ++ flat_map (mark_at rules run marks) (positions run.history)
     ++ foot
 
--- everything is in full, or exactly what led to the event at that place
+-- everything is in full, or exactly what led to the event at that position
 abbrev pub AreInFull : Option ℕ → List Event → List Bool → Type 0
 AreInFull None history marks = marks ≡ replicate (length history) true
-AreInFull (Some place) history marks = MarkPast history place marks
+AreInFull (Some position) history marks = MarkPast history position marks
 
--- the text is the picture of the run; with a place, that of what led to the event there
+-- the text is the picture of the run; with a position, that of what led to the event there
 abbrev pub IsPicture : (Parts → Rules) → RunView → Option ℕ → List ℕ → Type 0
-IsPicture rules run place text =
-    (marks : List Bool) × AreInFull place run.history marks × (text ≡ picture_text rules run marks)
+IsPicture rules run position text =
+    (marks : List Bool) × AreInFull position run.history marks × (text ≡ picture_text rules run marks)

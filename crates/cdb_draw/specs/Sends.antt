@@ -1,4 +1,4 @@
--- What the code keeps for itself: a table of the places at which messages were sent.
+-- What the code keeps for itself: a table of the positions at which messages were sent.
 use Rattle.std.specs.HashMap.{HashMap, get}
 use Rattle.std.specs.Prelude.{◌≡◌, ℕ, ◌+◌, ◌*◌, ◌<◌, Bool, List, Option, None, Some, nat_eq, if◌then◌else◌}
 use Rattle.cdb_base.specs.declared.event.Event.{Event}
@@ -6,7 +6,7 @@ use Rattle.cdb_base.specs.declared.event.Event.TheVariants.{Step}
 use Rattle.cdb_base.specs.declared.event.Kind.TheVariants.{Send}
 use Rattle.cdb_base.specs.declared.name.MsgName.{MsgName}
 use Rattle.cdb_message.specs.Mail.{message_name}
-use Rattle.cdb_draw.specs.Places.{sent_at}
+use Rattle.cdb_draw.specs.Positions.{sent_at}
 
 -- the number of a name
 abbrev pub message_code : ℕ → ℕ → ℕ
@@ -17,12 +17,12 @@ abbrev pub message_of : Event → Option MsgName
 message_of (Step p k (Send m)) = Some (message_name p m)
 message_of _ = None
 
--- what was noted before, or else the place where the test holds
+-- what was noted before, or else the position where the test holds
 abbrev pub kept_or_noted : Option ℕ → Bool → ℕ → Option ℕ
-kept_or_noted (Some kept) holds place = Some kept
-kept_or_noted None holds place = if holds then Some place else None
+kept_or_noted (Some kept) holds position = Some kept
+kept_or_noted None holds position = if holds then Some position else None
 
--- the table has the place of each message's send
+-- the table has the position of each message's send
 abbrev pub AreSendsOf : {S : Type 0} → HashMap ℕ ℕ S → List Event → Type 0
 AreSendsOf sends history =
     (s m : ℕ) → m < 65536 → get nat_eq sends (message_code s m) ≡ sent_at history (message_name s m)

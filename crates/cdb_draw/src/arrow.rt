@@ -3,15 +3,15 @@
 ghost use Rattle.std.specs.Prelude.{◌≡◌, ◌≤◌, length, codes, Some};
 ghost use Rattle.cdb_draw.specs.Arrows.{arrow_close, arrow_open, arrow_text, below_text, bend_text, copy_arrow, event_arrow, point_text, spot_text, step_arrow, straight_text, upright_text, way_text, weight_text};
 ghost use Rattle.cdb_draw.specs.Layout.{lane_y, register_y, x_of};
-ghost use Rattle.cdb_draw.specs.Places.{sent_at};
+ghost use Rattle.cdb_draw.specs.Positions.{sent_at};
 ghost use Rattle.cdb_draw.specs.Sends.{AreSendsOf};
 ghost use Rattle.cdb_text.specs.Pushes.{Pushes};
 
 use crate::layout::{lane_y, register_y, x_of};
 use crate::piece::{push, push_number};
-use crate::sends::{Sends, place_of_send};
-use cdb_any_run::RunOfSetup;
+use crate::sends::{Sends, position_of_send};
 use cdb_base::{Event, Kind, MsgName, Proc, Reg};
+use cdb_rules::Chronicle;
 use cdb_setup::Setup;
 use std::alloc::AllocError;
 
@@ -36,25 +36,25 @@ fn push_point(text: &mut String, x: usize, y: usize) -> Result<(), AllocError>
     push_number(text, y)
 }
 
-/// Adds the point of an event at a place, from 0, on the lane of a process.
+/// Adds the point of an event at a position, from 0, on the lane of a process.
 pub(crate) fn push_spot(
     text: &mut String,
     setup: &Setup,
-    place: usize,
+    position: usize,
     p: Proc,
 ) -> Result<(), AllocError>
-    requires { place ≤ 999999 }
-    ensures { Pushes result text.old text.new (spot_text setup.now place p) }
+    requires { position ≤ 999999 }
+    ensures { Pushes result text.old text.new (spot_text setup.now position p) }
 {
-    push_point(text, x_of(place), lane_y(setup, p))
+    push_point(text, x_of(position), lane_y(setup, p))
 }
 
 /// Adds the point below it.
-fn push_below(text: &mut String, setup: &Setup, place: usize, p: Proc) -> Result<(), AllocError>
-    requires { place ≤ 999999 }
-    ensures { Pushes result text.old text.new (below_text setup.now place p) }
+fn push_below(text: &mut String, setup: &Setup, position: usize, p: Proc) -> Result<(), AllocError>
+    requires { position ≤ 999999 }
+    ensures { Pushes result text.old text.new (below_text setup.now position p) }
 {
-    push_point(text, x_of(place), lane_y(setup, p) + 32)
+    push_point(text, x_of(position), lane_y(setup, p) + 32)
 }
 
 /// Adds the way of a copy to another lane.
@@ -66,7 +66,7 @@ fn push_straight(text: &mut String, setup: &Setup, j: usize, p: Proc) -> Result<
     push_spot(text, setup, j, p)
 }
 
-/// Adds the way of a copy for its sender, from place `i` to place `j` on one lane.
+/// Adds the way of a copy for its sender, from position `i` to position `j` on one lane.
 fn push_bend(
     text: &mut String,
     setup: &Setup,
@@ -87,7 +87,7 @@ fn push_bend(
     push_spot(text, setup, j, p)
 }
 
-/// Adds the way of a copy, from place `i` on the lane of process `s` to place `j` on that of process `p`.
+/// Adds the way of a copy, from position `i` on the lane of process `s` to position `j` on that of process `p`.
 fn push_way(
     text: &mut String,
     setup: &Setup,
@@ -135,7 +135,7 @@ fn push_up(text: &mut String, x: usize, from: usize, to: usize) -> Result<(), Al
     push_number(text, to)
 }
 
-/// Adds the arrow of a copy, from the place where its message was sent by process `s` to place `j` on the lane
+/// Adds the arrow of a copy, from the position where its message was sent by process `s` to position `j` on the lane
 /// of process `p`.
 fn push_copy(
     text: &mut String,
@@ -159,44 +159,44 @@ fn push_copy(
     push_close(text)
 }
 
-/// Adds an arrow up or down at a place, from one y to another.
+/// Adds an arrow up or down at a position, from one y to another.
 fn push_upright(
     text: &mut String,
     class: &str,
     full: bool,
-    place: usize,
+    position: usize,
     from: usize,
     to: usize,
 ) -> Result<(), AllocError>
-    requires { place ≤ 999999 }
+    requires { position ≤ 999999 }
     ensures { Pushes result text.old text.new
-        (arrow_text class.now full (upright_text (x_of place) from to)) }
+        (arrow_text class.now full (upright_text (x_of position) from to)) }
 {
     push_open(text, class, full)?;
-    push_up(text, x_of(place), from, to)?;
+    push_up(text, x_of(position), from, to)?;
     push_close(text)
 }
 
-/// Adds the arrow of a copy to an event at a place, where its message was sent.
+/// Adds the arrow of a copy to an event at a position, where its message was sent.
 fn push_from_send(
     text: &mut String,
-    run: &RunOfSetup,
+    run: &Chronicle,
     sends: &Sends,
     class: &str,
     full: bool,
     name: MsgName,
-    place: usize,
+    position: usize,
     p: Proc,
 ) -> Result<(), AllocError>
     requires few { length run.now.history ≤ 999999 }
-    requires place { place ≤ 999999 }
+    requires position { position ≤ 999999 }
     requires sends { AreSendsOf sends.now run.now.history }
     ensures { Pushes result text.old text.new
-        (copy_arrow run.now.setup class.now full (sent_at run.now.history name) name.s place p) }
+        (copy_arrow run.now.setup class.now full (sent_at run.now.history name) name.s position p) }
 {
     let sender = name.s;
-    match place_of_send(sends, name) {
-        Some(i) => push_copy(text, run.any().setup(), class, full, i, sender, place, p),
+    match position_of_send(sends, name) {
+        Some(i) => push_copy(text, run.setup(), class, full, i, sender, position, p),
         None => Ok(()),
     }
 }
@@ -206,16 +206,16 @@ fn push_read(
     text: &mut String,
     setup: &Setup,
     full: bool,
-    place: usize,
+    position: usize,
     p: Proc,
     register: Reg,
 ) -> Result<(), AllocError>
-    requires { place ≤ 999999 }
+    requires { position ≤ 999999 }
     ensures { Pushes result text.old text.new (arrow_text (codes "read") full
-        (upright_text (x_of place) (register_y setup.now register) (lane_y setup.now p))) }
+        (upright_text (x_of position) (register_y setup.now register) (lane_y setup.now p))) }
 {
     let from = register_y(setup, register);
-    push_upright(text, "read", full, place, from, lane_y(setup, p))
+    push_upright(text, "read", full, position, from, lane_y(setup, p))
 }
 
 /// Adds the arrow from a write to the register.
@@ -223,38 +223,38 @@ fn push_write(
     text: &mut String,
     setup: &Setup,
     full: bool,
-    place: usize,
+    position: usize,
     p: Proc,
     register: Reg,
 ) -> Result<(), AllocError>
-    requires { place ≤ 999999 }
+    requires { position ≤ 999999 }
     ensures { Pushes result text.old text.new (arrow_text (codes "write") full
-        (upright_text (x_of place) (lane_y setup.now p) (register_y setup.now register))) }
+        (upright_text (x_of position) (lane_y setup.now p) (register_y setup.now register))) }
 {
     push_upright(
         text,
         "write",
         full,
-        place,
+        position,
         lane_y(setup, p),
         register_y(setup, register),
     )
 }
 
-/// Adds the arrow of a step of that kind at a place.
+/// Adds the arrow of a step of that kind at a position.
 fn push_step_arrow(
     text: &mut String,
-    run: &RunOfSetup,
+    run: &Chronicle,
     sends: &Sends,
     full: bool,
-    place: usize,
+    position: usize,
     p: Proc,
     kind: Kind,
 ) -> Result<(), AllocError>
     requires few { length run.now.history ≤ 999999 }
-    requires place { place ≤ 999999 }
+    requires position { position ≤ 999999 }
     requires sends { AreSendsOf sends.now run.now.history }
-    ensures { Pushes result text.old text.new (step_arrow run.now full place p kind) }
+    ensures { Pushes result text.old text.new (step_arrow run.now full position p kind) }
 {
     match kind {
         Kind::Recv(s, m) => push_from_send(
@@ -264,33 +264,33 @@ fn push_step_arrow(
             "copy",
             full,
             MsgName { s, m },
-            place,
+            position,
             p,
         ),
-        Kind::Read(register) => push_read(text, run.any().setup(), full, place, p, register),
-        Kind::Write(register) => push_write(text, run.any().setup(), full, place, p, register),
+        Kind::Read(register) => push_read(text, run.setup(), full, position, p, register),
+        Kind::Write(register) => push_write(text, run.setup(), full, position, p, register),
         Kind::Query(_) | Kind::Send(_) | Kind::Local | Kind::Learn | Kind::Crash => Ok(()),
     }
 }
 
-/// Adds the arrow of the event at a place, from 0, where it has one. Only out of memory is an error.
+/// Adds the arrow of the event at a position, from 0, where it has one. Only out of memory is an error.
 pub(crate) fn push_arrow(
     text: &mut String,
-    run: &RunOfSetup,
+    run: &Chronicle,
     sends: &Sends,
     full: bool,
-    place: usize,
+    position: usize,
     event: &Event,
 ) -> Result<(), AllocError>
     requires few { length run.now.history ≤ 999999 }
-    requires place { place ≤ 999999 }
+    requires position { position ≤ 999999 }
     requires sends { AreSendsOf sends.now run.now.history }
-    ensures { Pushes result text.old text.new (event_arrow run.now full place event.now) }
+    ensures { Pushes result text.old text.new (event_arrow run.now full position event.now) }
 {
     match *event {
-        Event::Step { p, kind, .. } => push_step_arrow(text, run, sends, full, place, p, kind),
+        Event::Step { p, kind, .. } => push_step_arrow(text, run, sends, full, position, p, kind),
         Event::Lost(copy) => push_from_send(
-            text, run, sends, "lost", full, copy.msg, place, copy.to,
+            text, run, sends, "lost", full, copy.msg, position, copy.to,
         ),
     }
 }

@@ -8,9 +8,9 @@ ghost use Rattle.cdb_text.specs.Pushes.{Pushes};
 use crate::layout::{end_x, lane_y, register_y, x_of};
 use crate::piece::{push, push_number, push_process, push_register, push_val};
 use crate::sends::crashed_at;
-use cdb_any_run::RunOfSetup;
 use cdb_base::{Proc, Reg, Val};
 use cdb_causal::History;
+use cdb_rules::Chronicle;
 use cdb_setup::Algorithm;
 use std::alloc::AllocError;
 
@@ -29,7 +29,7 @@ fn lane_end(history: &History, p: Proc) -> usize
     ensures { result ≡ lane_end history.now p }
 {
     match crashed_at(history, p) {
-        Some(place) => x_of(place),
+        Some(position) => x_of(position),
         None => end_x(history.len()),
     }
 }
@@ -82,46 +82,46 @@ fn push_register_text(
 }
 
 /// Adds the lane of a process.
-fn push_process_lane(text: &mut String, run: &RunOfSetup, p: Proc) -> Result<(), AllocError>
+fn push_process_lane(text: &mut String, run: &Chronicle, p: Proc) -> Result<(), AllocError>
     requires few { length run.now.history ≤ 999999 }
     requires among { p ≤ run.now.setup.processes }
     ensures { Pushes result text.old text.new (process_lane run.now p) }
 {
-    let setup = run.any().setup();
-    let end = lane_end(run.any().history(), p);
+    let setup = run.setup();
+    let end = lane_end(run.history(), p);
     push_process_text(text, lane_y(setup, p), p, setup.input(p), end)
 }
 
 /// Adds the lane of a register.
-fn push_register_lane(text: &mut String, run: &RunOfSetup, register: Reg) -> Result<(), AllocError>
+fn push_register_lane(text: &mut String, run: &Chronicle, register: Reg) -> Result<(), AllocError>
     requires { length run.now.history ≤ 999999 }
     ensures { Pushes result text.old text.new (register_lane run.now register) }
 {
     let again = register;
-    let y = register_y(run.any().setup(), again);
-    let history = run.any().history();
+    let y = register_y(run.setup(), again);
+    let history = run.history();
     push_register_text(text, y, register, end_x(history.len()))
 }
 
 /// Adds the lanes of the processes' registers.
-fn push_own_registers(text: &mut String, run: &RunOfSetup) -> Result<(), AllocError>
+fn push_own_registers(text: &mut String, run: &Chronicle) -> Result<(), AllocError>
     requires { length run.now.history ≤ 999999 }
     ensures { Pushes result text.old text.new
         (flat_map (own_register_lane run.now) (range_with_len 1 run.now.setup.processes)) }
 {
-    for i in 0..run.any().setup().n() {
+    for i in 0..run.setup().n() {
         push_register_lane(text, run, Reg::R(Proc::new(i + 1)))?;
     }
     Ok(())
 }
 
 /// Adds the lanes of the registers, of which Alpha alone has some.
-fn push_register_lanes(text: &mut String, run: &RunOfSetup) -> Result<(), AllocError>
+fn push_register_lanes(text: &mut String, run: &Chronicle) -> Result<(), AllocError>
     requires { length run.now.history ≤ 999999 }
     ensures { Pushes result text.old text.new
         (register_lanes_by run.now.setup.algorithm run.now) }
 {
-    match run.any().setup().algorithm() {
+    match run.setup().algorithm() {
         Algorithm::Leader => Ok(()),
         Algorithm::Alpha => {
             push_own_registers(text, run)?;
@@ -131,19 +131,19 @@ fn push_register_lanes(text: &mut String, run: &RunOfSetup) -> Result<(), AllocE
 }
 
 /// Adds the lanes of the processes.
-fn push_process_lanes(text: &mut String, run: &RunOfSetup) -> Result<(), AllocError>
+fn push_process_lanes(text: &mut String, run: &Chronicle) -> Result<(), AllocError>
     requires { length run.now.history ≤ 999999 }
     ensures { Pushes result text.old text.new
         (flat_map (process_lane run.now) (range_with_len 1 run.now.setup.processes)) }
 {
-    for i in 0..run.any().setup().n() {
+    for i in 0..run.setup().n() {
         push_process_lane(text, run, Proc::new(i + 1))?;
     }
     Ok(())
 }
 
 /// Adds all lanes. Only out of memory is an error.
-pub(crate) fn push_lanes(text: &mut String, run: &RunOfSetup) -> Result<(), AllocError>
+pub(crate) fn push_lanes(text: &mut String, run: &Chronicle) -> Result<(), AllocError>
     requires { length run.now.history ≤ 999999 }
     ensures { Pushes result text.old text.new (lanes_text run.now) }
 {

@@ -6,12 +6,12 @@ ghost use Rattle.cdb_draw.specs.Layout.{end_x, height, lane_gap, lane_y, registe
 use cdb_base::{Proc, Reg};
 use cdb_setup::{Algorithm, Setup};
 
-/// The event at a place of the history, from 0.
-pub(crate) fn x_of(place: usize) -> usize
-    requires { place ≤ 999999 }
-    ensures { result ≡ x_of place }
+/// The event at a position of the history, from 0.
+pub(crate) fn x_of(position: usize) -> usize
+    requires { position ≤ 999999 }
+    ensures { result ≡ x_of position }
 {
-    84 + 24 * place
+    84 + 24 * position
 }
 
 /// Where a lane ends that no crash ends.

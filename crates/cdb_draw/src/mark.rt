@@ -5,14 +5,13 @@ ghost use Rattle.cdb_control.specs.Commands.{decides};
 ghost use Rattle.cdb_draw.specs.Arrows.{spot_text};
 ghost use Rattle.cdb_draw.specs.EventMarks.{body_text, decided_text, decision_text, kind_with, kind_word, lane_of, mark_close, mark_text, open_text, row_close, row_open, row_text, shape_text, title_text, to_text};
 ghost use Rattle.cdb_explain.specs.Explanations.{whole_text};
-ghost use Rattle.cdb_rules.specs.Algorithms.{rules};
 ghost use Rattle.cdb_base.specs.NameTexts.{message_text, step_text};
 ghost use Rattle.cdb_text.specs.Pushes.{Pushes};
 
 use crate::arrow::{push_spot, push_weight};
 use crate::piece::{push, push_message, push_number, push_process, push_register, push_val};
-use cdb_any_run::RunOfSetup;
 use cdb_base::{CopyName, Event, Kind, MsgName, Proc, Val};
+use cdb_control::Runs;
 use cdb_explain::{decision_by, push_whole};
 use cdb_setup::Setup;
 use std::alloc::{AllocError, Global};
@@ -216,21 +215,21 @@ fn lane_of(event: &Event) -> Proc
     }
 }
 
-/// Begins the mark of an event at a place, from 0.
+/// Begins the mark of an event at a position, from 0.
 fn push_open(
     text: &mut String,
     setup: &Setup,
     full: bool,
-    place: usize,
+    position: usize,
     p: Proc,
 ) -> Result<(), AllocError>
-    requires { place ≤ 999999 }
-    ensures { Pushes result text.old text.new (open_text full (spot_text setup.now place p)) }
+    requires { position ≤ 999999 }
+    ensures { Pushes result text.old text.new (open_text full (spot_text setup.now position p)) }
 {
     push(text, "<g class='")?;
     push_weight(text, full)?;
     push(text, "' transform='translate(")?;
-    push_spot(text, setup, place, p)?;
+    push_spot(text, setup, position, p)?;
     push(text, ")'>")
 }
 
@@ -243,34 +242,34 @@ fn push_close(text: &mut String) -> Result<(), AllocError>
 }
 
 /// Adds the whole text of the last event of a run, which is shown where a pointer rests on the mark.
-fn push_title(
+fn push_title<T: Runs>(
     alloc: Global,
     text: &mut String,
-    run: &RunOfSetup,
+    run: &T,
     event: &Event,
 ) -> Result<(), AllocError>
     ensures { Pushes result text.old text.new
-        (title_text (whole_text rules run.now run.now event.now)) }
+        (title_text (whole_text T.rules (T.run run.now) (T.run run.now) event.now)) }
 {
     push(text, "<title>")?;
     push_whole(alloc, text, run, event)?;
     push(text, "</title>")
 }
 
-/// Adds the mark of the last event of a run, which stands at a place, from 0. Only out of memory is an error.
-pub(crate) fn push_mark(
+/// Adds the mark of the last event of a run, which stands at a position, from 0. Only out of memory is an error.
+pub(crate) fn push_mark<T: Runs>(
     alloc: Global,
     text: &mut String,
-    run: &RunOfSetup,
+    run: &T,
     full: bool,
-    place: usize,
+    position: usize,
     event: &Event,
 ) -> Result<(), AllocError>
-    requires { place ≤ 999999 }
+    requires { position ≤ 999999 }
     ensures { Pushes result text.old text.new
-        (mark_text rules run.now run.now full place event.now) }
+        (mark_text T.rules (T.run run.now) (T.run run.now) full position event.now) }
 {
-    push_open(text, run.any().setup(), full, place, lane_of(event))?;
+    push_open(text, run.setup(), full, position, lane_of(event))?;
     push_title(alloc, text, run, event)?;
     push_decided(text, decision_by(run, event))?;
     push_body(text, event)?;

@@ -5,11 +5,11 @@ ghost use Rattle.std.specs.Prelude.{◌≡◌, ◌<◌, ◌≤◌, ◌++◌, len
 ghost use Rattle.cdb_draw.specs.Arrows.{arrow_at};
 ghost use Rattle.cdb_draw.specs.EventMarks.{mark_at};
 ghost use Rattle.cdb_draw.specs.Lanes.{lanes_text};
-ghost use Rattle.cdb_draw.specs.Picture.{algorithm_text, document_text, foot, head_text, heading_text, namespace_text, picture_text, places, shapes_text, size_text, style_text};
+ghost use Rattle.cdb_draw.specs.Picture.{algorithm_text, document_text, foot, head_text, heading_text, namespace_text, picture_text, positions, shapes_text, size_text, style_text};
 ghost use Rattle.cdb_draw.specs.Sends.{AreSendsOf};
 ghost use Rattle.cdb_explain.specs.Explanations.{run_after};
 ghost use Rattle.cdb_play.specs.Buffers.{Puts, Wrote};
-ghost use Rattle.cdb_rules.specs.Algorithms.{rules};
+ghost use Rattle.cdb_rules.specs.ByRules.{IsInOrder};
 ghost use Rattle.cdb_text.specs.Pushes.{Pushes};
 
 use crate::arrow::push_arrow;
@@ -19,9 +19,9 @@ use crate::mark::push_mark;
 use crate::piece::{push, push_number};
 use crate::sends::{Sends, sends_of};
 use crate::style::{NAMESPACE, SHAPES, STYLE};
-use cdb_any_run::RunOfSetup;
 use cdb_explain::{fresh, take_next};
 use cdb_play::{Buffer, OutputFault, Sink};
+use cdb_rules::{Chronicle, Runs};
 use cdb_setup::Algorithm;
 use std::alloc::{AllocError, Global};
 
@@ -112,18 +112,18 @@ fn push_document(
 }
 
 /// Adds what comes before the lanes.
-fn push_head(text: &mut String, run: &RunOfSetup) -> Result<(), AllocError>
+fn push_head(text: &mut String, run: &Chronicle) -> Result<(), AllocError>
     requires { length run.now.history ≤ 999999 }
     ensures { Pushes result text.old text.new (head_text run.now) }
 {
-    let setup = run.any().setup();
-    let count = run.any().history().len();
+    let setup = run.setup();
+    let count = run.history().len();
     let quorum = usize::from(setup.q());
     push_document(text, width(count), height(setup), setup.algorithm(), quorum)
 }
 
 /// Adds what comes before the arrows.
-fn push_front(text: &mut String, run: &RunOfSetup) -> Result<(), AllocError>
+fn push_front(text: &mut String, run: &Chronicle) -> Result<(), AllocError>
     requires { length run.now.history ≤ 999999 }
     ensures { Pushes result text.old text.new (head_text run.now ++ lanes_text run.now) }
 {
@@ -132,7 +132,7 @@ fn push_front(text: &mut String, run: &RunOfSetup) -> Result<(), AllocError>
 }
 
 /// The text of what comes before the arrows.
-fn front_of(alloc: Global, run: &RunOfSetup) -> Result<String, AllocError>
+fn front_of(alloc: Global, run: &Chronicle) -> Result<String, AllocError>
     requires { length run.now.history ≤ 999999 }
     ensures { IfOk result (λ text. string_bytes text ≡ head_text run.now ++ lanes_text run.now) }
 {
@@ -141,46 +141,46 @@ fn front_of(alloc: Global, run: &RunOfSetup) -> Result<String, AllocError>
     Ok(text)
 }
 
-/// The text of the arrow of the event at a place, from 0.
+/// The text of the arrow of the event at a position, from 0.
 fn arrow_of(
     alloc: Global,
-    run: &RunOfSetup,
+    run: &Chronicle,
     sends: &Sends,
     marks: &[bool],
-    place: usize,
+    position: usize,
 ) -> Result<String, AllocError>
     requires few { length run.now.history ≤ 999999 }
     requires a_mark_each { length marks.now ≡ length run.now.history }
-    requires within { place < length run.now.history }
+    requires within { position < length run.now.history }
     requires sends { AreSendsOf sends.now run.now.history }
-    ensures { IfOk result (λ text. string_bytes text ≡ arrow_at run.now marks.now place) }
+    ensures { IfOk result (λ text. string_bytes text ≡ arrow_at run.now marks.now position) }
 {
     let mut text = String::new(alloc);
-    let history = run.any().history();
-    let event = history.event(place);
-    push_arrow(&mut text, run, sends, marks[place], place, event)?;
+    let history = run.history();
+    let event = history.event(position);
+    push_arrow(&mut text, run, sends, marks[position], position, event)?;
     Ok(text)
 }
 
-/// The text of the mark of the event at a place, from 0, where `after` is the run once it had come to that event.
-fn mark_of(
+/// The text of the mark of the event at a position, from 0, where `after` is the run once it had come to that event.
+fn mark_of<T: Runs>(
     alloc: Global,
-    run: &RunOfSetup,
-    after: &RunOfSetup,
+    run: &Chronicle,
+    after: &T,
     marks: &[bool],
-    place: usize,
+    position: usize,
 ) -> Result<String, AllocError>
     requires few { length run.now.history ≤ 999999 }
     requires a_mark_each { length marks.now ≡ length run.now.history }
-    requires within { place < length run.now.history }
-    requires after { after.now ≡ run_after run.now place }
-    ensures { IfOk result (λ text. string_bytes text ≡ mark_at rules run.now marks.now place) }
+    requires within { position < length run.now.history }
+    requires after { T.run after.now ≡ run_after run.now position }
+    ensures { IfOk result (λ text. string_bytes text ≡ mark_at T.rules run.now marks.now position) }
 {
     let mut text = String::new(alloc);
-    let history = run.any().history();
+    let history = run.history();
     let _standing = history.len();
-    let event = history.event(place);
-    push_mark(alloc, &mut text, after, marks[place], place, event)?;
+    let event = history.event(position);
+    push_mark(alloc, &mut text, after, marks[position], position, event)?;
     Ok(text)
 }
 
@@ -193,31 +193,31 @@ fn put_text<W: Sink>(text: &String, buffer: &mut Buffer, out: &mut W) -> Result<
     Ok(())
 }
 
-/// Puts the arrow of the event at a place, from 0.
+/// Puts the arrow of the event at a position, from 0.
 fn put_arrow<W: Sink>(
     alloc: Global,
-    run: &RunOfSetup,
+    run: &Chronicle,
     sends: &Sends,
     marks: &[bool],
-    place: usize,
+    position: usize,
     buffer: &mut Buffer,
     out: &mut W,
 ) -> Result<(), OutputFault>
     requires few { length run.now.history ≤ 999999 }
     requires a_mark_each { length marks.now ≡ length run.now.history }
-    requires within { place < length run.now.history }
+    requires within { position < length run.now.history }
     requires sends { AreSendsOf sends.now run.now.history }
     ensures { Puts W.contents W.failures result out.old buffer.old out.new buffer.new
-        (arrow_at run.now marks.now place) }
+        (arrow_at run.now marks.now position) }
 {
-    let text = arrow_of(alloc, run, sends, marks, place)?;
+    let text = arrow_of(alloc, run, sends, marks, position)?;
     put_text(&text, buffer, out)
 }
 
 /// Puts the arrows of all events.
 fn put_arrows<W: Sink>(
     alloc: Global,
-    run: &RunOfSetup,
+    run: &Chronicle,
     marks: &[bool],
     buffer: &mut Buffer,
     out: &mut W,
@@ -225,57 +225,60 @@ fn put_arrows<W: Sink>(
     requires few { length run.now.history ≤ 999999 }
     requires a_mark_each { length marks.now ≡ length run.now.history }
     ensures { Puts W.contents W.failures result out.old buffer.old out.new buffer.new
-        (flat_map (arrow_at run.now marks.now) (places run.now.history)) }
+        (flat_map (arrow_at run.now marks.now) (positions run.now.history)) }
 {
-    let history = run.any().history();
+    let history = run.history();
     let sends = sends_of(alloc, history)?;
-    for place in 0..history.len() {
-        put_arrow(alloc, run, &sends, marks, place, buffer, out)?;
+    for position in 0..history.len() {
+        put_arrow(alloc, run, &sends, marks, position, buffer, out)?;
     }
     Ok(())
 }
 
-/// Puts the mark of the event at a place, from 0, where `after` is the run once it had come to that event.
-fn put_mark<W: Sink>(
+/// Puts the mark of the event at a position, from 0, where `after` is the run once it had come to that event.
+fn put_mark<T: Runs, W: Sink>(
     alloc: Global,
-    run: &RunOfSetup,
-    after: &RunOfSetup,
+    run: &Chronicle,
+    after: &T,
     marks: &[bool],
-    place: usize,
+    position: usize,
     buffer: &mut Buffer,
     out: &mut W,
 ) -> Result<(), OutputFault>
     requires few { length run.now.history ≤ 999999 }
     requires a_mark_each { length marks.now ≡ length run.now.history }
-    requires within { place < length run.now.history }
-    requires after { after.now ≡ run_after run.now place }
+    requires within { position < length run.now.history }
+    requires after { T.run after.now ≡ run_after run.now position }
     ensures { Puts W.contents W.failures result out.old buffer.old out.new buffer.new
-        (mark_at rules run.now marks.now place) }
+        (mark_at T.rules run.now marks.now position) }
 {
-    let text = mark_of(alloc, run, after, marks, place)?;
+    let text = mark_of(alloc, run, after, marks, position)?;
     put_text(&text, buffer, out)
 }
 
 /// Puts the marks of all events. The run is played again, event by event, and asked after each one, when that is
 /// soonest answered.
-fn put_marks<W: Sink>(
+fn put_marks<T: Runs, W: Sink>(
     alloc: Global,
-    run: &RunOfSetup,
+    run: &Chronicle,
     marks: &[bool],
     buffer: &mut Buffer,
     out: &mut W,
 ) -> Result<(), OutputFault>
+    requires valid { IsInOrder T.rules run.now }
     requires few { length run.now.history ≤ 999999 }
     requires a_mark_each { length marks.now ≡ length run.now.history }
     ensures { Puts W.contents W.failures result out.old buffer.old out.new buffer.new
-        (flat_map (mark_at rules run.now marks.now) (places run.now.history)) }
+        (flat_map (mark_at T.rules run.now marks.now) (positions run.now.history)) }
 {
-    let mut again = fresh(alloc, run)?;
-    let history = run.any().history();
-    for place in 0..history.len() {
-        let event = history.event(place);
+    let mut again = fresh::<T>(alloc, run)?;
+    // Its clause says that the parts of the setup are in range.
+    let _ranges = run.setup().n();
+    let history = run.history();
+    for position in 0..history.len() {
+        let event = history.event(position);
         take_next(alloc, &mut again, event)?;
-        put_mark(alloc, run, &again, marks, place, buffer, out)?;
+        put_mark(alloc, run, &again, marks, position, buffer, out)?;
     }
     Ok(())
 }
@@ -283,7 +286,7 @@ fn put_marks<W: Sink>(
 /// Puts what comes before the arrows.
 fn put_front<W: Sink>(
     alloc: Global,
-    run: &RunOfSetup,
+    run: &Chronicle,
     buffer: &mut Buffer,
     out: &mut W,
 ) -> Result<(), OutputFault>
@@ -305,39 +308,41 @@ fn put_foot<W: Sink>(buffer: &mut Buffer, out: &mut W) -> Result<(), OutputFault
 }
 
 /// Puts the whole picture.
-fn put_picture<W: Sink>(
+fn put_picture<T: Runs, W: Sink>(
     alloc: Global,
-    run: &RunOfSetup,
+    run: &Chronicle,
     marks: &[bool],
     buffer: &mut Buffer,
     out: &mut W,
 ) -> Result<(), OutputFault>
+    requires valid { IsInOrder T.rules run.now }
     requires few { length run.now.history ≤ 999999 }
     requires a_mark_each { length marks.now ≡ length run.now.history }
     ensures { Puts W.contents W.failures result out.old buffer.old out.new buffer.new
-        (picture_text rules run.now marks.now) }
+        (picture_text T.rules run.now marks.now) }
 {
     put_front(alloc, run, buffer, out)?;
     put_arrows(alloc, run, marks, buffer, out)?;
-    put_marks(alloc, run, marks, buffer, out)?;
+    put_marks::<T, W>(alloc, run, marks, buffer, out)?;
     put_foot(buffer, out)
 }
 
 /// Writes the picture in which the marked events are drawn in full, and the rest pale. After `Write` what was
 /// written is a beginning of the picture, and after `NoMemory` one of whole pieces of 65,536 bytes.
-pub(crate) fn write_picture<W: Sink>(
+pub(crate) fn write_picture<T: Runs, W: Sink>(
     alloc: Global,
-    run: &RunOfSetup,
+    run: &Chronicle,
     marks: &[bool],
     out: &mut W,
 ) -> Result<(), OutputFault>
+    requires valid { IsInOrder T.rules run.now }
     requires few { length run.now.history ≤ 999999 }
     requires a_mark_each { length marks.now ≡ length run.now.history }
     ensures { Wrote W.contents W.failures result out.old out.new
-        (picture_text rules run.now marks.now) }
+        (picture_text T.rules run.now marks.now) }
 {
     let mut buffer = Buffer::new(alloc)?;
-    put_picture(alloc, run, marks, &mut buffer, out)?;
+    put_picture::<T, W>(alloc, run, marks, &mut buffer, out)?;
     buffer.flush(out)?;
     Ok(())
 }

@@ -21,13 +21,6 @@ pub(crate) fn push_number(text: &mut String, number: usize) -> Result<(), AllocE
     write!(text, "{number}")
 }
 
-/// Adds the number of a step.
-pub(crate) fn push_place(text: &mut String, k: u16) -> Result<(), AllocError>
-    ensures { Pushes result text.old text.new (decimal k) }
-{
-    write!(text, "{k}")
-}
-
 /// Adds the number of a process.
 pub(crate) fn push_process(text: &mut String, p: Proc) -> Result<(), AllocError>
     ensures { Pushes result text.old text.new (decimal p) }

@@ -3,7 +3,7 @@
 ghost use Rattle.std.specs.HashMap.{get};
 ghost use Rattle.std.specs.Prelude.{◌≡◌, ◌<◌, ℕ, List, ◌++◌, ◌∷◌, [], length, nat_eq, IfOk, OnOk};
 ghost use Rattle.cdb_base.specs.declared.event.Event.{Event as EventName};
-ghost use Rattle.cdb_draw.specs.Places.{crashed_at, is_crash_of, sent_at};
+ghost use Rattle.cdb_draw.specs.Positions.{crashed_at, is_crash_of, sent_at};
 ghost use Rattle.cdb_draw.specs.Sends.{AreSendsOf, kept_or_noted, message_code, message_of};
 
 use cdb_base::{Event, Kind, MsgName, NoMemory, Proc};
@@ -11,7 +11,7 @@ use cdb_causal::History;
 use std::alloc::Global;
 use std::collections::HashMap;
 
-/// The places at which messages were sent, by the numbers of their names.
+/// The positions at which messages were sent, by the numbers of their names.
 pub(crate) type Sends = HashMap<u32, usize>;
 
 /// A number for the name of a message.
@@ -36,27 +36,27 @@ fn message_of(event: &Event) -> Option<MsgName>
     }
 }
 
-/// Notes a place under a number, where none is noted yet.
-fn note(sends: &mut Sends, code: u32, place: usize) -> Result<(), NoMemory>
+/// Notes a position under a number, where none is noted yet.
+fn note(sends: &mut Sends, code: u32, position: usize) -> Result<(), NoMemory>
     ensures { OnOk result ((q : ℕ) →
-        get nat_eq sends.new q ≡ kept_or_noted (get nat_eq sends.old q) (nat_eq code q) place) }
+        get nat_eq sends.new q ≡ kept_or_noted (get nat_eq sends.old q) (nat_eq code q) position) }
 {
-    let _noted = sends.entry(code)?.or_insert(place);
+    let _noted = sends.entry(code)?.or_insert(position);
     Ok(())
 }
 
-/// Notes the place of an event, where it sends a message.
-fn note_event(sends: &mut Sends, event: &Event, place: usize) -> Result<(), NoMemory>
-    ensures { OnOk result ((before : List EventName) → length before ≡ place →
+/// Notes the position of an event, where it sends a message.
+fn note_event(sends: &mut Sends, event: &Event, position: usize) -> Result<(), NoMemory>
+    ensures { OnOk result ((before : List EventName) → length before ≡ position →
         AreSendsOf sends.old before → AreSendsOf sends.new (before ++ event.now ∷ [])) }
 {
     match message_of(event) {
-        Some(name) => note(sends, message_code(name), place),
+        Some(name) => note(sends, message_code(name), position),
         None => Ok(()),
     }
 }
 
-/// The places of all sends of a history.
+/// The positions of all sends of a history.
 pub(crate) fn sends_of(alloc: Global, history: &History) -> Result<Sends, NoMemory>
     ensures { IfOk result (λ sends. AreSendsOf sends history.now) }
 {
@@ -68,8 +68,8 @@ pub(crate) fn sends_of(alloc: Global, history: &History) -> Result<Sends, NoMemo
     Ok(sends)
 }
 
-/// The place at which a message was sent, from 0.
-pub(crate) fn place_of_send(sends: &Sends, name: MsgName) -> Option<usize>
+/// The position at which a message was sent, from 0.
+pub(crate) fn position_of_send(sends: &Sends, name: MsgName) -> Option<usize>
     ensures { (history : List EventName) → AreSendsOf sends.now history →
         result ≡ sent_at history name }
 {
@@ -90,7 +90,7 @@ fn is_crash_of(event: &Event, p: Proc) -> bool
     }
 }
 
-/// The place at which a process crashed, from 0.
+/// The position at which a process crashed, from 0.
 pub(crate) fn crashed_at(history: &History, p: Proc) -> Option<usize>
     ensures { result ≡ crashed_at history.now p }
 {

@@ -1,24 +1,17 @@
 -- A run that is played again along its history.
 use Rattle.std.proofs.Common.{◌≡◌, ℕ, suc, ◌+◌, List, [], ◌∷◌, ◌++◌, take, drop, Some, slice_get, IsTrue, codes, refl, sym, ap, ◌∙◌, subst, arith}
 use Rattle.std.proofs.lemmas.List.{take-append-drop}
-use Rattle.cdb_alpha.specs.Machine.{alpha_table}
 use Rattle.cdb_base.specs.Event.{event_name}
 use Rattle.cdb_base.specs.declared.event.Event.{Event}
-use Rattle.cdb_causal.proofs.Reaches.{reached_front_some}
 use Rattle.cdb_causal.specs.Standing.{IsStanding}
 use Rattle.cdb_control.specs.Commands.{decides}
-use Rattle.cdb_leader.specs.Machine.{leader_table}
 use Rattle.cdb_past.proofs.Pairing.{one_more}
-use Rattle.cdb_rules.specs.Algorithms.{rules, rules_by}
+use Rattle.cdb_rules.specs.Lawful.{KeepHistories}
+use Rattle.cdb_rules.specs.Rules.{Rules}
 use Rattle.cdb_rules.specs.RunView.{RunView}
-use Rattle.cdb_rules.specs.Machines.{machine_of}
 use Rattle.cdb_rules.specs.Runs.{with_event, with_history}
-use Rattle.cdb_rules.specs.State.{start}
-use Rattle.cdb_rules.specs.Step.{after}
 use Rattle.cdb_rules.specs.Undo.{causes_of}
-use Rattle.cdb_setup.specs.Parts.{Parts}
-use Rattle.cdb_setup.specs.declared.setup.Algorithm.{Algorithm}
-use Rattle.cdb_setup.specs.declared.setup.Algorithm.TheVariants.{Leader, Alpha}
+use Rattle.cdb_setup.specs.Parts.{Parts, AreInRange}
 use Rattle.cdb_text.specs.Events.{event_text}
 use Rattle.cdb_text.specs.Texts.{decides_text}
 use Rattle.cdb_explain.proofs.Causes.{same_causes}
@@ -27,16 +20,12 @@ use Rattle.cdb_explain.specs.Explanations.{because_text, detail_text, line_at, l
 parted : {A : Type 0} (xs : List A) (i : ℕ) (x : A) → slice_get xs i ≡ Some x → (take i xs ++ x ∷ []) ++ drop (i + 1) xs ≡ xs
 parted xs i x at = ap (λ front. front ++ drop (i + 1) xs) (one_more xs i x at) ∙ take-append-drop (i + 1) xs
 
-front_by : (setup : Parts) (algorithm : Algorithm) (history more : List Event) → IsTrue ((rules_by algorithm setup).valid (history ++ more)) → IsTrue ((rules_by algorithm setup).valid history)
-front_by setup Leader history more valid = reached_front_some (after (machine_of leader_table setup)) (start (machine_of leader_table setup)) history more valid
-front_by setup Alpha history more valid = reached_front_some (after (machine_of alpha_table setup)) (start (machine_of alpha_table setup)) history more valid
-
--- so far, where the event at place i comes next
-module _ (run : RunView) (i : ℕ) (event : Event) (at : slice_get run.history i ≡ Some event) (again : RunView) (along : again ≡ with_history run (take i run.history)) where
-  pub next_valid : IsTrue ((rules run.setup).valid run.history) → IsTrue ((rules again.setup).valid (again.history ++ event ∷ []))
-  next_valid valid =
+-- so far, where the event at position i comes next
+module _ (rules : Parts → Rules) (SameState : Parts → List Event → List Event → Type 0) (kept : (setup : Parts) → AreInRange setup → KeepHistories (rules setup) (SameState setup) setup) (run : RunView) (i : ℕ) (event : Event) (at : slice_get run.history i ≡ Some event) (again : RunView) (along : again ≡ with_history run (take i run.history)) where
+  pub next_valid : AreInRange run.setup → IsTrue ((rules run.setup).valid run.history) → IsTrue ((rules again.setup).valid (again.history ++ event ∷ []))
+  next_valid range valid =
       let setup = run.setup in
-      let front = front_by setup setup.algorithm (take i run.history ++ event ∷ []) (drop (i + 1) run.history) (subst (λ h. IsTrue ((rules setup).valid h)) (sym (parted run.history i event at)) valid) in
+      let front = (kept setup range).beginning (take i run.history ++ event ∷ []) (drop (i + 1) run.history) (subst (λ h. IsTrue ((rules setup).valid h)) (sym (parted run.history i event at)) valid) in
       subst (λ (r : RunView). IsTrue ((rules r.setup).valid (r.history ++ event ∷ []))) (sym along) front
 
   pub next_along : (later : RunView) → later ≡ with_event again event → later ≡ with_history run (take (i + 1) run.history)

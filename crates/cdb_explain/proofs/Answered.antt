@@ -1,6 +1,9 @@
 -- A step that was asked for, and what was answered.
-use Rattle.std.proofs.Common.{◌≡◌, ◌∙◌, ℕ, List, Option, Some, Result, Ok, Err, ap, sym, subst}
-use Rattle.std.specs.Prelude.{MatchOption, IfErr}
+use Rattle.std.proofs.Common.{◌≡◌, ◌∙◌, ℕ, List, Option, Some, Result, Ok, Err, ap, sym, subst, refl, is_ok, true≢false}
+use Rattle.std.specs.Prelude.{[], MatchOption, MatchResult, IfErr, IsOk}
+use Rattle.cdb_base.specs.declared.name.StepId.{StepId}
+use Rattle.cdb_base.specs.declared.refusal.Refusal.{Refusal}
+use Rattle.cdb_explain.specs.Explanations.{because_text}
 use Rattle.cdb_control.specs.Journal.{Journaled, state_in}
 use Rattle.cdb_play.specs.Faults.{IsFaultOfPlay, IsSetup, of_output}
 use Rattle.cdb_play.specs.Left.{Leaves, run_of}
@@ -15,7 +18,6 @@ use Rattle.cdb_explain.specs.Asked.{StandsNoStep}
 use Rattle.cdb_explain.specs.Explained.{ExplainWrites, IsFaultOfExplain}
 use Rattle.cdb_explain.specs.StepFaults.{IsFaultOfStep}
 use Rattle.cdb_setup.specs.declared.fault.SetupFault.{SetupFault}
-use Rattle.cdb_rules.specs.Algorithms.{rules}
 use Rattle.cdb_rules.specs.RunView.{RunView}
 use Rattle.cdb_rules.specs.Rules.{Rules}
 use Rattle.cdb_setup.specs.Parts.{Parts}
@@ -24,8 +26,8 @@ pub no_memory_as_err : {A : Type 0} (why : OutputFault) → why ≡ output.NoMem
 no_memory_as_err why same = ap (λ (f : OutputFault). Err f) same
 
 -- the run of a control
-pub same_run : (run : RunView) (control : Journaled) → run.setup ≡ control.setup → run.history ≡ (state_in rules control).history → run ≡ run_of rules control
-same_run run control setup history =
+pub same_run : (rules : Parts → Rules) (run : RunView) (control : Journaled) → run.setup ≡ control.setup → run.history ≡ (state_in rules control).history → run ≡ run_of rules control
+same_run rules run control setup history =
     ap (λ s. let view : RunView = record { setup = s; history = run.history } in view) setup
     ∙ ap (λ h. let view : RunView = record { setup = control.setup; history = h } in view) history
 
@@ -77,3 +79,9 @@ module _ {W : Type 0} (contents : W → Option (List ℕ)) (failures : W → ℕ
 module _ {A : Type 0} (answer : Option A) (P : Type 0) (Q : A → Type 0) where
   pub answered_some : (text : A) → answer ≡ Some text → MatchOption answer P Q → Q text
   answered_some text is told = subst (λ (a : Option A). MatchOption a P Q) is told
+
+-- a refused look for causes adds nothing
+pub no_because : (answer : Result (List StepId) Refusal) {A : Type 0} (P : List StepId → Type 0) (result : Result A Refusal) (why : Refusal)
+    → MatchResult answer (λ causes. P causes × IsOk result) (λ refusal. result ≡ Err refusal) → result ≡ Err why → because_text answer ≡ []
+no_because (Ok causes) P result why stands is = absurd (true≢false (sym stands.1 ∙ ap is_ok is))
+no_because (Err refusal) P result why stands is = refl

@@ -19,7 +19,7 @@ abbrev names_of : List Event → Event → List StepId
 names_of earlier event = map event_name (flat_map (λ p. filter (is_step_of p) (direct_among earlier event)) all_processes)
 
 module _ (n : ℕ) (history : List Event) (i : ℕ) (event : Event) (at : slice_get history i ≡ Some event) (only : (k : ℕ) → IsNamedAt history k (event_name event) → k ≡ i) where
-  -- of the event at place i, by what stands before it
+  -- of the event at position i, by what stands before it
   causes_at : causes_of n history (event_name event) ≡ (if names_processes n (event_name event) then Ok (names_of (take i history) event) else Err refusal.NoProcess)
   causes_at =
       elim (names_processes n name) as (λ b. names_processes n name ≡ b → causes_of n history name ≡ (if b then Ok (names_of (take i history) event) else Err refusal.NoProcess)) [

@@ -1,5 +1,5 @@
 pub mod Answered
-pub mod OfRun
 pub mod Marking
 pub mod Causes
 pub mod Along
+pub mod Bounded

@@ -1,4 +1,4 @@
--- The marked places grow by one place after the other.
+-- The marked positions grow by one position after the other.
 use Rattle.std.proofs.Common.{◌≡◌, ℕ, zero, suc, ◌+◌, Bool, true, false, List, [], ◌∷◌, ◌++◌, filter, length, if◌then◌else◌, sym, ap, ◌∙◌, append-nil, append_assoc, length-append, arith, ◌<◌, get_or, unwrap_or}
 use Rattle.std.specs.List.{flat_map, range_with_len}
 use Rattle.std.proofs.lemmas.Grind.{flat_map-append}
@@ -33,7 +33,7 @@ pub unmarked_more : (marks : List Bool) (i : ℕ) → is_marked marks i ≡ fals
 unmarked_more marks i is =
     one_more marks i ∙ ap (λ (xs : List ℕ). marked_of_first i marks ++ xs) (single_out (is_marked marks) i is) ∙ append-nil (marked_of_first i marks)
 
--- a text for each marked place grows by that of one more
+-- a text for each marked position grows by that of one more
 pub lines_more : (line : ℕ → List ℕ) (marks : List Bool) (i : ℕ) → is_marked marks i ≡ true → flat_map line (marked_of_first (i + 1) marks) ≡ flat_map line (marked_of_first i marks) ++ line i
 lines_more line marks i is =
     ap (flat_map line) (marked_more marks i is) ∙ flat_map-append line (marked_of_first i marks) (i ∷ [])
@@ -42,11 +42,11 @@ lines_more line marks i is =
 pub count_more : (marks : List Bool) (i : ℕ) → is_marked marks i ≡ true → length (marked_of_first (i + 1) marks) ≡ length (marked_of_first i marks) + 1
 count_more marks i is = ap length (marked_more marks i is) ∙ length-append (marked_of_first i marks) (i ∷ [])
 
--- the mark that is read at a place
+-- the mark that is read at a position
 pub mark_read : (marks : List Bool) (i : ℕ) (d b : Bool) → i < length marks → get_or marks i d ≡ b → is_marked marks i ≡ b
 mark_read marks i d b within is = ap (λ o. unwrap_or o false) (slice_get-get_or marks i d within) ∙ is
 
--- the text that was there, the lines so far, and that of one marked place more
+-- the text that was there, the lines so far, and that of one marked position more
 pub text_more : (line : ℕ → List ℕ) (marks : List Bool) (i : ℕ) (start now later one : List ℕ) → now ≡ start ++ flat_map line (marked_of_first i marks) → later ≡ now ++ one → line i ≡ one → is_marked marks i ≡ true
     → later ≡ start ++ flat_map line (marked_of_first (i + 1) marks)
 text_more line marks i start now later one now_is later_is line_is is =
@@ -54,7 +54,7 @@ text_more line marks i start now later one now_is later_is line_is is =
     later_is ∙ ap (λ (t : List ℕ). t ++ one) now_is ∙ append_assoc start so_far one
     ∙ ap (λ (t : List ℕ). start ++ t) (ap (λ (t : List ℕ). so_far ++ t) (sym line_is) ∙ sym (lines_more line marks i is))
 
--- an unmarked place adds nothing
+-- an unmarked position adds nothing
 pub text_same : (line : ℕ → List ℕ) (marks : List Bool) (i : ℕ) (start now : List ℕ) → now ≡ start ++ flat_map line (marked_of_first i marks) → is_marked marks i ≡ false
     → now ≡ start ++ flat_map line (marked_of_first (i + 1) marks)
 text_same line marks i start now now_is is = now_is ∙ ap (λ (xs : List ℕ). start ++ flat_map line xs) (sym (unmarked_more marks i is))

@@ -9,7 +9,7 @@ is_asked p None (Step q number kind) = q == p
 is_asked p (Some k) (Step q number kind) = (q == p) && (number == k)
 is_asked p k (Lost copy) = false
 
--- the step stands at place i, from 0: p.k, or without k the last standing step of p
+-- the step stands at position i, from 0: p.k, or without k the last standing step of p
 pub record IsStepAsked (history : List Event) (p : ℕ) (k : Option ℕ) (i : ℕ) : Type 0 where
   pub event : Event
   pub at : slice_get history i ≡ Some event

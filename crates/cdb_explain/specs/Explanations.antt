@@ -61,7 +61,7 @@ because_text (Err why) = []
 
 -- ---- a line for each event
 
--- the run once it had come to the event at place i, from 0
+-- the run once it had come to the event at position i, from 0
 abbrev pub run_after : RunView → ℕ → RunView
 run_after run i = with_history run (take (i + 1) run.history)
 
@@ -77,7 +77,7 @@ whole_text rules run after event =
 abbrev pub line_text : (Parts → Rules) → RunView → RunView → Event → List ℕ
 line_text rules run after event = whole_text rules run after event ++ codes "\n"
 
--- the line of the event at place i, where one stands there
+-- the line of the event at position i, where one stands there
 abbrev pub line_at : (Parts → Rules) → RunView → ℕ → List ℕ
 line_at rules run i = option_map_or (line_text rules run (run_after run i)) (slice_get run.history i) []
 
@@ -89,10 +89,10 @@ count_text count all =
 -- the lines of the marked events, in the order of the history, and then how many they are of how many
 abbrev pub lines_text : (Parts → Rules) → RunView → List Bool → List ℕ
 lines_text rules run marks =
-    let places = marked_of_first (length run.history) marks in
-    flat_map (line_at rules run) places ++ count_text (length places) (length run.history)
+    let positions = marked_of_first (length run.history) marks in
+    flat_map (line_at rules run) positions ++ count_text (length positions) (length run.history)
 
--- The text is that of what led to the event at place j, from 0: of that event, and of each from which a
+-- The text is that of what led to the event at position j, from 0: of that event, and of each from which a
 -- chain of dependences leads to it.
 abbrev pub IsExplanation : (Parts → Rules) → RunView → ℕ → List ℕ → Type 0
 IsExplanation rules run j text =
@@ -101,4 +101,4 @@ IsExplanation rules run j text =
 -- the text is the explanation of that step: of p.k, or without k of the last standing step of p
 abbrev pub IsStepExplained : (Parts → Rules) → RunView → ℕ → Option ℕ → List ℕ → Type 0
 IsStepExplained rules run p k text =
-    (place : ℕ) × IsStepAsked run.history p k place × IsExplanation rules run place text
+    (position : ℕ) × IsStepAsked run.history p k position × IsExplanation rules run position text

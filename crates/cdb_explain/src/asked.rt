@@ -20,9 +20,9 @@ fn is_asked(event: &Event, p: u32, k: Option<u32>) -> bool
     }
 }
 
-/// The place, from 0, of the `k`-th standing step of process `p`; without `k` that of its last
+/// The position, from 0, of the `k`-th standing step of process `p`; without `k` that of its last
 /// standing step. Nothing where no such step stands.
-pub fn place_of_step(history: &History, p: u32, k: Option<u32>) -> Option<usize>
+pub fn position_of_step(history: &History, p: u32, k: Option<u32>) -> Option<usize>
     ensures { MatchOption result (StandsNoStep history.now p k)
         (λ i. IsStepAsked history.now p k i) }
 {

@@ -2,22 +2,21 @@
 
 ghost use Rattle.cdb_explain.specs.Explanations.{cell_detail, detail_text, kind_detail, message_detail};
 ghost use Rattle.cdb_message.specs.Mail.{payload_of};
-ghost use Rattle.cdb_rules.specs.Algorithms.{rules};
 ghost use Rattle.cdb_rules.specs.ByRules.{cell_in, mail_in};
 ghost use Rattle.cdb_text.specs.Pushes.{Pushes};
 ghost use Rattle.std.specs.Prelude.{◌≡◌, Some};
 
-use cdb_any_run::RunOfSetup;
 use cdb_base::{Cell, Event, Kind, MsgName, Proc, Reg};
+use cdb_control::Runs;
 use cdb_text::{push_payload, push_value};
 use std::alloc::AllocError;
 
 /// Adds the payload of a message after a space, where it was sent.
-fn push_message(text: &mut String, run: &RunOfSetup, name: MsgName) -> Result<(), AllocError>
+fn push_message<T: Runs>(text: &mut String, run: &T, name: MsgName) -> Result<(), AllocError>
     ensures { Pushes result text.old text.new
-        (message_detail (payload_of (mail_in rules run.now) name)) }
+        (message_detail (payload_of (mail_in T.rules (T.run run.now)) name)) }
 {
-    match run.any().payload(name) {
+    match run.payload(name) {
         Some(payload) => {
             text.push_str(" ")?;
             push_payload(text, payload)
@@ -44,32 +43,21 @@ fn push_held(text: &mut String, register: Reg, cell: &Cell) -> Result<(), AllocE
     }
 }
 
-/// What the register holds, where the run has it.
-fn cell_of(run: &RunOfSetup, register: Reg) -> Option<Cell>
-    ensures { result ≡ cell_in rules run.now register }
-{
-    let again = register;
-    if !run.any().has(again) {
-        return None;
-    }
-    Some(run.any().cell(register))
-}
-
 /// Adds what a register holds after a space, where the run has it.
-fn push_register(text: &mut String, run: &RunOfSetup, register: Reg) -> Result<(), AllocError>
+fn push_register<T: Runs>(text: &mut String, run: &T, register: Reg) -> Result<(), AllocError>
     ensures { Pushes result text.old text.new
-        (cell_detail register (cell_in rules run.now register)) }
+        (cell_detail register (cell_in T.rules (T.run run.now) register)) }
 {
     let again = register;
-    match cell_of(run, again) {
+    match run.cell(again) {
         Some(cell) => push_held(text, register, &cell),
         None => Ok(()),
     }
 }
 
 /// Adds what a step of that kind sent or received, read or wrote, where the run stands after it.
-fn push_kind(text: &mut String, run: &RunOfSetup, p: Proc, kind: Kind) -> Result<(), AllocError>
-    ensures { Pushes result text.old text.new (kind_detail rules run.now p kind) }
+fn push_kind<T: Runs>(text: &mut String, run: &T, p: Proc, kind: Kind) -> Result<(), AllocError>
+    ensures { Pushes result text.old text.new (kind_detail T.rules (T.run run.now) p kind) }
 {
     match kind {
         Kind::Send(m) => push_message(text, run, MsgName { s: p, m }),
@@ -80,13 +68,13 @@ fn push_kind(text: &mut String, run: &RunOfSetup, p: Proc, kind: Kind) -> Result
 }
 
 /// Adds what the last event of the run sent or received, read or wrote. Only out of memory is an error.
-pub(crate) fn push_detail(
+pub(crate) fn push_detail<T: Runs>(
     text: &mut String,
-    run: &RunOfSetup,
+    run: &T,
     event: &Event,
 ) -> Result<(), AllocError>
     ensures { Pushes result text.old text.new
-        (detail_text rules run.now event.now) }
+        (detail_text T.rules (T.run run.now) event.now) }
 {
     match *event {
         Event::Step { p, kind, .. } => push_kind(text, run, p, kind),

@@ -8,29 +8,31 @@ ghost use Rattle.cdb_explain.specs.StepFaults.{IsFaultOfStep};
 ghost use Rattle.cdb_explain.specs.declared.fault.ExplainFault.TheVariants.{Play as of_play};
 ghost use Rattle.cdb_play.specs.Streams.{FailsWhere};
 ghost use Rattle.cdb_play.specs.declared.fault.PlayFault.TheVariants as play;
-ghost use Rattle.cdb_rules.specs.Algorithms.{rules};
+ghost use Rattle.cdb_rules.specs.ByRules.{IsInOrder};
 ghost use Rattle.cdb_setup.specs.declared.fault.SetupFault.{SetupFault as SetupFaultName};
 
+use crate::chronicle::chronicle_of;
 use crate::fault::ExplainFault;
 use crate::step::explain_step;
-use cdb_any_run::RunOfSetup;
 use cdb_play::{Sink, Source, left_by, write_text};
+use cdb_rules::{Chronicle, Runs};
 use std::alloc::Global;
 
 /// Writes the explanation of a step of this run, which is whole before any of it is written. `NoStep` where no such step
 /// stands.
-fn write_explanation<W: Sink>(
+fn write_explanation<T: Runs, W: Sink>(
     alloc: Global,
-    run: &RunOfSetup,
+    run: &Chronicle,
     p: u32,
     k: Option<u32>,
     out: &mut W,
 ) -> Result<(), ExplainFault>
+    requires { IsInOrder T.rules run.now }
     ensures wrote { ExplainWrites W.contents W.failures result out.old out.new
-        (IsStepExplained rules run.now p k) }
+        (IsStepExplained T.rules run.now p k) }
     ensures fault { IfErr result (IsFaultOfStep (StandsNoStep run.now.history p k)) }
 {
-    let Some(text) = explain_step(alloc, run, p, k)? else {
+    let Some(text) = explain_step::<T>(alloc, run, p, k)? else {
         return Err(ExplainFault::NoStep);
     };
     write_text(alloc, text.as_slice(), out)?;
@@ -44,7 +46,7 @@ fn write_explanation<W: Sink>(
 /// it is written. So after `Write` what was written is a beginning of the explanation, and after any other
 /// fault nothing was written. After `Setup` the script is not read; `Read` comes only where the reader failed in
 /// this call, and `Write` only where the writer did.
-pub fn explain<R: Source, W: Sink>(
+pub fn explain<T: Runs, R: Source, W: Sink>(
     alloc: Global,
     setup: &[u8],
     script: &mut R,
@@ -53,13 +55,14 @@ pub fn explain<R: Source, W: Sink>(
     out: &mut W,
 ) -> Result<(), ExplainFault>
     ensures wrote { ExplainWrites W.contents W.failures result out.old out.new
-        (Explains rules setup.now p k (R.remaining script.old) (R.remaining script.new)) }
-    ensures fault { IfErr result (λ fault. IsFaultOfExplain fault rules setup.now p k
+        (Explains T.rules setup.now p k (R.remaining script.old) (R.remaining script.new)) }
+    ensures fault { IfErr result (λ fault. IsFaultOfExplain fault T.rules setup.now p k
         (R.remaining script.old) (R.remaining script.new)) }
     ensures unread { (fault : SetupFaultName) →
         result ≡ Err (of_play (play.Setup fault)) → script.new ≡ script.old }
     ensures read { FailsWhere R.failures (result ≡ Err (of_play play.Read)) script.old script.new }
 {
-    let control = left_by::<RunOfSetup, R>(alloc, setup, script)?;
-    write_explanation(alloc, control.run(), p, k, out)
+    let control = left_by::<T, R>(alloc, setup, script)?;
+    let run = chronicle_of(control);
+    write_explanation::<T, W>(alloc, &run, p, k, out)
 }

@@ -2,6 +2,7 @@
 #![tactic(auto)]
 
 mod asked;
+mod chronicle;
 mod detail;
 mod explains;
 mod fault;
@@ -11,7 +12,8 @@ mod past;
 mod replay;
 mod step;
 
-pub use asked::place_of_step;
+pub use asked::position_of_step;
+pub use chronicle::chronicle_of;
 pub use explains::explain;
 pub use fault::ExplainFault;
 pub use line::{decision_by, push_whole};

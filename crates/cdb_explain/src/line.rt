@@ -3,14 +3,12 @@
 ghost use Rattle.cdb_base.specs.Event.{event_name};
 ghost use Rattle.cdb_control.specs.Commands.{decides};
 ghost use Rattle.cdb_explain.specs.Explanations.{because_text, line_text, whole_text};
-ghost use Rattle.cdb_rules.specs.Algorithms.{rules};
 ghost use Rattle.cdb_rules.specs.EventRefs.{name_of};
 ghost use Rattle.cdb_rules.specs.Runs.{causes_in};
 ghost use Rattle.cdb_text.specs.Pushes.{Pushes};
 ghost use Rattle.std.specs.Prelude.{◌≡◌};
 
 use crate::detail::push_detail;
-use cdb_any_run::RunOfSetup;
 use cdb_base::{CopyName, Event, MsgName, Val};
 use cdb_control::{EventRef, Runs};
 use cdb_text::{push_causes, push_decides, push_event};
@@ -32,8 +30,8 @@ fn reference(event: &Event) -> EventRef
 }
 
 /// The decision that the last event of the run gave its process.
-pub fn decision_by(run: &RunOfSetup, event: &Event) -> Option<Val>
-    ensures { result ≡ decides (rules run.now.setup) run.now.history event.now }
+pub fn decision_by<T: Runs>(run: &T, event: &Event) -> Option<Val>
+    ensures { result ≡ decides (T.rules (T.run run.now).setup) (T.run run.now).history event.now }
 {
     match *event {
         Event::Step { p, .. } => run.view(u32::from(p.number()))?.decision,
@@ -42,14 +40,14 @@ pub fn decision_by(run: &RunOfSetup, event: &Event) -> Option<Val>
 }
 
 /// Adds the direct causes of a standing event, as `why` prints them.
-fn push_because(
+fn push_because<T: Runs>(
     alloc: Global,
     text: &mut String,
-    run: &RunOfSetup,
+    run: &T,
     event: &Event,
 ) -> Result<(), AllocError>
     ensures { Pushes result text.old text.new
-        (because_text (causes_in run.now (event_name event.now))) }
+        (because_text (causes_in (T.run run.now) (event_name event.now))) }
 {
     match run.explain(alloc, reference(event)) {
         Ok((_, causes)) => {
@@ -62,13 +60,13 @@ fn push_because(
 
 /// Adds the whole text of the last event of a run. In a longer run it is the same, since nothing that comes later
 /// changes direct causes. Only out of memory is an error.
-pub fn push_whole(
+pub fn push_whole<T: Runs>(
     alloc: Global,
     text: &mut String,
-    run: &RunOfSetup,
+    run: &T,
     event: &Event,
 ) -> Result<(), AllocError>
-    ensures { Pushes result text.old text.new (whole_text rules run.now run.now event.now) }
+    ensures { Pushes result text.old text.new (whole_text T.rules (T.run run.now) (T.run run.now) event.now) }
 {
     push_event(text, event)?;
     push_detail(text, run, event)?;
@@ -77,13 +75,13 @@ pub fn push_whole(
 }
 
 /// Adds the line of the last event of a run, which is its whole text.
-pub(crate) fn push_line(
+pub(crate) fn push_line<T: Runs>(
     alloc: Global,
     text: &mut String,
-    run: &RunOfSetup,
+    run: &T,
     event: &Event,
 ) -> Result<(), AllocError>
-    ensures { Pushes result text.old text.new (line_text rules run.now run.now event.now) }
+    ensures { Pushes result text.old text.new (line_text T.rules (T.run run.now) (T.run run.now) event.now) }
 {
     push_whole(alloc, text, run, event)?;
     text.push_str("\n")

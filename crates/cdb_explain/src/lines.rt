@@ -2,7 +2,7 @@
 
 ghost use Rattle.cdb_explain.specs.Explanations.{count_text, line_at, lines_text, IsExplanation};
 ghost use Rattle.cdb_explain.specs.Marked.{marked_of_first};
-ghost use Rattle.cdb_rules.specs.Algorithms.{rules};
+ghost use Rattle.cdb_rules.specs.ByRules.{IsInOrder};
 ghost use Rattle.cdb_text.specs.Pushes.{Pushes};
 ghost use Rattle.std.specs.List.{flat_map};
 ghost use Rattle.std.specs.Prelude.{◌≡◌, ◌<◌, length, IfOk};
@@ -10,26 +10,29 @@ ghost use Rattle.std.specs.Prelude.{◌≡◌, ◌<◌, length, IfOk};
 use crate::line::push_line;
 use crate::past::past_of;
 use crate::replay::{fresh, take_next};
-use cdb_any_run::RunOfSetup;
 use cdb_base::NoMemory;
+use cdb_rules::{Chronicle, Runs};
 use std::alloc::{AllocError, Global};
 
 /// Adds the lines of the marked events, in the order of the history, and returns how many they are.
 /// It plays the run again, event by event, and asks it after each one, when that is soonest answered.
-fn push_lines(
+fn push_lines<T: Runs>(
     alloc: Global,
     text: &mut String,
-    run: &RunOfSetup,
+    run: &Chronicle,
     marks: &[bool],
 ) -> Result<usize, NoMemory>
-    requires { length marks.now ≡ length run.now.history }
+    requires valid { IsInOrder T.rules run.now }
+    requires a_mark_each { length marks.now ≡ length run.now.history }
     ensures lines { Pushes result text.old text.new
-        (flat_map (line_at rules run.now) (marked_of_first (length run.now.history) marks.now)) }
+        (flat_map (line_at T.rules run.now) (marked_of_first (length run.now.history) marks.now)) }
     ensures count { IfOk result (λ count.
         count ≡ length (marked_of_first (length run.now.history) marks.now)) }
 {
-    let mut again = fresh(alloc, run)?;
-    let history = run.any().history();
+    let mut again = fresh::<T>(alloc, run)?;
+    // Its clause says that the parts of the setup are in range.
+    let _ranges = run.setup().n();
+    let history = run.history();
     let mut count = 0;
     for i in 0..history.len() {
         let event = history.event(i);
@@ -53,38 +56,49 @@ fn push_count(text: &mut String, count: usize, all: usize) -> Result<(), AllocEr
 }
 
 /// Adds the lines of the marked events, and then how many they are of how many.
-fn push_all(
+fn push_all<T: Runs>(
     alloc: Global,
     text: &mut String,
-    run: &RunOfSetup,
+    run: &Chronicle,
     marks: &[bool],
 ) -> Result<(), NoMemory>
-    requires { length marks.now ≡ length run.now.history }
-    ensures { Pushes result text.old text.new (lines_text rules run.now marks.now) }
+    requires valid { IsInOrder T.rules run.now }
+    requires a_mark_each { length marks.now ≡ length run.now.history }
+    ensures { Pushes result text.old text.new (lines_text T.rules run.now marks.now) }
 {
-    let count = push_lines(alloc, text, run, marks)?;
-    let history = run.any().history();
+    let count = push_lines::<T>(alloc, text, run, marks)?;
+    let history = run.history();
     push_count(text, count, history.len())?;
     Ok(())
 }
 
 /// The lines of the marked events, and then how many they are of how many.
-fn text_of_marked(alloc: Global, run: &RunOfSetup, marks: &[bool]) -> Result<Vec<u8>, NoMemory>
-    requires { length marks.now ≡ length run.now.history }
-    ensures { IfOk result (λ text. text.items ≡ lines_text rules run.now marks.now) }
+fn text_of_marked<T: Runs>(
+    alloc: Global,
+    run: &Chronicle,
+    marks: &[bool],
+) -> Result<Vec<u8>, NoMemory>
+    requires valid { IsInOrder T.rules run.now }
+    requires a_mark_each { length marks.now ≡ length run.now.history }
+    ensures { IfOk result (λ text. text.items ≡ lines_text T.rules run.now marks.now) }
 {
     let mut text = String::new(alloc);
-    push_all(alloc, &mut text, run, marks)?;
+    push_all::<T>(alloc, &mut text, run, marks)?;
     Ok(text.into_bytes())
 }
 
-/// The explanation of the event at a place of the history, from 0: a line for each event that led to it, in
+/// The explanation of the event at a position of the history, from 0: a line for each event that led to it, in
 /// the order of the history, and then how many they are. `NoMemory` if an allocation fails.
-pub fn explanation(alloc: Global, run: &RunOfSetup, place: usize) -> Result<Vec<u8>, NoMemory>
-    requires { place < length run.now.history }
-    ensures { IfOk result (λ text. IsExplanation rules run.now place text.items) }
+pub fn explanation<T: Runs>(
+    alloc: Global,
+    run: &Chronicle,
+    position: usize,
+) -> Result<Vec<u8>, NoMemory>
+    requires valid { IsInOrder T.rules run.now }
+    requires within { position < length run.now.history }
+    ensures { IfOk result (λ text. IsExplanation T.rules run.now position text.items) }
 {
-    let marks = past_of(alloc, run, place)?;
-    let text = text_of_marked(alloc, run, marks.as_slice())?;
+    let marks = past_of(alloc, run.history(), position)?;
+    let text = text_of_marked::<T>(alloc, run, marks.as_slice())?;
     Ok(text)
 }

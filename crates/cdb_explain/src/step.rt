@@ -2,30 +2,31 @@
 
 ghost use Rattle.cdb_explain.specs.Asked.{StandsNoStep};
 ghost use Rattle.cdb_explain.specs.Explanations.{IsStepExplained};
-ghost use Rattle.cdb_rules.specs.Algorithms.{rules};
+ghost use Rattle.cdb_rules.specs.ByRules.{IsInOrder};
 ghost use Rattle.std.specs.Prelude.{IfOk, MatchOption};
 
-use crate::asked::place_of_step;
+use crate::asked::position_of_step;
 use crate::lines::explanation;
-use cdb_any_run::RunOfSetup;
 use cdb_base::NoMemory;
+use cdb_rules::{Chronicle, Runs};
 use std::alloc::Global;
 
 /// The explanation of the `k`-th standing step of process `p`; without `k` that of its last standing step,
 /// which is its decision where it has decided. Nothing where no such step stands. `NoMemory` if an
 /// allocation fails.
-pub fn explain_step(
+pub fn explain_step<T: Runs>(
     alloc: Global,
-    run: &RunOfSetup,
+    run: &Chronicle,
     p: u32,
     k: Option<u32>,
 ) -> Result<Option<Vec<u8>>, NoMemory>
+    requires { IsInOrder T.rules run.now }
     ensures { IfOk result (λ answer. MatchOption answer (StandsNoStep run.now.history p k)
-        (λ text. IsStepExplained rules run.now p k text.items)) }
+        (λ text. IsStepExplained T.rules run.now p k text.items)) }
 {
-    let Some(place) = place_of_step(run.any().history(), p, k) else {
+    let Some(position) = position_of_step(run.history(), p, k) else {
         return Ok(None);
     };
-    let text = explanation(alloc, run, place)?;
+    let text = explanation::<T>(alloc, run, position)?;
     Ok(Some(text))
 }

@@ -7,7 +7,7 @@ use Rattle.cdb_play.specs.Statuses.{play_status}
 use Rattle.cdb_play.specs.declared.fault.PlayFault.{PlayFault}
 use Rattle.cdb_shared.proofs.Steps.{take_one_more}
 use Rattle.cdb_hall.specs.Reports.{outcomes, seat_line, seat_lines, seats_status}
-use Rattle.cdb_hall.specs.declared.place.Attended.{Attended}
+use Rattle.cdb_hall.specs.declared.station.Attended.{Attended}
 
 seat_lines-more : (first : ℕ) (before : List (Result (Unit {0}) PlayFault)) (outcome : Result (Unit {0}) PlayFault) → seat_lines first (before ++ outcome ∷ []) ≡ seat_lines first before ++ seat_line (first + length before) outcome
 seat_lines-more first [] outcome = let same : first ≡ first + 0 = omega arith in append-nil (seat_line first outcome) ∙ ap (λ n. seat_line n outcome) same
@@ -19,7 +19,7 @@ seat_lines-more first (other ∷ before) outcome =
 module _ {T : Type 0} (attended : List (Attended T)) (i : ℕ) (its : Attended T) (low : i < length attended) (is : its ≡ get_or attended i its) where
   -- one seat more
   pub one_line_more : (seat : ℕ) → seat ≡ i + 1 → seat_lines 1 (outcomes (take (i + 1) attended)) ≡ seat_lines 1 (outcomes (take i attended)) ++ seat_line seat its.outcome
-  one_line_more seat place =
+  one_line_more seat station =
       let before = outcomes (take i attended) in
       let number : 1 + length before ≡ seat = omega (arith, length-map (take i attended) (λ (a : Attended T). a.outcome), length-take i attended) in
       ap (λ (l : List (Attended T)). seat_lines 1 (outcomes l)) (take_one_more attended i its low is)

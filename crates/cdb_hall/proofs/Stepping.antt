@@ -21,6 +21,8 @@ use Rattle.cdb_debug.proofs.Cutting.{ended_of_joined, ended_and_more, lines_of_j
 use Rattle.cdb_debug.proofs.Holding.{take-take_append}
 use Rattle.cdb_debug.proofs.Saying.{AreWrites-append}
 use Rattle.cdb_debug.proofs.Ordered.{nothing_asked, one_move, writes_more, read-append, written-append, nothing_read, EndsWith-more}
+use Rattle.cdb_rules.specs.Rules.{Rules}
+use Rattle.cdb_setup.specs.Parts.{Parts}
 use Rattle.cdb_shared.specs.Seats.{SeatView}
 use Rattle.cdb_shared.specs.Sessions.{calls_of}
 use Rattle.cdb_hall.specs.Dialogues.{Along, begun, after, shown, dialogue, IsDialogue}
@@ -73,10 +75,10 @@ over_more moves made writes (inl ends) = at_end (
 over_more moves made writes (inr most) =
     at_most (subst (λ bytes. most_input ≤ length bytes) (sym (read-append moves made ∙ ap (λ more. read_in moves ++ more) (nothing_read made writes) ∙ append-nil (read_in moves))) most)
 
-module _ (prompt : List ℕ) (replies : List Answer) where
-  module _ (moves : List Move) (seat : SeatView) (along : Along) (held left : List ℕ) (at : IsAt prompt replies moves seat along held left) where
+module _ (rules : Parts → Rules) (prompt : List ℕ) (replies : List Answer) where
+  module _ (moves : List Move) (seat : SeatView) (along : Along) (held left : List ℕ) (at : IsAt rules prompt replies moves seat along held left) where
     -- bytes that end no line are held
-    pub more_held : (more behind kept : List ℕ) → left ≡ more ++ behind → HasNoEnd more → kept ≡ take (longest + 1) (held ++ more) → IsAt prompt replies moves seat along kept behind
+    pub more_held : (more behind kept : List ℕ) → left ≡ more ++ behind → HasNoEnd more → kept ≡ take (longest + 1) (held ++ more) → IsAt rules prompt replies moves seat along kept behind
     more_held more behind kept cut none is =
         record {
           lines = at.lines;
@@ -116,7 +118,7 @@ module _ (prompt : List ℕ) (replies : List Answer) where
     lines_begin = ap lines_of at.read ∙ lines_of_joined at.lines (at.line ++ left) at.ended
 
     -- memory is out, and the journal has nothing of the next line, or its command too
-    pub lost_before : (new : SeatView) → HasCommands (part_seen new) at.requests → IsSession prompt (part_with replies new) (ended_by output.NoMemory) moves
+    pub lost_before : (new : SeatView) → HasCommands (part_seen rules new) at.requests → IsSession prompt (part_with replies new) (ended_by output.NoMemory) moves
     lost_before new has =
         record {
           in_time = at.in_time;
@@ -131,7 +133,7 @@ module _ (prompt : List ℕ) (replies : List Answer) where
           };
         }
 
-    lost_behind : (new : SeatView) (request : Request) → Asks request at.line → (others : List (List ℕ)) → lines_of (read_in moves) ≡ (at.lines ++ at.line ∷ []) ++ others → HasCommands (part_seen new) (at.requests ++ request ∷ [])
+    lost_behind : (new : SeatView) (request : Request) → Asks request at.line → (others : List (List ℕ)) → lines_of (read_in moves) ≡ (at.lines ++ at.line ∷ []) ++ others → HasCommands (part_seen rules new) (at.requests ++ request ∷ [])
         → IsSession prompt (part_with replies new) (ended_by output.NoMemory) moves
     lost_behind new request asks others begins has =
         record {
@@ -148,7 +150,7 @@ module _ (prompt : List ℕ) (replies : List Answer) where
         }
 
     -- more input is asked for
-    pub more_read : left ≡ [] → (bytes : List ℕ) → IsAt prompt replies (moves ++ Read bytes ∷ []) seat along held bytes
+    pub more_read : left ≡ [] → (bytes : List ℕ) → IsAt rules prompt replies (moves ++ Read bytes ∷ []) seat along held bytes
     more_read none bytes =
         record {
           lines = at.lines;
@@ -188,7 +190,7 @@ module _ (prompt : List ℕ) (replies : List Answer) where
         }
 
   -- what was written once one line more is answered, or the beginning of its answer
-  module _ (moves : List Move) (seat : SeatView) (along : Along) (held left : List ℕ) (at : IsAt prompt replies moves seat along held left) (request : Request) (asks : Asks request held) (made : List Move) (writes : AreWrites made) where
+  module _ (moves : List Move) (seat : SeatView) (along : Along) (held left : List ℕ) (at : IsAt rules prompt replies moves seat along held left) (request : Request) (asks : Asks request held) (made : List Move) (writes : AreWrites made) where
     whole_line : Asks request at.line
     whole_line = asks_whole request at.line (subst (Asks request) at.held_is asks)
 
@@ -208,7 +210,7 @@ module _ (prompt : List ℕ) (replies : List Answer) where
 
     -- the writing failed
     broken : (others : List (List ℕ)) → lines_of (read_in moves) ≡ (at.lines ++ at.line ∷ []) ++ others → (missing : List ℕ) → shown prompt along request ≡ written_in made ++ missing → EndsWith FailsToWrite made
-        → (new : SeatView) → HasCommands (part_seen new) (at.requests ++ request ∷ []) → IsSession prompt (part_with replies new) (ended_by output.Write) (moves ++ made)
+        → (new : SeatView) → HasCommands (part_seen rules new) (at.requests ++ request ∷ []) → IsSession prompt (part_with replies new) (ended_by output.Write) (moves ++ made)
     broken others begins missing said fails new has =
         record {
           in_time = still_in_time;
@@ -229,7 +231,7 @@ module _ (prompt : List ℕ) (replies : List Answer) where
         }
 
   -- a line has ended
-  module _ (moves : List Move) (seat : SeatView) (along : Along) (held left : List ℕ) (at : IsAt prompt replies moves seat along held (10 ∷ left)) (request : Request) (asks : Asks request held) (new : SeatView) where
+  module _ (moves : List Move) (seat : SeatView) (along : Along) (held left : List ℕ) (at : IsAt rules prompt replies moves seat along held (10 ∷ left)) (request : Request) (asks : Asks request held) (new : SeatView) where
     now_read : read_in moves ≡ joined (at.lines ++ at.line ∷ []) ++ left
     now_read =
         at.read
@@ -242,16 +244,16 @@ module _ (prompt : List ℕ) (replies : List Answer) where
     now_lines = ap lines_of now_read ∙ lines_of_joined (at.lines ++ at.line ∷ []) left now_ended
 
     -- memory is out
-    pub line_lost : HasCommands (part_seen new) at.requests ⊎ HasCommands (part_seen new) (at.requests ++ request ∷ []) → IsSession prompt (part_with replies new) (ended_by output.NoMemory) moves
+    pub line_lost : HasCommands (part_seen rules new) at.requests ⊎ HasCommands (part_seen rules new) (at.requests ++ request ∷ []) → IsSession prompt (part_with replies new) (ended_by output.NoMemory) moves
     line_lost (inl has) = lost_before moves seat along held (10 ∷ left) at new has
     line_lost (inr has) = lost_behind moves seat along held (10 ∷ left) at new request (whole_line moves seat along held (10 ∷ left) at request asks [] tt) (lines_of left) now_lines has
 
-    module _ (has : HasCommands (part_seen new) (at.requests ++ request ∷ [])) (made : List Move) (writes : AreWrites made) where
+    module _ (has : HasCommands (part_seen rules new) (at.requests ++ request ∷ [])) (made : List Move) (writes : AreWrites made) where
       pub line_broken : (missing : List ℕ) → shown prompt along request ≡ written_in made ++ missing → EndsWith FailsToWrite made → IsSession prompt (part_with replies new) (ended_by output.Write) (moves ++ made)
       line_broken missing said fails = broken moves seat along held (10 ∷ left) at request asks made writes (lines_of left) now_lines missing said fails new has
 
       -- it was another line than `quit`
-      pub line_answered : (next : Along) (kept : List ℕ) → written_in made ≡ shown prompt along request → next ≡ after along request → next.lines ≡ along.lines + 1 → kept ≡ [] → request ≢ Quit → IsAt prompt replies (moves ++ made) new next kept left
+      pub line_answered : (next : Along) (kept : List ℕ) → written_in made ≡ shown prompt along request → next ≡ after along request → next.lines ≡ along.lines + 1 → kept ≡ [] → request ≢ Quit → IsAt rules prompt replies (moves ++ made) new next kept left
       line_answered next kept said is one emptied other =
           let asked : Asks request at.line = whole_line moves seat along held (10 ∷ left) at request asks made writes in
           let read : read_in (moves ++ made) ≡ read_in moves = same_read moves seat along held (10 ∷ left) at request asks made writes in
@@ -288,13 +290,13 @@ module _ (prompt : List ℕ) (replies : List Answer) where
             ends = record {
               served =
                   subst (λ parts. IsServed prompt (part_with replies new) parts (written_in (moves ++ made))) (sym lines)
-                  (at.requests ++ Quit ∷ [], asked_to_quit at.requests at.lines at.line (lines_of left) at.asked at.goes_on asked.1 asked, text, subst (λ r. HasCommands (part_seen new) (at.requests ++ r ∷ [])) is_quit has);
+                  (at.requests ++ Quit ∷ [], asked_to_quit at.requests at.lines at.line (lines_of left) at.asked at.goes_on asked.1 asked, text, subst (λ r. HasCommands (part_seen rules new) (at.requests ++ r ∷ [])) is_quit has);
               ended = by_quit (at.lines, ended_lines left, ended);
             };
           }
 
   -- there is no more input
-  module _ (moves : List Move) (seat : SeatView) (along : Along) (held : List ℕ) (at : IsAt prompt replies moves seat along held []) (over : IsOver moves) where
+  module _ (moves : List Move) (seat : SeatView) (along : Along) (held : List ℕ) (at : IsAt rules prompt replies moves seat along held []) (over : IsOver moves) where
     last_lines : 0 < length held → lines_of (read_in moves) ≡ at.lines ++ at.line ∷ []
     last_lines some =
         let some_line : 0 < length at.line = omega (arith, some, ap length at.held_is, length-take (longest + 1) at.line) in
@@ -302,11 +304,11 @@ module _ (prompt : List ℕ) (replies : List Answer) where
 
     -- a last line without its end
     module _ (some : 0 < length held) (request : Request) (asks : Asks request held) (new : SeatView) where
-      pub last_lost : HasCommands (part_seen new) at.requests ⊎ HasCommands (part_seen new) (at.requests ++ request ∷ []) → IsSession prompt (part_with replies new) (ended_by output.NoMemory) moves
+      pub last_lost : HasCommands (part_seen rules new) at.requests ⊎ HasCommands (part_seen rules new) (at.requests ++ request ∷ []) → IsSession prompt (part_with replies new) (ended_by output.NoMemory) moves
       last_lost (inl has) = lost_before moves seat along held [] at new has
       last_lost (inr has) = lost_behind moves seat along held [] at new request (whole_line moves seat along held [] at request asks [] tt) [] (last_lines some ∙ sym (append-nil (at.lines ++ at.line ∷ []))) has
 
-      module _ (has : HasCommands (part_seen new) (at.requests ++ request ∷ [])) (made : List Move) (writes : AreWrites made) where
+      module _ (has : HasCommands (part_seen rules new) (at.requests ++ request ∷ [])) (made : List Move) (writes : AreWrites made) where
         pub last_broken : (missing : List ℕ) → shown prompt along request ≡ written_in made ++ missing → EndsWith FailsToWrite made → IsSession prompt (part_with replies new) (ended_by output.Write) (moves ++ made)
         last_broken missing said fails = broken moves seat along held [] at request asks made writes [] (last_lines some ∙ sym (append-nil (at.lines ++ at.line ∷ []))) missing said fails new has
 
@@ -342,7 +344,7 @@ module _ (prompt : List ℕ) (replies : List Answer) where
   -- ---- before the first line
 
   module _ (seat : SeatView) (new : calls_of seat ≡ []) (made : List Move) (writes : AreWrites made) where
-    pub prompted : written_in made ≡ prompt → IsAt prompt replies made seat (begun replies) [] []
+    pub prompted : written_in made ≡ prompt → IsAt rules prompt replies made seat (begun replies) [] []
     prompted said =
         record {
           lines = [];

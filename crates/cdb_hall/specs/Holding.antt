@@ -5,22 +5,23 @@ use Rattle.cdb_debug.specs.Moves.{Known}
 use Rattle.cdb_play.specs.declared.fault.PlayFault.{PlayFault}
 use Rattle.cdb_play.specs.declared.fault.RaceFault.{RaceFault}
 use Rattle.cdb_play.specs.declared.fault.RaceFault.TheVariants as fault
-use Rattle.cdb_setup.specs.Format.{StandsFor}
+use Rattle.cdb_rules.specs.Rules.{Rules}
+use Rattle.cdb_setup.specs.Format.{Encodes}
 use Rattle.cdb_setup.specs.Order.{IsFirstFault}
 use Rattle.cdb_setup.specs.Parts.{Parts}
 use Rattle.cdb_hall.specs.Halls.{IsHall, journal_text}
 use Rattle.cdb_hall.specs.Reports.{outcomes, failures_text, status_of, IsPut}
-use Rattle.cdb_hall.specs.declared.place.Place.{Place}
-use Rattle.cdb_hall.specs.declared.place.Attended.{Attended}
+use Rattle.cdb_hall.specs.declared.station.Station.{Station}
+use Rattle.cdb_hall.specs.declared.station.Attended.{Attended}
 
 -- the sessions were held, the journal was written and what failed was reported, as far as that went, and this is the status
-pub record Holds {T O E : Type 0} (known : T → Known) (contents : O → Option (List ℕ)) (failures : O → ℕ) (told_contents : E → Option (List ℕ)) (told_failures : E → ℕ)
-    (json : List ℕ) (places : List (Place T)) (output output_after : O) (error error_after : E) (status : ℕ) : Type 0 where
+pub record Holds {T O E : Type 0} (rules : Parts → Rules) (known : T → Known) (contents : O → Option (List ℕ)) (failures : O → ℕ) (told_contents : E → Option (List ℕ)) (told_failures : E → ℕ)
+    (json : List ℕ) (stations : List (Station T)) (output output_after : O) (error error_after : E) (status : ℕ) : Type 0 where
   pub setup : Parts
-  pub stands : StandsFor json setup
+  pub stands : Encodes json setup
   pub control : Journaled
   pub attended : List (Attended T)
-  pub hall : IsHall known setup places control attended
+  pub hall : IsHall rules known setup stations control attended
   pub written : Result (Unit {0}) PlayFault
   pub journal : IsPut contents failures written output output_after (journal_text control.journal)
   pub told : Result (Unit {0}) PlayFault

@@ -11,8 +11,17 @@ use Rattle.cdb_text.specs.declared.fault.LineFault.TheVariants.{Word}
 use Rattle.cdb_hall.specs.declared.help.TheConstants.{HELP}
 use Rattle.cdb_shared.specs.Seats.{SeatView, IsLater, IsCall, SameCalls, SeesFull}
 use Rattle.cdb_hall.specs.Dialogues.{Along, answer_to, shown}
-use Rattle.cdb_hall.specs.declared.session.Session.{Session}
-use Rattle.cdb_rules.specs.Algorithms.{rules}
+use Rattle.cdb_rules.specs.Rules.{Rules}
+use Rattle.cdb_setup.specs.Parts.{Parts}
+
+-- A seat's session between two lines: the seat, and how many lines there were.
+pub record Session : Type 0 where
+  pub seat : SeatView
+  pub lines : ℕ
+
+-- a session that got these replies at its next line
+abbrev pub at_line : Session → List Answer → Along
+at_line session got = record { replies = got; lines = session.lines }
 
 -- the answer to a line that asks for no command, after this many lines
 abbrev pub own_answer : ℕ → Request → List ℕ
@@ -23,40 +32,37 @@ own_answer lines Quit = []
 own_answer lines (Fault fault) = fault_text (lines + 1) fault
 own_answer lines TooLong = too_long_text (lines + 1)
 
--- The seat has called nothing since, or one command, and got this reply to it.
-abbrev pub HasGot : SeatView → Request → List Answer → SeatView → Type 0
-HasGot old request [] new = SameCalls old new.seen × (SeesFull old → SeesFull new)
-HasGot old request (reply ∷ []) new =
-    (command : Command) × (request ≡ Call command) × IsCall rules old command reply new × (length new.seen ≤ MAX_ENTRIES)
-HasGot old request (reply ∷ other ∷ more) new = ⊥
-
 -- a command without a reply found the journal full
 abbrev pub FindsFull : Request → List Answer → SeatView → Type 0
 FindsFull request got seat = (command : Command) → request ≡ Call command → got ≡ [] → SeesFull seat
 
--- the seat has done what a line asks for, and got these replies, none or one
-pub record HasDone (old : SeatView) (request : Request) (got : List Answer) (new : SeatView) : Type 0 where
-  pub later : IsLater old new
-  pub calls : HasGot old request got new
-  pub full : FindsFull request got new
+module _ (rules : Parts → Rules) where
+  -- The seat has called nothing since, or one command, and got this reply to it.
+  abbrev pub HasGot : SeatView → Request → List Answer → SeatView → Type 0
+  HasGot old request [] new = SameCalls old new.seen × (SeesFull old → SeesFull new)
+  HasGot old request (reply ∷ []) new =
+      (command : Command) × (request ≡ Call command) × IsCall rules old command reply new × (length new.seen ≤ MAX_ENTRIES)
+  HasGot old request (reply ∷ other ∷ more) new = ⊥
 
--- out of memory it may have done so
-pub record MayHaveDone (old : SeatView) (request : Request) (got : List Answer) (new : SeatView) : Type 0 where
-  pub later : IsLater old new
-  pub calls : HasGot old request got new
+  -- the seat has done what a line asks for, and got these replies, none or one
+  pub record HasDone (old : SeatView) (request : Request) (got : List Answer) (new : SeatView) : Type 0 where
+    pub later : IsLater old new
+    pub calls : HasGot old request got new
+    pub full : FindsFull request got new
 
--- a session that got these replies at its next line
-abbrev pub at_line : Session → List Answer → Along
-at_line session got = record { replies = got; lines = session.lines }
+  -- out of memory it may have done so
+  pub record MayHaveDone (old : SeatView) (request : Request) (got : List Answer) (new : SeatView) : Type 0 where
+    pub later : IsLater old new
+    pub calls : HasGot old request got new
 
--- the answer to a line that asks for this
-abbrev pub Answers : {E : Type 0} → Result (Vec ℕ Global) E → Session → Request → Session → Type 0
-Answers (Ok text) old request new =
-    (got : List Answer) × HasDone old.seat request got new.seat × (text.items ≡ answer_to (at_line old got) request)
-Answers (Err fault) old request new = (got : List Answer) × MayHaveDone old.seat request got new.seat
+  -- the answer to a line that asks for this
+  abbrev pub Answers : {E : Type 0} → Result (Vec ℕ Global) E → Session → Request → Session → Type 0
+  Answers (Ok text) old request new =
+      (got : List Answer) × HasDone old.seat request got new.seat × (text.items ≡ answer_to (at_line old got) request)
+  Answers (Err fault) old request new = (got : List Answer) × MayHaveDone old.seat request got new.seat
 
--- what is shown then
-abbrev pub Shows : {E : Type 0} → List ℕ → Result (Vec ℕ Global) E → Session → Request → Session → Type 0
-Shows prompt (Ok text) old request new =
-    (got : List Answer) × HasDone old.seat request got new.seat × (text.items ≡ shown prompt (at_line old got) request)
-Shows prompt (Err fault) old request new = (got : List Answer) × MayHaveDone old.seat request got new.seat
+  -- what is shown then
+  abbrev pub Shows : {E : Type 0} → List ℕ → Result (Vec ℕ Global) E → Session → Request → Session → Type 0
+  Shows prompt (Ok text) old request new =
+      (got : List Answer) × HasDone old.seat request got new.seat × (text.items ≡ shown prompt (at_line old got) request)
+  Shows prompt (Err fault) old request new = (got : List Answer) × MayHaveDone old.seat request got new.seat

@@ -8,11 +8,12 @@ use Rattle.cdb_control.specs.declared.command.Command.{Command}
 use Rattle.cdb_debug.specs.Requests.{AreAsked}
 use Rattle.cdb_debug.specs.declared.request.Request.{Request}
 use Rattle.cdb_debug.specs.declared.request.Request.TheVariants.{Call, Seat, Help, Quit, Fault, TooLong}
-use Rattle.cdb_rules.specs.Algorithms.{rules}
+use Rattle.cdb_rules.specs.Rules.{Rules}
+use Rattle.cdb_setup.specs.Parts.{Parts}
 use Rattle.cdb_shared.specs.Seats.{SeatView}
 use Rattle.cdb_shared.specs.Sessions.{calls_of, replies_to}
 
--- The seat's commands, in order; the replies to them, each at its place in the journal; and how many entries the journal
+-- The seat's commands, in order; the replies to them, each at its position in the journal; and how many entries the journal
 -- has in all.
 pub record Part : Type 0 where
   pub calls : List Command
@@ -20,13 +21,13 @@ pub record Part : Type 0 where
   pub entries : ℕ
 
 -- in the journal of a control
-abbrev pub part_in : Journaled → ℕ → Part
-part_in c seat =
+abbrev pub part_in : (Parts → Rules) → Journaled → ℕ → Part
+part_in rules c seat =
     record { calls = own seat c.journal; replies = replies_of (rules c.setup) c.setup c.seats seat c.journal; entries = length c.journal }
 
 -- in the journal that the seat has seen
-abbrev pub part_seen : SeatView → Part
-part_seen seat = record { calls = calls_of seat; replies = replies_to rules seat; entries = length seat.seen }
+abbrev pub part_seen : (Parts → Rules) → SeatView → Part
+part_seen rules seat = record { calls = calls_of seat; replies = replies_to rules seat; entries = length seat.seen }
 
 abbrev pub command_in : Request → List Command
 command_in (Call command) = command ∷ []

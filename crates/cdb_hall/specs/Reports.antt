@@ -5,7 +5,7 @@ use Rattle.cdb_play.specs.Statuses.{play_status}
 use Rattle.cdb_play.specs.Streams.{Takes, Fails}
 use Rattle.cdb_play.specs.declared.fault.PlayFault.{PlayFault}
 use Rattle.cdb_play.specs.declared.fault.PlayFault.TheVariants as fault
-use Rattle.cdb_hall.specs.declared.place.Attended.{Attended}
+use Rattle.cdb_hall.specs.declared.station.Attended.{Attended}
 
 -- how the sessions ended
 abbrev pub outcomes : {T : Type 0} → List (Attended T) → List (Result (Unit {0}) PlayFault)

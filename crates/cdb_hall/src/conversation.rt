@@ -6,9 +6,9 @@ ghost use Rattle.cdb_shared.specs.Seats.{RestsAt, IsLater};
 
 use crate::hearing::{answer_held, hear};
 use crate::session::Session;
-use cdb_any_run::RunOfSetup;
 use cdb_debug::{Talk, say};
 use cdb_play::PlayFault;
+use cdb_rules::Runs;
 use cdb_shared::Shared;
 use std::alloc::Global;
 use std::sync::Wait;
@@ -20,18 +20,18 @@ const PIECE: usize = 4096;
 const MOST_INPUT: u64 = 1 << 63;
 
 /// Answers a last line that has not ended, if there is one.
-fn answer_last<T: Talk, R: Wait>(
-    shared: &Shared<RunOfSetup>,
-    rt: &R,
+fn answer_last<R: Runs, T: Talk, Rt: Wait>(
+    shared: &Shared<R>,
+    rt: &Rt,
     alloc: Global,
     prompt: &[u8],
-    session: &mut Session,
+    session: &mut Session<R>,
     mut held: Vec<u8>,
     talk: &mut T,
 ) -> Result<(), PlayFault>
     requires rests { RestsAt shared.now session.old.seat }
     requires lines { session.old.lines < 2 ^ 64 - 1 }
-    ensures last { AnswersLast result (T.known talk.old) (T.known talk.new)
+    ensures last { AnswersLast R.rules result (T.known talk.old) (T.known talk.new)
         prompt.now session.old session.new held.items }
     ensures seat { IsLater session.old.seat session.new.seat }
 {
@@ -46,18 +46,19 @@ fn answer_last<T: Talk, R: Wait>(
 /// is shown before each line. The end of the input ends the session too, and so do 2^63 bytes. After `Read` each line
 /// that has ended is answered, after `Write` what was written is a beginning of the answers, and after `NoMemory` it is
 /// the answers to a beginning of the lines.
-pub(crate) fn converse<T: Talk, R: Wait>(
-    shared: &Shared<RunOfSetup>,
-    rt: &R,
+pub(crate) fn converse<R: Runs, T: Talk, Rt: Wait>(
+    shared: &Shared<R>,
+    rt: &Rt,
     alloc: Global,
     prompt: &[u8],
-    session: &mut Session,
+    session: &mut Session<R>,
     talk: &mut T,
 ) -> Result<(), PlayFault>
     requires rests { RestsAt shared.now session.old.seat }
     requires new { session.old.seat.seen ≡ [] }
     requires lines { session.old.lines ≡ 0 }
-    ensures all { Converses result (T.known talk.old) (T.known talk.new) prompt.now session.new }
+    ensures all { Converses R.rules result (T.known talk.old) (T.known talk.new)
+        prompt.now session.new }
     ensures seat { IsLater session.old.seat session.new.seat }
 {
     let Ok(()) = say(talk, prompt) else {

@@ -6,26 +6,26 @@ ghost use Rattle.cdb_setup.specs.Format.{longest};
 ghost use Rattle.cdb_shared.specs.Seats.{RestsAt, IsLater};
 
 use crate::session::Session;
-use cdb_any_run::RunOfSetup;
 use cdb_debug::{Request, Talk, cut, hold, request_of, say};
 use cdb_play::OutputFault;
+use cdb_rules::Runs;
 use cdb_shared::Shared;
 use std::alloc::Global;
 use std::sync::Wait;
 
 /// Answers the line that is held, and holds nothing then. Returns whether the line was `quit`.
-pub(crate) fn answer_held<T: Talk, R: Wait>(
-    shared: &Shared<RunOfSetup>,
-    rt: &R,
+pub(crate) fn answer_held<R: Runs, T: Talk, Rt: Wait>(
+    shared: &Shared<R>,
+    rt: &Rt,
     alloc: Global,
     prompt: &[u8],
-    session: &mut Session,
+    session: &mut Session<R>,
     held: &mut Vec<u8>,
     talk: &mut T,
 ) -> Result<bool, OutputFault>
     requires rests { RestsAt shared.now session.old.seat }
     requires lines { session.old.lines < 2 ^ 64 - 1 }
-    ensures held { AnswersHeld result (T.known talk.old) (T.known talk.new)
+    ensures held { AnswersHeld R.rules result (T.known talk.old) (T.known talk.new)
         prompt.now session.old session.new held.old.items held.new.items }
     ensures seat { IsLater session.old.seat session.new.seat }
 {
@@ -38,12 +38,12 @@ pub(crate) fn answer_held<T: Talk, R: Wait>(
 
 /// Answers each line that ends in these bytes, up to `quit`, and holds what follows the last. Returns whether one was
 /// `quit`.
-pub(crate) fn hear<T: Talk, R: Wait>(
-    shared: &Shared<RunOfSetup>,
-    rt: &R,
+pub(crate) fn hear<R: Runs, T: Talk, Rt: Wait>(
+    shared: &Shared<R>,
+    rt: &Rt,
     alloc: Global,
     prompt: &[u8],
-    session: &mut Session,
+    session: &mut Session<R>,
     held: &mut Vec<u8>,
     talk: &mut T,
     bytes: &[u8],
@@ -51,7 +51,7 @@ pub(crate) fn hear<T: Talk, R: Wait>(
     requires rests { RestsAt shared.now session.old.seat }
     requires lines { session.old.lines + length bytes.now < 2 ^ 64 }
     requires held { length held.old.items ≤ longest + 1 }
-    ensures heard { Hears result (T.known talk.old) (T.known talk.new)
+    ensures heard { Hears R.rules result (T.known talk.old) (T.known talk.new)
         prompt.now session.old session.new held.old.items held.new.items bytes.now }
     ensures held { OnOk result (length held.new.items ≤ longest + 1) }
     ensures lines { OnOk result (session.new.lines ≤ session.old.lines + length bytes.now) }

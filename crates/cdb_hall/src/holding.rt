@@ -4,11 +4,12 @@ ghost use Rattle.std.specs.Prelude.{◌≡◌, ◌≤◌, vec_len, IfOk, IfErr, 
 ghost use Rattle.cdb_hall.specs.Faults.{of_hall};
 ghost use Rattle.cdb_hall.specs.Holding.{Holds, IsFaultOfHall};
 
-use crate::place::Place;
 use crate::reports::{status_after, write_failures, write_journal};
+use crate::station::Station;
 use crate::threads::{HallFault, debug_seats};
 use cdb_debug::Talk;
 use cdb_play::{RaceFault, Sink};
+use cdb_rules::Runs;
 use cdb_setup::Setup;
 use std::alloc::Global;
 use std::sync::Wait;
@@ -24,7 +25,7 @@ fn of_hall(fault: HallFault) -> RaceFault
     }
 }
 
-/// Holds sessions of as many seats as there are places, from 1 to 64, over one run of the setup, until all have ended.
+/// Holds sessions of as many seats as there are stations, from 1 to 64, over one run of the setup, until all have ended.
 /// Then the journal is written to the output, a line for each entry, and to the other output a line for each seat that
 /// failed, and one where the journal could not be written. Returned is the status: 6 or 7 where the journal could not be
 /// written, else that of the least seat that failed, and 0 where none did.
@@ -32,18 +33,18 @@ fn of_hall(fault: HallFault) -> RaceFault
 /// # Errors
 /// `Setup` with the setup's first fault, and then no session was begun; `Spawn` where a thread can't be started, and
 /// `NoMemory` where an allocation fails before the sessions have ended. Nothing was written to either output.
-pub fn hold<T: Talk + Drop + Send, R: Threads + Wait + Sync, O: Sink, E: Sink>(
-    rt: &R,
+pub fn hold<R: Runs + Send, T: Talk + Drop + Send, Rt: Threads + Wait + Sync, O: Sink, E: Sink>(
+    rt: &Rt,
     alloc: Global,
     setup: &[u8],
-    places: Vec<Place<T>>,
+    stations: Vec<Station<T>>,
     output: &mut O,
     error: &mut E,
 ) -> Result<u8, RaceFault>
-    requires some { 1 ≤ vec_len places }
-    requires fits { vec_len places ≤ 64 }
-    ensures held { IfOk result (Holds T.known O.contents O.failures E.contents E.failures
-        setup.now places.items output.old output.new error.old error.new) }
+    requires some { 1 ≤ vec_len stations }
+    requires fits { vec_len stations ≤ 64 }
+    ensures held { IfOk result (Holds R.rules T.known O.contents O.failures
+        E.contents E.failures setup.now stations.items output.old output.new error.old error.new) }
     ensures fault { IfErr result (IsFaultOfHall setup.now) }
     ensures unwritten { OnErr result ((output.new ≡ output.old) × (error.new ≡ error.old)) }
 {
@@ -51,7 +52,7 @@ pub fn hold<T: Talk + Drop + Send, R: Threads + Wait + Sync, O: Sink, E: Sink>(
         Ok(setup) => setup,
         Err(fault) => return Err(RaceFault::from(fault)),
     };
-    let (control, attended) = match debug_seats(rt, alloc, setup, places) {
+    let (control, attended) = match debug_seats::<R, T, Rt>(rt, alloc, setup, stations) {
         Ok(held) => held,
         Err(fault) => return Err(of_hall(fault)),
     };

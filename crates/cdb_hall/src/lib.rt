@@ -2,8 +2,8 @@
 //! all inputs have ended; one journal then explains what each was answered.
 //!
 //! ```text
-//! let places = vec![in alloc; Place { talk, prompt: b"> " }]?;
-//! let (control, attended) = debug_seats(rt, alloc, setup, places)?;
+//! let stations = vec![in alloc; Station { talk, prompt: b"> " }]?;
+//! let (control, attended) = debug_seats::<R, _, _>(rt, alloc, setup, stations)?;
 //! let text = journal_text(alloc, control.journal())?;
 //! ```
 #![tactic(auto)]
@@ -13,15 +13,15 @@ mod hearing;
 mod help;
 mod holding;
 mod journal;
-mod place;
 mod reports;
 mod session;
+mod station;
 mod threads;
 mod worker;
 
 pub use help::HELP;
 pub use holding::hold;
 pub use journal::journal_text;
-pub use place::{Attended, Place};
 pub use reports::{status_after, write_failures, write_journal};
+pub use station::{Attended, Station};
 pub use threads::{HallFault, debug_seats};

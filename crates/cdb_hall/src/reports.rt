@@ -7,7 +7,7 @@ ghost use Rattle.cdb_hall.specs.Reports.{IsPut, outcomes, seat_line, seat_lines,
 ghost use Rattle.cdb_hall.specs.Reports.{journal_line, failures_text, status_of as status_is};
 
 use crate::journal::journal_text;
-use crate::place::Attended;
+use crate::station::Attended;
 use cdb_base::NoMemory;
 use cdb_control::Entry;
 use cdb_play::{PlayFault, Sink, status_of, write_all};

@@ -7,53 +7,63 @@ ghost use Rattle.cdb_hall.specs.Lines.{Answers, Shows, own_answer};
 ghost use Rattle.cdb_shared.specs.Seats.{RestsAt};
 
 use crate::help::HELP;
-use cdb_any_run::RunOfSetup;
 use cdb_base::NoMemory;
 use cdb_control::{CallFault, Command};
 use cdb_debug::{Request, push_fault, push_too_long};
+use cdb_rules::Runs;
 use cdb_shared::{Seat, Shared};
 use cdb_text::{LineFault, reply_text};
 use std::alloc::{AllocError, Global};
+use std::marker::Model;
 use std::sync::Wait;
 
 /// A seat between two lines, and how many lines there were.
 #[derive(Drop)]
-pub(crate) struct Session {
-    pub(crate) seat: Seat<RunOfSetup>,
+pub(crate) struct Session<R: Runs> {
+    pub(crate) seat: Seat<R>,
     pub(crate) lines: u64,
 }
 
-impl Session {
+impl<R: Runs> Model for Session<R> {
+    ghost use Rattle.cdb_hall.specs.Lines.{Session as SessionView};
+
+    ghost Value = { SessionView };
+
+    ghost view = { λ s. record { seat = s.seat; lines = s.lines } };
+}
+
+impl<R: Runs> Session<R> {
     /// Carries a command out for the seat, and returns the text of the reply.
-    fn call<R: Wait>(
+    fn call<Rt: Wait>(
         &mut self,
-        shared: &Shared<RunOfSetup>,
-        rt: &R,
+        shared: &Shared<R>,
+        rt: &Rt,
         alloc: Global,
         command: Command,
     ) -> Result<Vec<u8>, NoMemory>
         requires { RestsAt shared.now self.old.seat }
-        ensures answers { Answers result self.old (Request.Call command) self.new }
+        ensures answers { Answers R.rules result self.old (Request.Call command) self.new }
         ensures lines { self.new.lines ≡ self.old.lines }
     {
-        match shared.call(rt, alloc, &mut self.seat, command) {
-            Ok(reply) => reply_text(alloc, &reply),
-            Err(CallFault::JournalFull) => Ok(b"journal full\n".to_vec(alloc)?),
-            Err(CallFault::NoMemory) => Err(NoMemory),
-        }
+        let reply = match shared.call(rt, alloc, &mut self.seat, command) {
+            Ok(reply) => reply,
+            Err(CallFault::JournalFull) => return Ok(b"journal full\n".to_vec(alloc)?),
+            Err(CallFault::NoMemory) => return Err(NoMemory),
+        };
+        reply_text(alloc, &reply)
     }
 
     /// Does what a line asks for, and returns the answer. After an error the session is not to go on.
-    fn answer<R: Wait>(
+    fn answer<Rt: Wait>(
         &mut self,
-        shared: &Shared<RunOfSetup>,
-        rt: &R,
+        shared: &Shared<R>,
+        rt: &Rt,
         alloc: Global,
         request: Request,
     ) -> Result<Vec<u8>, NoMemory>
         requires rests { RestsAt shared.now self.old.seat }
         requires lines { self.old.lines < 2 ^ 64 - 1 }
-        ensures answers { Answers result self.old request self.new }
+        ensures answers { Answers R.rules result self.old request self.new }
         ensures lines { self.new.lines ≡ self.old.lines }
     {
         match request {
@@ -64,17 +74,17 @@ impl Session {
 
     /// Does what a line asks for, and returns what is shown then: the answer, and the prompt unless the line was
     /// `quit`. After an error the session is not to go on.
-    pub(crate) fn show<R: Wait>(
+    pub(crate) fn show<Rt: Wait>(
         &mut self,
-        shared: &Shared<RunOfSetup>,
-        rt: &R,
+        shared: &Shared<R>,
+        rt: &Rt,
         alloc: Global,
         prompt: &[u8],
         request: Request,
     ) -> Result<Vec<u8>, NoMemory>
         requires rests { RestsAt shared.now self.old.seat }
         requires lines { self.old.lines < 2 ^ 64 - 1 }
-        ensures shows { Shows prompt.now result self.old request self.new }
+        ensures shows { Shows R.rules prompt.now result self.old request self.new }
         ensures lines { OnOk result (self.new.lines ≡ self.old.lines + 1) }
     {
         let again = request;

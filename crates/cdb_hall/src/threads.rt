@@ -3,16 +3,14 @@
 ghost use Rattle.std.specs.Prelude.{◌≡◌, ◌≤◌, length, vec_len, All, IfOk, IfErr, OnErr};
 ghost use Rattle.cdb_hall.specs.Halls.{IsHall};
 ghost use Rattle.cdb_hall.specs.Promises.{IsReady, IsPromise, ArePromises, AllAttended, AreOfLefts, HasAttended};
-ghost use Rattle.cdb_rules.specs.Algorithms.{rules};
-ghost use Rattle.cdb_rules.specs.SameState.{ReachSameState};
 ghost use Rattle.cdb_shared.specs.Seats.{HasHeadline};
 
-use crate::place::{Attended, Place};
+use crate::station::{Attended, Station};
 use crate::worker::{Left, SeatPromise, attend};
-use cdb_any_run::RunOfSetup;
 use cdb_control::Control;
 use cdb_debug::Talk;
 use cdb_race::{RefusedStart, start};
+use cdb_rules::Runs;
 use cdb_setup::Setup;
 use cdb_shared::{Seat, Shared};
 use std::alloc::Global;
@@ -48,97 +46,110 @@ impl fmt::Display for HallFault {
 impl Error for HallFault {}
 
 /// Starts a thread for one seat.
-fn start_one<'s, E, T: Talk + Drop + Send + 's, R: Threads + Wait + Sync>(
+fn start_one<'s, E, R: Runs + Send + 's, T: Talk + Drop + Send + 's, Rt: Threads + Wait + Sync>(
     scope: &Scope<'s, E>,
-    rt: &'s R,
+    rt: &'s Rt,
     alloc: Global,
-    shared: &'s Shared<RunOfSetup>,
-    seat: Seat<RunOfSetup>,
-    place: Place<T>,
-) -> Result<PromisedHandle<Left<T>, SeatPromise<T>>, HallFault>
+    shared: &'s Shared<R>,
+    seat: Seat<R>,
+    station: Station<T>,
+) -> Result<PromisedHandle<Left<R, T>, SeatPromise<R, T>>, HallFault>
     requires { IsReady shared.now seat }
-    ensures { IfOk result (λ handle. IsPromise seat place handle.promise) }
+    ensures { IfOk result (λ handle. IsPromise seat station handle.promise) }
 {
     let promise = SeatPromise {
         seat: Snapshot::of(&seat),
-        place: Snapshot::of(&place),
+        station: Snapshot::of(&station),
     };
     let started = start(
         scope,
         promise,
-        move || -> Left<T>
+        move || -> Left<R, T>
             requires { IsReady shared.now seat }
-            ensures { HasAttended T.known seat place result }
-        { attend(shared, rt, alloc, seat, place) },
+            ensures { HasAttended R.rules T.known seat station result }
+        { attend(shared, rt, alloc, seat, station) },
     );
     started.map_err(HallFault::Spawn)
 }
 
 /// Starts a thread for each seat, the last seat's first.
-fn start_all<'s, E, T: Talk + Drop + Send + 's, R: Threads + Wait + Sync>(
+fn start_all<'s, E, R: Runs + Send + 's, T: Talk + Drop + Send + 's, Rt: Threads + Wait + Sync>(
     scope: &Scope<'s, E>,
-    rt: &'s R,
+    rt: &'s Rt,
     alloc: Global,
-    shared: &'s Shared<RunOfSetup>,
-    mut seats: Vec<Seat<RunOfSetup>>,
-    mut places: Vec<Place<T>>,
-) -> Result<Vec<PromisedHandle<Left<T>, SeatPromise<T>>>, HallFault>
+    shared: &'s Shared<R>,
+    mut seats: Vec<Seat<R>>,
+    mut stations: Vec<Station<T>>,
+) -> Result<Vec<PromisedHandle<Left<R, T>, SeatPromise<R, T>>>, HallFault>
     requires ready { All (λ seat. IsReady shared.now seat) seats.items }
-    requires places { vec_len places ≡ vec_len seats }
+    requires stations { vec_len stations ≡ vec_len seats }
     ensures count { IfOk result (λ handles. vec_len handles ≡ vec_len seats) }
-    ensures each { IfOk result (λ handles. ArePromises seats places handles) }
+    ensures each { IfOk result (λ handles. ArePromises seats stations handles) }
 {
     let Ok(mut handles) = Vec::with_capacity(alloc, seats.len()) else {
         return Err(HallFault::NoMemory);
     };
     while let Some(seat) = seats.pop() {
-        let Some(place) = places.pop() else {
+        let Some(station) = stations.pop() else {
             unreachable!()
         };
-        let handle = start_one(scope, rt, alloc, shared, seat, place)?;
+        let handle = start_one(scope, rt, alloc, shared, seat, station)?;
         handles.push_reserved(handle);
     }
     Ok(handles)
 }
 
-/// Serves every seat in a thread of its own, and joins them all. What the last seat's thread hands back comes first.
-fn attend_all<T: Talk + Drop + Send, R: Threads + Wait + Sync>(
-    rt: &R,
+/// Starts a thread for each seat in this scope, and joins them all. What the last seat's thread hands back comes first.
+fn join_all<'s, E, R: Runs + Send + 's, T: Talk + Drop + Send + 's, Rt: Threads + Wait + Sync>(
+    scope: &Scope<'s, E>,
+    rt: &'s Rt,
     alloc: Global,
-    shared: &Shared<RunOfSetup>,
-    seats: Vec<Seat<RunOfSetup>>,
-    places: Vec<Place<T>>,
-) -> Result<Vec<Left<T>>, HallFault>
+    shared: &'s Shared<R>,
+    seats: Vec<Seat<R>>,
+    stations: Vec<Station<T>>,
+) -> Result<Vec<Left<R, T>>, HallFault>
     requires ready { All (λ seat. IsReady shared.now seat) seats.items }
-    requires places { vec_len places ≡ vec_len seats }
+    requires stations { vec_len stations ≡ vec_len seats }
     ensures count { IfOk result (λ lefts. vec_len lefts ≡ vec_len seats) }
     ensures each { IfOk result
-        (λ lefts. AllAttended T.known seats.items places.items lefts.items) }
+        (λ lefts. AllAttended R.rules T.known seats.items stations.items lefts.items) }
+{
+    let handles = start_all(scope, rt, alloc, shared, seats, stations)?;
+    let Ok(lefts) = thread::join_promised(rt, handles) else {
+        return Err(HallFault::NoMemory);
+    };
+    Ok(lefts)
+}
+
+/// Serves every seat in a thread of its own, and joins them all. What the last seat's thread hands back comes first.
+fn attend_all<R: Runs + Send, T: Talk + Drop + Send, Rt: Threads + Wait + Sync>(
+    rt: &Rt,
+    alloc: Global,
+    shared: &Shared<R>,
+    seats: Vec<Seat<R>>,
+    stations: Vec<Station<T>>,
+) -> Result<Vec<Left<R, T>>, HallFault>
+    requires ready { All (λ seat. IsReady shared.now seat) seats.items }
+    requires stations { vec_len stations ≡ vec_len seats }
+    ensures count { IfOk result (λ lefts. vec_len lefts ≡ vec_len seats) }
+    ensures each { IfOk result
+        (λ lefts. AllAttended R.rules T.known seats.items stations.items lefts.items) }
 {
     thread::scope(
         thread::scope_env(),
         rt,
-        |scope| -> Result<Vec<Left<T>>, HallFault>
+        |scope| -> Result<Vec<Left<R, T>>, HallFault>
             requires ready { All (λ seat. IsReady shared.now seat) seats.items }
-            requires places { vec_len places ≡ vec_len seats }
-            ensures count { IfOk result (λ lefts. vec_len lefts ≡ vec_len seats) }
-            ensures each { IfOk result
-                (λ lefts. AllAttended T.known seats.items places.items lefts.items) }
-        {
-            let handles = start_all(scope, rt, alloc, shared, seats, places)?;
-            let Ok(lefts) = thread::join_promised(rt, handles) else {
-                return Err(HallFault::NoMemory);
-            };
-            Ok(lefts)
-        },
+            requires stations { vec_len stations ≡ vec_len seats }
+        { join_all(scope, rt, alloc, shared, seats, stations) },
     )
 }
 
 /// The seats, and whom their sessions talked with, the first seat's first.
-fn collect<T: Talk + Drop>(
+fn collect<R: Runs, T: Talk + Drop>(
     alloc: Global,
-    mut lefts: Vec<Left<T>>,
-) -> Result<(Vec<Seat<RunOfSetup>>, Vec<Attended<T>>), HallFault>
+    mut lefts: Vec<Left<R, T>>,
+) -> Result<(Vec<Seat<R>>, Vec<Attended<T>>), HallFault>
     ensures count { IfOk result
         (λ r. (vec_len r.0 ≡ vec_len lefts) × (vec_len r.1 ≡ vec_len lefts)) }
     ensures each { IfOk result (λ r. AreOfLefts r.0.items r.1.items lefts.items) }
@@ -157,33 +168,33 @@ fn collect<T: Talk + Drop>(
     Ok((seats, all))
 }
 
-/// Sessions of as many seats as there are places, from 1 to 64, over one run of the setup, each in a thread of its own,
-/// until all have ended; then the control, whose journal has the commands of all, and the places in the same order, each
-/// with how its session ended. The k-th place is that of seat k. A line is answered as in a session of one seat, but that
+/// Sessions of as many seats as there are stations, from 1 to 64, over one run of the setup, each in a thread of its own,
+/// until all have ended; then the control, whose journal has the commands of all, and the stations in the same order, each
+/// with how its session ended. The k-th station is that of seat k. A line is answered as in a session of one seat, but that
 /// no line chooses a seat. A seat whose session ends with a fault ends alone, and the others go on.
 ///
 /// # Errors
 /// `Spawn` where a thread can't be started, and `NoMemory` where the control, the threads or the results find no memory.
-/// Sessions that were begun by then go on to their ends, but their places and the journal are lost.
-pub fn debug_seats<T: Talk + Drop + Send, R: Threads + Wait + Sync>(
-    rt: &R,
+/// Sessions that were begun by then go on to their ends, but their stations and the journal are lost.
+pub fn debug_seats<R: Runs + Send, T: Talk + Drop + Send, Rt: Threads + Wait + Sync>(
+    rt: &Rt,
     alloc: Global,
     setup: Setup,
-    places: Vec<Place<T>>,
-) -> Result<(Control<RunOfSetup>, Vec<Attended<T>>), HallFault>
-    requires some { 1 ≤ vec_len places }
-    requires fits { vec_len places ≤ 64 }
-    ensures hall { IfOk result (λ r. IsHall T.known setup places.items r.0 r.1.items) }
-    ensures headline { IfOk result (λ r. HasHeadline rules ReachSameState r.0) }
+    stations: Vec<Station<T>>,
+) -> Result<(Control<R>, Vec<Attended<T>>), HallFault>
+    requires some { 1 ≤ vec_len stations }
+    requires fits { vec_len stations ≤ 64 }
+    ensures hall { IfOk result (λ r. IsHall R.rules T.known setup stations.items r.0 r.1.items) }
+    ensures headline { IfOk result (λ r. HasHeadline R.rules R.same_state r.0) }
 {
-    let count = places.len() as u8;
+    let count = stations.len() as u8;
     let Ok(control) = Control::open(alloc, setup, count) else {
         return Err(HallFault::NoMemory);
     };
-    let Ok((shared, seats)) = Shared::<RunOfSetup>::open(rt, alloc, control) else {
+    let Ok((shared, seats)) = Shared::<R>::open(rt, alloc, control) else {
         return Err(HallFault::NoMemory);
     };
-    let lefts = attend_all(rt, alloc, &shared, seats, places)?;
+    let lefts = attend_all(rt, alloc, &shared, seats, stations)?;
     let (seats, attended) = collect(alloc, lefts)?;
     let control = shared.finish(rt, seats);
     // Its clauses say that each entry is of a seat, and how many there are at most.

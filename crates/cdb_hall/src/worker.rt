@@ -3,10 +3,10 @@
 ghost use Rattle.cdb_hall.specs.Promises.{IsReady, HasAttended};
 
 use crate::conversation::converse;
-use crate::place::{Attended, Place};
 use crate::session::Session;
-use cdb_any_run::RunOfSetup;
+use crate::station::{Attended, Station};
 use cdb_debug::Talk;
+use cdb_rules::Runs;
 use cdb_shared::{Seat, Shared};
 use std::alloc::Global;
 use std::snapshot::Snapshot;
@@ -15,36 +15,36 @@ use std::thread::Promise;
 
 /// A seat whose thread has ended.
 #[derive(Drop)]
-pub(crate) struct Left<T> {
-    pub(crate) seat: Seat<RunOfSetup>,
+pub(crate) struct Left<R: Runs, T> {
+    pub(crate) seat: Seat<R>,
     pub(crate) attended: Attended<T>,
 }
 
 /// What the thread of a seat promises.
 #[derive(Drop)]
-pub(crate) struct SeatPromise<T> {
-    pub(crate) seat: Snapshot<Seat<RunOfSetup>>,
-    pub(crate) place: Snapshot<Place<T>>,
+pub(crate) struct SeatPromise<R: Runs, T> {
+    pub(crate) seat: Snapshot<Seat<R>>,
+    pub(crate) station: Snapshot<Station<T>>,
 }
 
-impl<T: Talk> Promise<Left<T>> for SeatPromise<T> {
+impl<R: Runs, T: Talk> Promise<Left<R, T>> for SeatPromise<R, T> {
     ghost use Rattle.cdb_hall.specs.Promises.{HasAttended};
 
-    ghost kept_by = { λ p r. HasAttended T.known p.seat.value p.place.value r };
+    ghost kept_by = { λ p r. HasAttended R.rules T.known p.seat.value p.station.value r };
 }
 
-/// A seat's session at its place, from its first line to its last.
-pub(crate) fn attend<T: Talk + Drop, R: Wait>(
-    shared: &Shared<RunOfSetup>,
-    rt: &R,
+/// A seat's session at its station, from its first line to its last.
+pub(crate) fn attend<R: Runs, T: Talk + Drop, Rt: Wait>(
+    shared: &Shared<R>,
+    rt: &Rt,
     alloc: Global,
-    seat: Seat<RunOfSetup>,
-    place: Place<T>,
-) -> Left<T>
+    seat: Seat<R>,
+    station: Station<T>,
+) -> Left<R, T>
     requires { IsReady shared.now seat }
-    ensures { HasAttended T.known seat place result }
+    ensures { HasAttended R.rules T.known seat station result }
 {
-    let Place { mut talk, prompt } = place;
+    let Station { mut talk, prompt } = station;
     let mut session = Session { seat, lines: 0 };
     let outcome = converse(shared, rt, alloc, prompt, &mut session, &mut talk);
     let Session { seat, lines: _ } = session;

@@ -1,4 +1,4 @@
--- Each step that the table of the leader machine allows is one of those on which agreement hangs.
+-- Each step that the table of the leader machine allows is one of those on which agreement depends.
 use Rattle.std.specs.Prelude.{◌≡◌, ℕ, ◌+◌, ◌≤◌, Bool, true, false, ◌&&◌, not, nat_lt, List, [], ◌∷◌, ◌++◌, Option, Some, None, refl, if◌then◌else◌}
 use Rattle.std.specs.Option.{option_map, option_to_list}
 use Rattle.std.proofs.Common.{◌∙◌, inl, inr, arith, ap}

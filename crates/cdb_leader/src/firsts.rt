@@ -6,24 +6,27 @@ ghost use Rattle.cdb_leader.specs.Index.{position_from, noted, forgotten, Change
 
 use cdb_base::Proc;
 
+/// Where in an inbox an entry stands. It has 32 bits, since an index keeps many.
+pub(crate) type Position = u32;
+
 /// The position that is kept, or that one where none is.
-pub(crate) fn noted(kept: Option<usize>, position: usize) -> Option<usize>
+pub(crate) fn noted(kept: Option<Position>, position: Position) -> Option<Position>
     ensures { result ≡ noted position kept }
 {
     kept.or(Some(position))
 }
 
 /// The position that is kept, unless it is that one.
-pub(crate) fn forgotten(kept: Option<usize>, position: usize) -> Option<usize>
+pub(crate) fn forgotten(kept: Option<Position>, position: usize) -> Option<Position>
     ensures { result ≡ forgotten position kept }
 {
-    kept.filter(|i| *i != position)
+    kept.filter(|i| *i as usize != position)
 }
 
 /// For each sender where in an inbox its first message of one kind stands.
 #[derive(Clone, Copy)]
 pub struct Firsts {
-    positions: [Option<usize>; 9],
+    positions: [Option<Position>; 9],
 }
 
 impl Firsts {
@@ -39,7 +42,7 @@ impl Firsts {
 
     /// The position that is kept for that sender.
     #[tactic(auto, unfolding(crate::specs::Index::position_from))]
-    pub(crate) fn get(&self, sender: Proc) -> Option<usize>
+    pub(crate) fn get(&self, sender: Proc) -> Option<Position>
         ensures { result ≡ position_from sender self.now }
     {
         self.positions[sender.index()]
@@ -56,14 +59,14 @@ impl Firsts {
     }
 
     #[tactic(auto, unfolding(crate::specs::Index::position_from))]
-    fn set(&mut self, sender: Proc, kept: Option<usize>)
+    fn set(&mut self, sender: Proc, kept: Option<Position>)
         ensures { ChangesFrom sender (λ _. kept) self.old self.new }
     {
         self.positions[sender.index()] = kept;
     }
 
     /// Keeps the position for that sender, where none is kept.
-    pub(crate) fn note(&mut self, sender: Proc, position: usize)
+    pub(crate) fn note(&mut self, sender: Proc, position: Position)
         ensures { ChangesFrom sender (noted position) self.old self.new }
     {
         let kept = self.get(sender);

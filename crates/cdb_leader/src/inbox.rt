@@ -2,13 +2,13 @@
 
 ghost use Rattle.std.specs.Prelude.{◌≡◌, IsTrue, ◌↔◌, [], ◌∷◌, ◌++◌, OnOk, OnErr, All, is_some, slice_get};
 ghost use Rattle.std.specs.Option.{option_copied, option_and_then};
-ghost use Rattle.cdb_base.specs.Places.{without_last};
+ghost use Rattle.cdb_base.specs.Positions.{without_last};
 ghost use Rattle.cdb_base.specs.Processes.{all_processes};
 ghost use Rattle.cdb_leader.specs.Inbox.{first_phase, second_phase, first_phase_from, second_phase_from, decision_from, first_phase_senders, agreed_estimate, second_phase_senders, proposal, is_only_proposal, learnt};
 ghost use Rattle.cdb_leader.specs.Index.{AreFirsts, IsRowOf, said_by};
 
 use crate::first_phases::FirstPhases;
-use crate::firsts::Firsts;
+use crate::firsts::{Firsts, Position};
 use crate::index::Index;
 use crate::row::Row;
 use cdb_base::{NoMemory, Payload, Proc, Val};
@@ -90,10 +90,10 @@ impl Received {
 }
 
 /// The entry at that position, if one is given.
-pub(crate) fn entry_at(entries: &[Received], position: Option<usize>) -> Option<&Received>
+pub(crate) fn entry_at(entries: &[Received], position: Option<Position>) -> Option<&Received>
     ensures { option_copied result ≡ option_and_then (slice_get entries.now) position }
 {
-    entries.get(position?)
+    entries.get(position? as usize)
 }
 
 /// The messages that a process has received. A contract sees the list of them, in the order of

@@ -5,7 +5,7 @@ ghost use Rattle.cdb_leader.specs.declared.inbox.Received.{Received};
 ghost use Rattle.cdb_leader.specs.Inbox.{first_phase, second_phase, decision_in};
 ghost use Rattle.cdb_leader.specs.Index.{position_from, AreFirsts, IsRowOf, IsIndexOf};
 
-use crate::firsts::Firsts;
+use crate::firsts::{Firsts, Position};
 use crate::inbox::Received;
 use crate::row::Row;
 use cdb_base::{NoMemory, Proc};
@@ -64,19 +64,23 @@ impl Index {
     }
 
     /// Where the decision of that sender stands.
-    pub(crate) fn decision(&self, sender: Proc) -> Option<usize>
+    pub(crate) fn decision(&self, sender: Proc) -> Option<Position>
         ensures { result ≡ position_from sender self.now.decisions }
     {
         self.decisions.get(sender)
     }
 
-    /// Notes the entry that comes after those. Where an allocation fails, the index is as it was.
+    /// Notes the entry that comes after those. Where an allocation fails, the index is as it was. An entry
+    /// beyond position `u32::MAX` is refused in the same way.
     pub(crate) fn note(&mut self, entries: &[Received], entry: &Received) -> Result<(), NoMemory>
         ensures ok { IsIndexOf self.old entries.now
             → OnOk result (IsIndexOf self.new (entries.now ++ entry.now ∷ [])) }
         ensures err { IsIndexOf self.old entries.now
             → OnErr result (IsIndexOf self.new entries.now) }
     {
+        if entries.len() > Position::MAX as usize {
+            return Err(NoMemory);
+        }
         match entry.round() {
             Some(round) => {
                 if let Some(row) = self.rows.get_mut(&round) {
@@ -87,7 +91,7 @@ impl Index {
                 row.note(round, entries, entry);
                 self.rows.insert(round, row)?;
             }
-            None => self.decisions.note(entry.from, entries.len()),
+            None => self.decisions.note(entry.from, entries.len() as Position),
         }
         Ok(())
     }

@@ -49,7 +49,7 @@ impl Leader {
     ghost use Rattle.cdb_leader.specs.LocalState.{LocalState};
     ghost use Rattle.cdb_leader.specs.Table.{heard_first_phase, heard_second_phase, heard_lead, set_aux, end_round, query_at, sent_at, send_at, local_at, learn_at, recv_at};
     ghost use Rattle.cdb_leader.specs.Inbox.{proposal};
-    ghost use Rattle.cdb_base.specs.Places.{without_last};
+    ghost use Rattle.cdb_base.specs.Positions.{without_last};
     ghost use Rattle.cdb_leader.specs.Back.{state_before};
 
     /// Whether the first phase of the round came from at least as many senders as the quorum.

@@ -1,9 +1,9 @@
 //! What an index holds of one round.
 
-ghost use Rattle.std.specs.Prelude.{◌≡◌, ℕ, Some, ◌++◌, ◌∷◌, [], is_some, if◌then◌else◌};
+ghost use Rattle.std.specs.Prelude.{◌≡◌, ◌≤◌, ℕ, Some, ◌++◌, ◌∷◌, [], length, is_some, if◌then◌else◌};
 ghost use Rattle.cdb_leader.specs.Index.{round_of, noted, forgotten, ChangesFrom, answer_in, are_different, IsRowOf, IsEmptyRow};
 
-use crate::firsts::{Firsts, forgotten, noted};
+use crate::firsts::{Firsts, Position, forgotten, noted};
 use crate::inbox::{Received, entry_at};
 use cdb_base::{Payload, Proc, Val};
 
@@ -12,8 +12,8 @@ use cdb_base::{Payload, Proc, Val};
 pub struct Row {
     pub(crate) first_phases: Firsts,
     pub(crate) second_phases: Firsts,
-    answer: Option<usize>,
-    other_answer: Option<usize>,
+    answer: Option<Position>,
+    other_answer: Option<Position>,
 }
 
 /// Whether the answer that came first is there and carries something else.
@@ -53,7 +53,7 @@ impl Row {
         self.other_answer.is_some()
     }
 
-    fn note_answer(&mut self, sender: Proc, position: usize, other: bool)
+    fn note_answer(&mut self, sender: Proc, position: Position, other: bool)
         ensures first_phases { self.new.first_phases ≡ self.old.first_phases }
         ensures second_phases { ChangesFrom sender
             (noted position) self.old.second_phases self.new.second_phases }
@@ -82,14 +82,16 @@ impl Row {
 
     /// Notes an entry of the round, which comes after those.
     pub(crate) fn note(&mut self, round: u32, entries: &[Received], entry: &Received)
+        requires { length entries.now ≤ u32.MAX }
         ensures { round_of entry.now.payload ≡ Some round → IsRowOf round self.old entries.now
             → IsRowOf round self.new (entries.now ++ entry.now ∷ []) }
     {
+        let position = entries.len() as Position;
         match entry.payload {
-            Payload::P1 { .. } => self.first_phases.note(entry.from, entries.len()),
+            Payload::P1 { .. } => self.first_phases.note(entry.from, position),
             Payload::P2 { aux, .. } => {
                 let other = is_different(self.find_answer(round, entries), aux);
-                self.note_answer(entry.from, entries.len(), other);
+                self.note_answer(entry.from, position, other);
             }
             Payload::D { .. } => {}
         }

@@ -22,12 +22,12 @@ module _ {T : Type 0} where
   same_then old middle new one two =
       record { items = two.items ∙ one.items; marks = λ i less. two.marks i (subst (λ l. i < length l) (sym one.items) less) ∙ one.marks i less }
 
-  pub taken_then : (old middle new : List (List T)) (place : ℕ) (item : T) → place < length (joined old) → IsTakenOut old place item middle → IsSameLog middle new → IsTakenOut old place item new
-  taken_then old middle new place item within one two =
+  pub taken_then : (old middle new : List (List T)) (position : ℕ) (item : T) → position < length (joined old) → IsTakenOut old position item middle → IsSameLog middle new → IsTakenOut old position item new
+  taken_then old middle new position item within one two =
       record {
         stood = one.stood;
         items = two.items ∙ one.items;
-        earlier = λ i less. two.marks i (let e = ap length one.items in let f = length-remove (joined old) place within in omega arith) ∙ one.earlier i less;
+        earlier = λ i less. two.marks i (let e = ap length one.items in let f = length-remove (joined old) position within in omega arith) ∙ one.earlier i less;
         later = λ i le less.
             let in_middle = subst (λ l. i < length l) two.items less in
             let same = two.marks i in_middle in
@@ -166,12 +166,12 @@ module _ {T Z : Type 0} where
         high : (j : ℕ) → k < j → before (changed (v.items ++ item ∷ [])) j ≡ before old j + 1
         high j less = let e = before-set_high old k j v.items (v.items ++ item ∷ []) at_k less in let f = length_push v.items item in omega arith
 
-    pub replaced : (place i : ℕ) (item : T) → k < length pieces → place ≡ before (lists pieces) k + i → i < length v.items → w.items ≡ set v.items i item
-        → IsReplaced (lists pieces) place item (lists (set pieces k w)) × (HasRoom (lists pieces) → HasRoom (lists (set pieces k w)))
-    replaced place i item within is_place less is_w =
-        subst (λ l. IsReplaced old place item l × (HasRoom old → HasRoom l)) (sym (lists_set pieces k w ∙ ap (set old k) is_w)) (
+    pub replaced : (position i : ℕ) (item : T) → k < length pieces → position ≡ before (lists pieces) k + i → i < length v.items → w.items ≡ set v.items i item
+        → IsReplaced (lists pieces) position item (lists (set pieces k w)) × (HasRoom (lists pieces) → HasRoom (lists (set pieces k w)))
+    replaced position i item within is_position less is_w =
+        subst (λ l. IsReplaced old position item l × (HasRoom old → HasRoom l)) (sym (lists_set pieces k w ∙ ap (set old k) is_w)) (
           record {
-            items = joined_set old k v.items at_k place i is_place less item;
+            items = joined_set old k v.items at_k position i is_position less item;
             marks = marks_kept old (changed (set v.items i item)) (omega (arith, length-set old k (set v.items i item))) (λ l in_old. (same l, (let e = same (suc l) in omega arith)));
           },
           λ room. (room.0, room.1 ∙ sym (length-set old k (set v.items i item)), (let a = same (suc room.0) in let b = same room.0 in let r = room.2 in omega arith)),
@@ -187,15 +187,15 @@ module _ {T Z : Type 0} where
             (λ not_after. before-set_low old k j (set v.items i item) not_after)
             (below_or_above k j)
 
-    pub taken_out : (place i : ℕ) (item : T) → k < length pieces → place ≡ before (lists pieces) k + i → i < length v.items → slice_get v.items i ≡ Some item → w.items ≡ remove v.items i
-        → IsTakenOut (lists pieces) place item (lists (set pieces k w))
-    taken_out place i item within is_place less at_i is_w =
-        subst (λ l. IsTakenOut old place item l) (sym (lists_set pieces k w ∙ ap (set old k) is_w))
+    pub taken_out : (position i : ℕ) (item : T) → k < length pieces → position ≡ before (lists pieces) k + i → i < length v.items → slice_get v.items i ≡ Some item → w.items ≡ remove v.items i
+        → IsTakenOut (lists pieces) position item (lists (set pieces k w))
+    taken_out position i item within is_position less at_i is_w =
+        subst (λ l. IsTakenOut old position item l) (sym (lists_set pieces k w ∙ ap (set old k) is_w))
         (record {
-          stood = item_at old k v.items at_k place i is_place less ∙ at_i;
-          items = joined_remove old k v.items at_k place i is_place less;
-          earlier = let a = long in let step = before_step old k v.items at_k in marks_before old (changed (remove v.items i)) k place (length-set old k (remove v.items i)) (omega arith) (omega arith) (omega arith) low high;
-          later = let a = long in let step = before_step old k v.items at_k in marks_after old (changed (remove v.items i)) k place (length-set old k (remove v.items i)) (omega arith) (omega arith) (omega arith) low high;
+          stood = item_at old k v.items at_k position i is_position less ∙ at_i;
+          items = joined_remove old k v.items at_k position i is_position less;
+          earlier = let a = long in let step = before_step old k v.items at_k in marks_before old (changed (remove v.items i)) k position (length-set old k (remove v.items i)) (omega arith) (omega arith) (omega arith) low high;
+          later = let a = long in let step = before_step old k v.items at_k in marks_after old (changed (remove v.items i)) k position (length-set old k (remove v.items i)) (omega arith) (omega arith) (omega arith) low high;
         })
       where
         at_k : slice_get (lists pieces) k ≡ Some v.items

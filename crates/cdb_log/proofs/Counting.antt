@@ -79,7 +79,7 @@ module _ {T : Type 0} where
       let h = mark_from_at (first + 128) ps k (i - length q) (omega arith) (omega arith) (omega arith) in
       omega arith
 
-  -- the mark of an item by its piece and its place in that
+  -- the mark of an item by its piece and its position in that
   pub mark_at : (ps : List (List T)) (k i : ℕ) → k < length ps → before ps k ≤ i → i < before ps (suc k) → mark ps i + before ps k ≡ 128 * k + i
   mark_at ps k i within low high = let h = mark_from_at 0 ps k i within low high in omega arith
 
@@ -128,9 +128,9 @@ module _ {T : Type 0} where
       mark_kept old new i a.k a.within (omega arith) a.low a.high s.0 (omega arith)
 
   -- of an item of piece k, all earlier ones keep their marks, and those of later ones fall, if they change
-  module _ (old new : List (List T)) (k place : ℕ) (long : length new ≡ length old) (within : k < length old) (low : before old k ≤ place) (high : place < before old (suc k))
+  module _ (old new : List (List T)) (k position : ℕ) (long : length new ≡ length old) (within : k < length old) (low : before old k ≤ position) (high : position < before old (suc k))
       (earlier : (l : ℕ) → l ≤ k → before new l ≡ before old l) (later : (l : ℕ) → k < l → before new l + 1 ≡ before old l) where
-    pub marks_before : (i : ℕ) → i < place → mark new i ≡ mark old i
+    pub marks_before : (i : ℕ) → i < position → mark new i ≡ mark old i
     marks_before i less =
         let most = before_most old (suc k) in
         let a = located old i (omega arith) in
@@ -150,7 +150,7 @@ module _ {T : Type 0} where
         (below_or_above k a.k))
         (below_or_above a.k k)
 
-    pub marks_after : (i : ℕ) → place ≤ i → i < length (joined new) → mark new i ≤ mark old (suc i)
+    pub marks_after : (i : ℕ) → position ≤ i → i < length (joined new) → mark new i ≤ mark old (suc i)
     marks_after i le less =
         let a = located new i less in
         let in_a = a.within in

@@ -43,44 +43,44 @@ module _ {T Z : Type 0} where
         let long = lists_long pieces in
         start_is (length ends) (omega arith) ∙ before_all (lists pieces) (length ends) (omega arith)
 
-    pub last_above : (place : ℕ) → place < length (joined (lists pieces)) → place < slice_index ends (length ends - 1)
-    last_above place less =
+    pub last_above : (position : ℕ) → position < length (joined (lists pieces)) → position < slice_index ends (length ends - 1)
+    last_above position less =
         ⊎_elim
         (λ some. let e = same_start ends (length ends) some in let t = total in omega arith)
         (λ none. let e : length ends ≡ 0 = omega arith in let t = total in let z = ap (start ends) e in absurd (omega arith))
         (below_or_above 0 (length ends))
 
-    pub record IsFound (place k i : ℕ) (v : Vec T Z) : Type 0 where
+    pub record IsFound (position k i : ℕ) (v : Vec T Z) : Type 0 where
       pub within : k < length pieces
       pub at : slice_get (lists pieces) k ≡ Some v.items
-      pub is_place : place ≡ before (lists pieces) k + i
+      pub is_position : position ≡ before (lists pieces) k + i
       pub less : i < length v.items
-      pub high : place < before (lists pieces) (suc k)
+      pub high : position < before (lists pieces) (suc k)
 
-    pub found : (place k i : ℕ) → IsSpot ends place k i → (v : Vec T Z) → v ≡ get_or pieces k v → IsFound place k i v
-    found place k i spot v is =
+    pub found : (position k i : ℕ) → IsSpot ends position k i → (v : Vec T Z) → v ≡ get_or pieces k v → IsFound position k i v
+    found position k i spot v is =
         let same = h.same_length in
         let in_ends = spot.within in
-        let is_place = spot.is_place in
+        let is_position = spot.is_position in
         let high = spot.high in
         let s = start_is k (omega arith) in
         let e = h.each k (omega arith) in
         let at = lists_at pieces k v (omega arith) is in
         let step = before_step (lists pieces) k v.items at in
-        record { within = omega arith; at = at; is_place = omega arith; less = omega arith; high = omega arith }
+        record { within = omega arith; at = at; is_position = omega arith; less = omega arith; high = omega arith }
 
     pub bounded : (k : ℕ) → before (lists pieces) k ≤ 128 * k
     bounded zero = omega arith
     bounded (suc k) = let b = bounded k in let s = h.small k in omega arith
 
-    pub last_in : (l : List ℕ) (view : List (List T)) (place : ℕ) → l ≡ ends → lists pieces ≡ view → place < length (joined view) → place < slice_index l (length l - 1)
-    last_in l view place same is less =
-        subst (λ m. place < slice_index m (length m - 1)) (sym same) (last_above place (subst (λ m. place < length (joined m)) (sym is) less))
+    pub last_in : (l : List ℕ) (view : List (List T)) (position : ℕ) → l ≡ ends → lists pieces ≡ view → position < length (joined view) → position < slice_index l (length l - 1)
+    last_in l view position same is less =
+        subst (λ m. position < slice_index m (length m - 1)) (sym same) (last_above position (subst (λ m. position < length (joined m)) (sym is) less))
 
     pub small_piece : (k : ℕ) (v : Vec T Z) → k < length pieces → v ≡ get_or pieces k v → length v.items ≤ 128
     small_piece k v within is = let step = before_step (lists pieces) k v.items (lists_at pieces k v within is) in let s = h.small k in omega arith
 
-    -- below the place of a bound stand the items whose marks are below the bound
+    -- below the position of a bound stand the items whose marks are below the bound
     pub all_marked : (bound i : ℕ) → 128 * length pieces ≤ bound → i < length (joined (lists pieces)) → mark (lists pieces) i < bound
     all_marked bound i past less =
         let a = located (lists pieces) i less in
@@ -95,9 +95,9 @@ module _ {T Z : Type 0} where
     pub marks_small : (i : ℕ) → i < length (joined (lists pieces)) → mark (lists pieces) i < 4294967295
     marks_small i less = let few = h.few in let m = all_marked (128 * length pieces) i (omega arith) less in omega arith
 
-    pub place_marked : (k extra i : ℕ) → k < length pieces → extra < 128 → i < length (joined (lists pieces))
+    pub position_marked : (k extra i : ℕ) → k < length pieces → extra < 128 → i < length (joined (lists pieces))
         → ((i < slice_index ends k) × (i < start ends k + extra)) ↔ (mark (lists pieces) i < 128 * k + extra)
-    place_marked k extra i within less_extra less =
+    position_marked k extra i within less_extra less =
         let a = located (lists pieces) i less in
         let long = lists_long pieces in
         let same = h.same_length in

@@ -6,7 +6,7 @@ use Rattle.cdb_log.specs.Pieces.{joined, before}
 use Rattle.cdb_log.proofs.Counting.{before_step, before_all}
 
 module _ {T : Type 0} where
-  -- what stands at a place after some items, and before some
+  -- what stands at a position after some items, and before some
   pub slice_get-past : (xs zs : List T) (n i : ℕ) → n ≡ length xs + i → slice_get (xs ++ zs) n ≡ slice_get zs i
   slice_get-past [] zs n i e = ap (slice_get zs) (omega (arith, e))
   slice_get-past (x ∷ xs) zs zero i e = absurd (omega arith)
@@ -66,24 +66,24 @@ module _ {T : Type 0} where
         other = λ r. ap (λ l. q ++ l) (s.other r) ∙ sym (append_assoc q s.front (r ++ s.back));
       }
 
-  module _ (ps : List (List T)) (k : ℕ) (p : List T) (at : slice_get ps k ≡ Some p) (place i : ℕ) (is_place : place ≡ before ps k + i) (less : i < length p) where
-    pub item_at : slice_get (joined ps) place ≡ slice_get p i
+  module _ (ps : List (List T)) (k : ℕ) (p : List T) (at : slice_get ps k ≡ Some p) (position i : ℕ) (is_position : position ≡ before ps k + i) (less : i < length p) where
+    pub item_at : slice_get (joined ps) position ≡ slice_get p i
     item_at =
         let s = split_at ps k p at in
         let many = s.so_many in
-        ap (λ l. slice_get l place) s.is ∙ slice_get-past s.front (p ++ s.back) place i (omega arith) ∙ slice_get-front p s.back i less
+        ap (λ l. slice_get l position) s.is ∙ slice_get-past s.front (p ++ s.back) position i (omega arith) ∙ slice_get-front p s.back i less
 
-    pub joined_remove : joined (set ps k (remove p i)) ≡ remove (joined ps) place
+    pub joined_remove : joined (set ps k (remove p i)) ≡ remove (joined ps) position
     joined_remove =
         let s = split_at ps k p at in
         let many = s.so_many in
-        s.other (remove p i) ∙ sym (ap (λ l. remove l place) s.is ∙ remove-past s.front (p ++ s.back) place i (omega arith) ∙ ap (λ l. s.front ++ l) (remove-front p s.back i less))
+        s.other (remove p i) ∙ sym (ap (λ l. remove l position) s.is ∙ remove-past s.front (p ++ s.back) position i (omega arith) ∙ ap (λ l. s.front ++ l) (remove-front p s.back i less))
 
-    pub joined_set : (item : T) → joined (set ps k (set p i item)) ≡ set (joined ps) place item
+    pub joined_set : (item : T) → joined (set ps k (set p i item)) ≡ set (joined ps) position item
     joined_set item =
         let s = split_at ps k p at in
         let many = s.so_many in
-        s.other (set p i item) ∙ sym (ap (λ l. set l place item) s.is ∙ set-past s.front (p ++ s.back) place i item (omega arith) ∙ ap (λ l. s.front ++ l) (set-front p s.back i item less))
+        s.other (set p i item) ∙ sym (ap (λ l. set l position item) s.is ∙ set-past s.front (p ++ s.back) position i item (omega arith) ∙ ap (λ l. s.front ++ l) (set-front p s.back i item less))
 
   pub joined_push : (ps : List (List T)) (k : ℕ) (p : List T) (item : T) → slice_get ps k ≡ Some p → suc k ≡ length ps → joined (set ps k (p ++ item ∷ [])) ≡ joined ps ++ item ∷ []
   joined_push ps k p item at last =

@@ -11,17 +11,17 @@ start ends (suc k) = slice_index ends k
 abbrev pub AreEnds : List ℕ → Type 0
 AreEnds ends = (i j : ℕ) → i ≤ j → j < length ends → slice_index ends i ≤ slice_index ends j
 
--- the item at that place stands in piece k
-pub record IsInPiece (ends : List ℕ) (place k : ℕ) : Type 0 where
+-- the item at that position stands in piece k
+pub record IsInPiece (ends : List ℕ) (position k : ℕ) : Type 0 where
   pub within : k < length ends
-  pub low : start ends k ≤ place
-  pub high : place < slice_index ends k
+  pub low : start ends k ≤ position
+  pub high : position < slice_index ends k
 
--- the item at that place is item i of piece k
-pub record IsSpot (ends : List ℕ) (place k i : ℕ) : Type 0 where
+-- the item at that position is item i of piece k
+pub record IsSpot (ends : List ℕ) (position k i : ℕ) : Type 0 where
   pub within : k < length ends
-  pub is_place : place ≡ start ends k + i
-  pub high : place < slice_index ends k
+  pub is_position : position ≡ start ends k + i
+  pub high : position < slice_index ends k
 
 -- each piece has memory for 128 items
 abbrev pub AreRoomy : {T Z : Type 0} → List (Vec T Z) → Type 0

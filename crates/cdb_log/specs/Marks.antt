@@ -3,7 +3,7 @@
 use Rattle.std.specs.Prelude.{◌≡◌, ℕ, suc, ◌+◌, ◌-◌, ◌<◌, ◌≤◌, List, [], ◌∷◌, ◌++◌, length, ltb, remove, set, slice_get, Some, if◌then◌else◌}
 use Rattle.cdb_log.specs.Pieces.{joined, before}
 
--- the mark of the item at place i, where the first piece has the marks from `first` on
+-- the mark of the item at position i, where the first piece has the marks from `first` on
 abbrev pub mark_from : {T : Type 0} → ℕ → List (List T) → ℕ → ℕ
 mark_from first [] i = first + i
 mark_from first (piece ∷ pieces) i =
@@ -28,17 +28,17 @@ pub record IsPushed {T : Type 0} (old : List (List T)) (item : T) (end : ℕ) (n
   pub last : mark new (length (joined old)) ≡ end
   pub above : (i : ℕ) → i < length (joined old) → mark old i < end
 
--- the item at that place is another, and all else is as it was
-pub record IsReplaced {T : Type 0} (old : List (List T)) (place : ℕ) (item : T) (new : List (List T)) : Type 0 where
-  pub items : joined new ≡ set (joined old) place item
+-- the item at that position is another, and all else is as it was
+pub record IsReplaced {T : Type 0} (old : List (List T)) (position : ℕ) (item : T) (new : List (List T)) : Type 0 where
+  pub items : joined new ≡ set (joined old) position item
   pub marks : KeepsMarks (length (joined old)) old new
 
--- the item stood at that place, and the others are left; no mark has risen
-pub record IsTakenOut {T : Type 0} (old : List (List T)) (place : ℕ) (item : T) (new : List (List T)) : Type 0 where
-  pub stood : slice_get (joined old) place ≡ Some item
-  pub items : joined new ≡ remove (joined old) place
-  pub earlier : KeepsMarks place old new
-  pub later : (i : ℕ) → place ≤ i → i < length (joined new) → mark new i ≤ mark old (suc i)
+-- the item stood at that position, and the others are left; no mark has risen
+pub record IsTakenOut {T : Type 0} (old : List (List T)) (position : ℕ) (item : T) (new : List (List T)) : Type 0 where
+  pub stood : slice_get (joined old) position ≡ Some item
+  pub items : joined new ≡ remove (joined old) position
+  pub earlier : KeepsMarks position old new
+  pub later : (i : ℕ) → position ≤ i → i < length (joined new) → mark new i ≤ mark old (suc i)
 
 -- the last piece has room for one item more
 abbrev pub HasRoom : {T : Type 0} → List (List T) → Type 0

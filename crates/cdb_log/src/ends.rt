@@ -14,35 +14,35 @@ pub(crate) fn start_of(ends: &[usize], k: usize) -> usize
     if k == 0 { 0 } else { ends[k - 1] }
 }
 
-/// Whether the item at that place stands in piece `k`.
-fn is_in_piece(ends: &[usize], place: usize, k: usize) -> bool
-    ensures { IsTrue result ↔ IsInPiece ends.now place k }
+/// Whether the item at that position stands in piece `k`.
+fn is_in_piece(ends: &[usize], position: usize, k: usize) -> bool
+    ensures { IsTrue result ↔ IsInPiece ends.now position k }
 {
-    k < ends.len() && start_of(ends, k) <= place && place < ends[k]
+    k < ends.len() && start_of(ends, k) <= position && position < ends[k]
 }
 
-/// The piece in which the item at a place stands: mostly the one that it would be with all pieces
+/// The piece in which the item at a position stands: mostly the one that it would be with all pieces
 /// before it full.
-fn piece_of(ends: &[usize], place: usize) -> usize
+fn piece_of(ends: &[usize], position: usize) -> usize
     requires ends { AreEnds ends.now }
-    requires within { place < slice_index ends.now (length ends.now - 1) }
-    ensures { IsInPiece ends.now place result }
+    requires within { position < slice_index ends.now (length ends.now - 1) }
+    ensures { IsInPiece ends.now position result }
 {
-    let near = place / PIECE;
-    if is_in_piece(ends, place, near) {
+    let near = position / PIECE;
+    if is_in_piece(ends, position, near) {
         return near;
     }
-    ends.partition_point(|end| *end <= place)
+    ends.partition_point(|end| *end <= position)
 }
 
-/// The piece in which the item at a place stands, and its place in that piece.
-pub(crate) fn spot_of(ends: &[usize], place: usize) -> (usize, usize)
+/// The piece in which the item at a position stands, and its position in that piece.
+pub(crate) fn spot_of(ends: &[usize], position: usize) -> (usize, usize)
     requires ends { AreEnds ends.now }
-    requires within { place < slice_index ends.now (length ends.now - 1) }
-    ensures { IsSpot ends.now place result.0 result.1 }
+    requires within { position < slice_index ends.now (length ends.now - 1) }
+    ensures { IsSpot ends.now position result.0 result.1 }
 {
-    let k = piece_of(ends, place);
-    (k, place - start_of(ends, k))
+    let k = piece_of(ends, position);
+    (k, position - start_of(ends, k))
 }
 
 /// Whether the last piece has room for one item more.

@@ -3,8 +3,8 @@
 //!
 //! ```text
 //! let mark = log.push(item)?;
-//! let place = log.place_above(mark);
-//! let item = log.take_out(place);
+//! let position = log.position_above(mark);
+//! let item = log.take_out(position);
 //! ```
 #![tactic(auto)]
 

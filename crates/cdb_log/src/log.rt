@@ -20,7 +20,7 @@ pub type Mark = u32;
 pub const ABOVE_ALL: Mark = u32::MAX;
 
 /// A list of items. To take one out moves at most the items of one piece. A contract sees the pieces;
-/// places count from 0, over all of them. The mark of an item is a number that rises along the list,
+/// positions count from 0, over all of them. The mark of an item is a number that rises along the list,
 /// and never rises in time.
 #[derive(Drop)]
 pub struct Log<T: Drop> {
@@ -82,19 +82,19 @@ impl<T: Drop> Log<T> {
         self.len() == 0
     }
 
-    /// The item at a place.
-    pub fn get(&self, place: usize) -> &T
-        requires { place < length (joined self.now) }
-        ensures { slice_get (joined self.now) place ≡ Some result.now }
+    /// The item at a position.
+    pub fn get(&self, position: usize) -> &T
+        requires { position < length (joined self.now) }
+        ensures { slice_get (joined self.now) position ≡ Some result.now }
     {
-        let (k, i) = spot_of(&self.ends, place);
+        let (k, i) = spot_of(&self.ends, position);
         let piece = &self.pieces[k];
         &piece[i]
     }
 
     /// How many items have a mark below the bound: those before the result. No mark is as high as
     /// `ABOVE_ALL`.
-    pub fn place_above(&self, bound: Mark) -> usize
+    pub fn position_above(&self, bound: Mark) -> usize
         ensures within { result ≤ length (joined self.now) }
         ensures marks { (i : ℕ) → i < length (joined self.now) →
             (i < result) ↔ (mark self.now i < bound) }
@@ -147,10 +147,10 @@ impl<T: Drop> Log<T> {
     {
         let last = self.ends.len() - 1;
         let piece = &mut self.pieces[last];
-        let place = piece.len();
+        let position = piece.len();
         piece.push_reserved(item);
         self.ends[last] += 1;
-        (last * PIECE + place) as Mark
+        (last * PIECE + position) as Mark
     }
 
     /// Adds an item at the end, and returns its mark. Where an allocation fails, the log is as it
@@ -164,23 +164,23 @@ impl<T: Drop> Log<T> {
         Ok(self.push_reserved(item))
     }
 
-    /// Puts another item at a place.
-    pub fn set(&mut self, place: usize, item: T)
-        requires { place < length (joined self.old) }
-        ensures replaced { IsReplaced self.old place item self.new }
+    /// Puts another item at a position.
+    pub fn set(&mut self, position: usize, item: T)
+        requires { position < length (joined self.old) }
+        ensures replaced { IsReplaced self.old position item self.new }
         ensures room { HasRoom self.old → HasRoom self.new }
     {
-        let (k, i) = spot_of(&self.ends, place);
+        let (k, i) = spot_of(&self.ends, position);
         let piece = &mut self.pieces[k];
         piece[i] = item;
     }
 
-    /// Takes the item at a place out. The others keep their order. It takes no memory.
-    pub fn take_out(&mut self, place: usize) -> T
-        requires { place < length (joined self.old) }
-        ensures { IsTakenOut self.old place result self.new }
+    /// Takes the item at a position out. The others keep their order. It takes no memory.
+    pub fn take_out(&mut self, position: usize) -> T
+        requires { position < length (joined self.old) }
+        ensures { IsTakenOut self.old position result self.new }
     {
-        let (k, i) = spot_of(&self.ends, place);
+        let (k, i) = spot_of(&self.ends, position);
         let piece = &mut self.pieces[k];
         let item = piece.remove(i);
         lower(&mut self.ends, k);

@@ -5,7 +5,7 @@ use Rattle.std.specs.Ordering.{eq_by_cmp}
 use Rattle.std.specs.Cmp.{IsTotalOrder, Equal-is}
 use Rattle.std.specs.declared.cmp.Ordering.{Ordering}
 use Rattle.std.specs.FinSet as finite
-use Rattle.cdb_base.specs.Places.{nth, set_nth}
+use Rattle.cdb_base.specs.Positions.{nth, set_nth}
 use Rattle.cdb_base.specs.declared.name.MsgName.{MsgName}
 use Rattle.cdb_base.specs.declared.name.CopyName.{CopyName}
 use Rattle.cdb_message.specs.Names.{NameSet}
@@ -37,9 +37,9 @@ module _ {K : Type 0} {R : K → K → Ordering} (total : IsTotalOrder R) (antis
       finite.contains-remove total s k q
       ∙ both-true (eq_by_cmp R q k) (finite.contains s q) (λ tie. other (antisymmetric q k ((Equal-is (R q k)).0 tie))) h
 
--- ---- places
+-- ---- positions
 
--- a place of a list in which one place was set holds what was set there, or what it held
+-- a position of a list in which one position was set holds what was set there, or what it held
 slice_get-set : {A : Type 0} (xs : List A) (i j : ℕ) (y : A)
     → ((j ≡ i) × (slice_get (set xs i y) j ≡ Some y)) ⊎ (slice_get (set xs i y) j ≡ slice_get xs j)
 slice_get-set [] i j y = inr refl

@@ -4,11 +4,11 @@ use Rattle.std.specs.Prelude.{◌==◌, if◌then◌else◌, slice_get, unwrap_o
 use Rattle.std.specs.Option.{option_map}
 use Rattle.std.proofs.lemmas.Bool.{eqb-false}
 use Rattle.std.proofs.lemmas.Option.{slice_get-get_or}
-use Rattle.cdb_base.specs.Places.{nth}
+use Rattle.cdb_base.specs.Positions.{nth}
 use Rattle.cdb_message.specs.declared.marks.Row.{Row}
 use Rattle.cdb_message.specs.Marks.{number_of, mark_of}
 
--- what stands at a place of a list in which one place was set
+-- what stands at a position of a list in which one position was set
 slice_get-same : {A : Type 0} (xs : List A) (i : ℕ) (y : A) → i < length xs → slice_get (set xs i y) i ≡ Some y
 slice_get-same [] i y h = absurd (omega arith)
 slice_get-same (x ∷ xs) zero y h = refl
@@ -29,17 +29,17 @@ module _ (rows : List Row) (i p s number : ℕ) (d row changed : Row) (at : i + 
   abbrev after : List Row
   after = set rows i changed
 
-  place : p ≡ suc i
-  place = omega arith
+  position : p ≡ suc i
+  position = omega arith
 
   there : (same_p : Bool) (q t : ℕ) → (q == p) ≡ same_p
       → numbers (nth after q) t ≡ (if same_p && t == s then number else numbers (nth rows q) t)
   there true q t e =
-      let same : q ≡ suc i = eqb-true q p e ∙ place in
+      let same : q ≡ suc i = eqb-true q p e ∙ position in
       rw (same, slice_get-same rows i changed within, slice_get-get_or rows i d within, ← is) (changes t)
   there false zero t e = refl
   there false (suc j) t e =
-      let other : j ≢ i = λ same. eqb-false (suc j) p e ((λ k. suc (same k)) ∙ sym place) in
+      let other : j ≢ i = λ same. eqb-false (suc j) p e ((λ k. suc (same k)) ∙ sym position) in
       ap (λ found. numbers found t) (slice_get-other rows i j changed other)
 
   pub mark_of-set : (q t : ℕ)

@@ -1,7 +1,7 @@
 -- Which messages were sent.
 use Rattle.std.proofs.Common.{◌≡◌, ℕ, zero, suc, Bool, true, false, ◌&&◌, List, [], ◌∷◌, length, Option, Some, None, is_some, nat_le, slice_get, unwrap_or, refl, sym, ap, ◌∙◌, arith}
 use Rattle.std.proofs.lemmas.Bool.Decides.{nat_tests}
-use Rattle.cdb_base.specs.Places.{nth}
+use Rattle.cdb_base.specs.Positions.{nth}
 use Rattle.cdb_base.specs.declared.payload.Payload.{Payload}
 use Rattle.cdb_message.specs.Mail.{MailState, message_name, sent_by, is_sent}
 

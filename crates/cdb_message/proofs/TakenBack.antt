@@ -2,14 +2,14 @@
 use Rattle.std.proofs.Common.{◌≡◌, ℕ, suc, zero, List, [], ◌∷◌, false, refl, ap}
 use Rattle.std.specs.Prelude.{slice_get, slice_set, unwrap_or}
 use Rattle.std.specs.FinSet as finite
-use Rattle.cdb_base.specs.Places.{nth, set_nth}
+use Rattle.cdb_base.specs.Positions.{nth, set_nth}
 use Rattle.cdb_base.specs.declared.name.MsgName.{MsgName}
 use Rattle.cdb_base.specs.declared.name.CopyName.{CopyName}
 use Rattle.cdb_message.specs.Mail.{MailState, received_by, is_received, is_lost, add_receive, add_loss, remove_receive, remove_loss}
 use Rattle.cdb_message.proofs.Sets.{remove-insert, name_cmp_total, name_cmp-IsAntisymmetric, copy_cmp_total, copy_cmp-IsAntisymmetric}
 
 module _ {A : Type 0} (d : A) (change back : A → A) where
-  -- what stands at a place is changed and changed back
+  -- what stands at a position is changed and changed back
   slice_set-back : (xs : List A) (i : ℕ) → back (change (unwrap_or (slice_get xs i) d)) ≡ unwrap_or (slice_get xs i) d
       → (let changed = slice_set xs i (change (unwrap_or (slice_get xs i) d)) in
       slice_set changed i (back (unwrap_or (slice_get changed i) d)) ≡ xs)

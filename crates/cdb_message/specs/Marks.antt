@@ -1,7 +1,7 @@
 -- Where the look for a pending copy may begin: the marks.
 use Rattle.std.specs.Prelude.{◌≡◌, ℕ, ◌-◌, ◌<◌, ◌≤◌, ◌==◌, ◌&&◌, min, false, unwrap_or, if◌then◌else◌}
 use Rattle.std.specs.Option.{option_map}
-use Rattle.cdb_base.specs.Places.{nth}
+use Rattle.cdb_base.specs.Positions.{nth}
 use Rattle.cdb_message.specs.declared.marks.Row.{Row}
 use Rattle.cdb_message.specs.declared.marks.Marks.{Marks}
 use Rattle.cdb_message.specs.Mail.{MailState, message_name, is_open, is_received}

@@ -2,7 +2,7 @@
 
 ghost use Rattle.std.specs.Prelude.{◌≡◌, ◌<◌, ◌≤◌, length, [], ◌∷◌, ◌++◌, OnOk, OnErr, slice_get};
 ghost use Rattle.std.specs.Option.{option_copied};
-ghost use Rattle.cdb_base.specs.Places.{without_last};
+ghost use Rattle.cdb_base.specs.Positions.{without_last};
 ghost use Rattle.cdb_base.specs.declared.limits.TheConstants.{MAX_STEPS};
 
 use cdb_base::{NoMemory, Payload, Val};
@@ -64,10 +64,10 @@ impl Outbox {
         let _ = self.payloads.pop();
     }
 
-    /// The payload at that place, from 0.
-    pub fn get(&self, place: usize) -> Option<&Payload>
-        ensures { option_copied result ≡ slice_get self.now place }
+    /// The payload at that position, from 0.
+    pub fn get(&self, position: usize) -> Option<&Payload>
+        ensures { option_copied result ≡ slice_get self.now position }
     {
-        self.payloads.get(place)
+        self.payloads.get(position)
     }
 }

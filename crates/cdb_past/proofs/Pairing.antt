@@ -94,7 +94,7 @@ no_pairs history = record {
   in_order = λ k l pair other less at other_at. absurd (none-some pair at);
 }
 
--- ---- the direct causes of one event more, up to a place of the list of their names
+-- ---- the direct causes of one event more, up to a position of the list of their names
 
 pub record IsAdding (history : List Event) (j : ℕ) (names : List StepId) (index : ℕ) (pairs : List Pair) : Type 0 where
   pub only : (m : ℕ) (pair : Pair) → slice_get pairs m ≡ Some pair → (pair.effect ≤ j) × IsDirectCause depends history pair.cause pair.effect
@@ -115,7 +115,7 @@ module _ (history : List Event) (j : ℕ) (names : List StepId) where
 
   pub added : (index c : ℕ) (name : StepId) (pairs : List Pair) → IsAdding history j names index pairs → slice_get names index ≡ Some name → NamesDirectCause history j name
       → ((i : ℕ) → IsNamedAt history i name → i ≡ c) → IsAdding history j names (index + 1) (pairs ++ record { cause = c; effect = j } ∷ [])
-  added index c name pairs so at cause only_place =
+  added index c name pairs so at cause only_position =
       record {
         only = λ m pair here. ⊎_elim (λ old. so.only m pair old.0) (λ new. subst IsRight new.0 is_right) (push_cases pairs one pair m here);
         before = λ i k less d. let found = so.before i k less d in (found.0, push_front pairs one _ found.0 found.1);
@@ -124,8 +124,8 @@ module _ (history : List Event) (j : ℕ) (names : List StepId) where
             (λ old. let found = so.named l other i old at_l is in (found.0, push_front pairs one _ found.0 found.1))
             (λ e.
             let same : other ≡ name = same_Some other name (sym at_l ∙ ap (slice_get names) e ∙ at) in
-            let place = only_place i (subst (IsNamedAt history i) same is) in
-            (length pairs, push_back pairs one ∙ ap (λ x. Some (let p : Pair = record { cause = x; effect = j } in p)) (sym place)))
+            let position = only_position i (subst (IsNamedAt history i) same is) in
+            (length pairs, push_back pairs one ∙ ap (λ x. Some (let p : Pair = record { cause = x; effect = j } in p)) (sym position)))
             (below_next l index less);
         in_order = λ k l pair other less at_k at_l.
             ⊎_elim
@@ -141,7 +141,7 @@ module _ (history : List Event) (j : ℕ) (names : List StepId) where
       IsRight pair = (pair.effect ≤ j) × IsDirectCause depends history pair.cause pair.effect
 
       is_right : IsRight one
-      is_right = (omega arith, subst (λ x. IsDirectCause depends history x j) (only_place cause.0 cause.2) cause.1)
+      is_right = (omega arith, subst (λ x. IsDirectCause depends history x j) (only_position cause.0 cause.2) cause.1)
 
       at_most : (k : ℕ) (pair : Pair) → k < length pairs → slice_get (pairs ++ one ∷ []) k ≡ Some pair → pair.effect ≤ j
       at_most k pair less at_k = ⊎_elim (λ old. (so.only k pair old.0).0) (λ new. let last = new.1 in absurd (omega (arith, last, less))) (push_cases pairs one pair k at_k)

@@ -7,7 +7,7 @@ use Rattle.cdb_base.specs.declared.event.Event.{Event}
 use Rattle.cdb_causal.specs.Causality.{IsDirectCause}
 use Rattle.cdb_causal.specs.Dependence.{depends}
 use Rattle.cdb_causal.specs.Past.{IsInPast, one_link, link_before, HasLedTo}
-use Rattle.cdb_causal.proofs.Counting.{same_place}
+use Rattle.cdb_causal.proofs.Counting.{same_position}
 use Rattle.cdb_causal.proofs.PastLaws.{by_direct_causes, linked_past}
 use Rattle.cdb_past.specs.Marks.{IsMarked, MarkPast}
 use Rattle.cdb_past.specs.Pairs.{ArePairs}
@@ -27,13 +27,13 @@ mark_other (m ∷ ms) zero (suc k) other = refl
 mark_other (m ∷ ms) (suc i) zero other = refl
 mark_other (m ∷ ms) (suc i) (suc k) other = mark_other ms i k (λ e. other (ap suc e))
 
--- a place that is marked then was marked before, or it is the new one
+-- a position that is marked then was marked before, or it is the new one
 mark_before : (marks : List Bool) (i k : ℕ) → IsMarked (slice_set marks i true) k → IsMarked marks k ⊎ (k ≡ i)
-mark_before marks i k is = ⊎_elim (λ e. inr e) (λ other. inl (sym (mark_other marks i k other) ∙ is)) (same_place i k)
+mark_before marks i k is = ⊎_elim (λ e. inr e) (λ other. inl (sym (mark_other marks i k other) ∙ is)) (same_position i k)
 
 mark_kept : (marks : List Bool) (i k : ℕ) → i < length marks → IsMarked marks k → IsMarked (slice_set marks i true) k
 mark_kept marks i k within is =
-    ⊎_elim (λ e. subst (IsMarked (slice_set marks i true)) (sym e) (mark_here marks i within)) (λ other. mark_other marks i k other ∙ is) (same_place i k)
+    ⊎_elim (λ e. subst (IsMarked (slice_set marks i true)) (sym e) (mark_here marks i within)) (λ other. mark_other marks i k other ∙ is) (same_position i k)
 
 no_marks : (n k : ℕ) → IsMarked (replicate n false) k → ⊥
 no_marks n k is =
@@ -41,7 +41,7 @@ no_marks n k is =
     let within = slice_get_within (replicate n false) k true is in
     true≢false (sym (get_or_from_slice_get (replicate n false) k true false is) ∙ get_or-replicate n k false false (omega (arith, number, within)))
 
--- ---- the pairs from place m on
+-- ---- the pairs from position m on
 
 pub record IsWalked (history : List Event) (j : ℕ) (pairs : List Pair) (m : ℕ) (marks : List Bool) : Type 0 where
   pub a_mark_each : length marks ≡ length history

@@ -1,4 +1,4 @@
--- What the code keeps for itself: events with their direct causes, in pairs of places.
+-- What the code keeps for itself: events with their direct causes, in pairs of positions.
 use Rattle.std.specs.Prelude.{◌≡◌, ℕ, ◌<◌, ◌≤◌, List, Some, slice_get}
 use Rattle.cdb_base.specs.declared.event.Event.{Event}
 use Rattle.cdb_causal.specs.Causality.{IsDirectCause}

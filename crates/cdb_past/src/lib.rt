@@ -1,4 +1,4 @@
-//! The past of an event: all that led to it, marked by place in the history.
+//! The past of an event: all that led to it, marked by position in the history.
 //!
 //! ```text
 //! let marks = mark_past(alloc, history, 4)?;

@@ -9,15 +9,15 @@ use cdb_base::{NoMemory, StepId};
 use cdb_causal::{History, direct_causes};
 use std::alloc::Global;
 
-/// An event and one of its direct causes, by their places, from 0.
+/// An event and one of its direct causes, by their positions, from 0.
 #[derive(Clone, Copy)]
 pub(crate) struct Pair {
     pub(crate) cause: usize,
     pub(crate) effect: usize,
 }
 
-/// The place, from 0, of the event of that name, which stands.
-fn place_of(history: &History, name: StepId) -> usize
+/// The position, from 0, of the event of that name, which stands.
+fn position_of(history: &History, name: StepId) -> usize
     requires { (i : ℕ) × IsNamedAt history.now i name }
     ensures { (i : ℕ) → IsNamedAt history.now i name → i ≡ result }
 {
@@ -36,7 +36,7 @@ fn push_pairs(alloc: Global, history: &History, pairs: &mut Vec<Pair>) -> Result
     let at = history.len();
     let causes = direct_causes(alloc, history, at);
     for name in causes.as_slice() {
-        let cause = place_of(history, *name);
+        let cause = position_of(history, *name);
         pairs.push(Pair {
             cause,
             effect: at - 1,
@@ -45,7 +45,7 @@ fn push_pairs(alloc: Global, history: &History, pairs: &mut Vec<Pair>) -> Result
     Ok(())
 }
 
-/// Adds the event at place `i`, from 0, to what stands before it.
+/// Adds the event at position `i`, from 0, to what stands before it.
 fn play_next(history: &History, i: usize, so_far: &mut History) -> Result<(), NoMemory>
     requires within { i < length history.now }
     requires before { so_far.old ≡ take i history.now }

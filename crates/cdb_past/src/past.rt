@@ -8,9 +8,9 @@ use cdb_base::NoMemory;
 use cdb_causal::History;
 use std::alloc::Global;
 
-/// Marks what led to the event at a place, from 1 to the number of events: the event itself, and each
+/// Marks what led to the event at a position, from 1 to the number of events: the event itself, and each
 /// from which a chain of dependences leads to it. It looks for the direct causes of the events up to
-/// that place, and goes over them once, from the last back. It can fail only out of memory.
+/// that position, and goes over them once, from the last back. It can fail only out of memory.
 pub fn mark_past(alloc: Global, history: &History, at: usize) -> Result<Vec<bool>, NoMemory>
     requires from_one { 1 ≤ at }
     requires to_len { at ≤ length history.now }

@@ -3,7 +3,7 @@ use Rattle.std.proofs.Common.{ℕ, List, Option, Result, Ok, Err, refl, inl, inr
 use Rattle.cdb_setup.specs.declared.fault.SetupFault.{SetupFault}
 use Rattle.cdb_setup.specs.declared.fault.SetupFault.TheVariants as setup
 use Rattle.cdb_play.specs.Buffers.{Wrote}
-use Rattle.cdb_play.specs.Faults.{of_setup, of_script, of_reading, of_output}
+use Rattle.cdb_play.specs.Faults.{of_setup, of_output}
 use Rattle.cdb_play.specs.Races.{race_fault_of_setup, race_fault_of_threads, race_fault_of_output, IsFaultOfScripts}
 use Rattle.cdb_play.specs.Written.{PlayWrites, RaceWrites}
 use Rattle.cdb_play.specs.declared.buffer.OutputFault.{OutputFault}
@@ -12,10 +12,6 @@ use Rattle.cdb_play.specs.declared.fault.PlayFault.{PlayFault}
 use Rattle.cdb_play.specs.declared.fault.PlayFault.TheVariants as play
 use Rattle.cdb_play.specs.declared.fault.RaceFault.{RaceFault}
 use Rattle.cdb_play.specs.declared.fault.RaceFault.TheVariants.{Setup, Line, ScriptTooLong, Write, NoMemory, JournalFull, Spawn, Stopped}
-use Rattle.cdb_play.specs.declared.script.ScriptFault.{ScriptFault}
-use Rattle.cdb_play.specs.declared.script.ScriptFault.TheVariants as script
-use Rattle.cdb_play.specs.declared.source.ReadFault.{ReadFault}
-use Rattle.cdb_play.specs.declared.source.ReadFault.TheVariants as reading
 use Rattle.cdb_race.specs.declared.threads.RaceFault.{RaceFault as ThreadFault}
 use Rattle.cdb_race.specs.declared.threads.RaceFault.TheVariants as threads
 
@@ -25,15 +21,6 @@ module _ {W : Type 0} (contents : W → Option (List ℕ)) (failures : W → ℕ
   pub unwritten_setup : (out : W) (fault : SetupFault) → PlayWrites contents failures {A = A} (Err (of_setup fault)) out out IsText
   unwritten_setup out setup.NoMemory = inl refl
   unwritten_setup out fault = refl
-
-  pub unwritten_script : (out : W) (fault : ScriptFault) → PlayWrites contents failures {A = A} (Err (of_script fault)) out out IsText
-  unwritten_script out script.NoMemory = inl refl
-  unwritten_script out (script.Line line fault) = refl
-  unwritten_script out script.TooLong = refl
-
-  pub unwritten_reading : (out : W) (fault : ReadFault) → PlayWrites contents failures {A = A} (Err (of_reading fault)) out out IsText
-  unwritten_reading out reading.NoMemory = inl refl
-  unwritten_reading out reading.Failed = refl
 
   pub race_unwritten_setup : (out : W) (fault : SetupFault) → RaceWrites contents failures {A = A} (Err (race_fault_of_setup fault)) out out IsText
   race_unwritten_setup out setup.NoMemory = inl refl
@@ -46,8 +33,8 @@ module _ {W : Type 0} (contents : W → Option (List ℕ)) (failures : W → ℕ
   race_unwritten_threads out (threads.Stopped seat) = refl
 
   pub race_unwritten_scripts : (out : W) (fault : RaceFault) (scripts : List (List ℕ)) → IsFaultOfScripts fault scripts → RaceWrites contents failures {A = A} (Err fault) out out IsText
-  race_unwritten_scripts out (Line place line fault) scripts is = refl
-  race_unwritten_scripts out (ScriptTooLong place) scripts is = refl
+  race_unwritten_scripts out (Line position line fault) scripts is = refl
+  race_unwritten_scripts out (ScriptTooLong position) scripts is = refl
   race_unwritten_scripts out NoMemory scripts is = inl refl
   race_unwritten_scripts out fault scripts is = absurd is
 
@@ -68,8 +55,8 @@ module _ {W : Type 0} (contents : W → Option (List ℕ)) (failures : W → ℕ
   race_writes_weaker (Err NoMemory) old new Other weaker (inl same) = inl same
   race_writes_weaker (Err NoMemory) old new Other weaker (inr wrote) = inr (wrote.0, weaker wrote.0 wrote.1, wrote.2)
   race_writes_weaker (Err (Setup fault)) old new Other weaker wrote = wrote
-  race_writes_weaker (Err (Line place line fault)) old new Other weaker wrote = wrote
-  race_writes_weaker (Err (ScriptTooLong place)) old new Other weaker wrote = wrote
+  race_writes_weaker (Err (Line position line fault)) old new Other weaker wrote = wrote
+  race_writes_weaker (Err (ScriptTooLong position)) old new Other weaker wrote = wrote
   race_writes_weaker (Err JournalFull) old new Other weaker wrote = wrote
   race_writes_weaker (Err (Spawn refused)) old new Other weaker wrote = wrote
   race_writes_weaker (Err (Stopped seat)) old new Other weaker wrote = wrote

@@ -4,7 +4,7 @@ use Rattle.cdb_control.specs.declared.command.Command.{Command}
 use Rattle.cdb_race.specs.Faults.{IsAmongSeats}
 use Rattle.cdb_race.specs.declared.threads.RaceFault.{RaceFault as ThreadFault}
 use Rattle.cdb_race.specs.declared.threads.RaceFault.TheVariants as threads
-use Rattle.cdb_setup.specs.Format.{StandsFor}
+use Rattle.cdb_setup.specs.Format.{Encodes}
 use Rattle.cdb_setup.specs.Order.{IsFirstFault}
 use Rattle.cdb_setup.specs.Parts.{Parts}
 use Rattle.cdb_setup.specs.declared.fault.SetupFault.{SetupFault}
@@ -37,8 +37,8 @@ so_many (list ∷ commands) (script ∷ scripts) are = ap suc (so_many commands 
 -- what they say of the scripts
 pub on_setup : (setup : Parts) (commands : List (List Command)) (scripts : List (List ℕ)) → AreScripts commands scripts → (fault : RaceFault) → IsFaultOfRunning (setup.processes + length commands) fault → IsFaultOnSetup fault setup scripts
 on_setup setup commands scripts read (Setup fault) is = absurd is
-on_setup setup commands scripts read (Line place line fault) is = absurd is
-on_setup setup commands scripts read (ScriptTooLong place) is = absurd is
+on_setup setup commands scripts read (Line position line fault) is = absurd is
+on_setup setup commands scripts read (ScriptTooLong position) is = absurd is
 on_setup setup commands scripts read Write is = (commands, read)
 on_setup setup commands scripts read NoMemory is = tt
 on_setup setup commands scripts read JournalFull is = (commands, read)
@@ -47,17 +47,17 @@ on_setup setup commands scripts read (Stopped seat) is = let many = so_many comm
 
 -- so do those of reading them
 pub of_reading : (setup : Parts) (scripts : List (List ℕ)) (fault : RaceFault) → IsFaultOfScripts fault scripts → IsFaultOnSetup fault setup scripts
-of_reading setup scripts (Line place line fault) is = is
-of_reading setup scripts (ScriptTooLong place) is = is
+of_reading setup scripts (Line position line fault) is = is
+of_reading setup scripts (ScriptTooLong position) is = is
 of_reading setup scripts NoMemory is = tt
 of_reading setup scripts fault is = absurd is
 
 -- and on the setup that a text encodes
-pub of_race : (json : List ℕ) (setup : Parts) (scripts : List (List ℕ)) → StandsFor json setup → (fault : RaceFault) → IsFaultOnSetup fault setup scripts → IsFaultOfRace fault json scripts
+pub of_race : (json : List ℕ) (setup : Parts) (scripts : List (List ℕ)) → Encodes json setup → (fault : RaceFault) → IsFaultOnSetup fault setup scripts → IsFaultOfRace fault json scripts
 of_race json setup scripts stands (Setup fault) is = absurd is
 of_race json setup scripts stands NoMemory is = tt
-of_race json setup scripts stands (Line place line fault) is = (setup, stands, is)
-of_race json setup scripts stands (ScriptTooLong place) is = (setup, stands, is)
+of_race json setup scripts stands (Line position line fault) is = (setup, stands, is)
+of_race json setup scripts stands (ScriptTooLong position) is = (setup, stands, is)
 of_race json setup scripts stands Write is = (setup, stands, is)
 of_race json setup scripts stands JournalFull is = (setup, stands, is)
 of_race json setup scripts stands (Spawn refused) is = (setup, stands, is)

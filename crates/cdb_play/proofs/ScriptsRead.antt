@@ -17,11 +17,11 @@ one_script (other ∷ read) [] commands script are is = absurd are
 one_script (other ∷ read) (other_script ∷ good) commands script are is = (are.0, one_script read good commands script are.1 is)
 
 -- the first bad script, after those that were read
-pub bad_script : (read : List (List Command)) (good : List (List ℕ)) (bad : List ℕ) (rest scripts : List (List ℕ)) (place : ℕ) → scripts ≡ good ++ bad ∷ rest → place ≡ length good + 1 → AreScripts read good
-    → (fault : ScriptFault) → IsFaultOfScript fault bad → IsFaultOfScripts (race_fault_of_script place fault) scripts
-bad_script read good bad rest scripts place whole is_place are (Line line why) said = (read, good, bad, rest, whole, is_place, are, said)
-bad_script read good bad rest scripts place whole is_place are TooLong said = (read, good, bad, rest, whole, is_place, are, said)
-bad_script read good bad rest scripts place whole is_place are NoMemory said = tt
+pub bad_script : (read : List (List Command)) (good : List (List ℕ)) (bad : List ℕ) (rest scripts : List (List ℕ)) (position : ℕ) → scripts ≡ good ++ bad ∷ rest → position ≡ length good + 1 → AreScripts read good
+    → (fault : ScriptFault) → IsFaultOfScript fault bad → IsFaultOfScripts (race_fault_of_script position fault) scripts
+bad_script read good bad rest scripts position whole is_position are (Line line why) said = (read, good, bad, rest, whole, is_position, are, said)
+bad_script read good bad rest scripts position whole is_position are TooLong said = (read, good, bad, rest, whole, is_position, are, said)
+bad_script read good bad rest scripts position whole is_position are NoMemory said = tt
 
 module _ (scripts : List (Vec ℕ Global)) (i : ℕ) (script : Vec ℕ Global) (is : script ≡ get_or scripts i script) (below : i < length scripts) where
   -- a script stands behind those before it

@@ -7,7 +7,7 @@ use Rattle.cdb_race.specs.Faults as of_threads
 use Rattle.cdb_race.specs.Races.{MayFill}
 use Rattle.cdb_race.specs.declared.threads.RaceFault.{RaceFault as ThreadFault}
 use Rattle.cdb_race.specs.declared.threads.RaceFault.TheVariants as threads
-use Rattle.cdb_setup.specs.Format.{StandsFor}
+use Rattle.cdb_setup.specs.Format.{Encodes}
 use Rattle.cdb_rules.specs.Rules.{Rules}
 use Rattle.cdb_setup.specs.Parts.{Parts}
 use Rattle.cdb_setup.specs.declared.fault.SetupFault.{SetupFault}
@@ -37,8 +37,8 @@ not_of_writing output.Write = tt
 not_of_writing output.NoMemory = tt
 
 pub not_of_reading : (scripts : List (List ℕ)) (fault : RaceFault) → IsFaultOfScripts fault scripts → IsNotStopped fault
-not_of_reading scripts (Line place line fault) is = tt
-not_of_reading scripts (ScriptTooLong place) is = tt
+not_of_reading scripts (Line position line fault) is = tt
+not_of_reading scripts (ScriptTooLong position) is = tt
 not_of_reading scripts NoMemory is = tt
 not_of_reading scripts fault is = absurd is
 
@@ -63,8 +63,8 @@ module _ {G : Type 0} (T : Type 0) (rules : Parts → Rules) (heard : G → Opti
   told_of_writing setup commands output.NoMemory = tt
 
   pub told_of_reading : (setup : Parts) (scripts : List (List ℕ)) (fault : RaceFault) → IsFaultOfScripts fault scripts → IsToldOnSetup T rules heard passes setup turns scripts gates fault
-  told_of_reading setup scripts (Line place line fault) is = tt
-  told_of_reading setup scripts (ScriptTooLong place) is = tt
+  told_of_reading setup scripts (Line position line fault) is = tt
+  told_of_reading setup scripts (ScriptTooLong position) is = tt
   told_of_reading setup scripts NoMemory is = tt
   told_of_reading setup scripts fault is = absurd is
 
@@ -73,19 +73,19 @@ module _ {G : Type 0} (T : Type 0) (rules : Parts → Rules) (heard : G → Opti
   told_on_setup setup commands scripts read JournalFull is = (commands, read, is.0, is.1)
   told_on_setup setup commands scripts read (Stopped seat) is = (commands, read, is)
   told_on_setup setup commands scripts read (Setup fault) is = tt
-  told_on_setup setup commands scripts read (Line place line fault) is = tt
-  told_on_setup setup commands scripts read (ScriptTooLong place) is = tt
+  told_on_setup setup commands scripts read (Line position line fault) is = tt
+  told_on_setup setup commands scripts read (ScriptTooLong position) is = tt
   told_on_setup setup commands scripts read Write is = tt
   told_on_setup setup commands scripts read NoMemory is = tt
   told_on_setup setup commands scripts read (Spawn refused) is = tt
 
-  pub told_of_race : (json : List ℕ) (setup : Parts) (scripts : List (List ℕ)) → StandsFor json setup → (fault : RaceFault)
+  pub told_of_race : (json : List ℕ) (setup : Parts) (scripts : List (List ℕ)) → Encodes json setup → (fault : RaceFault)
       → IsToldOnSetup T rules heard passes setup turns scripts gates fault → IsToldOfRace T rules heard passes json turns scripts gates fault
   told_of_race json setup scripts stands JournalFull is = (setup, stands, is)
   told_of_race json setup scripts stands (Stopped seat) is = (setup, stands, is)
   told_of_race json setup scripts stands (Setup fault) is = tt
-  told_of_race json setup scripts stands (Line place line fault) is = tt
-  told_of_race json setup scripts stands (ScriptTooLong place) is = tt
+  told_of_race json setup scripts stands (Line position line fault) is = tt
+  told_of_race json setup scripts stands (ScriptTooLong position) is = tt
   told_of_race json setup scripts stands Write is = tt
   told_of_race json setup scripts stands NoMemory is = tt
   told_of_race json setup scripts stands (Spawn refused) is = tt
@@ -100,25 +100,25 @@ module _ {G : Type 0} (T : Type 0) (rules : Parts → Rules) (heard : G → Opti
   unstopped_on_setup setup commands scripts read JournalFull is none = (commands, read, is.0)
   unstopped_on_setup setup commands scripts read (Stopped seat) is none = none
   unstopped_on_setup setup commands scripts read (Setup fault) is none = tt
-  unstopped_on_setup setup commands scripts read (Line place line fault) is none = tt
-  unstopped_on_setup setup commands scripts read (ScriptTooLong place) is none = tt
+  unstopped_on_setup setup commands scripts read (Line position line fault) is none = tt
+  unstopped_on_setup setup commands scripts read (ScriptTooLong position) is none = tt
   unstopped_on_setup setup commands scripts read Write is none = tt
   unstopped_on_setup setup commands scripts read NoMemory is none = tt
   unstopped_on_setup setup commands scripts read (Spawn refused) is none = tt
 
 pub unstopped_of_reading : (setup : Parts) (turns : ℕ) (scripts : List (List ℕ)) (fault : RaceFault) → IsFaultOfScripts fault scripts → IsUnstoppedOnSetup setup turns scripts fault
-unstopped_of_reading setup turns scripts (Line place line fault) is = tt
-unstopped_of_reading setup turns scripts (ScriptTooLong place) is = tt
+unstopped_of_reading setup turns scripts (Line position line fault) is = tt
+unstopped_of_reading setup turns scripts (ScriptTooLong position) is = tt
 unstopped_of_reading setup turns scripts NoMemory is = tt
 unstopped_of_reading setup turns scripts fault is = absurd is
 
-pub unstopped_of_race : (json : List ℕ) (setup : Parts) (turns : ℕ) (scripts : List (List ℕ)) → StandsFor json setup → (fault : RaceFault)
+pub unstopped_of_race : (json : List ℕ) (setup : Parts) (turns : ℕ) (scripts : List (List ℕ)) → Encodes json setup → (fault : RaceFault)
     → IsUnstoppedOnSetup setup turns scripts fault → IsUnstoppedOfRace json turns scripts fault
 unstopped_of_race json setup turns scripts stands JournalFull is = (setup, stands, is)
 unstopped_of_race json setup turns scripts stands (Stopped seat) is = is
 unstopped_of_race json setup turns scripts stands (Setup fault) is = tt
-unstopped_of_race json setup turns scripts stands (Line place line fault) is = tt
-unstopped_of_race json setup turns scripts stands (ScriptTooLong place) is = tt
+unstopped_of_race json setup turns scripts stands (Line position line fault) is = tt
+unstopped_of_race json setup turns scripts stands (ScriptTooLong position) is = tt
 unstopped_of_race json setup turns scripts stands Write is = tt
 unstopped_of_race json setup turns scripts stands NoMemory is = tt
 unstopped_of_race json setup turns scripts stands (Spawn refused) is = tt

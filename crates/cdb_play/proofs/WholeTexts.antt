@@ -3,31 +3,18 @@ use Rattle.std.proofs.Common.{◌≡◌, ◌≢◌, ℕ, List, Option, Result, E
 use Rattle.cdb_setup.specs.declared.fault.SetupFault.{SetupFault}
 use Rattle.cdb_setup.specs.declared.fault.SetupFault.TheVariants as setup
 use Rattle.cdb_play.specs.Buffers.{Wrote}
-use Rattle.cdb_play.specs.Faults.{of_setup, of_script, of_reading, of_output}
+use Rattle.cdb_play.specs.Faults.{of_setup, of_output}
 use Rattle.cdb_play.specs.Whole.{WritesWhole}
 use Rattle.cdb_play.specs.declared.buffer.OutputFault.{OutputFault}
 use Rattle.cdb_play.specs.declared.buffer.OutputFault.TheVariants as output
 use Rattle.cdb_play.specs.declared.fault.PlayFault.{PlayFault}
 use Rattle.cdb_play.specs.declared.fault.PlayFault.TheVariants as play
-use Rattle.cdb_play.specs.declared.script.ScriptFault.{ScriptFault}
-use Rattle.cdb_play.specs.declared.script.ScriptFault.TheVariants as script
-use Rattle.cdb_play.specs.declared.source.ReadFault.{ReadFault}
-use Rattle.cdb_play.specs.declared.source.ReadFault.TheVariants as reading
 
 -- ---- what is read before is no failed write
 
 pub setup_writes_none : (fault : SetupFault) → of_setup fault ≢ play.Write
 setup_writes_none setup.NoMemory same = cc
 setup_writes_none fault same = cc
-
-pub script_writes_none : (fault : ScriptFault) → of_script fault ≢ play.Write
-script_writes_none (script.Line line fault) same = cc
-script_writes_none script.TooLong same = cc
-script_writes_none script.NoMemory same = cc
-
-pub reading_writes_none : (fault : ReadFault) → of_reading fault ≢ play.Write
-reading_writes_none reading.Failed same = cc
-reading_writes_none reading.NoMemory same = cc
 
 pub no_failed_write : {A : Type 0} (result : Result A PlayFault) (made fault : PlayFault) → result ≡ Err made → made ≡ fault → fault ≢ play.Write → result ≢ Err play.Write
 no_failed_write result made fault is made_is other same = other cc

@@ -1,7 +1,7 @@
 -- What the faults of a play say.
 use Rattle.std.specs.Prelude.{◌≡◌, ℕ, List, Option}
 use Rattle.std.specs.Io.KnownBytes.{Consumes}
-use Rattle.cdb_setup.specs.Format.{StandsFor}
+use Rattle.cdb_setup.specs.Format.{Encodes}
 use Rattle.cdb_setup.specs.Order.{IsFirstFault}
 use Rattle.cdb_setup.specs.Parts.{Parts}
 use Rattle.cdb_setup.specs.declared.fault.SetupFault.{SetupFault}
@@ -41,7 +41,7 @@ of_output output.NoMemory = NoMemory
 
 -- the text is that of a setup
 abbrev pub IsSetup : List ℕ → Type 0
-IsSetup json = (setup : Parts) × StandsFor json setup
+IsSetup json = (setup : Parts) × Encodes json setup
 
 -- What a fault of a play says of the setup's text and of the script, where the reader had the first bytes left before
 -- and the second after. A fault of the setup comes before those of the script, and those before the writer's.
@@ -54,3 +54,16 @@ IsFaultOfPlay (ScriptTooLong number) json old new =
 IsFaultOfPlay Read json old new = IsSetup json
 IsFaultOfPlay Write json old new = IsSetup json
 IsFaultOfPlay NoMemory json old new = Unit {0}
+
+-- ---- what the code keeps for itself
+
+-- what a fault says that comes from reading a script and its lines; the setup was read before, and nothing is written yet
+abbrev pub IsFaultOfReading : PlayFault → Option (List ℕ) → Option (List ℕ) → Type 0
+IsFaultOfReading (Setup fault) old new = ⊥
+IsFaultOfReading (Line number line fault) old new =
+    (number ≡ 1) × ((bytes : List ℕ) × IsReadToEnd old bytes new × IsFaultOfScript (script.Line line fault) bytes)
+IsFaultOfReading (ScriptTooLong number) old new =
+    (number ≡ 1) × ((bytes : List ℕ) × Consumes old new bytes × IsFaultOfScript script.TooLong bytes)
+IsFaultOfReading Read old new = Unit {0}
+IsFaultOfReading Write old new = ⊥
+IsFaultOfReading NoMemory old new = Unit {0}

@@ -4,7 +4,7 @@ use Rattle.cdb_control.specs.declared.command.Command.{Command}
 use Rattle.cdb_control.specs.Journal.{Journaled, state_in}
 use Rattle.cdb_rules.specs.RunView.{RunView}
 use Rattle.cdb_rules.specs.Rules.{Rules}
-use Rattle.cdb_setup.specs.Format.{StandsFor, longest}
+use Rattle.cdb_setup.specs.Format.{Encodes, longest}
 use Rattle.cdb_setup.specs.Parts.{Parts}
 use Rattle.cdb_play.specs.Lines.{lines_of}
 use Rattle.cdb_play.specs.Scripts.{AreCommandsOf}
@@ -23,7 +23,7 @@ run_of rules control = record { setup = control.setup; history = (state_in rules
 pub record IsRunLeft (rules : Parts → Rules) (json script : List ℕ) (run : RunView) : Type 0 where
   pub setup : Parts
   pub commands : List Command
-  pub stands : StandsFor json setup
+  pub stands : Encodes json setup
   pub short : length script ≤ longest
   pub lines : AreCommandsOf commands (lines_of script)
   pub is : run ≡ run_of rules (carried_out setup commands)

@@ -10,7 +10,7 @@ use Rattle.cdb_race.specs.Races.{IsRaced, MayFill, answers_to}
 use Rattle.cdb_race.specs.declared.threads.RaceFault.{RaceFault as ThreadFault}
 use Rattle.cdb_race.specs.declared.threads.RaceFault.TheVariants as threads
 use Rattle.cdb_rules.specs.Rules.{Rules}
-use Rattle.cdb_setup.specs.Format.{StandsFor}
+use Rattle.cdb_setup.specs.Format.{Encodes}
 use Rattle.cdb_setup.specs.Order.{IsFirstFault}
 use Rattle.cdb_setup.specs.Parts.{Parts, IsWithin}
 use Rattle.cdb_setup.specs.declared.fault.SetupFault.{SetupFault}
@@ -80,10 +80,10 @@ bytes_of scripts = map (λ script. script.items) scripts
 abbrev pub AreScripts : List (List Command) → List (List ℕ) → Type 0
 AreScripts read scripts = AllZip IsScript read scripts
 
--- the script at this place, counted from 1, has this fault, and each before it has its commands
+-- the script of this number, counted from 1, has this fault, and each before it has its commands
 abbrev pub IsFirstBad : ℕ → ScriptFault → List (List ℕ) → Type 0
-IsFirstBad place fault scripts =
-    (read : List (List Command)) × (good : List (List ℕ)) × (bad : List ℕ) × (rest : List (List ℕ)) × (scripts ≡ good ++ bad ∷ rest) × (place ≡ length good + 1) × AreScripts read good × IsFaultOfScript fault bad
+IsFirstBad position fault scripts =
+    (read : List (List Command)) × (good : List (List ℕ)) × (bad : List ℕ) × (rest : List (List ℕ)) × (scripts ≡ good ++ bad ∷ rest) × (position ≡ length good + 1) × AreScripts read good × IsFaultOfScript fault bad
 
 -- all of them have their commands
 abbrev pub AreAllRead : List (List ℕ) → Type 0
@@ -100,7 +100,7 @@ pub record IsTextOnSetup (rules : Parts → Rules) (setup : Parts) (turns : ℕ)
 
 -- the same on the setup that a text of JSON encodes
 abbrev pub IsTextOfRace : (Parts → Rules) → List ℕ → ℕ → List (List ℕ) → List ℕ → Type 0
-IsTextOfRace rules json turns scripts text = (setup : Parts) × StandsFor json setup × IsTextOnSetup rules setup turns scripts text
+IsTextOfRace rules json turns scripts text = (setup : Parts) × Encodes json setup × IsTextOnSetup rules setup turns scripts text
 
 -- ---- which fault of a race each fault of its parts is; out of memory is one fault
 
@@ -108,11 +108,11 @@ abbrev pub race_fault_of_setup : SetupFault → RaceFault
 race_fault_of_setup setup.NoMemory = NoMemory
 race_fault_of_setup fault = Setup fault
 
--- of the script at this place
+-- of the script of this number
 abbrev pub race_fault_of_script : ℕ → ScriptFault → RaceFault
-race_fault_of_script place (script.Line line fault) = Line place line fault
-race_fault_of_script place script.TooLong = ScriptTooLong place
-race_fault_of_script place script.NoMemory = NoMemory
+race_fault_of_script position (script.Line line fault) = Line position line fault
+race_fault_of_script position script.TooLong = ScriptTooLong position
+race_fault_of_script position script.NoMemory = NoMemory
 
 abbrev pub race_fault_of_threads : ThreadFault → RaceFault
 race_fault_of_threads threads.NoMemory = NoMemory
@@ -130,8 +130,8 @@ race_fault_of_output output.NoMemory = NoMemory
 -- is one of a process or of a script.
 abbrev pub IsFaultOnSetup : RaceFault → Parts → List (List ℕ) → Type 0
 IsFaultOnSetup (Setup fault) setup scripts = ⊥
-IsFaultOnSetup (Line place line fault) setup scripts = IsFirstBad place (script.Line line fault) scripts
-IsFaultOnSetup (ScriptTooLong place) setup scripts = IsFirstBad place script.TooLong scripts
+IsFaultOnSetup (Line position line fault) setup scripts = IsFirstBad position (script.Line line fault) scripts
+IsFaultOnSetup (ScriptTooLong position) setup scripts = IsFirstBad position script.TooLong scripts
 IsFaultOnSetup JournalFull setup scripts = AreAllRead scripts
 IsFaultOnSetup (Spawn refused) setup scripts = AreAllRead scripts
 IsFaultOnSetup (Stopped seat) setup scripts = AreAllRead scripts × IsWithin 1 (setup.processes + length scripts) seat
@@ -142,7 +142,7 @@ IsFaultOnSetup NoMemory setup scripts = Unit {0}
 abbrev pub IsFaultOfRace : RaceFault → List ℕ → List (List ℕ) → Type 0
 IsFaultOfRace (Setup fault) json scripts = IsFirstFault fault json
 IsFaultOfRace NoMemory json scripts = Unit {0}
-IsFaultOfRace fault json scripts = (setup : Parts) × StandsFor json setup × IsFaultOnSetup fault setup scripts
+IsFaultOfRace fault json scripts = (setup : Parts) × Encodes json setup × IsFaultOnSetup fault setup scripts
 
 -- ---- which of several faults of sessions is reported
 
@@ -160,9 +160,9 @@ IsToldOnSetup T rules heard passes setup turns scripts gates other = Unit {0}
 -- the same on the setup that a text of JSON encodes
 abbrev pub IsToldOfRace : {G : Type 0} → Type 0 → (Parts → Rules) → (G → Option (List Heard)) → (G → Bool) → List ℕ → ℕ → List (List ℕ) → List G → RaceFault → Type 0
 IsToldOfRace T rules heard passes json turns scripts gates JournalFull =
-    (setup : Parts) × StandsFor json setup × IsToldOnSetup T rules heard passes setup turns scripts gates JournalFull
+    (setup : Parts) × Encodes json setup × IsToldOnSetup T rules heard passes setup turns scripts gates JournalFull
 IsToldOfRace T rules heard passes json turns scripts gates (Stopped seat) =
-    (setup : Parts) × StandsFor json setup × IsToldOnSetup T rules heard passes setup turns scripts gates (Stopped seat)
+    (setup : Parts) × Encodes json setup × IsToldOnSetup T rules heard passes setup turns scripts gates (Stopped seat)
 IsToldOfRace T rules heard passes json turns scripts gates other = Unit {0}
 
 -- no gate stopped a session
@@ -179,7 +179,7 @@ IsUnstoppedOnSetup setup turns scripts other = Unit {0}
 
 abbrev pub IsUnstoppedOfRace : List ℕ → ℕ → List (List ℕ) → RaceFault → Type 0
 IsUnstoppedOfRace json turns scripts JournalFull =
-    (setup : Parts) × StandsFor json setup × IsUnstoppedOnSetup setup turns scripts JournalFull
+    (setup : Parts) × Encodes json setup × IsUnstoppedOnSetup setup turns scripts JournalFull
 IsUnstoppedOfRace json turns scripts (Stopped seat) = ⊥
 IsUnstoppedOfRace json turns scripts other = Unit {0}
 
@@ -199,15 +199,15 @@ IsTextOfCommands rules setup turns commands text =
 
 -- a fault of reading the scripts
 abbrev pub IsFaultOfScripts : RaceFault → List (List ℕ) → Type 0
-IsFaultOfScripts (Line place line fault) scripts = IsFirstBad place (script.Line line fault) scripts
-IsFaultOfScripts (ScriptTooLong place) scripts = IsFirstBad place script.TooLong scripts
+IsFaultOfScripts (Line position line fault) scripts = IsFirstBad position (script.Line line fault) scripts
+IsFaultOfScripts (ScriptTooLong position) scripts = IsFirstBad position script.TooLong scripts
 IsFaultOfScripts NoMemory scripts = Unit {0}
 IsFaultOfScripts fault scripts = ⊥
 
 -- a fault of what was read, with this many seats
 abbrev pub IsFaultOfRunning : ℕ → RaceFault → Type 0
 IsFaultOfRunning seats (Setup fault) = ⊥
-IsFaultOfRunning seats (Line place line fault) = ⊥
-IsFaultOfRunning seats (ScriptTooLong place) = ⊥
+IsFaultOfRunning seats (Line position line fault) = ⊥
+IsFaultOfRunning seats (ScriptTooLong position) = ⊥
 IsFaultOfRunning seats (Stopped seat) = IsWithin 1 seats seat
 IsFaultOfRunning seats fault = Unit {0}

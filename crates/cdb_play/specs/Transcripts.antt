@@ -9,7 +9,7 @@ use Rattle.cdb_control.specs.Headline.{Headline}
 use Rattle.cdb_control.specs.Journal.{Journaled, entry, replies_of, state_of}
 use Rattle.cdb_rules.specs.Rules.{Rules}
 use Rattle.cdb_setup.specs.Parts.{Parts}
-use Rattle.cdb_setup.specs.Format.{StandsFor, longest}
+use Rattle.cdb_setup.specs.Format.{Encodes, longest}
 use Rattle.cdb_text.specs.Texts.{text_of}
 use Rattle.cdb_play.specs.Lines.{lines_of}
 use Rattle.cdb_play.specs.Scripts.{AreCommandsOf}
@@ -31,7 +31,7 @@ transcript rules setup commands = flat_map text_of (replies_of rules setup 1 1 (
 pub record IsTranscriptOf (rules : Parts → Rules) (json script text : List ℕ) : Type 0 where
   pub setup : Parts
   pub commands : List Command
-  pub stands : StandsFor json setup
+  pub stands : Encodes json setup
   pub short : length script ≤ longest
   pub lines : AreCommandsOf commands (lines_of script)
   pub is : text ≡ transcript (rules setup) setup commands

@@ -19,7 +19,7 @@ const OUTPUT_FAILED: &str = "output failed";
 
 const END: Piece<'static> = Text("\n");
 
-/// What a fault of a setup carries: after a space its key, its place, or its process and place.
+/// What a fault of a setup carries: after a space its key, its position, or its process and position.
 fn detail_of(
     fault: &SetupFault,
 ) -> (
@@ -34,8 +34,13 @@ fn detail_of(
     let (space, nothing) = (Text(" "), Text(""));
     match fault {
         SetupFault::Missing(key) => (space, Text(key.name()), nothing, nothing),
-        SetupFault::BadInput(place) => (space, Number(*place), nothing, nothing),
-        SetupFault::BadOracle(process, place) => (space, Number(*process), space, Number(*place)),
+        SetupFault::BadInput(position) => (space, Number(*position), nothing, nothing),
+        SetupFault::BadOracle(process, position) => (
+            space,
+            Number(*process),
+            space,
+            Number(*position),
+        ),
         _ => (nothing, nothing, nothing, nothing),
     }
 }

@@ -11,11 +11,10 @@ ghost use Rattle.cdb_play.specs.Streams.{FailsWhere};
 
 use crate::buffer::{Buffer, OutputFault};
 use crate::fault::PlayFault;
-use crate::script::commands_of;
+use crate::script::read_commands;
 use crate::sink::Sink;
-use crate::source::{Source, read_up_to};
+use crate::source::Source;
 use cdb_base::NoMemory;
-use cdb_base::limits::MAX_BYTES;
 use cdb_control::{CallFault, Command, Control, Runs};
 use cdb_setup::Setup;
 use std::alloc::Global;
@@ -78,8 +77,7 @@ pub fn left_by<T: Runs, R: Source>(
     ensures read { FailsWhere R.failures (result ≡ Err PlayFault.Read) script.old script.new }
 {
     let setup = Setup::read(alloc, setup)?;
-    let bytes = read_up_to(alloc, script, MAX_BYTES + 1)?;
-    let commands = commands_of(alloc, bytes.as_slice())?;
+    let commands = read_commands(alloc, script)?;
     let control = control_after(alloc, setup, commands.as_slice())?;
     // Its clause says that the headline holds of the journal.
     let _journal = control.journal();

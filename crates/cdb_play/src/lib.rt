@@ -11,6 +11,7 @@ mod output;
 mod piece;
 mod plays;
 mod races;
+mod reply;
 mod script;
 mod sink;
 mod source;

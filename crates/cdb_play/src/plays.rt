@@ -11,20 +11,20 @@ ghost use Rattle.cdb_play.specs.Written.{PlayWrites};
 
 use crate::buffer::{Buffer, OutputFault};
 use crate::fault::PlayFault;
-use crate::script::commands_of;
+use crate::reply::put_reply;
+use crate::script::read_commands;
 use crate::sink::Sink;
-use crate::source::{Source, read_up_to};
-use cdb_base::limits::MAX_BYTES;
+use crate::source::Source;
 use cdb_control::{CallFault, Command, Control, Runs, laws};
 use cdb_setup::Setup;
-use cdb_text::reply_text;
 use std::alloc::Global;
 
-/// Carries a command out for the only seat, and puts the text of the reply.
+/// Carries a command out for the only seat, and puts the text of the reply, which is made in `text`.
 fn perform<T: Runs, W: Sink>(
     alloc: Global,
     control: &mut Control<T>,
     command: Command,
+    text: &mut String,
     buffer: &mut Buffer,
     out: &mut W,
 ) -> Result<(), OutputFault>
@@ -40,9 +40,7 @@ fn perform<T: Runs, W: Sink>(
         Err(CallFault::JournalFull) => unreachable!(),
         Err(CallFault::NoMemory) => return Err(OutputFault::NoMemory),
     };
-    let text = reply_text(alloc, &reply)?;
-    buffer.put(out, text.as_slice())?;
-    Ok(())
+    put_reply(&reply, text, buffer, out)
 }
 
 /// Carries the commands out, one after the other, on a run of the setup in which nothing has happened, and
@@ -61,8 +59,9 @@ fn perform_all<T: Runs, W: Sink>(
     let Ok(mut control) = Control::<T>::open(alloc, setup, 1) else {
         return Err(OutputFault::NoMemory);
     };
+    let mut text = String::new(alloc);
     for command in commands {
-        perform(alloc, &mut control, *command, buffer, out)?;
+        perform(alloc, &mut control, *command, &mut text, buffer, out)?;
     }
     Ok(())
 }
@@ -100,8 +99,7 @@ fn play_by<T: Runs, R: Source, W: Sink>(
     ensures read { FailsWhere R.failures (result ≡ Err PlayFault.Read) script.old script.new }
 {
     let setup = Setup::read(alloc, setup)?;
-    let bytes = read_up_to(alloc, script, MAX_BYTES + 1)?;
-    let commands = commands_of(alloc, bytes.as_slice())?;
+    let commands = read_commands(alloc, script)?;
     write_transcript::<T, W>(alloc, setup, commands.as_slice(), out)?;
     Ok(())
 }

@@ -3,7 +3,7 @@
 ghost use Rattle.std.specs.Prelude.{◌≡◌, ◌+◌, ◌≤◌, length, vec_len, IfOk, IfErr};
 ghost use Rattle.cdb_race.specs.Races.{AllPass};
 ghost use Rattle.cdb_rules.specs.Agreement.{HasMajorityIfNeeded};
-ghost use Rattle.cdb_setup.specs.Format.{StandsFor};
+ghost use Rattle.cdb_setup.specs.Format.{Encodes};
 ghost use Rattle.cdb_setup.specs.Parts.{Parts};
 ghost use Rattle.cdb_play.specs.Races.{race_fault_of_script, bytes_of, AreScripts, IsTextOnSetup, IsTextOfRace, IsFaultOnSetup, IsFaultOfRace};
 ghost use Rattle.cdb_play.specs.Races.{IsNotStopped, IsToldOnSetup, IsToldOfRace, IsUnstoppedOnSetup, IsUnstoppedOfRace};
@@ -104,13 +104,13 @@ fn open_gates(alloc: Global, count: usize) -> Result<Vec<Open>, AllocError>
     vec![in alloc; Open; count]
 }
 
-/// A fault of the script at this place.
-fn fault_of_script(place: usize, fault: ScriptFault) -> RaceFault
-    ensures { result ≡ race_fault_of_script place fault }
+/// A fault of the script of this number.
+fn fault_of_script(position: usize, fault: ScriptFault) -> RaceFault
+    ensures { result ≡ race_fault_of_script position fault }
 {
     match fault {
-        ScriptFault::Line(line, fault) => RaceFault::Line(place, line, fault),
-        ScriptFault::TooLong => RaceFault::ScriptTooLong(place),
+        ScriptFault::Line(line, fault) => RaceFault::Line(position, line, fault),
+        ScriptFault::TooLong => RaceFault::ScriptTooLong(position),
         ScriptFault::NoMemory => RaceFault::NoMemory,
     }
 }
@@ -237,13 +237,13 @@ pub fn race_with<T: Runs + Send, G: Gate + Drop + Send, R: Threads + Wait + Sync
     out: &mut W,
 ) -> Result<(), RaceFault>
     requires turns { turns ≤ 99999 }
-    requires fits { (parts : Parts) → StandsFor setup.now parts →
+    requires fits { (parts : Parts) → Encodes setup.now parts →
         parts.processes + length scripts.now ≤ 64 }
-    requires gates { (parts : Parts) → StandsFor setup.now parts
+    requires gates { (parts : Parts) → Encodes setup.now parts
         → vec_len gates ≡ parts.processes + length scripts.now }
     ensures wrote { RaceWrites W.contents W.failures result out.old out.new
         (IsTextOfRace T.rules setup.now turns (bytes_of scripts.now)) }
-    ensures agree { (parts : Parts) → StandsFor setup.now parts → HasMajorityIfNeeded parts
+    ensures agree { (parts : Parts) → Encodes setup.now parts → HasMajorityIfNeeded parts
         → AgreesAtEnd W.contents W.failures result out.old out.new }
     ensures fault { IfErr result (λ fault. IsFaultOfRace fault setup.now (bytes_of scripts.now)) }
     ensures told { IfErr result
@@ -264,11 +264,11 @@ pub fn race<T: Runs + Send, R: Threads + Wait + Sync, W: Sink>(
     out: &mut W,
 ) -> Result<(), RaceFault>
     requires turns { turns ≤ 99999 }
-    requires fits { (parts : Parts) → StandsFor setup.now parts →
+    requires fits { (parts : Parts) → Encodes setup.now parts →
         parts.processes + length scripts.now ≤ 64 }
     ensures wrote { RaceWrites W.contents W.failures result out.old out.new
         (IsTextOfRace T.rules setup.now turns (bytes_of scripts.now)) }
-    ensures agree { (parts : Parts) → StandsFor setup.now parts → HasMajorityIfNeeded parts
+    ensures agree { (parts : Parts) → Encodes setup.now parts → HasMajorityIfNeeded parts
         → AgreesAtEnd W.contents W.failures result out.old out.new }
     ensures fault { IfErr result (λ fault. IsFaultOfRace fault setup.now (bytes_of scripts.now)) }
     ensures told { IfErr result (IsUnstoppedOfRace setup.now turns (bytes_of scripts.now)) }

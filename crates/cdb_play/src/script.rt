@@ -1,12 +1,15 @@
 //! The commands of a script.
 
-ghost use Rattle.std.specs.Prelude.{◌≡◌, ◌+◌, ◌*◌, ◌≤◌, [], ◌∷◌, ◌++◌, length, IfOk, IfErr, OnOk};
-ghost use Rattle.cdb_play.specs.Lines.{lines_of};
+ghost use Rattle.std.specs.Prelude.{◌≡◌, ◌+◌, ◌*◌, ◌<◌, ◌≤◌, [], ◌∷◌, ◌++◌, length, Err, IfOk, IfErr, OnOk};
 ghost use Rattle.cdb_setup.specs.Format.{longest};
-ghost use Rattle.cdb_play.specs.Scripts.{AreCommandsOf, IsFaultOfScript};
+ghost use Rattle.cdb_play.specs.Faults.{IsFaultOfReading};
+ghost use Rattle.cdb_play.specs.Lines.{lines_of};
+ghost use Rattle.cdb_play.specs.Scripts.{AreCommandsOf, GivesCommands, IsFaultOfScript};
+ghost use Rattle.cdb_play.specs.Streams.{FailsWhere};
 
 use crate::fault::PlayFault;
-use crate::lines::first_line;
+use crate::lines::{first_line, most_lines};
+use crate::source::{Source, read_up_to};
 use cdb_base::limits::MAX_BYTES;
 use cdb_base::{Act, Reg};
 use cdb_control::{Command, Stop, View};
@@ -77,7 +80,7 @@ pub fn commands_of(alloc: Global, script: &[u8]) -> Result<Vec<Command>, ScriptF
     if script.len() > MAX_BYTES {
         return Err(ScriptFault::TooLong);
     }
-    let mut commands = Vec::new(alloc);
+    let mut commands = Vec::with_capacity(alloc, most_lines(script))?;
     let mut rest = script;
     while !rest.is_empty() {
         let (line, behind) = first_line(rest);
@@ -87,5 +90,22 @@ pub fn commands_of(alloc: Global, script: &[u8]) -> Result<Vec<Command>, ScriptF
         }
         rest = behind;
     }
+    Ok(commands)
+}
+
+/// Reads a script to its end, and returns its commands. The bytes are kept no longer.
+pub(crate) fn read_commands<R: Source>(
+    alloc: Global,
+    script: &mut R,
+) -> Result<Vec<Command>, PlayFault>
+    ensures commands { IfOk result (λ commands. GivesCommands
+        (R.remaining script.old) (R.remaining script.new) commands.items) }
+    ensures few { IfOk result (λ commands. length commands.items < 999999) }
+    ensures fault { IfErr result (λ fault.
+        IsFaultOfReading fault (R.remaining script.old) (R.remaining script.new)) }
+    ensures read { FailsWhere R.failures (result ≡ Err PlayFault.Read) script.old script.new }
+{
+    let bytes = read_up_to(alloc, script, MAX_BYTES + 1)?;
+    let commands = commands_of(alloc, bytes.as_slice())?;
     Ok(commands)
 }

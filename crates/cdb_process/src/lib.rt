@@ -13,7 +13,7 @@ ghost use Rattle.std.specs.Prelude.{◌≡◌, ℕ, ◌↔◌, ◌≤◌, Option
 ghost use Rattle.cdb_process.specs.declared.Input.{Input};
 ghost use Rattle.cdb_process.specs.declared.Wish.{Wish};
 ghost use Rattle.cdb_process.specs.Table.{Table};
-ghost use Rattle.cdb_process.specs.Process.{QueryHangsOnStateAlone, RecvHangsOnStateAlone, WishNamesSend, WishNamesRead, WishNamesWrite, WishNamesLocal};
+ghost use Rattle.cdb_process.specs.Process.{QueryDependsOnStateAlone, RecvDependsOnStateAlone, WishNamesSend, WishNamesRead, WishNamesWrite, WishNamesLocal};
 
 use cdb_base::{Cell, NoMemory, Payload, Proc, Reg, Val};
 use std::alloc::Global;
@@ -102,9 +102,9 @@ pub trait Process: Sized + Drop {
     fn round(&self) -> u32
         ensures { result ≡ table.round self.now };
 
-    ghost query_by_state: { QueryHangsOnStateAlone table.next };
+    ghost query_by_state: { QueryDependsOnStateAlone table.next };
 
-    ghost recv_by_state: { RecvHangsOnStateAlone table.next };
+    ghost recv_by_state: { RecvDependsOnStateAlone table.next };
 
     ghost wish_send: { WishNamesSend table.next table.wish };
 

@@ -1,5 +1,5 @@
 -- Files are opened one after the other.
-use Rattle.std.proofs.Common.{◌≡◌, ℕ, ◌+◌, ◌<◌, List, [], ◌∷◌, ◌++◌, length, get_or, take, drop, map, Option, Some, None, Err, Bor, Vec, Global, refl, sym, ap, subst, ◌∙◌, append_assoc, append-nil, take-append-drop}
+use Rattle.std.proofs.Common.{◌≡◌, ℕ, ◌+◌, ◌<◌, List, [], ◌∷◌, ◌++◌, length, get_or, take, drop, Option, Some, None, Err, Bor, Vec, Global, refl, sym, ap, subst, ◌∙◌, append_assoc, append-nil, take-append-drop}
 use Rattle.std.specs.Prelude.{option_map}
 use Rattle.std.proofs.lemmas.List.{map-append, take_more}
 use Rattle.std.specs.List.{AllZip}
@@ -112,7 +112,7 @@ taken_and_left names i = ap texts (sym (take-append-drop i names)) ∙ map-appen
 pub bytes_more : (vectors : List (Vec ℕ Global)) (vector : Vec ℕ Global) → bytes_of (vectors ++ vector ∷ []) ≡ bytes_of vectors ++ vector.items ∷ []
 bytes_more vectors vector = map-append (λ (v : Vec ℕ Global). v.items) vectors (vector ∷ [])
 
--- the file at this place of a list can't be read
+-- the file at this position of a list can't be read
 pub fails_at : (old mid new : FilesSeen) (names : List (Bor (List ℕ))) (i : ℕ) (d : Bor (List ℕ)) (a : List (List ℕ)) (fault : Fault) → i < length names → HasRead old mid (texts (take i names)) a
     → FailsToRead mid new ((get_or names i d).now ∷ []) fault → FailsToRead old new (texts names) fault
 fails_at old mid new names i d a fault below before fails =

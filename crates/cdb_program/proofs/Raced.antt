@@ -9,7 +9,7 @@ use Rattle.cdb_play.specs.Races.{race_fault_of_setup, IsFaultOnSetup, IsTextOfRa
 use Rattle.cdb_play.specs.Written.{AgreesAtEnd, RaceWrites}
 use Rattle.cdb_play.specs.declared.fault.RaceFault.{RaceFault}
 use Rattle.cdb_rules.specs.Agreement.{HasMajorityIfNeeded}
-use Rattle.cdb_setup.specs.Format.{StandsFor}
+use Rattle.cdb_setup.specs.Format.{Encodes}
 use Rattle.cdb_setup.specs.Order.{IsFirstFault}
 use Rattle.cdb_setup.specs.Parts.{Parts}
 use Rattle.cdb_setup.specs.declared.fault.SetupFault.{SetupFault}
@@ -21,8 +21,8 @@ use Rattle.cdb_program.proofs.Seen.{race_wrote}
 use Rattle.cdb_rules.specs.Algorithms.{rules}
 
 -- the race ran on the setup that the text encodes
-pub race_seen : {W : Type 0} (held : W → Option (List ℕ)) (failed : W → ℕ) (json : List ℕ) (turns : ℕ) (parts : Parts) (scripts : List (List ℕ)) (raced : Result (Unit {0}) RaceFault) (old new : W) → StandsFor json parts
-    → ((other : Parts) → StandsFor json other → parts ≡ other) → parts.processes + length scripts ≤ 64 → RaceWrites held failed raced old new (IsTextOnSetup rules parts turns scripts)
+pub race_seen : {W : Type 0} (held : W → Option (List ℕ)) (failed : W → ℕ) (json : List ℕ) (turns : ℕ) (parts : Parts) (scripts : List (List ℕ)) (raced : Result (Unit {0}) RaceFault) (old new : W) → Encodes json parts
+    → ((other : Parts) → Encodes json other → parts ≡ other) → parts.processes + length scripts ≤ 64 → RaceWrites held failed raced old new (IsTextOnSetup rules parts turns scripts)
     → (HasMajorityIfNeeded parts → AgreesAtEnd held failed raced old new) → IfErr raced (λ fault. IsFaultOnSetup fault parts scripts) → IfErr raced (IsUnstoppedOnSetup parts turns scripts)
     → IsRace json turns scripts raced (stream_of held failed old) (stream_of held failed new)
 race_seen held failed json turns parts scripts raced old new stands only few wrote agree fault told = record {
@@ -36,7 +36,7 @@ race_seen held failed json turns parts scripts raced old new stands only few wro
 }
 
 -- the text was not read as a setup
-pub race_unread : (json : List ℕ) (turns : ℕ) (scripts : List (List ℕ)) (fault : SetupFault) (out : Stream) → (fault ≢ setup.NoMemory → IsFirstFault fault json) → ((other : Parts) → StandsFor json other → fault ≡ setup.NoMemory)
+pub race_unread : (json : List ℕ) (turns : ℕ) (scripts : List (List ℕ)) (fault : SetupFault) (out : Stream) → (fault ≢ setup.NoMemory → IsFirstFault fault json) → ((other : Parts) → Encodes json other → fault ≡ setup.NoMemory)
     → IsRace json turns scripts (Err (race_fault_of_setup fault)) out out
 race_unread json turns scripts fault out said only = record {
   fits = λ ended other its. absurd (ended (ap (λ (f : SetupFault). Err (race_fault_of_setup f)) (only other its)));

@@ -6,8 +6,10 @@ use Rattle.cdb_debug.specs.Moves.{Known}
 use Rattle.cdb_hall.specs.Halls.{IsAttended}
 use Rattle.cdb_hall.specs.Holding.{Holds}
 use Rattle.cdb_hall.specs.Reports.{IsPut, outcomes, failures_text, status_of}
-use Rattle.cdb_hall.specs.declared.place.Place.{Place}
-use Rattle.cdb_hall.specs.declared.place.Attended.{Attended}
+use Rattle.cdb_hall.specs.declared.station.Station.{Station}
+use Rattle.cdb_hall.specs.declared.station.Attended.{Attended}
+use Rattle.cdb_rules.specs.Rules.{Rules}
+use Rattle.cdb_setup.specs.Parts.{Parts}
 use Rattle.cdb_play.specs.declared.fault.PlayFault.{PlayFault}
 use Rattle.cdb_play.specs.declared.fault.PlayFault.TheVariants as play
 use Rattle.cdb_program.specs.Known.{FilesSeen, contents, failures, after_opening, after_failing}
@@ -24,7 +26,7 @@ use Rattle.cdb_program.proofs.Opening.{read_none, opened_then, failed_then, fail
 -- ---- seats that are opened
 
 -- it can't be opened
-pub one_fails : (T : Type 0) (known : T → Known) (old new : FilesSeen) (name : Bor (List ℕ)) (fault : ReadFault) → (let opened : Result (Place T) ReadFault = Err fault in OpensSeat known old new name.now opened) → FailsToRead old new (name.now ∷ []) (Play (of_reading fault) name)
+pub one_fails : (T : Type 0) (known : T → Known) (old new : FilesSeen) (name : Bor (List ℕ)) (fault : ReadFault) → (let opened : Result (Station T) ReadFault = Err fault in OpensSeat known old new name.now opened) → FailsToRead old new (name.now ∷ []) (Play (of_reading fault) name)
 one_fails T known old new name reading.Failed is = ([], [], refl, is)
 one_fails T known old new name reading.NoMemory is = ([], name.now ∷ [], refl, is ∙ (read_none old).0)
 
@@ -59,7 +61,7 @@ fails_later old mid new first second NoStep before fails = absurd fails
 fails_later old mid new first second TooManySeats before fails = absurd fails
 fails_later old mid new first second (Refused reason) before fails = absurd fails
 
--- the seat at this place of a list can't be opened
+-- the seat at this position of a list can't be opened
 pub seat_fails : (old mid new : FilesSeen) (names : List (Bor (List ℕ))) (i : ℕ) (d : Bor (List ℕ)) (fault : Fault) → i < length names → mid ≡ after_opening old (texts (take i names))
     → FailsToRead mid new ((get_or names i d).now ∷ []) fault → FailsToRead old new (texts names) fault
 seat_fails old mid new names i d fault below before fails =
@@ -74,20 +76,20 @@ seat_opened old mid new names i d below before after =
     opened_then old mid new (texts (take i names)) ((get_or names i d).now ∷ []) before after ∙ ap (after_opening old) (sym (one_more_name names i d below))
 
 module _ {T : Type 0} (known : T → Known) where
-  one_more_seat : (files : FilesSeen) (names : List (List ℕ)) (places : List (Place T)) (name : List ℕ) (place : Place T)
-      → AreSeatsOf known files names places → IsSeatOf known files name place → AreSeatsOf known files (names ++ name ∷ []) (places ++ place ∷ [])
-  one_more_seat files [] [] name place before its = (its, tt)
-  one_more_seat files [] (p ∷ places) name place before its = absurd before
-  one_more_seat files (n ∷ names) [] name place before its = absurd before
-  one_more_seat files (n ∷ names) (p ∷ places) name place before its = (before.0, one_more_seat files names places name place before.1 its)
+  one_more_seat : (files : FilesSeen) (names : List (List ℕ)) (stations : List (Station T)) (name : List ℕ) (station : Station T)
+      → AreSeatsOf known files names stations → IsSeatOf known files name station → AreSeatsOf known files (names ++ name ∷ []) (stations ++ station ∷ [])
+  one_more_seat files [] [] name station before its = (its, tt)
+  one_more_seat files [] (p ∷ stations) name station before its = absurd before
+  one_more_seat files (n ∷ names) [] name station before its = absurd before
+  one_more_seat files (n ∷ names) (p ∷ stations) name station before its = (before.0, one_more_seat files names stations name station before.1 its)
 
-  -- and its place is that of its name
-  pub seat_placed : (old mid : FilesSeen) (names : List (Bor (List ℕ))) (i : ℕ) (d : Bor (List ℕ)) (places : List (Place T)) (place : Place T) → i < length names → mid ≡ after_opening old (texts (take i names))
-      → AreSeatsOf known old (texts (take i names)) places → IsSeatOf known mid (get_or names i d).now place → AreSeatsOf known old (texts (take (i + 1) names)) (places ++ place ∷ [])
-  seat_placed old mid names i d places place below before seats its =
+  -- and its station is that of its name
+  pub seat_stationd : (old mid : FilesSeen) (names : List (Bor (List ℕ))) (i : ℕ) (d : Bor (List ℕ)) (stations : List (Station T)) (station : Station T) → i < length names → mid ≡ after_opening old (texts (take i names))
+      → AreSeatsOf known old (texts (take i names)) stations → IsSeatOf known mid (get_or names i d).now station → AreSeatsOf known old (texts (take (i + 1) names)) (stations ++ station ∷ [])
+  seat_stationd old mid names i d stations station below before seats its =
       let name = (get_or names i d).now in
-      subst (λ (l : List (List ℕ)). AreSeatsOf known old l (places ++ place ∷ [])) (sym (one_more_name names i d below))
-      (one_more_seat old (texts (take i names)) places name place seats (subst (λ (f : FilesSeen). IsSeatOf known f name place) before its))
+      subst (λ (l : List (List ℕ)). AreSeatsOf known old l (stations ++ station ∷ [])) (sym (one_more_name names i d below))
+      (one_more_seat old (texts (take i names)) stations name station seats (subst (λ (f : FilesSeen). IsSeatOf known f name station) before its))
 
 -- ---- what is known of their sessions
 
@@ -96,19 +98,19 @@ some_of [] low = absurd (omega arith)
 some_of (x ∷ xs) low = x
 
 module _ {T : Type 0} (known : T → Known) where
-  abbrev pub known_place : Place T → Place Known
-  known_place place = record { talk = known place.talk; prompt = place.prompt }
+  abbrev pub known_station : Station T → Station Known
+  known_station station = record { talk = known station.talk; prompt = station.prompt }
 
-  same_seats : (files : FilesSeen) (names : List (List ℕ)) (places : List (Place T)) → AreSeatsOf known files names places → AreSeatsOf (λ (k : Known). k) files names (map known_place places)
+  same_seats : (files : FilesSeen) (names : List (List ℕ)) (stations : List (Station T)) → AreSeatsOf known files names stations → AreSeatsOf (λ (k : Known). k) files names (map known_station stations)
   same_seats files [] [] are = are
-  same_seats files [] (place ∷ places) are = absurd are
+  same_seats files [] (station ∷ stations) are = absurd are
   same_seats files (name ∷ names) [] are = absurd are
-  same_seats files (name ∷ names) (place ∷ places) are = (are.0, same_seats files names places are.1)
+  same_seats files (name ∷ names) (station ∷ stations) are = (are.0, same_seats files names stations are.1)
 
-  -- the places are those of the names, whatever was opened before, and by what is known of whom they talk with
-  pub seats_known : (old mid : FilesSeen) (first names : List (List ℕ)) (places : List (Place T)) → mid ≡ after_opening old first
-      → AreSeatsOf known mid names places → AreSeatsOf (λ (k : Known). k) old names (map known_place places)
-  seats_known old mid first names places before are = same_seats old names places (subst (λ (f : FilesSeen). AreSeatsOf known f names places) before are)
+  -- the stations are those of the names, whatever was opened before, and by what is known of whom they talk with
+  pub seats_known : (old mid : FilesSeen) (first names : List (List ℕ)) (stations : List (Station T)) → mid ≡ after_opening old first
+      → AreSeatsOf known mid names stations → AreSeatsOf (λ (k : Known). k) old names (map known_station stations)
+  seats_known old mid first names stations before are = same_seats old names stations (subst (λ (f : FilesSeen). AreSeatsOf known f names stations) before are)
 
   abbrev known_attended : Attended T → Attended Known
   known_attended attended = record { talk = known attended.talk; outcome = attended.outcome }
@@ -128,10 +130,10 @@ module _ {W : Type 0} (held : W → Option (List ℕ)) (failed : W → ℕ) wher
   put_seen (Err (play.ScriptTooLong script)) old new text is = is
 
 -- sessions that were held, by what is known of whom they talked with and of the streams
-pub holds_seen : {T O E : Type 0} (known : T → Known) (held : O → Option (List ℕ)) (failed : O → ℕ) (told : E → Option (List ℕ)) (untold : E → ℕ) (json : List ℕ) (places : List (Place T)) (output output_after : O) (error error_after : E) (status : ℕ)
-    → Holds known held failed told untold json places output output_after error error_after status
-    → Holds (λ (k : Known). k) contents failures contents failures json (map (known_place known) places) (stream_of held failed output) (stream_of held failed output_after) (stream_of told untold error) (stream_of told untold error_after) status
-holds_seen known held failed told untold json places output output_after error error_after status h =
+pub holds_seen : {T O E : Type 0} (rules : Parts → Rules) (known : T → Known) (held : O → Option (List ℕ)) (failed : O → ℕ) (told : E → Option (List ℕ)) (untold : E → ℕ) (json : List ℕ) (stations : List (Station T)) (output output_after : O) (error error_after : E) (status : ℕ)
+    → Holds rules known held failed told untold json stations output output_after error error_after status
+    → Holds rules (λ (k : Known). k) contents failures contents failures json (map (known_station known) stations) (stream_of held failed output) (stream_of held failed output_after) (stream_of told untold error) (stream_of told untold error_after) status
+holds_seen rules known held failed told untold json stations output output_after error error_after status h =
     let same = same_outcomes known h.attended in
     record {
       setup = h.setup;
@@ -140,17 +142,17 @@ holds_seen known held failed told untold json places output output_after error e
       attended = map (known_attended known) h.attended;
       hall = record {
         setup_is = h.hall.setup_is;
-        seats_are = h.hall.seats_are ∙ sym (length-map places (known_place known));
+        seats_are = h.hall.seats_are ∙ sym (length-map stations (known_station known));
         entries = h.hall.entries;
-        many = length-map h.attended (known_attended known) ∙ h.hall.many ∙ sym (length-map places (known_place known));
+        many = length-map h.attended (known_attended known) ∙ h.hall.many ∙ sym (length-map stations (known_station known));
         each = λ k p a low.
-            let below : k < length places = omega (arith, low, length-map places (known_place known)) in
-            let d = some_of places (omega (arith, below)) in
+            let below : k < length stations = omega (arith, low, length-map stations (known_station known)) in
+            let d = some_of stations (omega (arith, below)) in
             let e = some_of h.attended (omega (arith, below, h.hall.many)) in
             let its = h.hall.each k d e below in
-            let place = sym (get_or-map (known_place known) places k d p below) in
+            let station = sym (get_or-map (known_station known) stations k d p below) in
             let attended = sym (get_or-map (known_attended known) h.attended k e a (omega (arith, below, h.hall.many))) in
-            subst (λ (x : Place Known × Attended Known). IsAttended (λ (k : Known). k) h.control (k + 1) x.0 x.1) (λ i. (place i, attended i))
+            subst (λ (x : Station Known × Attended Known). IsAttended rules (λ (k : Known). k) h.control (k + 1) x.0 x.1) (λ i. (station i, attended i))
             (record { made = its.made; makes = its.makes; session = its.session });
       };
       written = h.written;

@@ -3,6 +3,7 @@ use Rattle.std.specs.Prelude.{◌≡◌, ◌⊎◌, ℕ, List, [], ◌∷◌, co
 use Rattle.cdb_debug.specs.Moves.{Known}
 use Rattle.cdb_debug.specs.Sessions.{Debugs}
 use Rattle.cdb_play.specs.declared.fault.PlayFault.{PlayFault}
+use Rattle.cdb_rules.specs.Algorithms.{rules}
 use Rattle.cdb_program.specs.Known.{Seen}
 use Rattle.cdb_program.specs.Outcomes.{Outcome, IsOfPlay}
 use Rattle.cdb_program.specs.Reading.{HasRead, StopsAtFiles}
@@ -22,7 +23,7 @@ talk_of seen = record {
 abbrev pub DebugsBytes : List ℕ → List ℕ → Seen → Seen → Outcome → Type 0
 DebugsBytes json prompt old new outcome =
     (debugged : Result (Unit {0}) PlayFault) × IsOfPlay (codes "standard input") debugged outcome
-    × Debugs prompt json debugged (talk_of old) (talk_of new)
+    × Debugs rules prompt json debugged (talk_of old) (talk_of new)
 
 -- The file of the setup is read, and then the session is held. Where the file can't be read, no input is.
 abbrev pub DebugsFile : List ℕ → List ℕ → Seen → Seen → Outcome → Type 0

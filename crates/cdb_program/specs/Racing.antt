@@ -5,7 +5,7 @@ use Rattle.cdb_play.specs.Written.{AgreesAtEnd, RaceWrites}
 use Rattle.cdb_play.specs.declared.fault.RaceFault.{RaceFault}
 use Rattle.cdb_play.specs.declared.fault.RaceFault.TheVariants.{NoMemory}
 use Rattle.cdb_rules.specs.Agreement.{HasMajorityIfNeeded}
-use Rattle.cdb_setup.specs.Format.{StandsFor}
+use Rattle.cdb_setup.specs.Format.{Encodes}
 use Rattle.cdb_setup.specs.Parts.{Parts}
 use Rattle.cdb_program.specs.Known.{Stream, Seen, contents, failures}
 use Rattle.cdb_program.specs.Outcomes.{Outcome, IsOfRace}
@@ -15,13 +15,13 @@ use Rattle.cdb_rules.specs.Algorithms.{rules}
 
 -- the setup's processes and this many scripts need more seats than there are
 abbrev pub NeedsTooManySeats : List ℕ → ℕ → Type 0
-NeedsTooManySeats json scripts = (setup : Parts) × StandsFor json setup × (64 < setup.processes + scripts)
+NeedsTooManySeats json scripts = (setup : Parts) × Encodes json setup × (64 < setup.processes + scripts)
 
 -- A race of scripts on the setup of this text ended so. The output is seen before and after.
 pub record IsRace (json : List ℕ) (turns : ℕ) (scripts : List (List ℕ)) (raced : Result (Unit {0}) RaceFault) (old new : Stream) : Type 0 where
-  pub fits : raced ≢ Err NoMemory → (setup : Parts) → StandsFor json setup → setup.processes + length scripts ≤ 64
+  pub fits : raced ≢ Err NoMemory → (setup : Parts) → Encodes json setup → setup.processes + length scripts ≤ 64
   pub wrote : RaceWrites contents failures raced old new (IsTextOfRace rules json turns scripts)
-  pub agree : (setup : Parts) → StandsFor json setup → HasMajorityIfNeeded setup → AgreesAtEnd contents failures raced old new
+  pub agree : (setup : Parts) → Encodes json setup → HasMajorityIfNeeded setup → AgreesAtEnd contents failures raced old new
   pub fault : IfErr raced (λ fault. IsFaultOfRace fault json scripts)
   pub told : IfErr raced (IsUnstoppedOfRace json turns scripts)
 

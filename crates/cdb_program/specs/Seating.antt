@@ -3,26 +3,27 @@ use Rattle.std.specs.Prelude.{◌≡◌, ◌⊎◌, ℕ, ◌<◌, List, [], ◌�
 use Rattle.std.specs.List.{AllZip}
 use Rattle.cdb_debug.specs.Moves.{Known}
 use Rattle.cdb_hall.specs.Holding.{Holds, IsFaultOfHall}
-use Rattle.cdb_hall.specs.declared.place.Place.{Place}
+use Rattle.cdb_hall.specs.declared.station.Station.{Station}
 use Rattle.cdb_play.specs.declared.source.ReadFault.{ReadFault}
 use Rattle.cdb_play.specs.declared.source.ReadFault.TheVariants as reading
+use Rattle.cdb_rules.specs.Algorithms.{rules}
 use Rattle.cdb_program.specs.Known.{FilesSeen, Seen, contents, failures, seat_of, after_opening, after_failing}
 use Rattle.cdb_program.specs.Reading.{AreFirstBytes, FailsToRead, most_read}
 use Rattle.cdb_program.specs.Reports.{IsReported}
 use Rattle.cdb_program.specs.declared.fault.Fault.{Fault}
 use Rattle.cdb_program.specs.declared.fault.Fault.TheVariants.{Race, TooManySeats}
 
--- the place is that of the seat of this name: its session talks with whom the seat's does, where that is known
-abbrev pub IsSeatOf : {T : Type 0} → (T → Known) → FilesSeen → List ℕ → Place T → Type 0
-IsSeatOf known files name place = IfSome (seat_of files name) (λ its. known place.talk ≡ its)
+-- the station is that of the seat of this name: its session talks with whom the seat's does, where that is known
+abbrev pub IsSeatOf : {T : Type 0} → (T → Known) → FilesSeen → List ℕ → Station T → Type 0
+IsSeatOf known files name station = IfSome (seat_of files name) (λ its. known station.talk ≡ its)
 
--- the k-th place is that of the k-th name, and there are as many
-abbrev pub AreSeatsOf : {T : Type 0} → (T → Known) → FilesSeen → List (List ℕ) → List (Place T) → Type 0
-AreSeatsOf known files names places = AllZip (IsSeatOf known files) names places
+-- the k-th station is that of the k-th name, and there are as many
+abbrev pub AreSeatsOf : {T : Type 0} → (T → Known) → FilesSeen → List (List ℕ) → List (Station T) → Type 0
+AreSeatsOf known files names stations = AllZip (IsSeatOf known files) names stations
 
 -- One seat is opened, by how that ended. Where an allocation failed it counts as not opened.
-abbrev pub OpensSeat : {T : Type 0} → (T → Known) → FilesSeen → FilesSeen → List ℕ → Result (Place T) ReadFault → Type 0
-OpensSeat known old new name (Ok place) = (new ≡ after_opening old (name ∷ [])) × IsSeatOf known old name place
+abbrev pub OpensSeat : {T : Type 0} → (T → Known) → FilesSeen → FilesSeen → List ℕ → Result (Station T) ReadFault → Type 0
+OpensSeat known old new name (Ok station) = (new ≡ after_opening old (name ∷ [])) × IsSeatOf known old name station
 OpensSeat known old new name (Err reading.Failed) = new ≡ after_failing old (name ∷ [])
 OpensSeat known old new name (Err reading.NoMemory) = new ≡ old
 
@@ -42,13 +43,13 @@ abbrev pub RefusesSeats : List ℕ → List (List ℕ) → Seen → Seen → ℕ
 RefusesSeats setup seats old new status =
     (fault : Fault) × IsFaultOfSeats setup seats old.files new.files fault × (new.output ≡ old.output) × IsReported (Err fault) old.error new.error status
 
--- The sessions were held, the k-th at the place of the k-th seat, of which it is known what each was asked and answered. The
+-- The sessions were held, the k-th at the station of the k-th seat, of which it is known what each was asked and answered. The
 -- journal was written to standard output, and what failed was reported.
 abbrev pub HoldsSeats : List ℕ → List (List ℕ) → Seen → Seen → ℕ → Type 0
 HoldsSeats setup seats old new status =
     (json : List ℕ) × HasSeated old.files new.files setup seats json
-    × ((places : List (Place Known)) × AreSeatsOf (λ known. known) old.files seats places
-    × Holds (λ known. known) contents failures contents failures json places old.output new.output old.error new.error status)
+    × ((stations : List (Station Known)) × AreSeatsOf (λ known. known) old.files seats stations
+    × Holds rules (λ known. known) contents failures contents failures json stations old.output new.output old.error new.error status)
 
 -- sessions of these seats were held, or not; standard input is left as it is
 abbrev pub PerformsHall : List ℕ → List (List ℕ) → Seen → Seen → ℕ → Type 0

@@ -8,7 +8,7 @@ ghost use Rattle.cdb_program.specs.Seating.{OpensSeat};
 
 use crate::fault::Fault;
 use cdb_debug::Talk;
-use cdb_hall::Place;
+use cdb_hall::Station;
 use cdb_play::{MAX_BYTES, PlayFault, ReadFault};
 use std::alloc::Global;
 
@@ -37,7 +37,7 @@ pub trait Files {
     /// # Errors
     /// `Failed` where it can't be opened, and `NoMemory` where an allocation fails, which counts as if it had not been
     /// opened.
-    fn open_seat(&mut self, alloc: Global, name: &str) -> Result<Place<Self::Seat>, ReadFault>
+    fn open_seat(&mut self, alloc: Global, name: &str) -> Result<Station<Self::Seat>, ReadFault>
         ensures { OpensSeat Self.Seat.known (seen self.old) (seen self.new) name.now result };
 }
 

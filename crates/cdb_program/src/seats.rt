@@ -9,7 +9,8 @@ use crate::fault::Fault;
 use crate::files::{Files, read_file};
 use crate::outside::Outside;
 use crate::reports::report;
-use cdb_hall::{Place, hold};
+use cdb_any_run::RunOfSetup;
+use cdb_hall::{Station, hold};
 use cdb_play::{PlayFault, Sink, Source};
 use std::alloc::Global;
 use std::sync::Wait;
@@ -18,7 +19,7 @@ use std::thread::Threads;
 /// How many seats there can be.
 const MOST_SEATS: usize = 64;
 
-/// The place of the seat of this name.
+/// The station of the seat of this name.
 ///
 /// # Errors
 /// `Play(Read, name)` where it can't be opened, and `Play(NoMemory, name)` where an allocation fails.
@@ -26,7 +27,7 @@ fn open_one<'a, F: Files>(
     alloc: Global,
     files: &mut F,
     name: &'a str,
-) -> Result<Place<F::Seat>, Fault<'a>>
+) -> Result<Station<F::Seat>, Fault<'a>>
     ensures opened { IfOk result
         (λ _. F.seen files.new ≡ after_opening (F.seen files.old) (name.entry.now ∷ [])) }
     ensures seat { IfOk result (IsSeatOf F.Seat.known (F.seen files.old) name.entry.now) }
@@ -34,12 +35,12 @@ fn open_one<'a, F: Files>(
         (FailsToRead (F.seen files.old) (F.seen files.new) (name.entry.now ∷ [])) }
 {
     match files.open_seat(alloc, name) {
-        Ok(place) => Ok(place),
+        Ok(station) => Ok(station),
         Err(fault) => Err(Fault::Play(PlayFault::from(fault), name)),
     }
 }
 
-/// The places of the seats of these names, in their order, which are opened one after the other.
+/// The stations of the seats of these names, in their order, which are opened one after the other.
 ///
 /// # Errors
 /// `Play(Read, name)` with the name of the first seat that can't be opened; those after it are not opened.
@@ -48,23 +49,23 @@ fn open_each<'a, F: Files>(
     alloc: Global,
     files: &mut F,
     names: &[&'a str],
-) -> Result<Vec<Place<F::Seat>>, Fault<'a>>
+) -> Result<Vec<Station<F::Seat>>, Fault<'a>>
     ensures opened { IfOk result
         (λ _. F.seen files.new ≡ after_opening (F.seen files.old) (texts names.now)) }
     ensures seats { IfOk result
-        (λ places. AreSeatsOf F.Seat.known (F.seen files.old) (texts names.now) places.items) }
-    ensures count { IfOk result (λ places. vec_len places ≡ length names.now) }
+        (λ stations. AreSeatsOf F.Seat.known (F.seen files.old) (texts names.now) stations.items) }
+    ensures count { IfOk result (λ stations. vec_len stations ≡ length names.now) }
     ensures fault { IfErr result
         (FailsToRead (F.seen files.old) (F.seen files.new) (texts names.now)) }
 {
-    let mut places = Vec::new(alloc);
+    let mut stations = Vec::new(alloc);
     for name in names {
-        let place = open_one(alloc, files, name)?;
-        if places.push(place).is_err() {
+        let station = open_one(alloc, files, name)?;
+        if stations.push(station).is_err() {
             return Err(Fault::Play(PlayFault::NoMemory, name));
         }
     }
-    Ok(places)
+    Ok(stations)
 }
 
 /// Holds sessions of these seats over one run of a setup file, and returns the status. A fault is not reported yet.
@@ -95,9 +96,9 @@ fn hold_seats<
         return Err(Fault::TooManySeats);
     }
     let json = read_file(alloc, &mut outside.files, setup)?;
-    let places = open_each(alloc, &mut outside.files, seats)?;
+    let stations = open_each(alloc, &mut outside.files, seats)?;
     let (output, error) = (&mut outside.streams.output, &mut outside.error);
-    match hold(threads, alloc, json.as_slice(), places, output, error) {
+    match hold::<RunOfSetup, _, R, O, E>(threads, alloc, json.as_slice(), stations, output, error) {
         Ok(status) => Ok(status),
         Err(fault) => Err(Fault::Race(fault)),
     }

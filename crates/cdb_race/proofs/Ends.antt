@@ -1,4 +1,4 @@
--- Facts of each element of a list, by its place, when an element joins or leaves at the end.
+-- Facts of each element of a list, by its position, when an element joins or leaves at the end.
 use Rattle.std.proofs.Common.{◌≡◌, ℕ, zero, suc, ◌<◌, List, [], ◌∷◌, ◌++◌, length, get_or, refl, sym, ap, ◌∙◌, subst, arith, length-append}
 
 module _ {A : Type 0} where
@@ -23,7 +23,7 @@ module _ {A : Type 0} where
       at (y ∷ ys) zero e = absurd (omega arith)
       at (y ∷ ys) (suc k) e = at ys k (omega arith)
 
-  -- what holds of each element, by its place
+  -- what holds of each element, by its position
   abbrev pub EachAt : (ℕ → A → Type 0) → List A → Type 0
   EachAt P xs = (k : ℕ) (d : A) → k < length xs → P k (get_or xs k d)
 
@@ -44,7 +44,7 @@ module _ {A : Type 0} where
   each_push P front back x is all one = subst (EachAt P) (sym is) (λ k d low. each_end P front x k d low all one)
 
 module _ {A B : Type 0} where
-  -- what holds of each two elements at one place
+  -- what holds of each two elements at one position
   abbrev pub EachPair : (ℕ → A → B → Type 0) → List A → List B → Type 0
   EachPair P xs ys = (k : ℕ) (d : A) (e : B) → k < length xs → P k (get_or xs k d) (get_or ys k e)
 

@@ -64,19 +64,19 @@ of_scripts : (from : ℕ) (scripts : List (List Command)) (es : List Entry) → 
     → of_first (from + length scripts) es ≤ of_first from es + sum (map length scripts)
 of_scripts from [] es each = let same : from + 0 ≡ from = omega arith in let first = ap (λ n. of_first n es) same in omega (arith, first)
 of_scripts from (script ∷ scripts) es each =
-    let place : suc from + length scripts ≡ from + suc (length scripts) = omega arith in
+    let position : suc from + length scripts ≡ from + suc (length scripts) = omega arith in
     let at : from + 0 + 1 ≡ suc from = omega arith in
-    let rest = of_scripts (suc from) scripts es (λ k low. subst_place k (each (suc k) (omega arith))) in
+    let rest = of_scripts (suc from) scripts es (λ k low. subst_position k (each (suc k) (omega arith))) in
     let here = each 0 (omega arith) in
     let mine = ap (λ n. length (own n es)) at in
-    let whole = ap (λ n. of_first n es) place in
+    let whole = ap (λ n. of_first n es) position in
     let total : sum (map length (script ∷ scripts)) ≡ length script + sum (map length scripts) = sum_by-cons (λ (n : ℕ). n) (length script) (map length scripts) in
     let first : length (get_or (script ∷ scripts) 0 []) ≡ length script = refl in
     let next : of_first (suc from) es ≡ of_first from es + length (own (suc from) es) = refl in
     omega (arith, rest, here, mine, whole, total, first, next)
   where
-    subst_place : (k : ℕ) → length (own (from + suc k + 1) es) ≤ length (get_or scripts k []) → length (own (suc from + k + 1) es) ≤ length (get_or scripts k [])
-    subst_place k low =
+    subst_position : (k : ℕ) → length (own (from + suc k + 1) es) ≤ length (get_or scripts k []) → length (own (suc from + k + 1) es) ≤ length (get_or scripts k [])
+    subst_position k low =
         let same : suc from + k + 1 ≡ from + suc k + 1 = omega arith in
         let mine = ap (λ n. length (own n es)) same in
         omega (arith, low, mine)

@@ -41,9 +41,9 @@ pub all_rest : {T : Type 0} (rules : Parts → Rules) (shared : TableId) (plan :
 all_rest rules shared plan setup before seats rans new many long all gathered k d low =
     let nobody = some_of rans (omega (arith, long, low)) in
     let none = fresh_seat shared (opened setup 0) 0 in
-    let place = length rans - 1 - k in
-    let ran = all place nobody (omega (arith, long, low)) none in
-    let first = new.each (length before - 1 - place) none (omega (arith, new.many, many, long, low)) in
+    let position = length rans - 1 - k in
+    let ran = all position nobody (omega (arith, long, low)) none in
+    let first = new.each (length before - 1 - position) none (omega (arith, new.many, many, long, low)) in
     subst (RestsAt shared) (sym (gathered k d nobody (omega (arith, long, low)))) (ran.later.home ∙ ap (λ (b : SeatView). b.home) first, ran.later.rests)
 
 -- the commands and the answers of a seat whose journal is known
@@ -83,15 +83,15 @@ module _ (rules : Parts → Rules) (shared : TableId) (plan : Plan) (setup : Par
   served_at : (k : ℕ) → k < length plan.scripts.now
       → (own (plan.processes + k + 1) c.journal ≡ get_or plan.scripts.now k []) × (get_or answers (plan.processes + k) [] ≡ answers_to rules (plan.processes + k + 1) c)
   served_at k below =
-      let place = plan.processes + k in
-      let low : place < seats_of plan = omega arith in
-      let f = finished_at place low in
-      let seat = seat_at place in
-      let is : seat.number ≡ place + 1 = f.later.number ∙ omega arith in
-      let at = known_at place low in
+      let position = plan.processes + k in
+      let low : position < seats_of plan = omega arith in
+      let f = finished_at position low in
+      let seat = seat_at position in
+      let is : seat.number ≡ position + 1 = f.later.number ∙ omega arith in
+      let at = known_at position low in
       let served = f.served (omega arith) in
-      let its : 1 + place - plan.processes - 1 ≡ k = omega arith in
-      (own_known c seat (place + 1) is at ∙ served.0 ∙ ap (λ n. get_or plan.scripts.now n []) its, sym (answers_known rules c seat (place + 1) is at ∙ served.1))
+      let its : 1 + position - plan.processes - 1 ≡ k = omega arith in
+      (own_known c seat (position + 1) is at ∙ served.0 ∙ ap (λ n. get_or plan.scripts.now n []) its, sym (answers_known rules c seat (position + 1) is at ∙ served.1))
 
   -- the whole race
   pub raced : 1 ≤ setup.processes → length answers ≡ length seats → AreOfSeats c.seats c.journal → IsRaced rules setup plan.turns plan.scripts.now c answers

@@ -30,12 +30,12 @@ pub of_least : {T : Type 0} (rules : Parts → Rules) (shared : TableId) (plan :
     → AllRan rules plan before rans → IsOfLeastSeat why rans → IsAmongSeats (seats_of plan) why
 of_least {T} rules shared plan setup before rans why new many all least =
     let its = least.its in
-    let k = least.place in
+    let k = least.position in
     let nobody = fresh_seat shared (opened setup 0) 0 in
-    let place = length before - 1 - k in
+    let position = length before - 1 - k in
     let later = (all k its least.within nobody).later.number in
-    let first = ap (λ (s : SeatView). s.number) (new.each place nobody (omega (arith, new.many, least.within))) in
-    let number : its.seat.number ≡ 1 + place = ap (λ (r : Ran T). r.seat.number) (sym least.at) ∙ later ∙ first in
+    let first = ap (λ (s : SeatView). s.number) (new.each position nobody (omega (arith, new.many, least.within))) in
+    let number : its.seat.number ≡ 1 + position = ap (λ (r : Ran T). r.seat.number) (sym least.at) ∙ later ∙ first in
     of_end (seats_of plan) its.seat.number its.end why least.has (omega (arith, number), omega (arith, number, new.many))
 
 -- a seat that is told to have stopped did stop
@@ -58,9 +58,9 @@ never_stopped T rules heard passes setup turns scripts gates why many it all sea
     let its = least.its in
     let nobody = fresh_seat it.shared (opened setup 0) 0 in
     let first = some_gate gates (omega (arith, many, it.many, least.within, it.processes_are, ap length it.scripts_are)) in
-    let ended = it.ended least.place its first least.within nobody in
-    let end : (get_or it.rans least.place its).end ≡ Stopped = ap (λ (r : Ran T). r.end) least.at ∙ stopped its.seat.number seat its.end (least.has ∙ ap (λ (f : RaceFault). Some f) is) in
-    ended.passed (all (length gates - 1 - least.place) first (omega (arith, many, it.many, least.within, it.processes_are, ap length it.scripts_are))) end
+    let ended = it.ended least.position its first least.within nobody in
+    let end : (get_or it.rans least.position its).end ≡ Stopped = ap (λ (r : Ran T). r.end) least.at ∙ stopped its.seat.number seat its.end (least.has ∙ ap (λ (f : RaceFault). Some f) is) in
+    ended.passed (all (length gates - 1 - least.position) first (omega (arith, many, it.many, least.within, it.processes_are, ap length it.scripts_are))) end
 
 -- so it is told of none
 not_stopped : (why : RaceFault) → ((seat : ℕ) → why ≡ fault.Stopped seat → ⊥) → IsNotStopped why

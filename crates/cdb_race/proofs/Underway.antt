@@ -34,21 +34,21 @@ met_full seat JournalFull has = cc
 module _ {T : Type 0} (rules : Parts → Rules) (shared : TableId) (plan : Plan) (setup : Parts) (c : Journaled) (before : List SeatView) (rans : List (Ran T)) (nobody : Ran T)
     (same : plan.processes ≡ setup.processes) (new : AreFresh shared setup (seats_of plan) before) (many : length rans ≡ seats_of plan)
     (all : AllRan rules plan before rans) (seats : List SeatView) (long : length seats ≡ length rans) (gathered : AreSeatsOf seats rans) (known : All (λ seat. IsKnownBy c seat) seats) where
-  -- the outcome of the seat at this place
+  -- the outcome of the seat at this position
   abbrev ran_at : ℕ → Ran T
   ran_at k = get_or rans (seats_of plan - 1 - k) nobody
 
   knows : (k : ℕ) → k < length rans → IsKnownBy c (get_or rans k nobody).seat
   knows k low =
-      let place = length rans - 1 - k in
-      let back : length rans - 1 - place ≡ k = omega (arith, low) in
-      subst (IsKnownBy c) (gathered place nobody.seat nobody (omega (arith, low)) ∙ ap (λ i. (get_or rans i nobody).seat) back) (known place nobody.seat (omega (arith, long, low)))
+      let position = length rans - 1 - k in
+      let back : length rans - 1 - position ≡ k = omega (arith, low) in
+      subst (IsKnownBy c) (gathered position nobody.seat nobody (omega (arith, low)) ∙ ap (λ i. (get_or rans i nobody).seat) back) (known position nobody.seat (omega (arith, long, low)))
 
   has_ran : (k : ℕ) → k < seats_of plan → HasRan rules plan (fresh_seat shared (opened setup (seats_of plan)) (1 + k)) (ran_at k)
   has_ran k low =
       let none = fresh_seat shared (opened setup 0) 0 in
-      let place : length before - 1 - (seats_of plan - 1 - k) ≡ k = omega (arith, new.many) in
-      subst (λ (b : SeatView). HasRan rules plan b (ran_at k)) (ap (λ i. get_or before i none) place ∙ new.each k none low) (all (seats_of plan - 1 - k) nobody (omega (arith, many)) none)
+      let position : length before - 1 - (seats_of plan - 1 - k) ≡ k = omega (arith, new.many) in
+      subst (λ (b : SeatView). HasRan rules plan b (ran_at k)) (ap (λ i. get_or before i none) position ∙ new.each k none low) (all (seats_of plan - 1 - k) nobody (omega (arith, many)) none)
 
   driven_at : (p : ℕ) → 1 ≤ p → p ≤ plan.processes → (count : ℕ) × (count ≤ plan.turns) × (own p c.journal ≡ replicate count (Auto p))
   driven_at p from to =
@@ -62,15 +62,15 @@ module _ {T : Type 0} (rules : Parts → Rules) (shared : TableId) (plan : Plan)
 
   served_at : (k : ℕ) → k < length plan.scripts.now → (count : ℕ) × (own (plan.processes + k + 1) c.journal ≡ take count (get_or plan.scripts.now k []))
   served_at k below =
-      let place = plan.processes + k in
-      let low : place < seats_of plan = omega arith in
-      let h = has_ran place low in
-      let seat = (ran_at place).seat in
-      let is : seat.number ≡ place + 1 = h.later.number ∙ omega arith in
-      let its : 1 + place - plan.processes - 1 ≡ k = omega arith in
+      let position = plan.processes + k in
+      let low : position < seats_of plan = omega arith in
+      let h = has_ran position low in
+      let seat = (ran_at position).seat in
+      let is : seat.number ≡ position + 1 = h.later.number ∙ omega arith in
+      let its : 1 + position - plan.processes - 1 ≡ k = omega arith in
       let served = h.served (omega arith) in
-      let count = length (map told (ran_at place).replies.items) in
-      (count, own_known c seat (place + 1) is (knows (seats_of plan - 1 - place) (omega (arith, many))) ∙ served.calls ∙ ap (λ n. take count (get_or plan.scripts.now n [])) its)
+      let count = length (map told (ran_at position).replies.items) in
+      (count, own_known c seat (position + 1) is (knows (seats_of plan - 1 - position) (omega (arith, many))) ∙ served.calls ∙ ap (λ n. take count (get_or plan.scripts.now n [])) its)
 
   pub under_way : 1 ≤ setup.processes → AreOfSeats c.seats c.journal → IsUnderWay setup plan.turns plan.scripts.now c
   under_way some entries =
@@ -86,9 +86,9 @@ module _ {T : Type 0} (rules : Parts → Rules) (shared : TableId) (plan : Plan)
       }
 
   -- the journal that a seat saw is no longer than the final one
-  pub full_at : (place : ℕ) → place < length rans → (get_or rans place nobody).end ≡ JournalFull → length c.journal ≤ 999999 → length c.journal ≡ 999999
-  full_at place low is few =
-      let seat = (get_or rans place nobody).seat in
-      let seen = (all place nobody low (fresh_seat shared (opened setup 0) 0)).full is in
-      let begins = (knows place low).begins in
+  pub full_at : (position : ℕ) → position < length rans → (get_or rans position nobody).end ≡ JournalFull → length c.journal ≤ 999999 → length c.journal ≡ 999999
+  full_at position low is few =
+      let seat = (get_or rans position nobody).seat in
+      let seen = (all position nobody low (fresh_seat shared (opened setup 0) 0)).full is in
+      let begins = (knows position low).begins in
       omega (arith, seen, few, ap length begins.1, length-append seat.seen begins.0)

@@ -43,11 +43,11 @@ HaveFinished rules rans seats replies =
 -- of the seats that have a fault the least has this one. The last seat's outcome comes first
 pub record IsOfLeastSeat {T : Type 0} (fault : RaceFault) (rans : List (Ran T)) : Type 0 where
   pub its : Ran T
-  pub place : ℕ
-  pub within : place < length rans
-  pub at : slice_index_or rans place its ≡ its
+  pub position : ℕ
+  pub within : position < length rans
+  pub at : slice_index_or rans position its ≡ its
   pub has : fault_in its ≡ Some fault
-  pub least : (k : ℕ) (ran : Ran T) → place < k → k < length rans → fault_in (slice_index_or rans k ran) ≡ None
+  pub least : (k : ℕ) (ran : Ran T) → position < k → k < length rans → fault_in (slice_index_or rans k ran) ≡ None
 
 -- a stopped seat is one of this many
 abbrev pub IsAmongSeats : ℕ → RaceFault → Type 0

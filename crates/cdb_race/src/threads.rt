@@ -162,8 +162,8 @@ fn fault_of<T: Runs>(ran: &Ran<T>) -> Option<RaceFault>
 fn first_fault<T: Runs>(rans: &[Ran<T>]) -> Option<RaceFault>
     ensures { MatchOption result (AreWell rans.now) (λ fault. IsOfLeastSeat fault rans.now) }
 {
-    for place in (0..rans.len()).rev() {
-        if let Some(fault) = fault_of(&rans[place]) {
+    for position in (0..rans.len()).rev() {
+        if let Some(fault) = fault_of(&rans[position]) {
             return Some(fault);
         }
     }

@@ -6,13 +6,13 @@ use Rattle.cdb_base.specs.declared.name.StepId.{StepId}
 use Rattle.cdb_causal.specs.Causality.{IsFree}
 use Rattle.cdb_causal.specs.Dependence.{depends}
 use Rattle.cdb_causal.specs.DirectDependents.{direct_dependents}
-use Rattle.cdb_causal.specs.Names.{IsNamedAt, IsPlaceOf}
+use Rattle.cdb_causal.specs.Names.{IsNamedAt, IsPositionOf}
 use Rattle.cdb_causal.proofs.Dependents.{no_direct_dependent, no_dependent, free_behind, behind_free}
 use Rattle.cdb_causal.proofs.Prefixes.{get_drop}
 use Rattle.cdb_record.specs.Counts.{dependents_at}
 
-place_behind : (i j : ℕ) → i < j → suc i + (j - suc i) ≡ j
-place_behind i j less = omega (arith, less)
+position_behind : (i j : ℕ) → i < j → suc i + (j - suc i) ≡ j
+position_behind i j less = omega (arith, less)
 
 module _ (history : List Event) (i : ℕ) (event : Event) (at : slice_get history i ≡ Some event) where
   zero_free : dependents_at history i event ≡ 0 → IsFree depends history i
@@ -20,20 +20,20 @@ module _ (history : List Event) (i : ℕ) (event : Event) (at : slice_get histor
       free_behind depends history i event at
       (λ j other less at_other.
       no_direct_dependent depends event (drop (suc i) history) zeros (j - suc i) other
-      (get_drop history (suc i) (j - suc i) ∙ ap (slice_get history) (place_behind i j less) ∙ at_other))
+      (get_drop history (suc i) (j - suc i) ∙ ap (slice_get history) (position_behind i j less) ∙ at_other))
 
   free_zero : IsFree depends history i → dependents_at history i event ≡ 0
   free_zero free =
       no_dependent depends event (drop (suc i) history)
       (λ m other at_other. behind_free depends history i event at free (suc i + m) other (omega arith) (sym (get_drop history (suc i) m) ∙ at_other))
 
--- what is counted of the event at the place of a name, the place counting from 1
-module _ (history : List Event) (name : StepId) (place : ℕ) (is : IsPlaceOf history name place) (count : ℕ) (counts : (event : Event) → slice_get history (place - 1) ≡ Some event → count ≡ direct_dependents depends event (drop place history)) where
+-- what is counted of the event at the position of a name, the position counting from 1
+module _ (history : List Event) (name : StepId) (position : ℕ) (is : IsPositionOf history name position) (count : ℕ) (counts : (event : Event) → slice_get history (position - 1) ≡ Some event → count ≡ direct_dependents depends event (drop position history)) where
   pub counted : (i : ℕ) (event : Event) → slice_get history i ≡ Some event → event_name event ≡ name → count ≡ dependents_at history i event
   counted i event at named =
       let same = is.only i (event, at, named) in
       let from_one = is.from_one in
-      let next : place ≡ suc i = omega (arith, same, from_one) in
+      let next : position ≡ suc i = omega (arith, same, from_one) in
       counts event (ap (slice_get history) (sym same) ∙ at) ∙ ap (λ n. direct_dependents depends event (drop n history)) next
 
   pub counted_free : (i : ℕ) → IsNamedAt history i name → (count ≡ 0) ↔ IsFree depends history i

@@ -1,13 +1,12 @@
 -- What a call says of lists, carried over to lists that are equal to them.
-use Rattle.std.proofs.Common.{◌≡◌, ℕ, zero, suc, ◌+◌, ◌-◌, ◌≤◌, List, [], ◌∷◌, ◌++◌, length, Option, None, Some, MatchOption, slice_get, slice_set, set, refl, sym, ap, ◌∙◌, arith}
-use Rattle.std.proofs.lemmas.List.{length_push}
-use Rattle.std.proofs.lemmas.Option.{same_Some}
-use Rattle.cdb_base.specs.Places.{nth}
+use Rattle.std.proofs.Common.{◌≡◌, ℕ, zero, suc, ◌-◌, ◌≤◌, List, [], ◌∷◌, ◌++◌, length, Option, None, Some, MatchOption, slice_get, refl, sym, ap, ap₂, ◌∙◌, arith}
+use Rattle.std.proofs.lemmas.Option.{same_Some, none-some}
+use Rattle.cdb_base.specs.Positions.{nth}
 use Rattle.cdb_base.specs.declared.event.Event.{Event}
-use Rattle.cdb_base.specs.declared.register.Cell.{Cell}
 use Rattle.cdb_causal.specs.Rollback.{without}
-use Rattle.cdb_record.specs.Entries.{events_of}
+use Rattle.cdb_record.specs.Entries.{events_of, entry_of, entries_of}
 use Rattle.cdb_record.specs.declared.entry.Entry.{Entry}
+use Rattle.cdb_record.specs.declared.entry.Left.{Left}
 
 pub before_nth : {A : Type 0} (xs : List A) (at : ℕ) (x : A) → 1 ≤ at → nth xs at ≡ Some x → slice_get xs (at - 1) ≡ Some x
 before_nth xs zero x from_one at = absurd (omega (arith, from_one))
@@ -16,15 +15,10 @@ before_nth xs (suc i) x from_one at = ap (slice_get xs) (less_one i) ∙ at
     less_one : (i : ℕ) → suc i - 1 ≡ i
     less_one i = omega arith
 
-pub events_push : {B : Type 0} (entries : List (Entry B)) (event : Event) (back : Option B) (overwritten : Option Cell) → events_of (entries ++ record { event = event; back = back; overwritten = overwritten } ∷ []) ≡ events_of entries ++ event ∷ []
-events_push [] event back overwritten = refl
-events_push (x ∷ xs) event back overwritten = ap (λ l. x.event ∷ l) (events_push xs event back overwritten)
-
--- an entry in the place of one of the same event
-pub events_set : {B : Type 0} (entries : List (Entry B)) (i : ℕ) (old new : Entry B) → slice_get entries i ≡ Some old → new.event ≡ old.event → events_of (slice_set entries i new) ≡ events_of entries
-events_set {B} [] i old new at same = refl
-events_set {B} (x ∷ xs) zero old new at same = ap (λ e. e ∷ events_of xs) (same ∙ ap (λ (e : Entry B). e.event) (sym (same_Some x old at)))
-events_set {B} (x ∷ xs) (suc i) old new at same = ap (λ l. x.event ∷ l) (events_set xs i old new at same)
+-- entries are put together from events and what they left, one for each
+pub events_push : {B : Type 0} (entries : List (Entry B)) (event : Event) (left : Left B) → events_of (entries ++ entry_of event left ∷ []) ≡ events_of entries ++ event ∷ []
+events_push [] event left = refl
+events_push (x ∷ xs) event left = ap (λ l. x.event ∷ l) (events_push xs event left)
 
 pub events_without : {B : Type 0} (entries : List (Entry B)) (i : ℕ) → events_of (without entries i) ≡ without (events_of entries) i
 events_without [] i = refl
@@ -36,29 +30,54 @@ fewer_without [] i = omega arith
 fewer_without (x ∷ xs) zero = omega arith
 fewer_without (x ∷ xs) (suc i) = let rest = fewer_without xs i in omega (arith, rest)
 
-pub set-slice_set : {A : Type 0} (xs : List A) (i : ℕ) (x : A) → set xs i x ≡ slice_set xs i x
-set-slice_set [] i x = refl
-set-slice_set (z ∷ zs) zero x = refl
-set-slice_set (z ∷ zs) (suc i) x = ap (λ l. z ∷ l) (set-slice_set zs i x)
+pub same_length_without : {A B : Type 0} (xs : List A) (ys : List B) (i : ℕ) → length ys ≡ length xs → length (without ys i) ≡ length (without xs i)
+same_length_without [] [] i same = refl
+same_length_without [] (y ∷ ys) i same = absurd (omega (arith, same))
+same_length_without (x ∷ xs) [] i same = absurd (omega (arith, same))
+same_length_without (x ∷ xs) (y ∷ ys) zero same = omega (arith, same)
+same_length_without (x ∷ xs) (y ∷ ys) (suc i) same = let rest = same_length_without xs ys i (omega (arith, same)) in omega (arith, rest)
 
-pub set_last_place : {A : Type 0} (xs : List A) (x y : A) → slice_set (xs ++ x ∷ []) (length xs) y ≡ xs ++ y ∷ []
-set_last_place [] x y = refl
-set_last_place (z ∷ zs) x y = ap (λ l. z ∷ l) (set_last_place zs x y)
+module _ {B : Type 0} where
+  events_entries : (events : List Event) (lefts : List (Left B)) → length lefts ≡ length events → events_of (entries_of events lefts) ≡ events
+  events_entries [] lefts same = refl
+  events_entries (event ∷ events) [] same = absurd (omega (arith, same))
+  events_entries (event ∷ events) (left ∷ lefts) same = ap (λ l. event ∷ l) (events_entries events lefts (omega (arith, same)))
 
-pub get_last : {A : Type 0} (xs : List A) (x y : A) → slice_get (xs ++ x ∷ []) (length xs) ≡ Some y → x ≡ y
-get_last [] x y at = same_Some x y at
-get_last (z ∷ zs) x y at = get_last zs x y at
+  -- the events that a contract sees
+  pub history_seen : (events : List Event) (lefts : List (Left B)) {entries : List (Entry B)} → length lefts ≡ length events → entries_of events lefts ≡ entries → events ≡ events_of entries
+  history_seen events lefts same is = sym (events_entries events lefts same) ∙ ap events_of is
 
--- the last place of a list
-module _ {A : Type 0} (xs earlier : List A) (last : A) (i : ℕ) (is : xs ≡ earlier ++ last ∷ []) (place : i + 1 ≡ length xs) where
-  pub last_is : i ≡ length earlier
-  last_is = let l = ap length is in let p = length_push earlier last in omega (arith, l, p, place)
+  pub length_entries : (events : List Event) (lefts : List (Left B)) → length lefts ≡ length events → length (entries_of events lefts) ≡ length events
+  length_entries [] lefts same = refl
+  length_entries (event ∷ events) [] same = absurd (omega (arith, same))
+  length_entries (event ∷ events) (left ∷ lefts) same = let rest = length_entries events lefts (omega (arith, same)) in omega (arith, rest)
 
-  pub last_set : (new : A) → slice_set xs i new ≡ earlier ++ new ∷ []
-  last_set new = ap (λ l. slice_set l i new) is ∙ ap (λ n. slice_set (earlier ++ last ∷ []) n new) last_is ∙ set_last_place earlier last new
+  pub entries_push : (events : List Event) (lefts : List (Left B)) (event : Event) (left : Left B) → length lefts ≡ length events → entries_of (events ++ event ∷ []) (lefts ++ left ∷ []) ≡ entries_of events lefts ++ entry_of event left ∷ []
+  entries_push [] [] event left same = refl
+  entries_push [] (y ∷ lefts) event left same = absurd (omega (arith, same))
+  entries_push (x ∷ events) [] event left same = absurd (omega (arith, same))
+  entries_push (x ∷ events) (y ∷ lefts) event left same = ap (λ l. entry_of x y ∷ l) (entries_push events lefts event left (omega (arith, same)))
 
-  pub last_found : (found : A) → slice_get xs i ≡ Some found → found ≡ last
-  last_found found at = sym (get_last earlier last found (ap (slice_get (earlier ++ last ∷ [])) (sym last_is) ∙ ap (λ l. slice_get l i) (sym is) ∙ at))
+  pub entries_without : (events : List Event) (lefts : List (Left B)) (i : ℕ) → length lefts ≡ length events → entries_of (without events i) (without lefts i) ≡ without (entries_of events lefts) i
+  entries_without [] lefts i same = refl
+  entries_without (x ∷ events) [] i same = absurd (omega (arith, same))
+  entries_without (x ∷ events) (y ∷ lefts) zero same = refl
+  entries_without (x ∷ events) (y ∷ lefts) (suc i) same = ap (λ l. entry_of x y ∷ l) (entries_without events lefts i (omega (arith, same)))
+
+  entry_at : (events : List Event) (lefts : List (Left B)) (i : ℕ) (event : Event) (left : Left B) → slice_get events i ≡ Some event → slice_get lefts i ≡ Some left → slice_get (entries_of events lefts) i ≡ Some (entry_of event left)
+  entry_at [] lefts i event left at left_at = absurd (none-some event at)
+  entry_at (x ∷ events) [] i event left at left_at = absurd (none-some left left_at)
+  entry_at (x ∷ events) (y ∷ lefts) zero event left at left_at =
+      ap₂ (λ e l. Some (entry_of e l)) (same_Some x event at) (same_Some y left left_at)
+  entry_at (x ∷ events) (y ∷ lefts) (suc i) event left at left_at = entry_at events lefts i event left at left_at
+
+  -- the entry at a position from 1
+  pub entry_stood : (events : List Event) (lefts : List (Left B)) (at : ℕ) (event : Event) (left : Left B) → 1 ≤ at → nth events at ≡ Some event → slice_get lefts (at - 1) ≡ Some left → nth (entries_of events lefts) at ≡ Some (entry_of event left)
+  entry_stood events lefts zero event left from_one stood left_at = absurd (omega (arith, from_one))
+  entry_stood events lefts (suc i) event left from_one stood left_at = entry_at events lefts i event left stood (ap (slice_get lefts) (less_one i) ∙ left_at)
+    where
+      less_one : (i : ℕ) → i ≡ suc i - 1
+      less_one i = omega arith
 
 pub matched : {X N M : Type 0} {P Q : X → Type 0} → (N → M) → ((x : X) → P x → Q x) → (o : Option X) → MatchOption o N P → MatchOption o M Q
 matched none some None h = none h

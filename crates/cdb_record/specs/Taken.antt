@@ -8,19 +8,19 @@ use Rattle.cdb_causal.specs.Rollback.{without}
 use Rattle.cdb_record.specs.Entries.{events_of}
 use Rattle.cdb_record.specs.declared.entry.Entry.{Entry}
 
--- the entry stood at place i, and the others are left
+-- the entry stood at position i, and the others are left
 abbrev pub IsTakenOut : {B : Type 0} → List (Entry B) → ℕ → Entry B → List (Entry B) → Type 0
 IsTakenOut entries i entry left = (slice_get entries i ≡ Some entry) × (left ≡ without entries i)
 
--- a step of process p stands at place i
+-- a step of process p stands at position i
 abbrev pub IsStepOf : List Event → ℕ → ℕ → Type 0
 IsStepOf history p i = (event : Event) × (slice_get history i ≡ Some event) × IsTrue (is_step_of p event)
 
--- of the steps of process p, the one at place i is the last
+-- of the steps of process p, the one at position i is the last
 abbrev pub IsLastStepOf : List Event → ℕ → ℕ → Type 0
 IsLastStepOf history p i = IsStepOf history p i × ((j : ℕ) → IsStepOf history p j → j ≤ i)
 
--- the event at place i is not free, and nothing has changed
+-- the event at position i is not free, and nothing has changed
 abbrev pub IsKept : {B : Type 0} → List (Entry B) → ℕ → List (Entry B) → Type 0
 IsKept old i new = (IsFree depends (events_of old) i → ⊥) × (new ≡ old)
 

@@ -2,12 +2,19 @@
 
 use cdb_base::{Cell, Event};
 
-/// A standing event with what it takes to take it back. `B` is what an input leaves of its machine.
+/// What an event left for taking it back. `B` is what an input leaves of its machine.
 #[derive(Drop)]
-pub struct Entry<B: Drop> {
-    pub event: Event,
+pub struct Left<B: Drop> {
     /// What the step consumed or overwrote in its machine; none for a crash and for the loss of a copy.
     pub back: Option<B>,
     /// The cell that a write overwrote.
+    pub overwritten: Option<Cell>,
+}
+
+/// A standing event with what it left.
+#[derive(Drop)]
+pub struct Entry<B: Drop> {
+    pub event: Event,
+    pub back: Option<B>,
     pub overwritten: Option<Cell>,
 }

@@ -4,5 +4,5 @@
 mod entry;
 mod records;
 
-pub use entry::Entry;
+pub use entry::{Entry, Left};
 pub use records::Records;

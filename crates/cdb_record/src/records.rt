@@ -1,33 +1,36 @@
 //! The records of all standing events.
 
-ghost use Rattle.std.specs.Prelude.{◌≡◌, ℕ, ◌-◌, ◌≤◌, ◌↔◌, List, [], ◌∷◌, ◌++◌, Some, None, length, slice_get, OnOk, OnErr, MatchOption};
+ghost use Rattle.std.specs.Prelude.{◌≡◌, ℕ, ◌-◌, ◌≤◌, ◌↔◌, [], ◌∷◌, ◌++◌, Some, Ok, length, slice_get, IfErr, OnOk, OnErr, MatchOption};
+ghost use Rattle.std.specs.Fn.{FnOnceReturnsAtMut, FnOnceTakesAtMut};
 ghost use Rattle.cdb_base.specs.Event.{event_name};
-ghost use Rattle.cdb_base.specs.Places.{nth};
+ghost use Rattle.cdb_base.specs.Positions.{nth};
 ghost use Rattle.cdb_base.specs.declared.event.Event.{Event as AnEvent};
 ghost use Rattle.cdb_base.specs.declared.name.StepId.TheVariants as named;
 ghost use Rattle.cdb_causal.specs.Causality.{IsFree};
+ghost use Rattle.cdb_causal.specs.Changing.{HasFailed};
 ghost use Rattle.cdb_causal.specs.Dependence.{depends as depends_of};
 ghost use Rattle.cdb_causal.specs.Names.{IsNamedAt, IsNewName};
 ghost use Rattle.cdb_causal.specs.Rollback.{without};
 ghost use Rattle.cdb_causal.specs.Standing.{HasNoLostCopy};
 ghost use Rattle.cdb_record.specs.Counts.{dependents_at};
-ghost use Rattle.cdb_record.specs.Entries.{events_of};
+ghost use Rattle.cdb_record.specs.Entries.{events_of, entry_of};
 ghost use Rattle.cdb_record.specs.Taken.{IsKept, IsTakenFree, IsTakenOut, IsStepOf, IsLastStepOf, TakesWhereFree};
-ghost use Rattle.cdb_record.specs.declared.entry.Entry.{Entry as AnEntry};
+ghost use Rattle.cdb_record.specs.declared.entry.Left.{Left as WhatIsLeft};
 
-use crate::entry::Entry;
-use cdb_base::{Cell, CopyName, Event, NoMemory, Proc, StepId};
+use crate::entry::{Entry, Left};
+use cdb_base::{CopyName, Event, NoMemory, Proc, StepId};
 use cdb_causal::{History, count_direct_dependents, first_dependent};
 use cdb_log::Log;
 use std::alloc::Global;
 use std::marker::Model;
 
 /// The records of the standing events, in the order in which these were taken. A contract sees the
-/// list of their entries. Places count from 1.
+/// list of their entries. Positions count from 1.
 #[derive(Drop)]
 pub struct Records<B: Drop> {
     history: History,
-    entries: Log<Entry<B>>,
+    /// What each event left.
+    left: Log<Left<B>>,
 }
 
 impl<B: Drop> Model for Records<B> {
@@ -36,12 +39,13 @@ impl<B: Drop> Model for Records<B> {
 
     ghost Value = { List (Entry B) };
 
-    ghost use Rattle.cdb_record.specs.Entries.{events_of};
+    ghost use Rattle.cdb_record.specs.Entries.{entries_of};
     ghost use Rattle.cdb_log.specs.Pieces.{joined};
 
-    ghost view = { λ records. joined records.entries };
+    ghost view = { λ records. entries_of records.history (joined records.left) };
 
-    ghost invariant = { λ records. (records.history ≡ events_of (joined records.entries)) × (length records.history ≤ 4294967295) };
+    ghost invariant = { λ records. (length (joined records.left) ≡ length records.history)
+        × (length records.history ≤ 4294967295) };
 }
 
 impl<B: Drop> Records<B> {
@@ -51,7 +55,7 @@ impl<B: Drop> Records<B> {
     {
         Records {
             history: History::new(alloc),
-            entries: Log::new(alloc),
+            left: Log::new(alloc),
         }
     }
 
@@ -60,6 +64,14 @@ impl<B: Drop> Records<B> {
         ensures { result.now ≡ events_of self.now }
     {
         &self.history
+    }
+
+    /// The standing events, without what takes them back.
+    pub fn into_history(self) -> History
+        ensures { result ≡ events_of self }
+    {
+        let Records { history, .. } = self;
+        history
     }
 
     /// How many standing events have the event of that name as a direct cause: 0 exactly where none
@@ -77,50 +89,35 @@ impl<B: Drop> Records<B> {
         }
     }
 
-    /// Adds an event at the end, with nothing yet to take it back by; `set_last` adds that, and
-    /// `withdraw` takes the event out again, both without memory. No event of its name stands, and of a
-    /// send no copy is lost. After `NoMemory`, which also says that 4,294,967,295 events stand, the
-    /// records are as they were.
-    pub fn push(&mut self, _alloc: Global, event: Event) -> Result<(), NoMemory>
+    /// Changes a state as an event does, and adds the event at the end, with what `change` returns for
+    /// taking it back: makes room for both, then calls `change`, then adds them, which takes no memory.
+    /// No event of its name stands, and of a send no copy is lost. Where there is no room, where `change`
+    /// fails, and where 4,294,967,295 events stand, nothing is added.
+    pub fn push_with<S, F: FnOnce(&mut S) -> Result<Left<B>, NoMemory>>(
+        &mut self,
+        event: Event,
+        state: &mut S,
+        change: F,
+    ) -> Result<(), NoMemory>
         requires new_name { IsNewName (events_of self.old) (event_name event) }
         requires not_lost { HasNoLostCopy (events_of self.old) event }
-        ensures ok { OnOk result (self.new
-            ≡ self.old ++ record { event = event; back = None; overwritten = None } ∷ []) }
+        requires callable { FnOnceTakesAtMut F.FnOnce change state.old }
+        ensures ok { OnOk result ((left : WhatIsLeft B)
+            × FnOnceReturnsAtMut F.FnOnce change state.old (Ok left) state.new
+            × (self.new ≡ self.old ++ entry_of event left ∷ [])) }
+        ensures failed { IfErr result (λ e. HasFailed F.FnOnce change state.old e state.new) }
         ensures err { OnErr result (self.new ≡ self.old) }
     {
-        if self.entries.len() >= u32::MAX as usize {
+        if self.left.len() >= u32::MAX as usize {
             return Err(NoMemory);
         }
-        self.entries.reserve()?;
-        let added = event;
-        self.history.push(added)?;
-        self.entries.push_reserved(Entry {
-            event,
-            back: None,
-            overwritten: None,
-        });
+        self.left.reserve()?;
+        let left = self.history.push_with(event, state, change)?;
+        self.left.push_reserved(left);
         Ok(())
     }
 
-    /// Sets what it takes to take the last event back. It takes no memory.
-    pub fn set_last(&mut self, back: Option<B>, overwritten: Option<Cell>)
-        requires { 1 ≤ length self.old }
-        ensures { (earlier : List (AnEntry B)) (last : AnEntry B) →
-            self.old ≡ earlier ++ last ∷ [] →
-            self.new ≡ earlier
-            ++ record { event = last.event; back = back; overwritten = overwritten } ∷ [] }
-    {
-        let last = self.entries.len() - 1;
-        let event = self.entries.get(last).event;
-        let entry = Entry {
-            event,
-            back,
-            overwritten,
-        };
-        self.entries.set(last, entry);
-    }
-
-    /// Takes the free event at a place out, from 1 to the number of events, with its entry. It takes
+    /// Takes the free event at a position out, from 1 to the number of events, with its entry. It takes
     /// no memory.
     pub fn take_out(&mut self, at: usize) -> Entry<B>
         requires from_one { 1 ≤ at }
@@ -129,21 +126,16 @@ impl<B: Drop> Records<B> {
         ensures entry { nth self.old at ≡ Some result }
         ensures rest { self.new ≡ without self.old (at - 1) }
     {
-        self.history.remove(at);
-        self.entries.take_out(at - 1)
+        let event = self.history.remove(at);
+        let Left { back, overwritten } = self.left.take_out(at - 1);
+        Entry {
+            event,
+            back,
+            overwritten,
+        }
     }
 
-    /// Takes the last event out again, which is free. It takes no memory.
-    pub fn withdraw(&mut self) -> Entry<B>
-        requires { 1 ≤ length self.old }
-        ensures { (earlier : List (AnEntry B)) (last : AnEntry B) →
-            self.old ≡ earlier ++ last ∷ [] → (result ≡ last) × (self.new ≡ earlier) }
-    {
-        let last = self.entries.len();
-        self.take_out(last)
-    }
-
-    /// Takes the event at a place out where it is free.
+    /// Takes the event at a position out where it is free.
     fn take_free(&mut self, at: usize) -> Option<Entry<B>>
         requires from_one { 1 ≤ at }
         requires to_len { at ≤ length self.old }
@@ -176,7 +168,7 @@ impl<B: Drop> Records<B> {
     }
 }
 
-/// The place, from 1, of the last step of a process.
+/// The position, from 1, of the last step of a process.
 fn last_of(history: &History, p: Proc) -> Option<usize>
     ensures { MatchOption result ((i : ℕ) → IsStepOf history.now p i → ⊥)
         (λ at. (1 ≤ at) × IsLastStepOf history.now p (at - 1)) }

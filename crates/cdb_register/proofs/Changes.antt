@@ -2,7 +2,7 @@
 use Rattle.std.proofs.Common.{◌≡◌, ℕ, zero, suc, ◌+◌, ◌-◌, List, [], ◌∷◌, Option, Some, None, get_or, set, arith, refl, ap, ◌∙◌}
 use Rattle.std.specs.Prelude.{slice_get}
 use Rattle.std.specs.Option.{option_map}
-use Rattle.cdb_base.specs.Places.{nth, update, update_nth}
+use Rattle.cdb_base.specs.Positions.{nth, update, update_nth}
 use Rattle.cdb_base.specs.declared.register.Reg.{Reg}
 use Rattle.cdb_base.specs.declared.register.Reg.TheVariants.{R, Dec}
 use Rattle.cdb_base.specs.declared.register.Cell.{Cell}
@@ -15,12 +15,12 @@ module _ {A : Type 0} (change : A → A) where
   set-update (a ∷ xs) zero x y e f = λ k. (f ∙ ap change e) k ∷ xs
   set-update (a ∷ xs) (suc i) x y e f = ap (λ ys. a ∷ ys) (set-update xs i x y e f)
 
-  -- what stands at a place, from 0, is changed
+  -- what stands at a position, from 0, is changed
   pub set-update_nth : (xs : List A) (i p : ℕ) (x y : A) → i + 1 ≡ p → x ≡ get_or xs i x → y ≡ change x
       → set xs i y ≡ update_nth change xs p
   set-update_nth xs i p x y at e f =
-      let place : p ≡ suc i = omega arith in
-      rw place (set-update xs i x y e f)
+      let position : p ≡ suc i = omega arith in
+      rw position (set-update xs i x y e f)
 
 abbrev cell_in : Option RegisterState → Option Cell
 cell_in state = option_map (λ s. s.cell) state

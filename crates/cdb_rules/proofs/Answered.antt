@@ -29,9 +29,9 @@ all_fail test (y ∷ ys) none k x at = go (test y) refl none (λ h l at_l. all_f
     go false e h rest zero at = subst (λ z. test z ≡ false) (same_Some y x at) e
     go false e h rest (suc k) at = rest h k at
 
--- the event at a place, with what stood before and came later
+-- the event at a position, with what stood before and came later
 abbrev found : List Event → ℕ → Event → Found
-found history i event = record { event = event; place = i; earlier = take i history; later = drop (suc i) history }
+found history i event = record { event = event; position = i; earlier = take i history; later = drop (suc i) history }
 
 not_ok : {A B : Type 0} (why : Refusal) (done : A) → ◌≡◌ {A = Result A Refusal} (Err why) (Ok done) → B
 not_ok why done h = absurd (cc)
@@ -101,7 +101,7 @@ pub rolled_back_answered : (n : ℕ) (history : List Event) (name : StepId) (tak
     → (i : ℕ) × (event : Event) × (has_name name event ≡ true) × (slice_get history i ≡ Some event) × (taken ≡ reverse (rolled_back depends history i)) × (left ≡ remaining depends history i)
 rolled_back_answered n history name taken left answer =
     let done : List Event × List Event = (taken, left) in
-    let s = stands_answered history name (λ standing. Ok (reverse (rolled_back depends history standing.place), remaining depends history standing.place)) done n answer in
+    let s = stands_answered history name (λ standing. Ok (reverse (rolled_back depends history standing.position), remaining depends history standing.position)) done n answer in
     let same : ◌≡◌ {A = List Event × List Event} (reverse (rolled_back depends history s.0), remaining depends history s.0) done =
     same_Ok (reverse (rolled_back depends history s.0), remaining depends history s.0) done s.4 in
     (s.0, s.1, s.2, s.3, sym (ap (λ d. d.0) same), sym (ap (λ d. d.1) same))

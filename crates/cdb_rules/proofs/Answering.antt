@@ -37,8 +37,8 @@ get-drop (x ∷ xs) (suc i) k (suc n) e = get-drop xs i k n (omega (arith, e))
 
 module _ (history : List Event) (i : ℕ) where
   module _ (event : Event) (at : slice_get history i ≡ Some event) where
-    pub found_is : found_at history i ≡ Ok (record { event = event; place = i; earlier = take i history; later = drop (suc i) history })
-    found_is = ap (λ o. option_map_or (λ e. Ok (record { event = e; place = i; earlier = take i history; later = drop (suc i) history })) o (Err refusal.NoStep)) at
+    pub found_is : found_at history i ≡ Ok (record { event = event; position = i; earlier = take i history; later = drop (suc i) history })
+    found_is = ap (λ o. option_map_or (λ e. Ok (record { event = e; position = i; earlier = take i history; later = drop (suc i) history })) o (Err refusal.NoStep)) at
 
     none_needs : IsFree depends history i → find (depends event) (drop (suc i) history) ≡ None
     none_needs free =
@@ -55,12 +55,12 @@ module _ (history : List Event) (i : ℕ) where
     first_needs : (name : StepId) (first : IsFirstDependent history i name) → find (depends event) (drop (suc i) history) ≡ Some first.named.0
     first_needs name first =
         let later = first.link.later in
-        let place = first.place in
-        let k = place - suc i in
-        let e : place ≡ suc i + k = omega (arith, later) in
+        let position = first.position in
+        let k = position - suc i in
+        let e : position ≡ suc i + k = omega (arith, later) in
         let same_cause = same_Some first.link.cause event (sym first.link.at_cause ∙ at) in
         let same_effect = same_Some first.link.effect first.named.0 (sym first.link.at_effect ∙ first.named.1) in
-        find_first (depends event) (drop (suc i) history) k first.named.0 (get-drop history (suc i) k place e ∙ first.named.1) (sym (ap₂ depends same_cause same_effect) ∙ first.link.linked)
+        find_first (depends event) (drop (suc i) history) k first.named.0 (get-drop history (suc i) k position e ∙ first.named.1) (sym (ap₂ depends same_cause same_effect) ∙ first.link.linked)
         (λ l other less at_l. is_false (depends event other)
         (λ linked.
         let before = first.first (suc i + l) (record { cause = event; effect = other; later = omega arith; at_cause = at; at_effect = sym (get-drop history (suc i) l (suc i + l) refl) ∙ at_l; linked = linked }) in
@@ -73,13 +73,13 @@ module _ (history : List Event) (i : ℕ) where
         ∙ ap (λ o. option_map_or (λ dependent. Err (refusal.NeededBy (event_name dependent))) o (Ok (event, without history i))) (first_needs name first)
         ∙ ap (λ n. Err (refusal.NeededBy n)) first.named.2
 
--- what an undo of the event at a place is refused with, by the first event that needs it
+-- what an undo of the event at a position is refused with, by the first event that needs it
 module _ (history : List Event) (i : ℕ) (within : i < length history) where
-  at_place : (event : Event) × (slice_get history i ≡ Some event)
-  at_place = ⊎_elim (λ there. (there.0, there.2)) (λ past. absurd (let end = past.0 in omega (arith, end, within))) (slice_get_cases history i).1
+  at_position : (event : Event) × (slice_get history i ≡ Some event)
+  at_position = ⊎_elim (λ there. (there.0, there.2)) (λ past. absurd (let end = past.0 in omega (arith, end, within))) (slice_get_cases history i).1
 
   pub free_unrefused : IsFree depends history i → None ≡ result_err (answered (for_standing (found_at history i) (undo_found history)))
-  free_unrefused free = sym (ap (λ a. result_err (answered a)) (free_answer history i at_place.0 at_place.1 free))
+  free_unrefused free = sym (ap (λ a. result_err (answered a)) (free_answer history i at_position.0 at_position.1 free))
 
   pub needed_refused : (name : StepId) → IsFirstDependent history i name → Some (refusal.NeededBy name) ≡ result_err (answered (for_standing (found_at history i) (undo_found history)))
-  needed_refused name first = sym (ap (λ a. result_err (answered a)) (needed_answer history i at_place.0 at_place.1 name first))
+  needed_refused name first = sym (ap (λ a. result_err (answered a)) (needed_answer history i at_position.0 at_position.1 name first))

@@ -3,7 +3,7 @@ use Rattle.std.proofs.Common.{◌≡◌, ℕ, zero, suc, ◌+◌, ◌*◌, ◌<�
 use Rattle.std.proofs.lemmas.List.{length-map}
 use Rattle.std.proofs.lemmas.Option.{none-some, same_Some}
 use Rattle.std.proofs.lemmas.Bool.Decides.{nat_tests}
-use Rattle.cdb_base.specs.Places.{nth, set_nth, update_nth}
+use Rattle.cdb_base.specs.Positions.{nth, set_nth, update_nth}
 use Rattle.cdb_base.specs.declared.event.Event.{Event}
 use Rattle.cdb_base.specs.declared.event.Event.TheVariants.{Step, Lost}
 use Rattle.cdb_base.specs.declared.event.Kind.{Kind}
@@ -17,7 +17,7 @@ use Rattle.std.specs.FinSet as set
 use Rattle.cdb_rules.specs.Mail.{mail_of}
 use Rattle.cdb_rules.specs.State.{Machine, ProcessState, RunState, start, fresh_process}
 use Rattle.cdb_rules.specs.Step.{sight_in, wished_payload, wished_cell, queries_after, sent_after, process_after, registers_after, may_lose, after}
-use Rattle.cdb_rules.proofs.Places.{nth-set_nth_same, nth-set_nth_other, nth-update_nth_same, nth-update_nth_other}
+use Rattle.cdb_rules.proofs.Positions.{nth-set_nth_same, nth-set_nth_other, nth-update_nth_same, nth-update_nth_other}
 use Rattle.cdb_rules.proofs.Taken.{IsTaken, taken_from, parts, where_true}
 
 -- what a process has counted

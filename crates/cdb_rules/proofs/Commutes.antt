@@ -5,7 +5,7 @@ use Rattle.std.specs.FinSet as set
 use Rattle.std.specs.Cmp.{Equal-is, tied_itself}
 use Rattle.std.specs.Ordering.{eq_by_cmp}
 use Rattle.std.specs.declared.cmp.Ordering.TheVariants.{Equal}
-use Rattle.cdb_base.specs.Places.{nth, set_nth}
+use Rattle.cdb_base.specs.Positions.{nth, set_nth}
 use Rattle.cdb_base.specs.declared.event.Event.{Event}
 use Rattle.cdb_base.specs.declared.event.Event.TheVariants.{Step, Lost}
 use Rattle.cdb_base.specs.declared.event.Kind.{Kind}
@@ -22,7 +22,7 @@ use Rattle.cdb_rules.specs.State.{Machine, ProcessState, RunState}
 use Rattle.cdb_rules.specs.Step.{is_among, sight_in, wished_cell, accepted, process_after, registers_after, state_after, may_lose, after}
 use Rattle.cdb_rules.proofs.Kept.{nat_eq-ne, other_copy, registers_swap, process_kept, sight_kept, may_lose_kept, with_loss, sight_but}
 use Rattle.cdb_rules.proofs.Mails.{not_true}
-use Rattle.cdb_rules.proofs.Places.{set_nth-set_nth}
+use Rattle.cdb_rules.proofs.Positions.{set_nth-set_nth}
 use Rattle.cdb_rules.proofs.Taken.{IsTaken, taken_from, where_true, both}
 
 -- sets of copies

@@ -6,29 +6,29 @@ use Rattle.std.specs.List.{position, position_or_len}
 use Rattle.std.specs.Option.{option_map_or}
 use Rattle.std.specs.Prelude.{ok_or}
 use Rattle.cdb_base.specs.Event.{event_name}
-use Rattle.cdb_base.specs.Places.{nth}
+use Rattle.cdb_base.specs.Positions.{nth}
 use Rattle.cdb_base.specs.declared.event.Event.{Event}
 use Rattle.cdb_base.specs.declared.event.Event.TheVariants.{Step, Lost}
 use Rattle.cdb_base.specs.declared.name.StepId.{StepId}
 use Rattle.cdb_base.specs.declared.name.StepId.TheVariants as named
 use Rattle.cdb_base.specs.declared.refusal.Refusal.TheVariants as refusal
-use Rattle.cdb_causal.specs.Names.{IsNewName, IsPlaceOf}
+use Rattle.cdb_causal.specs.Names.{IsNewName, IsPositionOf}
 use Rattle.cdb_rules.specs.State.{Machine}
 use Rattle.cdb_rules.specs.Step.{IsValid, is_among}
 use Rattle.cdb_rules.specs.Undo.{has_name, names_processes, found_at, event_named}
 use Rattle.cdb_rules.proofs.Kept.{is_false}
 use Rattle.cdb_rules.proofs.Limits.{step_within, loss_within}
-use Rattle.cdb_rules.proofs.Naming.{in_place}
-use Rattle.cdb_rules.proofs.Places.{get_at}
+use Rattle.cdb_rules.proofs.Naming.{in_position}
+use Rattle.cdb_rules.proofs.Positions.{get_at}
 use Rattle.cdb_rules.proofs.Taken.{both}
 
 module _ {E : Type 0} (test : E → Bool) where
-  place_or_len : (xs : List E) (i : ℕ) (x : E) → slice_get xs i ≡ Some x → test x ≡ true → ((k : ℕ) (y : E) → k < i → slice_get xs k ≡ Some y → test y ≡ false) → (position_or_len test xs ≡ i) × (i < length xs)
-  place_or_len [] i x at holds none = absurd (none-some x at)
-  place_or_len (y ∷ ys) zero x at holds none =
+  found_or_len : (xs : List E) (i : ℕ) (x : E) → slice_get xs i ≡ Some x → test x ≡ true → ((k : ℕ) (y : E) → k < i → slice_get xs k ≡ Some y → test y ≡ false) → (position_or_len test xs ≡ i) × (i < length xs)
+  found_or_len [] i x at holds none = absurd (none-some x at)
+  found_or_len (y ∷ ys) zero x at holds none =
       (ap (λ b. cond (not b) (1 + position_or_len test ys) 0) (ap test (same_Some y x at) ∙ holds), omega arith)
-  place_or_len (y ∷ ys) (suc i) x at holds none =
-      let rest = place_or_len ys i x at holds (λ k z less at_k. none (suc k) z (omega (arith, less)) at_k) in
+  found_or_len (y ∷ ys) (suc i) x at holds none =
+      let rest = found_or_len ys i x at holds (λ k z less at_k. none (suc k) z (omega (arith, less)) at_k) in
       let here = rest.0 in
       let below = rest.1 in
       let more : 1 + position_or_len test ys ≡ suc i = omega (arith, here) in
@@ -43,8 +43,8 @@ module _ {E : Type 0} (test : E → Bool) where
 
   position_is : (xs : List E) (i : ℕ) (x : E) → slice_get xs i ≡ Some x → test x ≡ true → ((k : ℕ) (y : E) → k < i → slice_get xs k ≡ Some y → test y ≡ false) → position test xs ≡ Some i
   position_is xs i x at holds none =
-      let place = place_or_len xs i x at holds none in
-      ap (λ n. cond (nat_lt n (length xs)) (Some n) None) place.0 ∙ ap (λ b. cond b (Some i) None) (is_below i (length xs) place.1)
+      let position = found_or_len xs i x at holds none in
+      ap (λ n. cond (nat_lt n (length xs)) (Some n) None) position.0 ∙ ap (λ b. cond b (Some i) None) (is_below i (length xs) position.1)
     where
       is_below : (i n : ℕ) → i < n → nat_lt i n ≡ true
       is_below i n below = grind (arith, nat_tests)
@@ -87,29 +87,29 @@ named_has : (name : StepId) (event : Event) → event_name event ≡ name → ha
 named_has name event is = subst (λ n. has_name n event ≡ true) is (has_own_name event)
 
 module _ (history : List Event) (name : StepId) where
-  place_is : (at : ℕ) → IsPlaceOf history name at → position (has_name name) history ≡ Some (at - 1)
-  place_is at place =
-      position_is (has_name name) history (at - 1) place.named.0 place.named.1 (named_has name place.named.0 place.named.2)
-      (λ k y less at_k. is_false (has_name name y) (λ h. let same = place.only k (y, at_k, has_name_is name y h) in omega (arith, less, same)))
+  stands_at : (at : ℕ) → IsPositionOf history name at → position (has_name name) history ≡ Some (at - 1)
+  stands_at at position =
+      position_is (has_name name) history (at - 1) position.named.0 position.named.1 (named_has name position.named.0 position.named.2)
+      (λ k y less at_k. is_false (has_name name y) (λ h. let same = position.only k (y, at_k, has_name_is name y h) in omega (arith, less, same)))
 
   new_is : IsNewName history name → position (has_name name) history ≡ None
   new_is new = position_none (has_name name) history (λ k y at_k. is_false (has_name name y) (λ h. new k (y, at_k, has_name_is name y h)))
 
   module _ (n : ℕ) where
-    by_place : (o : Option ℕ) → names_processes n name ≡ true → position (has_name name) history ≡ o → event_named n history name ≡ option_map_or (found_at history) o (Err refusal.NoStep)
-    by_place o there is = ap₂ (λ b p. if b then option_map_or (found_at history) p (Err refusal.NoStep) else Err refusal.NoProcess) there is
+    found_by : (o : Option ℕ) → names_processes n name ≡ true → position (has_name name) history ≡ o → event_named n history name ≡ option_map_or (found_at history) o (Err refusal.NoStep)
+    found_by o there is = ap₂ (λ b p. if b then option_map_or (found_at history) p (Err refusal.NoStep) else Err refusal.NoProcess) there is
 
-    pub stands_named : (at : ℕ) → names_processes n name ≡ true → IsPlaceOf history name at → event_named n history name ≡ found_at history (at - 1)
-    stands_named at there place = by_place (Some (at - 1)) there (place_is at place)
+    pub stands_named : (at : ℕ) → names_processes n name ≡ true → IsPositionOf history name at → event_named n history name ≡ found_at history (at - 1)
+    stands_named at there position = found_by (Some (at - 1)) there (stands_at at position)
 
     pub none_named : names_processes n name ≡ true → IsNewName history name → event_named n history name ≡ Err refusal.NoStep
-    none_named there new = by_place None there (new_is new)
+    none_named there new = found_by None there (new_is new)
 
     pub no_process_named : names_processes n name ≡ false → event_named n history name ≡ Err refusal.NoProcess
     no_process_named absent = ap (λ b. if b then option_map_or (found_at history) (position (has_name name) history) (Err refusal.NoStep) else Err refusal.NoProcess) absent
 
-pub place_within : (history : List Event) (name : StepId) (at : ℕ) → IsPlaceOf history name at → at ≤ length history
-place_within history name at place = let below = slice_get_within history (at - 1) place.named.0 place.named.1 in let first = place.from_one in omega (arith, below, first)
+pub position_within : (history : List Event) (name : StepId) (at : ℕ) → IsPositionOf history name at → at ≤ length history
+position_within history name at position = let below = slice_get_within history (at - 1) position.named.0 position.named.1 in let first = position.from_one in omega (arith, below, first)
 
 -- In a valid history no event has a greater number.
 
@@ -120,11 +120,11 @@ number_of (named.Lost copy) = copy.msg.m
 module _ {L : Type 0} (machine : Machine L) (history : List Event) (valid : IsValid machine history) where
   number_few : (name : StepId) (i : ℕ) (event : Event) → slice_get history i ≡ Some event → event_name event ≡ name → number_of name ≤ 9999
   number_few name i (Step p k kind) at is =
-      let few = step_within machine history valid p k kind (in_place history i (Step p k kind) at) in
+      let few = step_within machine history valid p k kind (in_position history i (Step p k kind) at) in
       let same = ap number_of is in
       omega (arith, few, same)
   number_few name i (Lost copy) at is =
-      let few = loss_within machine history valid copy (in_place history i (Lost copy) at) in
+      let few = loss_within machine history valid copy (in_position history i (Lost copy) at) in
       let same = ap number_of is in
       omega (arith, few, same)
 
@@ -159,24 +159,24 @@ module _ (n p : ℕ) where
 
 -- What is found, as it is answered.
 
-module _ (history : List Event) (name : StepId) (at : Option ℕ) (is : MatchOption at (IsNewName history name) (IsPlaceOf history name)) where
-  pub found_answer : (n : ℕ) → names_processes n name ≡ true → MatchResult (ok_or at refusal.NoStep) (λ place. event_named n history name ≡ found_at history (place - 1)) (λ why. event_named n history name ≡ Err why)
+module _ (history : List Event) (name : StepId) (at : Option ℕ) (is : MatchOption at (IsNewName history name) (IsPositionOf history name)) where
+  pub found_answer : (n : ℕ) → names_processes n name ≡ true → MatchResult (ok_or at refusal.NoStep) (λ position. event_named n history name ≡ found_at history (position - 1)) (λ why. event_named n history name ≡ Err why)
   found_answer n there = by at is
     where
-      by : (o : Option ℕ) → MatchOption o (IsNewName history name) (IsPlaceOf history name) → MatchResult (ok_or o refusal.NoStep) (λ place. event_named n history name ≡ found_at history (place - 1)) (λ why. event_named n history name ≡ Err why)
+      by : (o : Option ℕ) → MatchOption o (IsNewName history name) (IsPositionOf history name) → MatchResult (ok_or o refusal.NoStep) (λ position. event_named n history name ≡ found_at history (position - 1)) (λ why. event_named n history name ≡ Err why)
       by None new = none_named history name n there new
-      by (Some place) stands = stands_named history name n place there stands
+      by (Some position) stands = stands_named history name n position there stands
 
-  pub found_within : IfOk (ok_or at refusal.NoStep) (λ place. (1 ≤ place) × (place ≤ length history))
+  pub found_within : IfOk (ok_or at refusal.NoStep) (λ position. (1 ≤ position) × (position ≤ length history))
   found_within = by at is
     where
-      by : (o : Option ℕ) → MatchOption o (IsNewName history name) (IsPlaceOf history name) → IfOk (ok_or o refusal.NoStep) (λ place. (1 ≤ place) × (place ≤ length history))
+      by : (o : Option ℕ) → MatchOption o (IsNewName history name) (IsPositionOf history name) → IfOk (ok_or o refusal.NoStep) (λ position. (1 ≤ position) × (position ≤ length history))
       by None new = tt
-      by (Some place) stands = (stands.from_one, place_within history name place stands)
+      by (Some position) stands = (stands.from_one, position_within history name position stands)
 
--- what stands at a place from 1 stands, counted from 0, at the one before
-pub place_before : {A : Type 0} (xs : List A) (at : ℕ) (x : A) → 1 ≤ at → nth xs at ≡ Some x → slice_get xs (at - 1) ≡ Some x
-place_before xs at x first stands = let same : (at - 1) + 1 ≡ at = omega (arith, first) in get_at xs (at - 1) at same ∙ stands
+-- what stands at a position from 1 stands, counted from 0, at the one before
+pub position_before : {A : Type 0} (xs : List A) (at : ℕ) (x : A) → 1 ≤ at → nth xs at ≡ Some x → slice_get xs (at - 1) ≡ Some x
+position_before xs at x first stands = let same : (at - 1) + 1 ≡ at = omega (arith, first) in get_at xs (at - 1) at same ∙ stands
 
 -- what does not fit in 16 bits is greater than each number of a step or a message
 pub beyond : (k : ℕ) → (k < 65536 → ⊥) → 9999 < k

@@ -3,7 +3,7 @@ use Rattle.std.proofs.Common.{◌≡◌, ℕ, ◌+◌, Bool, true, false, not, �
 use Rattle.std.specs.Option.{option_map_or}
 use Rattle.std.proofs.lemmas.Option.{none-some}
 use Rattle.std.specs.FinSet as set
-use Rattle.cdb_base.specs.Places.{nth}
+use Rattle.cdb_base.specs.Positions.{nth}
 use Rattle.cdb_base.specs.declared.event.Event.TheVariants.{Step}
 use Rattle.cdb_base.specs.declared.event.Kind.{Kind}
 use Rattle.cdb_base.specs.declared.event.Kind.TheVariants.{Query, Send, Recv, Read, Write, Local, Learn, Crash}
@@ -11,7 +11,7 @@ use Rattle.cdb_base.specs.declared.payload.Payload.{Payload}
 use Rattle.cdb_base.specs.declared.payload.Payload.TheVariants.{D}
 use Rattle.cdb_base.specs.declared.refusal.Refusal.{Refusal}
 use Rattle.cdb_message.specs.Mail.{MailState, message_name, copy_name, sent_by, payload_of, is_sent, is_received, is_lost}
-use Rattle.cdb_process.specs.Process.{QueryHangsOnStateAlone, RecvHangsOnStateAlone, WishNamesSend, WishNamesWrite}
+use Rattle.cdb_process.specs.Process.{QueryDependsOnStateAlone, RecvDependsOnStateAlone, WishNamesSend, WishNamesWrite}
 use Rattle.cdb_process.specs.declared.Input.TheVariants as input
 use Rattle.cdb_register.specs.Registers.{register_of}
 use Rattle.cdb_register.specs.declared.RegisterState.{RegisterState}
@@ -24,8 +24,8 @@ use Rattle.cdb_rules.proofs.Taken.{some_of, both}
 
 -- what a machine of the trait keeps
 pub record IsLawful {L : Type 0} (machine : Machine L) : Type 0 where
-  pub query : QueryHangsOnStateAlone machine.next
-  pub recv : RecvHangsOnStateAlone machine.next
+  pub query : QueryDependsOnStateAlone machine.next
+  pub recv : RecvDependsOnStateAlone machine.next
   pub send : WishNamesSend machine.next machine.wish
   pub write : WishNamesWrite machine.next machine.wish
 

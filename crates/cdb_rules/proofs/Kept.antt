@@ -4,7 +4,7 @@ use Rattle.std.proofs.lemmas.Bool.Decides.{nat_tests}
 use Rattle.std.specs.FinSet as set
 use Rattle.std.specs.Cmp.{Equal-is}
 use Rattle.std.specs.Ordering.{eq_by_cmp}
-use Rattle.cdb_base.specs.Places.{nth}
+use Rattle.cdb_base.specs.Positions.{nth}
 use Rattle.cdb_base.specs.Registers.{same_register}
 use Rattle.cdb_base.specs.declared.event.Event.TheVariants.{Step, Lost}
 use Rattle.cdb_base.specs.declared.event.Kind.{Kind}
@@ -25,7 +25,7 @@ use Rattle.cdb_rules.specs.Mail.{mail_of}
 use Rattle.cdb_rules.specs.State.{Machine, ProcessState, RunState}
 use Rattle.cdb_rules.specs.Step.{Sight, is_among, sight_in, arriving, wished_payload, wished_cell, accepted, sent_after, received_after, process_after, registers_after, may_lose}
 use Rattle.cdb_rules.proofs.Mails.{sent_is, received_is}
-use Rattle.cdb_rules.proofs.Places.{nth-map, nth-set_nth_other, nth-set_nth_same, nth_push_other, nth-update_nth_other, update_nth-update_nth}
+use Rattle.cdb_rules.proofs.Positions.{nth-map, nth-set_nth_other, nth-set_nth_same, nth_push_other, nth-update_nth_other, update_nth-update_nth}
 use Rattle.cdb_rules.proofs.Taken.{IsTaken, accepted_parts, both}
 
 pub nat_eq-ne : (a b : ℕ) → nat_eq a b ≡ false → a ≢ b

@@ -18,7 +18,7 @@ pub mod Members
 pub mod Naming
 pub mod Numbers
 pub mod OwnOfState
-pub mod Places
+pub mod Positions
 pub mod Planned
 pub mod Removed
 pub mod SameState

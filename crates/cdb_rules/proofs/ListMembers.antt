@@ -9,10 +9,10 @@ module _ {E : Type 0} where
   pub nothing_in : (x : E) → IsIn x [] → ⊥
   nothing_in x i = elim i [ ]
 
-  pub place_in : (x : E) (xs : List E) → IsIn x xs → (k : ℕ) × (slice_get xs k ≡ Some x)
-  place_in x [] i = absurd (nothing_in x i)
-  place_in x (y ∷ ys) here = (0, refl)
-  place_in x (y ∷ ys) (there i) = let place = place_in x ys i in (suc place.0, place.1)
+  pub position_in : (x : E) (xs : List E) → IsIn x xs → (k : ℕ) × (slice_get xs k ≡ Some x)
+  position_in x [] i = absurd (nothing_in x i)
+  position_in x (y ∷ ys) here = (0, refl)
+  position_in x (y ∷ ys) (there i) = let position = position_in x ys i in (suc position.0, position.1)
 
   pub in_front : (x : E) (xs ys : List E) → IsIn x xs → IsIn x (xs ++ ys)
   in_front x [] ys i = absurd (nothing_in x i)
@@ -63,7 +63,7 @@ module _ {E : Type 0} where
         let parts = or_false (test y) (list_any test ys) none in
         ⊎_elim (λ same. ap test same ∙ parts.0) (any_none ys parts.1 x) (in_cases x y ys i)
 
-  -- a list up to a place, with what stands there
+  -- a list up to a position, with what stands there
   pub get-take : (xs : List E) (j k : ℕ) → k < j → slice_get (take j xs) k ≡ slice_get xs k
   get-take xs zero k below = absurd (omega (arith, below))
   get-take [] (suc j) k below = refl

@@ -1,7 +1,7 @@
 -- What a step does to the mail of a run.
 use Rattle.std.proofs.Common.{◌≡◌, ℕ, ◌<◌, Bool, true, false, not, List, [], ◌∷◌, ◌++◌, length, map, Option, Some, None, is_some, option_map, option_to_list, unwrap_or, if◌then◌else◌, refl, sym, ap, ap₂, ◌∙◌, subst, true≢false, append-nil}
 use Rattle.std.specs.FinSet as set
-use Rattle.cdb_base.specs.Places.{nth, set_nth}
+use Rattle.cdb_base.specs.Positions.{nth, set_nth}
 use Rattle.cdb_base.specs.declared.event.Kind.{Kind}
 use Rattle.cdb_base.specs.declared.event.Kind.TheVariants.{Send, Recv}
 use Rattle.cdb_base.specs.declared.payload.Payload.{Payload}
@@ -10,7 +10,7 @@ use Rattle.cdb_message.specs.Names.{NameSet}
 use Rattle.cdb_rules.specs.Mail.{mail_of, mail_after, IsPostable}
 use Rattle.cdb_rules.specs.State.{Machine, ProcessState, RunState}
 use Rattle.cdb_rules.specs.Step.{sight, arriving, meets, is_due, wished_payload, sent_after, received_after}
-use Rattle.cdb_rules.proofs.Places.{nth-map, map-set_nth, set_nth_same, nth_within}
+use Rattle.cdb_rules.proofs.Positions.{nth-map, map-set_nth, set_nth_same, nth_within}
 
 -- what a receive meets was sent and is not lost
 pub arrives : (mail : MailState) (p s m : ℕ) → is_some (arriving mail p (message_name s m)) ≡ true → (is_sent mail (message_name s m) ≡ true) × (is_lost mail (copy_name (message_name s m) p) ≡ false)

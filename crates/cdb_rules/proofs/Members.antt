@@ -3,7 +3,7 @@
 use Rattle.std.proofs.Common.{◌≡◌, ℕ, zero, suc, ◌<◌, ◌≤◌, Bool, true, false, not, ◌&&◌, ◌⊎◌, inl, inr, ⊎_elim, List, [], ◌∷◌, length, map, Option, Some, slice_get, refl, sym, ap, ◌∙◌, subst, true≢false, le_trans, arith}
 use Rattle.std.proofs.lemmas.Option.{none-some, same_Some}
 use Rattle.std.specs.FinSet as set
-use Rattle.cdb_base.specs.Places.{nth}
+use Rattle.cdb_base.specs.Positions.{nth}
 use Rattle.cdb_base.specs.declared.event.Event.{Event}
 use Rattle.cdb_base.specs.declared.event.Event.TheVariants.{Step, Lost}
 use Rattle.cdb_base.specs.declared.event.Kind.{Kind}
@@ -21,7 +21,7 @@ use Rattle.cdb_rules.specs.Step.{is_among, after}
 use Rattle.cdb_rules.proofs.Commutes.{after_taken, lost_from, parts_of}
 use Rattle.cdb_rules.proofs.Mails.{not_true}
 use Rattle.cdb_rules.proofs.Numbers.{IsCounted, steps_of, sends_of, writes_of, own_at, noted, number_is, number_after, send_number, received_sent, received_not_lost, received_now, access_noted, write_counts, step_stands, copy_joins, steps_grow, sends_grow, writes_grow, received_stays, lost_stays, lost_cases, own_kept, own_cases, counted_after}
-use Rattle.cdb_rules.proofs.Places.{nth_within}
+use Rattle.cdb_rules.proofs.Positions.{nth_within}
 use Rattle.cdb_rules.proofs.Taken.{IsTaken, taken_from, bound, both, some_of}
 
 false_not : {b : Bool} → b ≡ false → b ≡ true → ⊥

@@ -3,7 +3,7 @@ use Rattle.std.proofs.Common.{◌≡◌, ℕ, zero, suc, ◌<◌, ◌≤◌, len
 use Rattle.std.proofs.lemmas.List.{length-map}
 use Rattle.std.proofs.lemmas.Option.{same_Some, none-some}
 use Rattle.cdb_base.specs.Event.{event_name}
-use Rattle.cdb_base.specs.Places.{nth}
+use Rattle.cdb_base.specs.Positions.{nth}
 use Rattle.cdb_base.specs.declared.event.Event.{Event}
 use Rattle.cdb_base.specs.declared.event.Event.TheVariants.{Step, Lost}
 use Rattle.cdb_base.specs.declared.event.Kind.{Kind}
@@ -27,21 +27,21 @@ use Rattle.cdb_rules.proofs.Bounds.{length-set_nth}
 use Rattle.cdb_rules.proofs.Commutes.{lost_from}
 use Rattle.cdb_rules.proofs.Kept.{is_false, left, payload_kept}
 use Rattle.cdb_rules.proofs.Members.{Reaches, IsOrdered, first_step, losable, ordered, start_counted, nth-fresh}
-use Rattle.cdb_rules.proofs.Places.{nth-map, nth_within}
+use Rattle.cdb_rules.proofs.Positions.{nth-map, nth_within}
 use Rattle.cdb_rules.proofs.SameState.{once, sends_it, stand_apart, step_loss_not_both}
 use Rattle.cdb_rules.proofs.Taken.{taken_from, some_of}
 
-pub in_place : {E : Type 0} (events : List E) (j : ℕ) (event : E) → slice_get events j ≡ Some event → IsIn event events
-in_place [] j event at = absurd (none-some event at)
-in_place (x ∷ xs) zero event at = subst (λ y. IsIn event (y ∷ xs)) (sym (same_Some x event at)) here
-in_place (x ∷ xs) (suc j) event at = there (in_place xs j event at)
+pub in_position : {E : Type 0} (events : List E) (j : ℕ) (event : E) → slice_get events j ≡ Some event → IsIn event events
+in_position [] j event at = absurd (none-some event at)
+in_position (x ∷ xs) zero event at = subst (λ y. IsIn event (y ∷ xs)) (sym (same_Some x event at)) here
+in_position (x ∷ xs) (suc j) event at = there (in_position xs j event at)
 
-before_places : {E : Type 0} (events : List E) (i j : ℕ) (a b : E) → i < j → slice_get events i ≡ Some a → slice_get events j ≡ Some b → IsBefore a b events
-before_places [] i j a b less at_i at_j = absurd (none-some a at_i)
-before_places (x ∷ xs) zero zero a b less at_i at_j = absurd (omega (arith, less))
-before_places (x ∷ xs) zero (suc j) a b less at_i at_j = subst (λ y. IsBefore a b (y ∷ xs)) (sym (same_Some x a at_i)) (here (in_place xs j b at_j))
-before_places (x ∷ xs) (suc i) zero a b less at_i at_j = absurd (omega (arith, less))
-before_places (x ∷ xs) (suc i) (suc j) a b less at_i at_j = there (before_places xs i j a b (omega (arith, less)) at_i at_j)
+before_positions : {E : Type 0} (events : List E) (i j : ℕ) (a b : E) → i < j → slice_get events i ≡ Some a → slice_get events j ≡ Some b → IsBefore a b events
+before_positions [] i j a b less at_i at_j = absurd (none-some a at_i)
+before_positions (x ∷ xs) zero zero a b less at_i at_j = absurd (omega (arith, less))
+before_positions (x ∷ xs) zero (suc j) a b less at_i at_j = subst (λ y. IsBefore a b (y ∷ xs)) (sym (same_Some x a at_i)) (here (in_position xs j b at_j))
+before_positions (x ∷ xs) (suc i) zero a b less at_i at_j = absurd (omega (arith, less))
+before_positions (x ∷ xs) (suc i) (suc j) a b less at_i at_j = there (before_positions xs i j a b (omega (arith, less)) at_i at_j)
 
 three_cases : (i j : ℕ) → (i < j) ⊎ ((i ≡ j) ⊎ (j < i))
 three_cases i j = grind arith
@@ -117,10 +117,10 @@ module _ {L : Type 0} (machine : Machine L) where
     pub names_differ : (i j : ℕ) (name : StepId) → IsNamedAt history i name → IsNamedAt history j name → i ≡ j
     names_differ i j name a b =
         ⊎_elim
-        (λ less. absurd (names_apart a.0 b.0 (before_places history i j a.0 b.0 less a.1 b.1) (a.2 ∙ sym b.2)))
+        (λ less. absurd (names_apart a.0 b.0 (before_positions history i j a.0 b.0 less a.1 b.1) (a.2 ∙ sym b.2)))
         (⊎_elim
         (λ is. is)
-        (λ more. absurd (names_apart b.0 a.0 (before_places history j i b.0 a.0 more b.1 a.1) (b.2 ∙ sym a.2))))
+        (λ more. absurd (names_apart b.0 a.0 (before_positions history j i b.0 a.0 more b.1 a.1) (b.2 ∙ sym a.2))))
         (three_cases i j)
 
     not_sent_later : (copy : CopyName) (event : Event) → IsBefore (Lost copy) event history → send_and_loss event (Lost copy) ≡ false
@@ -136,8 +136,8 @@ module _ {L : Type 0} (machine : Machine L) where
     valid_standing few =
         record {
           names_differ = names_differ;
-          processes = λ i p k kind at. let within = of_processes p k kind (in_place history i (Step p k kind) at) in (within.0, let last = within.1 in omega (arith, last, few));
-          lost_after_sent = λ i j copy event less at_i at_j. not_sent_later copy event (before_places history i j (Lost copy) event less at_i at_j);
+          processes = λ i p k kind at. let within = of_processes p k kind (in_position history i (Step p k kind) at) in (within.0, let last = within.1 in omega (arith, last, few));
+          lost_after_sent = λ i j copy event less at_i at_j. not_sent_later copy event (before_positions history i j (Lost copy) event less at_i at_j);
         }
 
     -- what is lost is not received, neither before the loss nor behind it
@@ -158,7 +158,7 @@ module _ {L : Type 0} (machine : Machine L) where
     loss_free i copy at j link =
         let cause = same_Some link.cause (Lost copy) (sym link.at_cause ∙ at) in
         unlinked link.effect (sym (ap (λ c. depends c link.effect) cause) ∙ link.linked)
-        (before_places history i j (Lost copy) link.effect link.later at link.at_effect)
+        (before_positions history i j (Lost copy) link.effect link.later at link.at_effect)
       where
         unlinked : (effect : Event) → depends (Lost copy) effect ≡ true → IsBefore (Lost copy) effect history → ⊥
         unlinked (Step p k kind) linked before =

@@ -6,7 +6,7 @@ use Rattle.std.proofs.lemmas.List.{length_push}
 use Rattle.std.specs.FinSet as set
 use Rattle.std.specs.Cmp.{Equal-is, tied_itself}
 use Rattle.std.specs.Ordering.{eq_by_cmp}
-use Rattle.cdb_base.specs.Places.{nth, update_nth}
+use Rattle.cdb_base.specs.Positions.{nth, update_nth}
 use Rattle.cdb_base.specs.Registers.{same_register-itself, same_register-true}
 use Rattle.cdb_base.specs.declared.event.Event.{Event}
 use Rattle.cdb_base.specs.declared.event.Event.TheVariants.{Step, Lost}
@@ -29,7 +29,7 @@ use Rattle.cdb_rules.specs.Step.{sight_in, meets, is_due, accepted, wished_paylo
 use Rattle.cdb_rules.proofs.Commutes.{lost_from}
 use Rattle.cdb_rules.proofs.Kept.{nat_eq-ne, nat_eq-is, same_copy, next_number, left, at_left, process_kept, lost_kept, other_sent_kept, other_received_kept}
 use Rattle.cdb_rules.proofs.Mails.{sent_is, received_is, arrives, not_true}
-use Rattle.cdb_rules.proofs.Places.{nth-update_nth_same, nth-update_nth_other, nth_push_front, nth_push_back, nth_push_cases, nth_within}
+use Rattle.cdb_rules.proofs.Positions.{nth-update_nth_same, nth-update_nth_other, nth_push_front, nth_push_back, nth_push_cases, nth_within}
 use Rattle.cdb_rules.proofs.Taken.{IsTaken, IsAccepted, taken_from, parts, some_of}
 
 -- a number of a process, and of a register; nothing counts as 0

@@ -28,20 +28,20 @@ ok_same a b h = cc
 
 -- what is found stands where it was found
 abbrev IsAt : List Event → Found → Type 0
-IsAt history found = slice_get history found.place ≡ Some found.event
+IsAt history found = slice_get history found.position ≡ Some found.event
 
-at-place : (history : List Event) (place : ℕ) (found : Found) → found_at history place ≡ Ok found → IsAt history found
-at-place history place found h =
-    option_cases (IsAt history found) (slice_get history place)
-    (λ none. let f : found_at history place ≡ Ok found → IsAt history found = rw none (λ k. absurd (cc)) in f h)
-    (λ event some. let f : found_at history place ≡ Ok found → IsAt history found = rw some (λ k. subst (IsAt history) (ok_same _ found k) some) in f h)
+at-position : (history : List Event) (position : ℕ) (found : Found) → found_at history position ≡ Ok found → IsAt history found
+at-position history position found h =
+    option_cases (IsAt history found) (slice_get history position)
+    (λ none. let f : found_at history position ≡ Ok found → IsAt history found = rw none (λ k. absurd (cc)) in f h)
+    (λ event some. let f : found_at history position ≡ Ok found → IsAt history found = rw some (λ k. subst (IsAt history) (ok_same _ found k) some) in f h)
 
 standing-at : (n : ℕ) (history : List Event) (name : StepId) (found : Found) → event_named n history name ≡ Ok found → IsAt history found
 standing-at n history name found h =
     bool_cases (IsAt history found) (names_processes n name)
     (λ named. option_cases (IsAt history found) (position (has_name name) history)
     (λ none. let f : event_named n history name ≡ Ok found → IsAt history found = rw (named, none) (λ k. absurd (cc)) in f h)
-    (λ place some. let f : event_named n history name ≡ Ok found → IsAt history found = rw (named, some) (λ k. at-place history place found k) in f h))
+    (λ position some. let f : event_named n history name ≡ Ok found → IsAt history found = rw (named, some) (λ k. at-position history position found k) in f h))
     (λ unnamed. let f : event_named n history name ≡ Ok found → IsAt history found = rw unnamed (λ k. absurd (cc)) in f h)
 
 module _ (P : Event → Type 0) where
@@ -83,7 +83,7 @@ module _ (P : Event → Type 0) where
       result_cases (Parted history (undone.0 ∷ []) undone.1) (event_named n history name)
       (λ found is. option_cases (Parted history (undone.0 ∷ []) undone.1) (find (depends found.event) found.later)
       (λ none. let f : undo_of n history name ≡ Ok undone → Parted history (undone.0 ∷ []) undone.1 =
-      rw (is, none) (λ k. subst (λ (u : Event × List Event). Parted history (u.0 ∷ []) u.1) (ok_same _ undone k) (without-parted history found.place found.event (standing-at n history name found is)))
+      rw (is, none) (λ k. subst (λ (u : Event × List Event). Parted history (u.0 ∷ []) u.1) (ok_same _ undone k) (without-parted history found.position found.event (standing-at n history name found is)))
       in
       f h)
       (λ dependent some. let f : undo_of n history name ≡ Ok undone → Parted history (undone.0 ∷ []) undone.1 = rw (is, some) (λ k. absurd (cc)) in f h))
@@ -93,7 +93,7 @@ module _ (P : Event → Type 0) where
   rolled_back-parted n history name removed h =
       result_cases (Parted history removed.0 removed.1) (event_named n history name)
       (λ found is. let f : rollback_of n history name ≡ Ok removed → Parted history removed.0 removed.1 =
-      rw is (λ k. subst (λ (r : List Event × List Event). Parted history r.0 r.1) (ok_same _ removed k) (turned history found.place)) in
+      rw is (λ k. subst (λ (r : List Event × List Event). Parted history r.0 r.1) (ok_same _ removed k) (turned history found.position)) in
       f h)
       (λ why is. let f : rollback_of n history name ≡ Ok removed → Parted history removed.0 removed.1 = rw is (λ k. absurd (cc)) in f h)
     where
@@ -117,7 +117,7 @@ removed-one n history name removed h =
     result_cases (1 ≤ length removed.0) (event_named n history name)
     (λ found is. let f : rollback_of n history name ≡ Ok removed → 1 ≤ length removed.0 =
     rw is (λ k. subst (λ (r : List Event × List Event). 1 ≤ length r.0) (ok_same _ removed k)
-    (omega (arith, length-reverse (rolled_back depends history found.place), rolled-one history found.place found.event (standing-at n history name found is)))) in
+    (omega (arith, length-reverse (rolled_back depends history found.position), rolled-one history found.position found.event (standing-at n history name found is)))) in
     f h)
     (λ why is. let f : rollback_of n history name ≡ Ok removed → 1 ≤ length removed.0 = rw is (λ k. absurd (cc)) in f h)
 

@@ -26,24 +26,24 @@ use Rattle.cdb_rules.proofs.Commutes.{lost_from}
 use Rattle.cdb_rules.proofs.Finding.{stands_named, none_named, no_process_named, among_is}
 use Rattle.cdb_rules.proofs.Limits.{in_front}
 use Rattle.cdb_rules.proofs.Members.{Reaches, first_step}
-use Rattle.cdb_rules.proofs.Naming.{in_cases, in_place, of_processes, lost_after_send, names_differ}
+use Rattle.cdb_rules.proofs.Naming.{in_cases, in_position, of_processes, lost_after_send, names_differ}
 use Rattle.cdb_rules.proofs.Taken.{both, some_of}
 
 -- an event and its consequences, the last first, and the history without them
 abbrev all_rolled_back : List Event → Found → Result (List Event × List Event) Refusal
-all_rolled_back history found = Ok (reverse (rolled_back depends history found.place), remaining depends history found.place)
+all_rolled_back history found = Ok (reverse (rolled_back depends history found.position), remaining depends history found.position)
 
--- places are counted from 0, and of a name from 1
+-- positions are counted from 0, and of a name from 1
 less_one : (i : ℕ) → i ≡ suc i - 1
 less_one i = omega arith
 
--- the event there has its name, and where no other has, that is its place
+-- the event there has its name, and where no other has, that is its position
 named_alone : (n : ℕ) (history : List Event) (i : ℕ) (event : Event) → names_processes n (event_name event) ≡ true → slice_get history i ≡ Some event → ((j : ℕ) → IsNamedAt history j (event_name event) → j ≡ i) → IsEventNamed n history (event_name event) i event
 named_alone n history i event there at only =
     record {
       among = there;
       at = at;
-      place = record {
+      position = record {
         from_one = omega arith;
         named = (event, subst (λ j. slice_get history j ≡ Some event) (less_one i) at, refl);
         only = λ j named. only j named ∙ less_one i;
@@ -53,7 +53,7 @@ named_alone n history i event there at only =
 module _ (n : ℕ) (history : List Event) (name : StepId) where
   module _ (i : ℕ) (event : Event) (is : IsEventNamed n history name i event) where
     standing : event_named n history name ≡ found_at history i
-    standing = stands_named history name n (suc i) is.among is.place ∙ ap (found_at history) (sym (less_one i))
+    standing = stands_named history name n (suc i) is.among is.position ∙ ap (found_at history) (sym (less_one i))
 
     pub free_undone : IsFree depends history i → undo_of n history name ≡ Ok (event, without history i)
     free_undone free = ap (λ found. for_standing found (undo_found history)) standing ∙ free_answer history i event is.at free
@@ -134,5 +134,5 @@ module _ {L : Type 0} (machine : Machine L) where
 
     pub valid_named : (i : ℕ) (event : Event) → slice_get history i ≡ Some event → IsEventNamed count history (event_name event) i event
     valid_named i event at =
-        named_alone count history i event (its_processes event (in_place history i event at)) at
+        named_alone count history i event (its_processes event (in_position history i event at)) at
         (λ j named. names_differ machine history valid j i (event_name event) named (event, at, refl))

@@ -9,6 +9,7 @@ use Rattle.cdb_base.specs.declared.event.Event.TheVariants.{Lost}
 use Rattle.cdb_causal.specs.Causality.{IsFree}
 use Rattle.cdb_causal.specs.Dependence.{depends}
 use Rattle.cdb_causal.specs.Exchange.{IsExchanged}
+use Rattle.cdb_causal.specs.Standing.{IsStanding}
 use Rattle.cdb_rules.specs.Agreement.{AllAgree, HasMajorityIfNeeded}
 use Rattle.cdb_rules.specs.Refusals.{IsOfRun}
 use Rattle.cdb_rules.specs.Rules.{Rules, Shown}
@@ -41,6 +42,9 @@ pub record KeepHistories (rules : Rules) (SameState : List Event → List Event 
   -- the last event of a valid history, once undone, is taken again
   pub last_again : (history : List Event) (event : Event) → IsTrue (rules.valid (history ++ event ∷ []))
       → rules.again history event ≡ Ok event
+  -- it is one of a run of the setup, and a valid history is one that look-ups over histories ask for
+  pub of_run : (history : List Event) (event : Event) → IsTrue (rules.valid (history ++ event ∷ [])) → IsOfRun setup event
+  pub standing : (history : List Event) → IsTrue (rules.valid history) → IsStanding history
   -- events that do not depend on each other may stand in either order
   pub exchanged : (history other : List Event) → IsExchanged depends history other → IsTrue (rules.valid history)
       → IsTrue (rules.valid other)

@@ -2,7 +2,7 @@
 use Rattle.std.specs.Prelude.{◌≡◌, All, IsTrue, ℕ, ◌+◌, Bool, true, List, [], ◌∷◌, Option, Some, None, option_map, unwrap_or, filter, if◌then◌else◌}
 use Rattle.std.specs.List.{list_all}
 use Rattle.cdb_base.specs.Event.{is_step_of}
-use Rattle.cdb_base.specs.Places.{nth}
+use Rattle.cdb_base.specs.Positions.{nth}
 use Rattle.cdb_base.specs.Processes.{all_processes}
 use Rattle.cdb_base.specs.Registers.{same_register}
 use Rattle.cdb_base.specs.declared.event.Event.{Event}

@@ -1,7 +1,7 @@
 -- Why a step is refused, and the event that is taken where it is not.
 use Rattle.std.specs.Prelude.{◌≡◌, ℕ, ◌+◌, ◌≤◌, Bool, true, false, not, ◌&&◌, ◌==◌, nat_le, List, [], ◌∷◌, ◌++◌, length, Option, Some, None, is_some, is_none, option_map, Result, Ok, Err, find}
 use Rattle.std.specs.Option.{option_map_or}
-use Rattle.cdb_base.specs.Places.{nth}
+use Rattle.cdb_base.specs.Positions.{nth}
 use Rattle.cdb_base.specs.declared.act.Act.{Act}
 use Rattle.cdb_base.specs.declared.act.Act.TheVariants as act
 use Rattle.cdb_base.specs.declared.event.Event.{Event}

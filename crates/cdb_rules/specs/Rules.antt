@@ -1,6 +1,6 @@
 -- What a run returns and shows, at one setup, by its history alone: one record for both algorithms.
 use Rattle.std.specs.Prelude.{ℕ, Bool, List, Option, Result, is_some, option_map}
-use Rattle.cdb_base.specs.Places.{nth}
+use Rattle.cdb_base.specs.Positions.{nth}
 use Rattle.cdb_base.specs.declared.act.Act.{Act}
 use Rattle.cdb_base.specs.declared.event.Event.{Event}
 use Rattle.cdb_base.specs.declared.name.MsgName.{MsgName}

@@ -1,7 +1,7 @@
 -- What a contract says of a run: of its setup and its standing events, with the table of its machine.
 use Rattle.std.specs.Prelude.{◌≡◌, ℕ, ◌-◌, ◌≤◌, List, [], ◌∷◌, ◌++◌, Bool, Option, Some, option_map, Result, Ok, Err, IfOk, OnOk, OnErr, IsOk, MatchOption, MatchResult, false}
 use Rattle.cdb_base.specs.Event.{event_name}
-use Rattle.cdb_base.specs.Places.{nth}
+use Rattle.cdb_base.specs.Positions.{nth}
 use Rattle.cdb_base.specs.declared.act.Act.{Act}
 use Rattle.cdb_base.specs.declared.event.Event.{Event}
 use Rattle.cdb_base.specs.declared.name.StepId.{StepId}
@@ -148,15 +148,15 @@ rollback_answer run name = answered (rollback_in run name)
 abbrev pub causes_in : RunView → StepId → Result (List StepId) Refusal
 causes_in run name = causes_of run.setup.processes run.history name
 
--- the same by a place of the history, from 0
-abbrev pub found_at_place : RunView → ℕ → Result Found Refusal
-found_at_place run place = found_at run.history place
+-- the same by a position of the history, from 0
+abbrev pub found_at_position : RunView → ℕ → Result Found Refusal
+found_at_position run position = found_at run.history position
 
-abbrev pub undo_at_place : RunView → ℕ → Result (Event × List Event) Refusal
-undo_at_place run place = for_standing (found_at_place run place) (undo_found run.history)
+abbrev pub undo_at_position : RunView → ℕ → Result (Event × List Event) Refusal
+undo_at_position run position = for_standing (found_at_position run position) (undo_found run.history)
 
 abbrev pub rolled_back_at : RunView → ℕ → List Event
-rolled_back_at run place = rolled_back depends run.history place
+rolled_back_at run position = rolled_back depends run.history position
 
 -- the run that such a result leaves; a refusal leaves it as it was
 abbrev pub with_left : {A : Type 0} → RunView → Result (A × List Event) Refusal → RunView
@@ -169,16 +169,16 @@ abbrev pub after_rollback : RunView → StepId → RunView
 after_rollback run name = with_left run (rollback_in run name)
 
 abbrev pub after_rollback_at : RunView → ℕ → RunView
-after_rollback_at run place = with_history run (remaining depends run.history place)
+after_rollback_at run position = with_history run (remaining depends run.history position)
 
 -- the result says that, through a view of what it holds
 abbrev pub Tells : {A B : Type 0} → (A → B) → Result A Refusal → Result B Refusal → Type 0
 Tells view answer told = MatchResult answer (λ a. told ≡ Ok (view a)) (λ why. told ≡ Err why)
 
--- the result is the place, from 1, of the event of the name, or why there is none
-abbrev pub IsPlaceFound : RunView → StepId → Result ℕ Refusal → Type 0
-IsPlaceFound run name answer =
-    MatchResult answer (λ at. found_in run name ≡ found_at_place run (at - 1)) (λ why. found_in run name ≡ Err why)
+-- the result is the position, from 1, of the event of the name, or why there is none
+abbrev pub IsPositionFound : RunView → StepId → Result ℕ Refusal → Type 0
+IsPositionFound run name answer =
+    MatchResult answer (λ at. found_in run name ≡ found_at_position run (at - 1)) (λ why. found_in run name ≡ Err why)
 
 -- ---- back and forth
 

@@ -1,7 +1,7 @@
 -- What one event does to the state of a run, where it is possible.
 use Rattle.std.specs.Prelude.{ℕ, ◌+◌, Bool, true, false, not, ◌&&◌, ◌==◌, nat_le, List, [], ◌∷◌, ◌++◌, length, Option, Some, None, is_some, option_and_then, option_map, option_to_list, unwrap_or, IsSome, if◌then◌else◌}
 use Rattle.std.specs.FinSet as set
-use Rattle.cdb_base.specs.Places.{nth, set_nth}
+use Rattle.cdb_base.specs.Positions.{nth, set_nth}
 use Rattle.cdb_base.specs.declared.event.Event.{Event}
 use Rattle.cdb_base.specs.declared.event.Event.TheVariants.{Step, Lost}
 use Rattle.cdb_base.specs.declared.event.Kind.{Kind}

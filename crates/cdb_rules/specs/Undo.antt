@@ -13,7 +13,7 @@ use Rattle.cdb_base.specs.declared.refusal.Refusal.TheVariants as refusal
 use Rattle.cdb_causal.specs.Causality.{IsFree}
 use Rattle.cdb_causal.specs.Dependence.{depends}
 use Rattle.cdb_causal.specs.DirectDependents.{is_direct}
-use Rattle.cdb_causal.specs.Names.{IsNamedAt, IsPlaceOf}
+use Rattle.cdb_causal.specs.Names.{IsNamedAt, IsPositionOf}
 use Rattle.cdb_causal.specs.Rollback.{without, rolled_back, remaining}
 use Rattle.cdb_rules.specs.Step.{is_among}
 
@@ -28,24 +28,24 @@ abbrev pub names_processes : ℕ → StepId → Bool
 names_processes n (named.Step name) = is_among n name.p
 names_processes n (named.Lost copy) = is_among n copy.msg.s && is_among n copy.to
 
--- Among n processes this event, at place i from 0, is the one of the name.
+-- Among n processes this event, at position i from 0, is the one of the name.
 pub record IsEventNamed (n : ℕ) (history : List Event) (name : StepId) (i : ℕ) (event : Event) : Type 0 where
   pub among : names_processes n name ≡ true
   pub at : slice_get history i ≡ Some event
-  pub place : IsPlaceOf history name (suc i)
+  pub position : IsPositionOf history name (suc i)
 
 -- A standing event, where it stands, and what stood before and came later.
 pub record Found : Type 0 where
   pub event : Event
-  pub place : ℕ
+  pub position : ℕ
   pub earlier : List Event
   pub later : List Event
 
--- what stands at that place, from 0, if something does
+-- what stands at that position, from 0, if something does
 abbrev pub found_at : List Event → ℕ → Result Found Refusal
-found_at history place =
-    option_map_or (λ event. Ok (record { event = event; place = place; earlier = take place history; later = drop (suc place) history }))
-    (slice_get history place) (Err refusal.NoStep)
+found_at history position =
+    option_map_or (λ event. Ok (record { event = event; position = position; earlier = take position history; later = drop (suc position) history }))
+    (slice_get history position) (Err refusal.NoStep)
 
 -- the standing event of that name; the checks are that its processes are there, and that it stands
 abbrev pub event_named : ℕ → List Event → StepId → Result Found Refusal
@@ -65,7 +65,7 @@ IsFreeName history name = (i : ℕ) × IsNamedAt history i name × IsFree depend
 abbrev pub undo_found : List Event → Found → Result (Event × List Event) Refusal
 undo_found history found =
     option_map_or (λ dependent. Err (refusal.NeededBy (event_name dependent)))
-    (find (depends found.event) found.later) (Ok (found.event, without history found.place))
+    (find (depends found.event) found.later) (Ok (found.event, without history found.position))
 
 abbrev pub undo_of : ℕ → List Event → StepId → Result (Event × List Event) Refusal
 undo_of n history name = for_standing (event_named n history name) (undo_found history)
@@ -93,7 +93,7 @@ with_removed list (Err why) = list
 -- Rollback: the event and its consequences, the last first, and the history without them.
 abbrev pub rollback_of : ℕ → List Event → StepId → Result (List Event × List Event) Refusal
 rollback_of n history name =
-    for_standing (event_named n history name) (λ found. Ok (reverse (rolled_back depends history found.place), remaining depends history found.place))
+    for_standing (event_named n history name) (λ found. Ok (reverse (rolled_back depends history found.position), remaining depends history found.position))
 
 -- of the events, in their order, those on which the effect depends directly
 abbrev pub direct_among : List Event → Event → List Event

@@ -1,9 +1,10 @@
 //! What is asked of a run.
 
 ghost use Rattle.std.specs.Prelude.{◌≡◌, ◌≤◌, List, [], None, MatchResult, IfOk, OnErr, IsOk, Err, true, length, option_map, vec_capacity};
+ghost use Rattle.std.specs.Option.{option_copied};
 ghost use Rattle.std.specs.Result.{result_err};
 ghost use Rattle.cdb_base.specs.declared.event.Event.{Event};
-ghost use Rattle.cdb_rules.specs.ByRules.{answer_to_step, answer_to_again, answer_to_loss, process_in, mail_in, registers_in, decisions_in};
+ghost use Rattle.cdb_rules.specs.ByRules.{answer_to_step, answer_to_again, answer_to_loss, process_in, mail_in, registers_in, cell_in, decisions_in, IsInOrder};
 ghost use Rattle.cdb_rules.specs.RunView.{RunView};
 ghost use Rattle.cdb_rules.specs.Lawful.{AreLawful, KeepHistories};
 ghost use Rattle.cdb_rules.specs.Refusals.{IsOfRun};
@@ -12,12 +13,13 @@ ghost use Rattle.cdb_rules.specs.Runs.{RollsBackOnto, undo_answer, causes_in, wi
 ghost use Rattle.cdb_rules.specs.Step.{is_among};
 ghost use Rattle.cdb_rules.specs.EventRefs.{name_of};
 ghost use Rattle.cdb_rules.specs.Views.{seen_as, cells_of, all_open_copies};
-ghost use Rattle.cdb_message.specs.Mail.{next_pending};
+ghost use Rattle.cdb_message.specs.Mail.{next_pending, payload_of};
 ghost use Rattle.cdb_setup.specs.Parts.{Parts, AreInRange};
 
+use crate::chronicle::Chronicle;
 use crate::event_ref::EventRef;
 use crate::proc_view::ProcView;
-use cdb_base::{Act, Cell, Event, MsgName, NoMemory, Payload, Proc, Refusal, StepId, Val};
+use cdb_base::{Act, Cell, Event, MsgName, NoMemory, Payload, Proc, Refusal, Reg, StepId, Val};
 use cdb_setup::Setup;
 use smallvec::SmallVec;
 use std::alloc::Global;
@@ -95,6 +97,23 @@ pub trait Runs: Sized + Drop {
     /// What `step` would be refused with, if it would be.
     fn refuses(&self, p: u32, act: Act) -> Option<Refusal>
         ensures { result ≡ result_err (answer_to_step rules (run self.now) p act) };
+
+    /// The setup.
+    fn setup(&self) -> &Setup
+        ensures { result.now ≡ (run self.now).setup };
+
+    /// What stands in the run: each event was enabled in its turn. All else of the run is given up.
+    fn into_chronicle(self) -> Chronicle
+        ensures run { result ≡ run self }
+        ensures valid { IsInOrder rules (run self) };
+
+    /// The payload of a message, where it was sent.
+    fn payload(&self, name: MsgName) -> Option<&Payload>
+        ensures { option_copied result ≡ payload_of (mail_in rules (run self.now)) name };
+
+    /// What the register holds, where the run has it.
+    fn cell(&self, register: Reg) -> Option<Cell>
+        ensures { result ≡ cell_in rules (run self.now) register };
 
     /// How many processes there are.
     fn processes(&self) -> u8

@@ -1,11 +1,10 @@
 -- An enabled event joins a history.
 use Rattle.std.proofs.Common.{◌≡◌, ℕ, zero, suc, ◌≤◌, List, [], ◌∷◌, ◌++◌, length, Some, IsSome, option_and_then, option_map, sym, ap, ◌∙◌, subst, refl, arith}
 use Rattle.std.proofs.lemmas.Option.{none-some, slice_get-map, slice_get_within}
-use Rattle.cdb_base.specs.Places.{nth}
+use Rattle.cdb_base.specs.Positions.{nth}
 use Rattle.cdb_base.specs.Event.{event_name}
 use Rattle.cdb_base.specs.declared.event.Event.{Event}
 use Rattle.cdb_causal.specs.Names.{IsNewName}
-use Rattle.cdb_causal.specs.Paths.{IsPath}
 use Rattle.cdb_causal.specs.Standing.{IsStanding, HasNoLostCopy}
 use Rattle.cdb_causal.proofs.Lists.{push_front, push_back}
 use Rattle.cdb_causal.proofs.Reaches.{reached_push}
@@ -14,7 +13,6 @@ use Rattle.cdb_record.specs.Entries.{events_of}
 use Rattle.cdb_record.specs.declared.entry.Entry.{Entry}
 use Rattle.cdb_register.specs.Registers.{RegisterStates}
 use Rattle.cdb_run.specs.Current.{IsCurrent}
-use Rattle.cdb_run.specs.Recorded.{IsRecorded}
 use Rattle.cdb_rules.specs.State.{Machine, start}
 use Rattle.cdb_rules.specs.Step.{after, state_of}
 use Rattle.cdb_rules.specs.declared.progress.Progress.{Progress}
@@ -31,7 +29,7 @@ module _ (history : List Event) (event : Event) (standing : IsStanding (history 
   pub no_lost_copy : HasNoLostCopy history event
   no_lost_copy i copy at = standing.lost_after_sent i (length history) copy event (slice_get_within history i _ at) (push_front history event _ i at) (push_back history event)
 
--- what stands at a place, as an event
+-- what stands at a position, as an event
 pub nth_events : {B : Type 0} (entries : List (Entry B)) (at : ℕ) (entry : Entry B) → nth entries at ≡ Some entry → nth (events_of entries) at ≡ Some entry.event
 nth_events entries zero entry at = absurd (none-some entry at)
 nth_events {B} entries (suc i) entry at = slice_get-map (λ (x : Entry B). x.event) entries i ∙ ap (option_map (λ (x : Entry B). x.event)) at
@@ -45,16 +43,3 @@ enabled_standing {machine = machine} {history = history} current event enabled f
     (sym (reached_push (after machine) (start machine) history event ∙ ap (option_and_then (λ next. after machine next event)) (valid current)))
     (subst (λ state. IsSome (after machine state event)) (state_is current) enabled))
     few
-
--- what is held where nothing changed
-pub current_kept : {L B : Type 0} {machine : Machine L} {before : L → B → L} {processes : List (Progress L)} {mail left_mail : MailState} {registers : RegisterStates} {history left_history : List Event} {entries left_entries : List (Entry B)} (current : IsCurrent machine before processes mail registers history entries)
-    → left_mail ≡ mail → left_history ≡ history → left_entries ≡ entries → IsCurrent machine before processes left_mail registers left_history left_entries
-current_kept {machine = machine} {before = before} current mail_same history_same entries_same =
-    record {
-      state = current.state;
-      led = subst (λ l. IsPath (IsRecorded machine before) (start machine) l current.state) (sym entries_same) current.led;
-      processes_are = current.processes_are;
-      mail_is = mail_same ∙ current.mail_is;
-      registers_are = current.registers_are;
-      history_is = history_same ∙ current.history_is ∙ ap events_of (sym entries_same);
-    }

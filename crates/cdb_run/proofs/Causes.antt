@@ -24,9 +24,9 @@ use Rattle.cdb_rules.specs.State.{Machine}
 use Rattle.cdb_rules.specs.Step.{IsValid}
 use Rattle.cdb_rules.specs.Undo.{direct_among}
 use Rattle.cdb_rules.proofs.Kept.{is_false}
-use Rattle.cdb_rules.proofs.ListMembers.{nothing_in, place_in, in_filter, from_filter, filter_none, any_none, get-take, get_up_to, length_up_to, in_map, from_map, in_flat, from_flat}
+use Rattle.cdb_rules.proofs.ListMembers.{nothing_in, position_in, in_filter, from_filter, filter_none, any_none, get-take, get_up_to, length_up_to, in_map, from_map, in_flat, from_flat}
 use Rattle.cdb_rules.proofs.Mails.{not_true}
-use Rattle.cdb_rules.proofs.Naming.{in_cases, in_place, lost_unreceived, valid_standing}
+use Rattle.cdb_rules.proofs.Naming.{in_cases, in_position, lost_unreceived, valid_standing}
 use Rattle.cdb_rules.proofs.Taken.{both}
 
 -- Two rows of names with the same members, both in order, are one.
@@ -60,7 +60,7 @@ same_names (x ∷ xs) (y ∷ ys) a b to from =
 rising_names : (names : List StepId) → ((k l : ℕ) (name other : StepId) → k < l → slice_get names k ≡ Some name → slice_get names l ≡ Some other → ComesBefore name other) → IsRising names
 rising_names [] order = tt
 rising_names (x ∷ xs) order = (
-  λ y i. let at = place_in y xs i in order 0 (suc at.0) x y (omega arith) refl at.1,
+  λ y i. let at = position_in y xs i in order 0 (suc at.0) x y (omega arith) refl at.1,
   rising_names xs (λ k l name other less at_k at_l. order (suc k) (suc l) name other (omega (arith, less)) at_k at_l),
 )
 
@@ -114,7 +114,7 @@ module _ (effect : Event) where
       is_false (is_step_of p other)
       (λ of_p_too. true≢false
       (sym (ap₂ (λ a b. a && b) (same_process_depends p cause other of_p of_p_too) linked)
-      ∙ any_none (λ x. depends cause x && depends x effect) between none other (in_place between d.0 other d.1))))
+      ∙ any_none (λ x. depends cause x && depends x effect) between none other (in_position between d.0 other d.1))))
 
   one_of_process : (p : ℕ) (earlier : List Event) → IsShort (filter (is_step_of p) (direct_among earlier effect))
   one_of_process p [] = tt
@@ -235,8 +235,8 @@ module _ {L : Type 0} (machine : Machine L) (history : List Event) (valid : IsVa
   no_loss i j l copy is =
       let received = lost_received history standing j i l copy is in
       lost_unreceived machine history valid copy received.k
-      (in_place history i (Lost copy) (l.at_cause ∙ ap Some is))
-      (in_place history j _ (l.at_effect ∙ ap Some received.is))
+      (in_position history i (Lost copy) (l.at_cause ∙ ap Some is))
+      (in_position history j _ (l.at_effect ∙ ap Some received.is))
 
   process_of_cause : (i j : ℕ) (l : IsLink depends history i j) (event : Event) → l.cause ≡ event → (p : ℕ) × IsIn p all_processes × (is_step_of p event ≡ true)
   process_of_cause i j l (Step p k kind) is =
@@ -284,5 +284,5 @@ module _ {L : Type 0} (machine : Machine L) (history : List Event) (valid : IsVa
     causes_are names are =
         same_names names (row causes all_processes) (rising_names names are.in_order)
         (row_rises causes (λ p. one_of_process event p earlier) 0 all_processes processes_rise)
-        (λ name i. let k = place_in name names i in cause_in name (are.only k.0 name k.1))
-        (λ name i. let k = are.each name (in_cause name i) in in_place names k.0 name k.1)
+        (λ name i. let k = position_in name names i in cause_in name (are.only k.0 name k.1))
+        (λ name i. let k = are.each name (in_cause name i) in in_position names k.0 name k.1)

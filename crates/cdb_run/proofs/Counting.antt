@@ -1,12 +1,12 @@
 -- What the counts say of each register after one write more.
 use Rattle.std.proofs.Common.{◌≡◌, ℕ, zero, suc, ◌+◌, ◌<◌, true, false, List, [], ◌∷◌, length, slice_get, slice_set, slice_index, nat_eq, unwrap_or, if◌then◌else◌, refl, sym, ap, ◌∙◌, subst, true≢false, eq-eqb, eqb-true, arith}
-use Rattle.cdb_base.specs.Places.{nth}
+use Rattle.cdb_base.specs.Positions.{nth}
 use Rattle.cdb_base.specs.Registers.{same_register}
 use Rattle.cdb_base.specs.declared.register.Reg.{Reg}
 use Rattle.cdb_base.specs.declared.register.Reg.TheVariants.{R, Dec}
 use Rattle.cdb_run.specs.declared.own_steps.WriteCounts.{WriteCounts}
 use Rattle.cdb_run.specs.WriteCounts.{count_of}
-use Rattle.cdb_rules.proofs.Places.{nth-set_nth_other}
+use Rattle.cdb_rules.proofs.Positions.{nth-set_nth_other}
 
 raised_at : (xs : List ℕ) (i : ℕ) → i < length xs → unwrap_or (slice_get (slice_set xs i (slice_index xs i + 1)) i) 0 ≡ unwrap_or (slice_get xs i) 0 + 1
 raised_at [] i within = absurd (omega (arith, within))

@@ -1,24 +1,24 @@
 -- What is held of a run, before and after an event.
-use Rattle.std.proofs.Common.{◌≡◌, ℕ, zero, suc, ◌+◌, ◌<◌, ◌≤◌, true, false, not, ◌&&◌, if◌then◌else◌, List, [], ◌∷◌, ◌++◌, length, map, Option, Some, None, IsSome, option_and_then, option_map, unwrap_or, slice_set, get_or, refl, sym, ap, ap₂, ◌∙◌, subst, true≢false, arith}
+use Rattle.std.proofs.Common.{◌≡◌, ℕ, zero, suc, ◌+◌, ◌<◌, ◌≤◌, true, false, not, ◌&&◌, if◌then◌else◌, List, [], ◌∷◌, ◌++◌, length, map, Option, Some, None, IsSome, option_and_then, option_map, unwrap_or, get_or, refl, sym, ap, ap₂, ◌∙◌, subst, true≢false, arith}
 use Rattle.std.proofs.lemmas.List.{length-map}
 use Rattle.std.proofs.lemmas.Option.{same_Some, slice_get_read}
 use Rattle.std.proofs.lemmas.List.{map-append}
 use Rattle.std.specs.Option.{ForSome}
 use Rattle.std.proofs.lemmas.Bool.Decides.{nat_tests}
-use Rattle.cdb_base.specs.Places.{nth, set_nth}
+use Rattle.cdb_base.specs.Positions.{nth, set_nth}
 use Rattle.cdb_base.specs.declared.event.Event.{Event}
 use Rattle.cdb_base.specs.declared.event.Event.TheVariants.{Step, Lost}
 use Rattle.cdb_base.specs.declared.event.Kind.{Kind}
 use Rattle.cdb_base.specs.declared.event.Kind.TheVariants.{Write}
-use Rattle.cdb_base.specs.declared.register.Cell.{Cell}
 use Rattle.cdb_causal.specs.Paths.{IsPath}
 use Rattle.cdb_causal.specs.Reach.{reached}
 use Rattle.cdb_causal.proofs.Paths.{path_push}
 use Rattle.std.specs.FinSet as set
 use Rattle.cdb_base.specs.declared.name.CopyName.{CopyName}
 use Rattle.cdb_message.specs.Mail.{MailState, is_sent, is_received, is_lost, add_loss}
-use Rattle.cdb_record.specs.Entries.{events_of}
+use Rattle.cdb_record.specs.Entries.{events_of, entry_of}
 use Rattle.cdb_record.specs.declared.entry.Entry.{Entry}
+use Rattle.cdb_record.specs.declared.entry.Left.{Left}
 use Rattle.cdb_register.specs.Registers.{RegisterStates, register_of}
 use Rattle.cdb_register.specs.declared.RegisterState.{RegisterState}
 use Rattle.cdb_run.specs.Back.{put_back, overwritten_cell}
@@ -31,7 +31,7 @@ use Rattle.cdb_rules.specs.Step.{is_among, sight, sight_in, meets, is_due, input
 use Rattle.cdb_rules.specs.declared.progress.Progress.{Progress}
 use Rattle.cdb_rules.proofs.Bounds.{IsSound, event_sound, start_sound, writes_below}
 use Rattle.cdb_rules.proofs.Mails.{mail_left, postable, not_true}
-use Rattle.cdb_rules.proofs.Places.{nth-map, map-set_nth, set_at, get_at, set_nth_same, nth-set_nth_same, nth_within}
+use Rattle.cdb_rules.proofs.Positions.{nth-map, map-set_nth, get_at, nth-set_nth_same, nth_within}
 use Rattle.cdb_rules.proofs.Taken.{IsTaken, taken_from, parts, some_of, both, where_true}
 
 -- a write finds its register
@@ -117,11 +117,11 @@ module _ {L B : Type 0} {machine : Machine L} {before : L → B → L} where
       pub within : p ≤ length processes
       within = nth_within processes p taken.process.progress held_at
 
-      -- what stands at the place i from 0
+      -- what stands at the position i from 0
       pub held_there : (i : ℕ) (progress : Progress L) → i + 1 ≡ p → progress ≡ get_or processes i progress → nth processes p ≡ Some progress
-      held_there i progress place read =
-          let below : i < length processes = (let w = within in omega (arith, place, w)) in
-          sym (get_at processes i p place) ∙ slice_get_read processes (length processes) i progress refl below read
+      held_there i progress position read =
+          let below : i < length processes = (let w = within in omega (arith, position, w)) in
+          sym (get_at processes i p position) ∙ slice_get_read processes (length processes) i progress refl below read
 
       module _ (progress : Progress L) (held : nth processes p ≡ Some progress) where
         is : progress ≡ taken.process.progress
@@ -162,35 +162,21 @@ module _ {L B : Type 0} {machine : Machine L} {before : L → B → L} where
             (subst (λ (x : Progress L). IsWritable current.state.registers kind (machine.wish x.local)) (sym is)
             (writable_by machine taken.process (mail_of current.state) current.state.registers p kind a.due a.met (writes_below machine current.state sound few)))
 
-        -- what is held where a step was refused
-        pub current_same : (left_progress : Progress L) (i : ℕ) {left_mail : MailState} {left_registers : RegisterStates} {left_history : List Event} {left_entries : List (Entry B)}
-            → i + 1 ≡ p → left_progress ≡ progress → left_mail ≡ mail → left_registers ≡ registers → left_history ≡ history → left_entries ≡ entries
-            → IsCurrent machine before (slice_set processes i left_progress) left_mail left_registers left_history left_entries
-        current_same left_progress i place same mail_same registers_same history_same entries_same =
-            record {
-              state = current.state;
-              led = subst (λ l. IsPath (IsRecorded machine before) (start machine) l current.state) (sym entries_same) current.led;
-              processes_are = set_at processes i p left_progress place ∙ ap (set_nth processes p) same ∙ set_nth_same processes p progress held ∙ current.processes_are;
-              mail_is = mail_same ∙ current.mail_is;
-              registers_are = registers_same ∙ current.registers_are;
-              history_is = history_same ∙ current.history_is ∙ ap events_of (sym entries_same);
-            }
-
         -- what is held after the step
-        pub current_stepped : (left_progress : Progress L) (i : ℕ) {left_mail : MailState} {left_registers : RegisterStates} {left_history : List Event} (back : Option B) (overwritten : Option Cell) {left_entries : List (Entry B)}
-            → i + 1 ≡ p
+        pub current_stepped : (left_progress : Progress L) (kept : Left B) {left_processes : List (Progress L)} {left_mail : MailState} {left_registers : RegisterStates} {left_history : List Event} {left_entries : List (Entry B)}
+            → left_processes ≡ set_nth processes p left_progress
             → taken_local machine.next progress.local (input_of kind (sight mail registers p kind)) ≡ Some left_progress.local
             → left_progress ≡ progress_after progress kind left_progress.local
             → left_mail ≡ mail_after mail p kind (wished_payload (machine.wish progress.local))
             → left_registers ≡ registers_after registers kind (wished_cell (machine.wish progress.local))
-            → put_back before left_progress.local back ≡ progress.local
-            → overwritten ≡ overwritten_cell registers kind
+            → put_back before left_progress.local kept.back ≡ progress.local
+            → kept.overwritten ≡ overwritten_cell registers kind
             → left_history ≡ history ++ Step p k kind ∷ []
-            → left_entries ≡ entries ++ record { event = Step p k kind; back = back; overwritten = overwritten } ∷ []
-            → IsCurrent machine before (slice_set processes i left_progress) left_mail left_registers left_history left_entries
-        current_stepped left_progress i back overwritten {left_entries = left_entries} place next counted mail_left_is registers_left_is back_is overwritten_is history_left entries_left =
+            → left_entries ≡ entries ++ entry_of (Step p k kind) kept ∷ []
+            → IsCurrent machine before left_processes left_mail left_registers left_history left_entries
+        current_stepped left_progress kept {left_entries = left_entries} processes_left next counted mail_left_is registers_left_is back_is overwritten_is history_left entries_left =
             let event : Event = Step p k kind in
-            let entry : Entry B = record { event = event; back = back; overwritten = overwritten } in
+            let entry : Entry B = entry_of event kept in
             let process = taken.process in
             let left = process_after machine process p k kind (sight_in current.state p kind) taken.next in
             let to = reached_to.0 in
@@ -201,8 +187,8 @@ module _ {L B : Type 0} {machine : Machine L} {before : L → B → L} where
             record {
               leads = reached_to.1;
               back = λ was after_it at_was at_after.
-                  ap (λ (x : ProcessState L). put_back before x.progress.local back) (same_Some after_it left (sym at_after ∙ at_left))
-                  ∙ ap (λ local. put_back before local back) (sym local_is)
+                  ap (λ (x : ProcessState L). put_back before x.progress.local kept.back) (same_Some after_it left (sym at_after ∙ at_left))
+                  ∙ ap (λ local. put_back before local kept.back) (sym local_is)
                   ∙ back_is
                   ∙ ap (λ (x : Progress L). x.local) is
                   ∙ ap (λ (x : ProcessState L). x.progress.local) (same_Some process was (sym taken.at_process ∙ at_was));
@@ -212,7 +198,7 @@ module _ {L B : Type 0} {machine : Machine L} {before : L → B → L} where
               state = to;
               led = subst (λ l. IsPath (IsRecorded machine before) (start machine) l to) (sym entries_left) (path_push (IsRecorded machine before) (start machine) current.state to entries entry current.led recorded);
               processes_are =
-                  set_at processes i p left_progress place
+                  processes_left
                   ∙ ap₂ (λ l x. set_nth l p x) current.processes_are progress_left
                   ∙ sym (map-set_nth (λ (x : ProcessState L). x.progress) current.state.processes p left)
                   ∙ ap (λ (x : RunState L). map (λ (y : ProcessState L). y.progress) x.processes) taken.leads_to;

@@ -7,6 +7,7 @@ pub mod Records
 pub mod Restoring
 pub mod RollingBack
 pub mod SameRuns
+pub mod Stepping
 pub mod SentFirst
 pub mod Starting
 pub mod Views

@@ -4,7 +4,7 @@ use Rattle.std.proofs.Math.Seq.{take-append_seam}
 use Rattle.std.proofs.lemmas.List.{length_push}
 use Rattle.std.proofs.lemmas.Option.{same_Some, slice_get_read}
 use Rattle.std.specs.FinSet as set
-use Rattle.cdb_base.specs.Places.{nth, set_nth}
+use Rattle.cdb_base.specs.Positions.{nth, set_nth}
 use Rattle.cdb_base.specs.declared.event.Event.{Event}
 use Rattle.cdb_base.specs.declared.event.Event.TheVariants.{Step, Lost}
 use Rattle.cdb_base.specs.declared.event.Kind.{Kind}
@@ -40,7 +40,7 @@ use Rattle.cdb_rules.proofs.Kept.{is_false, left, at_left, lost_kept, received_k
 use Rattle.cdb_rules.proofs.Mails.{sent_is, mail_left}
 use Rattle.cdb_rules.proofs.Members.{now_lost, losable}
 use Rattle.cdb_rules.proofs.Numbers.{sends_of, send_number, received_first, received_now}
-use Rattle.cdb_rules.proofs.Places.{nth-map, nth-update_nth_same, map-set_nth, set_at, get_at, set_nth_same, nth-set_nth_same, nth_within}
+use Rattle.cdb_rules.proofs.Positions.{nth-map, nth-update_nth_same, map-set_nth, set_at, get_at, set_nth_same, nth-set_nth_same, nth_within}
 use Rattle.cdb_run.proofs.Records.{free_recorded_last}
 use Rattle.cdb_run.proofs.SentFirst.{IsSentFirst, sent_first}
 use Rattle.cdb_rules.proofs.Taken.{IsTaken, IsAccepted, taken_from, parts, some_of, both}
@@ -295,11 +295,11 @@ module _ {L B : Type 0} {machine : Machine L} {before : L → B → L} {processe
     pub stepped_within : p ≤ length processes
     stepped_within = nth_within processes p stands_now.progress stands_held
 
-    -- what stands at the place from 0
+    -- what stands at the position from 0
     pub stepped_there : (index : ℕ) (progress : Progress L) → index + 1 ≡ p → progress ≡ get_or processes index progress → nth processes p ≡ Some progress
-    stepped_there index progress place read =
-        let below : index < length processes = (let w = stepped_within in omega (arith, place, w)) in
-        sym (get_at processes index p place) ∙ slice_get_read processes (length processes) index progress refl below read
+    stepped_there index progress position read =
+        let below : index < length processes = (let w = stepped_within in omega (arith, position, w)) in
+        sym (get_at processes index p position) ∙ slice_get_read processes (length processes) index progress refl below read
 
     pub may_unpost : IsUnpostable mail p kind
     may_unpost = subst (λ m. IsUnpostable m p kind) (sym current.mail_is) (unpostable_by machine last current.state p k kind step_taken kind refl earlier_sent_first)
@@ -325,9 +325,9 @@ module _ {L B : Type 0} {machine : Machine L} {before : L → B → L} {processe
           → left_history ≡ without history i
           → left_entries ≡ without entries i
           → IsCurrent machine before (slice_set processes index left_progress) left_mail left_registers left_history left_entries
-      current_undone left_progress index place progress_left mail_left registers_left history_left entries_left =
+      current_undone left_progress index position progress_left mail_left registers_left history_left entries_left =
           current_left
-          (set_at processes index p left_progress place
+          (set_at processes index p left_progress position
           ∙ ap₂ (λ l x. set_nth l p x) current.processes_are (progress_left ∙ ap (λ (x : Progress L). progress_before before x kind entry.back) progress_is)
           ∙ processes_restored machine last current.state p k kind step_taken before entry.back step_leads_back)
           (mail_left ∙ ap (λ m. mail_before m p kind) current.mail_is ∙ mail_restored machine last current.state p k kind step_taken)

@@ -45,7 +45,7 @@ split (x ∷ xs) (r ∷ rest) name h =
       name_is = s.name_is;
     }
 
--- What is left to take back, by names, of the event at place i and its consequences, the first of which is that event; what
+-- What is left to take back, by names, of the event at position i and its consequences, the first of which is that event; what
 -- has been taken back stands at the end of the list into which it goes.
 pub record IsLeft (before : List Event) (i : ℕ) (into : List Event) (history : List Event) (names : List StepId) (taken : List Event) : Type 0 where
   pub event : Event
@@ -136,7 +136,7 @@ module _ (n : ℕ) (history : List Event) (name : StepId) (at : ℕ) (found : ev
 
   pub rolled_answer : rollback_of n history name ≡ Ok (reverse (rolled_back depends history (at - 1)), remaining depends history (at - 1))
   rolled_answer =
-      ap (λ f. for_standing f (λ stands. Ok (reverse (rolled_back depends history stands.place), remaining depends history stands.place)))
+      ap (λ f. for_standing f (λ stands. Ok (reverse (rolled_back depends history stands.position), remaining depends history stands.position)))
       (found ∙ found_is history (at - 1) found_event.0 found_event.1)
 
   pub number_answer : (number : ℕ) → number ≡ length (rolled_back depends history (at - 1)) → Ok number ≡ number_removed (answered (rollback_of n history name))

@@ -2,7 +2,7 @@
 use Rattle.std.proofs.Common.{◌≡◌, ℕ, true, false, ◌&&◌, ⊎_elim, List, [], ◌∷◌, Option, Some, None, nat_eq, is_some, option_map, unwrap_or, refl, sym, ap, ◌∙◌, subst, true≢false, arith}
 use Rattle.std.proofs.lemmas.Option.{same_Some}
 use Rattle.std.specs.FinSet as set
-use Rattle.cdb_base.specs.Places.{nth}
+use Rattle.cdb_base.specs.Positions.{nth}
 use Rattle.cdb_base.specs.declared.event.Event.{Event}
 use Rattle.cdb_base.specs.declared.event.Event.TheVariants.{Step, Lost}
 use Rattle.cdb_base.specs.declared.name.CopyName.{CopyName}
@@ -17,7 +17,7 @@ use Rattle.cdb_rules.proofs.Commutes.{lost_from}
 use Rattle.cdb_rules.proofs.Kept.{payload_kept, received_kept}
 use Rattle.cdb_rules.proofs.Members.{Reaches, first_step, losable, nth-fresh, start_unlost}
 use Rattle.cdb_rules.proofs.Numbers.{sends_of, send_number, arrived, lost_cases}
-use Rattle.cdb_rules.proofs.Places.{nth-map, nth_within}
+use Rattle.cdb_rules.proofs.Positions.{nth-map, nth_within}
 use Rattle.cdb_rules.proofs.SameState.{receives_it, sends_it}
 use Rattle.cdb_rules.proofs.Taken.{taken_from, both, some_of}
 

@@ -2,7 +2,7 @@
 use Rattle.std.proofs.Common.{◌≡◌, ℕ, zero, suc, ◌+◌, List, [], ◌∷◌, ◌++◌, length, map, replicate, drop, Some, slice_get, if◌then◌else◌, refl, sym, ap, ap₂, ◌∙◌, subst, add-one, append_assoc}
 use Rattle.std.proofs.lemmas.Option.{none-some, same_Some}
 use Rattle.std.specs.FinSet as set
-use Rattle.cdb_base.specs.Places.{nth}
+use Rattle.cdb_base.specs.Positions.{nth}
 use Rattle.cdb_base.specs.declared.event.Event.{Event}
 use Rattle.cdb_causal.specs.Paths.{IsPath}
 use Rattle.cdb_message.specs.Mail.{MailState, first_mail}
@@ -25,12 +25,12 @@ pub first_added : {L : Type 0} (first : ℕ → ℕ → ℕ → ℕ → L) (n q 
     → p ≡ i + 1 → nth values p ≡ Some value → local ≡ first p n q value → more ≡ made ++ fresh_progress local ∷ []
     → made ++ map fresh_progress (first_states first (i + 1) n q (drop i values)) ≡ whole
     → more ++ map fresh_progress (first_states first (i + 1 + 1) n q (drop (i + 1) values)) ≡ whole
-first_added first n q i p value values local made more whole place at local_is more_is before =
-    let suc_is : p ≡ suc i = place ∙ add-one i in
+first_added first n q i p value values local made more whole position at local_is more_is before =
+    let suc_is : p ≡ suc i = position ∙ add-one i in
     let value_at = subst (λ x. nth values x ≡ Some value) suc_is at in
     ap₂ (λ l j. l ++ map fresh_progress (first_states first j n q (drop (i + 1) values))) more_is (add-one (i + 1))
     ∙ append_assoc made (fresh_progress local ∷ []) (map fresh_progress (first_states first (suc (i + 1)) n q (drop (i + 1) values)))
-    ∙ ap (λ x. made ++ fresh_progress x ∷ map fresh_progress (first_states first (suc (i + 1)) n q (drop (i + 1) values))) (local_is ∙ ap (λ x. first x n q value) place)
+    ∙ ap (λ x. made ++ fresh_progress x ∷ map fresh_progress (first_states first (suc (i + 1)) n q (drop (i + 1) values))) (local_is ∙ ap (λ x. first x n q value) position)
     ∙ ap (λ j. made ++ fresh_progress (first (i + 1) n q value) ∷ map fresh_progress (first_states first (suc (i + 1)) n q (drop j values))) (add-one i)
     ∙ ap (λ l. made ++ map fresh_progress (first_states first (i + 1) n q l)) (sym (drop_at values i value value_at))
     ∙ before

@@ -5,7 +5,7 @@ use Rattle.std.specs.Option.{option_map_or}
 use Rattle.std.specs.Prelude.{IfSome}
 use Rattle.std.proofs.lemmas.Option.{none-some, same_Some, slice_get_read}
 use Rattle.std.proofs.lemmas.Bool.Decides.{nat_tests}
-use Rattle.cdb_base.specs.Places.{nth}
+use Rattle.cdb_base.specs.Positions.{nth}
 use Rattle.cdb_base.specs.declared.act.Act.{Act}
 use Rattle.cdb_base.specs.declared.event.Event.{Event}
 use Rattle.cdb_base.specs.declared.event.Event.TheVariants.{Step, Lost}
@@ -24,7 +24,7 @@ use Rattle.cdb_rules.specs.Step.{is_among, after, fold, state_of}
 use Rattle.cdb_rules.specs.declared.progress.Progress.{Progress}
 use Rattle.cdb_rules.proofs.Bounds.{IsBounded}
 use Rattle.cdb_run.proofs.Held.{valid, state_is, sound, count_is, process_there, process_absent, progress_at}
-use Rattle.cdb_rules.proofs.Places.{get_at}
+use Rattle.cdb_rules.proofs.Positions.{get_at}
 use Rattle.cdb_rules.proofs.Granted.{IsLawful}
 use Rattle.cdb_rules.proofs.Planned.{planned_enabled}
 use Rattle.cdb_setup.proofs.InRange.{answer_in_range}
@@ -32,14 +32,14 @@ use Rattle.cdb_setup.specs.Parts.{Parts, IsWithin, AreInRange, answer_of}
 
 module _ {L B : Type 0} {machine : Machine L} {before : L → B → L} {processes : List (Progress L)} {mail : MailState} {registers : RegisterStates} {history : List Event} {entries : List (Entry B)} (current : IsCurrent machine before processes mail registers history entries) (n : ℕ) (number : length machine.firsts ≡ n) where
   pub index_below : (i p : ℕ) → i + 1 ≡ p → p ≤ n → i < length processes
-  index_below i p place last = let count = count_is current in omega (arith, place, last, count, number)
+  index_below i p position last = let count = count_is current in omega (arith, position, last, count, number)
 
-  module _ (i p : ℕ) (progress : Progress L) (place : i + 1 ≡ p) (last : p ≤ n) (read : progress ≡ get_or processes i progress) where
+  module _ (i p : ℕ) (progress : Progress L) (position : i + 1 ≡ p) (last : p ≤ n) (read : progress ≡ get_or processes i progress) where
     held : nth processes p ≡ Some progress
-    held = sym (get_at processes i p place) ∙ slice_get_read processes (length processes) i progress refl (index_below i p place last) read
+    held = sym (get_at processes i p position) ∙ slice_get_read processes (length processes) i progress refl (index_below i p position last) read
 
     process_here : (process : ProcessState L) × (nth current.state.processes p ≡ Some process)
-    process_here = process_there current p (omega (arith, place)) (subst (λ m. p ≤ m) (sym number) last)
+    process_here = process_there current p (omega (arith, position)) (subst (λ m. p ≤ m) (sym number) last)
 
     is : progress ≡ process_here.0.progress
     is = progress_at current p process_here.0 progress process_here.1 held

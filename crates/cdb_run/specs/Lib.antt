@@ -5,4 +5,5 @@ pub mod WriteCounts
 pub mod Back
 pub mod Restored
 pub mod Recorded
+pub mod Stepped
 pub mod Current

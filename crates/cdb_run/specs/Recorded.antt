@@ -1,6 +1,6 @@
 -- Steps that are taken with a record from which they can be taken back.
 use Rattle.std.specs.Prelude.{◌≡◌, Option, Some, None}
-use Rattle.cdb_base.specs.Places.{nth}
+use Rattle.cdb_base.specs.Positions.{nth}
 use Rattle.cdb_base.specs.declared.event.Event.{Event}
 use Rattle.cdb_base.specs.declared.event.Event.TheVariants.{Step, Lost}
 use Rattle.cdb_base.specs.declared.register.Cell.{Cell}

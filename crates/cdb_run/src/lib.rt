@@ -16,6 +16,7 @@ mod plan;
 mod progress;
 mod restore;
 mod run;
+mod state;
 
 pub use cdb_base::Act;
 pub use cdb_rules::EventRef;

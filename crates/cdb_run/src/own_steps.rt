@@ -11,7 +11,7 @@ use cdb_causal::History;
 use cdb_rules::OwnEvent;
 use std::marker::Model;
 
-/// How many writes of each register stand before a place of a history.
+/// How many writes of each register stand before a position of a history.
 #[derive(Drop)]
 struct WriteCounts {
     of_processes: [usize; 9],
@@ -89,7 +89,7 @@ impl WriteCounts {
 #[derive(Drop)]
 struct Noted<'a> {
     history: &'a History,
-    place: usize,
+    position: usize,
     writes: WriteCounts,
 }
 
@@ -102,9 +102,9 @@ impl<'a> Model for Noted<'a> {
 
     ghost Value = { List OwnEvent };
 
-    ghost view = { λ x. noted (count_of x.writes) (drop x.place x.history.now) };
+    ghost view = { λ x. noted (count_of x.writes) (drop x.position x.history.now) };
 
-    ghost invariant = { λ x. (register : ARegister) → count_of x.writes register + length (drop x.place x.history.now) < 2 ^ 64 };
+    ghost invariant = { λ x. (register : ARegister) → count_of x.writes register + length (drop x.position x.history.now) < 2 ^ 64 };
 }
 
 impl<'a> Noted<'a> {
@@ -114,7 +114,7 @@ impl<'a> Noted<'a> {
         let _count = history.len();
         Noted {
             history,
-            place: 0,
+            position: 0,
             writes: WriteCounts::new(),
         }
     }
@@ -128,13 +128,13 @@ impl<'a> Iterator for Noted<'a> {
     ghost remaining = { item_count (λ left. left) };
 
     fn next(&mut self) -> Option<OwnEvent> {
-        if self.place >= self.history.len() {
+        if self.position >= self.history.len() {
             return None;
         }
-        let first = self.history.event(self.place);
+        let first = self.history.event(self.position);
         let writes_before = self.writes.met_by(first);
         self.writes.count(first);
-        self.place += 1;
+        self.position += 1;
         Some(OwnEvent {
             event: *first,
             writes_before,

@@ -3,11 +3,11 @@
 ghost use Rattle.std.specs.Prelude.{◌≡◌, ◌<◌};
 ghost use Rattle.cdb_run.specs.Restored.{progress_before, mail_before, registers_before, IsCountable, IsUnpostable, IsRestorable};
 
-use crate::change::Left;
 use crate::progress::give_back;
 use cdb_base::{Cell, Kind, MsgName, Proc};
 use cdb_message::mail::Mail;
 use cdb_process::Process;
+use cdb_record::Left;
 use cdb_register::Registers;
 use cdb_rules::Progress;
 

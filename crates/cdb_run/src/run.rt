@@ -1,19 +1,18 @@
 //! A run, with one current state and a record of each standing event.
 
-ghost use Rattle.std.specs.Prelude.{◌≡◌, ◌≤◌, ◌↔◌, [], ◌∷◌, ◌++◌, length, None, Some, is_some, IsSome, IsOk, IfOk, OnOk, OnErr, IfNone};
-ghost use Rattle.cdb_causal.specs.Standing.{IsStanding};
+ghost use Rattle.std.specs.Prelude.{◌≡◌, ◌≤◌, ◌↔◌, [], length, None, Some, is_some, IsSome, IsOk, IfOk, OnOk, OnErr, IfNone};
 ghost use Rattle.std.specs.Option.{option_copied};
 ghost use Rattle.std.specs.Result.{result_err};
 ghost use Rattle.cdb_message.specs.Mail.{next_pending, payload_of, is_lost};
-ghost use Rattle.cdb_record.specs.Entries.{events_of};
 ghost use Rattle.cdb_rules.specs.Refusals.{IsOfRun};
 ghost use Rattle.cdb_rules.specs.Runs.{IsNumberAmong, IsNext, IsInOrder, process_in, progress_in, alive_in, steps_in, queries_in, local_in, mail_in, registers_in, register_in, cell_in, writes_in, decisions_in, answer_to_step, answer_to_again, answer_to_loss, with_event, with_answer, IsJustTaken};
 
 use crate::among::process_among;
-use crate::change::change;
+use crate::change::lose;
 use crate::first::first_processes;
 use crate::plan::{plan, plan_again, plan_loss, plan_loss_again};
 use crate::progress::decided;
+use crate::state::State;
 use cdb_base::{
     Act, Cell, CopyName, Event, Kind, MsgName, NoMemory, Payload, Proc, Refusal, Reg, Val,
 };
@@ -22,7 +21,7 @@ use cdb_message::mail::Mail;
 use cdb_process::Process;
 use cdb_record::Records;
 use cdb_register::Registers;
-use cdb_rules::Progress;
+use cdb_rules::{Chronicle, Progress};
 use cdb_setup::{Algorithm, Setup};
 use std::alloc::Global;
 use std::marker::Model;
@@ -36,9 +35,7 @@ mod undo;
 #[derive(Drop)]
 pub struct Run<P: Process> {
     setup: Setup,
-    processes: Vec<Progress<P>>,
-    mail: Mail,
-    registers: Registers,
+    state: State<P>,
     records: Records<P::Back>,
 }
 
@@ -52,19 +49,8 @@ impl<P: Process> Model for Run<P> {
 
     ghost view = { λ run. record { setup = run.setup; history = events_of run.records } };
 
-    ghost invariant = { λ run. IsCurrent (machine_of P.table run.setup) P.before run.processes.items run.mail run.registers
-        (events_of run.records) run.records };
-}
-
-/// Adds an event to the records, with nothing yet to take it back by. Without memory they do not
-/// change.
-fn admit<B: Drop>(alloc: Global, records: &mut Records<B>, event: &Event) -> Result<(), NoMemory>
-    requires { IsStanding (events_of records.old ++ event.now ∷ []) }
-    ensures ok { OnOk result (records.new
-        ≡ records.old ++ record { event = event.now; back = None; overwritten = None } ∷ []) }
-    ensures err { OnErr result (records.new ≡ records.old) }
-{
-    records.push(alloc, *event)
+    ghost invariant = { λ run. IsCurrent (machine_of P.table run.setup) P.before run.state.processes.items run.state.mail
+        run.state.registers (events_of run.records) run.records };
 }
 
 impl<P: Process> Run<P> {
@@ -80,11 +66,14 @@ impl<P: Process> Run<P> {
             Algorithm::Alpha => n,
         };
         let registers = Registers::new(alloc, with_registers)?;
-        Ok(Run {
-            setup,
+        let state = State {
             processes,
             mail,
             registers,
+        };
+        Ok(Run {
+            setup,
+            state,
             records: Records::new(alloc),
         })
     }
@@ -97,25 +86,9 @@ impl<P: Process> Run<P> {
     {
         let _ranges = self.setup.n();
         let event = Event::Step { p, k, kind: *kind };
-        admit(alloc, &mut self.records, &event)?;
-        let progress = &mut self.processes[p.index()];
-        match change(
-            alloc,
-            progress,
-            &mut self.mail,
-            &mut self.registers,
-            p,
-            kind,
-        ) {
-            Ok(left) => {
-                self.records.set_last(left.back, left.overwritten);
-                Ok(())
-            }
-            Err(refused) => {
-                self.records.withdraw();
-                Err(refused)
-            }
-        }
+        self.records
+            .push_with(event, &mut self.state, |state| state.step(alloc, p, kind))?;
+        Ok(())
     }
 
     /// Takes an enabled loss. A refused growth changes nothing.
@@ -126,14 +99,10 @@ impl<P: Process> Run<P> {
     {
         let _ranges = self.setup.n();
         let event = Event::Lost(*copy);
-        admit(alloc, &mut self.records, &event)?;
-        match self.mail.lose(alloc, copy.to, copy.msg) {
-            Ok(()) => Ok(()),
-            Err(refused) => {
-                self.records.withdraw();
-                Err(refused)
-            }
-        }
+        let mail = &mut self.state.mail;
+        self.records
+            .push_with(event, mail, |mail| lose(alloc, mail, copy))?;
+        Ok(())
     }
 
     /// Takes an enabled event. A refused growth changes nothing.
@@ -165,7 +134,7 @@ impl<P: Process> Run<P> {
         ensures { progress_in P.table self.now p ≡ Some result.now }
     {
         let _ranges = self.setup.n();
-        &self.processes[p.index()]
+        &self.state.processes[p.index()]
     }
 
     /// What a step of process `p` returns.
@@ -177,11 +146,11 @@ impl<P: Process> Run<P> {
         let Some(process) = self.process(p) else {
             return Err(Refusal::NoProcess);
         };
-        let progress = &self.processes[process.index()];
+        let progress = &self.state.processes[process.index()];
         plan(
             &self.setup,
-            &self.mail,
-            &self.registers,
+            &self.state.mail,
+            &self.state.registers,
             progress,
             process,
             act,
@@ -229,18 +198,18 @@ impl<P: Process> Run<P> {
         let _ranges = self.setup.n();
         match event {
             Event::Step { p, k, kind } => {
-                let progress = &self.processes[p.index()];
+                let progress = &self.state.processes[p.index()];
                 plan_again(
                     &self.setup,
-                    &self.mail,
-                    &self.registers,
+                    &self.state.mail,
+                    &self.state.registers,
                     progress,
                     *p,
                     *k,
                     kind,
                 )
             }
-            Event::Lost(copy) => plan_loss_again(&self.setup, &self.mail, copy),
+            Event::Lost(copy) => plan_loss_again(&self.setup, &self.state.mail, copy),
         }
     }
 
@@ -299,7 +268,7 @@ impl<P: Process> Run<P> {
         ensures enabled { IfOk result (λ event. IsNext P.table self.now event) }
     {
         let _ranges = self.setup.n();
-        plan_loss(&self.setup, &self.mail, s, m, p)
+        plan_loss(&self.setup, &self.state.mail, s, m, p)
     }
 
     /// The setup of the run.
@@ -315,6 +284,15 @@ impl<P: Process> Run<P> {
         ensures valid { IsInOrder P.table self.now }
     {
         self.records.history()
+    }
+
+    /// What stands in the run: each event was enabled in its turn. All else of the run is given up.
+    pub fn into_chronicle(self) -> Chronicle
+        ensures run { result ≡ self }
+        ensures valid { IsInOrder P.table self }
+    {
+        let Run { setup, records, .. } = self;
+        Chronicle::new(setup, records.into_history())
     }
 
     /// Whether no crash of the process stands.
@@ -355,14 +333,14 @@ impl<P: Process> Run<P> {
         ensures receivers { length result.now.received ≡ self.now.setup.processes }
     {
         let _ranges = self.setup.n();
-        &self.mail
+        &self.state.mail
     }
 
     /// The registers as they stand.
     fn registers(&self) -> &Registers
         ensures { result.now ≡ registers_in P.table self.now }
     {
-        &self.registers
+        &self.state.registers
     }
 
     /// Whether the run has the register: Alpha alone has some.
@@ -416,6 +394,6 @@ impl<P: Process> Run<P> {
         ensures { IfOk result (λ found. found.items ≡ decisions_in P.table self.now) }
     {
         let _ranges = self.setup.n();
-        decided(alloc, &self.processes)
+        decided(alloc, &self.state.processes)
     }
 }

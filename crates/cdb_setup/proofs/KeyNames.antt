@@ -109,7 +109,7 @@ present : (found : Option Data) → is_none found ≡ false → ((value : Data) 
 present None e none = cc
 present (Some value) e none = none value refl
 
--- the keys of the places below n are there
+-- the keys of the positions below n are there
 abbrev AreThereBelow : Data → ℕ → Type 0
 AreThereBelow json n = (key : Key) → key_number key < n → IsThere json key
 

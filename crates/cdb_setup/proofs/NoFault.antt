@@ -20,7 +20,7 @@ module _ (n : ℕ) (inputs : List ℕ) (json : Data) (count : IsCount n json) (a
   inputs_each : HasOneEach key.Inputs (map whole inputs) json
   inputs_each = (at, subst (λ (m : ℕ). IsCount m json) (sym (length-map inputs whole ∙ len)) count)
 
-  pub no_bad_input : (place : ℕ) → ¬ Holds (BadInput place) json
+  pub no_bad_input : (position : ℕ) → ¬ Holds (BadInput position) json
   no_bad_input zero holds = holds (map whole inputs) inputs_each
   no_bad_input (suc i) holds =
       let same = one_list key.Inputs holds.0 (map whole inputs) json holds.2 inputs_each in
@@ -40,7 +40,7 @@ module _ (n : ℕ) (lists : List (List ℕ)) (json : Data) (count : IsCount n js
   lists_each : HasOneEach key.Oracle (map array_of_whole lists) json
   lists_each = (at, subst (λ (m : ℕ). IsCount m json) (sym (length-map lists array_of_whole ∙ len)) count)
 
-  pub no_bad_answer : (process place : ℕ) → ¬ Holds (BadOracle process place) json
+  pub no_bad_answer : (process position : ℕ) → ¬ Holds (BadOracle process position) json
   no_bad_answer zero zero holds = holds (map array_of_whole lists) lists_each
   no_bad_answer zero (suc k) holds = holds
   no_bad_answer (suc p) zero holds =

@@ -51,12 +51,12 @@ no_bad_quorum n q json count at within other is holds = absurd (omega arith)
 
 no_input : (n : ℕ) (inputs : List ℕ) (json : Data) → IsCount n json → HasAt key.Inputs (array_of_whole inputs) json → length inputs ≡ n → AllByRecursion (IsWithin 0 999999) inputs
     → (other : SetupFault) → rank other ≡ 8 → ¬ Holds other json
-no_input n inputs json count at len all (BadInput place) is holds = no_bad_input n inputs json count at len all place holds
+no_input n inputs json count at len all (BadInput position) is holds = no_bad_input n inputs json count at len all position holds
 no_input n inputs json count at len all other is holds = absurd (omega arith)
 
 no_answer : (n : ℕ) (lists : List (List ℕ)) (json : Data) → IsCount n json → HasAt key.Oracle (array_of (map array_of_whole lists)) json → length lists ≡ n
     → AllByRecursion (AllByRecursion (IsWithin 1 n)) lists → (other : SetupFault) → rank other ≡ 9 → ¬ Holds other json
-no_answer n lists json count at len all (BadOracle process place) is holds = no_bad_answer n lists json count at len all process place holds
+no_answer n lists json count at len all (BadOracle process position) is holds = no_bad_answer n lists json count at len all process position holds
 no_answer n lists json count at len all other is holds = absurd (omega arith)
 
 -- once the inputs are read, no fault of a rank up to theirs is left

@@ -37,7 +37,7 @@ stops_at low high values numbers i value there not_so read within = record {
   not_so = not_so;
 }
 
--- what a loop reads at a place stands there
+-- what a loop reads at a position stands there
 pub reads_value : {A B : Type 0} (seen : A → B) (items : List A) (i : ℕ) (item : A) → i < length items → item ≡ get_or items i item → slice_get (map seen items) i ≡ Some (seen item)
 reads_value seen items i item below read = slice_get-map seen items i ∙ ap (option_map seen) (slice_get_read items (length items) i item refl below read)
 

@@ -10,7 +10,7 @@ use Rattle.cdb_setup.specs.declared.key.Key.TheVariants as key
 use Rattle.cdb_setup.specs.declared.fault.SetupFault.{SetupFault}
 use Rattle.cdb_setup.specs.declared.fault.SetupFault.TheVariants.{NotJson, NotObject, UnknownKey, Missing, BadAlgorithm, BadCount, BadQuorum, BadInput, BadOracle, TooLong, BadVersion, NoMemory}
 use Rattle.cdb_setup.specs.Parts.{Parts}
-use Rattle.cdb_setup.specs.Format.{algorithm_name, whole, array_of, array_of_whole, HasVersion, IsSetupOf, IsJsonOf, StandsFor, longest}
+use Rattle.cdb_setup.specs.Format.{algorithm_name, whole, array_of, array_of_whole, HasVersion, IsSetupOf, IsJsonOf, Encodes, longest}
 use Rattle.cdb_setup.specs.Faults.{Holds, HoldsOf}
 use Rattle.cdb_setup.specs.Order.{IsFirstFault, IsBefore}
 use Rattle.cdb_setup.specs.Ranks.{IsFirstOf}
@@ -45,7 +45,7 @@ all_lifted (Ok setup) bytes json short is faults = tt
 all_lifted (Err fault) bytes json short is faults = λ differs. lifted fault bytes json short is (faults differs)
 
 pub all_stand : {A : Type 0} (parts : A → Parts) (result : Result A SetupFault) (bytes : List ℕ) (json : Data) → length bytes ≤ longest → IsJsonOf bytes json
-    → IfOk result (λ setup. IsSetupOf json (parts setup)) → IfOk result (λ setup. StandsFor bytes (parts setup))
+    → IfOk result (λ setup. IsSetupOf json (parts setup)) → IfOk result (λ setup. Encodes bytes (parts setup))
 all_stand parts (Ok setup) bytes json short is found = (short, json, is, found)
 all_stand parts (Err fault) bytes json short is found = tt
 
@@ -87,16 +87,16 @@ no_setup (Missing key.Version) json parts is holds = holds.0 refl
 no_setup BadAlgorithm json parts is holds = holds parts.algorithm is.algorithm
 no_setup BadCount json parts is holds = holds parts.processes (is.processes, is.ranges.processes)
 no_setup BadQuorum json parts is holds = holds parts.processes parts.quorum (is.processes, is.ranges.processes) is.quorum is.ranges.quorum
-no_setup (BadInput place) json parts is holds =
-    no_bad_input parts.processes parts.inputs json (is.processes, is.ranges.processes) is.inputs is.ranges.an_input_each is.ranges.inputs place holds
-no_setup (BadOracle process place) json parts is holds =
-    no_bad_answer parts.processes parts.answers json (is.processes, is.ranges.processes) is.answers is.ranges.a_list_each is.ranges.answers process place holds
+no_setup (BadInput position) json parts is holds =
+    no_bad_input parts.processes parts.inputs json (is.processes, is.ranges.processes) is.inputs is.ranges.an_input_each is.ranges.inputs position holds
+no_setup (BadOracle process position) json parts is holds =
+    no_bad_answer parts.processes parts.answers json (is.processes, is.ranges.processes) is.answers is.ranges.a_list_each is.ranges.answers process position holds
 no_setup BadVersion json parts is holds = no_bad_version parts.version json is.version is.ranges.version holds
 no_setup NotJson json parts is holds = holds
 no_setup TooLong json parts is holds = holds
 no_setup NoMemory json parts is holds = holds
 
-no_setup_of_bytes : (fault : SetupFault) (bytes : List ℕ) (parts : Parts) → StandsFor bytes parts → ¬ HoldsOf fault bytes
+no_setup_of_bytes : (fault : SetupFault) (bytes : List ℕ) (parts : Parts) → Encodes bytes parts → ¬ HoldsOf fault bytes
 no_setup_of_bytes fault bytes parts stands holds = no_setup fault stands.1 parts stands.3 (from_bytes fault bytes stands.1 stands.0 stands.2 holds)
 
 -- ---- what encodes a setup encodes no other
@@ -133,12 +133,12 @@ same_parts json s t a b =
     let answers : s.answers ≡ t.answers = lists_same s.answers t.answers (array_same (map array_of_whole s.answers) (map array_of_whole t.answers) (same_at (sym a.answers ∙ b.answers))) in
     same_fields s t version algorithm processes quorum inputs answers
 
-pub one_setup : (bytes : List ℕ) (s t : Parts) → StandsFor bytes s → StandsFor bytes t → s ≡ t
+pub one_setup : (bytes : List ℕ) (s t : Parts) → Encodes bytes s → Encodes bytes t → s ≡ t
 one_setup bytes s t a b = same_parts a.1 s t a.3 (subst (λ (d : Data). IsSetupOf d t) (one_value bytes b.1 a.1 b.2 a.2) b.3)
 
 -- what encodes a setup is answered, unless memory runs out
-pub only : (result : Result Parts SetupFault) (bytes : List ℕ) → IfOk result (λ setup. StandsFor bytes setup) → IfErr result (λ fault. fault ≢ NoMemory → IsFirstFault fault bytes)
-    → (setup : Parts) → StandsFor bytes setup → (result ≡ Ok setup) ⊎ (result ≡ Err NoMemory)
+pub only : (result : Result Parts SetupFault) (bytes : List ℕ) → IfOk result (λ setup. Encodes bytes setup) → IfErr result (λ fault. fault ≢ NoMemory → IsFirstFault fault bytes)
+    → (setup : Parts) → Encodes bytes setup → (result ≡ Ok setup) ⊎ (result ≡ Err NoMemory)
 only (Ok found) bytes stands faults setup other = inl (ap Ok (one_setup bytes found setup stands other))
 only (Err NoMemory) bytes stands faults setup other = inr refl
 only (Err fault) bytes stands faults setup other = absurd (no_setup_of_bytes fault bytes setup other (faults (λ e. cc)).holds)

@@ -73,6 +73,6 @@ abbrev pub IsJsonOf : List ℕ → Data → Type 0
 IsJsonOf bytes json = IsUtf8 bytes × (reading.read bytes ≡ Some json)
 
 -- the bytes are the text of the setup with these parts
-abbrev pub StandsFor : List ℕ → Parts → Type 0
-StandsFor bytes parts =
+abbrev pub Encodes : List ℕ → Parts → Type 0
+Encodes bytes parts =
     (length bytes ≤ longest) × (json : Data) × IsJsonOf bytes json × IsSetupOf json parts

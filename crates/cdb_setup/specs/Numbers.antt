@@ -36,11 +36,11 @@ fault_name TooLong = codes "TooLong"
 fault_name BadVersion = codes "BadVersion"
 fault_name NoMemory = codes "NoMemory"
 
--- after a space the key, the place, or the process and the place
+-- after a space the key, the position, or the process and the position
 abbrev pub setup_detail : SetupFault → List ℕ
 setup_detail (Missing key) = codes " " ++ name_of key
-setup_detail (BadInput place) = codes " " ++ decimal place
-setup_detail (BadOracle process place) = codes " " ++ decimal process ++ codes " " ++ decimal place
+setup_detail (BadInput position) = codes " " ++ decimal position
+setup_detail (BadOracle process position) = codes " " ++ decimal process ++ codes " " ++ decimal position
 setup_detail other = []
 
 -- out of memory is the one fault without a number

@@ -98,9 +98,9 @@ impl fmt::Display for SetupFault {
                 let key = key.name();
                 write!(f, "setup fault {number} {name} {key}")
             }
-            SetupFault::BadInput(place) => write!(f, "setup fault {number} {name} {place}"),
-            SetupFault::BadOracle(process, place) => {
-                write!(f, "setup fault {number} {name} {process} {place}")
+            SetupFault::BadInput(position) => write!(f, "setup fault {number} {name} {position}"),
+            SetupFault::BadOracle(process, position) => {
+                write!(f, "setup fault {number} {name} {process} {position}")
             }
             _ => write!(f, "setup fault {number} {name}"),
         }

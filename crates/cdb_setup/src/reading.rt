@@ -3,7 +3,7 @@
 ghost use Rattle.std.specs.Prelude.{◌≡◌, ◌<◌, length, Err, IfOk};
 ghost use Rattle.serde_json.specs.View.{view};
 ghost use Rattle.cdb_setup.specs.Faults.{IfFault};
-ghost use Rattle.cdb_setup.specs.Format.{IsSetupOf, StandsFor, longest};
+ghost use Rattle.cdb_setup.specs.Format.{IsSetupOf, Encodes, longest};
 ghost use Rattle.cdb_setup.specs.Order.{IsFirstFault};
 ghost use Rattle.cdb_setup.specs.Ranks.{IsFirstOf};
 
@@ -48,7 +48,7 @@ fn setup_of(alloc: Global, value: &Value) -> Result<Setup, SetupFault>
 
 /// The setup of which the bytes are the text, or their first fault.
 pub(crate) fn read(alloc: Global, bytes: &[u8]) -> Result<Setup, SetupFault>
-    ensures found { IfOk result (λ setup. StandsFor bytes.now setup) }
+    ensures found { IfOk result (λ setup. Encodes bytes.now setup) }
     ensures fault { IfFault result (λ fault. IsFirstFault fault bytes.now) }
     ensures too_long { longest < length bytes.now → result ≡ Err SetupFault.TooLong }
 {

@@ -3,7 +3,7 @@
 ghost use Rattle.std.specs.Cmp.Lexicographic.{pointwise};
 ghost use Rattle.std.specs.Prelude.{◌≡◌, ◌==◌, ◌⊎◌, ◌≤◌, ◌<◌, Some, Ok, Err, length, IfSome, IfOk};
 ghost use Rattle.std.specs.Option.{option_copied};
-ghost use Rattle.cdb_base.specs.Places.{nth};
+ghost use Rattle.cdb_base.specs.Positions.{nth};
 ghost use Rattle.cdb_setup.specs.Parts.{lists_in, number_at};
 
 use crate::fault::SetupFault;
@@ -51,7 +51,7 @@ impl Setup {
     ghost use Rattle.cdb_setup.specs.Parts.{Parts, IsWithin, AreInRange, AreValues};
     ghost use Rattle.cdb_setup.specs.Parts.{AreListsOfProcesses, lists_of, answer_of};
     ghost use Rattle.cdb_setup.specs.Faults.{IfFault};
-    ghost use Rattle.cdb_setup.specs.Format.{StandsFor, longest};
+    ghost use Rattle.cdb_setup.specs.Format.{Encodes, longest};
     ghost use Rattle.cdb_setup.specs.Order.{IsFirstFault};
 
     /// The setup of which the bytes are the text.
@@ -61,9 +61,9 @@ impl Setup {
     /// fails; a text that is too long needs none. An error leaves nothing allocated.
     pub fn read(alloc: Global, bytes: &[u8]) -> Result<Setup, SetupFault>
         // What is returned is the setup of which the bytes are the text.
-        ensures found { IfOk result (λ setup. StandsFor bytes.now setup) }
+        ensures found { IfOk result (λ setup. Encodes bytes.now setup) }
         // That setup is returned, unless memory runs out.
-        ensures only { (setup : Parts) → StandsFor bytes.now setup
+        ensures only { (setup : Parts) → Encodes bytes.now setup
             → (result ≡ Ok setup) ⊎ (result ≡ Err SetupFault.NoMemory) }
         // Any other fault is the first of the bytes.
         ensures fault { IfFault result (λ fault. IsFirstFault fault bytes.now) }

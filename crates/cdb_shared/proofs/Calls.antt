@@ -17,48 +17,48 @@ use Rattle.cdb_rules.specs.Rules.{Rules}
 use Rattle.cdb_setup.specs.Parts.{Parts}
 use Rattle.cdb_shared.specs.declared.knowledge.Stage.{Stage}
 use Rattle.cdb_shared.specs.declared.knowledge.Stage.TheVariants.{Spent, Resting, Holding}
-use Rattle.cdb_shared.specs.declared.knowledge.Place.{Place}
+use Rattle.cdb_shared.specs.declared.knowledge.KnownSeat.{KnownSeat}
 use Rattle.cdb_shared.specs.declared.knowledge.Story.{Story}
 use Rattle.cdb_shared.specs.declared.knowledge.Knowledge.{Knowledge}
-use Rattle.cdb_shared.specs.Turn.{story, longer, MayFollow, seats_after, resting, Knows, AllKnow, seen_at, seen_by, Taken, Given, MayGive, place_at, places_from, first_alone, without_first, joined}
-use Rattle.cdb_shared.specs.Passes.{is_resting, place_of, seat_of, IsPassFor}
+use Rattle.cdb_shared.specs.Turn.{story, longer, MayFollow, seats_after, resting, Knows, AllKnow, seen_at, seen_by, Taken, Given, MayGive, known_seat_at, known_seats_from, first_alone, without_first, joined}
+use Rattle.cdb_shared.specs.Passes.{is_resting, known_seat_of, seat_of, IsPassFor}
 use Rattle.cdb_shared.specs.Seats.{SeatView, IsLater, IsCall, SameCalls, RestsAt, IsKnownBy, SeesHeadline, HasHeadline, fresh_seat, fresh_seats}
 
 -- what one seat knows of the control that it took
-pub knows_one : (number : ℕ) (v : Knowledge) (c : Story) → IsPassFor number v → AllKnow c v.places → Knows c (place_of v.places)
-knows_one number v c one all = (subst (λ (ps : List Place). AllKnow c ps) one.only all).0
+pub knows_one : (number : ℕ) (v : Knowledge) (c : Story) → IsPassFor number v → AllKnow c v.known_seats → Knows c (known_seat_of v.known_seats)
+knows_one number v c one all = (subst (λ (ps : List KnownSeat). AllKnow c ps) one.only all).0
 
 -- an executed command, or a refused one, may be given back
 pub may_give : (rules : Parts → Rules) (number : ℕ) (v w : Knowledge) (c after : Journaled) (command : Command) (r : Result Reply CallFault) → IsPassFor number v → Taken v c w → IfOk r (λ _. after ≡ extended (rules c.setup) c number command) → OnErr r (after ≡ c) → MayGive w after
 may_give rules number v w c after command (Ok reply) one taken ok err =
     let is = taken.0 in (
       ap (λ (u : Knowledge). u.stage) is,
-      subst (λ (u : Knowledge). MayFollow u.held u.places (story after)) (sym is) (inr (place_of v.places, command, one.only, ap story ok ∙ ap (λ n. longer (story c) n command) (sym one.same))),
+      subst (λ (u : Knowledge). MayFollow u.held u.known_seats (story after)) (sym is) (inr (known_seat_of v.known_seats, command, one.only, ap story ok ∙ ap (λ n. longer (story c) n command) (sym one.same))),
     )
 may_give rules number v w c after command (Err fault) one taken ok err =
-    let is = taken.0 in (ap (λ (u : Knowledge). u.stage) is, subst (λ (u : Knowledge). MayFollow u.held u.places (story after)) (sym is) (inl (ap story err)))
+    let is = taken.0 in (ap (λ (u : Knowledge). u.stage) is, subst (λ (u : Knowledge). MayFollow u.held u.known_seats (story after)) (sym is) (inl (ap story err)))
 
 -- the journal has grown by no more than one command
 pub begins_after : (rules : Parts → Rules) (c after : Journaled) (number : ℕ) (command : Command) (r : Result Reply CallFault) (seen : List Entry) → IfOk r (λ _. after ≡ extended (rules c.setup) c number command) → OnErr r (after ≡ c) → Begins seen c.journal → Begins seen after.journal
 begins_after rules c after number command (Ok reply) seen ok err begins = subst (λ (y : Journaled). Begins seen y.journal) (sym ok) (Begins-push seen c.journal (entry number command) begins)
 begins_after rules c after number command (Err fault) seen ok err begins = subst (λ (y : Journaled). Begins seen y.journal) (sym err) begins
 
-later_of : (number : ℕ) (home home' : TableId) (v w x : Knowledge) (c after : Journaled) → home' ≡ home → IsPassFor number v → Taken v c w → Given w after x → Begins (place_of v.places).seen after.journal → IsLater (seat_of home v) (seat_of home' x)
+later_of : (number : ℕ) (home home' : TableId) (v w x : Knowledge) (c after : Journaled) → home' ≡ home → IsPassFor number v → Taken v c w → Given w after x → Begins (known_seat_of v.known_seats).seen after.journal → IsLater (seat_of home v) (seat_of home' x)
 later_of number home home' v w x c after same one taken given begins =
     let is = taken.0 in
-    let places = ap (λ (u : Knowledge). u.places) given ∙ ap (λ (u : Knowledge). seats_after u.held u.places (story after)) is ∙ ap (seen_by (story after)) one.only in
-    let mine = ap place_of places in
+    let known_seats = ap (λ (u : Knowledge). u.known_seats) given ∙ ap (λ (u : Knowledge). seats_after u.held u.known_seats (story after)) is ∙ ap (seen_by (story after)) one.only in
+    let mine = ap known_seat_of known_seats in
     record {
       home = same;
-      setup = ap (λ (p : Place). p.setup) mine;
-      seats = ap (λ (p : Place). p.seats) mine;
-      number = ap (λ (p : Place). p.number) mine;
+      setup = ap (λ (p : KnownSeat). p.setup) mine;
+      seats = ap (λ (p : KnownSeat). p.seats) mine;
+      number = ap (λ (p : KnownSeat). p.number) mine;
       rests = ap (λ (u : Knowledge). is_resting u.stage) given;
-      begins = subst (λ (l : List Entry). Begins (place_of v.places).seen l) (sym (ap (λ (p : Place). p.seen) mine)) begins;
+      begins = subst (λ (l : List Entry). Begins (known_seat_of v.known_seats).seen l) (sym (ap (λ (p : KnownSeat). p.seen) mine)) begins;
     }
 
 -- the seat, after the turn was given back
-pub later : (number : ℕ) (home home' : TableId) (v w x : Knowledge) (c after : Journaled) (old : SeatView) → seat_of home v ≡ old → home' ≡ home → IsPassFor number v → Taken v c w → Given w after x → Begins (place_of v.places).seen after.journal → IsLater old (seat_of home' x)
+pub later : (number : ℕ) (home home' : TableId) (v w x : Knowledge) (c after : Journaled) (old : SeatView) → seat_of home v ≡ old → home' ≡ home → IsPassFor number v → Taken v c w → Given w after x → Begins (known_seat_of v.known_seats).seen after.journal → IsLater old (seat_of home' x)
 later number home home' v w x c after old is same one taken given begins = subst (λ (s : SeatView). IsLater s (seat_of home' x)) is (later_of number home home' v w x c after same one taken given begins)
 
 rests_stage : (stage : Stage) → is_resting stage ≡ true → stage ≡ Resting
@@ -71,45 +71,45 @@ pub rests_of : (home : TableId) (v : Knowledge) (seat : SeatView) → seat_of ho
 rests_of home v seat is rests = rests_stage v.stage (ap (λ (s : SeatView). s.rests) is ∙ rests)
 
 -- the next seat to be dealt
-pub places_from-next : (c : Journaled) (dealt count : ℕ) → dealt < count → places_from (story c) (dealt + 1) (count - dealt) ≡ place_at (story c) (dealt + 1) ∷ places_from (story c) (dealt + 1 + 1) (count - (dealt + 1))
-places_from-next c dealt count low =
+pub known_seats_from-next : (c : Journaled) (dealt count : ℕ) → dealt < count → known_seats_from (story c) (dealt + 1) (count - dealt) ≡ known_seat_at (story c) (dealt + 1) ∷ known_seats_from (story c) (dealt + 1 + 1) (count - (dealt + 1))
+known_seats_from-next c dealt count low =
     let e : count - dealt ≡ suc (count - (dealt + 1)) = omega arith in
-    ap (places_from (story c) (dealt + 1)) e
+    ap (known_seats_from (story c) (dealt + 1)) e
 
 -- the pass of the next seat, and that of the others
-pub dealt_pass : (c : Journaled) (dealt count : ℕ) (v alone : Knowledge) → dealt < count → count ≤ c.seats → v ≡ resting (places_from (story c) (dealt + 1) (count - dealt)) → alone ≡ first_alone v → IsPassFor (dealt + 1) alone
+pub dealt_pass : (c : Journaled) (dealt count : ℕ) (v alone : Knowledge) → dealt < count → count ≤ c.seats → v ≡ resting (known_seats_from (story c) (dealt + 1) (count - dealt)) → alone ≡ first_alone v → IsPassFor (dealt + 1) alone
 dealt_pass c dealt count v alone low most is cut =
-    let next : alone ≡ resting (place_at (story c) (dealt + 1) ∷ []) = cut ∙ ap first_alone (is ∙ ap resting (places_from-next c dealt count low)) in
+    let next : alone ≡ resting (known_seat_at (story c) (dealt + 1) ∷ []) = cut ∙ ap first_alone (is ∙ ap resting (known_seats_from-next c dealt count low)) in
     subst (IsPassFor (dealt + 1)) (sym next) (record { only = refl; same = refl; from_one = omega arith; to_last = omega arith })
 
-pub dealt_rest : (c : Journaled) (dealt count : ℕ) (v left : Knowledge) → dealt < count → v ≡ resting (places_from (story c) (dealt + 1) (count - dealt)) → left ≡ without_first v → left ≡ resting (places_from (story c) (dealt + 1 + 1) (count - (dealt + 1)))
-dealt_rest c dealt count v left low is cut = cut ∙ ap without_first (is ∙ ap resting (places_from-next c dealt count low))
+pub dealt_rest : (c : Journaled) (dealt count : ℕ) (v left : Knowledge) → dealt < count → v ≡ resting (known_seats_from (story c) (dealt + 1) (count - dealt)) → left ≡ without_first v → left ≡ resting (known_seats_from (story c) (dealt + 1 + 1) (count - (dealt + 1)))
+dealt_rest c dealt count v left low is cut = cut ∙ ap without_first (is ∙ ap resting (known_seats_from-next c dealt count low))
 
 -- the seat of the pass that was dealt
-pub dealt_seat : (home home' : TableId) (c : Journaled) (dealt count : ℕ) (v alone : Knowledge) → dealt < count → v ≡ resting (places_from (story c) (dealt + 1) (count - dealt)) → alone ≡ first_alone v → home ≡ home' → seat_of home alone ≡ fresh_seat home' c (1 + dealt)
+pub dealt_seat : (home home' : TableId) (c : Journaled) (dealt count : ℕ) (v alone : Knowledge) → dealt < count → v ≡ resting (known_seats_from (story c) (dealt + 1) (count - dealt)) → alone ≡ first_alone v → home ≡ home' → seat_of home alone ≡ fresh_seat home' c (1 + dealt)
 dealt_seat home home' c dealt count v alone low is cut same =
-    let next : alone ≡ resting (place_at (story c) (dealt + 1) ∷ []) = cut ∙ ap first_alone (is ∙ ap resting (places_from-next c dealt count low)) in
+    let next : alone ≡ resting (known_seat_at (story c) (dealt + 1) ∷ []) = cut ∙ ap first_alone (is ∙ ap resting (known_seats_from-next c dealt count low)) in
     let one : dealt + 1 ≡ 1 + dealt = omega arith in
     (λ i. seat_of (same i) (next i)) ∙ ap (fresh_seat home' c) one
 
 pub fresh_seats-push : (shared : TableId) (c : Journaled) (first n : ℕ) → fresh_seats shared c first (n + 1) ≡ fresh_seats shared c first n ++ fresh_seat shared c (first + n) ∷ []
 fresh_seats-push shared c first n = map-range_with_len_more (fresh_seat shared c) first n (first + n) refl
 
-AllKnow-parts : (c : Story) (ps qs : List Place) → AllKnow c (ps ++ qs) → AllKnow c ps × AllKnow c qs
+AllKnow-parts : (c : Story) (ps qs : List KnownSeat) → AllKnow c (ps ++ qs) → AllKnow c ps × AllKnow c qs
 AllKnow-parts c [] qs all = (tt, all)
 AllKnow-parts c (p ∷ ps) qs all = let rest = AllKnow-parts c ps qs all.1 in ((all.0, rest.0), rest.1)
 
 -- a seat knows what its pass knows
-pub known_by : (home : TableId) (number : ℕ) (u : Knowledge) (seat : SeatView) (c : Journaled) → IsPassFor number u → seat_of home u ≡ seat → AllKnow (story c) u.places → IsKnownBy c seat
+pub known_by : (home : TableId) (number : ℕ) (u : Knowledge) (seat : SeatView) (c : Journaled) → IsPassFor number u → seat_of home u ≡ seat → AllKnow (story c) u.known_seats → IsKnownBy c seat
 known_by home number u seat c one is all =
     let knows = knows_one number u (story c) one all in
     let known : IsKnownBy c (seat_of home u) = record { setup = knows.setup; seats = knows.seats; begins = knows.begins; calls = knows.calls } in
     subst (IsKnownBy c) is known
 
 -- a seat whose pass was taken in knows what the joined pass knows
-pub known_joined : (home : TableId) (v u w : Knowledge) (number : ℕ) (seat : SeatView) (c : Journaled) → IsPassFor number u → seat_of home u ≡ seat → w ≡ joined v u → AllKnow (story c) w.places → AllKnow (story c) v.places × IsKnownBy c seat
+pub known_joined : (home : TableId) (v u w : Knowledge) (number : ℕ) (seat : SeatView) (c : Journaled) → IsPassFor number u → seat_of home u ≡ seat → w ≡ joined v u → AllKnow (story c) w.known_seats → AllKnow (story c) v.known_seats × IsKnownBy c seat
 known_joined home v u w number seat c one is both all =
-    let parts = AllKnow-parts (story c) u.places v.places (subst (λ (x : Knowledge). AllKnow (story c) x.places) both all) in
+    let parts = AllKnow-parts (story c) u.known_seats v.known_seats (subst (λ (x : Knowledge). AllKnow (story c) x.known_seats) both all) in
     (parts.1, known_by home number u seat c one is parts.0)
 
 pub known_push : (c : Journaled) (front back : List SeatView) (seat : SeatView) → back ≡ front ++ seat ∷ [] → All (IsKnownBy c) front → IsKnownBy c seat → All (IsKnownBy c) back
@@ -142,30 +142,30 @@ pub rest_dealt : (shared : TableId) (c : Journaled) (n : ℕ) (seats : List Seat
 rest_dealt shared c n seats is = subst (λ (l : List SeatView). All (λ seat. RestsAt shared seat) l) (sym is) (rest_fresh shared c 1 n)
 
 -- the pass that took another in, after it had the turn
-pub met_pass : (n m : ℕ) (u v j w x : Knowledge) (c : Journaled) → IsPassFor n u → IsPassFor m v → j ≡ joined v u → Taken j c w → Given w c x → x ≡ resting (seen_at (story c) (place_of u.places) ∷ seen_at (story c) (place_of v.places) ∷ [])
+pub met_pass : (n m : ℕ) (u v j w x : Knowledge) (c : Journaled) → IsPassFor n u → IsPassFor m v → j ≡ joined v u → Taken j c w → Given w c x → x ≡ resting (seen_at (story c) (known_seat_of u.known_seats) ∷ seen_at (story c) (known_seat_of v.known_seats) ∷ [])
 met_pass n m u v j w x c one two is taken given =
-    given ∙ ap (λ (k : Knowledge). resting (seats_after k.held k.places (story c))) taken.0 ∙ ap (λ (k : Knowledge). resting (seen_by (story c) k.places)) is
+    given ∙ ap (λ (k : Knowledge). resting (seats_after k.held k.known_seats (story c))) taken.0 ∙ ap (λ (k : Knowledge). resting (seen_by (story c) k.known_seats)) is
     ∙ (λ i. resting (seen_by (story c) (one.only i ++ two.only i)))
 
-pub met_known : (n m : ℕ) (u v j w : Knowledge) (c : Journaled) → IsPassFor n u → IsPassFor m v → j ≡ joined v u → Taken j c w → Knows (story c) (place_of u.places) × Knows (story c) (place_of v.places)
+pub met_known : (n m : ℕ) (u v j w : Knowledge) (c : Journaled) → IsPassFor n u → IsPassFor m v → j ≡ joined v u → Taken j c w → Knows (story c) (known_seat_of u.known_seats) × Knows (story c) (known_seat_of v.known_seats)
 met_known n m u v j w c one two is taken =
-    let all = subst (λ (k : Knowledge). AllKnow (story c) k.places) is taken.1 in
-    let both = subst (λ (ps : List Place). AllKnow (story c) ps) (λ i. one.only i ++ two.only i) all in
+    let all = subst (λ (k : Knowledge). AllKnow (story c) k.known_seats) is taken.1 in
+    let both = subst (λ (ps : List KnownSeat). AllKnow (story c) ps) (λ i. one.only i ++ two.only i) all in
     (both.0, both.1.0)
 
 -- a seat of the pass that met
-pub met_later : (home home' : TableId) (v y : Knowledge) (c : Journaled) (b : SeatView) → seat_of home v ≡ b → home' ≡ home → Knows (story c) (place_of v.places) → y ≡ resting (seen_at (story c) (place_of v.places) ∷ []) → IsLater b (seat_of home' y) × SameCalls b (seat_of home' y).seen
+pub met_later : (home home' : TableId) (v y : Knowledge) (c : Journaled) (b : SeatView) → seat_of home v ≡ b → home' ≡ home → Knows (story c) (known_seat_of v.known_seats) → y ≡ resting (seen_at (story c) (known_seat_of v.known_seats) ∷ []) → IsLater b (seat_of home' y) × SameCalls b (seat_of home' y).seen
 met_later home home' v y c b is same known after =
-    let it : seat_of home' y ≡ seat_of home (resting (seen_at (story c) (place_of v.places) ∷ [])) = λ i. seat_of (same i) (after i) in
+    let it : seat_of home' y ≡ seat_of home (resting (seen_at (story c) (known_seat_of v.known_seats) ∷ [])) = λ i. seat_of (same i) (after i) in
     subst (λ (s : SeatView × SeatView). IsLater s.0 s.1 × SameCalls s.0 s.1.seen) (λ i. (is i, sym it i))
     (record { home = refl; setup = refl; seats = refl; number = refl; rests = refl; begins = known.begins }, known.calls)
 
 -- what the one has seen is a beginning of what the other has
-pub met_begins : (home : TableId) (u v y z : Knowledge) (c : Journaled) (a : SeatView) → seat_of home u ≡ a → Knows (story c) (place_of u.places) → y ≡ resting (seen_at (story c) (place_of u.places) ∷ []) → z ≡ resting (seen_at (story c) (place_of v.places) ∷ [])
-    → Begins (place_of y.places).seen (place_of z.places).seen × SameCalls a (place_of z.places).seen
+pub met_begins : (home : TableId) (u v y z : Knowledge) (c : Journaled) (a : SeatView) → seat_of home u ≡ a → Knows (story c) (known_seat_of u.known_seats) → y ≡ resting (seen_at (story c) (known_seat_of u.known_seats) ∷ []) → z ≡ resting (seen_at (story c) (known_seat_of v.known_seats) ∷ [])
+    → Begins (known_seat_of y.known_seats).seen (known_seat_of z.known_seats).seen × SameCalls a (known_seat_of z.known_seats).seen
 met_begins home u v y z c a is known first second =
-    let one : (place_of y.places).seen ≡ c.journal = ap (λ (k : Knowledge). (place_of k.places).seen) first in
-    let two : (place_of z.places).seen ≡ c.journal = ap (λ (k : Knowledge). (place_of k.places).seen) second in (
+    let one : (known_seat_of y.known_seats).seen ≡ c.journal = ap (λ (k : Knowledge). (known_seat_of k.known_seats).seen) first in
+    let two : (known_seat_of z.known_seats).seen ≡ c.journal = ap (λ (k : Knowledge). (known_seat_of k.known_seats).seen) second in (
       subst (λ (l : List Entry × List Entry). Begins l.0 l.1) (λ i. (sym one i, sym two i)) (Begins-refl c.journal),
       subst (λ (s : SeatView × List Entry). SameCalls s.0 s.1) (λ i. (is i, sym two i)) known.calls,
     )
@@ -173,14 +173,14 @@ met_begins home u v y z c a is known first second =
 call_at : (rules : Parts → Rules) (number : ℕ) (home home' : TableId) (v w x : Knowledge) (c after : Journaled) (command : Command) (reply : Answer) → IsPassFor number v → Taken v c w → Given w after x
     → reply ≡ answer (rules c.setup) (state_of (rules c.setup) c) number command → after ≡ extended (rules c.setup) c number command → IsCall rules (seat_of home v) command reply (seat_of home' x)
 call_at rules number home home' v w x c after command reply one taken given answered extends =
-    let p = place_of v.places in
+    let p = known_seat_of v.known_seats in
     let known = knows_one number v (story c) one taken.1 in
-    let mine = ap place_of (ap (λ (u : Knowledge). u.places) given ∙ ap (λ (u : Knowledge). seats_after u.held u.places (story after)) taken.0 ∙ ap (seen_by (story after)) one.only) in
+    let mine = ap known_seat_of (ap (λ (u : Knowledge). u.known_seats) given ∙ ap (λ (u : Knowledge). seats_after u.held u.known_seats (story after)) taken.0 ∙ ap (seen_by (story after)) one.only) in
     record {
       journal = c.journal;
       begins = known.begins;
       calls = known.calls;
-      entry = ap (λ (q : Place). q.seen) mine ∙ ap (λ (y : Journaled). y.journal) extends ∙ ap (λ n. c.journal ++ entry n command ∷ []) (sym one.same);
+      entry = ap (λ (q : KnownSeat). q.seen) mine ∙ ap (λ (y : Journaled). y.journal) extends ∙ ap (λ n. c.journal ++ entry n command ∷ []) (sym one.same);
       reply = answered ∙ (λ i. answer (rules (known.setup i)) (replay (rules (known.setup i)) (known.setup i) (known.seats i) c.journal) (sym one.same i) command);
     }
 
@@ -201,9 +201,9 @@ pub sees_headline : (rules : Parts → Rules) (SameState : Parts → List Event 
     → IfOk r (λ _. after ≡ extended (rules c.setup) c number command) → OnErr r (after ≡ c) → HasHeadline rules SameState after → SeesHeadline rules SameState (seat_of home' x)
 sees_headline rules SameState number home' v w x c after command r one taken given ok err headline =
     let known = knows_one number v (story c) one taken.1 in
-    let mine = ap place_of (ap (λ (u : Knowledge). u.places) given ∙ ap (λ (u : Knowledge). seats_after u.held u.places (story after)) taken.0 ∙ ap (seen_by (story after)) one.only) in
+    let mine = ap known_seat_of (ap (λ (u : Knowledge). u.known_seats) given ∙ ap (λ (u : Knowledge). seats_after u.held u.known_seats (story after)) taken.0 ∙ ap (seen_by (story after)) one.only) in
     let parts = same_parts rules c after number command r ok err in
-    let setup = parts.0 ∙ known.setup ∙ sym (ap (λ (q : Place). q.setup) mine) in
-    let seats = parts.1 ∙ known.seats ∙ sym (ap (λ (q : Place). q.seats) mine) in
-    let seen = sym (ap (λ (q : Place). q.seen) mine) in
+    let setup = parts.0 ∙ known.setup ∙ sym (ap (λ (q : KnownSeat). q.setup) mine) in
+    let seats = parts.1 ∙ known.seats ∙ sym (ap (λ (q : KnownSeat). q.seats) mine) in
+    let seen = sym (ap (λ (q : KnownSeat). q.seen) mine) in
     subst (λ (y : Parts × ℕ × List Entry). Headline rules SameState y.0 y.1 y.2) (λ i. (setup i, seats i, seen i)) headline

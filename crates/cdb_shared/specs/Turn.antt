@@ -7,7 +7,7 @@ use Rattle.cdb_control.specs.declared.command.Command.{Command}
 use Rattle.cdb_control.specs.Journal.{Journaled, Begins, entry, own}
 use Rattle.cdb_shared.specs.declared.knowledge.Stage.{Stage}
 use Rattle.cdb_shared.specs.declared.knowledge.Stage.TheVariants.{Spent, Resting, Holding}
-use Rattle.cdb_shared.specs.declared.knowledge.Place.{Place}
+use Rattle.cdb_shared.specs.declared.knowledge.KnownSeat.{KnownSeat}
 use Rattle.cdb_shared.specs.declared.knowledge.Story.{Story}
 use Rattle.cdb_shared.specs.declared.knowledge.Knowledge.{Knowledge}
 
@@ -21,32 +21,32 @@ longer c seat command = record c { journal = c.journal ++ entry seat command ∷
 
 -- the first pass, until it gives the turn back: it holds the control that is handed in
 abbrev pub opening : Knowledge
-opening = record { stage = Holding; places = []; held = None }
+opening = record { stage = Holding; known_seats = []; held = None }
 
 -- a pass that another took in
 abbrev pub spent : Knowledge
-spent = record { stage = Spent; places = []; held = None }
+spent = record { stage = Spent; known_seats = []; held = None }
 
 -- a pass that has not the turn
-abbrev pub resting : List Place → Knowledge
-resting places = record { stage = Resting; places = places; held = None }
+abbrev pub resting : List KnownSeat → Knowledge
+resting known_seats = record { stage = Resting; known_seats = known_seats; held = None }
 
 -- a pass that has this control
-abbrev pub holding : List Place → Story → Knowledge
-holding places c = record { stage = Holding; places = places; held = Some c }
+abbrev pub holding : List KnownSeat → Story → Knowledge
+holding known_seats c = record { stage = Holding; known_seats = known_seats; held = Some c }
 
 -- The control has the setup and the number of seats that the seat knows. Its journal begins with what the seat
 -- has seen, and has of the seat's calls just those.
-pub record Knows (c : Story) (p : Place) : Type 0 where
+pub record Knows (c : Story) (p : KnownSeat) : Type 0 where
   pub setup : c.setup ≡ p.setup
   pub seats : c.seats ≡ p.seats
   pub begins : Begins p.seen c.journal
   pub calls : own p.number c.journal ≡ own p.number p.seen
 
-abbrev pub AllKnow : Story → List Place → Type 0
-AllKnow c places = AllByRecursion (Knows c) places
+abbrev pub AllKnow : Story → List KnownSeat → Type 0
+AllKnow c known_seats = AllByRecursion (Knows c) known_seats
 
--- the two places of a control
+-- where the control is: in the queue, or held by a pass
 pub data Turn : Type 0 where
   InQueue : Turn
   HeldBy : ℕ → Turn
@@ -64,18 +64,18 @@ IsHeld (HeldBy pass) views = (v : Knowledge) × (get_elem? views pass ≡ some v
 -- what a pass knows of the control
 abbrev pub FitsAt : Stage → Story → Turn → ℕ → Knowledge → Type 0
 FitsAt Spent c turn pass v = Unit {0}
-FitsAt Resting c turn pass v = AllKnow c v.places
-FitsAt Holding c turn pass v = AllKnow c v.places × (turn ≡ HeldBy pass) × (v.held ≡ Some c)
+FitsAt Resting c turn pass v = AllKnow c v.known_seats
+FitsAt Holding c turn pass v = AllKnow c v.known_seats × (turn ≡ HeldBy pass) × (v.held ≡ Some c)
 
 -- how many seats of this number are among these
-abbrev pub count_of : ℕ → List Place → ℕ
+abbrev pub count_of : ℕ → List KnownSeat → ℕ
 count_of number [] = 0
 count_of number (p ∷ ps) = (if p.number == number then 1 else 0) + count_of number ps
 
 -- the same over all passes
 abbrev pub total_of : ℕ → List Knowledge → ℕ
 total_of number [] = 0
-total_of number (v ∷ vs) = count_of number v.places + total_of number vs
+total_of number (v ∷ vs) = count_of number v.known_seats + total_of number vs
 
 -- After the opening: each pass knows the one control, which stands in the queue or is held by one pass, and no
 -- two seats have one number.
@@ -92,57 +92,57 @@ abbrev pub IsRuled : List Journaled → List Knowledge → Type 0
 IsRuled items views = ((items ≡ []) × (views ≡ opening ∷ [])) ⊎ Turns items views
 
 -- the seat of this number, which has seen the journal of this control
-abbrev pub place_at : Story → ℕ → Place
-place_at c number = record { number = number; setup = c.setup; seats = c.seats; seen = c.journal }
+abbrev pub known_seat_at : Story → ℕ → KnownSeat
+known_seat_at c number = record { number = number; setup = c.setup; seats = c.seats; seen = c.journal }
 
 -- this many seats, with the numbers from this one on
-abbrev pub places_from : Story → ℕ → ℕ → List Place
-places_from c first n = map (place_at c) (range_with_len first n)
+abbrev pub known_seats_from : Story → ℕ → ℕ → List KnownSeat
+known_seats_from c first n = map (known_seat_at c) (range_with_len first n)
 
 -- the same seat, which has seen the journal of this control
-abbrev pub seen_at : Story → Place → Place
+abbrev pub seen_at : Story → KnownSeat → KnownSeat
 seen_at c p = record { number = p.number; setup = p.setup; seats = p.seats; seen = c.journal }
 
 -- the same seats, which have seen it
-abbrev pub seen_by : Story → List Place → List Place
-seen_by c places = map (seen_at c) places
+abbrev pub seen_by : Story → List KnownSeat → List KnownSeat
+seen_by c known_seats = map (seen_at c) known_seats
 
 -- the turn is taken: the pass holds the control, which its seats know
 abbrev pub Taken : Knowledge → Journaled → Knowledge → Type 0
-Taken v c w = (w ≡ holding v.places (story c)) × AllKnow (story c) v.places
+Taken v c w = (w ≡ holding v.known_seats (story c)) × AllKnow (story c) v.known_seats
 
 -- the control is as it was, or has one command more, of the pass's only seat
-abbrev pub MayGrow : List Place → Story → Story → Type 0
-MayGrow places before after =
+abbrev pub MayGrow : List KnownSeat → Story → Story → Type 0
+MayGrow known_seats before after =
     (after ≡ before)
-    ⊎ ((p : Place) × (command : Command) × (places ≡ p ∷ []) × (after ≡ longer before p.number command))
+    ⊎ ((p : KnownSeat) × (command : Command) × (known_seats ≡ p ∷ []) × (after ≡ longer before p.number command))
 
 -- what a pass that holds this may give back; the first pass gives what is handed in
-abbrev pub MayFollow : Option Story → List Place → Story → Type 0
-MayFollow None places c = Unit {0}
-MayFollow (Some before) places c = MayGrow places before c
+abbrev pub MayFollow : Option Story → List KnownSeat → Story → Type 0
+MayFollow None known_seats c = Unit {0}
+MayFollow (Some before) known_seats c = MayGrow known_seats before c
 
 abbrev pub MayGive : Knowledge → Journaled → Type 0
-MayGive v c = (v.stage ≡ Holding) × MayFollow v.held v.places (story c)
+MayGive v c = (v.stage ≡ Holding) × MayFollow v.held v.known_seats (story c)
 
 -- the seats of a pass that has given back, which have seen the journal; of the first pass all seats of the control
-abbrev pub seats_after : Option Story → List Place → Story → List Place
-seats_after None places c = places_from c 1 c.seats
-seats_after (Some before) places c = seen_by c places
+abbrev pub seats_after : Option Story → List KnownSeat → Story → List KnownSeat
+seats_after None known_seats c = known_seats_from c 1 c.seats
+seats_after (Some before) known_seats c = seen_by c known_seats
 
 -- the turn is given back: the pass rests
 abbrev pub Given : Knowledge → Journaled → Knowledge → Type 0
-Given v c w = w ≡ resting (seats_after v.held v.places (story c))
+Given v c w = w ≡ resting (seats_after v.held v.known_seats (story c))
 
 -- while a pass holds the control, none stands in the queue
 abbrev pub NoneStands : Knowledge → List Journaled → Type 0
 NoneStands v items = items ≡ []
 
 abbrev pub without_first : Knowledge → Knowledge
-without_first v = resting (drop 1 v.places)
+without_first v = resting (drop 1 v.known_seats)
 
 abbrev pub first_alone : Knowledge → Knowledge
-first_alone v = resting (take 1 v.places)
+first_alone v = resting (take 1 v.known_seats)
 
 abbrev pub joined : Knowledge → Knowledge → Knowledge
-joined v u = resting (u.places ++ v.places)
+joined v u = resting (u.known_seats ++ v.known_seats)

@@ -14,7 +14,7 @@ pub enum Stage {
 }
 
 /// A seat: its number, the setup and the number of seats of the opening, and the journal that it has seen.
-pub struct Place {
+pub struct KnownSeat {
     pub number: u8,
     pub setup: Setup,
     pub seats: u8,
@@ -31,7 +31,7 @@ pub struct Story {
 /// What a pass knows: its seats, and the control that it took.
 pub struct Knowledge {
     pub stage: Stage,
-    pub places: LinkedList<Place>,
+    pub known_seats: LinkedList<KnownSeat>,
     pub held: Option<Story>,
 }
 
@@ -71,9 +71,9 @@ impl<T: Runs> Lesson<Control<T>, Knowledge> for Gives {
 }
 
 /// The first seat of a pass gets a pass of its own.
-pub struct FirstPlace;
+pub struct FirstSeat;
 
-impl Split<Knowledge> for FirstPlace {
+impl Split<Knowledge> for FirstSeat {
     ghost use Rattle.cdb_shared.specs.Turn.{without_first, first_alone};
 
     ghost left = { without_first };
@@ -82,9 +82,9 @@ impl Split<Knowledge> for FirstPlace {
 }
 
 /// A pass takes in the seats of another.
-pub struct AllPlaces;
+pub struct AllSeats;
 
-impl Join<Knowledge> for AllPlaces {
+impl Join<Knowledge> for AllSeats {
     ghost use Rattle.cdb_shared.specs.Turn.{joined, spent};
 
     ghost both = { joined };

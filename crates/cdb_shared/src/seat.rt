@@ -1,11 +1,11 @@
-//! A seat: one session's place at a shared control.
+//! A seat: what one session holds of a shared control.
 ghost use Rattle.std.specs.Prelude.{◌≡◌, ◌≤◌};
 
 use crate::turn::TurnPass;
 use cdb_rules::Runs;
 use std::marker::Model;
 
-/// One session's place at a shared control. A contract sees which control it is of, with its setup and its
+/// What one session holds of a shared control. A contract sees which control it is of, with its setup and its
 /// number of seats, the seat's own number, the journal that it has seen, and whether it rests, that is,
 /// has not the turn.
 #[derive(Drop)]

@@ -3,10 +3,10 @@ ghost use Rattle.std.specs.Prelude.{◌≡◌, ◌<◌, ◌≤◌, ◌↔◌, []
 ghost use Rattle.cdb_control.specs.Answer.{told};
 ghost use Rattle.cdb_control.specs.Journal.{Journaled, Begins};
 ghost use Rattle.cdb_shared.specs.Seats.{RestsAt, fresh_seats, IsLater, IsCall, IsKnownBy, SameCalls, SeesFull, SeesHeadline, HasHeadline};
-ghost use Rattle.cdb_shared.specs.Turn.{story, resting, places_from, AllKnow};
+ghost use Rattle.cdb_shared.specs.Turn.{story, resting, known_seats_from, AllKnow};
 ghost use Rattle.crossbeam_queue.specs.Passes.{view, IsPassOf, ruled_capacity};
 
-use crate::knowledge::{AllPlaces, FirstPlace, Stage};
+use crate::knowledge::{AllSeats, FirstSeat, Stage};
 use crate::seat::Seat;
 use crate::turn::{Turn, TurnPass, give, take};
 use cdb_base::NoMemory;
@@ -103,10 +103,10 @@ impl<T: Runs> Shared<T> {
             number: second,
             mut pass,
         } = b;
-        self.turn.absorb::<AllPlaces>(&mut pass, other);
+        self.turn.absorb::<AllSeats>(&mut pass, other);
         let control = take(rt, &self.turn, &mut pass);
         give(rt, &self.turn, &mut pass, control);
-        let alone = self.turn.another::<FirstPlace>(&mut pass);
+        let alone = self.turn.another::<FirstSeat>(&mut pass);
         (
             Seat {
                 number: first,
@@ -144,14 +144,14 @@ fn deal<T: Runs>(
     mut seats: Vec<Seat<T>>,
 ) -> Vec<Seat<T>>
     requires queue { IsPassOf turn.now pass }
-    requires all { (c : Journaled) × (view pass ≡ resting (places_from (story c) 1 count))
+    requires all { (c : Journaled) × (view pass ≡ resting (known_seats_from (story c) 1 count))
         × (count ≤ c.seats) }
     requires room { (seats.items ≡ []) × (count ≤ vec_capacity seats) }
-    ensures { (c : Journaled) → view pass ≡ resting (places_from (story c) 1 count) →
+    ensures { (c : Journaled) → view pass ≡ resting (known_seats_from (story c) 1 count) →
         result.items ≡ fresh_seats turn.now.table.shared.table_id c 1 count }
 {
     for dealt in 0..count {
-        let alone = turn.another::<FirstPlace>(&mut pass);
+        let alone = turn.another::<FirstSeat>(&mut pass);
         seats.push_reserved(Seat {
             number: dealt + 1,
             pass: alone,
@@ -166,7 +166,7 @@ fn gather<T: Runs>(turn: &Turn<T>, mut seats: Vec<Seat<T>>) -> TurnPass<T>
     requires rest { All (λ seat. RestsAt turn.now.table.shared.table_id seat) seats.items }
     ensures queue { IsPassOf turn.now result }
     ensures rests { (view result).stage ≡ Stage.Resting }
-    ensures seats { (c : Journaled) → AllKnow (story c) (view result).places →
+    ensures seats { (c : Journaled) → AllKnow (story c) (view result).known_seats →
         All (λ seat. IsKnownBy c seat) seats.items }
 {
     let Some(last) = seats.pop() else {
@@ -181,7 +181,7 @@ fn gather<T: Runs>(turn: &Turn<T>, mut seats: Vec<Seat<T>>) -> TurnPass<T>
             number: _,
             pass: other,
         } = seat;
-        turn.absorb::<AllPlaces>(&mut pass, other);
+        turn.absorb::<AllSeats>(&mut pass, other);
     }
     pass
 }

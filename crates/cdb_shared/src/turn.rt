@@ -10,7 +10,7 @@ use crossbeam_queue::{Pass, RuledArrayQueue};
 use std::sync::Wait;
 use std::thread;
 
-/// The queue whose one place is the turn.
+/// The queue with room for one control, which is the turn.
 pub type Turn<T> = RuledArrayQueue<Control<T>, Knowledge, OneControl>;
 
 /// What a thread shows to take the turn.

@@ -15,7 +15,7 @@ Words = List (List ℕ)
 abbrev Begins : Words → Type 0
 Begins words = (command : Command) × (others : Words) × AreWordsOf command (words ++ others)
 
--- what begins a command goes on at each place
+-- what begins a command goes on at each position
 goes_on_within : (line words : Words) (word : List ℕ) (others : Words) → line ≡ words ++ word ∷ others → Begins line → GoesOn words word
 goes_on_within line words word others is begins =
     let same : line ++ begins.1 ≡ words ++ word ∷ (others ++ begins.1) = ap (λ (ws : Words). ws ++ begins.1) is ∙ append_assoc words (word ∷ others) begins.1 in
@@ -54,7 +54,7 @@ one_fault Empty g words word a b = absurd a
 one_fault Missing g words word a b = absurd a
 one_fault f g words word a b = absurd b
 
--- one list cut twice: at one place, or one place is behind the other
+-- one list cut twice: at one position, or one position is behind the other
 cut_twice : (xs : Words) (x : List ℕ) (us ys : Words) (y : List ℕ) (vs : Words) → xs ++ x ∷ us ≡ ys ++ y ∷ vs
     → ((xs ≡ ys) × (x ≡ y)) ⊎ (((more : Words) × (ys ≡ xs ++ x ∷ more)) ⊎ ((more : Words) × (xs ≡ ys ++ y ∷ more)))
 cut_twice [] x us [] y vs e = inl (refl, cc)

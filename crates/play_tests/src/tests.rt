@@ -5,6 +5,7 @@ mod failures;
 mod faults;
 mod leader;
 mod limits;
+mod long;
 mod losses;
 mod out_of_memory;
 mod races;

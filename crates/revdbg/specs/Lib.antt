@@ -1,1 +1,2 @@
+-- what a contract names
 pub mod Requested

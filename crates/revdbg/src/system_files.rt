@@ -1,7 +1,7 @@
 //! The files of the system.
 
 use cdb_debug::Streams;
-use cdb_hall::Place;
+use cdb_hall::Station;
 use cdb_play::{Input, Output, ReadFault, read_up_to};
 use cdb_program::Files;
 use std::alloc::Global;
@@ -40,14 +40,14 @@ fn terminal(rt: &HostRuntime, name: &str) -> io::Result<(File, File)> {
 
 /// The seat of this name: a terminal device, or `IN:OUT`, a pair of files or pipes, cut at the first colon. Of a pair the
 /// file that is written to is made where it is not there, and emptied where it is.
-fn seat_of(rt: &HostRuntime, name: &str) -> io::Result<Place<Talk>> {
+fn seat_of(rt: &HostRuntime, name: &str) -> io::Result<Station<Talk>> {
     let (input, output) = match name.split_once(':') {
         Some((input, output)) => (File::open(rt, input)?, File::create(rt, output)?),
         None => terminal(rt, name)?,
     };
     let prompt = if input.is_terminal() { PROMPT } else { b"" };
     let talk = Streams::new(Input::new(input), Output::new(output));
-    Ok(Place { talk, prompt })
+    Ok(Station { talk, prompt })
 }
 
 /// What could not be read or opened.
@@ -81,9 +81,9 @@ impl<'a> Files for SystemFiles<'a> {
         read
     }
 
-    fn open_seat(&mut self, _alloc: Global, name: &str) -> Result<Place<Talk>, ReadFault> {
+    fn open_seat(&mut self, _alloc: Global, name: &str) -> Result<Station<Talk>, ReadFault> {
         match seat_of(self.rt, name) {
-            Ok(place) => Ok(place),
+            Ok(station) => Ok(station),
             Err(error) => {
                 let fault = fault_of(&error);
                 if fault == ReadFault::Failed {

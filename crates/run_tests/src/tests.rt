@@ -6,6 +6,7 @@ mod example;
 mod generated;
 mod laws;
 mod leader;
+mod long_run;
 mod losses;
 mod memory;
 mod moves;

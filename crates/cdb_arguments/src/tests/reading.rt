@@ -122,3 +122,44 @@ fn refused_words(rt: HostRuntime) {
     check_refused(&rt, &["revdbg", "draw", "a", "b", "1", "2", "3"], 2);
     check_refused(&rt, &["revdbg", "debug"], 2);
 }
+
+/// Out of memory: the status says so, and the same words, read again, ask for what they ask. To see it, let each allocation
+/// of this test fail in turn.
+#[test]
+fn words_without_memory(rt: HostRuntime) {
+    let words = ["revdbg", "race", "a", "8", "b", "c"];
+    let mut turns = turns_of(&rt, &words);
+    if turns == Err(6) {
+        turns = turns_of(&rt, &words);
+    }
+    assert_eq!(rt; turns, Ok(8));
+}
+
+/// The turns of the race that the words ask for, or the status where they ask for none.
+fn turns_of(rt: &impl AllocGlobal, words: &[&str]) -> Result<u32, u8> {
+    match asked(rt.alloc(), words) {
+        Ok(Asked::Race { turns, .. }) => Ok(turns),
+        Ok(_) => Err(0),
+        Err(fault) => Err(ask_status(&fault)),
+    }
+}
+
+/// Out of memory: the status says so, and the same words, read again, are refused. To see it, let each allocation of this
+/// test fail in turn.
+#[test]
+fn refused_words_without_memory(rt: HostRuntime) {
+    let words = ["revdbg", "race", "a", "-1", "b"];
+    let mut status = refusal_status(&rt, &words);
+    if status == Some(6) {
+        status = refusal_status(&rt, &words);
+    }
+    assert_eq!(rt; status, Some(2));
+}
+
+/// The status where the words are refused.
+fn refusal_status(rt: &impl AllocGlobal, words: &[&str]) -> Option<u8> {
+    match asked(rt.alloc(), words) {
+        Ok(_) => None,
+        Err(fault) => Some(ask_status(&fault)),
+    }
+}

@@ -9,32 +9,17 @@ ghost use Rattle.cdb_play.specs.Races.{seat_line, seat_text, seats_text, end_tex
 ghost use Rattle.cdb_play.specs.Buffers.{Puts, Wrote};
 
 use crate::buffer::{Buffer, OutputFault};
+use crate::reply::put_reply;
 use crate::sink::Sink;
 use cdb_base::{Proc, Val};
 use cdb_control::{Control, Reply, Runs};
-use cdb_text::reply_text;
 use itoa::Buffer as Digits;
 use std::alloc::Global;
 
-/// Puts the text of a reply.
-fn put_reply<W: Sink>(
-    alloc: Global,
-    reply: &Reply,
-    buffer: &mut Buffer,
-    out: &mut W,
-) -> Result<(), OutputFault>
-    ensures { Puts W.contents W.failures result out.old buffer.old out.new buffer.new
-        (text_of (told reply.now)) }
-{
-    let text = reply_text(alloc, reply)?;
-    buffer.put(out, text.as_slice())?;
-    Ok(())
-}
-
-/// Puts the texts of the replies, one after the other.
+/// Puts the texts of the replies, one after the other. Each is made in `text`.
 fn put_replies<W: Sink>(
-    alloc: Global,
     replies: &[Reply],
+    text: &mut String,
     buffer: &mut Buffer,
     out: &mut W,
 ) -> Result<(), OutputFault>
@@ -42,7 +27,7 @@ fn put_replies<W: Sink>(
         (flat_map text_of (map told replies.now)) }
 {
     for reply in replies {
-        put_reply(alloc, reply, buffer, out)?;
+        put_reply(reply, text, buffer, out)?;
     }
     Ok(())
 }
@@ -61,9 +46,9 @@ fn put_line<W: Sink>(seat: usize, buffer: &mut Buffer, out: &mut W) -> Result<()
 
 /// Puts the line of a seat, and the texts of its replies.
 fn put_seat<W: Sink>(
-    alloc: Global,
     seat: usize,
     replies: &[Reply],
+    text: &mut String,
     buffer: &mut Buffer,
     out: &mut W,
 ) -> Result<(), OutputFault>
@@ -71,14 +56,14 @@ fn put_seat<W: Sink>(
         (seat_text seat (map told replies.now)) }
 {
     put_line(seat, buffer, out)?;
-    put_replies(alloc, replies, buffer, out)
+    put_replies(replies, text, buffer, out)
 }
 
 /// Puts seats, numbered from the first, each with its replies.
 fn put_seats<W: Sink>(
-    alloc: Global,
     first: usize,
     seats: &[Vec<Reply>],
+    text: &mut String,
     buffer: &mut Buffer,
     out: &mut W,
 ) -> Result<(), OutputFault>
@@ -88,7 +73,7 @@ fn put_seats<W: Sink>(
 {
     let mut seat = first;
     for replies in seats {
-        put_seat(alloc, seat, replies.as_slice(), buffer, out)?;
+        put_seat(seat, replies.as_slice(), text, buffer, out)?;
         seat += 1;
     }
     Ok(())
@@ -117,8 +102,8 @@ fn verdict(decisions: &[(Proc, Val)]) -> &'static str
 
 /// Puts the decisions, and whether they agree.
 fn put_end<W: Sink>(
-    alloc: Global,
     decisions: Vec<(Proc, Val)>,
+    text: &mut String,
     buffer: &mut Buffer,
     out: &mut W,
 ) -> Result<(), OutputFault>
@@ -126,7 +111,7 @@ fn put_end<W: Sink>(
         (end_text decisions.items) }
 {
     let verdict = verdict(decisions.as_slice());
-    put_reply(alloc, &Reply::Decisions(decisions), buffer, out)?;
+    put_reply(&Reply::Decisions(decisions), text, buffer, out)?;
     buffer.put(out, verdict.as_bytes())?;
     Ok(())
 }
@@ -144,15 +129,16 @@ fn put_race<T: Runs, W: Sink>(
         (seats_text (control.now.setup.processes + 1) (all_told replies.now) ++ end_text (last_decisions T.rules control.now)) }
 {
     let run = control.run();
+    let mut text = String::new(alloc);
     put_seats(
-        alloc,
         usize::from(run.processes()) + 1,
         replies,
+        &mut text,
         buffer,
         out,
     )?;
     let decisions = run.decisions(alloc)?;
-    put_end(alloc, decisions, buffer, out)
+    put_end(decisions, &mut text, buffer, out)
 }
 
 /// Puts the same into an empty buffer, and writes what is left in it.

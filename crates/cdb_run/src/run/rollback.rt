@@ -44,7 +44,7 @@ impl<P: Process> Run<P> {
         }
     }
 
-    /// Takes the event at a place, from 1, back with its consequences, from the last of them back, and
+    /// Takes the event at a position, from 1, back with its consequences, from the last of them back, and
     /// adds each to the end of a list. Returns how many events that are.
     fn roll_back(
         &mut self,

@@ -2,27 +2,26 @@
 
 ghost use Rattle.std.specs.Prelude.{◌≡◌, ◌↔◌, ◌-◌, ◌≤◌, length, Some, IsOk, IfOk};
 ghost use Rattle.std.specs.Result.{result_err};
-ghost use Rattle.cdb_base.specs.Places.{nth};
+ghost use Rattle.cdb_base.specs.Positions.{nth};
 ghost use Rattle.cdb_causal.specs.Causality.{IsFree};
 ghost use Rattle.cdb_causal.specs.Dependence.{depends as depends_of};
 ghost use Rattle.cdb_causal.specs.Rollback.{without};
 ghost use Rattle.cdb_rules.specs.EventRefs.{name_of};
-ghost use Rattle.cdb_rules.specs.Runs.{step_name, loss_name, IsPlaceFound, CanUndo, LeadsTo, undo_at_place, undo_answer, after_undo, with_history, with_left};
+ghost use Rattle.cdb_rules.specs.Runs.{step_name, loss_name, IsPositionFound, CanUndo, LeadsTo, undo_at_position, undo_answer, after_undo, with_history, with_left};
 ghost use Rattle.cdb_rules.specs.Undo.{answered};
 
-use crate::change::Left;
 use crate::restore::change_back;
 use crate::run::Run;
 use cdb_base::{CopyName, Event, MsgName, Refusal, StepId, StepName};
 use cdb_causal::first_dependent;
 use cdb_process::Process;
-use cdb_record::Entry;
+use cdb_record::{Entry, Left};
 use cdb_rules::EventRef;
 
 impl<P: Process> Run<P> {
-    /// The place, from 1, of the `k`-th standing step of process `p`; or `NoProcess` or `NoStep`.
+    /// The position, from 1, of the `k`-th standing step of process `p`; or `NoProcess` or `NoStep`.
     pub(crate) fn find_step(&self, p: u32, k: u32) -> Result<usize, Refusal>
-        ensures found { IsPlaceFound self.now (step_name p k) result }
+        ensures found { IsPositionFound self.now (step_name p k) result }
         ensures within { IfOk result (λ at. (1 ≤ at) × (at ≤ length self.now.history)) }
     {
         let _valid = self.history();
@@ -36,10 +35,10 @@ impl<P: Process> Run<P> {
         self.history().position(name).ok_or(Refusal::NoStep)
     }
 
-    /// The place, from 1, of the standing loss of the copy for process `p` of the `m`-th message of
+    /// The position, from 1, of the standing loss of the copy for process `p` of the `m`-th message of
     /// process `s`; or `NoProcess` of `s` or `p`, or `NoStep`.
     pub(crate) fn find_loss(&self, s: u32, m: u32, p: u32) -> Result<usize, Refusal>
-        ensures found { IsPlaceFound self.now (loss_name s m p) result }
+        ensures found { IsPositionFound self.now (loss_name s m p) result }
         ensures within { IfOk result (λ at. (1 ≤ at) × (at ≤ length self.now.history)) }
     {
         let _valid = self.history();
@@ -57,9 +56,9 @@ impl<P: Process> Run<P> {
         self.history().position(name).ok_or(Refusal::NoStep)
     }
 
-    /// The place, from 1, of a standing event; or the first refusal that holds: `NoProcess` or `NoStep`.
+    /// The position, from 1, of a standing event; or the first refusal that holds: `NoProcess` or `NoStep`.
     pub(crate) fn find(&self, event: EventRef) -> Result<usize, Refusal>
-        ensures found { IsPlaceFound self.now (name_of event) result }
+        ensures found { IsPositionFound self.now (name_of event) result }
         ensures within { IfOk result (λ at. (1 ≤ at) × (at ≤ length self.now.history)) }
     {
         match event {
@@ -68,7 +67,7 @@ impl<P: Process> Run<P> {
         }
     }
 
-    /// Takes the free event at a place, from 1, back. It takes no memory.
+    /// Takes the free event at a position, from 1, back. It takes no memory.
     pub(crate) fn take_back(&mut self, at: usize) -> Event
         requires from_one { 1 ≤ at }
         requires to_len { at ≤ length self.old.history }
@@ -84,28 +83,29 @@ impl<P: Process> Run<P> {
         let taken = event;
         match event {
             Event::Step { p, k: _, kind } => {
-                let progress = &mut self.processes[p.index()];
+                let state = &mut self.state;
+                let progress = &mut state.processes[p.index()];
                 let left = Left { back, overwritten };
                 change_back(
                     progress,
-                    &mut self.mail,
-                    &mut self.registers,
+                    &mut state.mail,
+                    &mut state.registers,
                     p,
                     &kind,
                     left,
                 );
             }
-            Event::Lost(copy) => self.mail.take_back_lose(copy.to, copy.msg),
+            Event::Lost(copy) => self.state.mail.take_back_lose(copy.to, copy.msg),
         }
         taken
     }
 
-    /// Takes the event at a place, from 1, back where it is free, else names the first that needs it.
+    /// Takes the event at a position, from 1, back where it is free, else names the first that needs it.
     fn undo_at(&mut self, at: usize) -> Result<Event, Refusal>
         requires from_one { 1 ≤ at }
         requires to_len { at ≤ length self.old.history }
-        ensures answer { result ≡ answered (undo_at_place self.old (at - 1)) }
-        ensures after { self.new ≡ with_left self.old (undo_at_place self.old (at - 1)) }
+        ensures answer { result ≡ answered (undo_at_position self.old (at - 1)) }
+        ensures after { self.new ≡ with_left self.old (undo_at_position self.old (at - 1)) }
     {
         match first_dependent(self.history(), at) {
             Some(name) => Err(Refusal::NeededBy(name)),

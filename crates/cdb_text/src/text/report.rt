@@ -215,9 +215,9 @@ fn push_decision_line(text: &mut String, cell: &Cell) -> Result<(), AllocError>
 fn push_each_register(text: &mut String, cells: &[Cell]) -> Result<(), AllocError>
     ensures { Pushes result text.old text.new (registers_from 1 cells.now) }
 {
-    for (place, cell) in cells.iter().enumerate() {
-        if place + 1 < cells.len() {
-            push_register_line(text, place + 1, cell)?;
+    for (position, cell) in cells.iter().enumerate() {
+        if position + 1 < cells.len() {
+            push_register_line(text, position + 1, cell)?;
         } else {
             push_decision_line(text, cell)?;
         }

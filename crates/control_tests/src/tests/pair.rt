@@ -1,5 +1,5 @@
 //! Two sessions that are given the same commands, one always a command behind the other, and are asked
-//! again where memory was wanting.
+//! again where an allocation failed.
 
 use super::session::{Session, compare_line, text_of};
 use cdb_control::{Command, Reply};
@@ -23,7 +23,7 @@ impl Pair {
         }
     }
 
-    /// Carries a command out in the session ahead. Where memory was wanting, that session shows what the
+    /// Carries a command out in the session ahead. Where an allocation failed, that session shows what the
     /// one behind shows, and is given the command again.
     fn lead<R: Abort + AllocGlobal>(&mut self, rt: &R, command: &Command) -> Reply {
         match self.ahead.execute_once(rt, 1, command) {

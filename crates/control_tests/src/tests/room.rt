@@ -1,4 +1,4 @@
-//! Room: what goes back wants no memory where its seat has room.
+//! Room: what goes back needs no memory where its seat has room.
 
 use super::session::{Turn, check};
 use super::setups::{ALONE, LOSSY};

@@ -45,7 +45,7 @@ pub fn text_of<R: Abort + AllocGlobal>(rt: &R, reply: &Reply) -> Vec<u8> {
     }
 }
 
-/// A setup, or none where it is no setup or memory was wanting.
+/// A setup, or none where it is no setup or an allocation failed.
 fn setup_of<R: AllocGlobal>(rt: &R, setup: &str) -> Option<Setup> {
     Setup::read(rt.alloc(), setup.as_bytes()).ok()
 }
@@ -81,7 +81,7 @@ impl Model for Session {
 }
 
 impl Session {
-    /// A session of a setup in which nothing has happened, or none where memory was wanting.
+    /// A session of a setup in which nothing has happened, or none where an allocation failed.
     fn open_once<R: AllocGlobal>(rt: &R, setup: &str, seats: u8) -> Option<Session> {
         let setup = setup_of(rt, setup)?;
         let control = Control::open(rt.alloc(), setup, seats).ok()?;
@@ -241,7 +241,7 @@ impl Session {
 }
 
 /// The session of a setup after some turns.
-fn after<R: Abort + AllocGlobal>(rt: &R, setup: &str, seats: u8, turns: &[Turn]) -> Session {
+pub fn after<R: Abort + AllocGlobal>(rt: &R, setup: &str, seats: u8, turns: &[Turn]) -> Session {
     let mut session = Session::open(rt, setup, seats);
     session.take_all(rt, turns);
     session

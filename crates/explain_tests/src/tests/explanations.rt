@@ -2,7 +2,7 @@
 
 use cdb_any_run::RunOfSetup;
 use cdb_control::{Command, Control};
-use cdb_explain::{explanation, place_of_step};
+use cdb_explain::{chronicle_of, explanation, position_of_step};
 use cdb_setup::Setup;
 use std::process::Abort;
 use std::test::Fail;
@@ -36,18 +36,18 @@ fn control_after<R: Abort + AllocGlobal>(
     control
 }
 
-/// Compares the explanation of a step.
+/// Compares the explanation of a step of the run that the control has come to.
 fn compare<R: Abort + AllocGlobal>(
     rt: &R,
-    control: &Control<RunOfSetup>,
+    control: Control<RunOfSetup>,
     p: u32,
     k: Option<u32>,
     expected: &str,
 ) {
-    let run = control.run();
-    let place = place_of_step(run.any().history(), p, k).expect(rt, "a step");
-    assert!(rt; place < run.any().history().len());
-    let text = explanation(rt.alloc(), run, place).expect(rt, "an explanation");
+    let run = chronicle_of(control);
+    let position = position_of_step(run.history(), p, k).expect(rt, "a step");
+    assert!(rt; position < run.history().len());
+    let text = explanation::<RunOfSetup>(rt.alloc(), &run, position).expect(rt, "an explanation");
     assert!(rt; text.as_slice() == expected.as_bytes(), "{expected}");
 }
 
@@ -69,7 +69,7 @@ const WHOLE_RUN: &str = "\
 #[test]
 fn all_of_a_run_alone_led_to_its_decision(rt: HostRuntime) -> Result<(), Fail> {
     let control = control_after(&rt, ALPHA_ALONE, &[1; 10]);
-    compare(&rt, &control, 1, None, WHOLE_RUN);
+    compare(&rt, control, 1, None, WHOLE_RUN);
     Ok(())
 }
 
@@ -89,7 +89,7 @@ const OVER_A_REGISTER: &str = "\
 #[test]
 fn a_write_of_another_led_to_a_read(rt: HostRuntime) -> Result<(), Fail> {
     let control = control_after(&rt, ALPHA_PAIR, &[1, 1, 1, 2, 2, 2, 2, 1, 1]);
-    compare(&rt, &control, 1, Some(5), OVER_A_REGISTER);
+    compare(&rt, control, 1, Some(5), OVER_A_REGISTER);
     Ok(())
 }
 
@@ -104,6 +104,6 @@ const OVER_A_MESSAGE: &str = "\
 #[test]
 fn a_send_led_to_a_receive(rt: HostRuntime) -> Result<(), Fail> {
     let control = control_after(&rt, ONE_LEADER, &[1, 1, 1, 2]);
-    compare(&rt, &control, 2, Some(1), OVER_A_MESSAGE);
+    compare(&rt, control, 2, Some(1), OVER_A_MESSAGE);
     Ok(())
 }

@@ -1,5 +1,6 @@
 //! Pictures of worked runs. The texts come from tools/picture, an independent program.
 
+use cdb_any_run::RunOfSetup;
 use cdb_draw::{StepAsked, draw};
 use cdb_explain::ExplainFault;
 use cdb_play::{Bytes, Output};
@@ -16,7 +17,13 @@ fn check<R: Abort + AllocGlobal>(
 ) {
     let mut commands = Bytes::new(script.as_bytes());
     let mut out = Output::new(Vec::new(rt.alloc()));
-    let drawn = draw(rt.alloc(), setup.as_bytes(), &mut commands, step, &mut out);
+    let drawn = draw::<RunOfSetup, _, _>(
+        rt.alloc(),
+        setup.as_bytes(),
+        &mut commands,
+        step,
+        &mut out,
+    );
     assert_eq!(rt; drawn, Ok(()));
     let text = out.into_inner();
     assert!(rt; text.as_slice().starts_with(first.as_bytes()), "{first}");
@@ -122,7 +129,13 @@ fn nothing_is_drawn_where_no_such_step_stands(rt: HostRuntime) {
         let mut commands = Bytes::new(script.as_bytes());
         let mut out = Output::new(Vec::new(rt.alloc()));
         let step = Some(StepAsked { p, k });
-        let drawn = draw(rt.alloc(), setup.as_bytes(), &mut commands, step, &mut out);
+        let drawn = draw::<RunOfSetup, _, _>(
+            rt.alloc(),
+            setup.as_bytes(),
+            &mut commands,
+            step,
+            &mut out,
+        );
         assert_eq!(rt; drawn, Err(ExplainFault::NoStep));
         assert_eq!(rt; out.into_inner().len(), 0);
     }

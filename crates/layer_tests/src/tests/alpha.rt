@@ -239,8 +239,8 @@ fn next_input(alpha: &Machine<Alpha>, me: Proc, registers: &mut [Cell]) -> Optio
             Some(Input::Read(register, *cell))
         }
         Some(Wish::Write(register, cell)) => {
-            let place = registers.get_mut(index_of(&register))?;
-            *place = cell;
+            let position = registers.get_mut(index_of(&register))?;
+            *position = cell;
             Some(Input::Write(register))
         }
         Some(_) => Some(Input::Local),

@@ -9,7 +9,7 @@ use std::alloc::Global;
 use std::process::Abort;
 use std::test::Fail;
 
-/// Whether there are events at both places, the first before the second, and the second depends on
+/// Whether there are events at both positions, the first before the second, and the second depends on
 /// the first.
 fn is_linked(events: &[Event], i: usize, j: usize) -> bool {
     match (events.get(i), events.get(j)) {
@@ -31,26 +31,26 @@ fn is_linked_to_one(events: &[Event], causes: &[usize], j: usize) -> bool {
     causes.iter().any(|cause| is_linked(events, *cause, j))
 }
 
-/// The least set that has the place and each place linked to one that it has: it grows until nothing
+/// The least set that has the position and each position linked to one that it has: it grows until nothing
 /// is left to add.
 fn plain_rolled_back(alloc: Global, events: &[Event], i: usize) -> Result<Vec<usize>, NoMemory> {
-    let mut places = Vec::new(alloc);
-    places.push(i)?;
+    let mut positions = Vec::new(alloc);
+    positions.push(i)?;
     for _ in 0..events.len() {
         for j in (0..events.len()).rev() {
-            if !places.contains(&j) && is_linked_to_one(events, &places, j) {
-                places.push(j)?;
+            if !positions.contains(&j) && is_linked_to_one(events, &positions, j) {
+                positions.push(j)?;
             }
         }
     }
-    Ok(places)
+    Ok(positions)
 }
 
 fn plain_consequences(alloc: Global, events: &[Event], i: usize) -> Result<Vec<StepId>, NoMemory> {
-    let places = plain_rolled_back(alloc, events, i)?;
+    let positions = plain_rolled_back(alloc, events, i)?;
     let mut names = Vec::new(alloc);
     for (j, event) in events.iter().enumerate() {
-        if j != i && places.contains(&j) {
+        if j != i && positions.contains(&j) {
             names.push(event.name())?;
         }
     }
@@ -136,7 +136,7 @@ fn draw_history(alloc: Global, seed: &mut u64) -> Result<ExampleHistory, NoMemor
     Ok(history)
 }
 
-/// All events but the one at place `i`, in order.
+/// All events but the one at position `i`, in order.
 fn plain_without(alloc: Global, events: &[Event], i: usize) -> Result<Vec<StepId>, NoMemory> {
     let mut names = Vec::new(alloc);
     for (j, event) in events.iter().enumerate() {

@@ -2,10 +2,9 @@
 
 use super::events::may_follow;
 use cdb_base::{Cell, CopyName, Event, NoMemory, Proc, StepId, Val};
-use cdb_record::{Entry, Records};
+use cdb_record::{Entry, Left, Records};
 use std::alloc::Global;
 use std::marker::Model;
-use std::process::Abort;
 
 /// The records of an example.
 #[derive(Drop)]
@@ -30,6 +29,22 @@ fn event_of(entry: Option<Entry<u32>>) -> Option<Event> {
     }
 }
 
+/// Counts a call, and returns what an event left.
+fn left(
+    calls: &mut u32,
+    back: Option<u32>,
+    overwritten: Option<Cell>,
+) -> Result<Left<u32>, NoMemory> {
+    *calls = 1;
+    Ok(Left { back, overwritten })
+}
+
+/// Counts a call that finds no memory.
+fn left_nothing(calls: &mut u32) -> Result<Left<u32>, NoMemory> {
+    *calls = 1;
+    Err(NoMemory)
+}
+
 impl ExampleRecords {
     pub fn new(alloc: Global) -> Self {
         ExampleRecords {
@@ -37,13 +52,37 @@ impl ExampleRecords {
         }
     }
 
-    /// Adds an event where the records may have it, and says whether it did.
-    pub fn add(&mut self, alloc: Global, event: Event) -> Result<bool, NoMemory> {
+    /// Adds an event, with what it left, where the records may have it, and says whether it did.
+    pub fn add_with(
+        &mut self,
+        event: Event,
+        back: Option<u32>,
+        overwritten: Option<Cell>,
+    ) -> Result<bool, NoMemory> {
         if !may_follow(self.records.history(), &event) {
             return Ok(false);
         }
-        self.records.push(alloc, event)?;
-        Ok(true)
+        let mut calls = 0;
+        self.records
+            .push_with(event, &mut calls, |calls| left(calls, back, overwritten))?;
+        Ok(calls == 1)
+    }
+
+    /// The same of an event that left nothing.
+    pub fn add(&mut self, event: Event) -> Result<bool, NoMemory> {
+        self.add_with(event, None, None)
+    }
+
+    /// Refuses memory to the change of an event, and says whether the change was asked for.
+    pub fn add_without_memory(&mut self, event: Event) -> bool {
+        if !may_follow(self.records.history(), &event) {
+            return false;
+        }
+        let mut calls = 0;
+        let added = self
+            .records
+            .push_with(event, &mut calls, |calls| left_nothing(calls));
+        added.is_err() && calls == 1
     }
 
     /// How many events stand.
@@ -63,15 +102,8 @@ impl ExampleRecords {
         event_of(self.records.take_lost(copy))
     }
 
-    /// Notes what it takes to take the last event back, which is there.
-    pub fn set_last<R: Abort>(&mut self, rt: &R, back: Option<u32>, overwritten: Option<Cell>) {
-        assert!(rt; 1 <= self.records.history().len());
-        self.records.set_last(back, overwritten);
-    }
-
-    /// Takes the last event out, which is there.
-    pub fn withdraw<R: Abort>(&mut self, rt: &R) -> Entry<u32> {
-        assert!(rt; 1 <= self.records.history().len());
-        self.records.withdraw()
+    /// Takes the last step of a process out with what it left, where no event needs it.
+    pub fn take_entry_of(&mut self, p: Proc) -> Option<Entry<u32>> {
+        self.records.take_last_of(p)
     }
 }

@@ -1,4 +1,4 @@
-//! The history of an example. Its calls are those of the history that it holds, at places that are there.
+//! The history of an example. Its calls are those of the history that it holds, at positions that are there.
 
 use super::events::may_follow;
 use cdb_base::{Event, NoMemory, StepId};
@@ -73,19 +73,19 @@ impl ExampleHistory {
         self.history.remove(at)
     }
 
-    /// The names of the direct causes of the event at a place.
+    /// The names of the direct causes of the event at a position.
     pub fn direct_causes<R: Abort>(&self, rt: &R, alloc: Global, at: usize) -> SmallVec<StepId, 9> {
         assert!(rt; 1 <= at && at <= self.history.len());
         direct_causes(alloc, &self.history, at)
     }
 
-    /// The name of the first event that depends on the one at a place.
+    /// The name of the first event that depends on the one at a position.
     pub fn first_dependent<R: Abort>(&self, rt: &R, at: usize) -> Option<StepId> {
         assert!(rt; 1 <= at && at <= self.history.len());
         first_dependent(&self.history, at)
     }
 
-    /// The names of the consequences of the event at a place.
+    /// The names of the consequences of the event at a position.
     pub fn consequences<R: Abort>(
         &self,
         rt: &R,

@@ -175,3 +175,73 @@ fn a_received_decision_is_learnt(rt: HostRuntime) -> Result<(), Fail> {
     ];
     Machine::<Leader>::check(&rt, &start, &learns, &decides)
 }
+
+/// The first of three processes, with a quorum of two.
+const OF_THREE: Start = Start {
+    me: 1,
+    n: 3,
+    quorum: 2,
+    input: 7,
+};
+
+#[test]
+fn a_query_before_the_quorum_changes_nothing(rt: HostRuntime) -> Result<(), Fail> {
+    let heard = [queries(2), sends(), receives(1, first_phase(1, 7, 2))];
+    let asked = [
+        queries(2),
+        sends(),
+        receives(1, first_phase(1, 7, 2)),
+        Turn::AcceptsQuery(true),
+        queries(3),
+        queries(2),
+    ];
+    assert!(rt; Machine::<Leader>::leads_to_same(&rt, &OF_THREE, &heard, &asked)?);
+    Ok(())
+}
+
+#[test]
+fn a_query_after_the_quorum_changes_nothing_if_the_leader_is_the_same(
+    rt: HostRuntime,
+) -> Result<(), Fail> {
+    let heard = [
+        queries(2),
+        sends(),
+        receives(1, first_phase(1, 7, 2)),
+        receives(3, first_phase(1, 9, 2)),
+    ];
+    let asked = [
+        queries(2),
+        sends(),
+        receives(1, first_phase(1, 7, 2)),
+        receives(3, first_phase(1, 9, 2)),
+        queries(2),
+        Turn::Wishes(None),
+    ];
+    assert!(rt; Machine::<Leader>::leads_to_same(&rt, &OF_THREE, &heard, &asked)?);
+    let another = [Turn::IsAtPlace(2), queries(3), Turn::IsAtPlace(3)];
+    Machine::<Leader>::check(&rt, &OF_THREE, &asked, &another)
+}
+
+#[test]
+fn a_quorum_that_is_not_of_one_mind_goes_on_with_the_value(rt: HostRuntime) -> Result<(), Fail> {
+    let without_a_value = [
+        queries(2),
+        sends(),
+        receives(1, first_phase(1, 7, 2)),
+        receives(3, first_phase(1, 9, 2)),
+        queries(1),
+        wishes_to_send(second_phase(1, None)),
+        sends(),
+    ];
+    let one_has_a_value = [
+        receives(1, second_phase(1, None)),
+        Turn::Wishes(None),
+        receives(3, second_phase(1, value(9))),
+        goes_on(),
+        Turn::IsAtPlace(0),
+        Turn::HasDecided(None),
+        queries(1),
+        wishes_to_send(first_phase(2, 9, 1)),
+    ];
+    Machine::<Leader>::check(&rt, &OF_THREE, &without_a_value, &one_has_a_value)
+}

@@ -162,6 +162,13 @@ impl<P: SameState> Machine<P> {
         Ok(())
     }
 
+    /// The machine after some turns.
+    fn after<R: Abort + AllocGlobal>(rt: &R, start: &Start, turns: &[Turn]) -> Result<Self, Fail> {
+        let mut machine = Self::of(rt, start)?;
+        machine.follow(rt, turns)?;
+        Ok(machine)
+    }
+
     /// Has the machine take the turns, in two parts.
     pub fn check<R: Abort + AllocGlobal>(
         rt: &R,
@@ -169,8 +176,19 @@ impl<P: SameState> Machine<P> {
         first: &[Turn],
         then: &[Turn],
     ) -> Result<(), Fail> {
-        let mut machine = Self::of(rt, start)?;
-        machine.follow(rt, first)?;
+        let mut machine = Self::after(rt, start, first)?;
         machine.follow(rt, then)
+    }
+
+    /// Whether the machine is in the same state after these turns as after those.
+    pub fn leads_to_same<R: Abort + AllocGlobal>(
+        rt: &R,
+        start: &Start,
+        these: &[Turn],
+        those: &[Turn],
+    ) -> Result<bool, Fail> {
+        let machine = Self::after(rt, start, these)?;
+        let other = Self::after(rt, start, those)?;
+        Ok(machine.process.has_same_state(&other.process))
     }
 }

@@ -8,10 +8,10 @@ use std::test::Fail;
 
 fn example(alloc: Global) -> Result<ExampleRecords, NoMemory> {
     let mut records = ExampleRecords::new(alloc);
-    records.add(alloc, step(1, 1, Kind::Query(Proc::new(1))))?;
-    records.add(alloc, step(1, 2, Kind::Send(1)))?;
-    records.add(alloc, Event::Lost(copy(1, 1, 2)))?;
-    records.add(alloc, step(2, 1, Kind::Query(Proc::new(1))))?;
+    records.add(step(1, 1, Kind::Query(Proc::new(1))))?;
+    records.add(step(1, 2, Kind::Send(1)))?;
+    records.add(Event::Lost(copy(1, 1, 2)))?;
+    records.add(step(2, 1, Kind::Query(Proc::new(1))))?;
     Ok(records)
 }
 
@@ -49,9 +49,9 @@ fn counts_of_two_receives(rt: HostRuntime) -> Result<(), Fail> {
     let mut records = example(rt.alloc())?;
     let to_itself = receive(1, 3, 1, 1);
     let to_another = receive(3, 1, 1, 1);
-    assert!(rt; records.add(rt.alloc(), to_itself)?);
-    assert!(rt; records.add(rt.alloc(), to_another)?);
-    assert!(rt; !records.add(rt.alloc(), step(3, 1, Kind::Local))?);
+    assert!(rt; records.add(to_itself)?);
+    assert!(rt; records.add(to_another)?);
+    assert!(rt; !records.add(step(3, 1, Kind::Local))?);
     assert_eq!(rt; records.count_of(name(1, 2)), 3);
     assert_eq!(rt; records.count_of(name(1, 1)), 1);
     assert_eq!(rt;
@@ -65,21 +65,29 @@ fn counts_of_two_receives(rt: HostRuntime) -> Result<(), Fail> {
 #[test]
 fn what_it_takes_to_go_back(rt: HostRuntime) -> Result<(), Fail> {
     let mut records = example(rt.alloc())?;
-    let write = step(2, 2, Kind::Write(Reg::Dec));
-    assert!(rt; records.add(rt.alloc(), write)?);
     let cell = Cell {
         lre: 0,
         lrww: 0,
         val: Some(Val::new(7)),
     };
-    assert_eq!(rt; records.len(), 5);
-    records.set_last(&rt, Some(12), Some(cell));
+    let write = step(2, 2, Kind::Write(Reg::Dec));
+    assert!(rt; records.add_with(write, Some(12), Some(cell))?);
     assert_eq!(rt; records.len(), 5);
     assert_eq!(rt; records.count_of(name(2, 2)), 0);
-    let entry = records.withdraw(&rt);
+    let entry = records.take_entry_of(Proc::new(2)).expect(&rt, "the write");
     assert_eq!(rt; entry.event, step(2, 2, Kind::Write(Reg::Dec)));
     assert_eq!(rt; entry.back, Some(12));
     assert_eq!(rt; entry.overwritten, Some(cell));
+    assert_eq!(rt; records.count_of(name(2, 1)), 0);
+    Ok(())
+}
+
+/// Where the change of an event fails, the event is not added.
+#[test]
+fn a_failed_change_is_not_recorded(rt: HostRuntime) -> Result<(), Fail> {
+    let mut records = example(rt.alloc())?;
+    assert!(rt; records.add_without_memory(step(2, 2, Kind::Local)));
+    assert_eq!(rt; records.len(), 4);
     assert_eq!(rt; records.count_of(name(2, 1)), 0);
     Ok(())
 }

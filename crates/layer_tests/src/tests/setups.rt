@@ -7,7 +7,7 @@ use std::alloc::Global;
 use std::process::Abort;
 use std::test::Fail;
 
-/// The setup that the tests change in one place.
+/// The setup that the tests change in one part.
 const ONE: &str = r#"{"algorithm":"leader","processes":1,"quorum":1,"inputs":[7],"oracle":[[1]]}"#;
 
 /// The same with the version that allows the loss of copies.
@@ -84,7 +84,7 @@ const ACCEPTED: [&str; 9] = [
     r#"{"algorithm":"leader","processes":1,"quorum":1,"inputs":[7],"oracle":[[]]}"#,
 ];
 
-/// Compares a setup of that place with each text.
+/// Compares a setup with that part with each text.
 fn compare_with_all<R: Abort>(
     rt: &R,
     alloc: Global,

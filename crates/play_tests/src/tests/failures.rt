@@ -1,12 +1,16 @@
 //! Readers and writers that fail, and bad scripts and setups.
 
+use super::long::{LONG_SCRIPT, LONG_TRANSCRIPT};
 use super::setups::{MAJORITY, ONE_PROCESS};
 use super::{Halting, Memory, check_fault, writer};
 use cdb_any_run::RunOfSetup;
 use cdb_play::{Bytes, Input, Output, PlayFault, RaceFault, fits, play, race_on};
 use cdb_setup::{Setup, SetupFault};
 use cdb_text::LineFault;
+use std::process::Abort;
+use std::sync::Wait;
 use std::test::Fail;
+use std::thread::Threads;
 
 /// Two processes drive themselves to a decision, in 12 lines.
 const SCRIPT: &str =
@@ -77,38 +81,55 @@ fn stopping(rt: &impl AllocGlobal, good_calls: usize, takes_none: bool) -> Memor
     }
 }
 
-#[test]
-fn a_writer_that_stops_at_each_call(rt: HostRuntime) {
-    for takes_none in [false, true] {
-        // The transcript has 161 bytes.
-        for good_calls in 0..23 {
-            let mut out = stopping(&rt, good_calls, takes_none);
-            let mut source = Bytes::new(SCRIPT.as_bytes());
-            let answer = play::<RunOfSetup, _, _>(
-                rt.alloc(),
-                MAJORITY.as_bytes(),
-                &mut source,
-                &mut out,
-            );
-            assert_eq!(rt; answer, Err(PlayFault::Write), "after {good_calls} calls");
-            assert_eq!(rt; out.failures, 1);
-            assert_eq!(rt; out.held.len(), 7 * good_calls);
-            assert!(rt; TRANSCRIPT.as_bytes().starts_with(out.held.as_slice()));
-        }
+/// Plays a script of both processes to a writer that stops at each of this many calls in turn.
+fn stop_play(
+    rt: &(impl Abort + AllocGlobal),
+    script: &str,
+    transcript: &str,
+    calls: usize,
+    takes_none: bool,
+) {
+    for good_calls in 0..calls {
+        let mut out = stopping(rt, good_calls, takes_none);
+        let mut source = Bytes::new(script.as_bytes());
+        let answer = play::<RunOfSetup, _, _>(
+            rt.alloc(),
+            MAJORITY.as_bytes(),
+            &mut source,
+            &mut out,
+        );
+        assert_eq!(rt; answer, Err(PlayFault::Write), "after {good_calls} calls");
+        assert_eq!(rt; out.failures, 1);
+        assert_eq!(rt; out.held.len(), 7usize.wrapping_mul(good_calls));
+        assert!(rt; transcript.as_bytes().starts_with(out.held.as_slice()));
     }
 }
 
 #[test]
-fn a_writer_that_stops_at_each_call_of_a_race(rt: HostRuntime) -> Result<(), Fail> {
-    let text = b"seat 2\ndecisions none\ndecisions none\ndecisions agree\n";
+fn a_writer_that_stops_at_each_call(rt: HostRuntime) {
+    // Of 161 bytes, and of 1,049, seven are taken a call.
+    for takes_none in [false, true] {
+        stop_play(&rt, SCRIPT, TRANSCRIPT, 23, takes_none);
+        stop_play(&rt, LONG_SCRIPT, LONG_TRANSCRIPT, 150, takes_none);
+    }
+}
+
+/// Runs a race of one script, in which no process is driven, to a writer that stops at each of this many calls in turn.
+fn stop_race<R: Abort + Threads + Wait + Sync + AllocGlobal>(
+    rt: &R,
+    setup: &str,
+    script: &str,
+    text: &str,
+    calls: usize,
+) -> Result<(), Fail> {
     let mut scripts = Vec::new(rt.alloc());
-    scripts.push(Vec::from_slice(rt.alloc(), b"decisions\n".as_slice())?)?;
-    for good_calls in 0..8 {
-        let setup = Setup::read(rt.alloc(), ONE_PROCESS.as_bytes())?;
-        let mut out = stopping(&rt, good_calls, false);
+    scripts.push(Vec::from_slice(rt.alloc(), script.as_bytes())?)?;
+    for good_calls in 0..calls {
+        let setup = Setup::read(rt.alloc(), setup.as_bytes())?;
+        let mut out = stopping(rt, good_calls, false);
         if fits(&setup, scripts.len()) {
             let answer = race_on::<RunOfSetup, _, _>(
-                &rt,
+                rt,
                 rt.alloc(),
                 setup,
                 0,
@@ -118,10 +139,25 @@ fn a_writer_that_stops_at_each_call_of_a_race(rt: HostRuntime) -> Result<(), Fai
             assert_eq!(rt; answer, Err(RaceFault::Write), "after {good_calls} calls");
         }
         assert_eq!(rt; out.failures, 1);
-        assert_eq!(rt; out.held.len(), 7 * good_calls);
-        assert!(rt; text.starts_with(out.held.as_slice()));
+        assert_eq!(rt; out.held.len(), 7usize.wrapping_mul(good_calls));
+        assert!(rt; text.as_bytes().starts_with(out.held.as_slice()));
     }
     Ok(())
+}
+
+#[test]
+fn a_writer_that_stops_at_each_call_of_a_race(rt: HostRuntime) -> Result<(), Fail> {
+    let text = "seat 2\ndecisions none\ndecisions none\ndecisions agree\n";
+    stop_race(&rt, ONE_PROCESS, "decisions\n", text, 8)
+}
+
+#[test]
+fn a_writer_that_stops_at_each_call_of_a_long_race(rt: HostRuntime) -> Result<(), Fail> {
+    let text = format!(in rt.alloc();
+        "seat 3\n{LONG_TRANSCRIPT}decisions 1=5 2=5\ndecisions agree\n"
+    )?;
+    // It has 1,090 bytes.
+    stop_race(&rt, MAJORITY, LONG_SCRIPT, text.as_str(), 156)
 }
 
 #[test]

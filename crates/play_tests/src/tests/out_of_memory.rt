@@ -2,7 +2,7 @@
 //! it all. To see it, let each allocation of these tests fail in turn.
 
 ghost use Rattle.std.specs.Prelude.{IfOk};
-ghost use Rattle.cdb_setup.specs.Format.{StandsFor};
+ghost use Rattle.cdb_setup.specs.Format.{Encodes};
 
 use super::Memory;
 use super::setups::{MAJORITY, ONE_PROCESS};
@@ -90,7 +90,7 @@ fn scripts_of_race(alloc: Global) -> Result<Vec<Vec<u8>>, AllocError> {
 
 /// The setup, read once more where an allocation fails.
 fn setup_at_last(alloc: Global, text: &[u8]) -> Result<Setup, SetupFault>
-    ensures { IfOk result (λ setup. StandsFor text.now setup) }
+    ensures { IfOk result (λ setup. Encodes text.now setup) }
 {
     match Setup::read(alloc, text) {
         Ok(setup) => Ok(setup),

@@ -1,7 +1,7 @@
 //! Files in memory.
 
 use super::streams::Visitor;
-use cdb_hall::Place;
+use cdb_hall::Station;
 use cdb_play::ReadFault;
 use cdb_program::Files;
 use std::alloc::Global;
@@ -87,7 +87,7 @@ impl Files for Folder {
     }
 
     /// A seat's input is the file of its name, and its output is lost.
-    fn open_seat(&mut self, alloc: Global, name: &str) -> Result<Place<Self::Seat>, ReadFault> {
+    fn open_seat(&mut self, alloc: Global, name: &str) -> Result<Station<Self::Seat>, ReadFault> {
         let copy = Vec::from_slice(alloc, name.as_bytes())?;
         let content = content_of(self.files, name);
         let lines = Vec::from_slice(alloc, content.unwrap_or(b""))?;
@@ -99,6 +99,6 @@ impl Files for Folder {
             return Err(ReadFault::Failed);
         }
         let talk = Visitor::new(lines);
-        Ok(Place { talk, prompt: b"" })
+        Ok(Station { talk, prompt: b"" })
     }
 }

@@ -70,7 +70,7 @@ impl Example {
         }
     }
 
-    /// The same, or none where it is no setup or memory was wanting.
+    /// The same, or none where it is no setup or an allocation failed.
     fn try_start(alloc: Global, setup: &str) -> Option<Example> {
         let setup = read(alloc, setup).ok()?;
         Example::of(alloc, setup).ok()

@@ -10,13 +10,13 @@ use std::process::Abort;
 
 /// Numbers that look like chance, the same in each run of the test.
 #[derive(Drop)]
-struct Dice {
-    state: u32,
+pub struct Dice {
+    pub state: u32,
 }
 
 impl Dice {
     /// A number below the number of sides, or 0 if there are none.
-    fn roll(&mut self, sides: u32) -> u32 {
+    pub fn roll(&mut self, sides: u32) -> u32 {
         self.state = self
             .state
             .wrapping_mul(1_664_525)

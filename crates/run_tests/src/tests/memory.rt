@@ -8,7 +8,7 @@ use cdb_base::{Act, Event, NoMemory, Refusal};
 use cdb_causal::History;
 use std::process::Abort;
 
-/// Makes the move, and makes it again where memory was wanting, after which the run shows what the one
+/// Makes the move, and makes it again where an allocation failed, after which the run shows what the one
 /// behind it shows.
 fn make_at_last<R: Abort + AllocGlobal>(
     rt: &R,
@@ -23,7 +23,7 @@ fn make_at_last<R: Abort + AllocGlobal>(
     make(rt.alloc(), run, asked).expect(rt, "an answer")
 }
 
-/// Makes the move in the run that is behind, and again where memory was wanting.
+/// Makes the move in the run that is behind, and again where an allocation failed.
 fn catch_up<R: Abort + AllocGlobal>(
     rt: &R,
     behind: &mut Example,
@@ -53,8 +53,8 @@ fn make_in_both<R: Abort + AllocGlobal>(
     assert!(rt; look_same(run, behind));
 }
 
-/// Makes the moves in a run, and in another that is always a move behind it, and asks again where memory
-/// was wanting.
+/// Makes the moves in a run, and in another that is always a move behind it, and asks again where an allocation
+/// failed.
 fn make_moves<R: Abort + AllocGlobal>(rt: &R, run: &mut Example, setup: &str, moves: &[Move]) {
     let mut behind = Example::start(rt, setup);
     for asked in moves {
@@ -71,7 +71,7 @@ fn take_event<R: Abort + AllocGlobal>(
     Ok(run.again(rt, event)?.is_ok())
 }
 
-/// Takes the event again, and once more where memory was wanting, after which the run shows what the
+/// Takes the event again, and once more where an allocation failed, after which the run shows what the
 /// one behind it shows.
 fn take_event_at_last<R: Abort + AllocGlobal>(
     rt: &R,
@@ -118,7 +118,7 @@ fn repeat<R: Abort + AllocGlobal>(rt: &R, run: &Example, setup: &str) {
 }
 
 /// Makes the moves in a run of the setup, of which this many events then stand, and takes these again in
-/// another; asks again where memory was wanting.
+/// another; asks again where an allocation failed.
 fn check<R: Abort + AllocGlobal>(rt: &R, setup: &str, moves: &[Move], standing: usize) {
     let mut run = Example::start(rt, setup);
     make_moves(rt, &mut run, setup, moves);

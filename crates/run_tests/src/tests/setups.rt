@@ -35,3 +35,7 @@ pub const THREE_LEADERS: &str =
 /// Three processes of Alpha, each of which now and then takes itself for the leader.
 pub const THREE_WRITERS: &str =
     r#"{"algorithm":"alpha","processes":3,"quorum":2,"inputs":[5,6,7],"oracle":[[1,2,1,3,1],[2,2,3,2],[3,1,3,3,2,3]]}"#;
+
+/// Nine processes with a majority, each of which hears itself named at first, and then the first.
+pub const NINE_LEADERS: &str =
+    r#"{"version":2,"algorithm":"leader","processes":9,"quorum":5,"inputs":[1,2,3,4,5,6,7,8,9],"oracle":[[1,1,1],[2,1,1],[3,1,1],[4,1,1],[5,1,1],[6,1,1],[7,1,1],[8,1,1],[9,1,1]]}"#;

@@ -28,7 +28,7 @@ fn replayed<R: Abort + AllocGlobal>(rt: &R, run: &Example, gone: &[Event]) -> Ex
     other
 }
 
-/// The first later event that depends on the one at place `i`, from 0.
+/// The first later event that depends on the one at position `i`, from 0.
 fn first_needing(history: &History, i: usize) -> Option<StepId>
     requires { i < length history.now }
 {
@@ -49,7 +49,7 @@ fn append(events: &mut Vec<Event>, event: &Event) -> Result<(), NoMemory> {
     Ok(())
 }
 
-/// The event at place `i`, from 0, and those later ones that depend on it or on one of these.
+/// The event at position `i`, from 0, and those later ones that depend on it or on one of these.
 fn with_consequences(alloc: Global, history: &History, i: usize) -> Result<Vec<Event>, NoMemory>
     requires { i < length history.now }
 {
@@ -100,7 +100,7 @@ fn compare_with_replay<R: Abort + AllocGlobal>(
     assert!(rt; look_same(fast, &slow));
 }
 
-/// Undoes the event at place `i` in a twin of the run.
+/// Undoes the event at position `i` in a twin of the run.
 fn undo_in_twin<R: Abort + AllocGlobal>(rt: &R, run: &Example, twin: &mut Example, i: usize) {
     let history = run.history();
     assert!(rt; i < history.len());
@@ -119,13 +119,13 @@ fn undo_in_twin<R: Abort + AllocGlobal>(rt: &R, run: &Example, twin: &mut Exampl
     }
 }
 
-/// Undoes the event at place `i` in a run of its own.
+/// Undoes the event at position `i` in a run of its own.
 pub fn undo_as_replayed<R: Abort + AllocGlobal>(rt: &R, run: &Example, i: usize) {
     let mut twin = replayed(rt, run, &[]);
     undo_in_twin(rt, run, &mut twin, i);
 }
 
-/// Rolls the event at place `i` back in a twin of the run.
+/// Rolls the event at position `i` back in a twin of the run.
 fn roll_back_in_twin<R: Abort + AllocGlobal>(rt: &R, run: &Example, twin: &mut Example, i: usize) {
     let history = run.history();
     assert!(rt; i < history.len());
@@ -138,8 +138,20 @@ fn roll_back_in_twin<R: Abort + AllocGlobal>(rt: &R, run: &Example, twin: &mut E
     compare_with_replay(rt, run, twin, gone.as_slice());
 }
 
-/// Rolls the event at place `i` back in a run of its own.
+/// Rolls the event at position `i` back in a run of its own.
 pub fn roll_back_as_replayed<R: Abort + AllocGlobal>(rt: &R, run: &Example, i: usize) {
     let mut twin = replayed(rt, run, &[]);
     roll_back_in_twin(rt, run, &mut twin, i);
+}
+
+/// Undoes the event at position `i` in the run itself.
+pub fn undo_at<R: Abort + AllocGlobal>(rt: &R, run: &mut Example, i: usize) {
+    let before = replayed(rt, run, &[]);
+    undo_in_twin(rt, &before, run, i);
+}
+
+/// Rolls the event at position `i` back in the run itself.
+pub fn roll_back_at<R: Abort + AllocGlobal>(rt: &R, run: &mut Example, i: usize) {
+    let before = replayed(rt, run, &[]);
+    roll_back_in_twin(rt, &before, run, i);
 }

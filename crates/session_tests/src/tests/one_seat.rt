@@ -3,6 +3,7 @@
 mod dialogues;
 mod failures;
 
+use cdb_any_run::RunOfSetup;
 use cdb_debug::{Talk, debug};
 use cdb_play::{Failed, PlayFault};
 use std::process::Abort;
@@ -86,7 +87,7 @@ fn check(
 ) -> Result<(), Fail> {
     for most in [1, 3, 7, 10_000] {
         let mut talk = at_prompt(rt, lines.as_bytes(), most);
-        let outcome = debug(rt.alloc(), setup, b"", &mut talk);
+        let outcome = debug::<RunOfSetup, _>(rt.alloc(), setup, b"", &mut talk);
         assert_eq!(rt; outcome, Ok(()));
         assert_eq!(rt; str::from_utf8(talk.said.as_slice()), Ok(answers));
     }

@@ -4,8 +4,9 @@ mod failures;
 mod halls;
 mod reports;
 
+use cdb_any_run::RunOfSetup;
 use cdb_debug::Talk;
-use cdb_hall::{Attended, Place, debug_seats, journal_text};
+use cdb_hall::{Attended, Station, debug_seats, journal_text};
 use cdb_play::Failed;
 use cdb_setup::Setup;
 use std::process::Abort;
@@ -91,15 +92,16 @@ pub fn hold<R: Threads + Wait + Sync + Abort + AllocGlobal>(
     people: Vec<Person>,
 ) -> Result<Record, Fail> {
     let setup = Setup::read(rt.alloc(), setup)?;
-    let mut places = Vec::new(rt.alloc());
+    let mut stations = Vec::new(rt.alloc());
     for talk in people {
-        places.push(Place {
+        stations.push(Station {
             talk,
             prompt: b"> ",
         })?;
     }
-    assert!(rt; 1 <= places.len() && places.len() <= 64);
-    let Ok((control, attended)) = debug_seats(rt, rt.alloc(), setup, places) else {
+    assert!(rt; 1 <= stations.len() && stations.len() <= 64);
+    let held = debug_seats::<RunOfSetup, _, _>(rt, rt.alloc(), setup, stations);
+    let Ok((control, attended)) = held else {
         return Err("no hall".into());
     };
     let journal = journal_text(rt.alloc(), control.journal())?;

@@ -9,6 +9,7 @@ use cdb_any_run::RunOfSetup;
 use cdb_control::{CallFault, Command, Control};
 use cdb_shared::End;
 use std::alloc::Global;
+use std::process::Abort;
 use std::test::Fail;
 
 /// Gives this many commands that change nothing.
@@ -37,5 +38,25 @@ fn the_journal_is_full_in_the_middle(rt: HostRuntime) -> Result<(), Fail> {
     assert_eq!(rt; end, End::JournalFull);
     let (_, count, end) = pair.drive(&rt, OPEN, 8);
     assert_eq!(rt; (count, end), (0, End::JournalFull));
+    Ok(())
+}
+
+/// Compares how many entries of the journal are of which of both seats, and how many events stand.
+fn compare<R: Abort>(rt: &R, control: &Control<RunOfSetup>, seats: (usize, usize), events: usize) {
+    let journal = control.journal();
+    let of_first = journal.iter().filter(|entry| entry.seat == 1).count();
+    let of_second = journal.iter().filter(|entry| entry.seat == 2).count();
+    assert_eq!(rt; (of_first, of_second), seats);
+    assert_eq!(rt; control.run().any().history().len(), events);
+}
+
+#[test]
+fn the_last_entry_is_of_the_first_command(rt: HostRuntime) -> Result<(), Fail> {
+    let pair = Pair::over(&rt, filled(&rt, ALONE, 999_998)?)?;
+    let commands = [Command::Forget, Command::Forget];
+    let (pair, replies, end) = pair.exchanged().serve(&rt, OPEN, &commands);
+    say(&rt, &replies, "forgot 0\n")?;
+    assert_eq!(rt; end, End::JournalFull);
+    compare(&rt, &pair.unshared(&rt)?, (999_998, 1), 0);
     Ok(())
 }

@@ -10,7 +10,7 @@ use std::alloc::AllocError;
 use std::sync::Wait;
 use std::test::Fail;
 
-/// Drives process 1 for eight turns, and for what is left of them if memory was wanting.
+/// Drives process 1 for eight turns, and for what is left of them if an allocation failed.
 fn drive_at_last<R: Wait + AllocGlobal>(rt: &R, pair: Pair) -> (Pair, u32, End) {
     let (pair, count, end) = pair.drive(rt, OPEN, 8);
     if end != End::NoMemory {
@@ -25,7 +25,7 @@ fn left(commands: &[Command], answered: usize) -> &[Command] {
     commands.get(answered..).unwrap_or(&[])
 }
 
-/// Serves the commands, and those that are left if memory was wanting.
+/// Serves the commands, and those that are left if an allocation failed.
 fn serve_at_last<R: Wait + AllocGlobal>(
     rt: &R,
     pair: Pair,

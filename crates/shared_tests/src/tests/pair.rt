@@ -175,11 +175,15 @@ impl Pair {
         shared.finish(rt, seats)
     }
 
+    /// Ends the sharing, and gives the control.
+    pub fn unshared<R: Wait + AllocGlobal>(self, rt: &R) -> Result<Control<RunOfSetup>, Fail> {
+        let room = room_for_two(rt)?;
+        Ok(self.end(rt, room))
+    }
+
     /// Ends the sharing, and gives the seat of each entry of the journal.
     pub fn finish<R: Wait + AllocGlobal>(self, rt: &R) -> Result<Vec<u8>, Fail> {
-        let room = room_for_two(rt)?;
-        let control = self.end(rt, room);
-        seats_of(rt, &control)
+        seats_of(rt, &self.unshared(rt)?)
     }
 }
 

@@ -11,7 +11,7 @@ returns-then-depends c =
     let at_j = c.event-event.ensures in
     let later : c.args.i < c.loop-j.j = omega arith in
     record {
-      place = c.loop-j.j;
+      position = c.loop-j.j;
       named = (c.event-event.result.now, at_j, sym c.name.ensures);
       link = link_at depends events c.args.i c.loop-j.j c.event-cause.result.now c.event-event.result.now later at_i at_j (sym c.depends.ensures ∙ c.if-depends.true);
       first = λ k l. above_suc k c.loop-j.j (λ less. c.loop-j.invariant k less l);

@@ -9,21 +9,21 @@ use Rattle.cdb_causal.proofs.Prefixes.{counted_next}
 use Rattle.cdb_causal.proofs.counts.count_direct_dependents.Goals as goal
 use Rattle.cdb_causal.proofs.counts.count_direct_dependents.Goals.{then-is_direct_cause, else-is_direct_cause}
 
--- the direct dependents before place j of an event, whose own place counts from 1
+-- the direct dependents before position j of an event, whose own position counts from 1
 abbrev counted : List Event → ℕ → Event → ℕ → ℕ
 counted history at event j = direct_dependents depends event (take (j - at) (drop at history))
 
--- with place j one more where the event there depends on it directly
+-- with position j one more where the event there depends on it directly
 counted_more : (history : List Event) (at j : ℕ) (b : Bool) → 1 ≤ at → at ≤ j → j < length history → (IsTrue b ↔ IsDirectCause depends history (at - 1) j)
     → (event : Event) → slice_get history (at - 1) ≡ Some event → counted history at event (j + 1) ≡ counted history at event j + as_number b
 counted_more history zero j b from_one later within tested event at_event = absurd (omega (arith, from_one))
 counted_more history (suc i) j b from_one later within tested event at_event =
-    let place : suc i - 1 ≡ i = omega arith in
+    let position : suc i - 1 ≡ i = omega arith in
     let more : j + 1 - suc i ≡ suc (j - suc i) = omega (arith, later) in
     let is : j ≡ suc i + (j - suc i) = omega (arith, later) in
     ap (λ n. direct_dependents depends event (take n (drop (suc i) history))) more
-    ∙ counted_next depends history j i (j - suc i) event (get_or history j event) (ap (slice_get history) (sym place) ∙ at_event) (slice_get-get_or history j event within) is
-    b (subst (λ n. IsTrue b ↔ IsDirectCause depends history n j) place tested)
+    ∙ counted_next depends history j i (j - suc i) event (get_or history j event) (ap (slice_get history) (sym position) ∙ at_event) (slice_get-get_or history j event within) is
+    b (subst (λ n. IsTrue b ↔ IsDirectCause depends history n j) position tested)
 
 pub loop-j-preserved : goal.loop-j-preserved
 loop-j-preserved c =

@@ -1,7 +1,7 @@
 use Rattle.std.proofs.Common.{◌≡◌, ℕ, ◌+◌, ◌-◌, List, sym, ap, ◌∙◌, subst, arith}
 use Rattle.cdb_base.specs.declared.event.Event.{Event}
 use Rattle.cdb_causal.proofs.DirectCausesBelow.{AreDirectCausesBelow, below_none, below_some, below_start, below_ten, room}
-use Rattle.cdb_causal.proofs.LastPlaces.{above_causes}
+use Rattle.cdb_causal.proofs.LastPositions.{above_causes}
 use Rattle.cdb_causal.proofs.SlotsOfCauses.{one_name}
 use Rattle.cdb_causal.proofs.direct.direct_causes.Goals as goal
 use Rattle.cdb_causal.proofs.direct.direct_causes.Goals.{in-Some, in_default}

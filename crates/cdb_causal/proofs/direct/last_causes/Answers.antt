@@ -2,7 +2,7 @@ use Rattle.std.proofs.Common.{◌≡◌, ◌≢◌, ℕ, ◌+◌, ◌<◌, ◌�
 use Rattle.std.proofs.lemmas.List.{get_or-set_same, get_or-set_other}
 use Rattle.std.proofs.lemmas.Option.{none-some}
 use Rattle.cdb_causal.specs.LastCauses.{IsLastOrNone}
-use Rattle.cdb_causal.proofs.LastPlaces.{none_at_first, last_below}
+use Rattle.cdb_causal.proofs.LastPositions.{none_at_first, last_below}
 use Rattle.cdb_causal.proofs.direct.last_causes.Goals as goal
 
 this_or_below : (k n : ℕ) → k < n + 1 → (k ≡ n) ⊎ (k < n)

@@ -1,5 +1,6 @@
 use Rattle.std.proofs.Common.{◌+◌, ◌≤◌, length}
 use Rattle.cdb_setup.specs.Format.{longest}
+use Rattle.cdb_debug.specs.Dialogues.{session_by}
 use Rattle.cdb_debug.proofs.Looking.{Goes}
 use Rattle.cdb_debug.proofs.hearing.hear.Given as goal
 
@@ -7,7 +8,7 @@ abbrev pub invariant-loop-line : goal.invariant-loop-line
 invariant-loop-line g l = record {
   few : length l.held.items ≤ longest + 1;
   lines : l.session.lines + length l.rest ≤ l.initial.session.lines + length l.bytes;
-  goes : Goes l.prompt (g.T.Talk.known l.initial.talk) l.initial.session l.initial.held.items l.bytes (g.T.Talk.known l.talk) l.session l.held.items l.rest;
+  goes : Goes l.prompt (g.T.Talk.known l.initial.talk) (session_by g.R.Runs.rules l.initial.session) l.initial.held.items l.bytes (g.T.Talk.known l.talk) (session_by g.R.Runs.rules l.session) l.held.items l.rest;
 }
 
 abbrev pub decreases-loop-line : goal.decreases-loop-line

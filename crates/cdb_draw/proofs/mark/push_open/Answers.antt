@@ -10,7 +10,7 @@ returns c =
     let piece-1 : List ℕ = codes "<g class='" in
     let piece-2 : List ℕ = weight_text c.args.full in
     let piece-3 : List ℕ = codes "' transform='translate(" in
-    let piece-4 : List ℕ = spot_text c.args.setup.now c.args.place c.args.p in
+    let piece-4 : List ℕ = spot_text c.args.setup.now c.args.position c.args.p in
     let piece-5 : List ℕ = codes ")'>" in
     let bytes-0 : List ℕ = string_bytes c.args.text.now in
     let bytes-1 : List ℕ = string_bytes c.push.new.text in

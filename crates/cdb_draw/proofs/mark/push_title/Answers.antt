@@ -1,15 +1,14 @@
 use Rattle.std.specs.Prelude.{List, codes, string_bytes, ℕ, ◌++◌, ◌≡◌}
 use Rattle.cdb_draw.specs.EventMarks.{title_text}
 use Rattle.cdb_explain.specs.Explanations.{whole_text}
-use Rattle.cdb_rules.specs.Algorithms.{rules}
 use Rattle.cdb_draw.proofs.Pushing.{last, next}
 use Rattle.cdb_draw.proofs.mark.push_title.Goals as goal
 
 pub returns : goal.returns
 unfolding title_text
-returns c =
+returns g c =
     let piece-1 : List ℕ = codes "<title>" in
-    let piece-2 : List ℕ = whole_text rules c.args.run.now c.args.run.now c.args.event.now in
+    let piece-2 : List ℕ = whole_text g.T.Runs.rules (g.T.Runs.run c.args.run.now) (g.T.Runs.run c.args.run.now) c.args.event.now in
     let piece-3 : List ℕ = codes "</title>" in
     let bytes-0 : List ℕ = string_bytes c.args.text.now in
     let bytes-1 : List ℕ = string_bytes c.push.new.text in

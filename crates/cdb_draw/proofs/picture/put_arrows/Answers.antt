@@ -11,18 +11,18 @@ returns-in_err-sends g c =
     let p = err_from_is_err_and c.from_residual.result c.from_residual.ensures.1 in
     rw (p.1, p.2) (puts_nothing _ _ _ _ _)
 
-pub loop-place-init : goal.loop-place-init
-loop-place-init g c = put_nothing _ _ c.args.out.now c.args.buffer.now
+pub loop-position-init : goal.loop-position-init
+loop-position-init g c = put_nothing _ _ c.args.out.now c.args.buffer.now
 
-pub loop-place-preserved : goal.loop-place-preserved
-loop-place-preserved g c =
-    put_one _ _ (arrow_at c.args.run.now c.args.marks.now) c.args.out.now c.loop-place.out c.put_arrow.new.out c.args.buffer.now c.loop-place.buffer c.put_arrow.new.buffer c.loop-place.place c.loop-place.invariant c.in_ok-put_arrow.ensures
+pub loop-position-preserved : goal.loop-position-preserved
+loop-position-preserved g c =
+    put_one _ _ (arrow_at c.args.run.now c.args.marks.now) c.args.out.now c.loop-position.out c.put_arrow.new.out c.args.buffer.now c.loop-position.buffer c.put_arrow.new.buffer c.loop-position.position c.loop-position.invariant c.in_ok-put_arrow.ensures
 
 pub returns-in_err-put_arrow : goal.returns-in_err-put_arrow
 returns-in_err-put_arrow g c =
     let p = err_from_is_err_and c.from_residual-in_err-put_arrow.result c.from_residual-in_err-put_arrow.ensures.1 in
-    let i : ℕ = c.loop-place.place in
-    let same : c.history-history.result.now ≡ c.args.run.now.history = c.history-history.ensures.events ∙ ap (λ r. r.history) c.any.ensures.run in
-    let below : i < length c.args.run.now.history = subst (λ (h : List Event). i < length h) same (subst (λ (n : ℕ). i < n) c.len-place-end.ensures.count c.loop-place-test.true) in
+    let i : ℕ = c.loop-position.position in
+    let same : c.history-history.result.now ≡ c.args.run.now.history = c.history-history.ensures in
+    let below : i < length c.args.run.now.history = subst (λ (h : List Event). i < length h) same (subst (λ (n : ℕ). i < n) c.len-position-end.ensures.count c.loop-position-test.true) in
     rw (p.1, p.2)
-    (cut_one _ _ (Unit {0}) c.in_err-put_arrow.field-0.0 (arrow_at c.args.run.now c.args.marks.now) c.args.out.now c.loop-place.out c.put_arrow.new.out c.args.buffer.now c.loop-place.buffer c.put_arrow.new.buffer (length c.args.run.now.history) i below c.loop-place.invariant c.in_err-put_arrow.ensures)
+    (cut_one _ _ (Unit {0}) c.in_err-put_arrow.field-0.0 (arrow_at c.args.run.now c.args.marks.now) c.args.out.now c.loop-position.out c.put_arrow.new.out c.args.buffer.now c.loop-position.buffer c.put_arrow.new.buffer (length c.args.run.now.history) i below c.loop-position.invariant c.in_err-put_arrow.ensures)

@@ -8,8 +8,8 @@ use Rattle.cdb_play.specs.Buffers.{IsPut}
 use Rattle.cdb_explain.proofs.Along.{next_along, next_valid}
 use Rattle.cdb_play.specs.declared.buffer.OutputFault.TheVariants.{NoMemory}
 use Rattle.cdb_play.proofs.Putting.{put_nothing, puts_nothing}
-use Rattle.cdb_rules.specs.Algorithms.{rules}
 use Rattle.cdb_rules.specs.RunView.{RunView}
+use Rattle.cdb_setup.specs.Parts.{AreInRange}
 use Rattle.cdb_draw.proofs.Parted.{cut_one, put_one}
 use Rattle.cdb_draw.proofs.picture.put_marks.Goals as goal
 
@@ -22,65 +22,66 @@ pub take_next-requires : goal.take_next-requires
 take_next-requires g c =
     let run : RunView = c.args.run.now in
     let history : List Event = c.history-history.result.now in
-    let i : ℕ = c.loop-place.place in
+    let i : ℕ = c.loop-position.position in
     let event : Event = c.event-event.result.now in
-    let same : history ≡ run.history = c.history-history.ensures.events ∙ ap (λ r. r.history) c.any.ensures.run in
+    let same : history ≡ run.history = c.history-history.ensures in
     let at : slice_get run.history i ≡ Some event = subst (λ (h : List Event). slice_get h i ≡ Some event) same c.event-event.ensures in
-    let valid = subst (λ (r : RunView). IsTrue ((rules r.setup).valid r.history)) c.any.ensures.run c.history-history.ensures.valid in
-    next_valid run i event at c.loop-place.again c.loop-place.invariant.again valid
+    let range : AreInRange run.setup = subst AreInRange c.setup.ensures c.n-ranges.ensures.ranges in
+    let valid = c.requires.valid in
+    next_valid g.T.Runs.rules g.T.Runs.same_state g.met.T.Runs.histories run i event at (g.T.Runs.run c.loop-position.again) c.loop-position.invariant.again range valid
 
 pub put_mark-requires-clause-after : goal.put_mark-requires-clause-after
 put_mark-requires-clause-after g c =
     let run : RunView = c.args.run.now in
     let history : List Event = c.history-history.result.now in
-    let i : ℕ = c.loop-place.place in
+    let i : ℕ = c.loop-position.position in
     let event : Event = c.event-event.result.now in
-    let same : history ≡ run.history = c.history-history.ensures.events ∙ ap (λ r. r.history) c.any.ensures.run in
+    let same : history ≡ run.history = c.history-history.ensures in
     let at : slice_get run.history i ≡ Some event = subst (λ (h : List Event). slice_get h i ≡ Some event) same c.event-event.ensures in
-    next_along run i event at c.loop-place.again c.loop-place.invariant.again c.take_next.new.again c.in_ok-take_next.ensures
+    next_along g.T.Runs.rules g.T.Runs.same_state g.met.T.Runs.histories run i event at (g.T.Runs.run c.loop-position.again) c.loop-position.invariant.again (g.T.Runs.run c.take_next.new.again) c.in_ok-take_next.ensures
 
-pub loop-place-init : goal.loop-place-init
-loop-place-init g c = record { again = c.in_ok-again.ensures; put = put_nothing _ _ c.args.out.now c.args.buffer.now }
+pub loop-position-init : goal.loop-position-init
+loop-position-init g c = record { again = c.in_ok-again.ensures; put = put_nothing _ _ c.args.out.now c.args.buffer.now }
 
-pub loop-place-preserved : goal.loop-place-preserved
-loop-place-preserved g c =
+pub loop-position-preserved : goal.loop-position-preserved
+loop-position-preserved g c =
     let run : RunView = c.args.run.now in
     let history : List Event = c.history-history.result.now in
-    let i : ℕ = c.loop-place.place in
+    let i : ℕ = c.loop-position.position in
     let event : Event = c.event-event.result.now in
-    let same : history ≡ run.history = c.history-history.ensures.events ∙ ap (λ r. r.history) c.any.ensures.run in
+    let same : history ≡ run.history = c.history-history.ensures in
     let at : slice_get run.history i ≡ Some event = subst (λ (h : List Event). slice_get h i ≡ Some event) same c.event-event.ensures in
     record {
-      again = next_along run i event at c.loop-place.again c.loop-place.invariant.again c.take_next.new.again c.in_ok-take_next.ensures;
-      put = put_one _ _ (mark_at rules c.args.run.now c.args.marks.now) c.args.out.now c.loop-place.out c.put_mark.new.out c.args.buffer.now c.loop-place.buffer c.put_mark.new.buffer i c.loop-place.invariant.put c.in_ok-put_mark.ensures;
+      again = next_along g.T.Runs.rules g.T.Runs.same_state g.met.T.Runs.histories run i event at (g.T.Runs.run c.loop-position.again) c.loop-position.invariant.again (g.T.Runs.run c.take_next.new.again) c.in_ok-take_next.ensures;
+      put = put_one _ _ (mark_at g.T.Runs.rules c.args.run.now c.args.marks.now) c.args.out.now c.loop-position.out c.put_mark.new.out c.args.buffer.now c.loop-position.buffer c.put_mark.new.buffer i c.loop-position.invariant.put c.in_ok-put_mark.ensures;
     }
 
 pub returns-in_err-take_next : goal.returns-in_err-take_next
 returns-in_err-take_next g c =
     let p = err_from_is_err_and c.from_residual-in_err-take_next.result c.from_residual-in_err-take_next.ensures.1 in
-    let i : ℕ = c.loop-place.place in
-    let same : c.history-history.result.now ≡ c.args.run.now.history = c.history-history.ensures.events ∙ ap (λ r. r.history) c.any.ensures.run in
-    let below : i < length c.args.run.now.history = subst (λ (h : List Event). i < length h) same (subst (λ (n : ℕ). i < n) c.len-place-end.ensures.count c.loop-place-test.true) in
+    let i : ℕ = c.loop-position.position in
+    let same : c.history-history.result.now ≡ c.args.run.now.history = c.history-history.ensures in
+    let below : i < length c.args.run.now.history = subst (λ (h : List Event). i < length h) same (subst (λ (n : ℕ). i < n) c.len-position-end.ensures.count c.loop-position-test.true) in
     rw (p.1, p.2)
-    (cut_one g.W.Sink.contents g.W.Sink.failures (Unit {0}) NoMemory (mark_at rules c.args.run.now c.args.marks.now) c.args.out.now c.loop-place.out c.loop-place.out c.args.buffer.now c.loop-place.buffer c.loop-place.buffer (length c.args.run.now.history) i below c.loop-place.invariant.put
-    (puts_nothing g.W.Sink.contents g.W.Sink.failures c.loop-place.out c.loop-place.buffer (mark_at rules c.args.run.now c.args.marks.now i)))
+    (cut_one g.W.Sink.contents g.W.Sink.failures (Unit {0}) NoMemory (mark_at g.T.Runs.rules c.args.run.now c.args.marks.now) c.args.out.now c.loop-position.out c.loop-position.out c.args.buffer.now c.loop-position.buffer c.loop-position.buffer (length c.args.run.now.history) i below c.loop-position.invariant.put
+    (puts_nothing g.W.Sink.contents g.W.Sink.failures c.loop-position.out c.loop-position.buffer (mark_at g.T.Runs.rules c.args.run.now c.args.marks.now i)))
 
 pub returns-in_err-put_mark : goal.returns-in_err-put_mark
 returns-in_err-put_mark g c =
     let p = err_from_is_err_and c.from_residual-in_err-put_mark.result c.from_residual-in_err-put_mark.ensures.1 in
-    let i : ℕ = c.loop-place.place in
-    let same : c.history-history.result.now ≡ c.args.run.now.history = c.history-history.ensures.events ∙ ap (λ r. r.history) c.any.ensures.run in
-    let below : i < length c.args.run.now.history = subst (λ (h : List Event). i < length h) same (subst (λ (n : ℕ). i < n) c.len-place-end.ensures.count c.loop-place-test.true) in
+    let i : ℕ = c.loop-position.position in
+    let same : c.history-history.result.now ≡ c.args.run.now.history = c.history-history.ensures in
+    let below : i < length c.args.run.now.history = subst (λ (h : List Event). i < length h) same (subst (λ (n : ℕ). i < n) c.len-position-end.ensures.count c.loop-position-test.true) in
     rw (p.1, p.2)
-    (cut_one _ _ (Unit {0}) c.in_err-put_mark.field-0.0 (mark_at rules c.args.run.now c.args.marks.now) c.args.out.now c.loop-place.out c.put_mark.new.out c.args.buffer.now c.loop-place.buffer c.put_mark.new.buffer (length c.args.run.now.history) i below c.loop-place.invariant.put c.in_err-put_mark.ensures)
+    (cut_one _ _ (Unit {0}) c.in_err-put_mark.field-0.0 (mark_at g.T.Runs.rules c.args.run.now c.args.marks.now) c.args.out.now c.loop-position.out c.put_mark.new.out c.args.buffer.now c.loop-position.buffer c.put_mark.new.buffer (length c.args.run.now.history) i below c.loop-position.invariant.put c.in_err-put_mark.ensures)
 
 pub returns : goal.returns
 returns g c =
     let run : RunView = c.args.run.now in
-    let same : c.history-history.result.now ≡ run.history = c.history-history.ensures.events ∙ ap (λ r. r.history) c.any.ensures.run in
+    let same : c.history-history.result.now ≡ run.history = c.history-history.ensures in
     let sizes : length c.history-history.result.now ≡ length run.history = ap length same in
-    let test = c.loop-place-test.false in
-    let counted = c.len-place-end.ensures.count in
-    let most = c.loop-place.auto.place-end in
-    let all : c.loop-place.place ≡ length run.history = omega (arith, test, most, counted, sizes) in
-    subst (λ (n : ℕ). IsPut g.W.Sink.contents g.W.Sink.failures c.args.out.now c.args.buffer.now c.loop-place.out c.loop-place.buffer (flat_map (mark_at rules run c.args.marks.now) (range_with_len 0 n))) all c.loop-place.invariant.put
+    let test = c.loop-position-test.false in
+    let counted = c.len-position-end.ensures.count in
+    let most = c.loop-position.auto.position-end in
+    let all : c.loop-position.position ≡ length run.history = omega (arith, test, most, counted, sizes) in
+    subst (λ (n : ℕ). IsPut g.W.Sink.contents g.W.Sink.failures c.args.out.now c.args.buffer.now c.loop-position.out c.loop-position.buffer (flat_map (mark_at g.T.Runs.rules run c.args.marks.now) (range_with_len 0 n))) all c.loop-position.invariant.put

@@ -4,9 +4,8 @@ use Rattle.std.proofs.lemmas.Result.{err_from_is_err_and}
 use Rattle.cdb_draw.specs.Arrows.{arrow_at}
 use Rattle.cdb_draw.specs.EventMarks.{mark_at}
 use Rattle.cdb_draw.specs.Lanes.{lanes_text}
-use Rattle.cdb_draw.specs.Picture.{foot, head_text, places}
+use Rattle.cdb_draw.specs.Picture.{foot, head_text, positions}
 use Rattle.cdb_play.proofs.Putting.{put_last, put_more}
-use Rattle.cdb_rules.specs.Algorithms.{rules}
 use Rattle.cdb_rules.specs.RunView.{RunView}
 use Rattle.cdb_draw.proofs.Parted.{cut_before}
 use Rattle.cdb_draw.proofs.picture.put_picture.Goals as goal
@@ -16,8 +15,8 @@ returns-in_err-put_front g c =
     let p = err_from_is_err_and c.from_residual.result c.from_residual.ensures.1 in
     let run : RunView = c.args.run.now in
     let first = head_text run ++ lanes_text run in
-    let arrows = flat_map (arrow_at run c.args.marks.now) (places run.history) in
-    let marks = flat_map (mark_at rules run c.args.marks.now) (places run.history) in
+    let arrows = flat_map (arrow_at run c.args.marks.now) (positions run.history) in
+    let marks = flat_map (mark_at g.T.Runs.rules run c.args.marks.now) (positions run.history) in
     let why = c.in_err-put_front.field-0.0 in
     let old = c.args.out.now in
     let new = c.put_front.new.out in
@@ -33,8 +32,8 @@ returns-in_err-put_arrows g c =
     let p = err_from_is_err_and c.from_residual-in_err-put_arrows.result c.from_residual-in_err-put_arrows.ensures.1 in
     let run : RunView = c.args.run.now in
     let first = head_text run ++ lanes_text run in
-    let arrows = flat_map (arrow_at run c.args.marks.now) (places run.history) in
-    let marks = flat_map (mark_at rules run c.args.marks.now) (places run.history) in
+    let arrows = flat_map (arrow_at run c.args.marks.now) (positions run.history) in
+    let marks = flat_map (mark_at g.T.Runs.rules run c.args.marks.now) (positions run.history) in
     let why = c.in_err-put_arrows.field-0.0 in
     let old = c.args.out.now in
     let new = c.put_arrows.new.out in
@@ -50,8 +49,8 @@ returns-in_err-put_marks g c =
     let p = err_from_is_err_and c.from_residual-in_err-put_marks.result c.from_residual-in_err-put_marks.ensures.1 in
     let run : RunView = c.args.run.now in
     let first = head_text run ++ lanes_text run in
-    let arrows = flat_map (arrow_at run c.args.marks.now) (places run.history) in
-    let marks = flat_map (mark_at rules run c.args.marks.now) (places run.history) in
+    let arrows = flat_map (arrow_at run c.args.marks.now) (positions run.history) in
+    let marks = flat_map (mark_at g.T.Runs.rules run c.args.marks.now) (positions run.history) in
     let why = c.in_err-put_marks.field-0.0 in
     let old = c.args.out.now in
     let new = c.put_marks.new.out in
@@ -67,8 +66,8 @@ pub returns : goal.returns
 returns g c =
     let run : RunView = c.args.run.now in
     let first = head_text run ++ lanes_text run in
-    let arrows = flat_map (arrow_at run c.args.marks.now) (places run.history) in
-    let marks = flat_map (mark_at rules run c.args.marks.now) (places run.history) in
+    let arrows = flat_map (arrow_at run c.args.marks.now) (positions run.history) in
+    let marks = flat_map (mark_at g.T.Runs.rules run c.args.marks.now) (positions run.history) in
     let old = c.args.out.now in
     let held = c.args.buffer.now in
     put_last _ _ c.put_foot.result old c.put_marks.new.out c.put_foot.new.out held c.put_marks.new.buffer c.put_foot.new.buffer ((first ++ arrows) ++ marks) foot (((first ++ arrows) ++ marks) ++ foot)

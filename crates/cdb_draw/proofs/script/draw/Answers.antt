@@ -1,5 +1,6 @@
-use Rattle.cdb_play.specs.Left.{run_of}
-use Rattle.cdb_rules.specs.Algorithms.{rules}
+use Rattle.std.proofs.Common.{sym, subst}
+use Rattle.cdb_play.specs.Left.{Leaves}
+use Rattle.cdb_rules.specs.RunView.{RunView}
 use Rattle.cdb_explain.proofs.Answered.{is_no_setup, reads_none, no_err}
 use Rattle.cdb_draw.specs.Drawn.{Draws, IsPictureFor}
 use Rattle.cdb_draw.proofs.Ended.{fault_left, writes_of_kind}
@@ -9,15 +10,17 @@ pub returns-clause-wrote : goal.returns-clause-wrote
 returns-clause-wrote g c =
     let old = g.R.Source.remaining c.args.script.now in
     let new = g.R.Source.remaining c.left_by.new.script in
-    let run = run_of rules c.in_ok-control.control in
-    writes_of_kind g.W.Sink.contents g.W.Sink.failures (Unit {0}) (IsPictureFor rules run c.args.step) (Draws rules c.args.setup.now c.args.step old new) (λ text is. (run, c.in_ok-control.ensures.left, is))
+    let run : RunView = c.chronicle_of-run.result in
+    let left = subst (Leaves g.T.Runs.rules c.args.setup.now old new) (sym c.chronicle_of-run.ensures.is) c.in_ok-control.ensures.left in
+    writes_of_kind g.W.Sink.contents g.W.Sink.failures (Unit {0}) (IsPictureFor g.T.Runs.rules run c.args.step) (Draws g.T.Runs.rules c.args.setup.now c.args.step old new) (λ text is. (run, left, is))
     c.write_drawing.result c.args.out.now c.write_drawing.new.out c.write_drawing.ensures.wrote
 
 pub returns-clause-fault : goal.returns-clause-fault
 returns-clause-fault g c =
     let old = g.R.Source.remaining c.args.script.now in
     let new = g.R.Source.remaining c.left_by.new.script in
-    fault_left rules c.args.setup.now c.args.step old new (run_of rules c.in_ok-control.control) c.in_ok-control.ensures.left c.write_drawing.result c.write_drawing.ensures.fault
+    let left = subst (Leaves g.T.Runs.rules c.args.setup.now old new) (sym c.chronicle_of-run.ensures.is) c.in_ok-control.ensures.left in
+    fault_left g.T.Runs.rules c.args.setup.now c.args.step old new c.chronicle_of-run.result left c.write_drawing.result c.write_drawing.ensures.fault
 
 pub returns-clause-unread : goal.returns-clause-unread
 returns-clause-unread g c = λ fault same. absurd (is_no_setup _ c.write_drawing.result fault c.write_drawing.ensures.fault same)

@@ -4,7 +4,7 @@ use Rattle.std.proofs.lemmas.List.{drop_all}
 use Rattle.std.specs.List.{position_or_len, prefix_len}
 use Rattle.cdb_base.specs.declared.event.Event.{Event}
 use Rattle.cdb_causal.proofs.Lists.{drop_from}
-use Rattle.cdb_draw.specs.Places.{is_crash_of}
+use Rattle.cdb_draw.specs.Positions.{is_crash_of}
 use Rattle.cdb_draw.proofs.sends.crashed_at.Goals as goal
 
 is_less : (i n : ℕ) → i < n → nat_lt i n ≡ true

@@ -1,6 +1,6 @@
 use Rattle.std.proofs.Common.{◌≡◌, ◌+◌, drop}
 use Rattle.std.specs.List.{position_or_len}
-use Rattle.cdb_draw.specs.Places.{is_crash_of}
+use Rattle.cdb_draw.specs.Positions.{is_crash_of}
 use Rattle.cdb_draw.proofs.sends.crashed_at.Given as goal
 
 -- what was looked at is no crash of the process

@@ -1,20 +1,19 @@
 use Rattle.std.proofs.Common.{ℕ, List, ◌++◌, length, string_bytes, ap, append_assoc, ◌∙◌}
 use Rattle.std.specs.List.{flat_map}
-use Rattle.cdb_rules.specs.Algorithms.{rules}
 use Rattle.cdb_rules.specs.RunView.{RunView}
 use Rattle.cdb_explain.specs.Explanations.{count_text, line_at}
 use Rattle.cdb_explain.specs.Marked.{marked_of_first}
 use Rattle.cdb_explain.proofs.lines.push_all.Goals as goal
 
 pub returns : goal.returns
-returns c =
+returns g c =
     let run : RunView = c.args.run.now in
-    let places = marked_of_first (length run.history) c.args.marks.now in
-    let lines = flat_map (line_at rules run) places in
+    let positions = marked_of_first (length run.history) c.args.marks.now in
+    let lines = flat_map (line_at g.T.Runs.rules run) positions in
     let all : ℕ = c.len.result in
-    let same = c.history-history.ensures.events ∙ ap (λ r. r.history) c.any.ensures.run in
+    let same = c.history-history.ensures in
     c.in_ok-push_count.ensures
     ∙ ap (λ (t : List ℕ). t ++ count_text c.in_ok-count.count all) c.in_ok-count.ensures.lines
     ∙ append_assoc (string_bytes c.args.text.now) lines (count_text c.in_ok-count.count all)
     ∙ ap (λ (t : List ℕ). string_bytes c.args.text.now ++ (lines ++ t))
-    (ap (λ (n : ℕ). count_text n all) c.in_ok-count.ensures.count ∙ ap (λ (n : ℕ). count_text (length places) n) (c.len.ensures.count ∙ ap length same))
+    (ap (λ (n : ℕ). count_text n all) c.in_ok-count.ensures.count ∙ ap (λ (n : ℕ). count_text (length positions) n) (c.len.ensures.count ∙ ap length same))

@@ -1,8 +1,8 @@
 use Rattle.std.proofs.Common.{◌≡◌, ℕ, ◌+◌, ◌<◌, List, length, Some, slice_get, string_bytes, IsTrue, true, false, sym, ap, ◌∙◌, subst, arith}
 use Rattle.cdb_base.specs.declared.event.Event.{Event}
 use Rattle.cdb_causal.specs.Standing.{IsStanding}
-use Rattle.cdb_rules.specs.Algorithms.{rules}
 use Rattle.cdb_rules.specs.RunView.{RunView}
+use Rattle.cdb_setup.specs.Parts.{AreInRange}
 use Rattle.cdb_explain.specs.Explanations.{line_at, line_text}
 use Rattle.cdb_explain.proofs.Along.{next_valid, next_along, its_line}
 use Rattle.cdb_explain.proofs.Marking.{count_more, mark_read, text_more, text_same, unmarked_more}
@@ -10,44 +10,44 @@ use Rattle.cdb_explain.proofs.lines.push_lines.Goals as goal
 use Rattle.cdb_explain.proofs.lines.push_lines.Goals.{then-marks-i+in_ok-push_line, else-marks-i}
 
 pub take_next-requires : goal.take_next-requires
-take_next-requires c =
+take_next-requires g c =
     let run : RunView = c.args.run.now in
     let history : List Event = c.history-history.result.now in
     let i : ℕ = c.loop-i.i in
     let event : Event = c.event-event.result.now in
-    let same : history ≡ run.history = c.history-history.ensures.events ∙ ap (λ r. r.history) c.any.ensures.run in
+    let same : history ≡ run.history = c.history-history.ensures in
     let at : slice_get run.history i ≡ Some event = subst (λ (h : List Event). slice_get h i ≡ Some event) same c.event-event.ensures in
-    let valid = subst (λ (r : RunView). IsTrue ((rules r.setup).valid r.history)) c.any.ensures.run c.history-history.ensures.valid in
-    next_valid run i event at c.loop-i.again c.loop-i.invariant.again valid
+    let range : AreInRange run.setup = subst AreInRange c.setup.ensures c.n-ranges.ensures.ranges in
+    next_valid g.T.Runs.rules g.T.Runs.same_state g.met.T.Runs.histories run i event at (g.T.Runs.run c.loop-i.again) c.loop-i.invariant.again range c.requires.valid
 
 pub loop-i-preserved : goal.loop-i-preserved
-loop-i-preserved c =
+loop-i-preserved g c =
     let run : RunView = c.args.run.now in
     let history : List Event = c.history-history.result.now in
     let marks = c.args.marks.now in
     let i : ℕ = c.loop-i.i in
     let event : Event = c.event-event.result.now in
     let so = c.loop-i.invariant in
-    let later = c.take_next.new.again in
-    let same : history ≡ run.history = c.history-history.ensures.events ∙ ap (λ r. r.history) c.any.ensures.run in
+    let later = g.T.Runs.run c.take_next.new.again in
+    let same : history ≡ run.history = c.history-history.ensures in
     let read = c.event-event.ensures in
     let at : slice_get run.history i ≡ Some event = subst (λ (h : List Event). slice_get h i ≡ Some event) same read in
     let test = c.loop-i-test.true in
     let counted_all = c.len-i-end.ensures.count in
     let sizes = ap length same in
-    let number = c.requires in
+    let number = c.requires.a_mark_each in
     let within : i < length marks = omega (arith, test, counted_all, sizes, number) in
     let standing = subst IsStanding same c.len-i-end.ensures.standing in
-    let along = next_along run i event at c.loop-i.again so.again later c.in_ok-take_next.ensures in
+    let along = next_along g.T.Runs.rules g.T.Runs.same_state g.met.T.Runs.histories run i event at (g.T.Runs.run c.loop-i.again) so.again later c.in_ok-take_next.ensures in
     elim c.if-marks-i.branch [
       | then-marks-i+in_ok-push_line w ↦
-          let line = its_line run i event at c.loop-i.again so.again standing later c.in_ok-take_next.ensures in
+          let line = its_line g.T.Runs.rules g.T.Runs.same_state g.met.T.Runs.histories run i event at (g.T.Runs.run c.loop-i.again) so.again standing later c.in_ok-take_next.ensures in
           let is = mark_read marks i _ true within w.if-marks-i.true in
           let counted = w.count-is in
           let few = so.few in
           record {
             again = along;
-            text = text_more (line_at rules run) marks i (string_bytes c.args.text.now) (string_bytes c.loop-i.text) (string_bytes c.if-marks-i.text) (line_text rules later later event) so.text (ap string_bytes w.text-is ∙ w.in_ok-push_line.ensures) line is;
+            text = text_more (line_at g.T.Runs.rules run) marks i (string_bytes c.args.text.now) (string_bytes c.loop-i.text) (string_bytes c.if-marks-i.text) (line_text g.T.Runs.rules later later event) so.text (ap string_bytes w.text-is ∙ w.in_ok-push_line.ensures) line is;
             count = w.count-is ∙ ap (λ (n : ℕ). n + 1) so.count ∙ sym (count_more marks i is);
             few = omega (arith, counted, few);
           }
@@ -57,7 +57,7 @@ loop-i-preserved c =
           let few = so.few in
           record {
             again = along;
-            text = ap string_bytes w.text-is ∙ text_same (line_at rules run) marks i (string_bytes c.args.text.now) (string_bytes c.loop-i.text) so.text is;
+            text = ap string_bytes w.text-is ∙ text_same (line_at g.T.Runs.rules run) marks i (string_bytes c.args.text.now) (string_bytes c.loop-i.text) so.text is;
             count = w.count-is ∙ so.count ∙ ap length (sym (unmarked_more marks i is));
             few = omega (arith, counted, few);
           }

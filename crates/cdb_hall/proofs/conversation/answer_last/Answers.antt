@@ -7,7 +7,7 @@ use Rattle.cdb_hall.proofs.conversation.answer_last.Goals as goal
 pub returns-then-is_empty-clause-last : goal.returns-then-is_empty-clause-last
 returns-then-is_empty-clause-last g c =
     let none : length c.args.held.items ≡ 0 = search rules in
-    last_none c.args.prompt.now _ _ c.args.session.now c.args.held.items none refl
+    last_none g.R.Runs.rules c.args.prompt.now _ _ c.args.session.now c.args.held.items none refl
 
 pub returns-then-is_empty-clause-seat : goal.returns-then-is_empty-clause-seat
 returns-then-is_empty-clause-seat g c = IsLater-refl c.args.session.now.seat c.requires.rests.1
@@ -16,9 +16,9 @@ pub returns-in_err-answer_held-clause-last : goal.returns-in_err-answer_held-cla
 returns-in_err-answer_held-clause-last g c =
     let p = err_from_is_err_and c.from_residual.result c.from_residual.ensures.1 in
     let some : 0 < length c.args.held.items = search rules in
-    rw (p.1, p.2) (last_fails c.args.prompt.now _ _ c.args.session.now c.args.held.items some c.answer_held.new.session c.answer_held.new.held.items c.in_err-answer_held.field-0.0 c.in_err-answer_held.ensures.held)
+    rw (p.1, p.2) (last_fails g.R.Runs.rules c.args.prompt.now _ _ c.args.session.now c.args.held.items some c.answer_held.new.session c.answer_held.new.held.items c.in_err-answer_held.field-0.0 c.in_err-answer_held.ensures.held)
 
 pub returns-clause-last : goal.returns-clause-last
 returns-clause-last g c =
     let some : 0 < length c.args.held.items = search (rules, c.is_empty.ensures, c.if-is_empty.false, c.if-is_empty.ensures) in
-    last_done c.args.prompt.now _ _ c.args.session.now c.args.held.items some c.answer_held.new.session c.answer_held.new.held.items c.in_ok-answer_held.field-0 c.in_ok-answer_held.ensures.held
+    last_done g.R.Runs.rules c.args.prompt.now _ _ c.args.session.now c.args.held.items some c.answer_held.new.session c.answer_held.new.held.items c.in_ok-answer_held.field-0 c.in_ok-answer_held.ensures.held

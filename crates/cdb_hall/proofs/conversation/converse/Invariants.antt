@@ -11,7 +11,7 @@ invariant-loop-read g l = record {
   lines : l.session.lines ≤ l.read;
   rests : RestsAt l.shared l.session.seat;
   later : IsLater l.fn.session.seat l.session.seat;
-  stands : Stands l.prompt (g.T.Talk.known l.fn.talk) (g.T.Talk.known l.talk) l.session l.held.items l.read;
+  stands : Stands g.R.Runs.rules l.prompt (g.T.Talk.known l.fn.talk) (g.T.Talk.known l.talk) l.session l.held.items l.read;
 }
 
 abbrev pub decreases-loop-read : goal.decreases-loop-read

@@ -13,7 +13,7 @@ returns-in_err-text-clause-held g c =
     let p = err_from_is_err_and c.from_residual.result c.from_residual.ensures.1 in
     let asks = subst (Asks c.request_of-request.result) c.as_slice.ensures.value c.request_of-request.ensures.asks in
     rw (p.1, p.2)
-    (held_lost _ _ c.args.prompt.now c.args.session.now c.show.new.self c.args.held.now.items c.args.held.now.items c.request_of-request.result asks NoMemory c.in_err-text.field-0.0 refl c.in_err-text.ensures.shows)
+    (held_lost g.R.Runs.rules _ _ c.args.prompt.now c.args.session.now c.show.new.self c.args.held.now.items c.args.held.now.items c.request_of-request.result asks NoMemory c.in_err-text.field-0.0 refl c.in_err-text.ensures.shows)
 
 pub returns-in_err-text-clause-seat : goal.returns-in_err-text-clause-seat
 returns-in_err-text-clause-seat g c = c.in_err-text.ensures.shows.1.later
@@ -24,7 +24,7 @@ returns-in_err-say-clause-held g c =
     let asks = subst (Asks c.request_of-request.result) c.as_slice.ensures.value c.request_of-request.ensures.asks in
     let says = subst (Says c.say.result (g.T.Talk.known c.args.talk.now) (g.T.Talk.known c.say.new.talk)) c.as_slice-2.ensures.value c.say.ensures in
     rw (p.1, p.2)
-    (held_broken _ _ c.args.prompt.now c.args.session.now c.show.new.self c.args.held.now.items c.args.held.now.items c.request_of-request.result asks NoMemory c.in_ok-text.text (Unit {0}) _ c.in_err-say.field-0.0 c.in_ok-text.ensures.shows (rw (c.in_err-say.was) at says))
+    (held_broken g.R.Runs.rules _ _ c.args.prompt.now c.args.session.now c.show.new.self c.args.held.now.items c.args.held.now.items c.request_of-request.result asks NoMemory c.in_ok-text.text (Unit {0}) _ c.in_err-say.field-0.0 c.in_ok-text.ensures.shows (rw (c.in_err-say.was) at says))
 
 pub returns-in_err-say-clause-seat : goal.returns-in_err-say-clause-seat
 returns-in_err-say-clause-seat g c = c.in_ok-text.ensures.shows.1.later
@@ -34,7 +34,7 @@ returns-clause-held g c =
     let asks = subst (Asks c.request_of-request.result) c.as_slice.ensures.value c.request_of-request.ensures.asks in
     let stopped : IsTrue c.eq.result ↔ (c.request_of-request.result ≡ Quit) = search rules in
     let says = subst (Says c.say.result (g.T.Talk.known c.args.talk.now) (g.T.Talk.known c.say.new.talk)) c.as_slice-2.ensures.value c.say.ensures in
-    held_done _ _ c.args.prompt.now c.args.session.now c.show.new.self c.args.held.now.items c.clear.new.self.items c.request_of-request.result asks NoMemory c.in_ok-text.text (Unit {0}) (Unit {0}) tt c.eq.result c.in_ok-text.ensures.shows (rw (c.in_ok-say.was) at says) c.in_ok-text.ensures.lines c.clear.ensures.items stopped
+    held_done g.R.Runs.rules _ _ c.args.prompt.now c.args.session.now c.show.new.self c.args.held.now.items c.clear.new.self.items c.request_of-request.result asks NoMemory c.in_ok-text.text (Unit {0}) (Unit {0}) tt c.eq.result c.in_ok-text.ensures.shows (rw (c.in_ok-say.was) at says) c.in_ok-text.ensures.lines c.clear.ensures.items stopped
 
 pub returns-clause-seat : goal.returns-clause-seat
 returns-clause-seat g c = c.in_ok-text.ensures.shows.1.later

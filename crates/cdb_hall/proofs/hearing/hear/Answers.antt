@@ -13,21 +13,21 @@ loop-line-init g c = record {
   lines = omega arith;
   rests = c.requires.rests;
   later = IsLater-refl c.args.session.now.seat c.requires.rests.1;
-  goes = starts _ _ _ _ _;
+  goes = starts g.R.Runs.rules _ _ _ _ _;
 }
 
 pub returns-in_err-hold-clause-heard : goal.returns-in_err-hold-clause-heard
 returns-in_err-hold-clause-heard g c =
     let p = err_from_is_err_and c.from_residual.result c.from_residual.ensures.1 in
-    rw (p.1, p.2) (no_memory c.args.prompt.now (g.T.Talk.known c.args.talk.now) c.args.session.now c.args.held.now.items c.args.bytes.now _ c.loop-line.session c.loop-line.held.items c.loop-line.rest.now c.loop-line.invariant.goes c.hold.new.held.items)
+    rw (p.1, p.2) (no_memory g.R.Runs.rules c.args.prompt.now (g.T.Talk.known c.args.talk.now) c.args.session.now c.args.held.now.items c.args.bytes.now _ c.loop-line.session c.loop-line.held.items c.loop-line.rest.now c.loop-line.invariant.goes c.hold.new.held.items)
 
 pub returns-in_err-answer_held-clause-heard : goal.returns-in_err-answer_held-clause-heard
 returns-in_err-answer_held-clause-heard g c =
     let p = err_from_is_err_and c.from_residual-in_err-answer_held.result c.from_residual-in_err-answer_held.ensures.1 in
     let before = g.T.Talk.known c.args.talk.now in
     let now = g.T.Talk.known c.loop-line.talk in
-    let goes = holds c.args.prompt.now before c.args.session.now c.args.held.now.items c.args.bytes.now now c.loop-line.session c.loop-line.held.items c.loop-line.rest.now c.loop-line.invariant.goes c.in-Some.line.now (10 ∷ c.in-Some.behind.now) c.hold.new.held.items c.in-Some.ensures.some.1 c.in-Some.ensures.some.0 c.in_ok-hold.ensures in
-    rw (p.1, p.2) (fails c.args.prompt.now before c.args.session.now c.args.held.now.items c.args.bytes.now now c.loop-line.session c.hold.new.held.items c.in-Some.behind.now goes (g.T.Talk.known c.answer_held.new.talk) c.answer_held.new.session c.answer_held.new.held.items c.in_err-answer_held.field-0.0 c.in_err-answer_held.ensures.held)
+    let goes = holds g.R.Runs.rules c.args.prompt.now before c.args.session.now c.args.held.now.items c.args.bytes.now now c.loop-line.session c.loop-line.held.items c.loop-line.rest.now c.loop-line.invariant.goes c.in-Some.line.now (10 ∷ c.in-Some.behind.now) c.hold.new.held.items c.in-Some.ensures.some.1 c.in-Some.ensures.some.0 c.in_ok-hold.ensures in
+    rw (p.1, p.2) (fails g.R.Runs.rules c.args.prompt.now before c.args.session.now c.args.held.now.items c.args.bytes.now now c.loop-line.session c.hold.new.held.items c.in-Some.behind.now goes (g.T.Talk.known c.answer_held.new.talk) c.answer_held.new.session c.answer_held.new.held.items c.in_err-answer_held.field-0.0 c.in_err-answer_held.ensures.held)
 
 pub returns-in_err-answer_held-clause-seat : goal.returns-in_err-answer_held-clause-seat
 returns-in_err-answer_held-clause-seat g c = IsLater-trans _ _ _ c.loop-line.invariant.later c.answer_held.ensures.seat
@@ -36,8 +36,8 @@ pub returns-then-branch-clause-heard : goal.returns-then-branch-clause-heard
 returns-then-branch-clause-heard g c =
     let before = g.T.Talk.known c.args.talk.now in
     let now = g.T.Talk.known c.loop-line.talk in
-    let goes = holds c.args.prompt.now before c.args.session.now c.args.held.now.items c.args.bytes.now now c.loop-line.session c.loop-line.held.items c.loop-line.rest.now c.loop-line.invariant.goes c.in-Some.line.now (10 ∷ c.in-Some.behind.now) c.hold.new.held.items c.in-Some.ensures.some.1 c.in-Some.ensures.some.0 c.in_ok-hold.ensures in
-    quits c.args.prompt.now before c.args.session.now c.args.held.now.items c.args.bytes.now now c.loop-line.session c.hold.new.held.items c.in-Some.behind.now goes (g.T.Talk.known c.answer_held.new.talk) c.answer_held.new.session c.answer_held.new.held.items c.in_ok-answer_held.field-0 c.in_ok-answer_held.ensures.held c.if-branch.true
+    let goes = holds g.R.Runs.rules c.args.prompt.now before c.args.session.now c.args.held.now.items c.args.bytes.now now c.loop-line.session c.loop-line.held.items c.loop-line.rest.now c.loop-line.invariant.goes c.in-Some.line.now (10 ∷ c.in-Some.behind.now) c.hold.new.held.items c.in-Some.ensures.some.1 c.in-Some.ensures.some.0 c.in_ok-hold.ensures in
+    quits g.R.Runs.rules c.args.prompt.now before c.args.session.now c.args.held.now.items c.args.bytes.now now c.loop-line.session c.hold.new.held.items c.in-Some.behind.now goes (g.T.Talk.known c.answer_held.new.talk) c.answer_held.new.session c.answer_held.new.held.items c.in_ok-answer_held.field-0 c.in_ok-answer_held.ensures.held c.if-branch.true
 
 pub returns-then-branch-clause-seat : goal.returns-then-branch-clause-seat
 returns-then-branch-clause-seat g c = IsLater-trans _ _ _ c.loop-line.invariant.later c.answer_held.ensures.seat
@@ -46,7 +46,7 @@ pub loop-line-preserved : goal.loop-line-preserved
 loop-line-preserved g c =
     let before = g.T.Talk.known c.args.talk.now in
     let now = g.T.Talk.known c.loop-line.talk in
-    let goes = holds c.args.prompt.now before c.args.session.now c.args.held.now.items c.args.bytes.now now c.loop-line.session c.loop-line.held.items c.loop-line.rest.now c.loop-line.invariant.goes c.in-Some.line.now (10 ∷ c.in-Some.behind.now) c.hold.new.held.items c.in-Some.ensures.some.1 c.in-Some.ensures.some.0 c.in_ok-hold.ensures in
+    let goes = holds g.R.Runs.rules c.args.prompt.now before c.args.session.now c.args.held.now.items c.args.bytes.now now c.loop-line.session c.loop-line.held.items c.loop-line.rest.now c.loop-line.invariant.goes c.in-Some.line.now (10 ∷ c.in-Some.behind.now) c.hold.new.held.items c.in-Some.ensures.some.1 c.in-Some.ensures.some.0 c.in_ok-hold.ensures in
     let done = c.in_ok-answer_held.ensures.held.2 in
     let later = c.answer_held.ensures.seat in
     let cut = ap length c.in-Some.ensures.some.1 in
@@ -56,19 +56,19 @@ loop-line-preserved g c =
       lines = omega (arith, c.loop-line.invariant.lines, done.lines, cut, parts);
       rests = (later.home ∙ c.loop-line.invariant.rests.0, later.rests);
       later = IsLater-trans _ _ _ c.loop-line.invariant.later later;
-      goes = answers c.args.prompt.now before c.args.session.now c.args.held.now.items c.args.bytes.now now c.loop-line.session c.hold.new.held.items c.in-Some.behind.now goes (g.T.Talk.known c.answer_held.new.talk) c.answer_held.new.session c.answer_held.new.held.items c.in_ok-answer_held.field-0 c.in_ok-answer_held.ensures.held c.if-branch.false;
+      goes = answers g.R.Runs.rules c.args.prompt.now before c.args.session.now c.args.held.now.items c.args.bytes.now now c.loop-line.session c.hold.new.held.items c.in-Some.behind.now goes (g.T.Talk.known c.answer_held.new.talk) c.answer_held.new.session c.answer_held.new.held.items c.in_ok-answer_held.field-0 c.in_ok-answer_held.ensures.held c.if-branch.false;
     }
 
 pub returns-in_err-hold-2-clause-heard : goal.returns-in_err-hold-2-clause-heard
 returns-in_err-hold-2-clause-heard g c =
     let p = err_from_is_err_and c.from_residual-in_err-hold-2.result c.from_residual-in_err-hold-2.ensures.1 in
-    rw (p.1, p.2) (no_memory c.args.prompt.now (g.T.Talk.known c.args.talk.now) c.args.session.now c.args.held.now.items c.args.bytes.now _ c.loop-line.session c.loop-line.held.items c.loop-line.rest.now c.loop-line.invariant.goes c.hold-2.new.held.items)
+    rw (p.1, p.2) (no_memory g.R.Runs.rules c.args.prompt.now (g.T.Talk.known c.args.talk.now) c.args.session.now c.args.held.now.items c.args.bytes.now _ c.loop-line.session c.loop-line.held.items c.loop-line.rest.now c.loop-line.invariant.goes c.hold-2.new.held.items)
 
 pub returns-clause-heard : goal.returns-clause-heard
 returns-clause-heard g c =
     let before = g.T.Talk.known c.args.talk.now in
     let now = g.T.Talk.known c.loop-line.talk in
-    holds c.args.prompt.now before c.args.session.now c.args.held.now.items c.args.bytes.now now c.loop-line.session c.loop-line.held.items c.loop-line.rest.now c.loop-line.invariant.goes c.loop-line.rest.now [] c.hold-2.new.held.items (sym (append-nil c.loop-line.rest.now)) c.in_default.ensures.none c.in_ok-hold-2.ensures
+    holds g.R.Runs.rules c.args.prompt.now before c.args.session.now c.args.held.now.items c.args.bytes.now now c.loop-line.session c.loop-line.held.items c.loop-line.rest.now c.loop-line.invariant.goes c.loop-line.rest.now [] c.hold-2.new.held.items (sym (append-nil c.loop-line.rest.now)) c.in_default.ensures.none c.in_ok-hold-2.ensures
 
 pub returns-clause-held : goal.returns-clause-held
 returns-clause-held g c =

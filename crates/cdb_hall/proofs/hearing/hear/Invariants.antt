@@ -10,7 +10,7 @@ invariant-loop-line g l = record {
   lines : l.session.lines + length l.rest ≤ l.initial.session.lines + length l.bytes;
   rests : RestsAt l.shared l.session.seat;
   later : IsLater l.initial.session.seat l.session.seat;
-  goes : Goes l.prompt (g.T.Talk.known l.initial.talk) l.initial.session l.initial.held.items l.bytes (g.T.Talk.known l.talk) l.session l.held.items l.rest;
+  goes : Goes g.R.Runs.rules l.prompt (g.T.Talk.known l.initial.talk) l.initial.session l.initial.held.items l.bytes (g.T.Talk.known l.talk) l.session l.held.items l.rest;
 }
 
 abbrev pub decreases-loop-line : goal.decreases-loop-line

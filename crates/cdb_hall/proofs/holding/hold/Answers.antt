@@ -3,7 +3,7 @@ use Rattle.cdb_control.specs.declared.control.Entry.{Entry}
 use Rattle.cdb_hall.specs.Halls.{journal_text}
 use Rattle.cdb_hall.specs.Holding.{IsFaultOfHall}
 use Rattle.cdb_hall.specs.Reports.{IsPut, outcomes, failures_text, status_of}
-use Rattle.cdb_hall.specs.declared.place.Attended.{Attended}
+use Rattle.cdb_hall.specs.declared.station.Attended.{Attended}
 use Rattle.cdb_hall.proofs.NotHeld.{setup_failed, threads_failed}
 use Rattle.cdb_hall.proofs.holding.hold.Goals as goal
 
@@ -14,7 +14,7 @@ pub returns-in-Err-debug_seats-clause-fault : goal.returns-in-Err-debug_seats-cl
 returns-in-Err-debug_seats-clause-fault g c = subst (IsFaultOfHall c.args.setup.now) (sym c.of_hall.ensures) (threads_failed c.args.setup.now _)
 
 pub write_failures-requires : goal.write_failures-requires
-write_failures-requires g c = omega (arith, c.requires.fits, ap length c.as_slice.ensures.value, c.in-Ok-debug_seats.ensures.hall.many, c.args.places.ok.0)
+write_failures-requires g c = omega (arith, c.requires.fits, ap length c.as_slice.ensures.value, c.in-Ok-debug_seats.ensures.hall.many, c.args.stations.ok.0)
 
 pub returns-clause-held : goal.returns-clause-held
 returns-clause-held g c =

@@ -1,5 +1,5 @@
 use Rattle.std.proofs.Common.{◌≡◌, ℕ, ◌-◌, ◌∙◌, sym, ap, arith, [], ◌∷◌, ◌++◌, append-nil, append_assoc, get_or, length}
-use Rattle.cdb_hall.specs.declared.place.Attended.{Attended}
+use Rattle.cdb_hall.specs.declared.station.Attended.{Attended}
 use Rattle.cdb_hall.specs.declared.worker.Left.{Left}
 use Rattle.cdb_shared.specs.Seats.{SeatView}
 use Rattle.cdb_race.proofs.Ends.{each_push, get_or-middle}
@@ -37,10 +37,10 @@ loop-left-preserved g c =
       room = (omega (arith, seats.capacity, was.room.0), omega (arith, talks.capacity, was.room.1));
       seats = λ k seat other low.
           each_push (λ (i : ℕ) (s : SeatView). s ≡ (get_or all (length all - 1 - i) other).seat) c.loop-left.seats.items _ left.seat seats.items (λ i s below. was.seats i s other below)
-          (ap (λ (r : Left g.row.T.Denot). r.seat) (sym (get_or-middle c.pop.new.self.items was.left.0 all left other _ whole at))) k seat low;
+          (ap (λ (r : Left g.row.R.Denot g.row.T.Denot). r.seat) (sym (get_or-middle c.pop.new.self.items was.left.0 all left other _ whole at))) k seat low;
       attended = λ k its other low.
           each_push (λ (i : ℕ) (a : Attended g.row.T.Denot). a ≡ (get_or all (length all - 1 - i) other).attended) c.loop-left.all.items _ left.attended talks.items (λ i a below. was.attended i a other below)
-          (ap (λ (r : Left g.row.T.Denot). r.attended) (sym (get_or-middle c.pop.new.self.items was.left.0 all left other _ whole at_talk))) k its low;
+          (ap (λ (r : Left g.row.R.Denot g.row.T.Denot). r.attended) (sym (get_or-middle c.pop.new.self.items was.left.0 all left other _ whole at_talk))) k its low;
     }
 
 pub returns-clause-each : goal.returns-clause-each

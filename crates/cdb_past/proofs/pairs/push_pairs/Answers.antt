@@ -14,8 +14,8 @@ loop-name-init c =
     begun history (c.len-at.result - 1) c.as_slice-name-items.result.now c.args.pairs.now.items
     (subst (λ n. ArePairs history n c.args.pairs.now.items) (sym last) c.requires.before)
 
-pub place_of-cause-requires : goal.place_of-cause-requires
-place_of-cause-requires c =
+pub position_of-cause-requires : goal.position_of-cause-requires
+position_of-cause-requires c =
     let names : List StepId = c.as_slice-name-items.result.now in
     let index : ℕ = c.loop-name.name-index in
     let at = slice_get_read names (length names) index c.name-item.result refl c.loop-name-test.true c.name-item.is in
@@ -29,8 +29,8 @@ loop-name-preserved c =
     let index : ℕ = c.loop-name.name-index in
     let at = slice_get_read names (length names) index c.name-item.result refl c.loop-name-test.true c.name-item.is in
     let are = subst (AreDirectCauses c.args.history.now (c.len-at.result - 1)) (sym c.as_slice-name-items.ensures) c.direct_causes-causes.ensures in
-    let more = added c.args.history.now (c.len-at.result - 1) names index c.place_of-cause.result c.name-item.result c.loop-name.pairs.items c.loop-name.invariant at
-    (are.only index c.name-item.result at) c.place_of-cause.ensures in
+    let more = added c.args.history.now (c.len-at.result - 1) names index c.position_of-cause.result c.name-item.result c.loop-name.pairs.items c.loop-name.invariant at
+    (are.only index c.name-item.result at) c.position_of-cause.ensures in
     subst (IsAdding c.args.history.now (c.len-at.result - 1) names (index + 1)) (sym c.in_ok-push.ensures.items) more
 
 pub returns : goal.returns

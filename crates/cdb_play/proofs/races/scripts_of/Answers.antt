@@ -12,9 +12,9 @@ returns-in-Err-clause-fault c =
     let so = c.loop-script.invariant in
     let said = c.in-Err.ensures in
     let before = bytes_of (take i scripts) in
-    let place : c.len.result + 1 ≡ length before + 1 = omega (arith, c.len.ensures, c.loop-script.read.ok.0, so.count, so_many scripts i script c.script-item.is c.loop-script-test.true) in
+    let position : c.len.result + 1 ≡ length before + 1 = omega (arith, c.len.ensures, c.loop-script.read.ok.0, so.count, so_many scripts i script c.script-item.is c.loop-script-test.true) in
     rw c.fault_of_script.ensures
-    (bad_script c.loop-script.read.items before script.items (bytes_of (drop (i + 1) scripts)) (bytes_of scripts) (c.len.result + 1) (script_at scripts i script c.script-item.is c.loop-script-test.true) place so.read c.in-Err.fault
+    (bad_script c.loop-script.read.items before script.items (bytes_of (drop (i + 1) scripts)) (bytes_of scripts) (c.len.result + 1) (script_at scripts i script c.script-item.is c.loop-script-test.true) position so.read c.in-Err.fault
     (rw c.as_slice.ensures.value at said.fault))
 
 pub loop-script-preserved : goal.loop-script-preserved

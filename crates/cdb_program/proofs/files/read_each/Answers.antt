@@ -1,8 +1,7 @@
-use Rattle.std.proofs.Common.{◌≡◌, ◌∙◌, ◌+◌, ◌++◌, ◌∷◌, [], Bor, List, ℕ, take, drop, sym, ap, rules}
+use Rattle.std.proofs.Common.{◌≡◌, ◌∙◌, ◌+◌, ◌++◌, ◌∷◌, [], take, drop, sym, ap, rules}
 use Rattle.std.proofs.lemmas.Result.{err_from_is_err_and}
 use Rattle.cdb_program.specs.Known.{after_opening}
 use Rattle.cdb_program.specs.Reading.{texts}
-use Rattle.cdb_play.specs.Races.{bytes_of}
 use Rattle.cdb_program.proofs.Opening.{bytes_more, fails_at, one_more_name, read_none, read_then, taken_and_left}
 use Rattle.cdb_program.proofs.files.read_each.Goals as goal
 

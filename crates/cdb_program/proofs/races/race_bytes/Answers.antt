@@ -1,4 +1,4 @@
-use Rattle.cdb_setup.specs.Format.{StandsFor}
+use Rattle.cdb_setup.specs.Format.{Encodes}
 use Rattle.cdb_setup.specs.Parts.{Parts}
 use Rattle.cdb_setup.specs.declared.fault.SetupFault.TheVariants.{NoMemory}
 use Rattle.std.proofs.Common.{◌≡◌, ◌≤◌, ◌+◌, Err, Global, Vec, inl, ℕ, length, rules}
@@ -11,7 +11,7 @@ use Rattle.cdb_program.proofs.races.race_bytes.Goals as goal
 pub returns-in-Err : goal.returns-in-Err
 returns-in-Err g c =
     let fault = c.in-Err.fault in
-    let only : (other : Parts) → StandsFor c.args.setup.now other → fault ≡ NoMemory = λ other its. memory_alone c.read.result fault other c.in-Err.is (c.read.ensures.only other its) in
+    let only : (other : Parts) → Encodes c.args.setup.now other → fault ≡ NoMemory = λ other its. memory_alone c.read.result fault other c.in-Err.is (c.read.ensures.only other its) in
     inl (Err c.from.result, c.of_race.ensures, rw c.from.ensures (race_unread c.args.setup.now c.args.turns (bytes_of c.args.scripts.now) fault _ c.in-Err.ensures.fault only))
 
 pub returns : goal.returns

@@ -5,29 +5,29 @@ use Rattle.cdb_program.specs.Known.{after_opening}
 use Rattle.cdb_program.specs.Reading.{texts}
 use Rattle.cdb_program.specs.Seating.{AreSeatsOf}
 use Rattle.cdb_program.proofs.Opening.{read_none, taken_and_left}
-use Rattle.cdb_program.proofs.Seated.{seat_fails, seat_opened, seat_placed}
+use Rattle.cdb_program.proofs.Seated.{seat_fails, seat_opened, seat_stationd}
 use Rattle.cdb_program.proofs.seats.open_each.Goals as goal
 
 pub loop-name-init : goal.loop-name-init
-loop-name-init g c = record { opened = (read_none _).0; seats = rw c.new-places.ensures.items tt; count = omega (arith, c.new-places.ensures.len) }
+loop-name-init g c = record { opened = (read_none _).0; seats = rw c.new-stations.ensures.items tt; count = omega (arith, c.new-stations.ensures.len) }
 
-pub returns-in_err-place-clause-fault : goal.returns-in_err-place-clause-fault
-returns-in_err-place-clause-fault g c =
+pub returns-in_err-station-clause-fault : goal.returns-in_err-station-clause-fault
+returns-in_err-station-clause-fault g c =
     let p = err_from_is_err_and c.from_residual.result c.from_residual.ensures.1 in
-    rw (p.1, p.2) (seat_fails _ _ _ c.args.names.now c.loop-name.name-index _ c.in_err-place.field-0.0 c.loop-name-test.true c.loop-name.invariant.opened c.in_err-place.ensures.fault)
+    rw (p.1, p.2) (seat_fails _ _ _ c.args.names.now c.loop-name.name-index _ c.in_err-station.field-0.0 c.loop-name-test.true c.loop-name.invariant.opened c.in_err-station.ensures.fault)
 
 pub returns-then-is_err-clause-fault : goal.returns-then-is_err-clause-fault
 returns-then-is_err-clause-fault g c =
     let names = c.args.names.now in
     let i = c.loop-name.name-index in
-    (texts (take (i + 1) names), texts (drop (i + 1) names), taken_and_left names (i + 1), seat_opened _ _ _ names i _ c.loop-name-test.true c.loop-name.invariant.opened c.in_ok-place.ensures.opened)
+    (texts (take (i + 1) names), texts (drop (i + 1) names), taken_and_left names (i + 1), seat_opened _ _ _ names i _ c.loop-name-test.true c.loop-name.invariant.opened c.in_ok-station.ensures.opened)
 
 pub loop-name-preserved : goal.loop-name-preserved
 loop-name-preserved g c = record {
-  opened = seat_opened _ _ _ c.args.names.now c.loop-name.name-index _ c.loop-name-test.true c.loop-name.invariant.opened c.in_ok-place.ensures.opened;
+  opened = seat_opened _ _ _ c.args.names.now c.loop-name.name-index _ c.loop-name-test.true c.loop-name.invariant.opened c.in_ok-station.ensures.opened;
   seats =
-      let items : c.push.new.self.items ≡ c.loop-name.places.items ++ c.in_ok-place.place ∷ [] = search rules in
-      rw items (seat_placed g.F.Seat.Talk.known _ _ c.args.names.now c.loop-name.name-index _ c.loop-name.places.items c.in_ok-place.place c.loop-name-test.true c.loop-name.invariant.opened c.loop-name.invariant.seats c.in_ok-place.ensures.seat);
+      let items : c.push.new.self.items ≡ c.loop-name.stations.items ++ c.in_ok-station.station ∷ [] = search rules in
+      rw items (seat_stationd g.F.Seat.Talk.known _ _ c.args.names.now c.loop-name.name-index _ c.loop-name.stations.items c.in_ok-station.station c.loop-name-test.true c.loop-name.invariant.opened c.loop-name.invariant.seats c.in_ok-station.ensures.seat);
   count = let more = c.push.ensures.len in grind (arith, more, c.loop-name.invariant.count);
 }
 
@@ -37,4 +37,4 @@ returns-clause-opened g c =
 
 pub returns-clause-seats : goal.returns-clause-seats
 returns-clause-seats g c =
-    subst (λ (names : List (Bor (List ℕ))). AreSeatsOf g.F.Seat.Talk.known (g.F.Files.seen c.args.files.now) (texts names) c.loop-name.places.items) (take_all c.loop-name.name-index c.args.names.now c.loop-name-test.false) c.loop-name.invariant.seats
+    subst (λ (names : List (Bor (List ℕ))). AreSeatsOf g.F.Seat.Talk.known (g.F.Files.seen c.args.files.now) (texts names) c.loop-name.stations.items) (take_all c.loop-name.name-index c.args.names.now c.loop-name-test.false) c.loop-name.invariant.seats

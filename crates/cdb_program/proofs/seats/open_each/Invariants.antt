@@ -7,6 +7,6 @@ use Rattle.cdb_program.proofs.seats.open_each.Given as goal
 abbrev pub invariant-loop-name : goal.invariant-loop-name
 invariant-loop-name g l = record {
   opened : g.F.Files.seen l.files ≡ after_opening (g.F.Files.seen l.initial.files) (texts (take l.name-index l.names));
-  seats : AreSeatsOf g.F.Seat.Talk.known (g.F.Files.seen l.initial.files) (texts (take l.name-index l.names)) l.places.items;
-  count : vec_len l.places ≡ l.name-index;
+  seats : AreSeatsOf g.F.Seat.Talk.known (g.F.Files.seen l.initial.files) (texts (take l.name-index l.names)) l.stations.items;
+  count : vec_len l.stations ≡ l.name-index;
 }

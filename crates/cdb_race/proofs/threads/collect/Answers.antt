@@ -54,8 +54,8 @@ loop-ran-preserved g c =
       each = λ plan before same outcomes none.
           let clean = (each_front (λ (k : ℕ) (r : Ran g.row.T.Denot). fault_in r ≡ None) _ _ _ popped (was.clean none)).1 in
           let one = (each_front (λ (k : ℕ) (r : Ran g.row.T.Denot). (b : SeatView) → HasRan g.T.Runs.rules plan (get_or before (length before - 1 - k) b) r) _ _ _ popped (was.rans plan before same outcomes)).1 in
-          let place : length before - 1 - length c.pop.new.self.items ≡ length c.loop-ran.seats.items = omega (arith, same, was.count, left, front, seats_now) in
+          let position : length before - 1 - length c.pop.new.self.items ≡ length c.loop-ran.seats.items = omega (arith, same, was.count, left, front, seats_now) in
           let long : length (all_told c.loop-ran.answered.items) ≡ length c.loop-ran.seats.items = length-map c.loop-ran.answered.items _ ∙ omega (arith, was.answered, seats_now, answered_now) in
           pair_push (λ (k : ℕ) (s : SeatView) (a : List Answer). (b : SeatView) → HasFinished g.T.Runs.rules plan (get_or before k b) s a) c.loop-ran.seats.items _ (all_told c.loop-ran.answered.items) _ ran.seat tells seats.items told_more long (was.each plan before same outcomes none)
-          (λ b. subst (λ n. HasFinished g.T.Runs.rules plan (get_or before n b) ran.seat tells) place (finished g.T.Runs.rules plan _ ran.seat tells ran.end (ends_well _ _ clean) (one b)));
+          (λ b. subst (λ n. HasFinished g.T.Runs.rules plan (get_or before n b) ran.seat tells) position (finished g.T.Runs.rules plan _ ran.seat tells ran.end (ends_well _ _ clean) (one b)));
     }

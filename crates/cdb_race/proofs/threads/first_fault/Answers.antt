@@ -3,13 +3,13 @@ use Rattle.cdb_race.proofs.threads.first_fault.Goals as goal
 
 pub returns-in-Some : goal.returns-in-Some
 returns-in-Some g c =
-    let before = c.loop-place.auto.place in
-    let test = c.loop-place-test.true in
+    let before = c.loop-position.auto.position in
+    let test = c.loop-position-test.true in
     record {
-      its = c.index-rans-place.result;
-      place = c.loop-place.place - 1;
+      its = c.index-rans-position.result;
+      position = c.loop-position.position - 1;
       within = omega (arith, before, test);
       at = search rules;
       has = sym c.fault_of.ensures ∙ c.in-Some.is;
-      least = λ k ran low below. c.loop-place.invariant k ran (omega (arith, low, test)) below;
+      least = λ k ran low below. c.loop-position.invariant k ran (omega (arith, low, test)) below;
     }

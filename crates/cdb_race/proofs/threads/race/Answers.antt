@@ -85,7 +85,7 @@ returns-in-Some-clause-full g c = λ full.
     let final = c.finish-control.result in
     let so_far = under_way g.T.Runs.rules c.in-Ok-open.shared plan c.args.setup final before.items rans.items least.its c.n-processes.ensures.value new many c.in_ok-rans.ensures.each seats.items long got.seats c.finish-control.ensures.known c.n-processes.ensures.ranges.processes.0 c.journal.ensures.seats in
     let whole =
-    full_at g.T.Runs.rules c.in-Ok-open.shared plan c.args.setup final before.items rans.items least.its c.n-processes.ensures.value new many c.in_ok-rans.ensures.each seats.items long got.seats c.finish-control.ensures.known least.place least.within (ap (λ (r : Ran g.row.T.Denot). r.end) least.at ∙ met) c.journal.ensures.limit in
+    full_at g.T.Runs.rules c.in-Ok-open.shared plan c.args.setup final before.items rans.items least.its c.n-processes.ensures.value new many c.in_ok-rans.ensures.each seats.items long got.seats c.finish-control.ensures.known least.position least.within (ap (λ (r : Ran g.row.T.Denot). r.end) least.at ∙ met) c.journal.ensures.limit in
     (final, so_far, whole)
 
 pub returns-in-Some-clause-told : goal.returns-in-Some-clause-told

@@ -1,6 +1,7 @@
 //! Dialogues worked out by hand.
 
 use super::{ONE_PROCESS, TWO, at_prompt, check};
+use cdb_any_run::RunOfSetup;
 use cdb_debug::{HELP, debug};
 use std::test::Fail;
 
@@ -72,7 +73,10 @@ fn nothing_is_answered_after_quit(rt: HostRuntime) -> Result<(), Fail> {
 #[test]
 fn help_is_no_command(rt: HostRuntime) -> Result<(), Fail> {
     let mut talk = at_prompt(&rt, b"help\nshow history\n", 10_000);
-    assert_eq!(rt; debug(rt.alloc(), ONE_PROCESS, b"", &mut talk), Ok(()));
+    assert_eq!(rt;
+        debug::<RunOfSetup, _>(rt.alloc(), ONE_PROCESS, b"", &mut talk),
+        Ok(())
+    );
     let said = str::from_utf8(talk.said.as_slice())?;
     assert_eq!(rt; said.strip_prefix(HELP), Some("no steps\n"));
     Ok(())
@@ -82,7 +86,10 @@ fn help_is_no_command(rt: HostRuntime) -> Result<(), Fail> {
 fn each_line_is_answered_before_more_is_asked_for(rt: HostRuntime) -> Result<(), Fail> {
     // 7 bytes a time are one line each; the answers have 12, 13 and twice 20 bytes, and the prompt has 2.
     let mut talk = at_prompt(&rt, b"auto 1\nauto 1\njump 1\nquit..\n", 7);
-    assert_eq!(rt; debug(rt.alloc(), ONE_PROCESS, b"> ", &mut talk), Ok(()));
+    assert_eq!(rt;
+        debug::<RunOfSetup, _>(rt.alloc(), ONE_PROCESS, b"> ", &mut talk),
+        Ok(())
+    );
     assert_eq!(rt;
         str::from_utf8(talk.said.as_slice()),
         Ok("> 1.1 query 1\n> 1.2 send 1#1\n> line 3 fault 2 Word\n> line 4 fault 2 Word\n> ")
@@ -94,7 +101,10 @@ fn each_line_is_answered_before_more_is_asked_for(rt: HostRuntime) -> Result<(),
 #[test]
 fn after_quit_no_more_is_asked_for(rt: HostRuntime) -> Result<(), Fail> {
     let mut talk = at_prompt(&rt, b"auto 1\nquit\nauto 1\n", 1);
-    assert_eq!(rt; debug(rt.alloc(), ONE_PROCESS, b"> ", &mut talk), Ok(()));
+    assert_eq!(rt;
+        debug::<RunOfSetup, _>(rt.alloc(), ONE_PROCESS, b"> ", &mut talk),
+        Ok(())
+    );
     assert_eq!(rt;
         str::from_utf8(talk.said.as_slice()),
         Ok("> 1.1 query 1\n> ")
@@ -113,7 +123,10 @@ fn a_line_may_be_as_long_as_a_script(rt: HostRuntime) -> Result<(), Fail> {
     lines.extend_from_slice(Vec::from_elem(rt.alloc(), b'x', 1_048_577)?.as_slice())?;
     lines.extend_from_slice(b"\nredo\n")?;
     let mut talk = at_prompt(&rt, lines.as_slice(), 10_000);
-    assert_eq!(rt; debug(rt.alloc(), ONE_PROCESS, b"", &mut talk), Ok(()));
+    assert_eq!(rt;
+        debug::<RunOfSetup, _>(rt.alloc(), ONE_PROCESS, b"", &mut talk),
+        Ok(())
+    );
     assert_eq!(rt;
         str::from_utf8(talk.said.as_slice()),
         Ok("line 1 fault 2 Word\nline 2 too long\nrefused 14 NothingToRedo\n")

@@ -1,6 +1,7 @@
 //! Reading and writing that fail, at each call in turn.
 
 use super::{ONE_PROCESS, at_prompt};
+use cdb_any_run::RunOfSetup;
 use cdb_debug::debug;
 use cdb_play::PlayFault;
 use cdb_setup::SetupFault;
@@ -20,7 +21,7 @@ fn a_read_that_fails(rt: HostRuntime) -> Result<(), Fail> {
         let mut talk = at_prompt(&rt, LINES, 7);
         talk.good_reads = good_reads;
         assert_eq!(rt;
-            debug(rt.alloc(), ONE_PROCESS, b"> ", &mut talk),
+            debug::<RunOfSetup, _>(rt.alloc(), ONE_PROCESS, b"> ", &mut talk),
             Err(PlayFault::Read)
         );
         let said = str::from_utf8(talk.said.as_slice())?;
@@ -37,7 +38,7 @@ fn a_write_that_fails(rt: HostRuntime) {
         let mut talk = at_prompt(&rt, LINES, 1);
         talk.good_writes = good_writes;
         assert_eq!(rt;
-            debug(rt.alloc(), ONE_PROCESS, b"> ", &mut talk),
+            debug::<RunOfSetup, _>(rt.alloc(), ONE_PROCESS, b"> ", &mut talk),
             Err(PlayFault::Write)
         );
         assert_eq!(rt; talk.said.len(), good_writes);
@@ -49,7 +50,7 @@ fn a_write_that_fails(rt: HostRuntime) {
 fn a_bad_setup_is_found_before_all_else(rt: HostRuntime) -> Result<(), Fail> {
     let mut talk = at_prompt(&rt, LINES, 7);
     assert_eq!(rt;
-        debug(rt.alloc(), b"[]", b"> ", &mut talk),
+        debug::<RunOfSetup, _>(rt.alloc(), b"[]", b"> ", &mut talk),
         Err(PlayFault::Setup(SetupFault::NotObject))
     );
     assert_eq!(rt; (talk.said.len(), talk.asked_at.len()), (0, 0));

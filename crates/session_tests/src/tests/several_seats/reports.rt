@@ -1,7 +1,8 @@
 //! What is written once all sessions have ended.
 
 use super::{Person, THREE, with_lines};
-use cdb_hall::{Place, hold};
+use cdb_any_run::RunOfSetup;
+use cdb_hall::{Station, hold};
 use cdb_play::{Output, RaceFault};
 use cdb_setup::SetupFault;
 use std::alloc::AllocError;
@@ -23,14 +24,21 @@ fn report_of<R: Threads + Wait + Sync + Abort + AllocGlobal>(
     setup: &[u8],
     people: Vec<Person>,
 ) -> Result<Report, AllocError> {
-    let mut places = Vec::new(rt.alloc());
+    let mut stations = Vec::new(rt.alloc());
     for talk in people {
-        places.push(Place { talk, prompt: b"" })?;
+        stations.push(Station { talk, prompt: b"" })?;
     }
-    assert!(rt; 1 <= places.len() && places.len() <= 64);
+    assert!(rt; 1 <= stations.len() && stations.len() <= 64);
     let mut output = Output::new(Vec::new(rt.alloc()));
     let mut error = Output::new(Vec::new(rt.alloc()));
-    let status = hold(rt, rt.alloc(), setup, places, &mut output, &mut error);
+    let status = hold::<RunOfSetup, _, _, _, _>(
+        rt,
+        rt.alloc(),
+        setup,
+        stations,
+        &mut output,
+        &mut error,
+    );
     Ok(Report {
         status,
         journal: output.into_inner(),

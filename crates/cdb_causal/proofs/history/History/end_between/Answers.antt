@@ -14,8 +14,8 @@ returns c =
     let log = c.self.inside.events in
     let cause : Event = c.get-cause.result.now in
     let effect : Event = c.get-effect.result.now in
-    subst (λ h. (k : ℕ) (l : IsLink depends h c.args.i k) → IsLink depends h k c.args.j → same_process l.cause l.effect ≡ false → k < c.place_above.result) c.self.view_is
+    subst (λ h. (k : ℕ) (l : IsLink depends h c.args.i k) → IsLink depends h k c.args.j → same_process l.cause l.effect ≡ false → k < c.position_above.result) c.self.view_is
     (λ k one two another.
-    (c.place_above.ensures.marks k (slice_get_within (joined log) k two.cause two.at_cause)).1
+    (c.position_above.ensures.marks k (slice_get_within (joined log) k two.cause two.at_cause)).1
     (end_above_between (joined log) c.self.invariant.standing c.self.inside.bounds (mark log) c.self.invariant.within c.self.invariant.alone c.args.i c.args.j c.end_between-bound.result ABOVE_ALL cause effect c.get-cause.ensures c.get-effect.ensures
-    (λ i less. c.place_above.ensures.small i (let within = slice_get_within (joined log) c.args.j effect c.get-effect.ensures in omega (arith, less, within))) c.end_between-bound.ensures k one two another))
+    (λ i less. c.position_above.ensures.small i (let within = slice_get_within (joined log) c.args.j effect c.get-effect.ensures in omega (arith, less, within))) c.end_between-bound.ensures k one two another))

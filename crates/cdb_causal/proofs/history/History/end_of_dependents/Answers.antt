@@ -12,8 +12,8 @@ returns c =
     let log = c.self.inside.events in
     let kept = c.self.invariant in
     let end = c.end_of_dependents.ensures in
-    subst (λ h. (j : ℕ) → IsLink depends h c.args.i j → j < c.place_above.result) c.self.view_is
+    subst (λ h. (j : ℕ) → IsLink depends h c.args.i j → j < c.position_above.result) c.self.view_is
     (λ j l.
-    (c.place_above.ensures.marks j (slice_get_within (joined log) j l.effect l.at_effect)).1
+    (c.position_above.ensures.marks j (slice_get_within (joined log) j l.effect l.at_effect)).1
     (above_linked (joined log) c.self.inside.bounds (mark log) kept.own c.end_of_dependents.result kept.standing kept.within kept.ranged c.args.i c.get-event.result.now c.get-event.ensures
-    c.place_above.ensures.small end.others end.own j l))
+    c.position_above.ensures.small end.others end.own j l))

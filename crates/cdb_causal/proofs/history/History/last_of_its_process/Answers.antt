@@ -11,10 +11,10 @@ pub returns : goal.returns
 returns c =
     λ yes.
     let log = c.self.inside.events in
-    let least : c.place_above.result ≤ c.args.at = grind (arith, nat_tests, yes) in
+    let least : c.position_above.result ≤ c.args.at = grind (arith, nat_tests, yes) in
     subst (λ h. (i p k l : ℕ) (kind other : Kind) → slice_get h (c.args.at - 1) ≡ Some (Step p k kind) → slice_get h i ≡ Some (Step p l other) → i < c.args.at) c.self.view_is
     (λ i p k l kind other at_event at_i.
     let is = same_Some c.get-event.result.now (Step p k kind) (sym c.get-event.ensures ∙ at_event) in
     let below = subst (λ b. mark log i < b) (sym (c.end_of_own.ensures p k kind is)) (c.self.invariant.own.all i p l other at_i) in
-    let less = (c.place_above.ensures.marks i (slice_get_within (joined log) i (Step p l other) at_i)).1 below in
+    let less = (c.position_above.ensures.marks i (slice_get_within (joined log) i (Step p l other) at_i)).1 below in
     omega arith)

@@ -6,15 +6,15 @@ use Rattle.cdb_log.specs.Marks.{mark}
 use Rattle.cdb_log.specs.Pieces.{joined}
 use Rattle.cdb_causal.proofs.history.History.position.Goals as goal
 
-pub place_of-requires-clause-standing : goal.place_of-requires-clause-standing
-place_of-requires-clause-standing c = subst IsStanding c.self.view_is c.self.invariant.standing
+pub position_of-requires-clause-standing : goal.position_of-requires-clause-standing
+position_of-requires-clause-standing c = subst IsStanding c.self.view_is c.self.invariant.standing
 
-pub place_of-requires-clause-within : goal.place_of-requires-clause-within
-place_of-requires-clause-within c = subst (λ l. c.place_above-end.result ≤ length l) c.self.view_is c.place_above-end.ensures.within
+pub position_of-requires-clause-within : goal.position_of-requires-clause-within
+position_of-requires-clause-within c = subst (λ l. c.position_above-end.result ≤ length l) c.self.view_is c.position_above-end.ensures.within
 
-pub place_of-requires-clause-end : goal.place_of-requires-clause-end
-place_of-requires-clause-end c =
-    subst (λ l. (i : ℕ) → IsNamedAt l i c.args.name → i < c.place_above-end.result) c.self.view_is
+pub position_of-requires-clause-end : goal.position_of-requires-clause-end
+position_of-requires-clause-end c =
+    subst (λ l. (i : ℕ) → IsNamedAt l i c.args.name → i < c.position_above-end.result) c.self.view_is
     (λ i named.
-    (c.place_above-end.ensures.marks i (slice_get_within (joined c.self.inside.events) i named.0 named.1)).1
+    (c.position_above-end.ensures.marks i (slice_get_within (joined c.self.inside.events) i named.0 named.1)).1
     (c.end_of_name.ensures (mark c.self.inside.events i) named.0 (c.self.invariant.within i named.0 named.1) named.2))

@@ -5,9 +5,9 @@ use Rattle.cdb_causal.specs.Bounds.{AreWithin}
 use Rattle.cdb_base.specs.declared.event.Event.TheVariants.{Step}
 use Rattle.cdb_causal.specs.Named.{AreRanged}
 use Rattle.cdb_causal.specs.Own.{AreOwn}
-use Rattle.cdb_causal.specs.Rollback.{without, place_before}
+use Rattle.cdb_causal.specs.Rollback.{without, position_before}
 use Rattle.cdb_causal.specs.Standing.{IsStanding}
-use Rattle.cdb_causal.proofs.Bounding.{within_without, place_before_low, place_before_high}
+use Rattle.cdb_causal.proofs.Bounding.{within_without, position_before_low, position_before_high}
 use Rattle.cdb_causal.proofs.Keeping.{standing_without}
 use Rattle.cdb_causal.proofs.Lists.{remove-without}
 use Rattle.cdb_causal.proofs.Naming.{ranged_without, within_named}
@@ -18,11 +18,11 @@ use Rattle.cdb_log.specs.Pieces.{joined}
 use Rattle.cdb_causal.proofs.history.History.remove.Goals as goal
 
 -- no mark has risen
-marks_fall : (old new : List (List Event)) (gone : ℕ) (event : Event) → IsTakenOut old gone event new → (i : ℕ) → i < length (joined new) → mark new i ≤ mark old (place_before gone i)
+marks_fall : (old new : List (List Event)) (gone : ℕ) (event : Event) → IsTakenOut old gone event new → (i : ℕ) → i < length (joined new) → mark new i ≤ mark old (position_before gone i)
 marks_fall old new gone event taken i less =
     ⊎_elim
-    (λ before. let e = taken.earlier i before in let f = ap (mark old) (place_before_low gone i before) in omega arith)
-    (λ behind. let e = taken.later i behind less in let f = ap (mark old) (place_before_high gone i behind) in omega arith)
+    (λ before. let e = taken.earlier i before in let f = ap (mark old) (position_before_low gone i before) in omega arith)
+    (λ behind. let e = taken.later i behind less in let f = ap (mark old) (position_before_high gone i behind) in omega arith)
     (below_or_above i gone)
   where
     below_or_above : (i n : ℕ) → (i < n) ⊎ (n ≤ i)
@@ -40,7 +40,7 @@ invariant_of-self c =
     let forgotten = c.forget_own.ensures in
     let unnamed = c.forget_name.ensures in
     let leaves = leaves_then c.self.inside.bounds c.forget_own.new.self c.forget.new.self c.last_of_its_process-last.result event forgotten c.forget.ensures.leaves in
-    let fall : (i : ℕ) → i < length (without items gone) → mark new i ≤ mark old (place_before gone i) = λ i less. marks_fall old new gone event taken i (subst (λ l. i < length l) (sym left) less) in
+    let fall : (i : ℕ) → i < length (without items gone) → mark new i ≤ mark old (position_before gone i) = λ i less. marks_fall old new gone event taken i (subst (λ l. i < length l) (sym left) less) in
     record {
       standing = subst IsStanding (sym left) (standing_without items gone c.self.invariant.standing);
       within =

@@ -47,7 +47,7 @@ invariant_of-self-2 g c =
     let long = c.push_entry.ensures.len ∙ ap (λ (m : ℕ). m + 1) c.reserve.ensures.len in (
       replayed,
       subst (λ (m : ℕ). HasRoom m (vec_capacity c.push_entry.new.journal) (rooms_at m c.lower.new.marks.items) next) (sym long)
-          (subst (λ (places : ℕ). HasRoom (n + 1) places (rooms_at (n + 1) c.lower.new.marks.items) next) (sym c.push_entry.ensures.capacity)
+          (subst (λ (space : ℕ). HasRoom (n + 1) space (rooms_at (n + 1) c.lower.new.marks.items) next) (sym c.push_entry.ensures.capacity)
           (subst (λ (l : List ℕ). HasRoom (n + 1) (vec_capacity c.reserve.new.self) l next) (sym rooms) room)),
     )
 

@@ -1,7 +1,7 @@
 use Rattle.std.proofs.Common.{IsOk, rules, arith, ◌-◌, ap, ◌∙◌, sym, subst, [], List, set}
 use Rattle.std.specs.List.{AllByRecursion}
 use Rattle.std.proofs.lemmas.Grind.{common_steps}
-use Rattle.cdb_base.specs.Places.{without_last}
+use Rattle.cdb_base.specs.Positions.{without_last}
 use Rattle.cdb_base.specs.declared.event.Event.{Event}
 use Rattle.cdb_rules.proofs.Alls.{all-get_or, all-slice_get}
 use Rattle.cdb_control.proofs.Room.{swap}

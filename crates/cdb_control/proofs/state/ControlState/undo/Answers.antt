@@ -51,8 +51,8 @@ returns-in_err-event-clause-spared g c = λ more.
     let now = c.args.self.now in
     let w = swap now c.self.inside.redo.items c.args.seat c.index_mut-list.result.now c.undo.new.self (ap (λ (v : StoredState). v.state.redo) c.self.view_is) (ap (λ (v : StoredState). v.capacities) c.self.view_is) c.requires.from_one c.requires.to_last c.index_mut-list.ensures.value in
     let long = ap (λ (l : List Event). length l) w.at in
-    let place = w.place in
-    absurd (let impossible = c.in_err-event.ensures.spared (omega (arith, long, place, more)) in cc)
+    let position = w.position in
+    absurd (let impossible = c.in_err-event.ensures.spared (omega (arith, long, position, more)) in cc)
 
 pub returns-in_err-event-clause-err : goal.returns-in_err-event-clause-err
 returns-in_err-event-clause-err g c =

@@ -89,8 +89,8 @@ returns-clause-pushed g c =
     let len = c.len-last.ensures in
     let last = room.1 in
     let is_last : suc k ≡ length pieces = omega arith in
-    subst (λ l. IsPushed l c.args.item (k * 128 + c.len-place.result) (lists (set pieces k c.push_reserved.new.self))) c.self.view_is
-    (subst (λ n. IsPushed (lists pieces) c.args.item (k * 128 + n) (lists (set pieces k c.push_reserved.new.self))) (sym (c.len-place.ensures ∙ v.ok.0))
+    subst (λ l. IsPushed l c.args.item (k * 128 + c.len-position.result) (lists (set pieces k c.push_reserved.new.self))) c.self.view_is
+    (subst (λ n. IsPushed (lists pieces) c.args.item (k * 128 + n) (lists (set pieces k c.push_reserved.new.self))) (sym (c.len-position.ensures ∙ v.ok.0))
     (pushed pieces c.self.inside.ends.items h k v c.push_reserved.new.self c.index_mut-piece.ensures.value c.args.item is_last c.push_reserved.ensures.items))
 
 pub returns-clause-small : goal.returns-clause-small
@@ -105,7 +105,7 @@ returns-clause-small g c =
     let few = h.few in
     let ok = c.self.inside.ends.ok.0 in
     let len = c.len-last.ensures in
-    let place = c.len-place.ensures in
+    let position = c.len-position.ensures in
     let v_ok = v.ok.0 in
     let last = room.1 in
     let is_last : room.0 ≡ k = omega arith in
@@ -113,8 +113,8 @@ returns-clause-small g c =
     let at = lists_at pieces k v within c.index_mut-piece.ensures.value in
     let step = before_step (lists pieces) k v.items at in
     let has = subst (λ k. before (lists pieces) (suc k) < before (lists pieces) k + 128) is_last room.2 in
-    let mark : k * 128 + c.len-place.result < 4294967295 = omega arith in
+    let mark : k * 128 + c.len-position.result < 4294967295 = omega arith in
     mark
 
 pub overflow_cast-result : goal.overflow_cast-result
-overflow_cast-result g c = let small : (c.len-last.result - 1) * 128 + c.len-place.result < 4294967295 = returns-clause-small g c in omega arith
+overflow_cast-result g c = let small : (c.len-last.result - 1) * 128 + c.len-position.result < 4294967295 = returns-clause-small g c in omega arith

@@ -12,7 +12,7 @@ pub spot_of-k-requires-clause-ends : goal.spot_of-k-requires-clause-ends
 spot_of-k-requires-clause-ends g c = subst AreEnds (sym c.deref.ensures.value) (ends_rise c.self.inside.pieces.items c.self.inside.ends.items c.self.invariant)
 
 pub spot_of-k-requires-clause-within : goal.spot_of-k-requires-clause-within
-spot_of-k-requires-clause-within g c = last_in c.self.inside.pieces.items c.self.inside.ends.items c.self.invariant _ _ c.args.place c.deref.ensures.value c.self.view_is c.requires
+spot_of-k-requires-clause-within g c = last_in c.self.inside.pieces.items c.self.inside.ends.items c.self.invariant _ _ c.args.position c.deref.ensures.value c.self.view_is c.requires
 
 pub index_mut-requires : goal.index_mut-requires
 index_mut-requires g c =
@@ -22,7 +22,7 @@ index_mut-requires g c =
     let k : ℕ = c.spot_of-k.result.0 in
     let i : ℕ = c.spot_of-k.result.1 in
     let v = c.index_mut-piece.result.now in
-    let f = found pieces ends h c.args.place k i (subst (λ l. IsSpot l c.args.place k i) c.deref.ensures.value c.spot_of-k.ensures) v c.index_mut-piece.ensures.value in
+    let f = found pieces ends h c.args.position k i (subst (λ l. IsSpot l c.args.position k i) c.deref.ensures.value c.spot_of-k.ensures) v c.index_mut-piece.ensures.value in
     let less = f.less in
     let ok = v.ok.0 in
     omega arith
@@ -35,7 +35,7 @@ invariant_of-self g c =
     let k : ℕ = c.spot_of-k.result.0 in
     let i : ℕ = c.spot_of-k.result.1 in
     let v = c.index_mut-piece.result.now in
-    let f = found pieces ends h c.args.place k i (subst (λ l. IsSpot l c.args.place k i) c.deref.ensures.value c.spot_of-k.ensures) v c.index_mut-piece.ensures.value in
+    let f = found pieces ends h c.args.position k i (subst (λ l. IsSpot l c.args.position k i) c.deref.ensures.value c.spot_of-k.ensures) v c.index_mut-piece.ensures.value in
     let same = length-set v.items i c.args.item in
     ends_set pieces ends ends h k v (with_item v i c.args.item) f.within c.index_mut-piece.ensures.value refl (λ j less. refl) (λ j le less. (let e = same in omega arith))
     (let s = small_piece pieces ends h k v f.within c.index_mut-piece.ensures.value in omega arith)
@@ -49,9 +49,9 @@ returns-clause-replaced g c =
     let k : ℕ = c.spot_of-k.result.0 in
     let i : ℕ = c.spot_of-k.result.1 in
     let v = c.index_mut-piece.result.now in
-    let f = found pieces ends h c.args.place k i (subst (λ l. IsSpot l c.args.place k i) c.deref.ensures.value c.spot_of-k.ensures) v c.index_mut-piece.ensures.value in
-    subst (λ l. IsReplaced l c.args.place c.args.item (lists (set pieces k (with_item v i c.args.item)))) c.self.view_is
-    (replaced pieces ends h k v (with_item v i c.args.item) c.index_mut-piece.ensures.value c.args.place i c.args.item f.within f.is_place f.less refl).0
+    let f = found pieces ends h c.args.position k i (subst (λ l. IsSpot l c.args.position k i) c.deref.ensures.value c.spot_of-k.ensures) v c.index_mut-piece.ensures.value in
+    subst (λ l. IsReplaced l c.args.position c.args.item (lists (set pieces k (with_item v i c.args.item)))) c.self.view_is
+    (replaced pieces ends h k v (with_item v i c.args.item) c.index_mut-piece.ensures.value c.args.position i c.args.item f.within f.is_position f.less refl).0
 
 pub returns-clause-room : goal.returns-clause-room
 returns-clause-room g c =
@@ -61,5 +61,5 @@ returns-clause-room g c =
     let k : ℕ = c.spot_of-k.result.0 in
     let i : ℕ = c.spot_of-k.result.1 in
     let v = c.index_mut-piece.result.now in
-    let f = found pieces ends h c.args.place k i (subst (λ l. IsSpot l c.args.place k i) c.deref.ensures.value c.spot_of-k.ensures) v c.index_mut-piece.ensures.value in
-    λ room. (replaced pieces ends h k v (with_item v i c.args.item) c.index_mut-piece.ensures.value c.args.place i c.args.item f.within f.is_place f.less refl).1 (subst HasRoom (sym c.self.view_is) room)
+    let f = found pieces ends h c.args.position k i (subst (λ l. IsSpot l c.args.position k i) c.deref.ensures.value c.spot_of-k.ensures) v c.index_mut-piece.ensures.value in
+    λ room. (replaced pieces ends h k v (with_item v i c.args.item) c.index_mut-piece.ensures.value c.args.position i c.args.item f.within f.is_position f.less refl).1 (subst HasRoom (sym c.self.view_is) room)

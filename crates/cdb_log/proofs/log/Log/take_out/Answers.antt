@@ -13,7 +13,7 @@ pub spot_of-k-requires-clause-ends : goal.spot_of-k-requires-clause-ends
 spot_of-k-requires-clause-ends g c = subst AreEnds (sym c.deref.ensures.value) (ends_rise c.self.inside.pieces.items c.self.inside.ends.items c.self.invariant)
 
 pub spot_of-k-requires-clause-within : goal.spot_of-k-requires-clause-within
-spot_of-k-requires-clause-within g c = last_in c.self.inside.pieces.items c.self.inside.ends.items c.self.invariant _ _ c.args.place c.deref.ensures.value c.self.view_is c.requires
+spot_of-k-requires-clause-within g c = last_in c.self.inside.pieces.items c.self.inside.ends.items c.self.invariant _ _ c.args.position c.deref.ensures.value c.self.view_is c.requires
 
 pub remove-item-requires : goal.remove-item-requires
 remove-item-requires g c =
@@ -23,7 +23,7 @@ remove-item-requires g c =
     let k : ℕ = c.spot_of-k.result.0 in
     let i : ℕ = c.spot_of-k.result.1 in
     let v = c.index_mut-piece.result.now in
-    let f = found pieces ends h c.args.place k i (subst (λ l. IsSpot l c.args.place k i) c.deref.ensures.value c.spot_of-k.ensures) v c.index_mut-piece.ensures.value in
+    let f = found pieces ends h c.args.position k i (subst (λ l. IsSpot l c.args.position k i) c.deref.ensures.value c.spot_of-k.ensures) v c.index_mut-piece.ensures.value in
     let less = f.less in
     let ok = v.ok.0 in
     omega arith
@@ -37,7 +37,7 @@ lower-requires g c = record {
       let k : ℕ = c.spot_of-k.result.0 in
       let i : ℕ = c.spot_of-k.result.1 in
       let v = c.index_mut-piece.result.now in
-      let f = found pieces ends h c.args.place k i (subst (λ l. IsSpot l c.args.place k i) c.deref.ensures.value c.spot_of-k.ensures) v c.index_mut-piece.ensures.value in
+      let f = found pieces ends h c.args.position k i (subst (λ l. IsSpot l c.args.position k i) c.deref.ensures.value c.spot_of-k.ensures) v c.index_mut-piece.ensures.value in
       let same = h.same_length in
       let e = h.each j (omega arith) in
       let rises = before_rises (lists pieces) (suc k) (suc j) (omega arith) in
@@ -53,7 +53,7 @@ drop_spares-requires g c =
     let k : ℕ = c.spot_of-k.result.0 in
     let i : ℕ = c.spot_of-k.result.1 in
     let v = c.index_mut-piece.result.now in
-    let f = found pieces ends h c.args.place k i (subst (λ l. IsSpot l c.args.place k i) c.deref.ensures.value c.spot_of-k.ensures) v c.index_mut-piece.ensures.value in
+    let f = found pieces ends h c.args.position k i (subst (λ l. IsSpot l c.args.position k i) c.deref.ensures.value c.spot_of-k.ensures) v c.index_mut-piece.ensures.value in
     let w = c.remove-item.new.self in
     let left = ap length c.remove-item.ensures.items in
     let fewer = length-remove v.items i f.less in
@@ -71,10 +71,10 @@ returns g c =
     let k : ℕ = c.spot_of-k.result.0 in
     let i : ℕ = c.spot_of-k.result.1 in
     let v = c.index_mut-piece.result.now in
-    let f = found pieces ends h c.args.place k i (subst (λ l. IsSpot l c.args.place k i) c.deref.ensures.value c.spot_of-k.ensures) v c.index_mut-piece.ensures.value in
+    let f = found pieces ends h c.args.position k i (subst (λ l. IsSpot l c.args.position k i) c.deref.ensures.value c.spot_of-k.ensures) v c.index_mut-piece.ensures.value in
     let w = c.remove-item.new.self in
     let read = slice_get_read v.items (length v.items) i c.remove-item.result refl f.less c.remove-item.ensures.value in
-    subst (λ l. IsTakenOut l c.args.place c.remove-item.result (lists c.drop_spares.new.pieces.items)) c.self.view_is
-    (taken_then (lists pieces) (lists (set pieces k w)) (lists c.drop_spares.new.pieces.items) c.args.place c.remove-item.result (subst (λ l. c.args.place < length (joined l)) (sym c.self.view_is) c.requires)
-    (taken_out pieces ends h k v w c.index_mut-piece.ensures.value c.args.place i c.remove-item.result f.within f.is_place f.less read c.remove-item.ensures.items)
+    subst (λ l. IsTakenOut l c.args.position c.remove-item.result (lists c.drop_spares.new.pieces.items)) c.self.view_is
+    (taken_then (lists pieces) (lists (set pieces k w)) (lists c.drop_spares.new.pieces.items) c.args.position c.remove-item.result (subst (λ l. c.args.position < length (joined l)) (sym c.self.view_is) c.requires)
+    (taken_out pieces ends h k v w c.index_mut-piece.ensures.value c.args.position i c.remove-item.result f.within f.is_position f.less read c.remove-item.ensures.items)
     c.drop_spares.ensures.same)

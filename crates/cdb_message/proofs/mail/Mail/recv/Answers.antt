@@ -2,7 +2,7 @@ use Rattle.std.proofs.Common.{◌≡◌, ◌&&◌, max, arith, rules, ap, ◌∙
 use Rattle.std.specs.Prelude.{◌==◌, if◌then◌else◌, slice_set}
 use Rattle.std.specs.FinSet as finite
 use Rattle.std.proofs.lemmas.Grind.{common_steps}
-use Rattle.cdb_base.specs.Places.{set_nth}
+use Rattle.cdb_base.specs.Positions.{set_nth}
 use Rattle.cdb_message.specs.Mail.{MailState, received_by}
 use Rattle.cdb_message.specs.Marks.{mark_of}
 use Rattle.cdb_message.proofs.Above.{above-add_receive}

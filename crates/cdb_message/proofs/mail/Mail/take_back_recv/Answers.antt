@@ -2,7 +2,7 @@ use Rattle.std.proofs.Common.{◌≡◌, arith, rules, ap, ◌∙◌}
 use Rattle.std.specs.Prelude.{slice_set}
 use Rattle.std.specs.FinSet as finite
 use Rattle.std.proofs.lemmas.Grind.{common_steps}
-use Rattle.cdb_base.specs.Places.{set_nth}
+use Rattle.cdb_base.specs.Positions.{set_nth}
 use Rattle.cdb_message.specs.Mail.{MailState, received_by, remove_receive}
 use Rattle.cdb_message.proofs.Above.{above-remove_receive}
 use Rattle.cdb_message.proofs.Closed.{below-remove_receive}

@@ -9,13 +9,13 @@ use Rattle.cdb_run.proofs.own_steps.NotedIterator.next.Goals as goal
 pub returns-clause-steps : goal.returns-clause-steps
 returns-clause-steps c =
     let history : List Event = c.self.inside.history.now in
-    let place : ℕ = c.self.inside.place in
+    let position : ℕ = c.self.inside.position in
     let first : Event = c.event-first.result.now in
     let counts = count_of c.self.inside.writes in
-    let later : List Event = drop (place + 1) history in
-    let next : suc place ≡ place + 1 = omega arith in
+    let later : List Event = drop (position + 1) history in
+    let next : suc position ≡ position + 1 = omega arith in
     sym c.self.view_is
-    ∙ ap (noted counts) (drop_from history place first c.event-first.ensures ∙ ap (λ n. first ∷ drop n history) next)
+    ∙ ap (noted counts) (drop_from history position first c.event-first.ensures ∙ ap (λ n. first ∷ drop n history) next)
     ∙ ap (λ (o : Option ℕ). record { event = first; writes_before = o } ∷ noted (writes_with counts first) later) (sym c.met_by-writes_before.ensures)
     ∙ ap (λ l. record { event = first; writes_before = c.met_by-writes_before.result } ∷ l) (noted_same (writes_with counts first) (count_of c.count.new.self) (λ register. sym (c.count.ensures register)) later)
 

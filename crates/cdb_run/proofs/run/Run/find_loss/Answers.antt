@@ -1,7 +1,7 @@
 use Rattle.std.proofs.Common.{◌≡◌, ℕ, ◌-◌, ◌≤◌, ◌&&◌, length, true, Err, MatchOption, MatchResult, IfOk, ap, ap₂, sym, ◌∙◌, subst}
 use Rattle.cdb_base.specs.declared.name.StepId.{StepId}
 use Rattle.cdb_base.specs.declared.name.StepId.TheVariants as named
-use Rattle.cdb_causal.specs.Names.{IsNewName, IsPlaceOf}
+use Rattle.cdb_causal.specs.Names.{IsNewName, IsPositionOf}
 use Rattle.cdb_message.specs.Mail.{message_name, copy_name}
 use Rattle.cdb_rules.specs.Machines.{machine_of}
 use Rattle.cdb_rules.specs.Undo.{event_named, found_at, names_processes}
@@ -35,14 +35,14 @@ returns-clause-found g c =
     let same : loss_name c.in-Some.s c.in-Ok.m c.in-Some-process.to ≡ name =
     ap₂ (λ s m. loss_name s m c.in-Some-process.to) sender.0 number.1 ∙ ap (loss_name c.args.s c.args.m) receiver.0 in
     let found =
-    subst (λ h. MatchOption c.position.result (IsNewName h name) (IsPlaceOf h name)) c.history.ensures.events
-    (subst (λ (n : StepId). MatchOption c.position.result (IsNewName c.history.result.now n) (IsPlaceOf c.history.result.now n)) same c.position.ensures) in
+    subst (λ h. MatchOption c.position.result (IsNewName h name) (IsPositionOf h name)) c.history.ensures.events
+    (subst (λ (n : StepId). MatchOption c.position.result (IsNewName c.history.result.now n) (IsPositionOf c.history.result.now n)) same c.position.ensures) in
     subst (λ r. MatchResult r (λ at. event_named standing.setup.processes standing.history name ≡ found_at standing.history (at - 1)) (λ why. event_named standing.setup.processes standing.history name ≡ Err why)) (sym c.ok_or.ensures.value)
     (found_answer standing.history name c.position.result found standing.setup.processes (both_among standing.setup.processes c.args.s c.args.m c.args.p sender.2 sender.1 receiver.2 receiver.1))
 
 pub returns-clause-within : goal.returns-clause-within
 returns-clause-within g c =
     let name = loss_name c.in-Some.s c.in-Ok.m c.in-Some-process.to in
-    let found = subst (λ h. MatchOption c.position.result (IsNewName h name) (IsPlaceOf h name)) c.history.ensures.events c.position.ensures in
+    let found = subst (λ h. MatchOption c.position.result (IsNewName h name) (IsPositionOf h name)) c.history.ensures.events c.position.ensures in
     subst (λ r. IfOk r (λ at. (1 ≤ at) × (at ≤ length c.args.self.now.history))) (sym c.ok_or.ensures.value)
     (found_within c.args.self.now.history name c.position.result found)

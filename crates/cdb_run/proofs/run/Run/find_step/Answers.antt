@@ -1,7 +1,7 @@
 use Rattle.std.proofs.Common.{◌≡◌, ℕ, ◌-◌, ◌≤◌, length, Err, MatchOption, MatchResult, IfOk, ap₂, sym, subst}
 use Rattle.cdb_base.specs.declared.name.StepId.{StepId}
 use Rattle.cdb_base.specs.declared.name.StepId.TheVariants as named
-use Rattle.cdb_causal.specs.Names.{IsNewName, IsPlaceOf}
+use Rattle.cdb_causal.specs.Names.{IsNewName, IsPositionOf}
 use Rattle.cdb_rules.specs.Machines.{machine_of}
 use Rattle.cdb_rules.specs.Undo.{event_named, found_at}
 use Rattle.cdb_rules.proofs.Finding.{among_is, beyond, none_named, too_great, found_answer, found_within}
@@ -28,14 +28,14 @@ returns-clause-found g c =
     let number = c.in-Ok.ensures in
     let name = step_name c.args.p c.args.k in
     let found =
-    subst (λ h. MatchOption c.position.result (IsNewName h name) (IsPlaceOf h name)) c.history.ensures.events
-    (subst (λ (n : StepId). MatchOption c.position.result (IsNewName c.history.result.now n) (IsPlaceOf c.history.result.now n)) (ap₂ step_name there.0 number.1) c.position.ensures) in
+    subst (λ h. MatchOption c.position.result (IsNewName h name) (IsPositionOf h name)) c.history.ensures.events
+    (subst (λ (n : StepId). MatchOption c.position.result (IsNewName c.history.result.now n) (IsPositionOf c.history.result.now n)) (ap₂ step_name there.0 number.1) c.position.ensures) in
     subst (λ r. MatchResult r (λ at. event_named standing.setup.processes standing.history name ≡ found_at standing.history (at - 1)) (λ why. event_named standing.setup.processes standing.history name ≡ Err why)) (sym c.ok_or.ensures.value)
     (found_answer standing.history name c.position.result found standing.setup.processes (among_is standing.setup.processes c.args.p there.2 there.1))
 
 pub returns-clause-within : goal.returns-clause-within
 returns-clause-within g c =
     let name = step_name c.in-Some.p c.in-Ok.k in
-    let found = subst (λ h. MatchOption c.position.result (IsNewName h name) (IsPlaceOf h name)) c.history.ensures.events c.position.ensures in
+    let found = subst (λ h. MatchOption c.position.result (IsNewName h name) (IsPositionOf h name)) c.history.ensures.events c.position.ensures in
     subst (λ r. IfOk r (λ at. (1 ≤ at) × (at ≤ length c.args.self.now.history))) (sym c.ok_or.ensures.value)
     (found_within c.args.self.now.history name c.position.result found)

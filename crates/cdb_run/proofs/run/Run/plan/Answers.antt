@@ -28,7 +28,7 @@ index-progress-requires g c =
     let last : c.in-Some.process ≤ setup.processes = (
     let shown : c.args.p ≤ setup.processes = subst (λ (s : RunView). c.args.p ≤ s.setup.processes) (sym c.self.view_is) c.in-Some.ensures.number.1 in
     subst (λ q. q ≤ setup.processes) (sym c.in-Some.ensures.number.0) shown) in
-    let below : c.index.result < length c.self.inside.processes.items = index_below c.self.invariant setup.processes number c.index.result c.in-Some.process c.index.ensures.value last in
+    let below : c.index.result < length c.self.inside.state.processes.items = index_below c.self.invariant setup.processes number c.index.result c.in-Some.process c.index.ensures.value last in
     first_of (search (rules, below), grind (arith, below, common_steps))
 
 pub plan-requires-clause-among : goal.plan-requires-clause-among

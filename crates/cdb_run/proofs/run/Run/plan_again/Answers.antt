@@ -22,7 +22,7 @@ index-progress-requires g c =
     let of_run = subst (λ (s : RunView). IsOfRun s.setup c.args.event.now) (sym c.self.view_is) c.requires in
     let p = c.in-Step.p in
     let last = (subst (IsOfRun setup) c.in-Step.is of_run).0 in
-    let below : c.index.result < length c.self.inside.processes.items = index_below c.self.invariant setup.processes number c.index.result p c.index.ensures.value last in
+    let below : c.index.result < length c.self.inside.state.processes.items = index_below c.self.invariant setup.processes number c.index.result p c.index.ensures.value last in
     first_of (search (rules, below), grind (arith, below, common_steps))
 
 pub plan_again-requires-clause-among : goal.plan_again-requires-clause-among

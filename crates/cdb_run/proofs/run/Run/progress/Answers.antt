@@ -12,7 +12,7 @@ index-requires-2 g c =
     let inputs : length setup.inputs ≡ setup.processes = c.n-ranges.ensures.ranges.an_input_each in
     let number = length-first_states g.P.Process.table.first 1 setup.processes setup.quorum setup.inputs ∙ inputs in
     let last = subst (λ (s : RunView). c.args.p ≤ s.setup.processes) (sym c.self.view_is) c.requires in
-    let below : c.index.result < length c.self.inside.processes.items = index_below c.self.invariant setup.processes number c.index.result c.args.p c.index.ensures.value last in
+    let below : c.index.result < length c.self.inside.state.processes.items = index_below c.self.invariant setup.processes number c.index.result c.args.p c.index.ensures.value last in
     first_of (search (rules, below), grind (arith, below, common_steps))
 
 pub returns : goal.returns

@@ -6,7 +6,7 @@ use Rattle.cdb_base.specs.declared.name.StepId.{StepId}
 use Rattle.cdb_causal.specs.Dependence.{depends}
 use Rattle.cdb_causal.specs.Rollback.{without, consequences}
 use Rattle.cdb_rules.specs.RunView.{RunView}
-use Rattle.cdb_rules.proofs.Finding.{place_before}
+use Rattle.cdb_rules.proofs.Finding.{position_before}
 use Rattle.cdb_run.proofs.RollingBack.{IsLeft, stands_at, left_first, number_left, next_free, alone_left}
 use Rattle.cdb_run.proofs.run.Run.roll_back.Goals as goal
 
@@ -96,6 +96,6 @@ returns-clause-after g c =
 pub returns-clause-list : goal.returns-clause-list
 returns-clause-list g c =
     let one = alone_left c.args.self.now.history (c.args.at - 1) c.args.taken.now.items c.loop-name.names.items (c.loop-name.names.ok.0) c.in_default.ensures.cases.0 c.loop-name.invariant.left in
-    let at = place_before c.loop-name.self.history c.args.at c.take_back-event.result c.requires.from_one c.take_back-event.ensures.event in
+    let at = position_before c.loop-name.self.history c.args.at c.take_back-event.result c.requires.from_one c.take_back-event.ensures.event in
     let same = same_Some c.take_back-event.result one.event (sym at ∙ one.at) in
     c.push_reserved-2.ensures.items ∙ ap (λ (e : Event). c.loop-name.taken.items ++ e ∷ []) same ∙ one.went

@@ -1,7 +1,7 @@
 use Rattle.std.proofs.Common.{rules, ◌≡◌, ◌-◌, ◌<◌, ◌≤◌, length, Some, List, sym, ap, ap₂, ◌∙◌, subst, arith}
 use Rattle.std.proofs.lemmas.List.{length-map}
 use Rattle.std.proofs.lemmas.Grind.{common_steps}
-use Rattle.cdb_base.specs.Places.{nth}
+use Rattle.cdb_base.specs.Positions.{nth}
 use Rattle.cdb_causal.specs.Causality.{IsFree}
 use Rattle.cdb_causal.specs.Dependence.{depends}
 use Rattle.cdb_causal.specs.Rollback.{without}
@@ -38,8 +38,8 @@ index_mut-progress-requires g c =
     let kind = c.in-Step.kind in
     let is = c.in-Step.is in
     let here_within = stepped_within c.self.invariant i entry at free p k kind is in
-    let place = c.index.ensures.value in
-    let below_len : c.index.result < length c.self.inside.processes.items = omega (arith, here_within, place) in
+    let position = c.index.ensures.value in
+    let below_len : c.index.result < length c.self.inside.state.processes.items = omega (arith, here_within, position) in
     first_of (search (rules, below_len), grind (arith, below_len, common_steps))
 
 pub change_back-requires-clause-countable : goal.change_back-requires-clause-countable

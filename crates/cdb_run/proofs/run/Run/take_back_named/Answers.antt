@@ -1,17 +1,17 @@
 use Rattle.std.proofs.Common.{slice_get, ap, sym, ◌∙◌, subst}
 use Rattle.cdb_causal.specs.Causality.{IsFree}
 use Rattle.cdb_causal.specs.Dependence.{depends}
-use Rattle.cdb_causal.specs.Names.{IsNewName, IsPlaceOf}
+use Rattle.cdb_causal.specs.Names.{IsNewName, IsPositionOf}
 use Rattle.cdb_causal.specs.Rollback.{without}
 use Rattle.cdb_rules.specs.RunView.{RunView}
-use Rattle.cdb_rules.proofs.Finding.{place_before}
+use Rattle.cdb_rules.proofs.Finding.{position_before}
 use Rattle.cdb_run.proofs.run.Run.take_back_named.Goals as goal
 
 pub take_back-requires-clause-free : goal.take_back-requires-clause-free
 take_back-requires-clause-free g c =
-    let place = subst (λ h. IsPlaceOf h c.args.name c.in-Some.at) c.history.ensures.events c.in-Some.ensures in
+    let position = subst (λ h. IsPositionOf h c.args.name c.in-Some.at) c.history.ensures.events c.in-Some.ensures in
     let stands = c.requires in
-    subst (IsFree depends c.args.self.now.history) (place.only stands.0 stands.1) stands.2
+    subst (IsFree depends c.args.self.now.history) (position.only stands.0 stands.1) stands.2
 
 pub unreachable-requires : goal.unreachable-requires
 unreachable-requires g c =
@@ -21,11 +21,11 @@ unreachable-requires g c =
 pub returns-clause-event : goal.returns-clause-event
 returns-clause-event g c =
     let history = c.args.self.now.history in
-    let place = subst (λ h. IsPlaceOf h c.args.name c.in-Some.at) c.history.ensures.events c.in-Some.ensures in
-    λ i named. ap (slice_get history) (place.only i named) ∙ place_before history c.in-Some.at c.take_back.result place.from_one c.take_back.ensures.event
+    let position = subst (λ h. IsPositionOf h c.args.name c.in-Some.at) c.history.ensures.events c.in-Some.ensures in
+    λ i named. ap (slice_get history) (position.only i named) ∙ position_before history c.in-Some.at c.take_back.result position.from_one c.take_back.ensures.event
 
 pub returns-clause-after : goal.returns-clause-after
 returns-clause-after g c =
     let standing = c.args.self.now in
-    let place = subst (λ h. IsPlaceOf h c.args.name c.in-Some.at) c.history.ensures.events c.in-Some.ensures in
-    λ i named. c.take_back.ensures.after ∙ ap (λ j. let left : RunView = record standing { history = without standing.history j } in left) (sym (place.only i named))
+    let position = subst (λ h. IsPositionOf h c.args.name c.in-Some.at) c.history.ensures.events c.in-Some.ensures in
+    λ i named. c.take_back.ensures.after ∙ ap (λ j. let left : RunView = record standing { history = without standing.history j } in left) (sym (position.only i named))

@@ -1,17 +1,18 @@
-use Rattle.std.proofs.Common.{rules, ◌<◌, length, None, sym, ap, ◌∙◌, subst, arith}
-use Rattle.std.proofs.lemmas.Grind.{common_steps}
+use Rattle.std.proofs.Common.{rules, ◌≤◌, ⊎_elim, length, refl, sym, subst, arith}
 use Rattle.cdb_base.specs.declared.event.Event.TheVariants.{Step}
 use Rattle.cdb_record.specs.Entries.{events_of}
-use Rattle.cdb_record.proofs.Seams.{events_push}
 use Rattle.cdb_rules.specs.RunView.{RunView}
 use Rattle.cdb_rules.specs.Runs.{IsNext}
-use Rattle.cdb_run.proofs.Admitting.{enabled_standing}
-use Rattle.cdb_run.proofs.Held.{within, held_there, steps_few, queries_few, accepted_input, may_post, may_write, current_same, current_stepped}
 use Rattle.cdb_rules.proofs.FirstStates.{length-first_states}
+use Rattle.cdb_run.specs.Stepped.{MayStep, HasStepped, IsSameState}
+use Rattle.cdb_run.specs.declared.state.State.{State}
+use Rattle.cdb_run.proofs.Admitting.{enabled_standing, new_name, no_lost_copy}
+use Rattle.cdb_run.proofs.Held.{within}
+use Rattle.cdb_run.proofs.Stepping.{may_step, current_after, current_same}
 use Rattle.cdb_run.proofs.run.Run.take_step.Goals as goal
 
-pub admit-requires : goal.admit-requires
-admit-requires g c =
+pub push_with-requires-clause-new_name : goal.push_with-requires-clause-new_name
+push_with-requires-clause-new_name g c =
     let process = g.P.Process in
     let event = Step c.args.p c.args.k c.args.kind.now in
     let enabled = subst (λ (s : RunView). IsNext process.table s event) (sym c.self.view_is) c.requires in
@@ -20,85 +21,60 @@ admit-requires g c =
     let number = length-first_states process.table.first 1 setup.processes setup.quorum setup.inputs in
     let inputs = ranges.an_input_each in
     let few = ranges.processes.1 in
-    enabled_standing c.self.invariant event enabled (omega (arith, number, inputs, few))
+    new_name (events_of c.self.inside.records) event (enabled_standing c.self.invariant event enabled (omega (arith, number, inputs, few)))
 
-pub index_mut-progress-requires : goal.index_mut-progress-requires
-index_mut-progress-requires g c =
+pub push_with-requires-clause-not_lost : goal.push_with-requires-clause-not_lost
+push_with-requires-clause-not_lost g c =
     let process = g.P.Process in
-    let enabled = subst (λ (s : RunView). IsNext process.table s (Step c.args.p c.args.k c.args.kind.now)) (sym c.self.view_is) c.requires in
-    let here_within = within c.self.invariant c.args.p c.args.k c.args.kind.now enabled in
-    let place = c.index.ensures.value in
-    let below : c.index.result < length c.self.inside.processes.items = omega (arith, here_within, place) in
-    first_of (search (rules, below), grind (arith, below, common_steps))
-
-pub change-requires-clause-steps : goal.change-requires-clause-steps
-change-requires-clause-steps g c =
-    let process = g.P.Process in
-    let enabled = subst (λ (s : RunView). IsNext process.table s (Step c.args.p c.args.k c.args.kind.now)) (sym c.self.view_is) c.requires in
-    let progress = c.index_mut-progress.result.now in
-    let held = held_there c.self.invariant c.args.p c.args.k c.args.kind.now enabled c.index.result progress c.index.ensures.value c.index_mut-progress.ensures.value in
-    steps_few c.self.invariant c.args.p c.args.k c.args.kind.now enabled progress held
-
-pub change-requires-clause-queries : goal.change-requires-clause-queries
-change-requires-clause-queries g c =
-    let process = g.P.Process in
-    let enabled = subst (λ (s : RunView). IsNext process.table s (Step c.args.p c.args.k c.args.kind.now)) (sym c.self.view_is) c.requires in
-    let progress = c.index_mut-progress.result.now in
-    let held = held_there c.self.invariant c.args.p c.args.k c.args.kind.now enabled c.index.result progress c.index.ensures.value c.index_mut-progress.ensures.value in
-    queries_few c.self.invariant c.args.p c.args.k c.args.kind.now enabled progress held
-
-pub change-requires-clause-accepted : goal.change-requires-clause-accepted
-change-requires-clause-accepted g c =
-    let process = g.P.Process in
-    let enabled = subst (λ (s : RunView). IsNext process.table s (Step c.args.p c.args.k c.args.kind.now)) (sym c.self.view_is) c.requires in
-    let progress = c.index_mut-progress.result.now in
-    let held = held_there c.self.invariant c.args.p c.args.k c.args.kind.now enabled c.index.result progress c.index.ensures.value c.index_mut-progress.ensures.value in
-    accepted_input c.self.invariant c.args.p c.args.k c.args.kind.now enabled progress held
-
-pub change-requires-clause-postable : goal.change-requires-clause-postable
-change-requires-clause-postable g c =
-    let process = g.P.Process in
-    let enabled = subst (λ (s : RunView). IsNext process.table s (Step c.args.p c.args.k c.args.kind.now)) (sym c.self.view_is) c.requires in
-    let progress = c.index_mut-progress.result.now in
-    let held = held_there c.self.invariant c.args.p c.args.k c.args.kind.now enabled c.index.result progress c.index.ensures.value c.index_mut-progress.ensures.value in
-    may_post c.self.invariant c.args.p c.args.k c.args.kind.now enabled progress held
-
-pub change-requires-clause-writable : goal.change-requires-clause-writable
-change-requires-clause-writable g c =
-    let process = g.P.Process in
-    let enabled = subst (λ (s : RunView). IsNext process.table s (Step c.args.p c.args.k c.args.kind.now)) (sym c.self.view_is) c.requires in
-    let progress = c.index_mut-progress.result.now in
-    let held = held_there c.self.invariant c.args.p c.args.k c.args.kind.now enabled c.index.result progress c.index.ensures.value c.index_mut-progress.ensures.value in
+    let event = Step c.args.p c.args.k c.args.kind.now in
+    let enabled = subst (λ (s : RunView). IsNext process.table s event) (sym c.self.view_is) c.requires in
     let setup = c.self.inside.setup in
     let ranges = c.n-ranges.ensures.ranges in
     let number = length-first_states process.table.first 1 setup.processes setup.quorum setup.inputs in
     let inputs = ranges.an_input_each in
     let few = ranges.processes.1 in
-    may_write c.self.invariant c.args.p c.args.k c.args.kind.now enabled progress held (omega (arith, number, inputs, few))
+    no_lost_copy (events_of c.self.inside.records) event (enabled_standing c.self.invariant event enabled (omega (arith, number, inputs, few)))
 
-pub invariant_of-self-in-Err : goal.invariant_of-self-in-Err
-invariant_of-self-in-Err g c =
+pub push_with-requires-clause-callable : goal.push_with-requires-clause-callable
+push_with-requires-clause-callable g c = λ state is a1 a2 a3 a4 a5 a6 a7 a8 a9 a10.
     let process = g.P.Process in
-    let enabled = subst (λ (s : RunView). IsNext process.table s (Step c.args.p c.args.k c.args.kind.now)) (sym c.self.view_is) c.requires in
-    let progress = c.index_mut-progress.result.now in
-    let held = held_there c.self.invariant c.args.p c.args.k c.args.kind.now enabled c.index.result progress c.index.ensures.value c.index_mut-progress.ensures.value in
-    let event = Step c.args.p c.args.k c.args.kind.now in
-    let err = c.in-Err.ensures in
-    let left = (c.withdraw.ensures c.self.inside.records (record { event = event; back = None; overwritten = None }) c.in_ok-admit.ensures.ok).1 in
-    current_same c.self.invariant c.args.p c.args.k c.args.kind.now enabled progress held c.change.new.progress c.index.result
-    c.index.ensures.value err.same_progress err.same_mail err.same_registers
-    (ap events_of left) left
+    let p = c.args.p in
+    let k = c.args.k in
+    let kind = c.args.kind.now in
+    let enabled = subst (λ (s : RunView). IsNext process.table s (Step p k kind)) (sym c.self.view_is) c.requires in
+    let setup = c.self.inside.setup in
+    let ranges = c.n-ranges.ensures.ranges in
+    let number = length-first_states process.table.first 1 setup.processes setup.quorum setup.inputs in
+    let inputs = ranges.an_input_each in
+    let few = ranges.processes.1 in
+    subst (λ (s : State _). (p ≤ length s.processes.items) × MayStep process.table s p kind) (sym is)
+    (within c.self.invariant p k kind enabled, may_step setup c.self.invariant p k kind enabled (omega (arith, number, inputs, few)))
 
-pub invariant_of-self-in-Ok : goal.invariant_of-self-in-Ok
-invariant_of-self-in-Ok g c =
+pub invariant_of-self : goal.invariant_of-self
+invariant_of-self g c =
+    let ensures = c.in_err-push_with.ensures in
+    let old = c.self.inside.state in
+    let new = c.push_with.new.state in
+    let same : IsSameState old new =
+    ⊎_elim
+    (λ same. subst (IsSameState old) (sym same) (record { processes = refl; mail = refl; registers = refl }))
+    (λ failed.
+    let met = failed.met in
+    let left : IsSameState failed.shown.now failed.left.now = search (rules, met) in
+    subst (λ s. IsSameState s new) failed.shows (subst (IsSameState failed.shown.now) failed.leaves left))
+    ensures.failed in
+    current_same g.P.Process.table c.self.inside.setup c.self.invariant new same c.push_with.new.self ensures.err
+
+pub invariant_of-self-2 : goal.invariant_of-self-2
+invariant_of-self-2 g c =
     let process = g.P.Process in
-    let enabled = subst (λ (s : RunView). IsNext process.table s (Step c.args.p c.args.k c.args.kind.now)) (sym c.self.view_is) c.requires in
-    let progress = c.index_mut-progress.result.now in
-    let held = held_there c.self.invariant c.args.p c.args.k c.args.kind.now enabled c.index.result progress c.index.ensures.value c.index_mut-progress.ensures.value in
-    let ok = c.in-Ok.ensures in
-    let event = Step c.args.p c.args.k c.args.kind.now in
-    let added = c.set_last.ensures c.self.inside.records (record { event = event; back = None; overwritten = None }) c.in_ok-admit.ensures.ok in
-    current_stepped c.self.invariant c.args.p c.args.k c.args.kind.now enabled progress held c.change.new.progress c.index.result c.in-Ok.left.back c.in-Ok.left.overwritten
-    c.index.ensures.value ok.next ok.counted ok.mail ok.registers ok.back ok.overwritten
-    (ap events_of added ∙ events_push c.self.inside.records event c.in-Ok.left.back c.in-Ok.left.overwritten)
-    added
+    let p = c.args.p in
+    let k = c.args.k in
+    let kind = c.args.kind.now in
+    let enabled = subst (λ (s : RunView). IsNext process.table s (Step p k kind)) (sym c.self.view_is) c.requires in
+    let ok = c.in_ok-push_with.ensures.ok in
+    let changed = ok.1 in
+    let met = changed.met in
+    let left : HasStepped process.table process.before changed.shown.now p kind ok.0 changed.left.now = search (rules, met) in
+    let stepped = subst (λ s. HasStepped process.table process.before s p kind ok.0 c.push_with.new.state) changed.shows (subst (λ s. HasStepped process.table process.before changed.shown.now p kind ok.0 s) changed.leaves left) in
+    current_after process.table c.self.inside.setup c.self.invariant p k kind enabled ok.0 c.push_with.new.state stepped c.push_with.new.self ok.2

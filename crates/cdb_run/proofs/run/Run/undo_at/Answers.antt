@@ -6,7 +6,7 @@ use Rattle.cdb_causal.specs.Names.{IsFirstDependent}
 use Rattle.cdb_rules.specs.RunView.{RunView}
 use Rattle.cdb_rules.specs.Undo.{answered, left_by}
 use Rattle.cdb_rules.proofs.Answering.{free_answer, needed_answer}
-use Rattle.cdb_rules.proofs.Finding.{place_before}
+use Rattle.cdb_rules.proofs.Finding.{position_before}
 use Rattle.cdb_run.proofs.run.Run.undo_at.Goals as goal
 
 abbrev with_history : RunView → List Event → RunView
@@ -31,12 +31,12 @@ pub returns-in-None-clause-answer : goal.returns-in-None-clause-answer
 returns-in-None-clause-answer g c =
     let free = subst (λ h. IsFree depends h (c.args.at - 1)) c.history.ensures.events c.in-None.ensures in
     let before = c.args.self.now.history in
-    let at = place_before before c.args.at c.take_back.result c.requires.from_one c.take_back.ensures.event in
+    let at = position_before before c.args.at c.take_back.result c.requires.from_one c.take_back.ensures.event in
     sym (ap answered (free_answer before (c.args.at - 1) c.take_back.result at free))
 
 pub returns-in-None-clause-after : goal.returns-in-None-clause-after
 returns-in-None-clause-after g c =
     let free = subst (λ h. IsFree depends h (c.args.at - 1)) c.history.ensures.events c.in-None.ensures in
     let before = c.args.self.now.history in
-    let at = place_before before c.args.at c.take_back.result c.requires.from_one c.take_back.ensures.event in
+    let at = position_before before c.args.at c.take_back.result c.requires.from_one c.take_back.ensures.event in
     c.take_back.ensures.after ∙ sym (ap (λ a. with_history c.args.self.now (left_by before a)) (free_answer before (c.args.at - 1) c.take_back.result at free))

@@ -1,6 +1,6 @@
 use Rattle.std.proofs.Common.{◌∙◌}
 use Rattle.crossbeam_queue.specs.Passes.{view}
-use Rattle.cdb_shared.specs.Passes.{place_of}
+use Rattle.cdb_shared.specs.Passes.{known_seat_of}
 use Rattle.cdb_shared.specs.Turn.{story}
 use Rattle.cdb_shared.proofs.Calls.{knows_one, may_give, begins_after, later, is_call, sees_headline}
 use Rattle.cdb_shared.proofs.shared.Shared.call.Goals as goal
@@ -20,7 +20,7 @@ returns-clause-seat g c =
     let taken = c.take-control.ensures.taken in
     let known = knows_one number v (story control) c.seat.invariant.1 taken.1 in
     (later number _ _ v _ _ control after _ c.seat.view_is (c.give.ensures.queue.0 ∙ c.take-control.ensures.queue.0) c.seat.invariant.1 taken c.give.ensures.given
-    (begins_after g.T.Runs.rules control after number c.args.command c.execute-reply.result (place_of v.places).seen done.journal done.fault known.begins))
+    (begins_after g.T.Runs.rules control after number c.args.command c.execute-reply.result (known_seat_of v.known_seats).seen done.journal done.fault known.begins))
 
 pub returns-clause-call : goal.returns-clause-call
 returns-clause-call g c =

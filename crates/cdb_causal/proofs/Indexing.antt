@@ -1,0 +1,52 @@
+-- A log of events with its bounds, where room is made and where an event is added.
+use Rattle.std.proofs.Common.{◌≡◌, ℕ, ◌<◌, List, Some, slice_get, sym, ap, ◌∙◌, subst}
+use Rattle.std.proofs.lemmas.Option.{slice_get_within}
+use Rattle.cdb_base.specs.declared.event.Event.{Event}
+use Rattle.cdb_base.specs.declared.event.Event.TheVariants.{Step}
+use Rattle.cdb_causal.specs.Alone.{AreAlone, KeepsReceives}
+use Rattle.cdb_causal.specs.Bounds.{IsWithin, AreRaised}
+use Rattle.cdb_causal.specs.Indexed.{IsIndexed}
+use Rattle.cdb_causal.specs.Named.{AreRanged}
+use Rattle.cdb_causal.specs.Own.{own_bound, bound_before}
+use Rattle.cdb_causal.specs.Standing.{IsStanding}
+use Rattle.cdb_causal.specs.declared.bounds.Bounds.{Bounds}
+use Rattle.cdb_causal.proofs.Bounding.{all_raised}
+use Rattle.cdb_causal.proofs.Owning.{own_raised}
+use Rattle.cdb_causal.proofs.Receives.{alone_kept}
+use Rattle.cdb_log.specs.Marks.{mark, IsSameLog}
+use Rattle.cdb_log.specs.Pieces.{joined}
+
+module _ (old new : List (List Event)) (same : IsSameLog old new) where
+  stood : (i : ℕ) (event : Event) → slice_get (joined new) i ≡ Some event → slice_get (joined old) i ≡ Some event
+  stood i event at = ap (λ l. slice_get l i) (sym same.items) ∙ at
+
+  mark_is : (i : ℕ) (event : Event) → slice_get (joined new) i ≡ Some event → mark old i ≡ mark new i
+  mark_is i event at = sym (same.marks i (slice_get_within (joined old) i event (stood i event at)))
+
+  -- the bounds of a log are those of one in which the same events stand under the same marks
+  pub indexed_same : (bounds : Bounds) → IsIndexed old bounds → IsIndexed new bounds
+  indexed_same bounds indexed =
+      record {
+        standing = subst IsStanding (sym same.items) indexed.standing;
+        within = λ i event at. subst (λ m. IsWithin bounds m event) (mark_is i event at) (indexed.within i event (stood i event at));
+        alone = subst (AreAlone bounds) (sym same.items) indexed.alone;
+        own =
+            record {
+              all = λ i p k kind at. subst (λ m. m < own_bound bounds p) (mark_is i (Step p k kind) at) (indexed.own.all i p k kind (stood i (Step p k kind) at));
+              earlier = λ h i p k l kind other less at_h at_i.
+                  subst (λ m. m < bound_before bounds p l) (mark_is h (Step p k kind) at_h)
+                  (indexed.own.earlier h i p k l kind other less (stood h (Step p k kind) at_h) (stood i (Step p l other) at_i));
+            };
+        ranged = subst AreRanged (sym same.items) indexed.ranged;
+      }
+
+-- and they may be raised
+pub indexed_raised : (log : List (List Event)) (old new : Bounds) → ((top : ℕ) → AreRaised top old new) → KeepsReceives old new → IsIndexed log old → IsIndexed log new
+indexed_raised log old new raised receives indexed =
+    record {
+      standing = indexed.standing;
+      within = all_raised old new (mark log) (joined log) raised indexed.within;
+      alone = alone_kept old new (joined log) receives indexed.alone;
+      own = own_raised old new (mark log) (joined log) raised indexed.own;
+      ranged = indexed.ranged;
+    }

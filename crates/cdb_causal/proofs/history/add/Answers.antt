@@ -1,0 +1,42 @@
+use Rattle.std.proofs.Common.{◌+◌, List, refl, sym, subst, arith}
+use Rattle.cdb_base.specs.declared.event.Event.{Event}
+use Rattle.cdb_causal.specs.Alone.{AreAlone}
+use Rattle.cdb_causal.specs.Bounds.{IsWithin, AreWithin}
+use Rattle.cdb_causal.specs.Named.{AreRanged}
+use Rattle.cdb_causal.specs.Own.{AreOwn, IsOwnNoted}
+use Rattle.cdb_causal.specs.Standing.{IsStanding}
+use Rattle.cdb_causal.proofs.Bounding.{within_push}
+use Rattle.cdb_causal.proofs.Keeping.{standing_push}
+use Rattle.cdb_causal.proofs.Naming.{ranged_push}
+use Rattle.cdb_causal.proofs.Owning.{own_push}
+use Rattle.cdb_causal.proofs.Receives.{alone_push}
+use Rattle.cdb_log.specs.Marks.{mark}
+use Rattle.cdb_log.specs.Pieces.{joined}
+use Rattle.cdb_causal.proofs.history.add.Goals as goal
+
+pub returns-clause-indexed : goal.returns-clause-indexed
+returns-clause-indexed c =
+    let old : List (List Event) = c.args.events.now in
+    let items : List Event = joined old in
+    let event : Event = c.args.event in
+    let bounds = c.args.bounds.now in
+    let noted = c.note.new.self in
+    let log = c.append_to_log-mark.new.log in
+    let pushed = c.append_to_log-mark.ensures.pushed in
+    let top = c.append_to_log-mark.result + 1 in
+    let indexed = c.requires.indexed in
+    record {
+      standing = subst IsStanding (sym pushed.items) (standing_push items event indexed.standing c.requires.new_name c.requires.not_lost c.note.ensures.process);
+      within =
+          subst (AreWithin noted (mark log)) (sym pushed.items)
+          (within_push top bounds noted (mark old) (mark log) items event c.note.ensures.others (λ i less. let above = pushed.above i less in omega arith) indexed.within pushed.marks
+          (subst (λ n. IsWithin noted n event) (sym pushed.last) c.note.ensures.within));
+      alone =
+          subst (AreAlone noted) (sym pushed.items)
+          (alone_push bounds bounds noted (mark old) items event (λ n. refl) c.note.ensures.receives indexed.within indexed.alone);
+      own =
+          subst (AreOwn noted (mark log)) (sym pushed.items)
+          (own_push top bounds noted (mark old) (mark log) items event c.note.ensures.others (λ i less. let above = pushed.above i less in omega arith) indexed.own pushed.marks
+          (subst (λ n. IsOwnNoted bounds noted n event) (sym pushed.last) c.note.ensures.own));
+      ranged = subst AreRanged (sym pushed.items) (ranged_push items event indexed.ranged c.note.ensures.copy);
+    }

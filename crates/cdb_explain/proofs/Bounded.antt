@@ -1,0 +1,34 @@
+-- A run has no more events than its journal has entries.
+use Rattle.std.proofs.Common.{◌≡◌, ℕ, zero, suc, ◌+◌, ◌≤◌, List, [], ◌∷◌, length, replicate, refl, sym, ◌∙◌, subst, arith}
+use Rattle.std.proofs.lemmas.List.{length-replicate}
+use Rattle.cdb_base.specs.declared.event.Event.{Event}
+use Rattle.cdb_control.proofs.Table.{obey-adds}
+use Rattle.cdb_control.specs.Commands.{obey}
+use Rattle.cdb_control.specs.Journal.{AreOfSeats, Journaled, replay, replay_from, state_in}
+use Rattle.cdb_control.specs.State.{State, first_state, held, waiting}
+use Rattle.cdb_control.specs.declared.control.Entry.{Entry}
+use Rattle.cdb_rules.specs.Lawful.{AreLawful}
+use Rattle.cdb_rules.specs.Rules.{Rules}
+use Rattle.cdb_setup.specs.Parts.{Parts, AreInRange}
+
+none_wait : (n : ℕ) → waiting (replicate n []) ≡ 0
+none_wait zero = refl
+none_wait (suc n) = omega (arith, none_wait n)
+
+-- each entry adds one event at most
+held_after : (rules : Rules) (journal : List Entry) (t : State) (seats : ℕ) → AreLawful rules t.setup → length t.redo ≡ seats → AreOfSeats seats journal → held (replay_from rules t journal) ≤ held t + length journal
+held_after rules [] t seats lawful lists of_seats = omega arith
+held_after rules (e ∷ journal) t seats lawful lists of_seats =
+    let adds = obey-adds rules t lawful e.seat e.command of_seats.0.0 (omega (arith, of_seats.0.1, lists)) in
+    let u = obey rules t e.seat e.command in
+    let more = held_after rules journal u seats (subst (AreLawful rules) (sym adds.setup) lawful) (adds.lists ∙ lists) of_seats.1 in
+    omega (arith, more, adds.events)
+
+pub few_events : (rules : Parts → Rules) → ((setup : Parts) → AreInRange setup → AreLawful (rules setup) setup) → (control : Journaled) → AreInRange control.setup → AreOfSeats control.seats control.journal → length (state_in rules control).history ≤ length control.journal
+unfolding replay
+few_events rules lawful control in_range of_seats =
+    let t = first_state control.setup control.seats in
+    let none = none_wait control.seats in
+    let lists : length t.redo ≡ control.seats = length-replicate control.seats [] in
+    let most = held_after (rules control.setup) control.journal t control.seats (lawful control.setup in_range) lists of_seats in
+    omega (arith, most, none)

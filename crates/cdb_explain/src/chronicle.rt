@@ -1,0 +1,23 @@
+//! What stands in the run that a control has come to.
+
+ghost use Rattle.cdb_play.specs.Left.{run_of};
+ghost use Rattle.cdb_rules.specs.ByRules.{IsInOrder};
+ghost use Rattle.std.specs.Prelude.{◌≡◌, ◌≤◌, length};
+
+use cdb_control::Control;
+use cdb_rules::{Chronicle, Runs};
+
+/// What stands in the run of a control: no more events than the journal has entries. All else of the control is
+/// given up.
+pub fn chronicle_of<T: Runs>(control: Control<T>) -> Chronicle
+    ensures is { result ≡ run_of T.rules control }
+    ensures valid { IsInOrder T.rules result }
+    ensures few { length result.history ≤ 999999 }
+{
+    // Its clause says that each entry is of one of the seats, and how many entries there are.
+    let _journal = control.journal();
+    let run = control.into_run();
+    // Its clause says that the parts of the setup are in range.
+    let _ranges = run.setup().n();
+    run.into_chronicle()
+}

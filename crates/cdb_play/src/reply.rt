@@ -1,0 +1,26 @@
+//! The text of a reply is put into a buffer.
+
+ghost use Rattle.cdb_control.specs.Answer.{told};
+ghost use Rattle.cdb_text.specs.Texts.{text_of};
+ghost use Rattle.cdb_play.specs.Buffers.{Puts};
+
+use crate::buffer::{Buffer, OutputFault};
+use crate::sink::Sink;
+use cdb_control::Reply;
+use cdb_text::push_reply;
+
+/// Puts the text of a reply. It is made in `text`, in place of what stood there, so that all replies use one memory.
+pub(crate) fn put_reply<W: Sink>(
+    reply: &Reply,
+    text: &mut String,
+    buffer: &mut Buffer,
+    out: &mut W,
+) -> Result<(), OutputFault>
+    ensures { Puts W.contents W.failures result out.old buffer.old out.new buffer.new
+        (text_of (told reply.now)) }
+{
+    text.clear();
+    push_reply(text, reply)?;
+    buffer.put(out, text.as_bytes())?;
+    Ok(())
+}

@@ -1,0 +1,45 @@
+//! What stands in a run.
+
+ghost use Rattle.std.specs.Prelude.{◌≡◌};
+
+use cdb_causal::History;
+use cdb_setup::Setup;
+use std::marker::Model;
+
+/// The setup of a run and its standing events, without what they have come to and what takes them back.
+#[derive(Drop)]
+pub struct Chronicle {
+    setup: Setup,
+    history: History,
+}
+
+impl Model for Chronicle {
+    ghost use Rattle.cdb_rules.specs.RunView.{RunView};
+
+    ghost Value = { RunView };
+
+    ghost view = { λ fields. record { setup = fields.setup; history = fields.history } };
+}
+
+impl Chronicle {
+    /// A setup with events that stand.
+    pub fn new(setup: Setup, history: History) -> Self
+        ensures { result ≡ record { setup = setup; history = history } }
+    {
+        Chronicle { setup, history }
+    }
+
+    /// The setup.
+    pub fn setup(&self) -> &Setup
+        ensures { result.now ≡ self.now.setup }
+    {
+        &self.setup
+    }
+
+    /// The standing events, in the order in which they were taken.
+    pub fn history(&self) -> &History
+        ensures { result.now ≡ self.now.history }
+    {
+        &self.history
+    }
+}
