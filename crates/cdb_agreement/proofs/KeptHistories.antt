@@ -26,7 +26,8 @@ use Rattle.cdb_rules.specs.Refusals.{planned, step_answer, lose_answer, again_an
 use Rattle.cdb_rules.specs.Rules.{rules_of}
 use Rattle.cdb_rules.specs.SameState.{ReachSameState, ReachSameStateBy}
 use Rattle.cdb_rules.specs.State.{Machine, ProcessState, start}
-use Rattle.cdb_rules.specs.Step.{after, fold, is_among, is_due, state_of, IsValid, IsEnabled}
+use Rattle.cdb_rules.specs.Step.{after, fold, is_among, state_of, IsValid, IsEnabled}
+use Rattle.cdb_rules.proofs.Stages.{is_due}
 use Rattle.cdb_rules.specs.Undo.{IsEventNamed, names_processes}
 use Rattle.cdb_rules.proofs.Again.{loss_again, step_again, again_exact, lose_enabled}
 use Rattle.cdb_agreement.proofs.Agreed.{agreed}

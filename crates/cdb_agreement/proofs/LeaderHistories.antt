@@ -27,7 +27,9 @@ use Rattle.cdb_rules.specs.Algorithms.{leader_machine}
 use Rattle.cdb_rules.specs.Decisions.{decisions_of}
 use Rattle.cdb_rules.specs.Mail.{mail_of}
 use Rattle.cdb_rules.specs.State.{ProcessState, RunState, start, fresh_process}
-use Rattle.cdb_rules.specs.Step.{sight_in, arriving, wished_payload, taken_local, input_of, meets, may_lose, sent_after, process_after, state_after, after, fold}
+use Rattle.cdb_rules.specs.Step.{wished_payload, may_lose, after, fold}
+use Rattle.cdb_rules.specs.Taking.{arriving, taken_local, input_of}
+use Rattle.cdb_rules.proofs.Stages.{sight_in, meets, sent_after, process_after, state_after}
 use Rattle.cdb_agreement.proofs.Firsts.{length-firsts, first_at}
 use Rattle.cdb_rules.proofs.FoldKeeps.{reached_keeps}
 use Rattle.cdb_agreement.proofs.LeaderRuns.{Run, HasTaken, Moves, RunStep, RunLaws, first_taken, run_step_keeps, laws_agree}

@@ -19,10 +19,13 @@ use Rattle.cdb_message.specs.Names.{CopySet, copy_cmp}
 use Rattle.cdb_message.proofs.Sets.{copy_cmp_total, copy_cmp-IsAntisymmetric}
 use Rattle.cdb_rules.specs.Mail.{mail_of}
 use Rattle.cdb_rules.specs.State.{Machine, ProcessState, RunState}
-use Rattle.cdb_rules.specs.Step.{is_among, sight_in, wished_cell, accepted, process_after, registers_after, state_after, may_lose, after}
+use Rattle.cdb_rules.specs.Step.{is_among, wished_cell, may_lose, after}
+use Rattle.cdb_rules.specs.Taking.{registers_after}
+use Rattle.cdb_rules.proofs.Stages.{sight_in, accepted, process_after, state_after}
 use Rattle.cdb_rules.proofs.Kept.{nat_eq-ne, other_copy, registers_swap, process_kept, sight_kept, may_lose_kept, with_loss, sight_but}
 use Rattle.cdb_rules.proofs.Mails.{not_true}
 use Rattle.cdb_rules.proofs.Positions.{set_nth-set_nth}
+use Rattle.cdb_rules.proofs.Tables.{step_in_stages}
 use Rattle.cdb_rules.proofs.Taken.{IsTaken, taken_from, where_true, both}
 
 -- sets of copies
@@ -53,7 +56,8 @@ lacked lost a b h =
 module _ {L : Type 0} (machine : Machine L) where
   pub after_taken : (state to : RunState L) (p k : ℕ) (kind : Kind) → IsTaken machine state p k kind to → after machine state (Step p k kind) ≡ Some to
   after_taken state to p k kind t =
-      ap (option_and_then (λ process. option_map (state_after machine state p k kind process) (accepted machine process k kind (sight_in state p kind)))) t.at_process
+      step_in_stages machine state p k kind
+      ∙ ap (option_and_then (λ process. option_map (state_after machine state p k kind process) (accepted machine process k kind (sight_in state p kind)))) t.at_process
       ∙ ap (option_map (state_after machine state p k kind t.process)) t.accepts
       ∙ ap Some t.leads_to
 

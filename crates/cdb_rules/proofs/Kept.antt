@@ -23,7 +23,9 @@ use Rattle.cdb_message.proofs.Sets.{name_cmp_total, name_cmp-IsAntisymmetric, co
 use Rattle.cdb_register.specs.Registers.{RegisterStates, register_of, with_register, written}
 use Rattle.cdb_rules.specs.Mail.{mail_of}
 use Rattle.cdb_rules.specs.State.{Machine, ProcessState, RunState}
-use Rattle.cdb_rules.specs.Step.{Sight, is_among, sight_in, arriving, wished_payload, wished_cell, accepted, sent_after, received_after, process_after, registers_after, may_lose}
+use Rattle.cdb_rules.specs.Step.{is_among, wished_payload, wished_cell, may_lose}
+use Rattle.cdb_rules.specs.Taking.{Sight, arriving, registers_after}
+use Rattle.cdb_rules.proofs.Stages.{sight_in, accepted, sent_after, received_after, process_after}
 use Rattle.cdb_rules.proofs.Mails.{sent_is, received_is}
 use Rattle.cdb_rules.proofs.Positions.{nth-map, nth-set_nth_other, nth-set_nth_same, nth_push_other, nth-update_nth_other, update_nth-update_nth}
 use Rattle.cdb_rules.proofs.Taken.{IsTaken, accepted_parts, both}

@@ -22,6 +22,8 @@ pub mod Positions
 pub mod Planned
 pub mod Removed
 pub mod SameState
+pub mod Stages
 pub mod Standing
+pub mod Tables
 pub mod Taken
 pub mod TakenBack

@@ -25,7 +25,9 @@ use Rattle.cdb_register.specs.Registers.{RegisterStates, register_of, with_regis
 use Rattle.cdb_register.specs.declared.RegisterState.{RegisterState}
 use Rattle.cdb_rules.specs.Mail.{mail_of}
 use Rattle.cdb_rules.specs.State.{Machine, OwnEvent, ProcessState, RunState}
-use Rattle.cdb_rules.specs.Step.{sight_in, meets, is_due, accepted, wished_payload, wished_cell, sent_after, received_after, own_event, registers_after, after}
+use Rattle.cdb_rules.specs.Step.{wished_payload, wished_cell, after}
+use Rattle.cdb_rules.specs.Taking.{registers_after}
+use Rattle.cdb_rules.proofs.Stages.{sight_in, meets, is_due, accepted, sent_after, received_after, own_event}
 use Rattle.cdb_rules.proofs.Commutes.{lost_from}
 use Rattle.cdb_rules.proofs.Kept.{nat_eq-ne, nat_eq-is, same_copy, next_number, left, at_left, process_kept, lost_kept, other_sent_kept, other_received_kept}
 use Rattle.cdb_rules.proofs.Mails.{sent_is, received_is, arrives, not_true}

@@ -15,7 +15,8 @@ use Rattle.cdb_causal.specs.Effects.{kind_affects}
 use Rattle.cdb_register.specs.Registers.{register_of, fresh_register, fresh_registers}
 use Rattle.cdb_rules.specs.OwnSteps.{no_writes, writes_with, writes_met, noted, own_steps, own_of}
 use Rattle.cdb_rules.specs.State.{Machine, OwnEvent, ProcessState, RunState, start}
-use Rattle.cdb_rules.specs.Step.{after, fold, own_event, sight_in}
+use Rattle.cdb_rules.specs.Step.{after, fold}
+use Rattle.cdb_rules.proofs.Stages.{own_event, sight_in}
 use Rattle.cdb_rules.proofs.Commutes.{lost_from}
 use Rattle.cdb_rules.proofs.Kept.{at_left, process_kept, register_kept, nat_eq-is, nat_eq-ne}
 use Rattle.cdb_rules.proofs.Members.{Reaches, first_step, nth-fresh}

@@ -18,3 +18,5 @@ pub mod Views
 pub mod Lawful
 pub mod SameState
 pub mod Agreement
+-- what the code keeps for itself: a step as it is taken
+pub mod Taking

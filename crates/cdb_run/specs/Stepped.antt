@@ -5,7 +5,7 @@ use Rattle.cdb_base.specs.declared.event.Kind.{Kind}
 use Rattle.cdb_process.specs.Table.{Table}
 use Rattle.cdb_record.specs.declared.entry.Left.{Left}
 use Rattle.cdb_rules.specs.Mail.{mail_after, IsPostable}
-use Rattle.cdb_rules.specs.Step.{progress_after, registers_after}
+use Rattle.cdb_rules.specs.Taking.{progress_after, registers_after}
 use Rattle.cdb_rules.specs.declared.progress.Progress.{Progress}
 use Rattle.cdb_run.specs.Back.{put_back, overwritten_cell}
 use Rattle.cdb_run.specs.Plans.{local_after, payload_due, cell_due}
