@@ -1,6 +1,6 @@
 -- The table of the leader machine: for each place and input the state after it, where the machine
 -- accepts the input.
-use Rattle.std.specs.Prelude.{ℕ, ◌+◌, Bool, false, ◌==◌, ◌&&◌, not, nat_le, nat_lt, ◌++◌, [], ◌∷◌, Option, Some, None, is_some, if◌then◌else◌}
+use Rattle.std.specs.Prelude.{ℕ, ◌+◌, Bool, true, false, ◌==◌, ◌&&◌, not, nat_le, nat_lt, ◌++◌, [], ◌∷◌, Option, Some, None, is_some, if◌then◌else◌}
 use Rattle.std.specs.Option.{option_or, option_map, option_and_then}
 use Rattle.cdb_base.specs.declared.limits.TheConstants.{MAX_ROUND}
 use Rattle.cdb_base.specs.declared.payload.Payload.{Payload}
@@ -49,6 +49,12 @@ query_at L0 s l =
 query_at L2 s l = Some (if heard_first_phase s && not (is_lead l s.lead) then set_aux s else s)
 query_at p s l = None
 
+-- whether a query is accepted, whoever is named
+abbrev pub accepts_query_at : Place → LocalState → Bool
+accepts_query_at L0 s = nat_lt s.round MAX_ROUND
+accepts_query_at L2 s = true
+accepts_query_at p s = false
+
 -- the payload that the process would send
 abbrev pub sent_at : Place → LocalState → Option Payload
 sent_at L1 s = option_map (λ l. P1 s.round s.estimate l) s.lead
@@ -88,6 +94,11 @@ hear s p x = Some (record s { inbox = s.inbox ++ record { from = p; payload = x 
 abbrev pub recv_at : Place → LocalState → ℕ → Payload → Option LocalState
 recv_at L6 s p x = None
 recv_at place s p x = hear s p x
+
+-- whether a receive is accepted, whatever is received
+abbrev pub accepts_receive_at : Place → Bool
+accepts_receive_at L6 = false
+accepts_receive_at place = true
 
 -- ---- the machine
 

@@ -102,9 +102,9 @@ pub trait Process: Sized + Drop {
     fn round(&self) -> u32
         ensures { result ≡ table.round self.now };
 
-    ghost query_by_state: { QueryDependsOnStateAlone table.next };
+    ghost query_by_state: { QueryDependsOnStateAlone table.next table.accepts_query };
 
-    ghost recv_by_state: { RecvDependsOnStateAlone table.next };
+    ghost recv_by_state: { RecvDependsOnStateAlone table.next table.accepts_receive };
 
     ghost wish_send: { WishNamesSend table.next table.wish };
 
@@ -124,14 +124,16 @@ pub trait SameState: Process {
 
 /// Whether the machine accepts a query now, whoever is named.
 pub fn accepts_query<P: Process>(local: &P) -> bool
-    ensures { (l : ℕ) → IsTrue result ↔ IsSome (P.table.next local.now (Input.Query l)) }
+    ensures by_table { result ≡ P.table.accepts_query local.now }
+    ensures accepted { (l : ℕ) → IsTrue result ↔ IsSome (P.table.next local.now (Input.Query l)) }
 {
     local.accepts(&Input::Query(Proc::new(1)))
 }
 
 /// Whether the machine accepts a receive now, whoever sent and whatever was sent.
 pub fn accepts_receive<P: Process>(local: &P) -> bool
-    ensures { (s : ℕ) (x : Payload) →
+    ensures by_table { result ≡ P.table.accepts_receive local.now }
+    ensures accepted { (s : ℕ) (x : Payload) →
         IsTrue result ↔ IsSome (P.table.next local.now (Input.Recv s x)) }
 {
     let any = Payload::D { est: Val::new(0) };

@@ -17,7 +17,8 @@ use Rattle.cdb_message.specs.Mail.{MailState, message_name, copy_name, sent_by, 
 use Rattle.cdb_rules.specs.Mail.{mail_of}
 use Rattle.cdb_rules.specs.Refusals.{first_refusal, accepts_kind, receives_such, again_checks, again_answer, lose_checks, lose_answer, unless_refused, NamesProcess, IsOfRun}
 use Rattle.cdb_rules.specs.State.{Machine, ProcessState, RunState}
-use Rattle.cdb_rules.specs.Step.{is_among, sight_in, may_lose, after}
+use Rattle.cdb_rules.specs.Step.{is_among, may_lose, after}
+use Rattle.cdb_rules.proofs.Stages.{sight_in}
 use Rattle.cdb_rules.proofs.Enabled.{accepts_by, fits_by}
 use Rattle.cdb_rules.proofs.Granted.{IsLawful, Fits, AllPass, all_pass, enabled_where_accepted}
 use Rattle.cdb_rules.proofs.Mails.{not_true}
@@ -126,7 +127,7 @@ module _ {L : Type 0} (machine : Machine L) (lawful : IsLawful machine) (setup :
         let lost = received.1 in
         enabled_where_accepted machine lawful state p process at k kind
         (not_false process.progress.alive alive.0) going.0 (not_false (k == process.progress.steps + 1) moved.0) (is_limit k limit)
-        (not_false (accepts_kind machine.next process.progress.local (length (sent_by (mail_of state) p)) state.registers kind) accepted.0)
+        (not_false (accepts_kind machine process.progress.local (length (sent_by (mail_of state) p)) state.registers kind) accepted.0)
         (fits_receive machine setup number (mail_of state) p kind names sent.0 received.0 lost.0)
 
     pub step_again : IsSome (after machine state (Step p k kind)) → again_answer machine setup state (Step p k kind) ≡ Ok (Step p k kind)
@@ -145,7 +146,7 @@ module _ {L : Type 0} (machine : Machine L) (lawful : IsLawful machine) (setup :
             (
               accepted.going,
               (
-                turned (accepts_kind machine.next process.progress.local (length (sent_by (mail_of state) p)) state.registers kind) (accepts_by machine lawful state p process at k kind taken.next accepted),
+                turned (accepts_kind machine process.progress.local (length (sent_by (mail_of state) p)) state.registers kind) (accepts_by machine lawful state p process at k kind taken.next accepted),
                 (fits.0, (fits.1, (fits.2, tt))),
               ),
             ),

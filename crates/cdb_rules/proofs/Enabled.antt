@@ -5,7 +5,6 @@ use Rattle.std.specs.FinSet as set
 use Rattle.cdb_base.specs.Positions.{nth}
 use Rattle.cdb_base.specs.declared.event.Kind.{Kind}
 use Rattle.cdb_base.specs.declared.event.Kind.TheVariants.{Query, Send, Recv, Read, Write, Local, Learn, Crash}
-use Rattle.cdb_base.specs.declared.payload.Payload.TheVariants.{D}
 use Rattle.cdb_message.specs.Mail.{message_name, sent_by}
 use Rattle.cdb_process.specs.declared.Input.TheVariants as input
 use Rattle.cdb_register.specs.Registers.{register_of}
@@ -13,7 +12,9 @@ use Rattle.cdb_register.specs.declared.RegisterState.{RegisterState}
 use Rattle.cdb_rules.specs.Mail.{mail_of}
 use Rattle.cdb_rules.specs.Refusals.{accepts_kind}
 use Rattle.cdb_rules.specs.State.{Machine, ProcessState, RunState}
-use Rattle.cdb_rules.specs.Step.{sight_in, arriving, wished_payload, taken_local}
+use Rattle.cdb_rules.specs.Step.{wished_payload}
+use Rattle.cdb_rules.specs.Taking.{arriving, taken_local}
+use Rattle.cdb_rules.proofs.Stages.{sight_in}
 use Rattle.cdb_rules.proofs.Granted.{IsLawful, Fits}
 use Rattle.cdb_rules.proofs.Mails.{sent_is, received_is, arrives, not_true}
 use Rattle.cdb_rules.proofs.Taken.{some_of, both, IsAccepted}
@@ -29,16 +30,16 @@ module _ {L : Type 0} (machine : Machine L) (lawful : IsLawful machine) (state :
   abbrev sends : ℕ
   sends = length (sent_by (mail_of state) p)
 
-  pub accepts_by : (k : ℕ) (kind : Kind) (next : L) → IsAccepted machine process k kind (sight_in state p kind) next → accepts_kind machine.next process.progress.local sends state.registers kind ≡ true
-  accepts_by k (Query leader) next a = lawful.query process.progress.local leader 1 (some _ next a.takes)
+  pub accepts_by : (k : ℕ) (kind : Kind) (next : L) → IsAccepted machine process k kind (sight_in state p kind) next → accepts_kind machine process.progress.local sends state.registers kind ≡ true
+  accepts_by k (Query leader) next a = sym (lawful.query process.progress.local leader) ∙ some _ next a.takes
   accepts_by k (Send m) next a =
       join (m == sends + 1) (is_some (machine.next process.progress.local input.Send))
       (subst (λ sent. (m == length sent + 1) ≡ true) (sym (sent_is state p process at)) (both (m == length process.sent + 1) (is_some (wished_payload (machine.wish process.progress.local))) a.due).0)
       (some _ next a.takes)
   accepts_by k (Recv s m) next a =
       let arrived = some_of (arriving (mail_of state) p (message_name s m)) a.met in
-      lawful.recv process.progress.local s 1 arrived.0 (D 0)
-      (some _ next (ap (λ o. taken_local machine.next process.progress.local (option_map (input.Recv s) o)) (sym arrived.1) ∙ a.takes))
+      sym (lawful.recv process.progress.local s arrived.0)
+      ∙ some _ next (ap (λ o. taken_local machine.next process.progress.local (option_map (input.Recv s) o)) (sym arrived.1) ∙ a.takes)
   accepts_by k (Read register) next a =
       let stands = some_of (register_of state.registers register) a.met in
       ap (λ o. option_map_or (λ (stands : RegisterState). is_some (machine.next process.progress.local (input.Read register stands.cell))) o false) stands.1

@@ -8,7 +8,6 @@ use Rattle.cdb_base.specs.declared.event.Event.TheVariants.{Step}
 use Rattle.cdb_base.specs.declared.event.Kind.{Kind}
 use Rattle.cdb_base.specs.declared.event.Kind.TheVariants.{Query, Send, Recv, Read, Write, Local, Learn, Crash}
 use Rattle.cdb_base.specs.declared.payload.Payload.{Payload}
-use Rattle.cdb_base.specs.declared.payload.Payload.TheVariants.{D}
 use Rattle.cdb_base.specs.declared.refusal.Refusal.{Refusal}
 use Rattle.cdb_message.specs.Mail.{MailState, message_name, copy_name, sent_by, payload_of, is_sent, is_received, is_lost}
 use Rattle.cdb_process.specs.Process.{QueryDependsOnStateAlone, RecvDependsOnStateAlone, WishNamesSend, WishNamesWrite}
@@ -18,14 +17,17 @@ use Rattle.cdb_register.specs.declared.RegisterState.{RegisterState}
 use Rattle.cdb_rules.specs.Mail.{mail_of}
 use Rattle.cdb_rules.specs.Refusals.{first_refusal, accepts_kind}
 use Rattle.cdb_rules.specs.State.{Machine, ProcessState, RunState}
-use Rattle.cdb_rules.specs.Step.{sight_in, arriving, meets, is_among, is_due, input_of, wished_payload, wished_cell, taken_local, may_step, accepted, state_after, after}
+use Rattle.cdb_rules.specs.Step.{is_among, wished_payload, wished_cell, may_step, after}
+use Rattle.cdb_rules.specs.Taking.{arriving, input_of, taken_local}
+use Rattle.cdb_rules.proofs.Stages.{sight_in, meets, is_due, accepted, state_after}
 use Rattle.cdb_rules.proofs.Mails.{sent_is, received_is}
+use Rattle.cdb_rules.proofs.Tables.{step_in_stages}
 use Rattle.cdb_rules.proofs.Taken.{some_of, both}
 
 -- what a machine of the trait keeps
 pub record IsLawful {L : Type 0} (machine : Machine L) : Type 0 where
-  pub query : QueryDependsOnStateAlone machine.next
-  pub recv : RecvDependsOnStateAlone machine.next
+  pub query : QueryDependsOnStateAlone machine.next machine.accepts_query
+  pub recv : RecvDependsOnStateAlone machine.next machine.accepts_receive
   pub send : WishNamesSend machine.next machine.wish
   pub write : WishNamesWrite machine.next machine.wish
 
@@ -75,8 +77,8 @@ module _ {L : Type 0} (machine : Machine L) (lawful : IsLawful machine) where
       met : meets kind (sight_in state p kind) ≡ true
       takes : IsSome (taken_local machine.next process.progress.local (input_of kind (sight_in state p kind)))
 
-    leads_on : (kind : Kind) → accepts_kind machine.next process.progress.local sends state.registers kind ≡ true → Fits machine (mail_of state) p kind → Leads kind
-    leads_on (Query leader) accepts fits = record { due = fits; met = refl; takes = lawful.query process.progress.local 1 leader accepts }
+    leads_on : (kind : Kind) → accepts_kind machine process.progress.local sends state.registers kind ≡ true → Fits machine (mail_of state) p kind → Leads kind
+    leads_on (Query leader) accepts fits = record { due = fits; met = refl; takes = lawful.query process.progress.local leader ∙ accepts }
     leads_on (Send m) accepts fits =
         let parts = both (m == sends + 1) (is_some (machine.next process.progress.local input.Send)) accepts in
         let wished = (lawful.send process.progress.local).0 parts.1 in
@@ -90,7 +92,7 @@ module _ {L : Type 0} (machine : Machine L) (lawful : IsLawful machine) where
         record {
           due = ap not (ap (λ names. set.contains names (message_name s m)) (sym (received_is state p process at)) ∙ fits.1);
           met = ap is_some payload.1;
-          takes = subst (λ o. IsSome (taken_local machine.next process.progress.local (option_map (input.Recv s) o))) (sym payload.1) (lawful.recv process.progress.local 1 s (D 0) payload.0 accepts);
+          takes = subst (λ o. IsSome (taken_local machine.next process.progress.local (option_map (input.Recv s) o))) (sym payload.1) (lawful.recv process.progress.local s payload.0 ∙ accepts);
         }
     leads_on (Read register) accepts fits =
         let stands = map_or_true (λ (stands : RegisterState). is_some (machine.next process.progress.local (input.Read register stands.cell))) (register_of state.registers register) accepts in
@@ -114,7 +116,7 @@ module _ {L : Type 0} (machine : Machine L) (lawful : IsLawful machine) where
 
     -- the next step of a process, of a kind that it accepts, is enabled
     pub enabled_where_accepted : (k : ℕ) (kind : Kind) → process.progress.alive ≡ true → machine.done process.progress.local ≡ false → (k == process.progress.steps + 1) ≡ true → nat_le k 9999 ≡ true
-        → accepts_kind machine.next process.progress.local sends state.registers kind ≡ true → Fits machine (mail_of state) p kind → IsSome (after machine state (Step p k kind))
+        → accepts_kind machine process.progress.local sends state.registers kind ≡ true → Fits machine (mail_of state) p kind → IsSome (after machine state (Step p k kind))
     enabled_where_accepted k kind alive going number limit accepts fits =
         let on = leads_on kind accepts fits in
         let may : may_step machine process.progress k ≡ true =
@@ -126,6 +128,7 @@ module _ {L : Type 0} (machine : Machine L) (lawful : IsLawful machine) where
         let accepts_it : accepted machine process k kind (sight_in state p kind) ≡ Some next.0 =
         ap (λ b. if b then taken_local machine.next process.progress.local (input_of kind (sight_in state p kind)) else None) all ∙ next.1 in
         let reaches : after machine state (Step p k kind) ≡ Some (state_after machine state p k kind process next.0) =
-        ap (option_and_then (λ process. option_map (state_after machine state p k kind process) (accepted machine process k kind (sight_in state p kind)))) at
+        step_in_stages machine state p k kind
+        ∙ ap (option_and_then (λ process. option_map (state_after machine state p k kind process) (accepted machine process k kind (sight_in state p kind)))) at
         ∙ ap (option_map (state_after machine state p k kind process)) accepts_it in
         subst IsSome (sym reaches) refl

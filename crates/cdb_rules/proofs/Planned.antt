@@ -55,7 +55,7 @@ module _ {L : Type 0} (machine : Machine L) (setup : Parts) (number : length mac
   wish = machine.wish process.progress.local
 
   abbrev accepts : Kind → Bool
-  accepts kind = accepts_kind machine.next process.progress.local sends state.registers kind
+  accepts kind = accepts_kind machine process.progress.local sends state.registers kind
 
   among_firsts : (leader : ℕ) → is_among setup.processes leader ≡ true → is_among (length machine.firsts) leader ≡ true
   among_firsts leader h = subst (λ n. is_among n leader ≡ true) (sym number) h
@@ -66,7 +66,7 @@ module _ {L : Type 0} (machine : Machine L) (setup : Parts) (number : length mac
     fits : Fits machine (mail_of state) p kind
 
   granted : (do_act : Act) (kind : Kind) → named_kind wish sends answer do_act ≡ Some kind
-      → accepts_act machine.next wish process.progress.local sends state.registers do_act ≡ true
+      → accepts_act machine process.progress.local sends state.registers do_act ≡ true
       → asks_for (λ name. not (is_sent (mail_of state) name)) do_act ≡ false
       → asks_for (is_received (mail_of state) p) do_act ≡ false
       → names_no_leader setup.processes do_act ≡ false
@@ -75,7 +75,9 @@ module _ {L : Type 0} (machine : Machine L) (setup : Parts) (number : length mac
   granted act.Go kind named accepted sent received leader lost =
       let wished = mapped (wished_kind sends) wish kind named in
       record {
-        accepted = subst (λ o. option_map_or accepts o false ≡ true) named accepted;
+        accepted =
+            subst (λ k. accepts k ≡ true) wished.2
+            (subst (λ o. option_map_or (λ w. accepts (wished_kind sends w)) o false ≡ true) wished.1 accepted);
         fits = subst (Fits machine (mail_of state) p) wished.2 (wished_fits machine (mail_of state) p sends wished.0);
       }
   granted act.Learn kind named accepted sent received leader lost =
@@ -105,7 +107,7 @@ module _ {L : Type 0} (machine : Machine L) (setup : Parts) (number : length mac
       let limit = leader.1.1 in
       let lost = limit.1 in
       let named = mapped (Step p (process.progress.steps + 1)) (named_kind wish sends answer do_act) event clear.1 in
-      let grants = granted do_act named.0 named.1 (not_false (accepts_act machine.next wish process.progress.local sends state.registers do_act) accepted.0) sent.0 received.0 leader.0 lost.0 in
+      let grants = granted do_act named.0 named.1 (not_false (accepts_act machine process.progress.local sends state.registers do_act) accepted.0) sent.0 received.0 leader.0 lost.0 in
       subst (λ e. IsSome (after machine state e)) named.2
       (enabled_where_accepted machine lawful state p process at (process.progress.steps + 1) named.0
       (not_false process.progress.alive alive.0) going.0 (is_its_own (process.progress.steps + 1)) (one_more process.progress.steps limit.0) grants.accepted grants.fits)

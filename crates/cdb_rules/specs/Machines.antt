@@ -25,6 +25,8 @@ machine_of table setup =
       has_registers = uses_registers setup.algorithm;
       loses_copies = setup.version == 2;
       next = table.next;
+      accepts_query = table.accepts_query;
+      accepts_receive = table.accepts_receive;
       wish = table.wish;
       done = λ local. table.place local == table.last_place;
     }

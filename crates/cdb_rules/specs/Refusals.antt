@@ -10,11 +10,9 @@ use Rattle.cdb_base.specs.declared.event.Kind.{Kind}
 use Rattle.cdb_base.specs.declared.event.Kind.TheVariants.{Query, Send, Recv, Read, Write, Local, Learn, Crash}
 use Rattle.cdb_base.specs.declared.limits.TheConstants.{MAX_STEPS}
 use Rattle.cdb_base.specs.declared.name.MsgName.{MsgName}
-use Rattle.cdb_base.specs.declared.payload.Payload.TheVariants.{D}
 use Rattle.cdb_base.specs.declared.refusal.Refusal.{Refusal}
 use Rattle.cdb_base.specs.declared.refusal.Refusal.TheVariants as refusal
 use Rattle.cdb_message.specs.Mail.{MailState, message_name, copy_name, sent_by, is_sent, is_received, is_lost}
-use Rattle.cdb_process.specs.declared.Input.{Input}
 use Rattle.cdb_process.specs.declared.Input.TheVariants as input
 use Rattle.cdb_process.specs.declared.Wish.{Wish}
 use Rattle.cdb_process.specs.declared.Wish.TheVariants as wished
@@ -48,21 +46,26 @@ named_kind wish sends answer (act.Query (Some leader)) = Some (Query leader)
 named_kind wish sends answer (act.Recv s m) = Some (Recv s m)
 
 -- whether a machine accepts a step of that kind now: a query whoever is named, a receive whatever is received
-abbrev pub accepts_kind : {L : Type 0} → (L → Input → Option L) → L → ℕ → RegisterStates → Kind → Bool
-accepts_kind next local sends registers (Query leader) = is_some (next local (input.Query 1))
-accepts_kind next local sends registers (Send m) = (m == sends + 1) && is_some (next local input.Send)
-accepts_kind next local sends registers (Recv s m) = is_some (next local (input.Recv 1 (D 0)))
-accepts_kind next local sends registers (Read register) =
-    option_map_or (λ stands. is_some (next local (input.Read register stands.cell))) (register_of registers register) false
-accepts_kind next local sends registers (Write register) = is_some (register_of registers register) && is_some (next local (input.Write register))
-accepts_kind next local sends registers Local = is_some (next local input.Local)
-accepts_kind next local sends registers Learn = is_some (next local input.Learn)
-accepts_kind next local sends registers Crash = true
+abbrev pub accepts_kind : {L : Type 0} → Machine L → L → ℕ → RegisterStates → Kind → Bool
+accepts_kind machine local sends registers (Query leader) = machine.accepts_query local
+accepts_kind machine local sends registers (Send m) = (m == sends + 1) && is_some (machine.next local input.Send)
+accepts_kind machine local sends registers (Recv s m) = machine.accepts_receive local
+accepts_kind machine local sends registers (Read register) =
+    option_map_or (λ stands. is_some (machine.next local (input.Read register stands.cell))) (register_of registers register) false
+accepts_kind machine local sends registers (Write register) =
+    is_some (register_of registers register) && is_some (machine.next local (input.Write register))
+accepts_kind machine local sends registers Local = is_some (machine.next local input.Local)
+accepts_kind machine local sends registers Learn = is_some (machine.next local input.Learn)
+accepts_kind machine local sends registers Crash = true
 
--- whether it accepts what an act names; a query is one whatever the oracle answers
-abbrev pub accepts_act : {L : Type 0} → (L → Input → Option L) → Option Wish → L → ℕ → RegisterStates → Act → Bool
-accepts_act next wish local sends registers do_act =
-    option_map_or (accepts_kind next local sends registers) (named_kind wish sends (Some 1) do_act) false
+-- whether it accepts a step of the kind that an act names
+abbrev pub accepts_act : {L : Type 0} → Machine L → L → ℕ → RegisterStates → Act → Bool
+accepts_act machine local sends registers act.Go =
+    option_map_or (λ wish. accepts_kind machine local sends registers (wished_kind sends wish)) (machine.wish local) false
+accepts_act machine local sends registers act.Learn = accepts_kind machine local sends registers Learn
+accepts_act machine local sends registers act.Crash = accepts_kind machine local sends registers Crash
+accepts_act machine local sends registers (act.Query leader) = machine.accepts_query local
+accepts_act machine local sends registers (act.Recv s m) = machine.accepts_receive local
 
 -- the act asks for a message of which the test holds
 abbrev pub asks_for : (MsgName → Bool) → Act → Bool
@@ -84,7 +87,7 @@ abbrev pub step_checks : {L : Type 0} → Machine L → Parts → MailState → 
 step_checks machine setup mail registers progress p do_act =
     (not progress.alive, refusal.Crashed)
     ∷ (machine.done progress.local, refusal.Done)
-    ∷ (not (accepts_act machine.next (machine.wish progress.local) progress.local (length (sent_by mail p)) registers do_act), refusal.NotNow)
+    ∷ (not (accepts_act machine progress.local (length (sent_by mail p)) registers do_act), refusal.NotNow)
     ∷ (asks_for (λ name. not (is_sent mail name)) do_act, refusal.NoMessage)
     ∷ (asks_for (is_received mail p) do_act, refusal.Taken)
     ∷ (names_no_leader setup.processes do_act, refusal.BadLeader)
@@ -128,7 +131,7 @@ again_checks machine mail registers progress p k kind =
     (not (k == progress.steps + 1), refusal.Moved)
     ∷ (not progress.alive, refusal.Crashed)
     ∷ (machine.done progress.local, refusal.Done)
-    ∷ (not (accepts_kind machine.next progress.local (length (sent_by mail p)) registers kind), refusal.NotNow)
+    ∷ (not (accepts_kind machine progress.local (length (sent_by mail p)) registers kind), refusal.NotNow)
     ∷ (receives_such (λ name. not (is_sent mail name)) kind, refusal.NoMessage)
     ∷ (receives_such (is_received mail p) kind, refusal.Taken)
     ∷ (receives_such (λ name. is_lost mail (copy_name name p)) kind, refusal.Lost)

@@ -10,12 +10,14 @@ pub use Rattle.cdb_rules.specs.declared.own_event.OwnEvent.{OwnEvent}
 use Rattle.cdb_rules.specs.declared.progress.Progress.{Progress}
 
 -- an algorithm at a setup: the first local states of processes 1 to n, whether it has registers, whether copies can
--- be lost, and what a process does
+-- be lost, and what a process does: by an input, whether it accepts any query and any receive, and of itself
 pub record Machine (Local : Type 0) : Type 0 where
   pub firsts : List Local
   pub has_registers : Bool
   pub loses_copies : Bool
   pub next : Local → Input → Option Local
+  pub accepts_query : Local → Bool
+  pub accepts_receive : Local → Bool
   pub wish : Local → Option Wish
   pub done : Local → Bool
 

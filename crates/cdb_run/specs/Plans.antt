@@ -15,7 +15,8 @@ use Rattle.cdb_process.specs.Table.{Table}
 use Rattle.cdb_register.specs.Registers.{RegisterStates}
 use Rattle.cdb_rules.specs.Machines.{machine_of}
 use Rattle.cdb_rules.specs.Refusals.{first_refusal, accepts_kind, planned, planned_again, again_checks}
-use Rattle.cdb_rules.specs.Step.{sight, input_of, taken_local, wished_payload, wished_cell}
+use Rattle.cdb_rules.specs.Step.{wished_payload, wished_cell}
+use Rattle.cdb_rules.specs.Taking.{sight, input_of, taken_local}
 use Rattle.cdb_rules.specs.declared.progress.Progress.{Progress}
 use Rattle.cdb_setup.specs.Parts.{Parts}
 
@@ -46,9 +47,9 @@ abbrev pub next_step_of : {L : Type 0} → Progress L → ℕ → Kind → Resul
 next_step_of progress p kind = if nat_le MAX_STEPS progress.steps then Err refusal.StepLimit else Ok (Step p (progress.steps + 1) kind)
 
 -- the same where the machine accepts a step of that kind
-abbrev pub step_if_accepted : {L : Type 0} → Table L → MailState → RegisterStates → Progress L → ℕ → Kind → Result Event Refusal
-step_if_accepted table mail registers progress p kind =
-    if accepts_kind table.next progress.local (length (sent_by mail p)) registers kind
+abbrev pub step_if_accepted : {L : Type 0} → Table L → Parts → MailState → RegisterStates → Progress L → ℕ → Kind → Result Event Refusal
+step_if_accepted table setup mail registers progress p kind =
+    if accepts_kind (machine_of table setup) progress.local (length (sent_by mail p)) registers kind
     then next_step_of progress p kind
     else Err refusal.NotNow
 

@@ -3,6 +3,7 @@
 ghost use Rattle.std.specs.Prelude.{◌≡◌, ◌≤◌, ◌==◌, true, false, None, Some, length};
 ghost use Rattle.cdb_message.specs.Mail.{message_name};
 ghost use Rattle.cdb_run.specs.Plans.{plan_at, plan_again_at, refusal_again_at, copy_refusal, next_step_of, step_if_accepted};
+ghost use Rattle.cdb_rules.specs.Machines.{machine_of};
 ghost use Rattle.cdb_rules.specs.Refusals.{wished_kind, accepts_kind, planned_loss};
 
 use crate::among::process_among;
@@ -28,9 +29,16 @@ fn kind_of_wish(wish: &Wish, sends: u16) -> Kind
 }
 
 /// Whether a machine accepts a step of that kind now.
-fn does_accept<P: Process>(local: &P, sends: u16, registers: &Registers, kind: &Kind) -> bool
+fn does_accept<P: Process>(
+    setup: &Setup,
+    local: &P,
+    sends: u16,
+    registers: &Registers,
+    kind: &Kind,
+) -> bool
     requires { sends ≤ 9999 }
-    ensures { result ≡ accepts_kind P.table.next local.now sends registers.now kind.now }
+    ensures { result ≡ accepts_kind (machine_of P.table setup.now) local.now sends registers.now
+        kind.now }
 {
     match kind {
         Kind::Query(_) => accepts_query(local),
@@ -62,16 +70,24 @@ fn next_step<P: Process>(progress: &Progress<P>, p: Proc, kind: Kind) -> Result<
 
 /// What a process does of itself, learns, or that it crashes.
 fn plan_kind<P: Process>(
+    setup: &Setup,
     mail: &Mail,
     registers: &Registers,
     progress: &Progress<P>,
     p: Proc,
     kind: Kind,
 ) -> Result<Event, Refusal>
-    ensures { result ≡ step_if_accepted P.table mail.now registers.now progress.now p kind }
+    ensures { result ≡ step_if_accepted P.table setup.now mail.now registers.now progress.now p
+        kind }
 {
     let asked = kind;
-    if !does_accept(&progress.local, mail.count_sent(p), registers, &asked) {
+    if !does_accept(
+        setup,
+        &progress.local,
+        mail.count_sent(p),
+        registers,
+        &asked,
+    ) {
         return Err(Refusal::NotNow);
     }
     next_step(progress, p, kind)
@@ -93,7 +109,7 @@ fn plan_go<P: Process>(
         return Err(Refusal::NotNow);
     };
     let kind = kind_of_wish(&wish, mail.count_sent(p));
-    plan_kind(mail, registers, progress, p, kind)
+    plan_kind(setup, mail, registers, progress, p, kind)
 }
 
 /// Process `p` asks the oracle, for the setup's next answer.
@@ -197,8 +213,8 @@ pub(crate) fn plan<P: Process>(
     }
     match act {
         Act::Go => plan_go(setup, mail, registers, progress, p),
-        Act::Learn => plan_kind(mail, registers, progress, p, Kind::Learn),
-        Act::Crash => plan_kind(mail, registers, progress, p, Kind::Crash),
+        Act::Learn => plan_kind(setup, mail, registers, progress, p, Kind::Learn),
+        Act::Crash => plan_kind(setup, mail, registers, progress, p, Kind::Crash),
         Act::Query(None) => plan_query(setup, mail, registers, progress, p),
         Act::Query(Some(leader)) => plan_answer(setup, mail, registers, progress, p, leader),
         Act::Recv(s, m) => plan_recv(setup, mail, registers, progress, p, s, m),
@@ -272,7 +288,7 @@ fn refuses_again<P: Process>(
     if progress.local.decision().is_some() {
         return Some(Refusal::Done);
     }
-    if !does_accept(&progress.local, mail.count_sent(p), registers, kind) {
+    if !does_accept(setup, &progress.local, mail.count_sent(p), registers, kind) {
         return Some(Refusal::NotNow);
     }
     match kind {
