@@ -12,11 +12,13 @@ use Rattle.cdb_base.specs.declared.refusal.Refusal.{Refusal}
 use Rattle.cdb_base.specs.declared.refusal.Refusal.TheVariants as refusal
 use Rattle.cdb_causal.specs.Causality.{IsFree}
 use Rattle.cdb_causal.specs.Dependence.{depends}
+use Rattle.cdb_causal.specs.Names.{IsNamedAt}
 use Rattle.cdb_causal.specs.Rollback.{without, remaining, rolled_back}
 use Rattle.cdb_rules.specs.Undo.{Found, found_at, event_named, for_standing, undo_found, undo_of, rollback_of, names_processes, has_name}
 use Rattle.cdb_rules.specs.State.{Machine}
 use Rattle.cdb_rules.specs.Step.{IsValid, after, fold, state_of}
-use Rattle.cdb_rules.proofs.Answering.{get-drop}
+use Rattle.cdb_rules.proofs.Answering.{get-drop, found_is}
+use Rattle.cdb_rules.proofs.Finding.{has_name_is}
 use Rattle.cdb_rules.proofs.Histories.{undo_valid, undo_again, rollback_valid, rollback_redo}
 
 -- where none is found, the test holds of none
@@ -64,6 +66,13 @@ module _ {A : Type 0} (history : List Event) (name : StepId) (answer : Found →
 
   stands_answered : (n : ℕ) → for_standing (event_named n history name) answer ≡ Ok done → StandsAnswered
   stands_answered n h = by_names (names_processes n name) h
+
+-- the event that is found by a name has it
+pub found_named : (n : ℕ) (history : List Event) (name : StepId) (i : ℕ) (event : Event) → slice_get history i ≡ Some event → event_named n history name ≡ found_at history i → IsNamedAt history i name
+found_named n history name i event at is =
+    let s = stands_answered history name (λ standing. Ok standing) (found history i event) n (ap (λ (f : Result Found Refusal). for_standing f (λ standing. Ok standing)) (is ∙ found_is history i event at)) in
+    let same : s.0 ≡ i = ap (λ (f : Found). f.position) (same_Ok (found history s.0 s.1) (found history i event) s.4) in
+    subst (λ (j : ℕ). IsNamedAt history j name) same (s.1, s.3, has_name_is name s.1 s.2)
 
 module _ (history : List Event) (i : ℕ) (event : Event) (at : slice_get history i ≡ Some event) where
   free_if : find (depends event) (drop (suc i) history) ≡ None → IsFree depends history i

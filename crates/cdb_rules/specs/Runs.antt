@@ -1,5 +1,5 @@
 -- What a contract says of a run: of its setup and its standing events, with the table of its machine.
-use Rattle.std.specs.Prelude.{◌≡◌, ℕ, ◌-◌, ◌≤◌, List, [], ◌∷◌, ◌++◌, Bool, Option, Some, option_map, Result, Ok, Err, IfOk, OnOk, OnErr, IsOk, MatchOption, MatchResult, false}
+use Rattle.std.specs.Prelude.{◌≡◌, ℕ, ◌-◌, ◌≤◌, List, [], ◌∷◌, ◌++◌, Bool, Option, Some, option_map, Result, Ok, Err, IfOk, OnOk, OnErr, IsOk, MatchOption, MatchResult, false, reverse}
 use Rattle.cdb_base.specs.Event.{event_name}
 use Rattle.cdb_base.specs.Positions.{nth}
 use Rattle.cdb_base.specs.declared.act.Act.{Act}
@@ -10,7 +10,9 @@ use Rattle.cdb_base.specs.declared.refusal.Refusal.{Refusal}
 use Rattle.cdb_base.specs.declared.register.Cell.{Cell}
 use Rattle.cdb_base.specs.declared.register.Reg.{Reg}
 use Rattle.cdb_causal.specs.Dependence.{depends}
-use Rattle.cdb_causal.specs.Rollback.{rolled_back, remaining}
+use Rattle.cdb_causal.specs.DirectCauses.{AreDirectCauses}
+use Rattle.cdb_causal.specs.Names.{IsNamedAt}
+use Rattle.cdb_causal.specs.Rollback.{IsParted, IsRolledBack, rolled_back, remaining}
 use Rattle.cdb_message.specs.Mail.{MailState, message_name, copy_name}
 use Rattle.cdb_process.specs.Table.{Table}
 use Rattle.cdb_register.specs.Registers.{RegisterStates, register_of}
@@ -179,6 +181,20 @@ Tells view answer told = MatchResult answer (λ a. told ≡ Ok (view a)) (λ why
 abbrev pub IsPositionFound : RunView → StepId → Result ℕ Refusal → Type 0
 IsPositionFound run name answer =
     MatchResult answer (λ at. found_in run name ≡ found_at_position run (at - 1)) (λ why. found_in run name ≡ Err why)
+
+-- where a rollback is granted, it takes back the event of the name with exactly its consequences, and all else is left in order
+abbrev pub IsExactRollback : RunView → StepId → RunView → Type 0
+IsExactRollback run name left =
+    IfOk (rollback_answer run name)
+    (λ removed. (i : ℕ) × IsNamedAt run.history i name × IsParted (IsRolledBack depends run.history i) 0 run.history left.history (reverse removed))
+
+-- what it takes back, the last first; nothing where it is refused
+abbrev pub removed_by_rollback : RunView → StepId → List Event
+removed_by_rollback run name = with_removed [] (rollback_answer run name)
+
+-- the names are those of the direct causes of the event of that name, in order
+abbrev pub AreCausesOf : RunView → StepId → List StepId → Type 0
+AreCausesOf run name causes = (i : ℕ) × IsNamedAt run.history i name × AreDirectCauses run.history i causes
 
 -- ---- back and forth
 

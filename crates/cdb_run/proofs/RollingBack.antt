@@ -1,5 +1,5 @@
 -- A rollback, event by event, from the last consequence back.
-use Rattle.std.proofs.Common.{◌≡◌, ℕ, zero, suc, ◌+◌, ◌-◌, ◌<◌, ◌≤◌, List, [], ◌∷◌, ◌++◌, length, map, filter, reverse, Some, Ok, slice_get, append_assoc, refl, sym, ap, ap₂, ◌∙◌, arith}
+use Rattle.std.proofs.Common.{◌≡◌, ℕ, zero, suc, ◌+◌, ◌-◌, ◌<◌, ◌≤◌, List, [], ◌∷◌, ◌++◌, length, map, filter, reverse, Some, Result, Ok, Err, slice_get, append_assoc, refl, sym, ap, ap₂, ◌∙◌, arith}
 use Rattle.std.proofs.lemmas.List.{length-map, length-reverse, reverse-append}
 use Rattle.std.proofs.lemmas.Option.{same_Some}
 use Rattle.std.specs.List.{flat_map}
@@ -14,9 +14,13 @@ use Rattle.cdb_causal.specs.Names.{IsNamedAt}
 use Rattle.cdb_causal.specs.Rollback.{without, consequences, rolled_back, remaining}
 use Rattle.cdb_causal.proofs.Undone.{rolled_back_alone, rolled_back_last}
 use Rattle.cdb_causal.proofs.Walks.{rolled_back_split}
+use Rattle.cdb_base.specs.declared.refusal.Refusal.{Refusal}
+use Rattle.cdb_rules.specs.RunView.{RunView}
+use Rattle.cdb_rules.specs.Runs.{with_left, after_rollback}
 use Rattle.cdb_rules.specs.State.{Machine}
 use Rattle.cdb_rules.specs.Step.{IsValid}
-use Rattle.cdb_rules.specs.Undo.{event_named, found_at, for_standing, rollback_of, causes_of, answered, left_by, number_removed, with_removed, direct_among}
+use Rattle.cdb_rules.specs.Undo.{Found, event_named, found_at, for_standing, rollback_of, causes_of, answered, left_by, number_removed, with_removed, direct_among}
+use Rattle.cdb_rules.proofs.Answered.{found_named}
 use Rattle.cdb_rules.proofs.Answering.{found_is}
 use Rattle.cdb_run.proofs.Causes.{causes_are}
 
@@ -148,9 +152,20 @@ module _ (n : ℕ) (history : List Event) (name : StepId) (at : ℕ) (found : ev
   pub list_answer : (old new : List Event) → new ≡ old ++ reverse (rolled_back depends history (at - 1)) → new ≡ with_removed old (answered (rollback_of n history name))
   list_answer old new is = is ∙ sym (ap (λ a. with_removed old (answered a)) rolled_answer)
 
+  -- the event that was found has the name
+  pub named_answer : IsNamedAt history (at - 1) name
+  named_answer = found_named n history name (at - 1) found_event.0 found_event.1 found
+
   -- Why, by the direct causes that are looked for.
   pub causes_answer : {L : Type 0} (machine : Machine L) → IsValid machine history → length machine.firsts ≤ 9 → (names : List StepId) → AreDirectCauses history (at - 1) names → causes_of n history name ≡ Ok names
   causes_answer machine valid few names are =
       ap (λ f. for_standing f (λ stands. Ok (map event_name (flat_map (λ p. filter (is_step_of p) (direct_among stands.earlier stands.event)) all_processes))))
       (found ∙ found_is history (at - 1) found_event.0 found_event.1)
       ∙ ap Ok (sym (causes_are machine history valid few (at - 1) found_event.0 found_event.1 names are))
+
+-- a rollback that is refused leaves the run as it was
+pub refused_answer : (run : RunView) (name : StepId) (why : Refusal) → event_named run.setup.processes run.history name ≡ Err why → after_rollback run name ≡ run
+refused_answer run name why is =
+    ap
+    (λ (f : Result Found Refusal). with_left run (for_standing f (λ stands. Ok (reverse (rolled_back depends run.history stands.position), remaining depends run.history stands.position))))
+    is

@@ -6,7 +6,7 @@ ghost use Rattle.std.specs.Vec.{vec_items};
 ghost use Rattle.cdb_causal.specs.Names.{IsNamedAt};
 ghost use Rattle.cdb_causal.specs.Rollback.{without};
 ghost use Rattle.cdb_rules.specs.EventRefs.{name_of};
-ghost use Rattle.cdb_rules.specs.Runs.{step_name, loss_name, AllLeadTo, RollsBackOnto, Tells, rollback_answer, causes_in, rolled_back_at, after_rollback, after_rollback_at, with_history};
+ghost use Rattle.cdb_rules.specs.Runs.{step_name, loss_name, AllLeadTo, RollsBackOnto, Tells, rollback_answer, causes_in, rolled_back_at, after_rollback, after_rollback_at, removed_by_rollback, IsExactRollback, AreCausesOf, with_history};
 ghost use Rattle.cdb_rules.specs.Undo.{IsFreeName};
 
 use crate::run::Run;
@@ -83,13 +83,12 @@ impl<P: Process> Run<P> {
         ensures answer { IfOk result
             (λ r. Tells vec_items r (rollback_answer self.old (name_of event))) }
         ensures after { OnOk result (self.new ≡ after_rollback self.old (name_of event)) }
+        ensures exact { OnOk result (IsExactRollback self.old (name_of event) self.new) }
         ensures again { IfOk result
             (λ r. IfOk r (λ taken. AllLeadTo P.table self.new (reverse taken.items) self.old)) }
         ensures err { OnErr result (self.new ≡ self.old) }
         ensures memory { OnErr result (IsOk (rollback_answer self.old (name_of event))) }
     {
-        let _ranges = self.setup().n();
-        let _valid = self.history();
         let mut taken = Vec::new(alloc);
         match self.rollback_event(alloc, event, &mut taken)? {
             Ok(_) => Ok(Ok(taken)),
@@ -108,8 +107,13 @@ impl<P: Process> Run<P> {
     ) -> Result<Result<usize, Refusal>, NoMemory>
         ensures rolled_back { RollsBackOnto self.old self.new (name_of event)
             taken.old.items taken.new.items result }
+        ensures exact { OnOk result (IsExactRollback self.old (name_of event) self.new) }
+        ensures again { OnOk result
+            (AllLeadTo P.table self.new (reverse (removed_by_rollback self.old (name_of event))) self.old) }
         ensures capacity { vec_capacity taken.old ≤ vec_capacity taken.new }
     {
+        let _ranges = self.setup().n();
+        let _valid = self.history();
         match self.find(event) {
             Ok(at) => Ok(Ok(self.roll_back(alloc, at, taken)?)),
             Err(refusal) => Ok(Err(refusal)),
@@ -128,6 +132,7 @@ impl<P: Process> Run<P> {
         ensures answer { IfOk result
             (λ r. Tells vec_items r (rollback_answer self.old (step_name p k))) }
         ensures after { OnOk result (self.new ≡ after_rollback self.old (step_name p k)) }
+        ensures exact { OnOk result (IsExactRollback self.old (step_name p k) self.new) }
         ensures again { IfOk result
             (λ r. IfOk r (λ taken. AllLeadTo P.table self.new (reverse taken.items) self.old)) }
         ensures err { OnErr result (self.new ≡ self.old) }
@@ -148,6 +153,7 @@ impl<P: Process> Run<P> {
         ensures answer { IfOk result
             (λ r. Tells vec_items r (rollback_answer self.old (loss_name s m p))) }
         ensures after { OnOk result (self.new ≡ after_rollback self.old (loss_name s m p)) }
+        ensures exact { OnOk result (IsExactRollback self.old (loss_name s m p) self.new) }
         ensures again { IfOk result
             (λ r. IfOk r (λ taken. AllLeadTo P.table self.new (reverse taken.items) self.old)) }
         ensures err { OnErr result (self.new ≡ self.old) }
@@ -159,7 +165,8 @@ impl<P: Process> Run<P> {
     /// The direct causes of a standing event, in order of process, at most one of each; or the first refusal that
     /// holds: `NoProcess` or `NoStep`. It takes no memory.
     pub fn causes_of(&self, alloc: Global, event: EventRef) -> Result<SmallVec<StepId, 9>, Refusal>
-        ensures { Tells (λ causes. causes.items) result (causes_in self.now (name_of event)) }
+        ensures answer { Tells (λ causes. causes.items) result (causes_in self.now (name_of event)) }
+        ensures direct { IfOk result (λ causes. AreCausesOf self.now (name_of event) causes.items) }
     {
         let _ranges = self.setup.n();
         let at = self.find(event)?;
@@ -168,7 +175,8 @@ impl<P: Process> Run<P> {
 
     /// The direct causes of the `k`-th step of process `p`, as `causes_of` returns them.
     pub fn causes(&self, alloc: Global, p: u32, k: u32) -> Result<SmallVec<StepId, 9>, Refusal>
-        ensures { Tells (λ causes. causes.items) result (causes_in self.now (step_name p k)) }
+        ensures answer { Tells (λ causes. causes.items) result (causes_in self.now (step_name p k)) }
+        ensures direct { IfOk result (λ causes. AreCausesOf self.now (step_name p k) causes.items) }
     {
         self.causes_of(alloc, EventRef::Step(p, k))
     }

@@ -4,13 +4,13 @@ use Rattle.cdb_rules.specs.EventRefs.{name_of}
 use Rattle.cdb_rules.specs.RunView.{RunView}
 use Rattle.cdb_rules.specs.Runs.{IsInOrder}
 use Rattle.cdb_rules.specs.Machines.{machine_of}
-use Rattle.cdb_run.proofs.RollingBack.{causes_answer}
+use Rattle.cdb_run.proofs.RollingBack.{causes_answer, named_answer}
 use Rattle.cdb_rules.proofs.FirstStates.{length-first_states}
 use Rattle.cdb_run.proofs.Views.{history_valid}
 use Rattle.cdb_run.proofs.run.Run.causes_of.Goals as goal
 
-pub returns : goal.returns
-returns g c =
+pub returns-clause-answer : goal.returns-clause-answer
+returns-clause-answer g c =
     let process = g.P.Process in
     let name = name_of c.args.event in
     let standing = c.args.self.now in
@@ -27,3 +27,12 @@ returns g c =
     (subst (λ (s : RunView). length (machine_of process.table s.setup).firsts ≤ 9) c.self.view_is few)
     c.direct_causes.result.items
     (subst (λ h. AreDirectCauses h (c.in_ok-at.at - 1) c.direct_causes.result.items) c.history.ensures.events c.direct_causes.ensures)
+
+pub returns-clause-direct : goal.returns-clause-direct
+returns-clause-direct g c =
+    let standing = c.args.self.now in
+    let found = c.in_ok-at.ensures in (
+      c.in_ok-at.at - 1,
+      named_answer standing.setup.processes standing.history (name_of c.args.event) c.in_ok-at.at found.found found.within,
+      subst (λ h. AreDirectCauses h (c.in_ok-at.at - 1) c.direct_causes.result.items) c.history.ensures.events c.direct_causes.ensures,
+    )

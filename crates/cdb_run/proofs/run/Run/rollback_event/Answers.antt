@@ -1,7 +1,12 @@
-use Rattle.std.proofs.Common.{refl, ap, ◌∙◌}
+use Rattle.std.proofs.Common.{reverse, refl, sym, ap, ◌∙◌, subst}
 use Rattle.cdb_rules.specs.EventRefs.{name_of}
-use Rattle.cdb_rules.specs.Runs.{with_history}
-use Rattle.cdb_run.proofs.RollingBack.{number_answer, history_answer, list_answer}
+use Rattle.cdb_rules.specs.Machines.{machine_of}
+use Rattle.cdb_rules.specs.RunView.{RunView}
+use Rattle.cdb_rules.specs.Runs.{with_history, with_left, rollback_in, after_rollback, removed_by_rollback, IsExactRollback, AllLeadTo}
+use Rattle.cdb_rules.proofs.FirstStates.{length-first_states}
+use Rattle.cdb_rules.proofs.TakenBack.{exact_rollback, rollback_leads_back}
+use Rattle.cdb_setup.specs.Parts.{AreInRange}
+use Rattle.cdb_run.proofs.RollingBack.{number_answer, history_answer, list_answer, refused_answer}
 use Rattle.cdb_run.proofs.run.Run.rollback_event.Goals as goal
 
 pub returns-in_ok-roll_back-in-Ok-clause-rolled_back : goal.returns-in_ok-roll_back-in-Ok-clause-rolled_back
@@ -20,3 +25,37 @@ returns-in_ok-roll_back-in-Ok-clause-rolled_back g c =
       list_err = tt;
       memory = tt;
     }
+
+pub returns-in_ok-roll_back-in-Ok-clause-exact : goal.returns-in_ok-roll_back-in-Ok-clause-exact
+returns-in_ok-roll_back-in-Ok-clause-exact g c =
+    let name = name_of c.args.event in
+    let run = c.args.self.now in
+    subst (λ (v : RunView). IsExactRollback run name v) (sym (returns-in_ok-roll_back-in-Ok-clause-rolled_back g c).after) (exact_rollback run name)
+
+pub returns-in_ok-roll_back-in-Ok-clause-again : goal.returns-in_ok-roll_back-in-Ok-clause-again
+returns-in_ok-roll_back-in-Ok-clause-again g c =
+    let table = g.P.Process.table in
+    let run = c.args.self.now in
+    let setup = run.setup in
+    let number =
+    length-first_states table.first 1 setup.processes setup.quorum setup.inputs ∙ (subst AreInRange c.setup.ensures c.n-ranges.ensures.ranges).an_input_each in
+    let name = name_of c.args.event in
+    subst (λ (v : RunView). AllLeadTo table v (reverse (removed_by_rollback run name)) run) (sym (returns-in_ok-roll_back-in-Ok-clause-rolled_back g c).after)
+    (rollback_leads_back (machine_of table setup) setup.processes number run.history c.history-valid.ensures.valid name)
+
+pub returns-in-Err-clause-exact : goal.returns-in-Err-clause-exact
+returns-in-Err-clause-exact g c =
+    let name = name_of c.args.event in
+    let run = c.args.self.now in
+    subst (λ (v : RunView). IsExactRollback run name v) (refused_answer run name c.in-Err.refusal c.in-Err.ensures.found) (exact_rollback run name)
+
+pub returns-in-Err-clause-again : goal.returns-in-Err-clause-again
+returns-in-Err-clause-again g c =
+    let table = g.P.Process.table in
+    let run = c.args.self.now in
+    let setup = run.setup in
+    let number =
+    length-first_states table.first 1 setup.processes setup.quorum setup.inputs ∙ (subst AreInRange c.setup.ensures c.n-ranges.ensures.ranges).an_input_each in
+    let name = name_of c.args.event in
+    subst (λ (v : RunView). AllLeadTo table v (reverse (removed_by_rollback run name)) run) (refused_answer run name c.in-Err.refusal c.in-Err.ensures.found)
+    (rollback_leads_back (machine_of table setup) setup.processes number run.history c.history-valid.ensures.valid name)
