@@ -10,6 +10,7 @@ pub mod Lawful
 pub mod LeaderHistories
 pub mod LeaderLaws
 pub mod LeaderRuns
+pub mod Numbered
 pub mod Quorums
 pub mod RoundLaws
 pub mod Worked

@@ -2,41 +2,35 @@
 //! whatever is lost, and in whatever order the events stand. Each function does nothing: its contract
 //! is the law.
 
-ghost use Rattle.std.specs.Prelude.{◌≡◌, ◌*◌, ◌<◌, List, [], ◌∷◌, ◌++◌, Some, IsTrue};
-ghost use Rattle.cdb_alpha.specs.LocalState.{LocalState as AlphaState};
+ghost use Rattle.std.specs.Prelude.{◌≡◌, List, [], ◌∷◌, ◌++◌, Some, IsTrue};
+ghost use Rattle.cdb_agreement.specs.Laws.{ForSetups, HasMajority, InReached};
+ghost use Rattle.cdb_agreement.specs.Rounds.{LeaderMessages, LeaderRounds, AlphaRounds};
+ghost use Rattle.cdb_agreement.specs.WorkedRuns.{leader_steps, leader_decisions, alpha_steps, alpha_decisions};
+ghost use Rattle.cdb_alpha.specs.Machine.{alpha_table};
 ghost use Rattle.cdb_base.specs.declared.event.Event.{Event};
-ghost use Rattle.cdb_leader.specs.LocalState.{LocalState as LeaderState};
+ghost use Rattle.cdb_leader.specs.Machine.{leader_table};
 ghost use Rattle.cdb_rules.specs.Agreement.{AllAgree, HasMajorityIfNeeded};
 ghost use Rattle.cdb_rules.specs.Algorithms.{leader_machine, alpha_machine, rules};
 ghost use Rattle.cdb_rules.specs.Decisions.{decisions_of};
-ghost use Rattle.cdb_agreement.specs.Rounds.{LeaderMessages, LeaderRounds, AlphaRounds};
-ghost use Rattle.cdb_rules.specs.State.{RunState};
-ghost use Rattle.cdb_rules.specs.Step.{fold};
-ghost use Rattle.cdb_agreement.specs.WorkedRuns.{leader_steps, leader_decisions, alpha_steps, alpha_decisions};
-ghost use Rattle.cdb_setup.specs.Parts.{Parts, AreInRange};
+ghost use Rattle.cdb_setup.specs.Parts.{Parts};
 
 /// No two standing decisions of the leader-based algorithm differ, where a quorum is more than half of
 /// the processes.
 pub fn leader_decisions_agree()
-    ensures { (setup : Parts) → AreInRange setup → setup.processes < 2 * setup.quorum →
-        (history : List Event) (state : RunState LeaderState) →
-        fold (leader_machine setup) history ≡ Some state →
-        AllAgree (decisions_of (λ local. local.decision) state) }
+    ensures { ForSetups (λ setup. HasMajority setup → InReached (leader_machine setup) (λ state.
+        AllAgree (decisions_of leader_table.decision state))) }
 {}
 
 /// No two standing decisions of Alpha differ, whatever the quorum.
 pub fn alpha_decisions_agree()
-    ensures { (setup : Parts) → AreInRange setup →
-        (history : List Event) (state : RunState AlphaState) →
-        fold (alpha_machine setup) history ≡ Some state →
-        AllAgree (decisions_of (λ local. local.decision) state) }
+    ensures { ForSetups (λ setup. InReached (alpha_machine setup) (λ state.
+        AllAgree (decisions_of alpha_table.decision state))) }
 {}
 
 /// The decisions that a valid history shows agree, by the rules of its setup.
 pub fn shown_decisions_agree()
-    ensures { (setup : Parts) → AreInRange setup → HasMajorityIfNeeded setup →
-        (history : List Event) → IsTrue ((rules setup).valid history) →
-        AllAgree ((rules setup).decisions history) }
+    ensures { ForSetups (λ setup. HasMajorityIfNeeded setup → (history : List Event) →
+        IsTrue ((rules setup).valid history) → AllAgree ((rules setup).decisions history)) }
 {}
 
 /// By either algorithm a process alone decides its input: the laws above are about decisions that are
@@ -54,19 +48,16 @@ pub fn worked_runs()
 /// round. Where a quorum is a majority the answers of a round have one value, and what is decided in it is the estimate
 /// of all later rounds.
 pub fn leader_rounds()
-    ensures messages { (setup : Parts) (history : List Event) (state : RunState LeaderState) →
-        fold (leader_machine setup) history ≡ Some state → LeaderMessages setup.quorum state }
-    ensures rounds { (setup : Parts) → AreInRange setup → setup.processes < 2 * setup.quorum →
-        (history : List Event) (state : RunState LeaderState) →
-        fold (leader_machine setup) history ≡ Some state → LeaderRounds setup.quorum state }
+    ensures messages { (setup : Parts) →
+        InReached (leader_machine setup) (LeaderMessages setup.quorum) }
+    ensures rounds { ForSetups (λ setup. HasMajority setup →
+        InReached (leader_machine setup) (LeaderRounds setup.quorum)) }
 {}
 
 /// In each state that a valid history of Alpha reaches, register i is written by process i alone and shows what it
-/// wrote last, no round in it ever falls, rounds are of one process, whoever settles a value has read every register in its round, and what is
-/// decided is what every write of a later round wrote.
+/// wrote last, no round in it ever falls, rounds are of one process, whoever settles a value has read every register in
+/// its round, and what is decided is what every write of a later round wrote.
 pub fn alpha_rounds()
-    ensures { (setup : Parts) → AreInRange setup →
-        (history : List Event) (state : RunState AlphaState) →
-        fold (alpha_machine setup) history ≡ Some state →
-        AlphaRounds (alpha_machine setup) setup.processes state }
+    ensures { ForSetups (λ setup. InReached (alpha_machine setup)
+        (AlphaRounds (alpha_machine setup) setup.processes)) }
 {}

@@ -1,4 +1,4 @@
-use Rattle.cdb_rules.proofs.Answered.{undone_back}
+use Rattle.cdb_rules.proofs.Answered.{undone_free, undone_back}
 use Rattle.cdb_rules.proofs.Standing.{free_undone, needed_refused, new_undone, absent_undone}
 use Rattle.cdb_agreement.proofs.laws.answered_undo.Goals as goal
 
@@ -16,3 +16,6 @@ returns-clause-no_process g c = absent_undone
 
 pub returns-clause-back : goal.returns-clause-back
 returns-clause-back g c = λ machine. undone_back machine
+
+pub returns-clause-free : goal.returns-clause-free
+returns-clause-free g c = undone_free
