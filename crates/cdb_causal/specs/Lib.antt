@@ -5,6 +5,7 @@ pub mod Dependence
 pub mod DirectCauses
 pub mod DirectDependents
 pub mod Exchange
+pub mod Laws
 pub mod Names
 pub mod Past
 pub mod Paths

@@ -1,20 +1,21 @@
 //! What holds of the past of an event. Each function does nothing: its contract is the law.
 
-ghost use Rattle.std.specs.Prelude.{ℕ, Bool, List, ◌↔◌};
+ghost use Rattle.std.specs.Prelude.{ℕ, Bool, ◌↔◌};
 ghost use Rattle.cdb_causal.specs.Causality.{IsConsequence, IsDirectCause};
+ghost use Rattle.cdb_causal.specs.Laws.{OfPositions};
 ghost use Rattle.cdb_causal.specs.Past.{IsInPast, HasLedTo};
 
 /// Past and consequences are one relation, turned round: an event is in the past of another exactly
 /// where the other is its consequence.
 pub fn past_is_consequences_turned_round<E>()
-    ensures { (depends : E → E → Bool) (history : List E) (i j : ℕ) →
-        IsInPast depends history j i ↔ IsConsequence depends history i j }
+    ensures { OfPositions (λ (depends : E → E → Bool) history i. (j : ℕ) →
+        IsInPast depends history j i ↔ IsConsequence depends history i j) }
 {}
 
 /// Direct causes lead to all of the past: an event is in the past of another exactly where it is a
 /// direct cause of that one or of an event in its past.
 pub fn past_by_direct_causes<E>()
-    ensures { (depends : E → E → Bool) (history : List E) (i j : ℕ) →
+    ensures { OfPositions (λ (depends : E → E → Bool) history i. (j : ℕ) →
         IsInPast depends history j i
-        ↔ ((k : ℕ) × IsDirectCause depends history i k × HasLedTo depends history j k) }
+        ↔ ((k : ℕ) × IsDirectCause depends history i k × HasLedTo depends history j k)) }
 {}

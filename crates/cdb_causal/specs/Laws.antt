@@ -1,0 +1,86 @@
+-- The words of the laws: of which lists they speak, under any dependence of any type of events, and what they say of these.
+use Rattle.std.specs.Prelude.{◌≡◌, ℕ, ◌+◌, Bool, false, List, [], ◌∷◌, ◌++◌, ◌↔◌, length, Option, Some, slice_get, take}
+use Rattle.cdb_causal.specs.Causality.{IsFree, IsDirectCause}
+use Rattle.cdb_causal.specs.DirectDependents.{is_direct, as_number, direct_dependents}
+use Rattle.cdb_causal.specs.Exchange.{IsExchanged, IsEachOnce, HaveSameEvents, KeepsOrder}
+use Rattle.cdb_causal.specs.Reach.{reached}
+use Rattle.cdb_causal.specs.Rollback.{without, position_before, remaining, rolled_back}
+
+-- ---- of what
+
+-- of each position of each list
+abbrev pub OfPositions : {E : Type 0} → ((E → E → Bool) → List E → ℕ → Type 0) → Type 0
+OfPositions {E} Holds = (depends : E → E → Bool) (history : List E) (i : ℕ) → Holds depends history i
+
+-- of each event of each list, with its position
+abbrev pub OfEvents : {E : Type 0} → ((E → E → Bool) → List E → ℕ → E → Type 0) → Type 0
+OfEvents {E} Holds = (depends : E → E → Bool) (history : List E) (i : ℕ) (event : E) → slice_get history i ≡ Some event → Holds depends history i event
+
+-- of each free one
+abbrev pub OfFree : {E : Type 0} → ((E → E → Bool) → List E → ℕ → E → Type 0) → Type 0
+OfFree {E} Holds =
+    (depends : E → E → Bool) (history : List E) (i : ℕ) (event : E) → slice_get history i ≡ Some event → IsFree depends history i → Holds depends history i event
+
+-- of each two lists that are equal up to exchange
+abbrev pub OfExchanged : {E : Type 0} → ((E → E → Bool) → List E → List E → Type 0) → Type 0
+OfExchanged {E} Holds = (depends : E → E → Bool) (events others : List E) → IsExchanged depends events others → Holds depends events others
+
+-- ---- what
+
+-- both lists have the same events, each once, and their dependent pairs stand in the same order
+abbrev pub HaveSameOrder : {E : Type 0} → (E → E → Bool) → List E → List E → Type 0
+HaveSameOrder depends events others = IsEachOnce events × IsEachOnce others × HaveSameEvents events others × KeepsOrder depends events others
+
+-- both reach the same state from each, or neither reaches any
+abbrev pub ReachTheSame : {S E : Type 0} → (S → E → Option S) → List E → List E → Type 0
+ReachTheSame {S} take events others = (state : S) → reached take state events ≡ reached take state others
+
+abbrev pub IsTransitive : {A : Type 0} → (A → A → Type 0) → Type 0
+IsTransitive {A} Holds = (one between other : A) → Holds one between → Holds between other → Holds one other
+
+-- where it holds, it holds the other way round
+abbrev pub IsMutual : {A : Type 0} → (A → A → Type 0) → Type 0
+IsMutual {A} Holds = (one other : A) → Holds one other → Holds other one
+
+-- the event at position i is a direct cause of none
+abbrev pub HasNoEffect : {E : Type 0} → (E → E → Bool) → List E → ℕ → Type 0
+HasNoEffect depends history i = (j : ℕ) → IsDirectCause depends history i j → ⊥
+
+-- without the event at position i the others have the direct causes that they had
+abbrev pub OthersKeepCauses : {E : Type 0} → (E → E → Bool) → List E → ℕ → Type 0
+OthersKeepCauses depends history i =
+    (k l : ℕ) → IsDirectCause depends (without history i) k l ↔ IsDirectCause depends history (position_before i k) (position_before i l)
+
+-- the event at position i is a direct cause of the one that is added at the end
+abbrev pub CausesLast : {E : Type 0} → (E → E → Bool) → List E → ℕ → E → Type 0
+CausesLast depends history i event = IsDirectCause depends (history ++ event ∷ []) i (length history)
+
+-- none of the events depends on the cause
+abbrev pub NoneDepends : {E : Type 0} → (E → E → Bool) → E → List E → Type 0
+NoneDepends {E} depends cause events = (j : ℕ) (event : E) → slice_get events j ≡ Some event → depends cause event ≡ false
+
+-- the event that is added is one direct dependent more of the cause, if it is one
+abbrev pub CountsAdded : {E : Type 0} → (E → E → Bool) → E → List E → E → Type 0
+CountsAdded depends cause events event =
+    direct_dependents depends cause (events ++ event ∷ []) ≡ direct_dependents depends cause events + as_number (is_direct depends cause events event)
+
+-- without the event at position i there is one less, if it was one
+abbrev pub CountsTakenOut : {E : Type 0} → (E → E → Bool) → E → List E → ℕ → E → Type 0
+CountsTakenOut depends cause events i gone =
+    direct_dependents depends cause events ≡ as_number (is_direct depends cause (take i events) gone) + direct_dependents depends cause (without events i)
+
+-- where the event at position i is rolled back alone it is free, and all else remains
+abbrev pub IsFreeIfAlone : {E : Type 0} → (E → E → Bool) → List E → ℕ → Type 0
+IsFreeIfAlone {E} depends history i =
+    (event : E) → rolled_back depends history i ≡ event ∷ []
+    → (slice_get history i ≡ Some event) × IsFree depends history i × (without history i ≡ remaining depends history i)
+
+-- of what is rolled back with it the last is free; without that one the others are rolled back, and the same events remain
+abbrev pub MayGoLastFirst : {E : Type 0} → (E → E → Bool) → List E → ℕ → Type 0
+MayGoLastFirst {E} depends history i =
+    (event last : E) (taken : List E) → rolled_back depends history i ≡ event ∷ (taken ++ last ∷ [])
+    → (j : ℕ)
+    × (slice_get history j ≡ Some last)
+    × IsFree depends history j
+    × (rolled_back depends (without history j) i ≡ event ∷ taken)
+    × (remaining depends (without history j) i ≡ remaining depends history i)
