@@ -13,7 +13,7 @@ ghost use Rattle.cdb_any_run.specs.Any.{run_view, IsTrueToSetup};
 ghost use Rattle.cdb_rules.specs.ByRules.{IsNext, IsInOrder, process_in, alive_in, steps_in, queries_in, place_in, round_in, decision_in, mail_in, register_in, cell_in, writes_in, decisions_in, answer_to_step, answer_to_again, answer_to_loss};
 ghost use Rattle.cdb_rules.specs.EventRefs.{name_of};
 ghost use Rattle.cdb_rules.specs.Refusals.{IsOfRun};
-ghost use Rattle.cdb_rules.specs.Runs.{step_name, loss_name, IsNumberAmong, RollsBackOnto, Tells, undo_answer, rollback_answer, causes_in, with_answer, after_undo, after_rollback, CanUndo, IsJustTaken};
+ghost use Rattle.cdb_rules.specs.Runs.{step_name, loss_name, IsNumberAmong, RollsBackOnto, Tells, undo_answer, rollback_answer, causes_in, with_answer, after_undo, after_rollback, CanUndo, IsJustTaken, IsExactRollback, AreCausesOf};
 ghost use Rattle.cdb_rules.specs.SameState.{ReachSameState};
 
 use cdb_alpha::Alpha;
@@ -204,6 +204,8 @@ impl AnyRun {
             (λ r. Tells vec_items r (rollback_answer (run_view self.old) (step_name p k))) }
         ensures after { OnOk result
             (run_view self.new ≡ after_rollback (run_view self.old) (step_name p k)) }
+        ensures exact { OnOk result
+            (IsExactRollback (run_view self.old) (step_name p k) (run_view self.new)) }
         ensures err { OnErr result (self.new ≡ self.old) }
         ensures memory { OnErr result
             (IsOk (rollback_answer (run_view self.old) (step_name p k))) }
@@ -231,6 +233,8 @@ impl AnyRun {
             (λ r. Tells vec_items r (rollback_answer (run_view self.old) (loss_name s m p))) }
         ensures after { OnOk result
             (run_view self.new ≡ after_rollback (run_view self.old) (loss_name s m p)) }
+        ensures exact { OnOk result
+            (IsExactRollback (run_view self.old) (loss_name s m p) (run_view self.new)) }
         ensures err { OnErr result (self.new ≡ self.old) }
         ensures memory { OnErr result
             (IsOk (rollback_answer (run_view self.old) (loss_name s m p))) }
@@ -254,6 +258,8 @@ impl AnyRun {
         requires { IsTrueToSetup self.old }
         ensures rolled_back { RollsBackOnto (run_view self.old) (run_view self.new) (name_of event)
             taken.old.items taken.new.items result }
+        ensures exact { OnOk result
+            (IsExactRollback (run_view self.old) (name_of event) (run_view self.new)) }
         ensures capacity { vec_capacity taken.old ≤ vec_capacity taken.new }
         ensures err { OnErr result (self.new ≡ self.old) }
         ensures true_to_setup { IsTrueToSetup self.new }
@@ -268,7 +274,8 @@ impl AnyRun {
     /// holds: `NoProcess` or `NoStep`. It takes no memory.
     pub fn causes_of(&self, alloc: Global, event: EventRef) -> Result<SmallVec<StepId, 9>, Refusal>
         requires { IsTrueToSetup self.now }
-        ensures { Tells (λ c. c.items) result (causes_in (run_view self.now) (name_of event)) }
+        ensures answer { Tells (λ c. c.items) result (causes_in (run_view self.now) (name_of event)) }
+        ensures direct { IfOk result (λ c. AreCausesOf (run_view self.now) (name_of event) c.items) }
     {
         match self {
             AnyRun::Leader(run) => run.causes_of(alloc, event),
@@ -279,7 +286,8 @@ impl AnyRun {
     /// The direct causes of the `k`-th step of process `p`, as `causes_of` returns them.
     pub fn causes(&self, alloc: Global, p: u32, k: u32) -> Result<SmallVec<StepId, 9>, Refusal>
         requires { IsTrueToSetup self.now }
-        ensures { Tells (λ c. c.items) result (causes_in (run_view self.now) (step_name p k)) }
+        ensures answer { Tells (λ c. c.items) result (causes_in (run_view self.now) (step_name p k)) }
+        ensures direct { IfOk result (λ c. AreCausesOf (run_view self.now) (step_name p k) c.items) }
     {
         self.causes_of(alloc, EventRef::Step(p, k))
     }
