@@ -27,3 +27,4 @@ pub mod Standing
 pub mod Tables
 pub mod Taken
 pub mod TakenBack
+mod WorkedSteps
