@@ -4,6 +4,7 @@ ghost use Rattle.std.specs.Prelude.{◌≡◌, ◌≤◌, ◌↔◌, [], None, S
 ghost use Rattle.std.specs.Option.{option_copied};
 ghost use Rattle.std.specs.Result.{result_err};
 ghost use Rattle.std.specs.Vec.{vec_items};
+ghost use Rattle.cdb_agreement.specs.Numbering.{AreStepsNumbered, AreSendsNumbered};
 ghost use Rattle.cdb_causal.specs.Dependence.{depends};
 ghost use Rattle.cdb_causal.specs.Exchange.{IsExchanged};
 ghost use Rattle.cdb_message.specs.Mail.{next_pending, payload_of, is_lost};
@@ -302,11 +303,14 @@ impl AnyRun {
         }
     }
 
-    /// The standing events, in the order in which they were taken: each was enabled in its turn.
+    /// The standing events, in the order in which they were taken: each was enabled in its turn. The steps of a
+    /// process are numbered in this order, and so are the messages that it sends.
     pub fn history(&self) -> &History
         requires { IsTrueToSetup self.now }
         ensures events { result.now ≡ (run_view self.now).history }
         ensures valid { IsInOrder rules (run_view self.now) }
+        ensures steps { AreStepsNumbered (run_view self.now).history }
+        ensures sends { AreSendsNumbered (run_view self.now).history }
     {
         match self {
             AnyRun::Leader(run) => run.history(),
