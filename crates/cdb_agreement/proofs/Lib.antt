@@ -1,16 +1,20 @@
-pub mod Agreed
-pub mod AlphaHistories
-pub mod AlphaRuns
-pub mod AlphaStepFacts
-pub mod AlphaSteps
-pub mod Decided
+-- the rules of every run, and the numbers of its steps and sends
 pub mod Firsts
-pub mod KeptHistories
 pub mod Lawful
-pub mod LeaderHistories
+pub mod KeptHistories
+pub mod Numbered
+-- the leader-based algorithm
+pub mod Quorums
 pub mod LeaderLaws
 pub mod LeaderRuns
-pub mod Numbered
-pub mod Quorums
+pub mod LeaderHistories
+-- Alpha
+pub mod AlphaSteps
+pub mod AlphaStepFacts
+pub mod AlphaRuns
+pub mod AlphaHistories
+-- decisions and rounds of both, and worked runs
+pub mod Decided
+pub mod Agreed
 pub mod RoundLaws
 pub mod Worked

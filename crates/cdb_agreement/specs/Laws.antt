@@ -1,5 +1,5 @@
 -- The words of the laws: what they speak of, and what they say of it.
-use Rattle.std.specs.Prelude.{◌≡◌, ℕ, ◌<◌, ◌*◌, true, false, List, reverse, Some, Ok, slice_get}
+use Rattle.std.specs.Prelude.{◌≡◌, ℕ, ◌<◌, ◌*◌, true, false, List, ◌++◌, reverse, Some, Ok, slice_get}
 use Rattle.cdb_base.specs.Event.{event_name}
 use Rattle.cdb_base.specs.declared.event.Event.{Event}
 use Rattle.cdb_base.specs.declared.event.Event.TheVariants.{Step, Lost}
@@ -26,6 +26,10 @@ InValid {L} Holds = (machine : Machine L) (history : List Event) → IsValid mac
 -- the history leads from the start to that state
 abbrev pub Reaches : {L : Type 0} → Machine L → List Event → RunState L → Type 0
 Reaches machine history state = fold machine history ≡ Some state
+
+-- both histories lead to one state
+abbrev pub ReachOneState : {L : Type 0} → Machine L → List Event → List Event → Type 0
+ReachOneState {L} machine history other = (state : RunState L) × Reaches machine history state × Reaches machine other state
 
 -- of each state that a history of the machine reaches
 abbrev pub InReached : {L : Type 0} → Machine L → (RunState L → Type 0) → Type 0
@@ -72,6 +76,10 @@ ForRolledBack Holds =
 -- the event, taken after what is left, leads to the state that the history reaches
 abbrev pub LeadsBack : {L : Type 0} → Machine L → List Event → Event → List Event → Type 0
 LeadsBack machine left event history = after machine (state_of machine left) event ≡ Some (state_of machine history)
+
+-- the events, taken in order after what is left, lead to the state that the history reaches, or neither list of events leads anywhere
+abbrev pub AllLeadBack : {L : Type 0} → Machine L → List Event → List Event → List Event → Type 0
+AllLeadBack machine left events history = fold machine (left ++ events) ≡ fold machine history
 
 -- the event has the name and is free, and all others are left
 abbrev pub IsUndone : List Event → StepId → Event → List Event → Type 0

@@ -1,7 +1,7 @@
 //! What holds of the histories of any machine. Each function does nothing: its contract is the law.
 
 ghost use Rattle.std.specs.Prelude.{◌≡◌, ℕ, ◌≤◌, List, [], ◌∷◌, ◌++◌, length, reverse, Ok, Err};
-ghost use Rattle.cdb_agreement.specs.Laws.{InValid, Reaches, ForFree, ForNamed, ForNew, ForAbsent, ForUndone, ForRolledBack, LeadsBack, IsUndone, IsRolledBackTo, NumbersRise, NamesDiffer, AreNamed, LossesFollowSends, LostStayUnreceived};
+ghost use Rattle.cdb_agreement.specs.Laws.{InValid, Reaches, ForFree, ForNamed, ForNew, ForAbsent, ForUndone, ForRolledBack, LeadsBack, AllLeadBack, ReachOneState, IsUndone, IsRolledBackTo, NumbersRise, NamesDiffer, AreNamed, LossesFollowSends, LostStayUnreceived};
 ghost use Rattle.cdb_agreement.specs.Numbering.{AreStepsNumbered, AreSendsNumbered};
 ghost use Rattle.cdb_base.specs.Event.{event_name};
 ghost use Rattle.cdb_causal.specs.Causality.{IsFree};
@@ -79,8 +79,7 @@ pub fn rollback<L>()
     ensures valid { InValid (λ (machine : Machine L) history. (i : ℕ) →
         IsValid machine (remaining depends history i)) }
     ensures again { (machine : Machine L) (history : List Event) (i : ℕ) →
-        fold machine (remaining depends history i ++ rolled_back depends history i)
-        ≡ fold machine history }
+        AllLeadBack machine (remaining depends history i) (rolled_back depends history i) history }
 {}
 
 /// A rollback takes the event of the name back with its consequences, the last first,
@@ -95,7 +94,7 @@ pub fn answered_rollback<L>()
     ensures exact { ForRolledBack IsRolledBackTo }
     ensures back { (machine : Machine L) → ForRolledBack (λ history name taken left.
         IsValid machine history →
-        IsValid machine left × (fold machine (left ++ reverse taken) ≡ fold machine history)) }
+        IsValid machine left × AllLeadBack machine left (reverse taken) history) }
 {}
 
 /// An event that was just taken is free, and the history without it is the one before it: where its
@@ -144,11 +143,9 @@ pub fn losses<L>()
 {}
 
 /// Histories that reach the same state are equal up to exchange.
-#[tactic(auto, using(cdb_rules::proofs::SameState::same_state_exchanged))]
 pub fn same_state_exchanged<L>()
-    ensures { (machine : Machine L) (history other : List Event) (state : RunState L) →
-        Reaches machine history state → Reaches machine other state →
-        IsExchanged depends history other }
+    ensures { (machine : Machine L) (history other : List Event) →
+        ReachOneState machine history other → IsExchanged depends history other }
 {}
 
 /// The own events of a process, in the state that a history reaches, are its steps as the history

@@ -1,10 +1,11 @@
 -- The words of the laws: of which lists they speak, under any dependence of any type of events, and what they say of these.
-use Rattle.std.specs.Prelude.{◌≡◌, ℕ, ◌+◌, Bool, false, List, [], ◌∷◌, ◌++◌, ◌↔◌, length, Option, Some, slice_get, take}
+use Rattle.std.specs.Prelude.{◌≡◌, ℕ, suc, ◌+◌, Bool, true, false, List, [], ◌∷◌, ◌++◌, ◌↔◌, length, Option, Some, slice_get, take, drop}
 use Rattle.cdb_causal.specs.Causality.{IsFree, IsDirectCause}
 use Rattle.cdb_causal.specs.DirectDependents.{is_direct, as_number, direct_dependents}
 use Rattle.cdb_causal.specs.Exchange.{IsExchanged, IsEachOnce, HaveSameEvents, KeepsOrder}
+use Rattle.cdb_causal.specs.Past.{HasLedTo}
 use Rattle.cdb_causal.specs.Reach.{reached}
-use Rattle.cdb_causal.specs.Rollback.{without, position_before, remaining, rolled_back}
+use Rattle.cdb_causal.specs.Rollback.{IsParted, IsRolledBack, without, position_before, remaining, rolled_back}
 
 -- ---- of what
 
@@ -42,6 +43,10 @@ IsTransitive {A} Holds = (one between other : A) → Holds one between → Holds
 abbrev pub IsMutual : {A : Type 0} → (A → A → Type 0) → Type 0
 IsMutual {A} Holds = (one other : A) → Holds one other → Holds other one
 
+-- taken are the event at position i and exactly its consequences, left is all else, each in order
+abbrev pub IsRollback : {E : Type 0} → (E → E → Bool) → List E → ℕ → List E → List E → Type 0
+IsRollback depends history i left taken = IsParted (IsRolledBack depends history i) 0 history left taken
+
 -- the event at position i is a direct cause of none
 abbrev pub HasNoEffect : {E : Type 0} → (E → E → Bool) → List E → ℕ → Type 0
 HasNoEffect depends history i = (j : ℕ) → IsDirectCause depends history i j → ⊥
@@ -54,6 +59,14 @@ OthersKeepCauses depends history i =
 -- the event at position i is a direct cause of the one that is added at the end
 abbrev pub CausesLast : {E : Type 0} → (E → E → Bool) → List E → ℕ → E → Type 0
 CausesLast depends history i event = IsDirectCause depends (history ++ event ∷ []) i (length history)
+
+-- the event depends on the cause at position i, and on nothing behind it that depends on the cause
+abbrev pub IsDirectBehind : {E : Type 0} → (E → E → Bool) → List E → ℕ → E → E → Type 0
+IsDirectBehind depends history i cause event = is_direct depends cause (drop (suc i) history) event ≡ true
+
+-- position i is a direct cause of one that has led to position j
+abbrev pub LeadsThrough : {E : Type 0} → (E → E → Bool) → List E → ℕ → ℕ → Type 0
+LeadsThrough depends history i j = (k : ℕ) × IsDirectCause depends history i k × HasLedTo depends history j k
 
 -- none of the events depends on the cause
 abbrev pub NoneDepends : {E : Type 0} → (E → E → Bool) → E → List E → Type 0

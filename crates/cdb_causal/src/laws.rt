@@ -1,14 +1,14 @@
 //! What holds of lists of events under any dependence, over any type of events. Each function does
 //! nothing: its contract is the law.
 
-ghost use Rattle.std.specs.Prelude.{◌≡◌, suc, Bool, true, List, [], ◌∷◌, ◌++◌, ◌↔◌, Option, drop};
+ghost use Rattle.std.specs.Prelude.{◌≡◌, Bool, List, [], ◌∷◌, ◌++◌, ◌↔◌, Option};
 ghost use Rattle.cdb_causal.specs.Causality.{IsFree, IsConsequence};
 ghost use Rattle.cdb_causal.specs.Dependence.{depends as depends_of};
-ghost use Rattle.cdb_causal.specs.DirectDependents.{is_direct, direct_dependents};
+ghost use Rattle.cdb_causal.specs.DirectDependents.{direct_dependents};
 ghost use Rattle.cdb_causal.specs.Exchange.{IsExchanged, IsEachOnce, HaveSameEvents, KeepsOrder};
-ghost use Rattle.cdb_causal.specs.Laws.{OfPositions, OfEvents, OfFree, OfExchanged, HaveSameOrder, ReachTheSame, IsTransitive, IsMutual, HasNoEffect, OthersKeepCauses, CausesLast, NoneDepends, CountsAdded, CountsTakenOut, IsFreeIfAlone, MayGoLastFirst};
+ghost use Rattle.cdb_causal.specs.Laws.{OfPositions, OfEvents, OfFree, OfExchanged, HaveSameOrder, ReachTheSame, IsTransitive, IsMutual, IsRollback, IsDirectBehind, HasNoEffect, OthersKeepCauses, CausesLast, NoneDepends, CountsAdded, CountsTakenOut, IsFreeIfAlone, MayGoLastFirst};
 ghost use Rattle.cdb_causal.specs.Reach.{IsCommuting, IsSymmetric};
-ghost use Rattle.cdb_causal.specs.Rollback.{IsParted, IsRolledBack, without, remaining, rolled_back, consequences};
+ghost use Rattle.cdb_causal.specs.Rollback.{IsParted, without, remaining, rolled_back, consequences};
 
 /// Dependence is symmetric: the order of the two events does not matter.
 #[tactic(auto, using(crate::proofs::Symmetry::symmetric))]
@@ -38,7 +38,7 @@ pub fn rolled_back_exactly<E>()
     ensures first { OfEvents (λ (depends : E → E → Bool) history i event.
         rolled_back depends history i ≡ event ∷ consequences depends history i) }
     ensures parted { OfPositions (λ (depends : E → E → Bool) history i.
-        IsParted (IsRolledBack depends history i) 0 history (remaining depends history i)
+        IsRollback depends history i (remaining depends history i)
         (rolled_back depends history i)) }
 {}
 
@@ -101,8 +101,7 @@ pub fn direct_causes_stay<E>()
 /// the list of what stands between.
 pub fn direct_by_list<E>()
     ensures { OfEvents (λ (depends : E → E → Bool) history i cause. (event : E) →
-        CausesLast depends history i event
-        ↔ (is_direct depends cause (drop (suc i) history) event ≡ true)) }
+        CausesLast depends history i event ↔ IsDirectBehind depends history i cause event) }
 {}
 
 /// An event that is added is one direct dependent more of each of its direct causes, and a free

@@ -1,9 +1,9 @@
 //! What holds of the past of an event. Each function does nothing: its contract is the law.
 
 ghost use Rattle.std.specs.Prelude.{ℕ, Bool, ◌↔◌};
-ghost use Rattle.cdb_causal.specs.Causality.{IsConsequence, IsDirectCause};
-ghost use Rattle.cdb_causal.specs.Laws.{OfPositions};
-ghost use Rattle.cdb_causal.specs.Past.{IsInPast, HasLedTo};
+ghost use Rattle.cdb_causal.specs.Causality.{IsConsequence};
+ghost use Rattle.cdb_causal.specs.Laws.{OfPositions, LeadsThrough};
+ghost use Rattle.cdb_causal.specs.Past.{IsInPast};
 
 /// Past and consequences are one relation, turned round: an event is in the past of another exactly
 /// where the other is its consequence.
@@ -16,6 +16,5 @@ pub fn past_is_consequences_turned_round<E>()
 /// direct cause of that one or of an event in its past.
 pub fn past_by_direct_causes<E>()
     ensures { OfPositions (λ (depends : E → E → Bool) history i. (j : ℕ) →
-        IsInPast depends history j i
-        ↔ ((k : ℕ) × IsDirectCause depends history i k × HasLedTo depends history j k)) }
+        IsInPast depends history j i ↔ LeadsThrough depends history i j) }
 {}

@@ -1,30 +1,35 @@
-pub mod Again
-pub mod Alls
-pub mod Answered
-pub mod Answering
-pub mod Bounds
-pub mod Commutes
-pub mod Enabled
-pub mod Finding
-pub mod FirstStates
-pub mod FoldKeeps
-pub mod Granted
-pub mod Histories
-pub mod Kept
-pub mod Limits
-pub mod ListMembers
-pub mod Mails
-pub mod Members
-pub mod Naming
-pub mod Numbers
-pub mod OwnOfState
+-- lists, and what stands at their positions
 pub mod Positions
-pub mod Planned
-pub mod Removed
-pub mod SameState
+pub mod Alls
+pub mod ListMembers
+-- a step: by its stages, by the two tables of its kind, and what it keeps and changes
 pub mod Stages
-pub mod Standing
+pub mod Mails
 pub mod Tables
 pub mod Taken
+pub mod Kept
+pub mod Commutes
+pub mod Numbers
+pub mod WorkedSteps
+-- what is refused, and what is enabled
+pub mod Granted
+pub mod Enabled
+pub mod Planned
+pub mod Again
+-- valid histories: their states, the order of their events, numbers and names
+pub mod FirstStates
+pub mod FoldKeeps
+pub mod Histories
+pub mod Members
+pub mod OwnOfState
+pub mod SameState
+pub mod Naming
+pub mod Bounds
+pub mod Limits
+-- an event is found, undone and rolled back
+pub mod Finding
+pub mod Answering
+pub mod Answered
+pub mod Standing
+pub mod Removed
 pub mod TakenBack
-mod WorkedSteps

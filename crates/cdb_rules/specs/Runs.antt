@@ -11,8 +11,9 @@ use Rattle.cdb_base.specs.declared.register.Cell.{Cell}
 use Rattle.cdb_base.specs.declared.register.Reg.{Reg}
 use Rattle.cdb_causal.specs.Dependence.{depends}
 use Rattle.cdb_causal.specs.DirectCauses.{AreDirectCauses}
+use Rattle.cdb_causal.specs.Laws.{IsRollback}
 use Rattle.cdb_causal.specs.Names.{IsNamedAt}
-use Rattle.cdb_causal.specs.Rollback.{IsParted, IsRolledBack, rolled_back, remaining}
+use Rattle.cdb_causal.specs.Rollback.{rolled_back, remaining}
 use Rattle.cdb_message.specs.Mail.{MailState, message_name, copy_name}
 use Rattle.cdb_process.specs.Table.{Table}
 use Rattle.cdb_register.specs.Registers.{RegisterStates, register_of}
@@ -186,7 +187,7 @@ IsPositionFound run name answer =
 abbrev pub IsExactRollback : RunView → StepId → RunView → Type 0
 IsExactRollback run name left =
     IfOk (rollback_answer run name)
-    (λ removed. (i : ℕ) × IsNamedAt run.history i name × IsParted (IsRolledBack depends run.history i) 0 run.history left.history (reverse removed))
+    (λ removed. (i : ℕ) × IsNamedAt run.history i name × IsRollback depends run.history i left.history (reverse removed))
 
 -- what it takes back, the last first; nothing where it is refused
 abbrev pub removed_by_rollback : RunView → StepId → List Event

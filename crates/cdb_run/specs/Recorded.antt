@@ -1,9 +1,14 @@
 -- Steps that are taken with a record from which they can be taken back.
-use Rattle.std.specs.Prelude.{◌≡◌, Option, Some, None}
+use Rattle.std.specs.Prelude.{◌≡◌, ℕ, List, Option, Some, None, slice_get}
 use Rattle.cdb_base.specs.Positions.{nth}
 use Rattle.cdb_base.specs.declared.event.Event.{Event}
 use Rattle.cdb_base.specs.declared.event.Event.TheVariants.{Step, Lost}
 use Rattle.cdb_base.specs.declared.register.Cell.{Cell}
+use Rattle.cdb_causal.specs.Causality.{IsFree}
+use Rattle.cdb_causal.specs.Dependence.{depends}
+use Rattle.cdb_causal.specs.Paths.{IsPath}
+use Rattle.cdb_causal.specs.Rollback.{without}
+use Rattle.cdb_record.specs.Entries.{events_of}
 use Rattle.cdb_record.specs.declared.entry.Entry.{Entry}
 use Rattle.cdb_run.specs.Back.{put_back, overwritten_cell}
 use Rattle.cdb_rules.specs.State.{Machine, ProcessState, RunState}
@@ -24,3 +29,18 @@ pub record IsRecorded {L B : Type 0} (machine : Machine L) (before : L → B →
   pub leads : after machine state entry.event ≡ Some to
   pub back : LeadsBack before state entry.event entry.back to
   pub cell : entry.overwritten ≡ overwritten_by state entry.event
+
+-- of each list of entries that lead, one after another, from the one state to the other
+abbrev pub OfRecorded : {L B : Type 0} → (Machine L → (L → B → L) → RunState L → List (Entry B) → RunState L → Type 0) → Type 0
+OfRecorded {L} {B} Holds =
+    (machine : Machine L) (before : L → B → L) (from to : RunState L) (entries : List (Entry B)) → IsPath (IsRecorded machine before) from entries to
+    → Holds machine before from entries to
+
+-- the entry is at position i, and its event is free
+abbrev pub IsFreeEntry : {B : Type 0} → List (Entry B) → ℕ → Entry B → Type 0
+IsFreeEntry entries i entry = (slice_get entries i ≡ Some entry) × IsFree depends (events_of entries) i
+
+-- the others lead to a state from which that entry leads on
+abbrev pub MayComeLast : {L B : Type 0} → Machine L → (L → B → L) → RunState L → List (Entry B) → ℕ → Entry B → RunState L → Type 0
+MayComeLast {L} machine before from entries i entry to =
+    (last : RunState L) × IsPath (IsRecorded machine before) from (without entries i) last × IsRecorded machine before last entry to
