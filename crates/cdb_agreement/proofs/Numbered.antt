@@ -1,5 +1,5 @@
 -- In a valid history the steps of a process, and its sends, are numbered in order.
-use Rattle.std.proofs.Common.{◌≡◌, ℕ, zero, suc, ◌+◌, Bool, true, false, ◌==◌, ◌&&◌, ◌↔◌, List, [], ◌∷◌, ◌++◌, length, Option, Some, None, is_some, option_map, option_to_list, unwrap_or, cond, filter, slice_get, refl, sym, ap, ap₂, ◌∙◌, subst, true≢false, arith}
+use Rattle.std.proofs.Common.{◌≡◌, ℕ, zero, suc, ◌+◌, Bool, true, false, ◌==◌, List, [], ◌∷◌, ◌++◌, length, Option, Some, None, is_some, option_map, option_to_list, unwrap_or, cond, filter, slice_get, refl, sym, ap, ap₂, ◌∙◌, subst, true≢false, arith}
 use Rattle.std.proofs.lemmas.List.{length_push}
 use Rattle.std.proofs.lemmas.Bool.Decides.{nat_tests}
 use Rattle.std.proofs.lemmas.Option.{none-some, same_Some}
@@ -13,8 +13,6 @@ use Rattle.cdb_base.specs.declared.event.Kind.TheVariants.{Send}
 use Rattle.cdb_base.specs.declared.name.StepId.{StepId}
 use Rattle.cdb_base.specs.declared.name.StepId.TheVariants as named
 use Rattle.cdb_causal.specs.Exchange.{IsIn, here, there}
-use Rattle.cdb_message.specs.Mail.{sent_by}
-use Rattle.cdb_rules.specs.Mail.{mail_of}
 use Rattle.cdb_rules.specs.Runs.{step_name}
 use Rattle.cdb_rules.specs.State.{Machine, ProcessState, RunState, start}
 use Rattle.cdb_rules.specs.Step.{after, fold, IsValid, wished_payload}
@@ -22,7 +20,6 @@ use Rattle.cdb_rules.proofs.Commutes.{lost_from}
 use Rattle.cdb_rules.proofs.Kept.{nat_eq-ne, nat_eq-is, left, at_left, process_kept, other_sent_kept}
 use Rattle.cdb_rules.proofs.Mails.{sent_is}
 use Rattle.cdb_rules.proofs.Members.{Reaches, first_step, nth-fresh}
-use Rattle.cdb_rules.proofs.Naming.{in_cases}
 use Rattle.cdb_rules.proofs.Numbers.{of_process, steps_of, sends_of, number_is, number_after, send_number}
 use Rattle.cdb_rules.proofs.Positions.{nth-map}
 use Rattle.cdb_rules.proofs.Stages.{sent_after}

@@ -2,7 +2,7 @@ use Rattle.std.proofs.Common.{reverse, refl, sym, ap, ◌∙◌, subst}
 use Rattle.cdb_rules.specs.EventRefs.{name_of}
 use Rattle.cdb_rules.specs.Machines.{machine_of}
 use Rattle.cdb_rules.specs.RunView.{RunView}
-use Rattle.cdb_rules.specs.Runs.{with_history, with_left, rollback_in, after_rollback, removed_by_rollback, IsExactRollback, AllLeadTo}
+use Rattle.cdb_rules.specs.Runs.{with_history, removed_by_rollback, IsExactRollback, AllLeadTo}
 use Rattle.cdb_rules.proofs.FirstStates.{length-first_states}
 use Rattle.cdb_rules.proofs.TakenBack.{exact_rollback, rollback_leads_back}
 use Rattle.cdb_setup.specs.Parts.{AreInRange}
