@@ -1,5 +1,5 @@
 -- What each command does, and its reply.
-use Rattle.std.specs.Prelude.{ℕ, ◌+◌, nat_le, nat_eq, Bool, true, false, not, List, [], ◌∷◌, ◌++◌, length, Option, Some, None, Result, Ok, Err, is_some}
+use Rattle.std.specs.Prelude.{◌≡◌, ℕ, ◌+◌, nat_le, nat_eq, Bool, true, false, not, List, [], ◌∷◌, ◌++◌, length, Option, Some, None, Result, Ok, Err, is_some}
 use Rattle.std.specs.Map.{lookup, remove_entry}
 use Rattle.std.specs.Option.{option_or}
 use Rattle.cdb_base.specs.Positions.{without_last}
@@ -14,7 +14,7 @@ use Rattle.cdb_control.specs.Answer as reply
 use Rattle.cdb_control.specs.Auto.{choice}
 use Rattle.cdb_rules.specs.EventRefs.{name_of}
 use Rattle.cdb_control.specs.State.{State, redo_of, with_redo, last_of}
-use Rattle.cdb_control.specs.Stops.{Stops, first_fired, names_none_of}
+use Rattle.cdb_control.specs.Stops.{Stops, first_fired, names_none_of, IsLeastFired}
 use Rattle.cdb_rules.specs.Views.{seen_as, round_of, decision_of, cells_of, all_open_copies}
 use Rattle.cdb_control.specs.declared.command.Command.{Command}
 use Rattle.cdb_control.specs.declared.command.Command.TheVariants.{Step, Auto, Lose, Undo, UndoLost, Redo, Forget, Rollback, RollbackLost, Why, WhyLost, Break, Unbreak, Resume, Show, Decisions}
@@ -136,6 +136,18 @@ shown rules t (view.Proc p) = found (rules.process t.history p) NoProcess t (λ 
 shown rules t view.Regs = replied t (reply.Regs (cells_of (rules.registers t.history)))
 shown rules t view.Mail = replied t (reply.Mail (all_open_copies (rules.mail t.history)))
 shown rules t view.History = replied t (reply.History t.history)
+
+-- ---- the pause that a step sets
+
+-- none where one stands, and else by the least breakpoint that the step fires
+abbrev pub IsPauseSet : Option ℕ → Taken → Stops → Option ℕ → Type 0
+IsPauseSet (Some standing) taken stops paused = paused ≡ None
+IsPauseSet None taken stops paused = IsLeastFired taken stops paused
+
+-- the reply to a step of a process tells it
+abbrev pub TellsPause : Rules → State → ℕ → Answer → Type 0
+TellsPause rules t p (reply.Stepped e decides paused) = IsPauseSet t.pause (taken_by rules t.history p e) t.stops paused
+TellsPause rules t p other = Unit {0}
 
 -- ---- the table of the commands
 
