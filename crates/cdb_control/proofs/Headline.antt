@@ -11,6 +11,7 @@ use Rattle.cdb_base.specs.declared.name.StepId.{StepId}
 use Rattle.cdb_base.specs.declared.name.StepId.TheVariants as id
 use Rattle.cdb_base.specs.declared.refusal.Refusal.{Refusal}
 use Rattle.cdb_base.specs.declared.refusal.Refusal.TheVariants.{NoProcess, NothingToRedo, NoBreak, BreakLimit, NeededBy}
+use Rattle.cdb_base.specs.declared.limits.TheConstants.{MAX_BREAKPOINTS}
 use Rattle.cdb_causal.specs.Causality.{IsFree}
 use Rattle.cdb_causal.specs.Dependence.{depends}
 use Rattle.cdb_causal.specs.Exchange.{IsExchanged}
@@ -160,7 +161,7 @@ module _ (rules : Rules) (SameState : List Event → List Event → Type 0) (t :
   obeyed-keeps seat (WhyLost s m p) = why-keeps (name_of (named.Lost s m p))
   obeyed-keeps seat (Break stop) =
       unless-keeps (names_none_of t.setup.processes stop) NoProcess _
-      (unless-keeps (nat_le 99 (length t.stops)) BreakLimit _ (quiet _ refl refl (λ event tells. tells)))
+      (unless-keeps (nat_le MAX_BREAKPOINTS (length t.stops)) BreakLimit _ (quiet _ refl refl (λ event tells. tells)))
   obeyed-keeps seat (Unbreak number) =
       unless-keeps (not (is_some (lookup (nat_eq number) t.stops))) NoBreak _ (quiet _ refl refl (λ event tells. tells))
   obeyed-keeps seat Resume = quiet _ refl refl (λ event tells. tells)

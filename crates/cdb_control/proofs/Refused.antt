@@ -7,6 +7,7 @@ use Rattle.cdb_base.specs.declared.name.StepId.{StepId}
 use Rattle.cdb_base.specs.declared.refusal.Refusal.{Refusal}
 use Rattle.cdb_base.specs.declared.refusal.Refusal.TheVariants.{NoProcess, NothingToRedo, NoBreak, BreakLimit}
 use Rattle.cdb_base.specs.declared.act.Act.{Act}
+use Rattle.cdb_base.specs.declared.limits.TheConstants.{MAX_BREAKPOINTS}
 use Rattle.cdb_control.specs.declared.command.Command.{Command}
 use Rattle.cdb_control.specs.declared.command.Command.TheVariants.{Step, Auto, Lose, Undo, UndoLost, Redo, Forget, Rollback, RollbackLost, Why, WhyLost, Break, Unbreak, Resume, Show, Decisions}
 use Rattle.cdb_control.specs.declared.command.View.{View}
@@ -106,7 +107,7 @@ leaves rules t seat (Why p k) = why-leaves t seat (name_of (named.Step p k))
 leaves rules t seat (WhyLost s m p) = why-leaves t seat (name_of (named.Lost s m p))
 leaves rules t seat (Break stop) =
     unless-leaves (names_none_of t.setup.processes stop) NoProcess t seat _
-    (unless-leaves (nat_le 99 (length t.stops)) BreakLimit t seat _
+    (unless-leaves (nat_le MAX_BREAKPOINTS (length t.stops)) BreakLimit t seat _
     (record {
       refused = λ r h. absurd (cc);
       lists = λ other low from apart. refl;

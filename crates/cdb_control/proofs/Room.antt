@@ -8,6 +8,7 @@ use Rattle.cdb_base.specs.declared.event.Event.{Event}
 use Rattle.cdb_base.specs.declared.name.StepId.{StepId}
 use Rattle.cdb_base.specs.declared.refusal.Refusal.{Refusal}
 use Rattle.cdb_base.specs.declared.refusal.Refusal.TheVariants.{NoProcess, NothingToRedo, NoBreak, BreakLimit}
+use Rattle.cdb_base.specs.declared.limits.TheConstants.{MAX_BREAKPOINTS}
 use Rattle.cdb_control.specs.Answer.{Answer}
 use Rattle.cdb_control.specs.Answer as reply
 use Rattle.cdb_control.specs.Auto.{choice}
@@ -193,7 +194,7 @@ module _ (rules : Rules) (t : State) (seat : ℕ) (low : seat - 1 < length t.red
   spends (WhyLost s m p) = why-spends (name_of (named.Lost s m p))
   spends (Break stop) =
       unless-kept seat (names_none_of t.setup.processes stop) NoProcess t _
-      (unless-kept seat (nat_le 99 (length t.stops)) BreakLimit t _ (kept seat t _ refl (omega arith)))
+      (unless-kept seat (nat_le MAX_BREAKPOINTS (length t.stops)) BreakLimit t _ (kept seat t _ refl (omega arith)))
   spends (Unbreak number) = unless-kept seat (not (is_some (lookup (nat_eq number) t.stops))) NoBreak t _ (kept seat t _ refl (omega arith))
   spends Resume = kept seat t _ refl (omega arith)
   spends (Show v) = shown-spends v

@@ -10,6 +10,7 @@ use Rattle.cdb_base.specs.declared.event.Event.{Event}
 use Rattle.cdb_base.specs.declared.name.StepId.{StepId}
 use Rattle.cdb_base.specs.declared.refusal.Refusal.{Refusal}
 use Rattle.cdb_base.specs.declared.refusal.Refusal.TheVariants.{NoProcess, NothingToRedo, NoBreak, BreakLimit}
+use Rattle.cdb_base.specs.declared.limits.TheConstants.{MAX_BREAKPOINTS}
 use Rattle.cdb_control.specs.Auto.{choice}
 use Rattle.cdb_control.specs.Commands.{Outcome, unless, granted, found, unpaused, stepped, step, lost, taken_back, undo, rollback, why, redone, shown, outcome, obey}
 use Rattle.cdb_rules.specs.EventRefs.{name_of}
@@ -171,7 +172,7 @@ obey-adds rules t lawful seat (Why p k) from_one to_last = why-adds t (name_of (
 obey-adds rules t lawful seat (WhyLost s m p) from_one to_last = why-adds t (name_of (named.Lost s m p))
 obey-adds rules t lawful seat (Break stop) from_one to_last =
     unless-adds (names_none_of t.setup.processes stop) NoProcess t _
-    (unless-adds (nat_le 99 (length t.stops)) BreakLimit t _ (stops_only t _ refl refl refl (omega arith)))
+    (unless-adds (nat_le MAX_BREAKPOINTS (length t.stops)) BreakLimit t _ (stops_only t _ refl refl refl (omega arith)))
 obey-adds rules t lawful seat (Unbreak number) from_one to_last =
     unless-adds (not (is_some (lookup (nat_eq number) t.stops))) NoBreak t _ (stops_only t _ refl refl refl (omega arith))
 obey-adds rules t lawful seat Resume from_one to_last = stops_only t _ refl refl refl (omega arith)

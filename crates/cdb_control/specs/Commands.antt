@@ -6,6 +6,7 @@ use Rattle.cdb_base.specs.Positions.{without_last}
 use Rattle.cdb_base.specs.declared.act.Act.{Act}
 use Rattle.cdb_base.specs.declared.event.Event.{Event}
 use Rattle.cdb_base.specs.declared.event.Event.TheVariants as event
+use Rattle.cdb_base.specs.declared.limits.TheConstants.{MAX_BREAKPOINTS}
 use Rattle.cdb_base.specs.declared.name.StepId.{StepId}
 use Rattle.cdb_base.specs.declared.refusal.Refusal.{Refusal}
 use Rattle.cdb_base.specs.declared.refusal.Refusal.TheVariants.{NoProcess, Paused, NothingToRedo, NoBreak, BreakLimit}
@@ -164,7 +165,7 @@ outcome rules t seat (RollbackLost s m p) = rollback t seat (name_of (named.Lost
 outcome rules t seat (Why p k) = why t (name_of (named.Step p k))
 outcome rules t seat (WhyLost s m p) = why t (name_of (named.Lost s m p))
 outcome rules t seat (Break stop) =
-    unless (names_none_of t.setup.processes stop) NoProcess t (unless (nat_le 99 (length t.stops)) BreakLimit t (break_set t stop))
+    unless (names_none_of t.setup.processes stop) NoProcess t (unless (nat_le MAX_BREAKPOINTS (length t.stops)) BreakLimit t (break_set t stop))
 outcome rules t seat (Unbreak number) = unless (not (is_some (lookup (nat_eq number) t.stops))) NoBreak t (break_gone t number)
 outcome rules t seat Resume = record { reply = reply.Resumed; after = record t { pause = None } }
 outcome rules t seat (Show v) = shown rules t v

@@ -2,7 +2,7 @@
 -- is the journal's replay.
 use Rattle.std.specs.Prelude.{◌≡◌, ℕ, ◌+◌, ◌≤◌, ◌==◌, List, [], ◌∷◌, ◌++◌, length, replicate, fold, if◌then◌else◌}
 use Rattle.std.specs.List.{AllByRecursion}
-use Rattle.cdb_base.specs.declared.limits.TheConstants.{MAX_ENTRIES}
+use Rattle.cdb_base.specs.declared.limits.TheConstants.{MAX_ENTRIES, MAX_SEATS}
 use Rattle.cdb_control.specs.declared.command.Command.{Command}
 use Rattle.cdb_control.specs.declared.control.Entry.{Entry}
 use Rattle.cdb_setup.specs.Parts.{Parts, AreInRange}
@@ -73,7 +73,7 @@ AreOfSeats seats journal = AllByRecursion (λ e. (1 ≤ e.seat) × (e.seat ≤ s
 pub record IsReplayed (rules : Rules) (setup : Parts) (seats : ℕ) (journal : List Entry) (state : State) : Type 0 where
   pub replayed : replay rules setup seats journal ≡ state
   pub some_seat : 1 ≤ seats
-  pub few_seats : seats ≤ 64
+  pub few_seats : seats ≤ MAX_SEATS
   pub of_seats : AreOfSeats seats journal
   pub few_entries : length journal ≤ MAX_ENTRIES
   pub lists : length state.redo ≡ seats

@@ -103,7 +103,7 @@ impl<R: Runs> Control<R> {
     /// fault the setup is given up.
     pub fn open(alloc: Global, setup: Setup, seats: u8) -> Result<Self, OpenFault>
         ensures opened { IfOk result (λ c. c ≡ opened setup seats) }
-        ensures seats { (result ≡ Err OpenFault.Seats) ↔ ((seats ≡ 0) ⊎ (64 < seats)) }
+        ensures seats { (result ≡ Err OpenFault.Seats) ↔ ((seats ≡ 0) ⊎ (MAX_SEATS < seats)) }
         ensures headline { IfOk result
             (λ c. Headline R.rules R.same_state c.setup c.seats c.journal) }
     {
@@ -167,7 +167,7 @@ impl<R: Runs> Control<R> {
     pub fn reserve(&mut self, _alloc: Global, seat: u8, count: u32) -> Result<(), NoMemory>
         requires from_one { 1 ≤ seat }
         requires to_last { seat ≤ self.old.seats }
-        requires few { count ≤ 999999 }
+        requires few { count ≤ MAX_ENTRIES }
         ensures ok { OnOk result
             (self.new ≡ record self.old { rooms = raised self.old.rooms seat count }) }
         ensures err { OnErr result (self.new ≡ self.old) }
@@ -215,7 +215,7 @@ impl<R: Runs> Control<R> {
 
     /// How many seats there are, from 1 to 64.
     pub fn seats(&self) -> u8
-        ensures { (result ≡ self.now.seats) × (1 ≤ result) × (result ≤ 64) }
+        ensures { (result ≡ self.now.seats) × (1 ≤ result) × (result ≤ MAX_SEATS) }
     {
         self.seats
     }

@@ -1,6 +1,7 @@
 //! The control state: a run, the breakpoints, the pause and the redo lists.
 ghost use Rattle.std.specs.Prelude.{◌≡◌, ℕ, ◌+◌, ◌-◌, ◌<◌, ◌≤◌, [], true, false, IfOk, OnOk, OnErr, IsOk, replicate, length, map, slice_index_or};
 ghost use Rattle.std.specs.Option.{option_or};
+ghost use Rattle.cdb_base.specs.declared.limits.TheConstants.{MAX_ENTRIES};
 ghost use Rattle.cdb_control.specs.Answer.{is_refused};
 ghost use Rattle.cdb_control.specs.Done.{came_out, Does, IsTaken, NoneShrinks};
 ghost use Rattle.cdb_control.specs.Auto.{choice};
@@ -115,7 +116,7 @@ impl<R: Runs> ControlState<R> {
     /// Sets a breakpoint.
     #[tactic(auto, unfolding(crate::specs::Commands::outcome))]
     pub fn set_break(&mut self, stop: Stop) -> Result<Reply, NoMemory>
-        requires { self.old.state.next ≤ 999999 }
+        requires { self.old.state.next ≤ MAX_ENTRIES }
         ensures ok { IfOk result
             (λ r. (seat : ℕ) →
             Does R.rules self.old.state seat (Command.Break stop) r self.new.state) }
@@ -139,7 +140,7 @@ impl<R: Runs> ControlState<R> {
     pub fn forget(&mut self, seat: u8) -> Reply
         requires from_one { 1 ≤ seat }
         requires to_last { seat ≤ length self.old.state.redo }
-        requires few { held self.old.state ≤ 999999 }
+        requires few { held self.old.state ≤ MAX_ENTRIES }
         ensures table { Does R.rules self.old.state seat Command.Forget result self.new.state }
         ensures capacities { NoneShrinks self.old.capacities self.new.capacities }
     {
@@ -188,7 +189,7 @@ impl<R: Runs> ControlState<R> {
     pub fn rollback(&mut self, alloc: Global, seat: u8, name: EventRef) -> Result<Reply, NoMemory>
         requires from_one { 1 ≤ seat }
         requires to_last { seat ≤ length self.old.state.redo }
-        requires few { held self.old.state ≤ 999999 }
+        requires few { held self.old.state ≤ MAX_ENTRIES }
         ensures ok { IfOk result
             (λ r. came_out r self.new.state ≡ rollback self.old.state seat (name_of name)) }
         ensures err { OnErr result (self.new.state ≡ self.old.state) }
@@ -444,8 +445,8 @@ impl<R: Runs> ControlState<R> {
     pub fn perform(&mut self, alloc: Global, seat: u8, command: Command) -> Result<Reply, NoMemory>
         requires from_one { 1 ≤ seat }
         requires to_last { seat ≤ length self.old.state.redo }
-        requires few { held self.old.state ≤ 999999 }
-        requires numbers { self.old.state.next ≤ 999999 }
+        requires few { held self.old.state ≤ MAX_ENTRIES }
+        requires numbers { self.old.state.next ≤ MAX_ENTRIES }
         requires of_run { AreOfRun self.old.state }
         requires in_range { AreInRange self.old.state.setup }
         ensures ok { IfOk result

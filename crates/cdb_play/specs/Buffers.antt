@@ -2,11 +2,12 @@
 use Rattle.std.specs.Prelude.{◌≡◌, ℕ, ◌*◌, List, ◌++◌, length, Option, Result, Ok, Err}
 use Rattle.cdb_play.specs.Streams.{Takes, Fails}
 use Rattle.cdb_play.specs.declared.buffer.OutputFault.{OutputFault}
+use Rattle.cdb_play.specs.declared.buffer.TheConstants.{PIECE}
 use Rattle.cdb_play.specs.declared.buffer.OutputFault.TheVariants.{Write, NoMemory}
 
 -- how many bytes a buffer hands on at a time
 abbrev pub piece : ℕ
-piece = 65536
+piece = PIECE
 
 -- a number of bytes that is a number of whole pieces
 abbrev pub AreWholePieces : List ℕ → Type 0

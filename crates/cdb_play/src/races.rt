@@ -1,6 +1,7 @@
 //! A race: one thread for each process and one for each script, over one shared run, and its text.
 
 ghost use Rattle.std.specs.Prelude.{◌≡◌, ◌+◌, ◌≤◌, length, vec_len, IfOk, IfErr};
+ghost use Rattle.cdb_base.specs.declared.limits.TheConstants.{MAX_SEATS};
 ghost use Rattle.cdb_race.specs.Faults.{IsFaultBehind};
 ghost use Rattle.cdb_race.specs.Races.{AllPass};
 ghost use Rattle.cdb_rules.specs.Agreement.{HasMajorityIfNeeded};
@@ -142,7 +143,7 @@ fn run_race<T: Runs + Send, G: Gate + Drop + Send, R: Threads + Wait + Sync, W: 
     gates: Vec<G>,
     out: &mut W,
 ) -> Result<(), RaceFault>
-    requires fits { setup.processes + length scripts.now ≤ 64 }
+    requires fits { setup.processes + length scripts.now ≤ MAX_SEATS }
     requires gates { vec_len gates ≡ setup.processes + length scripts.now }
     ensures wrote { RaceWrites W.contents W.failures result out.old out.new
         (IsTextOfCommands T.rules setup turns scripts.now) }
@@ -186,8 +187,7 @@ pub fn race_on_with<T: Runs + Send, G: Gate + Drop + Send, R: Threads + Wait + S
     gates: Vec<G>,
     out: &mut W,
 ) -> Result<(), RaceFault>
-    requires turns { turns ≤ 99999 }
-    requires fits { setup.processes + length scripts.now ≤ 64 }
+    requires fits { setup.processes + length scripts.now ≤ MAX_SEATS }
     requires gates { vec_len gates ≡ setup.processes + length scripts.now }
     ensures wrote { RaceWrites W.contents W.failures result out.old out.new
         (IsTextOnSetup T.rules setup turns (bytes_of scripts.now)) }
@@ -210,8 +210,7 @@ pub fn race_on<T: Runs + Send, R: Threads + Wait + Sync, W: Sink>(
     scripts: &[Vec<u8>],
     out: &mut W,
 ) -> Result<(), RaceFault>
-    requires turns { turns ≤ 99999 }
-    requires fits { setup.processes + length scripts.now ≤ 64 }
+    requires fits { setup.processes + length scripts.now ≤ MAX_SEATS }
     ensures wrote { RaceWrites W.contents W.failures result out.old out.new
         (IsTextOnSetup T.rules setup turns (bytes_of scripts.now)) }
     ensures agree { HasMajorityIfNeeded setup
@@ -234,9 +233,8 @@ pub fn race_with<T: Runs + Send, G: Gate + Drop + Send, R: Threads + Wait + Sync
     gates: Vec<G>,
     out: &mut W,
 ) -> Result<(), RaceFault>
-    requires turns { turns ≤ 99999 }
     requires fits { (parts : Parts) → Encodes setup.now parts →
-        parts.processes + length scripts.now ≤ 64 }
+        parts.processes + length scripts.now ≤ MAX_SEATS }
     requires gates { (parts : Parts) → Encodes setup.now parts
         → vec_len gates ≡ parts.processes + length scripts.now }
     ensures wrote { RaceWrites W.contents W.failures result out.old out.new
@@ -260,9 +258,8 @@ pub fn race<T: Runs + Send, R: Threads + Wait + Sync, W: Sink>(
     scripts: &[Vec<u8>],
     out: &mut W,
 ) -> Result<(), RaceFault>
-    requires turns { turns ≤ 99999 }
     requires fits { (parts : Parts) → Encodes setup.now parts →
-        parts.processes + length scripts.now ≤ 64 }
+        parts.processes + length scripts.now ≤ MAX_SEATS }
     ensures wrote { RaceWrites W.contents W.failures result out.old out.new
         (IsTextOfRace T.rules setup.now turns (bytes_of scripts.now)) }
     ensures agree { (parts : Parts) → Encodes setup.now parts → HasMajorityIfNeeded parts
