@@ -9,7 +9,7 @@ use Rattle.cdb_setup.proofs.Walk.{push_all}
 use Rattle.cdb_setup.specs.Parts.{Parts, AreInRange}
 use Rattle.cdb_rules.specs.Rules.{Rules}
 use Rattle.cdb_rules.specs.Lawful.{AreLawful}
-use Rattle.cdb_control.specs.State.{State, first_state, waiting}
+use Rattle.cdb_control.specs.State.{State, first_control_state, waiting}
 use Rattle.cdb_control.specs.Commands.{obey}
 use Rattle.cdb_control.specs.Journal.{entry, replay, IsReplayed}
 use Rattle.cdb_rules.proofs.Alls.{all-replicate}
@@ -19,7 +19,7 @@ use Rattle.std.specs.List.{AllByRecursion}
 
 pub replay-push : (rules : Rules) (setup : Parts) (seats : ℕ) (es : List Entry) (e : Entry) → replay rules setup seats (es ++ e ∷ []) ≡ obey rules (replay rules setup seats es) e.seat e.command
 unfolding replay
-replay-push rules setup seats es e = fold-append (λ state x. obey rules state x.seat x.command) (first_state setup seats) es (e ∷ [])
+replay-push rules setup seats es e = fold-append (λ state x. obey rules state x.seat x.command) (first_control_state setup seats) es (e ∷ [])
 
 waiting-none : (n : ℕ) → waiting (replicate n []) ≡ 0
 waiting-none zero = refl
@@ -30,7 +30,7 @@ length-none zero = refl
 length-none (suc n) = omega (arith, length-none n)
 
 -- a control that was just opened
-pub IsReplayed-first : (rules : Rules) (setup : Parts) (seats : ℕ) → AreInRange setup → 1 ≤ seats → seats ≤ MAX_SEATS → IsReplayed rules setup seats [] (first_state setup seats)
+pub IsReplayed-first : (rules : Rules) (setup : Parts) (seats : ℕ) → AreInRange setup → 1 ≤ seats → seats ≤ MAX_SEATS → IsReplayed rules setup seats [] (first_control_state setup seats)
 unfolding replay
 IsReplayed-first rules setup seats in_range low high =
     record {

@@ -6,15 +6,15 @@ use Rattle.cdb_base.specs.declared.event.Event.{Event}
 use Rattle.cdb_base.specs.declared.refusal.Refusal.{Refusal}
 use Rattle.cdb_control.specs.Answer.{Answer}
 use Rattle.cdb_control.specs.Auto.{choice}
-use Rattle.cdb_control.specs.Commands.{Outcome, granted, unpaused, taken_by, newly_fired, stepped, step, IsPauseSet, TellsPause, answer, obey}
+use Rattle.cdb_control.specs.Commands.{Outcome, granted, unpaused, taken_step, newly_fired, stepped, step, IsPauseSet, TellsPause, answer, obey}
 use Rattle.cdb_control.specs.Commands.{outcome}
 use Rattle.cdb_control.specs.Journal.{replay_from, replay}
-use Rattle.cdb_control.specs.State.{State, first_state}
+use Rattle.cdb_control.specs.State.{State, first_control_state}
 use Rattle.cdb_control.specs.Stops.{Stops, fires, first_fired, IsFired, IsLeastFired}
 use Rattle.cdb_control.specs.declared.command.Command.TheVariants.{Step, Auto}
 use Rattle.cdb_control.specs.declared.command.Stop.{Stop}
 use Rattle.cdb_control.specs.declared.control.Entry.{Entry}
-use Rattle.cdb_control.specs.declared.stops.Taken.{Taken}
+use Rattle.cdb_control.specs.declared.stops.TakenStep.{TakenStep}
 use Rattle.cdb_control.proofs.Numbers.{AreNumbered, AreRising}
 use Rattle.cdb_control.proofs.Refused.{numbers_stay}
 use Rattle.cdb_rules.specs.Rules.{Rules}
@@ -22,7 +22,7 @@ use Rattle.cdb_setup.specs.Parts.{Parts}
 
 -- ---- of a list whose numbers rise
 
-module _ (taken : Taken) where
+module _ (taken : TakenStep) where
   -- what is fired of a list is its head, or of the rest
   head_or_rest : (b : ℕ × Stop) (more : Stops) (number : ℕ) → IsFired taken (b ∷ more) number → ((b.0 ≡ number) × (fires taken b.1 ≡ true)) ⊎ IsFired taken more number
   head_or_rest b more number (stop, (zero, within, at), fired) = inl (ap (λ (c : ℕ × Stop). c.0) at, cc)
@@ -69,7 +69,7 @@ module _ (rules : Rules) where
 
   numbered : (setup : Parts) (seats : ℕ) (journal : List Entry) → let now = replay rules setup seats journal in AreNumbered now.next now.stops
   unfolding replay
-  numbered setup seats journal = numbered_from journal (first_state setup seats) (tt, tt)
+  numbered setup seats journal = numbered_from journal (first_control_state setup seats) (tt, tt)
 
   -- ---- the replies to steps
 
@@ -77,7 +77,7 @@ module _ (rules : Rules) where
   step_tells t p act rising = go (rules.step t.history p act)
     where
       go : (x : Result Event Refusal) → TellsPause rules t p (granted x t (stepped rules t p)).reply
-      go (Ok e) = pause_set (taken_by rules t.history p e) t.pause t.stops rising
+      go (Ok e) = pause_set (taken_step rules t.history p e) t.pause t.stops rising
       go (Err why) = tt
 
   auto_tells : (t : State) (p : ℕ) (chosen : Result Act Refusal) (standing : Option ℕ) → AreRising t.stops

@@ -22,7 +22,7 @@ use Rattle.cdb_message.specs.Mail.{message_name}
 use Rattle.cdb_rules.specs.Undo.{undo_of, rollback_of, causes_of}
 use Rattle.cdb_control.specs.State.{State, redo_of, last_of}
 use Rattle.cdb_control.proofs.Numbers.{AreNumbered, AreBelow-push, AreBelow-remove, AreRising-push, AreRising-remove}
-use Rattle.cdb_control.specs.Commands.{Outcome, unless, granted, found, unpaused, stepped, step, lost, undo, rollback, why, redone, shown, outcome, answer, obey}
+use Rattle.cdb_control.specs.Commands.{Outcome, unless, granted, found, unpaused, stepped, step, lost, undo, rollback, why, redone, show, outcome, answer, obey}
 
 -- what an outcome leaves alone: everything where it is a refusal, and otherwise the lists of other seats, the
 -- numbers that were given, and their order
@@ -80,11 +80,11 @@ rollback-leaves t seat name =
 why-leaves : (t : State) (seat : ℕ) (name : StepId) → Leaves t seat (why t name)
 why-leaves t seat name = granted-leaves (causes_of t.setup.processes t.history name) t seat _ (λ causes. nothing t seat _ refl)
 
-shown-leaves : (rules : Rules) (t : State) (seat : ℕ) (v : View) → Leaves t seat (shown rules t v)
-shown-leaves rules t seat (view.Proc p) = found-leaves (rules.process t.history p) NoProcess t seat _ (λ process. nothing t seat _ refl)
-shown-leaves rules t seat view.Regs = nothing t seat _ refl
-shown-leaves rules t seat view.Mail = nothing t seat _ refl
-shown-leaves rules t seat view.History = nothing t seat _ refl
+show-leaves : (rules : Rules) (t : State) (seat : ℕ) (v : View) → Leaves t seat (show rules t v)
+show-leaves rules t seat (view.Proc p) = found-leaves (rules.process t.history p) NoProcess t seat _ (λ process. nothing t seat _ refl)
+show-leaves rules t seat view.Regs = nothing t seat _ refl
+show-leaves rules t seat view.Mail = nothing t seat _ refl
+show-leaves rules t seat view.History = nothing t seat _ refl
 
 leaves : (rules : Rules) (t : State) (seat : ℕ) (command : Command) → Leaves t seat (outcome rules t seat command)
 unfolding outcome
@@ -123,7 +123,7 @@ leaves rules t seat (Unbreak number) =
       stops = λ all. (AreBelow-remove t.next (nat_eq number) t.stops all.0, AreRising-remove (nat_eq number) t.stops all.1);
     })
 leaves rules t seat Resume = record { refused = λ r h. absurd (cc); lists = λ other low from apart. refl; numbers = omega arith; stops = λ all. all }
-leaves rules t seat (Show v) = shown-leaves rules t seat v
+leaves rules t seat (Show v) = show-leaves rules t seat v
 leaves rules t seat Decisions = nothing t seat _ refl
 
 pub refused_changes_nothing : (rules : Rules) (t : State) (seat : ℕ) (command : Command) (refusal : Refusal) → answer rules t seat command ≡ reply.Refused refusal → obey rules t seat command ≡ t

@@ -23,7 +23,7 @@ use Rattle.cdb_control.specs.declared.command.Stop.{Stop}
 use Rattle.cdb_control.specs.declared.command.View.{View}
 use Rattle.cdb_control.specs.declared.command.View.TheVariants as view
 use Rattle.cdb_rules.specs.declared.event_ref.EventRef.TheVariants as named
-use Rattle.cdb_control.specs.declared.stops.Taken.{Taken}
+use Rattle.cdb_control.specs.declared.stops.TakenStep.{TakenStep}
 use Rattle.cdb_message.specs.Mail.{message_name}
 use Rattle.cdb_rules.specs.Rules.{Rules}
 use Rattle.cdb_rules.specs.Undo.{undo_of, rollback_of, causes_of}
@@ -63,8 +63,8 @@ unpaused None t go = go
 -- ---- steps and losses
 
 -- what breakpoints look at in a step that a process took
-abbrev pub taken_by : Rules → List Event → ℕ → Event → Taken
-taken_by rules history p e =
+abbrev pub taken_step : Rules → List Event → ℕ → Event → TakenStep
+taken_step rules history p e =
     record {
       event = e;
       decides = decision_of rules (history ++ e ∷ []) p;
@@ -73,13 +73,13 @@ taken_by rules history p e =
     }
 
 -- the pause that a step sets: none where one stands
-abbrev pub newly_fired : Option ℕ → Taken → Stops → Option ℕ
+abbrev pub newly_fired : Option ℕ → TakenStep → Stops → Option ℕ
 newly_fired (Some b) taken stops = None
 newly_fired None taken stops = first_fired taken stops
 
 abbrev pub stepped : Rules → State → ℕ → Event → Outcome
 stepped rules t p e =
-    let taken = taken_by rules t.history p e in
+    let taken = taken_step rules t.history p e in
     let paused = newly_fired t.pause taken t.stops in
     record { reply = reply.Stepped e taken.decides paused; after = record t { history = t.history ++ e ∷ []; pause = option_or t.pause paused } }
 
@@ -132,22 +132,22 @@ break_gone t number =
 abbrev pub why : State → StepId → Outcome
 why t name = granted (causes_of t.setup.processes t.history name) t (λ causes. replied t (reply.Because name causes))
 
-abbrev pub shown : Rules → State → View → Outcome
-shown rules t (view.Proc p) = found (rules.process t.history p) NoProcess t (λ process. replied t (reply.Proc (seen_as t.setup p process)))
-shown rules t view.Regs = replied t (reply.Regs (cells_of (rules.registers t.history)))
-shown rules t view.Mail = replied t (reply.Mail (all_open_copies (rules.mail t.history)))
-shown rules t view.History = replied t (reply.History t.history)
+abbrev pub show : Rules → State → View → Outcome
+show rules t (view.Proc p) = found (rules.process t.history p) NoProcess t (λ process. replied t (reply.Proc (seen_as t.setup p process)))
+show rules t view.Regs = replied t (reply.Regs (cells_of (rules.registers t.history)))
+show rules t view.Mail = replied t (reply.Mail (all_open_copies (rules.mail t.history)))
+show rules t view.History = replied t (reply.History t.history)
 
 -- ---- the pause that a step sets
 
 -- none where one stands, and else by the least breakpoint that the step fires
-abbrev pub IsPauseSet : Option ℕ → Taken → Stops → Option ℕ → Type 0
+abbrev pub IsPauseSet : Option ℕ → TakenStep → Stops → Option ℕ → Type 0
 IsPauseSet (Some standing) taken stops paused = paused ≡ None
 IsPauseSet None taken stops paused = IsLeastFired taken stops paused
 
 -- the reply to a step of a process tells it
 abbrev pub TellsPause : Rules → State → ℕ → Answer → Type 0
-TellsPause rules t p (reply.Stepped e decides paused) = IsPauseSet t.pause (taken_by rules t.history p e) t.stops paused
+TellsPause rules t p (reply.Stepped e decides paused) = IsPauseSet t.pause (taken_step rules t.history p e) t.stops paused
 TellsPause rules t p other = Unit {0}
 
 -- ---- the table of the commands
@@ -168,7 +168,7 @@ outcome rules t seat (Break stop) =
     unless (names_none_of t.setup.processes stop) NoProcess t (unless (nat_le MAX_BREAKPOINTS (length t.stops)) BreakLimit t (break_set t stop))
 outcome rules t seat (Unbreak number) = unless (not (is_some (lookup (nat_eq number) t.stops))) NoBreak t (break_gone t number)
 outcome rules t seat Resume = record { reply = reply.Resumed; after = record t { pause = None } }
-outcome rules t seat (Show v) = shown rules t v
+outcome rules t seat (Show v) = show rules t v
 outcome rules t seat Decisions = replied t (reply.Decisions (rules.decisions t.history))
 
 -- the reply to a command of a seat

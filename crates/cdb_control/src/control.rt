@@ -4,7 +4,7 @@ ghost use Rattle.std.specs.Result.{result_ok};
 ghost use Rattle.cdb_control.specs.Answer.{told, is_refused};
 ghost use Rattle.cdb_control.specs.Auto.{choice};
 ghost use Rattle.cdb_control.specs.Headline.{Headline};
-ghost use Rattle.cdb_control.specs.Journal.{entry, opened, extended, reply_in, state_in, AreOfSeats};
+ghost use Rattle.cdb_control.specs.Journal.{entry, opened, extended, reply_in, control_state, AreOfSeats};
 ghost use Rattle.cdb_control.specs.Room.{is_spared, cost, room_of, with_room, raised};
 
 use crate::command::{Command, Stop, View};
@@ -134,7 +134,7 @@ impl<R: Runs> Control<R> {
         requires to_last { seat ≤ self.old.seats }
         ensures reply { IfOk result (λ r. told r ≡ reply_in R.rules self.old seat command) }
         ensures journal { IfOk result
-            (λ _. self.new ≡ extended (R.rules self.old.setup) self.old seat command) }
+            (λ _. self.new ≡ extended R.rules self.old seat command) }
         ensures fault { OnErr result (self.new ≡ self.old) }
         ensures full { (result ≡ Err CallFault.JournalFull)
             ↔ (length self.old.journal ≡ MAX_ENTRIES) }
@@ -191,7 +191,7 @@ impl<R: Runs> Control<R> {
     /// What `auto` would do for a process, whether or not a pause stands; nothing where it would be refused.
     pub fn pick(&self, p: u32) -> Option<Act>
         ensures { result
-            ≡ result_ok (choice (R.rules self.now.setup) (state_in R.rules self.now).history p) }
+            ≡ result_ok (choice (R.rules self.now.setup) (control_state R.rules self.now).history p) }
     {
         self.state.choose(p).ok()
     }
@@ -199,7 +199,7 @@ impl<R: Runs> Control<R> {
     /// The run that the journal leads to.
     pub fn run(&self) -> &R
         ensures setup { (R.run result.now).setup ≡ self.now.setup }
-        ensures history { (R.run result.now).history ≡ (state_in R.rules self.now).history }
+        ensures history { (R.run result.now).history ≡ (control_state R.rules self.now).history }
     {
         self.state.run()
     }
@@ -207,7 +207,7 @@ impl<R: Runs> Control<R> {
     /// The run that the journal leads to; all else of the control is given up.
     pub fn into_run(self) -> R
         ensures setup { (R.run result).setup ≡ self.setup }
-        ensures history { (R.run result).history ≡ (state_in R.rules self).history }
+        ensures history { (R.run result).history ≡ (control_state R.rules self).history }
     {
         let Control { state, .. } = self;
         state.into_run()

@@ -14,14 +14,14 @@ use std::marker::Model;
 
 /// What breakpoints look at in a step that was taken.
 #[derive(Clone, Copy, Debug, PartialEq)]
-pub struct Taken {
+pub struct TakenStep {
     pub event: Event,
     pub decides: Option<Val>,
     pub round_before: u32,
     pub round_after: u32,
 }
 
-impl Taken {
+impl TakenStep {
     /// Whether the step fires a breakpoint.
     pub fn fires(&self, stop: &Stop) -> bool
         ensures { result ≡ fires self.now stop.now }
@@ -136,7 +136,7 @@ impl Breakpoints {
     }
 
     /// The number of the first breakpoint that a step fires.
-    pub fn first_fired(&self, taken: &Taken) -> Option<u32>
+    pub fn first_fired(&self, taken: &TakenStep) -> Option<u32>
         ensures { result ≡ first_fired taken.now self.now.stops }
     {
         for (number, stop) in self.standing.iter() {

@@ -3,7 +3,7 @@ use Rattle.std.specs.Prelude.{◌≡◌, ℕ, ◌+◌, ◌-◌, ◌==◌, Bool, 
 use Rattle.std.specs.List.{AllZip, flat_map, list_all, range_with_len}
 use Rattle.std.proofs.Common.{Vec, Global}
 use Rattle.cdb_control.specs.Answer.{Answer}
-use Rattle.cdb_control.specs.Journal.{Journaled, state_of}
+use Rattle.cdb_control.specs.Journal.{Journaled, control_state}
 use Rattle.cdb_control.specs.declared.command.Command.{Command}
 use Rattle.cdb_race.specs.Faults as of_threads
 use Rattle.cdb_race.specs.Races.{IsRaced, MayFill, answers_to}
@@ -59,7 +59,7 @@ end_text decisions = decisions_text decisions ++ verdict_text decisions
 
 -- the decisions of the last state
 abbrev pub last_decisions : (Parts → Rules) → Journaled → List (ℕ × ℕ)
-last_decisions rules c = (rules c.setup).decisions (state_of (rules c.setup) c).history
+last_decisions rules c = (rules c.setup).decisions (control_state rules c).history
 
 -- the seats of the scripts, which are those after the processes'
 abbrev pub script_seats : Journaled → List ℕ

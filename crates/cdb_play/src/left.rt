@@ -29,7 +29,7 @@ fn carry_out<T: Runs>(
     requires seats { control.old.seats ≡ 1 }
     requires room { length control.old.journal < MAX_ENTRIES }
     ensures { OnOk result
-        (control.new ≡ extended (T.rules control.old.setup) control.old 1 command) }
+        (control.new ≡ extended T.rules control.old 1 command) }
 {
     match control.execute(alloc, 1, command) {
         Ok(_) => Ok(()),

@@ -32,7 +32,7 @@ fn perform<T: Runs, W: Sink>(
     requires seats { control.old.seats ≡ 1 }
     requires room { length control.old.journal < MAX_ENTRIES }
     ensures done { OnOk result
-        (control.new ≡ extended (T.rules control.old.setup) control.old 1 command) }
+        (control.new ≡ extended T.rules control.old 1 command) }
     ensures put { Puts W.contents W.failures result out.old buffer.old out.new buffer.new
         (reply_to T.rules control.old command) }
 {
