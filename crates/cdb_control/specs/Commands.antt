@@ -81,7 +81,10 @@ abbrev pub stepped : Rules → State → ℕ → Event → Outcome
 stepped rules t p e =
     let taken = taken_step rules t.history p e in
     let paused = newly_fired t.pause taken t.stops in
-    record { reply = reply.Stepped e taken.decides paused; after = record t { history = t.history ++ e ∷ []; pause = option_or t.pause paused } }
+    record {
+      reply = reply.Stepped e taken.decides paused;
+      after = record t { history = t.history ++ e ∷ []; pause = option_or t.pause paused };
+    }
 
 abbrev pub step : Rules → State → ℕ → Act → Outcome
 step rules t p act = granted (rules.step t.history p act) t (stepped rules t p)
@@ -98,7 +101,8 @@ taken_back t seat events history = record t { history = history; redo = (with_re
 
 abbrev pub undo : State → ℕ → StepId → Outcome
 undo t seat name =
-    granted (undo_of t.setup.processes t.history name) t (λ undone. record { reply = reply.Undone undone.0; after = taken_back t seat (undone.0 ∷ []) undone.1 })
+    granted (undo_of t.setup.processes t.history name) t
+    (λ undone. record { reply = reply.Undone undone.0; after = taken_back t seat (undone.0 ∷ []) undone.1 })
 
 abbrev pub rollback : State → ℕ → StepId → Outcome
 rollback t seat name =
@@ -158,14 +162,16 @@ outcome rules t seat (Auto p) = granted (choice rules t.history p) t (λ act. un
 outcome rules t seat (Lose s m p) = granted (rules.lose t.history (message_name s m) p) t (lost t)
 outcome rules t seat (Undo p k) = undo t seat (name_of (named.Step p k))
 outcome rules t seat (UndoLost s m p) = undo t seat (name_of (named.Lost s m p))
-outcome rules t seat Redo = found (last_of (redo_of t seat)) NothingToRedo t (λ e. granted (rules.again t.history e) t (redone rules t seat))
+outcome rules t seat Redo =
+    found (last_of (redo_of t seat)) NothingToRedo t (λ e. granted (rules.again t.history e) t (redone rules t seat))
 outcome rules t seat Forget = record { reply = reply.Forgot (length (redo_of t seat)); after = with_redo t seat [] }
 outcome rules t seat (Rollback p k) = rollback t seat (name_of (named.Step p k))
 outcome rules t seat (RollbackLost s m p) = rollback t seat (name_of (named.Lost s m p))
 outcome rules t seat (Why p k) = why t (name_of (named.Step p k))
 outcome rules t seat (WhyLost s m p) = why t (name_of (named.Lost s m p))
 outcome rules t seat (Break stop) =
-    unless (names_none_of t.setup.processes stop) NoProcess t (unless (nat_le MAX_BREAKPOINTS (length t.stops)) BreakLimit t (break_set t stop))
+    unless (names_none_of t.setup.processes stop) NoProcess t
+    (unless (nat_le MAX_BREAKPOINTS (length t.stops)) BreakLimit t (break_set t stop))
 outcome rules t seat (Unbreak number) = unless (not (is_some (lookup (nat_eq number) t.stops))) NoBreak t (break_gone t number)
 outcome rules t seat Resume = record { reply = reply.Resumed; after = record t { pause = None } }
 outcome rules t seat (Show v) = show rules t v

@@ -16,7 +16,8 @@ AreWholePieces bytes = (count : ℕ) × (length bytes ≡ count * piece)
 module _ {W : Type 0} (contents : W → Option (List ℕ)) (failures : W → ℕ) where
   -- The writer took whole pieces that are a beginning of the text, and no call failed
   abbrev pub TakesPieces : W → W → List ℕ → Type 0
-  TakesPieces old new text = (written rest : List ℕ) × (text ≡ written ++ rest) × AreWholePieces written × Takes contents failures old new written
+  TakesPieces old new text =
+      (written rest : List ℕ) × (text ≡ written ++ rest) × AreWholePieces written × Takes contents failures old new written
 
   -- The text was written, by how that ended; where an allocation failed, what was left in the buffer is not written
   abbrev pub Wrote : {A : Type 0} → Result A OutputFault → W → W → List ℕ → Type 0

@@ -67,7 +67,8 @@ script_seats c = range_with_len (c.setup.processes + 1) (c.seats - c.setup.proce
 
 -- the text of a race with this journal
 unfoldable pub race_text : (Parts → Rules) → Journaled → List ℕ
-race_text rules c = seats_text (c.setup.processes + 1) (map (λ seat. answers_to rules seat c) (script_seats c)) ++ end_text (last_decisions rules c)
+race_text rules c =
+    seats_text (c.setup.processes + 1) (map (λ seat. answers_to rules seat c) (script_seats c)) ++ end_text (last_decisions rules c)
 
 -- ---- the scripts
 
@@ -82,7 +83,8 @@ AreScripts read scripts = AllZip IsScript read scripts
 -- the script of this number, counted from 1, has this fault, and each before it has its commands
 abbrev pub IsFirstBad : ℕ → ScriptFault → List (List ℕ) → Type 0
 IsFirstBad position fault scripts =
-    (read : List (List Command)) × (good : List (List ℕ)) × (bad : List ℕ) × (rest : List (List ℕ)) × (scripts ≡ good ++ bad ∷ rest) × (position ≡ length good + 1) × AreScripts read good × IsFaultOfScript fault bad
+    (read : List (List Command)) × (good : List (List ℕ)) × (bad : List ℕ) × (rest : List (List ℕ))
+    × (scripts ≡ good ++ bad ∷ rest) × (position ≡ length good + 1) × AreScripts read good × IsFaultOfScript fault bad
 
 -- all of them have their commands
 abbrev pub AreAllRead : List (List ℕ) → Type 0
@@ -174,7 +176,8 @@ module _ (IsFaultOfSessions : Parts → ℕ → List (List Command) → ThreadFa
 -- the text is that of a race of these commands
 abbrev pub IsTextOfCommands : (Parts → Rules) → Parts → ℕ → List (List Command) → List ℕ → Type 0
 IsTextOfCommands rules setup turns commands text =
-    (control : Journaled) × (answers : List (List Answer)) × IsRaced rules setup turns commands control answers × (text ≡ race_text rules control)
+    (control : Journaled) × (answers : List (List Answer)) × IsRaced rules setup turns commands control answers
+    × (text ≡ race_text rules control)
 
 -- a fault of reading the scripts
 abbrev pub IsFaultOfScripts : RaceFault → List (List ℕ) → Type 0

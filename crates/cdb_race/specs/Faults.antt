@@ -87,6 +87,7 @@ pub record IsFaultBehind {G : Type 0} (T : Type 0) (rules : Parts → Rules) (he
   pub least : IsOfLeastSeat fault rans
 
 -- a fault of starting or joining the threads, or that of a seat
-abbrev pub IsTold : {G : Type 0} → Type 0 → (Parts → Rules) → (G → Option (List Heard)) → (G → Bool) → List G → Parts → ℕ → List (List Command) → RaceFault → Type 0
+abbrev pub IsTold : {G : Type 0} → Type 0 → (Parts → Rules) → (G → Option (List Heard)) → (G → Bool) → List G
+    → Parts → ℕ → List (List Command) → RaceFault → Type 0
 IsTold T rules heard passes gates setup turns scripts fault =
     IsFaultOfThreads fault ⊎ IsFaultBehind T rules heard passes gates setup turns scripts fault
