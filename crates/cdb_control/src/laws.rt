@@ -40,7 +40,7 @@ pub fn numbers_rise()
 {}
 
 /// A step sets a pause by the least breakpoint that it fires, and by none where it fires none or a pause stands.
-#[tactic(auto, using(crate::proofs::Least::least_by_step, crate::proofs::Least::least_by_auto))]
+#[tactic(auto)]
 pub fn least_fired()
     ensures by_step { (rules : Rules) (setup : Parts) (seats seat p : ℕ) (journal : List Entry)
         (act : Act) → let t = replay rules setup seats journal in
