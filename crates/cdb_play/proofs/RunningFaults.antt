@@ -84,15 +84,15 @@ module _ (IsFaultOfSessions : Parts → ℕ → List (List Command) → ThreadFa
   of_setup_read json scripts fault said = said (λ same. absurd cc)
 
   -- a fault by which no gate stopped a session is one of gates that always pass
-  pub ungated : (setup : Parts) (commands : List (List Command)) (fault : RaceFault) → IsFaultOfCommands IsFaultOfSessions setup turns commands fault → IsNotStopped fault → IsFaultOfCommands IsFaultUngated setup turns commands fault
-  ungated setup commands JournalFull is none = (is.0, tt)
-  ungated setup commands (Stopped seat) is none = absurd none
-  ungated setup commands (Setup fault) is none = is
-  ungated setup commands (Line position line fault) is none = is
-  ungated setup commands (ScriptTooLong position) is none = is
-  ungated setup commands Write is none = tt
-  ungated setup commands NoMemory is none = tt
-  ungated setup commands (Spawn refused) is none = tt
+  pub ungated : (setup : Parts) (commands : List (List Command)) (scripts : List (List ℕ)) → AreScripts commands scripts → (fault : RaceFault) → IsFaultOfCommands IsFaultOfSessions setup turns commands fault → IsNotStopped fault → IsFaultOnSetup IsFaultUngated setup turns scripts fault
+  ungated setup commands scripts read JournalFull is none = (commands, read, is.0, tt)
+  ungated setup commands scripts read (Stopped seat) is none = absurd none
+  ungated setup commands scripts read (Setup fault) is none = is
+  ungated setup commands scripts read (Line position line fault) is none = absurd is
+  ungated setup commands scripts read (ScriptTooLong position) is none = absurd is
+  ungated setup commands scripts read Write is none = (commands, read)
+  ungated setup commands scripts read NoMemory is none = tt
+  ungated setup commands scripts read (Spawn refused) is none = (commands, read)
 
 -- ---- a gate stopped no session
 

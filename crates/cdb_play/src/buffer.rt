@@ -77,6 +77,7 @@ pub struct Buffer {
 }
 
 impl Model for Buffer {
+    ghost use Rattle.std.specs.Prelude.{ℕ, ◌≤◌, List, length, vec_capacity};
     ghost use Rattle.cdb_play.specs.Buffers.{piece};
 
     ghost Value = { List ℕ };

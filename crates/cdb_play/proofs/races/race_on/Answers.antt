@@ -1,9 +1,11 @@
-use Rattle.std.proofs.Common.{refl}
+use Rattle.std.proofs.Common.{true, None, refl}
 use Rattle.std.proofs.lemmas.Result.{err_from_is_err_and}
-use Rattle.cdb_play.specs.Races.{bytes_of, IsTextOnSetup, IsTextOfCommands}
+use Rattle.cdb_race.specs.Faults.{IsFaultBehind}
+use Rattle.cdb_play.specs.declared.races.Open.{Open}
+use Rattle.cdb_play.specs.Races.{IsFaultUngated, bytes_of, IsTextOnSetup, IsTextOfCommands}
 use Rattle.cdb_play.proofs.Ending.{race_unwritten_scripts, race_writes_weaker}
 use Rattle.cdb_play.proofs.RaceTexts.{of_scripts}
-use Rattle.cdb_play.proofs.RunningFaults.{both, of_reading, on_setup, ungated}
+use Rattle.cdb_play.proofs.RunningFaults.{both, of_reading, ungated}
 use Rattle.cdb_play.proofs.races.race_on.Goals as goal
 
 pub returns-in_err-commands-clause-wrote : goal.returns-in_err-commands-clause-wrote
@@ -14,7 +16,7 @@ returns-in_err-commands-clause-wrote g c =
 pub returns-in_err-commands-clause-fault : goal.returns-in_err-commands-clause-fault
 returns-in_err-commands-clause-fault g c =
     let p = err_from_is_err_and c.from_residual.result c.from_residual.ensures.1 in
-    rw (p.1, p.2) (of_reading _ c.args.turns c.args.setup (bytes_of c.args.scripts.now) c.in_err-commands.field-0.0 c.in_err-commands.ensures.fault)
+    rw (p.1, p.2) (of_reading IsFaultUngated c.args.turns c.args.setup (bytes_of c.args.scripts.now) c.in_err-commands.field-0.0 c.in_err-commands.ensures.fault)
 
 pub returns-clause-wrote : goal.returns-clause-wrote
 returns-clause-wrote g c =
@@ -27,7 +29,7 @@ pub returns-clause-fault : goal.returns-clause-fault
 returns-clause-fault g c =
     let commands = c.in_ok-commands.commands.items in
     both c.run_race.result _ _ _
-    (λ fault is none. on_setup _ c.args.turns c.args.setup commands (bytes_of c.args.scripts.now) c.in_ok-commands.ensures.read fault (ungated _ c.args.turns c.args.setup commands fault is none))
+    (ungated (IsFaultBehind g.row.T.Denot g.T.Runs.rules (λ (gate : Open). None) (λ (gate : Open). true) c.in_ok-gates.gates.items) c.args.turns c.args.setup commands (bytes_of c.args.scripts.now) c.in_ok-commands.ensures.read)
     (rw c.as_slice.ensures.value at c.run_race.ensures.fault) (c.run_race.ensures.passes (λ k gate low. refl))
 
 pub returns-in_err-commands-clause-agree : goal.returns-in_err-commands-clause-agree

@@ -1,4 +1,5 @@
 use Rattle.std.proofs.lemmas.Result.{err_from_is_err_and, IfErr-weaker}
+use Rattle.cdb_race.specs.Faults.{IsFaultBehind}
 use Rattle.cdb_play.specs.Races.{bytes_of, IsTextOnSetup, IsTextOfCommands}
 use Rattle.cdb_play.proofs.Ending.{race_unwritten_scripts, race_writes_weaker}
 use Rattle.cdb_play.proofs.RaceTexts.{of_scripts}
@@ -13,7 +14,7 @@ returns-in_err-commands-clause-wrote g c =
 pub returns-in_err-commands-clause-fault : goal.returns-in_err-commands-clause-fault
 returns-in_err-commands-clause-fault g c =
     let p = err_from_is_err_and c.from_residual.result c.from_residual.ensures.1 in
-    rw (p.1, p.2) (of_reading _ c.args.turns c.args.setup (bytes_of c.args.scripts.now) c.in_err-commands.field-0.0 c.in_err-commands.ensures.fault)
+    rw (p.1, p.2) (of_reading (IsFaultBehind g.row.T.Denot g.T.Runs.rules g.G.Gate.heard g.G.Gate.passes c.args.gates.items) c.args.turns c.args.setup (bytes_of c.args.scripts.now) c.in_err-commands.field-0.0 c.in_err-commands.ensures.fault)
 
 pub returns-clause-wrote : goal.returns-clause-wrote
 returns-clause-wrote g c =
@@ -25,7 +26,7 @@ returns-clause-wrote g c =
 pub returns-clause-fault : goal.returns-clause-fault
 returns-clause-fault g c =
     let commands = c.in_ok-commands.commands.items in
-    IfErr-weaker c.run_race.result _ _ (on_setup _ c.args.turns c.args.setup commands (bytes_of c.args.scripts.now) c.in_ok-commands.ensures.read) (rw c.as_slice.ensures.value at c.run_race.ensures.fault)
+    IfErr-weaker c.run_race.result _ _ (on_setup (IsFaultBehind g.row.T.Denot g.T.Runs.rules g.G.Gate.heard g.G.Gate.passes c.args.gates.items) c.args.turns c.args.setup commands (bytes_of c.args.scripts.now) c.in_ok-commands.ensures.read) (rw c.as_slice.ensures.value at c.run_race.ensures.fault)
 
 pub returns-in_err-commands-clause-agree : goal.returns-in_err-commands-clause-agree
 returns-in_err-commands-clause-agree g c = λ majority.

@@ -1,6 +1,7 @@
 use Rattle.std.proofs.Common.{Ok, refl, sym, subst}
 use Rattle.std.proofs.lemmas.Result.{err_from_is_err_and, IfErr-weaker}
 use Rattle.cdb_rules.specs.Agreement.{HasMajorityIfNeeded}
+use Rattle.cdb_race.specs.Faults.{IsFaultBehind}
 use Rattle.cdb_play.specs.Races.{bytes_of, IsTextOnSetup, IsTextOfRace}
 use Rattle.cdb_play.proofs.Ending.{race_unwritten_setup, race_writes_weaker}
 use Rattle.cdb_play.proofs.RunningFaults.{of_race, of_setup_read, not_of_setup}
@@ -21,12 +22,12 @@ returns-clause-wrote g c =
 
 pub returns-clause-fault : goal.returns-clause-fault
 returns-clause-fault g c =
-    IfErr-weaker c.race_on_with.result _ _ (of_race _ c.args.turns c.args.setup.now c.in_ok-parts.parts (bytes_of c.args.scripts.now) c.in_ok-parts.ensures.found) c.race_on_with.ensures.fault
+    IfErr-weaker c.race_on_with.result _ _ (of_race (IsFaultBehind g.row.T.Denot g.T.Runs.rules g.G.Gate.heard g.G.Gate.passes c.args.gates.items) c.args.turns c.args.setup.now c.in_ok-parts.parts (bytes_of c.args.scripts.now) c.in_ok-parts.ensures.found) c.race_on_with.ensures.fault
 
 pub returns-in_err-parts-clause-fault : goal.returns-in_err-parts-clause-fault
 returns-in_err-parts-clause-fault g c =
     let p = err_from_is_err_and c.from_residual.result c.from_residual.ensures.1 in
-    rw (p.1, p.2) (of_setup_read _ c.args.turns c.args.setup.now (bytes_of c.args.scripts.now) c.in_err-parts.field-0.0 c.in_err-parts.ensures.fault)
+    rw (p.1, p.2) (of_setup_read (IsFaultBehind g.row.T.Denot g.T.Runs.rules g.G.Gate.heard g.G.Gate.passes c.args.gates.items) c.args.turns c.args.setup.now (bytes_of c.args.scripts.now) c.in_err-parts.field-0.0 c.in_err-parts.ensures.fault)
 
 pub returns-in_err-parts-clause-agree : goal.returns-in_err-parts-clause-agree
 returns-in_err-parts-clause-agree g c = λ parts stands majority.

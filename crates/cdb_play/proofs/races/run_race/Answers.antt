@@ -1,5 +1,6 @@
 use Rattle.std.proofs.Common.{◌∙◌, ap, Err}
 use Rattle.std.proofs.lemmas.Result.{err_from_is_err_and}
+use Rattle.cdb_race.specs.Faults.{IsFaultBehind}
 use Rattle.cdb_race.specs.Races.{all_told}
 use Rattle.cdb_race.specs.declared.threads.RaceFault.{RaceFault as ThreadFault}
 use Rattle.cdb_play.specs.Races.{last_decisions, IsTextOfCommands}
@@ -33,7 +34,7 @@ returns-in_err-write_race-clause-wrote g c =
 pub returns-in_err-write_race-clause-fault : goal.returns-in_err-write_race-clause-fault
 returns-in_err-write_race-clause-fault g c =
     let p = err_from_is_err_and c.from_residual-in_err-write_race.result c.from_residual-in_err-write_race.ensures.1 in
-    rw (p.1, p.2) (of_writing _ c.args.turns c.args.setup c.args.scripts.now c.in_err-write_race.field-0.0)
+    rw (p.1, p.2) (of_writing (IsFaultBehind g.row.T.Denot g.T.Runs.rules g.G.Gate.heard g.G.Gate.passes c.args.gates.items) c.args.turns c.args.setup c.args.scripts.now c.in_err-write_race.field-0.0)
 
 pub returns-clause-wrote : goal.returns-clause-wrote
 returns-clause-wrote g c =
