@@ -1,6 +1,7 @@
 //! The commands of a script.
 
 ghost use Rattle.std.specs.Prelude.{◌≡◌, ◌+◌, ◌*◌, ◌<◌, ◌≤◌, [], ◌∷◌, ◌++◌, length, Err, IfOk, IfErr, OnOk};
+ghost use Rattle.cdb_base.specs.declared.limits.TheConstants.{MAX_ENTRIES};
 ghost use Rattle.cdb_setup.specs.Format.{longest};
 ghost use Rattle.cdb_play.specs.Faults.{IsFaultOfReading};
 ghost use Rattle.cdb_play.specs.Lines.{lines_of};
@@ -8,7 +9,7 @@ ghost use Rattle.cdb_play.specs.Scripts.{AreCommandsOf, GivesCommands, IsFaultOf
 ghost use Rattle.cdb_play.specs.Streams.{FailsWhere};
 
 use crate::fault::PlayFault;
-use crate::lines::{first_line, most_lines};
+use crate::lines::first_line;
 use crate::source::{Source, read_up_to};
 use cdb_base::limits::MAX_BYTES;
 use cdb_base::{Act, Reg};
@@ -80,7 +81,7 @@ pub fn commands_of(alloc: Global, script: &[u8]) -> Result<Vec<Command>, ScriptF
     if script.len() > MAX_BYTES {
         return Err(ScriptFault::TooLong);
     }
-    let mut commands = Vec::with_capacity(alloc, most_lines(script))?;
+    let mut commands = Vec::new(alloc);
     let mut rest = script;
     while !rest.is_empty() {
         let (line, behind) = first_line(rest);
@@ -100,7 +101,7 @@ pub(crate) fn read_commands<R: Source>(
 ) -> Result<Vec<Command>, PlayFault>
     ensures commands { IfOk result (λ commands. GivesCommands
         (R.remaining script.old) (R.remaining script.new) commands.items) }
-    ensures few { IfOk result (λ commands. length commands.items < 999999) }
+    ensures few { IfOk result (λ commands. length commands.items < MAX_ENTRIES) }
     ensures fault { IfErr result (λ fault.
         IsFaultOfReading fault (R.remaining script.old) (R.remaining script.new)) }
     ensures read { FailsWhere R.failures (result ≡ Err PlayFault.Read) script.old script.new }
