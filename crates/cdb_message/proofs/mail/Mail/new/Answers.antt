@@ -1,4 +1,4 @@
-use Rattle.std.proofs.Common.{◌≡◌, rules, arith, ap, ◌∙◌}
+use Rattle.std.proofs.Common.{rules, arith, ap, ◌∙◌}
 use Rattle.std.specs.Prelude.{unwrap_or}
 use Rattle.std.specs.FinSet as finite
 use Rattle.std.proofs.lemmas.Grind.{common_steps}
