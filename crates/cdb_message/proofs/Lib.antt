@@ -1,4 +1,3 @@
-pub mod Above
 pub mod MarkLaws
 pub mod Closed
 pub mod Tables
