@@ -2,13 +2,14 @@
 use Rattle.std.proofs.Common.{◌≡◌, ℕ, zero, suc, ◌<◌, ◌≤◌, List, [], ◌∷◌, ◌++◌, length, replicate, refl, sym, ap, ◌∙◌, subst, arith, length-append}
 use Rattle.std.proofs.lemmas.List.Sums.{fold-append}
 use Rattle.cdb_base.specs.declared.event.Event.{Event}
+use Rattle.cdb_base.specs.declared.limits.TheConstants.{MAX_ENTRIES, MAX_SEATS}
 use Rattle.cdb_control.specs.declared.command.Command.{Command}
 use Rattle.cdb_control.specs.declared.control.Entry.{Entry}
 use Rattle.cdb_setup.proofs.Walk.{push_all}
 use Rattle.cdb_setup.specs.Parts.{Parts, AreInRange}
 use Rattle.cdb_rules.specs.Rules.{Rules}
 use Rattle.cdb_rules.specs.Lawful.{AreLawful}
-use Rattle.cdb_control.specs.State.{State, first_state, waiting}
+use Rattle.cdb_control.specs.State.{State, first_control_state, waiting}
 use Rattle.cdb_control.specs.Commands.{obey}
 use Rattle.cdb_control.specs.Journal.{entry, replay, IsReplayed}
 use Rattle.cdb_rules.proofs.Alls.{all-replicate}
@@ -18,7 +19,7 @@ use Rattle.std.specs.List.{AllByRecursion}
 
 pub replay-push : (rules : Rules) (setup : Parts) (seats : ℕ) (es : List Entry) (e : Entry) → replay rules setup seats (es ++ e ∷ []) ≡ obey rules (replay rules setup seats es) e.seat e.command
 unfolding replay
-replay-push rules setup seats es e = fold-append (λ state x. obey rules state x.seat x.command) (first_state setup seats) es (e ∷ [])
+replay-push rules setup seats es e = fold-append (λ state x. obey rules state x.seat x.command) (first_control_state setup seats) es (e ∷ [])
 
 waiting-none : (n : ℕ) → waiting (replicate n []) ≡ 0
 waiting-none zero = refl
@@ -29,7 +30,7 @@ length-none zero = refl
 length-none (suc n) = omega (arith, length-none n)
 
 -- a control that was just opened
-pub IsReplayed-first : (rules : Rules) (setup : Parts) (seats : ℕ) → AreInRange setup → 1 ≤ seats → seats ≤ 64 → IsReplayed rules setup seats [] (first_state setup seats)
+pub IsReplayed-first : (rules : Rules) (setup : Parts) (seats : ℕ) → AreInRange setup → 1 ≤ seats → seats ≤ MAX_SEATS → IsReplayed rules setup seats [] (first_control_state setup seats)
 unfolding replay
 IsReplayed-first rules setup seats in_range low high =
     record {
@@ -47,7 +48,7 @@ IsReplayed-first rules setup seats in_range low high =
 
 -- a control that has carried one command more out
 pub IsReplayed-push : (rules : Rules) (seats : ℕ) (es : List Entry) (t u : State) (e : Entry) (longer : List Entry)
-    → AreLawful rules t.setup → longer ≡ es ++ e ∷ [] → IsReplayed rules t.setup seats es t → 1 ≤ e.seat → e.seat ≤ seats → length es < 999999
+    → AreLawful rules t.setup → longer ≡ es ++ e ∷ [] → IsReplayed rules t.setup seats es t → 1 ≤ e.seat → e.seat ≤ seats → length es < MAX_ENTRIES
     → u ≡ obey rules t e.seat e.command → IsReplayed rules t.setup seats longer u
 IsReplayed-push rules seats es t u e longer lawful is was low high room after =
     let adds = subst (λ (v : State). Adds t v) (sym after) (obey-adds rules t lawful e.seat e.command low (omega (arith, high, was.lists))) in
@@ -72,7 +73,7 @@ obey-setup rules t u lawful seat command low high after =
 
 -- the same, where the rules are those of the state's setup
 pub IsReplayed-next : (rules_of : Parts → Rules) → ((given : Parts) → AreInRange given → AreLawful (rules_of given) given) → (seats : ℕ) (es : List Entry) (t u : State) (seat : ℕ) (command : Command) (longer : List Entry)
-    → longer ≡ es ++ entry seat command ∷ [] → IsReplayed (rules_of t.setup) t.setup seats es t → 1 ≤ seat → seat ≤ seats → length es < 999999
+    → longer ≡ es ++ entry seat command ∷ [] → IsReplayed (rules_of t.setup) t.setup seats es t → 1 ≤ seat → seat ≤ seats → length es < MAX_ENTRIES
     → u ≡ obey (rules_of t.setup) t seat command → IsReplayed (rules_of u.setup) u.setup seats longer u
 IsReplayed-next rules_of lawful seats es t u seat command longer is was low high room after =
     let same = obey-setup (rules_of t.setup) t u (lawful t.setup was.in_range) seat command low (omega (arith, high, was.lists)) after in

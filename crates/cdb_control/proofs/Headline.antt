@@ -11,6 +11,7 @@ use Rattle.cdb_base.specs.declared.name.StepId.{StepId}
 use Rattle.cdb_base.specs.declared.name.StepId.TheVariants as id
 use Rattle.cdb_base.specs.declared.refusal.Refusal.{Refusal}
 use Rattle.cdb_base.specs.declared.refusal.Refusal.TheVariants.{NoProcess, NothingToRedo, NoBreak, BreakLimit, NeededBy}
+use Rattle.cdb_base.specs.declared.limits.TheConstants.{MAX_BREAKPOINTS}
 use Rattle.cdb_causal.specs.Causality.{IsFree}
 use Rattle.cdb_causal.specs.Dependence.{depends}
 use Rattle.cdb_causal.specs.Exchange.{IsExchanged}
@@ -22,11 +23,11 @@ use Rattle.cdb_causal.proofs.Exchanges.{free_to_end, rollback_to_end}
 use Rattle.cdb_control.specs.Answer.{Answer}
 use Rattle.cdb_control.specs.Answer as reply
 use Rattle.cdb_control.specs.Auto.{choice}
-use Rattle.cdb_control.specs.Commands.{Outcome, refused, unless, granted, found, unpaused, stepped, step, lost, taken_back, undo, rollback, why, redone, shown, outcome, answer, obey}
+use Rattle.cdb_control.specs.Commands.{Outcome, refused, unless, granted, found, unpaused, stepped, step, lost, taken_back, undo, rollback, why, redone, show, outcome, answer, obey}
 use Rattle.cdb_control.specs.Headline.{undoing, rolling_back, TellsTaken, TellsRedone, IsUndoneWhereFree, IsUndoneNext, RedosLeadBack, IsRolledBackAndForth, HoldsAt, Headline}
 use Rattle.cdb_control.specs.Journal.{replay_from, replay, AreOfSeats, IsReplayed}
 use Rattle.cdb_rules.specs.EventRefs.{name_of}
-use Rattle.cdb_control.specs.State.{State, first_state, redo_of, last_of, AreOfRun}
+use Rattle.cdb_control.specs.State.{State, first_control_state, redo_of, last_of, AreOfRun}
 use Rattle.cdb_control.specs.Stops.{names_none_of}
 use Rattle.cdb_control.specs.declared.command.Command.{Command}
 use Rattle.cdb_control.specs.declared.command.Command.TheVariants.{Step, Auto, Lose, Undo, UndoLost, Redo, Forget, Rollback, RollbackLost, Why, WhyLost, Break, Unbreak, Resume, Show, Decisions}
@@ -137,11 +138,11 @@ module _ (rules : Rules) (SameState : List Event → List Event → Type 0) (t :
   why-keeps : (name : StepId) → Keeps (why t name)
   why-keeps name = granted-keeps (causes_of t.setup.processes t.history name) _ (λ causes h. quiet _ refl refl (λ event tells. tells))
 
-  shown-keeps : (v : View) → Keeps (shown rules t v)
-  shown-keeps (view.Proc p) = found-keeps (rules.process t.history p) NoProcess _ (λ process h. quiet _ refl refl (λ event tells. tells))
-  shown-keeps view.Regs = quiet _ refl refl (λ event tells. tells)
-  shown-keeps view.Mail = quiet _ refl refl (λ event tells. tells)
-  shown-keeps view.History = quiet _ refl refl (λ event tells. tells)
+  show-keeps : (v : View) → Keeps (show rules t v)
+  show-keeps (view.Proc p) = found-keeps (rules.process t.history p) NoProcess _ (λ process h. quiet _ refl refl (λ event tells. tells))
+  show-keeps view.Regs = quiet _ refl refl (λ event tells. tells)
+  show-keeps view.Mail = quiet _ refl refl (λ event tells. tells)
+  show-keeps view.History = quiet _ refl refl (λ event tells. tells)
 
   pub obeyed-keeps : (seat : ℕ) (command : Command) → Keeps (outcome rules t seat command)
   unfolding outcome
@@ -160,11 +161,11 @@ module _ (rules : Rules) (SameState : List Event → List Event → Type 0) (t :
   obeyed-keeps seat (WhyLost s m p) = why-keeps (name_of (named.Lost s m p))
   obeyed-keeps seat (Break stop) =
       unless-keeps (names_none_of t.setup.processes stop) NoProcess _
-      (unless-keeps (nat_le 99 (length t.stops)) BreakLimit _ (quiet _ refl refl (λ event tells. tells)))
+      (unless-keeps (nat_le MAX_BREAKPOINTS (length t.stops)) BreakLimit _ (quiet _ refl refl (λ event tells. tells)))
   obeyed-keeps seat (Unbreak number) =
       unless-keeps (not (is_some (lookup (nat_eq number) t.stops))) NoBreak _ (quiet _ refl refl (λ event tells. tells))
   obeyed-keeps seat Resume = quiet _ refl refl (λ event tells. tells)
-  obeyed-keeps seat (Show v) = shown-keeps v
+  obeyed-keeps seat (Show v) = show-keeps v
   obeyed-keeps seat Decisions = quiet _ refl refl (λ event tells. tells)
 
 -- ---- the commands that undo, roll back and redo
@@ -406,12 +407,12 @@ module _ (rules : Rules) (SameState : List Event → List Event → Type 0) (set
   replayed-sound [] t sound all = sound
   replayed-sound (e ∷ es) t sound all = replayed-sound es (obey rules t e.seat e.command) (obeyed-sound t e sound all.0) all.1
 
-  first-sound : IsSound (first_state setup seats)
+  first-sound : IsSound (first_control_state setup seats)
   first-sound = record { setup_is = refl; lists = length-replicate seats []; of_run = (tt, all-replicate (AllByRecursion (IsOfRun setup)) seats [] tt); valid = keeps.nothing }
 
   replay-sound : (journal : List Entry) → AreOfSeats seats journal → IsSound (replay rules setup seats journal)
   unfolding replay
-  replay-sound journal all = replayed-sound journal (first_state setup seats) first-sound all
+  replay-sound journal all = replayed-sound journal (first_control_state setup seats) first-sound all
 
   pub holds : (journal : List Entry) → AreOfSeats seats journal → HoldsAt rules SameState setup seats (replay rules setup seats journal)
   holds journal all =

@@ -5,6 +5,7 @@ pub mod Room
 pub mod Along
 pub mod Steps
 pub mod Refused
+pub mod Least
 pub mod Own
 pub mod FirstDependent
 pub mod Headline

@@ -5,7 +5,7 @@ use Rattle.cdb_control.specs.declared.control.Entry.{Entry}
 use Rattle.cdb_setup.specs.Parts.{Parts}
 use Rattle.cdb_control.specs.Answer.{Answer}
 use Rattle.cdb_rules.specs.Rules.{Rules}
-use Rattle.cdb_control.specs.State.{State, first_state}
+use Rattle.cdb_control.specs.State.{State, first_control_state}
 use Rattle.cdb_control.specs.Commands.{answer, obey}
 use Rattle.cdb_control.specs.Journal.{entry, replay_from, replay, own, replies_from, replies_of, Begins}
 
@@ -69,7 +69,7 @@ replies_from-none rules t seat (e ∷ es) none =
 -- what others did adds no reply of this seat
 pub replies_of-same : (rules : Rules) (setup : Parts) (seats seat : ℕ) (seen journal : List Entry) → Begins seen journal → own seat journal ≡ own seat seen → replies_of rules setup seats seat journal ≡ replies_of rules setup seats seat seen
 replies_of-same rules setup seats seat seen journal begins same =
-    let t = first_state setup seats in
+    let t = first_control_state setup seats in
     let rest = begins.0 in
     let none : own seat rest ≡ [] = nothing_added (own seat seen) (own seat rest) (sym (own-append seat seen rest) ∙ ap (own seat) (sym begins.1) ∙ same) in
     ap (replies_from rules t seat) begins.1 ∙ replies_from-append rules t seat seen rest ∙ ap (λ l. replies_from rules t seat seen ++ l) (replies_from-none rules (replay_from rules t seen) seat rest none) ∙ append-nil (replies_from rules t seat seen)
@@ -78,5 +78,5 @@ replies_of-same rules setup seats seat seen journal begins same =
 pub replies_of-push : (rules : Rules) (setup : Parts) (seats seat : ℕ) (journal : List Entry) (command : Command) → replies_of rules setup seats seat (journal ++ entry seat command ∷ []) ≡ replies_of rules setup seats seat journal ++ answer rules (replay rules setup seats journal) seat command ∷ []
 unfolding replay
 replies_of-push rules setup seats seat journal command =
-    let t = first_state setup seats in
+    let t = first_control_state setup seats in
     replies_from-append rules t seat journal (entry seat command ∷ []) ∙ ap (λ b. replies_from rules t seat journal ++ cond b (answer rules (replay_from rules t journal) seat command ∷ []) []) (same_seat seat)

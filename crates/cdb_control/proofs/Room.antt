@@ -8,10 +8,11 @@ use Rattle.cdb_base.specs.declared.event.Event.{Event}
 use Rattle.cdb_base.specs.declared.name.StepId.{StepId}
 use Rattle.cdb_base.specs.declared.refusal.Refusal.{Refusal}
 use Rattle.cdb_base.specs.declared.refusal.Refusal.TheVariants.{NoProcess, NothingToRedo, NoBreak, BreakLimit}
+use Rattle.cdb_base.specs.declared.limits.TheConstants.{MAX_BREAKPOINTS}
 use Rattle.cdb_control.specs.Answer.{Answer}
 use Rattle.cdb_control.specs.Answer as reply
 use Rattle.cdb_control.specs.Auto.{choice}
-use Rattle.cdb_control.specs.Commands.{Outcome, unless, granted, found, unpaused, stepped, step, lost, undo, rollback, why, redone, shown, outcome}
+use Rattle.cdb_control.specs.Commands.{Outcome, unless, granted, found, unpaused, stepped, step, lost, undo, rollback, why, redone, show, outcome}
 use Rattle.cdb_control.specs.Done.{NoneShrinks}
 use Rattle.cdb_rules.specs.EventRefs.{name_of}
 use Rattle.cdb_rules.proofs.Removed.{removed-one}
@@ -169,11 +170,11 @@ module _ (rules : Rules) (t : State) (seat : ℕ) (low : seat - 1 < length t.red
   why-spends : (name : StepId) → Spends seat t (why t name)
   why-spends name = granted-kept seat (causes_of t.setup.processes t.history name) t _ (λ causes. kept seat t _ refl (omega arith))
 
-  shown-spends : (v : View) → Spends seat t (shown rules t v)
-  shown-spends (view.Proc p) = found-kept seat (rules.process t.history p) NoProcess t _ (λ process. kept seat t _ refl (omega arith))
-  shown-spends view.Regs = kept seat t _ refl (omega arith)
-  shown-spends view.Mail = kept seat t _ refl (omega arith)
-  shown-spends view.History = kept seat t _ refl (omega arith)
+  show-spends : (v : View) → Spends seat t (show rules t v)
+  show-spends (view.Proc p) = found-kept seat (rules.process t.history p) NoProcess t _ (λ process. kept seat t _ refl (omega arith))
+  show-spends view.Regs = kept seat t _ refl (omega arith)
+  show-spends view.Mail = kept seat t _ refl (omega arith)
+  show-spends view.History = kept seat t _ refl (omega arith)
 
   step-spends : (p : ℕ) (act : Act) → Spends seat t (step rules t p act)
   step-spends p act = granted-kept seat (rules.step t.history p act) t (stepped rules t p) (λ e. kept seat t _ refl (omega arith))
@@ -193,10 +194,10 @@ module _ (rules : Rules) (t : State) (seat : ℕ) (low : seat - 1 < length t.red
   spends (WhyLost s m p) = why-spends (name_of (named.Lost s m p))
   spends (Break stop) =
       unless-kept seat (names_none_of t.setup.processes stop) NoProcess t _
-      (unless-kept seat (nat_le 99 (length t.stops)) BreakLimit t _ (kept seat t _ refl (omega arith)))
+      (unless-kept seat (nat_le MAX_BREAKPOINTS (length t.stops)) BreakLimit t _ (kept seat t _ refl (omega arith)))
   spends (Unbreak number) = unless-kept seat (not (is_some (lookup (nat_eq number) t.stops))) NoBreak t _ (kept seat t _ refl (omega arith))
   spends Resume = kept seat t _ refl (omega arith)
-  spends (Show v) = shown-spends v
+  spends (Show v) = show-spends v
   spends Decisions = kept seat t _ refl (omega arith)
 
 -- ---- what is promised stays in memory

@@ -10,8 +10,9 @@ use Rattle.cdb_base.specs.declared.event.Event.{Event}
 use Rattle.cdb_base.specs.declared.name.StepId.{StepId}
 use Rattle.cdb_base.specs.declared.refusal.Refusal.{Refusal}
 use Rattle.cdb_base.specs.declared.refusal.Refusal.TheVariants.{NoProcess, NothingToRedo, NoBreak, BreakLimit}
+use Rattle.cdb_base.specs.declared.limits.TheConstants.{MAX_BREAKPOINTS}
 use Rattle.cdb_control.specs.Auto.{choice}
-use Rattle.cdb_control.specs.Commands.{Outcome, unless, granted, found, unpaused, stepped, step, lost, taken_back, undo, rollback, why, redone, shown, outcome, obey}
+use Rattle.cdb_control.specs.Commands.{Outcome, unless, granted, found, unpaused, stepped, step, lost, taken_back, undo, rollback, why, redone, show, outcome, obey}
 use Rattle.cdb_rules.specs.EventRefs.{name_of}
 use Rattle.cdb_control.specs.State.{State, held, redo_of, last_of, AreOfRun}
 use Rattle.cdb_control.specs.Stops.{names_none_of}
@@ -138,11 +139,11 @@ module _ (rules : Rules) (t : State) (lawful : AreLawful rules t.setup) where
 why-adds : (t : State) (name : StepId) → Adds t (why t name).after
 why-adds t name = granted-adds (causes_of t.setup.processes t.history name) t _ (λ causes h. nothing t)
 
-shown-adds : (rules : Rules) (t : State) (v : View) → Adds t (shown rules t v).after
-shown-adds rules t (view.Proc p) = found-adds (rules.process t.history p) NoProcess t _ (λ process h. nothing t)
-shown-adds rules t view.Regs = nothing t
-shown-adds rules t view.Mail = nothing t
-shown-adds rules t view.History = nothing t
+show-adds : (rules : Rules) (t : State) (v : View) → Adds t (show rules t v).after
+show-adds rules t (view.Proc p) = found-adds (rules.process t.history p) NoProcess t _ (λ process h. nothing t)
+show-adds rules t view.Regs = nothing t
+show-adds rules t view.Mail = nothing t
+show-adds rules t view.History = nothing t
 
 stops_only : (t : State) (u : State) → u.setup ≡ t.setup → u.history ≡ t.history → u.redo ≡ t.redo → u.next ≤ t.next + 1 → Adds t u
 stops_only t u setup history redo numbers =
@@ -171,9 +172,9 @@ obey-adds rules t lawful seat (Why p k) from_one to_last = why-adds t (name_of (
 obey-adds rules t lawful seat (WhyLost s m p) from_one to_last = why-adds t (name_of (named.Lost s m p))
 obey-adds rules t lawful seat (Break stop) from_one to_last =
     unless-adds (names_none_of t.setup.processes stop) NoProcess t _
-    (unless-adds (nat_le 99 (length t.stops)) BreakLimit t _ (stops_only t _ refl refl refl (omega arith)))
+    (unless-adds (nat_le MAX_BREAKPOINTS (length t.stops)) BreakLimit t _ (stops_only t _ refl refl refl (omega arith)))
 obey-adds rules t lawful seat (Unbreak number) from_one to_last =
     unless-adds (not (is_some (lookup (nat_eq number) t.stops))) NoBreak t _ (stops_only t _ refl refl refl (omega arith))
 obey-adds rules t lawful seat Resume from_one to_last = stops_only t _ refl refl refl (omega arith)
-obey-adds rules t lawful seat (Show v) from_one to_last = shown-adds rules t v
+obey-adds rules t lawful seat (Show v) from_one to_last = show-adds rules t v
 obey-adds rules t lawful seat Decisions from_one to_last = nothing t

@@ -24,9 +24,9 @@ abbrev pub first_possible : (Act → Option Refusal) → List Act → Result Act
 first_possible refuses acts = ok_or (find (λ a. is_none (refuses a)) acts) refusal.Idle
 
 -- where there is a refusal it is returned
-abbrev pub unless : Option Refusal → Result Act Refusal → Result Act Refusal
-unless (Some why) possible = Err why
-unless None possible = possible
+abbrev pub unless_stopped : Option Refusal → Result Act Refusal → Result Act Refusal
+unless_stopped (Some why) possible = Err why
+unless_stopped None possible = possible
 
 -- Why a process takes no step at all: it has crashed, it has decided, or it has taken all the steps that it may.
 abbrev pub stopped : Shown → Option Refusal
@@ -38,7 +38,7 @@ stopped process =
 -- `auto` has refusals of its own, and then takes the first possible act, if there is one
 abbrev pub chosen : Option Shown → Result Act Refusal → Result Act Refusal
 chosen None possible = Err refusal.NoProcess
-chosen (Some process) possible = unless (stopped process) possible
+chosen (Some process) possible = unless_stopped (stopped process) possible
 
 abbrev pub choice : Rules → List Event → ℕ → Result Act Refusal
 choice rules history p =

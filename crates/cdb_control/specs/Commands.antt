@@ -1,11 +1,12 @@
 -- What each command does, and its reply.
-use Rattle.std.specs.Prelude.{ℕ, ◌+◌, nat_le, nat_eq, Bool, true, false, not, List, [], ◌∷◌, ◌++◌, length, Option, Some, None, Result, Ok, Err, is_some}
+use Rattle.std.specs.Prelude.{◌≡◌, ℕ, ◌+◌, nat_le, nat_eq, Bool, true, false, not, List, [], ◌∷◌, ◌++◌, length, Option, Some, None, Result, Ok, Err, is_some}
 use Rattle.std.specs.Map.{lookup, remove_entry}
 use Rattle.std.specs.Option.{option_or}
 use Rattle.cdb_base.specs.Positions.{without_last}
 use Rattle.cdb_base.specs.declared.act.Act.{Act}
 use Rattle.cdb_base.specs.declared.event.Event.{Event}
 use Rattle.cdb_base.specs.declared.event.Event.TheVariants as event
+use Rattle.cdb_base.specs.declared.limits.TheConstants.{MAX_BREAKPOINTS}
 use Rattle.cdb_base.specs.declared.name.StepId.{StepId}
 use Rattle.cdb_base.specs.declared.refusal.Refusal.{Refusal}
 use Rattle.cdb_base.specs.declared.refusal.Refusal.TheVariants.{NoProcess, Paused, NothingToRedo, NoBreak, BreakLimit}
@@ -14,7 +15,7 @@ use Rattle.cdb_control.specs.Answer as reply
 use Rattle.cdb_control.specs.Auto.{choice}
 use Rattle.cdb_rules.specs.EventRefs.{name_of}
 use Rattle.cdb_control.specs.State.{State, redo_of, with_redo, last_of}
-use Rattle.cdb_control.specs.Stops.{Stops, first_fired, names_none_of}
+use Rattle.cdb_control.specs.Stops.{Stops, first_fired, names_none_of, IsLeastFired}
 use Rattle.cdb_rules.specs.Views.{seen_as, round_of, decision_of, cells_of, all_open_copies}
 use Rattle.cdb_control.specs.declared.command.Command.{Command}
 use Rattle.cdb_control.specs.declared.command.Command.TheVariants.{Step, Auto, Lose, Undo, UndoLost, Redo, Forget, Rollback, RollbackLost, Why, WhyLost, Break, Unbreak, Resume, Show, Decisions}
@@ -22,7 +23,7 @@ use Rattle.cdb_control.specs.declared.command.Stop.{Stop}
 use Rattle.cdb_control.specs.declared.command.View.{View}
 use Rattle.cdb_control.specs.declared.command.View.TheVariants as view
 use Rattle.cdb_rules.specs.declared.event_ref.EventRef.TheVariants as named
-use Rattle.cdb_control.specs.declared.stops.Taken.{Taken}
+use Rattle.cdb_control.specs.declared.stops.TakenStep.{TakenStep}
 use Rattle.cdb_message.specs.Mail.{message_name}
 use Rattle.cdb_rules.specs.Rules.{Rules}
 use Rattle.cdb_rules.specs.Undo.{undo_of, rollback_of, causes_of}
@@ -62,8 +63,8 @@ unpaused None t go = go
 -- ---- steps and losses
 
 -- what breakpoints look at in a step that a process took
-abbrev pub taken_by : Rules → List Event → ℕ → Event → Taken
-taken_by rules history p e =
+abbrev pub taken_step : Rules → List Event → ℕ → Event → TakenStep
+taken_step rules history p e =
     record {
       event = e;
       decides = decision_of rules (history ++ e ∷ []) p;
@@ -72,15 +73,18 @@ taken_by rules history p e =
     }
 
 -- the pause that a step sets: none where one stands
-abbrev pub newly_fired : Option ℕ → Taken → Stops → Option ℕ
+abbrev pub newly_fired : Option ℕ → TakenStep → Stops → Option ℕ
 newly_fired (Some b) taken stops = None
 newly_fired None taken stops = first_fired taken stops
 
 abbrev pub stepped : Rules → State → ℕ → Event → Outcome
 stepped rules t p e =
-    let taken = taken_by rules t.history p e in
+    let taken = taken_step rules t.history p e in
     let paused = newly_fired t.pause taken t.stops in
-    record { reply = reply.Stepped e taken.decides paused; after = record t { history = t.history ++ e ∷ []; pause = option_or t.pause paused } }
+    record {
+      reply = reply.Stepped e taken.decides paused;
+      after = record t { history = t.history ++ e ∷ []; pause = option_or t.pause paused };
+    }
 
 abbrev pub step : Rules → State → ℕ → Act → Outcome
 step rules t p act = granted (rules.step t.history p act) t (stepped rules t p)
@@ -97,7 +101,8 @@ taken_back t seat events history = record t { history = history; redo = (with_re
 
 abbrev pub undo : State → ℕ → StepId → Outcome
 undo t seat name =
-    granted (undo_of t.setup.processes t.history name) t (λ undone. record { reply = reply.Undone undone.0; after = taken_back t seat (undone.0 ∷ []) undone.1 })
+    granted (undo_of t.setup.processes t.history name) t
+    (λ undone. record { reply = reply.Undone undone.0; after = taken_back t seat (undone.0 ∷ []) undone.1 })
 
 abbrev pub rollback : State → ℕ → StepId → Outcome
 rollback t seat name =
@@ -131,11 +136,23 @@ break_gone t number =
 abbrev pub why : State → StepId → Outcome
 why t name = granted (causes_of t.setup.processes t.history name) t (λ causes. replied t (reply.Because name causes))
 
-abbrev pub shown : Rules → State → View → Outcome
-shown rules t (view.Proc p) = found (rules.process t.history p) NoProcess t (λ process. replied t (reply.Proc (seen_as t.setup p process)))
-shown rules t view.Regs = replied t (reply.Regs (cells_of (rules.registers t.history)))
-shown rules t view.Mail = replied t (reply.Mail (all_open_copies (rules.mail t.history)))
-shown rules t view.History = replied t (reply.History t.history)
+abbrev pub show : Rules → State → View → Outcome
+show rules t (view.Proc p) = found (rules.process t.history p) NoProcess t (λ process. replied t (reply.Proc (seen_as t.setup p process)))
+show rules t view.Regs = replied t (reply.Regs (cells_of (rules.registers t.history)))
+show rules t view.Mail = replied t (reply.Mail (all_open_copies (rules.mail t.history)))
+show rules t view.History = replied t (reply.History t.history)
+
+-- ---- the pause that a step sets
+
+-- none where one stands, and else by the least breakpoint that the step fires
+abbrev pub IsPauseSet : Option ℕ → TakenStep → Stops → Option ℕ → Type 0
+IsPauseSet (Some standing) taken stops paused = paused ≡ None
+IsPauseSet None taken stops paused = IsLeastFired taken stops paused
+
+-- the reply to a step of a process tells it
+abbrev pub TellsPause : Rules → State → ℕ → Answer → Type 0
+TellsPause rules t p (reply.Stepped e decides paused) = IsPauseSet t.pause (taken_step rules t.history p e) t.stops paused
+TellsPause rules t p other = Unit {0}
 
 -- ---- the table of the commands
 
@@ -145,17 +162,19 @@ outcome rules t seat (Auto p) = granted (choice rules t.history p) t (λ act. un
 outcome rules t seat (Lose s m p) = granted (rules.lose t.history (message_name s m) p) t (lost t)
 outcome rules t seat (Undo p k) = undo t seat (name_of (named.Step p k))
 outcome rules t seat (UndoLost s m p) = undo t seat (name_of (named.Lost s m p))
-outcome rules t seat Redo = found (last_of (redo_of t seat)) NothingToRedo t (λ e. granted (rules.again t.history e) t (redone rules t seat))
+outcome rules t seat Redo =
+    found (last_of (redo_of t seat)) NothingToRedo t (λ e. granted (rules.again t.history e) t (redone rules t seat))
 outcome rules t seat Forget = record { reply = reply.Forgot (length (redo_of t seat)); after = with_redo t seat [] }
 outcome rules t seat (Rollback p k) = rollback t seat (name_of (named.Step p k))
 outcome rules t seat (RollbackLost s m p) = rollback t seat (name_of (named.Lost s m p))
 outcome rules t seat (Why p k) = why t (name_of (named.Step p k))
 outcome rules t seat (WhyLost s m p) = why t (name_of (named.Lost s m p))
 outcome rules t seat (Break stop) =
-    unless (names_none_of t.setup.processes stop) NoProcess t (unless (nat_le 99 (length t.stops)) BreakLimit t (break_set t stop))
+    unless (names_none_of t.setup.processes stop) NoProcess t
+    (unless (nat_le MAX_BREAKPOINTS (length t.stops)) BreakLimit t (break_set t stop))
 outcome rules t seat (Unbreak number) = unless (not (is_some (lookup (nat_eq number) t.stops))) NoBreak t (break_gone t number)
 outcome rules t seat Resume = record { reply = reply.Resumed; after = record t { pause = None } }
-outcome rules t seat (Show v) = shown rules t v
+outcome rules t seat (Show v) = show rules t v
 outcome rules t seat Decisions = replied t (reply.Decisions (rules.decisions t.history))
 
 -- the reply to a command of a seat

@@ -33,8 +33,8 @@ undoing (named.Lost copy) = UndoLost copy.msg.s copy.msg.m copy.to
 abbrev pub undo_reply : Rules → State → ℕ → Event → Answer
 undo_reply rules t seat event = answer rules t seat (undoing (event_name event))
 
-abbrev pub after_undo : Rules → State → ℕ → Event → State
-after_undo rules t seat event = obey rules t seat (undoing (event_name event))
+abbrev pub control_after_undo : Rules → State → ℕ → Event → State
+control_after_undo rules t seat event = obey rules t seat (undoing (event_name event))
 
 -- the same of a rollback
 abbrev pub rolling_back : StepId → Command
@@ -44,8 +44,8 @@ rolling_back (named.Lost copy) = RollbackLost copy.msg.s copy.msg.m copy.to
 abbrev pub rollback_reply : Rules → State → ℕ → Event → Answer
 rollback_reply rules t seat event = answer rules t seat (rolling_back (event_name event))
 
-abbrev pub after_rollback : Rules → State → ℕ → Event → State
-after_rollback rules t seat event = obey rules t seat (rolling_back (event_name event))
+abbrev pub control_after_rollback : Rules → State → ℕ → Event → State
+control_after_rollback rules t seat event = obey rules t seat (rolling_back (event_name event))
 
 -- the reply says that the event was taken, or taken again
 abbrev pub TellsTaken : Answer → Event → Type 0
@@ -68,13 +68,13 @@ pub record IsUndoneWhereFree (rules : Rules) (t : State) (seat i : ℕ) (event :
       → (undo_reply rules t seat event ≡ Refused (NeededBy later)) ↔ IsFirstDependent t.history i later
   pub either : IsFree depends t.history i ⊎ ((later : StepId) × IsFirstDependent t.history i later)
   pub loss : (copy : CopyName) → event ≡ Lost copy → IsFree depends t.history i
-  pub left : IsFree depends t.history i → (after_undo rules t seat event).history ≡ without t.history i
+  pub left : IsFree depends t.history i → (control_after_undo rules t seat event).history ≡ without t.history i
 
 -- After a command that took the event, the reply to its undo is Undone, and it leaves the history, and so the run state, from
 -- before the command.
 pub record IsUndoneNext (rules : Rules) (before after : State) (event : Event) (seat : ℕ) : Type 0 where
   pub undone : undo_reply rules after seat event ≡ Undone event
-  pub left : (after_undo rules after seat event).history ≡ before.history
+  pub left : (control_after_undo rules after seat event).history ≡ before.history
 
 -- From t the seat's redos, one for each of the events, take these again in order, whatever commands come between that
 -- leave the history and the seat's redo list as they are. Then the run is in the state from before, and the list as it
@@ -93,8 +93,8 @@ RedosLeadBack rules SameState before seat t (event ∷ events) =
 pub record IsRolledBackAndForth (rules : Rules) (SameState : List Event → List Event → Type 0) (t : State) (seat i : ℕ) (event : Event) : Type 0 where
   pub gone : List Event
   pub told : rollback_reply rules t seat event ≡ RolledBack (length gone)
-  pub exactly : IsParted (IsRolledBack depends t.history i) 0 t.history (after_rollback rules t seat event).history gone
-  pub back : RedosLeadBack rules SameState t seat (after_rollback rules t seat event) gone
+  pub exactly : IsParted (IsRolledBack depends t.history i) 0 t.history (control_after_rollback rules t seat event).history gone
+  pub back : RedosLeadBack rules SameState t seat (control_after_rollback rules t seat event) gone
 
 -- ---- the headline
 
@@ -110,7 +110,7 @@ pub record HoldsAt (rules : Rules) (SameState : List Event → List Event → Ty
       → IsUndoneNext rules t (obey rules t seat command) event other
   -- undo then redo is the identity
   pub undo_then_redo : (seat : ℕ) (event : Event) → IsWithin 1 seats seat → undo_reply rules t seat event ≡ Undone event
-      → RedosLeadBack rules SameState t seat (after_undo rules t seat event) (event ∷ [])
+      → RedosLeadBack rules SameState t seat (control_after_undo rules t seat event) (event ∷ [])
   -- a rollback removes an event with exactly its consequences, and as many redos lead back
   pub rolled_back : (seat i : ℕ) (event : Event) → IsWithin 1 seats seat → slice_get t.history i ≡ Some event
       → IsRolledBackAndForth rules SameState t seat i event

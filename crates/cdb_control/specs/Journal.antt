@@ -2,12 +2,12 @@
 -- is the journal's replay.
 use Rattle.std.specs.Prelude.{◌≡◌, ℕ, ◌+◌, ◌≤◌, ◌==◌, List, [], ◌∷◌, ◌++◌, length, replicate, fold, if◌then◌else◌}
 use Rattle.std.specs.List.{AllByRecursion}
-use Rattle.cdb_base.specs.declared.limits.TheConstants.{MAX_ENTRIES}
+use Rattle.cdb_base.specs.declared.limits.TheConstants.{MAX_ENTRIES, MAX_SEATS}
 use Rattle.cdb_control.specs.declared.command.Command.{Command}
 use Rattle.cdb_control.specs.declared.control.Entry.{Entry}
 use Rattle.cdb_setup.specs.Parts.{Parts, AreInRange}
 use Rattle.cdb_rules.specs.Rules.{Rules}
-use Rattle.cdb_control.specs.State.{State, first_state, held, AreOfRun}
+use Rattle.cdb_control.specs.State.{State, first_control_state, held, AreOfRun}
 use Rattle.cdb_control.specs.Commands.{answer, obey}
 use Rattle.cdb_control.specs.Room.{lowered}
 use Rattle.cdb_control.specs.Answer.{Answer}
@@ -29,22 +29,19 @@ abbrev pub replay_from : Rules → State → List Entry → State
 replay_from rules t journal = fold (λ state e. obey rules state e.seat e.command) t journal
 
 unfoldable pub replay : Rules → Parts → ℕ → List Entry → State
-replay rules setup seats journal = replay_from rules (first_state setup seats) journal
+replay rules setup seats journal = replay_from rules (first_control_state setup seats) journal
 
-abbrev pub state_of : Rules → Journaled → State
-state_of rules c = replay rules c.setup c.seats c.journal
-
--- that state by the rules of its own setup, and the reply that a command of a seat gets in it
-abbrev pub state_in : (Parts → Rules) → Journaled → State
-state_in rules c = state_of (rules c.setup) c
+-- the control state that the journal leads to, by the rules of the setup, and the reply that a command of a seat gets in it
+abbrev pub control_state : (Parts → Rules) → Journaled → State
+control_state rules c = replay (rules c.setup) c.setup c.seats c.journal
 
 abbrev pub reply_in : (Parts → Rules) → Journaled → ℕ → Command → Answer
-reply_in rules c seat command = answer (rules c.setup) (state_in rules c) seat command
+reply_in rules c seat command = answer (rules c.setup) (control_state rules c) seat command
 
 -- one entry more
-abbrev pub extended : Rules → Journaled → ℕ → Command → Journaled
+abbrev pub extended : (Parts → Rules) → Journaled → ℕ → Command → Journaled
 extended rules c seat command =
-    record c { journal = c.journal ++ entry seat command ∷ []; rooms = lowered c.rooms seat (answer rules (state_of rules c) seat command) }
+    record c { journal = c.journal ++ entry seat command ∷ []; rooms = lowered c.rooms seat (reply_in rules c seat command) }
 
 -- the commands of a seat
 abbrev pub own : ℕ → List Entry → List Command
@@ -59,7 +56,7 @@ replies_from rules t seat (e ∷ es) =
     else replies_from rules (obey rules t e.seat e.command) seat es
 
 abbrev pub replies_of : Rules → Parts → ℕ → ℕ → List Entry → List Answer
-replies_of rules setup seats seat journal = replies_from rules (first_state setup seats) seat journal
+replies_of rules setup seats seat journal = replies_from rules (first_control_state setup seats) seat journal
 
 -- the first journal is a beginning of the second
 abbrev pub Begins : List Entry → List Entry → Type 0
@@ -73,7 +70,7 @@ AreOfSeats seats journal = AllByRecursion (λ e. (1 ≤ e.seat) × (e.seat ≤ s
 pub record IsReplayed (rules : Rules) (setup : Parts) (seats : ℕ) (journal : List Entry) (state : State) : Type 0 where
   pub replayed : replay rules setup seats journal ≡ state
   pub some_seat : 1 ≤ seats
-  pub few_seats : seats ≤ 64
+  pub few_seats : seats ≤ MAX_SEATS
   pub of_seats : AreOfSeats seats journal
   pub few_entries : length journal ≤ MAX_ENTRIES
   pub lists : length state.redo ≡ seats

@@ -53,4 +53,5 @@ pub record StoredState : Type 0 where
 pub record HasRoom (entries space : ℕ) (rooms : List ℕ) (stored : StoredState) : Type 0 where
   pub seats : length rooms ≡ length stored.state.redo
   pub journal : (i : ℕ) → 0 < slice_index_or rooms i 0 → entries + slice_index_or rooms i 0 ≤ space
-  pub lists : (i : ℕ) → 0 < slice_index_or rooms i 0 → length (slice_index_or stored.state.redo i []) + slice_index_or rooms i 0 ≤ slice_index_or stored.capacities i 0
+  pub lists : (i : ℕ) → 0 < slice_index_or rooms i 0
+      → length (slice_index_or stored.state.redo i []) + slice_index_or rooms i 0 ≤ slice_index_or stored.capacities i 0

@@ -17,8 +17,8 @@ pub record State : Type 0 where
   -- for each seat the events that it undid, the last undone at the end
   pub redo : List (List Event)
 
-abbrev pub first_state : Parts → ℕ → State
-first_state setup seats = record { setup = setup; history = []; stops = []; next = 1; pause = None; redo = replicate seats [] }
+abbrev pub first_control_state : Parts → ℕ → State
+first_control_state setup seats = record { setup = setup; history = []; stops = []; next = 1; pause = None; redo = replicate seats [] }
 
 -- the redo list of a seat
 abbrev pub redo_of : State → ℕ → List Event

@@ -1,5 +1,5 @@
 -- Breakpoints: a list of numbered stops in order of setting.
-use Rattle.std.specs.Prelude.{ℕ, ◌+◌, ◌++◌, nat_eq, ◌==◌, ◌<◌, Bool, true, false, not, ◌&&◌, List, [], ◌∷◌, Option, is_some, option_map, find}
+use Rattle.std.specs.Prelude.{ℕ, ◌+◌, ◌++◌, nat_eq, ◌==◌, ◌<◌, ◌≤◌, Bool, true, false, not, ◌&&◌, List, [], ◌∷◌, Contains, Option, Some, None, IsTrue, is_some, option_map, find}
 use Rattle.std.specs.List.{AllByRecursion}
 use Rattle.std.specs.Map.{remove_entry}
 use Rattle.cdb_base.specs.Event.{is_step_of}
@@ -11,7 +11,7 @@ use Rattle.cdb_base.specs.declared.register.Reg.{Reg}
 use Rattle.cdb_base.specs.declared.register.Reg.TheVariants.{R, Dec}
 use Rattle.cdb_control.specs.declared.command.Stop.{Stop}
 use Rattle.cdb_control.specs.declared.command.Stop.TheVariants as stop
-use Rattle.cdb_control.specs.declared.stops.Taken.{Taken}
+use Rattle.cdb_control.specs.declared.stops.TakenStep.{TakenStep}
 use Rattle.cdb_rules.specs.Step.{is_among}
 
 abbrev pub Stops : Type 0
@@ -26,14 +26,24 @@ is_write_of x (Step p k (kind.Write y)) = same_register x y
 is_write_of x _ = false
 
 -- whether a step that was taken fires a stop
-abbrev pub fires : Taken → Stop → Bool
+abbrev pub fires : TakenStep → Stop → Bool
 fires taken (stop.Decide p) = is_step_of p taken.event && is_some taken.decides
 fires taken (stop.Round p round) = is_step_of p taken.event && taken.round_after == round && not (taken.round_before == round)
 fires taken (stop.Recv p) = is_step_of p taken.event && is_receive taken.event
 fires taken (stop.Write register) = is_write_of register taken.event
 
--- the number of the first breakpoint that a step fires. Numbers rise in order of setting, so it is the least
-abbrev pub first_fired : Taken → Stops → Option ℕ
+-- a standing breakpoint of this number is one that the step fires
+abbrev pub IsFired : TakenStep → Stops → ℕ → Type 0
+IsFired taken stops number = (stop : Stop) × Contains stops (number, stop) × IsTrue (fires taken stop)
+
+-- the least number of those that the step fires; none where it fires none
+abbrev pub IsLeastFired : TakenStep → Stops → Option ℕ → Type 0
+IsLeastFired taken stops (Some number) = IsFired taken stops number × ((other : ℕ) → IsFired taken stops other → number ≤ other)
+IsLeastFired taken stops None = (number : ℕ) → IsFired taken stops number → ⊥
+
+-- The number of the first breakpoint that a step fires. Numbers rise in order of setting, so it is the least, as the law
+-- `least_fired` says.
+abbrev pub first_fired : TakenStep → Stops → Option ℕ
 first_fired taken stops = option_map (λ b. b.0) (find (λ b. fires taken b.1) stops)
 
 -- whether a stop names a process or a register of a process that is not among 1 to n

@@ -4,7 +4,7 @@ ghost use Rattle.std.specs.Result.{result_ok};
 ghost use Rattle.cdb_control.specs.Answer.{told, is_refused};
 ghost use Rattle.cdb_control.specs.Auto.{choice};
 ghost use Rattle.cdb_control.specs.Headline.{Headline};
-ghost use Rattle.cdb_control.specs.Journal.{entry, opened, extended, reply_in, state_in, AreOfSeats};
+ghost use Rattle.cdb_control.specs.Journal.{entry, opened, extended, reply_in, control_state, AreOfSeats};
 ghost use Rattle.cdb_control.specs.Room.{is_spared, cost, room_of, with_room, raised};
 
 use crate::command::{Command, Stop, View};
@@ -103,7 +103,7 @@ impl<R: Runs> Control<R> {
     /// fault the setup is given up.
     pub fn open(alloc: Global, setup: Setup, seats: u8) -> Result<Self, OpenFault>
         ensures opened { IfOk result (λ c. c ≡ opened setup seats) }
-        ensures seats { (result ≡ Err OpenFault.Seats) ↔ ((seats ≡ 0) ⊎ (64 < seats)) }
+        ensures seats { (result ≡ Err OpenFault.Seats) ↔ ((seats ≡ 0) ⊎ (MAX_SEATS < seats)) }
         ensures headline { IfOk result
             (λ c. Headline R.rules R.same_state c.setup c.seats c.journal) }
     {
@@ -134,7 +134,7 @@ impl<R: Runs> Control<R> {
         requires to_last { seat ≤ self.old.seats }
         ensures reply { IfOk result (λ r. told r ≡ reply_in R.rules self.old seat command) }
         ensures journal { IfOk result
-            (λ _. self.new ≡ extended (R.rules self.old.setup) self.old seat command) }
+            (λ _. self.new ≡ extended R.rules self.old seat command) }
         ensures fault { OnErr result (self.new ≡ self.old) }
         ensures full { (result ≡ Err CallFault.JournalFull)
             ↔ (length self.old.journal ≡ MAX_ENTRIES) }
@@ -167,7 +167,7 @@ impl<R: Runs> Control<R> {
     pub fn reserve(&mut self, _alloc: Global, seat: u8, count: u32) -> Result<(), NoMemory>
         requires from_one { 1 ≤ seat }
         requires to_last { seat ≤ self.old.seats }
-        requires few { count ≤ 999999 }
+        requires few { count ≤ MAX_ENTRIES }
         ensures ok { OnOk result
             (self.new ≡ record self.old { rooms = raised self.old.rooms seat count }) }
         ensures err { OnErr result (self.new ≡ self.old) }
@@ -191,7 +191,7 @@ impl<R: Runs> Control<R> {
     /// What `auto` would do for a process, whether or not a pause stands; nothing where it would be refused.
     pub fn pick(&self, p: u32) -> Option<Act>
         ensures { result
-            ≡ result_ok (choice (R.rules self.now.setup) (state_in R.rules self.now).history p) }
+            ≡ result_ok (choice (R.rules self.now.setup) (control_state R.rules self.now).history p) }
     {
         self.state.choose(p).ok()
     }
@@ -199,7 +199,7 @@ impl<R: Runs> Control<R> {
     /// The run that the journal leads to.
     pub fn run(&self) -> &R
         ensures setup { (R.run result.now).setup ≡ self.now.setup }
-        ensures history { (R.run result.now).history ≡ (state_in R.rules self.now).history }
+        ensures history { (R.run result.now).history ≡ (control_state R.rules self.now).history }
     {
         self.state.run()
     }
@@ -207,7 +207,7 @@ impl<R: Runs> Control<R> {
     /// The run that the journal leads to; all else of the control is given up.
     pub fn into_run(self) -> R
         ensures setup { (R.run result).setup ≡ self.setup }
-        ensures history { (R.run result).history ≡ (state_in R.rules self).history }
+        ensures history { (R.run result).history ≡ (control_state R.rules self).history }
     {
         let Control { state, .. } = self;
         state.into_run()
@@ -215,7 +215,7 @@ impl<R: Runs> Control<R> {
 
     /// How many seats there are, from 1 to 64.
     pub fn seats(&self) -> u8
-        ensures { (result ≡ self.now.seats) × (1 ≤ result) × (result ≤ 64) }
+        ensures { (result ≡ self.now.seats) × (1 ≤ result) × (result ≤ MAX_SEATS) }
     {
         self.seats
     }

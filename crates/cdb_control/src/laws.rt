@@ -3,10 +3,12 @@ ghost use Rattle.std.specs.Prelude.{◌≡◌, ◌≢◌, ◌≤◌, ℕ, List, 
 ghost use Rattle.cdb_base.specs.Event.{event_name};
 ghost use Rattle.cdb_base.specs.declared.refusal.Refusal.{Refusal};
 ghost use Rattle.cdb_base.specs.declared.refusal.Refusal.TheVariants.{NeededBy, NothingToRedo};
+ghost use Rattle.cdb_base.specs.declared.act.Act.{Act};
 ghost use Rattle.cdb_control.specs.declared.command.Command.{Command};
+ghost use Rattle.cdb_control.specs.declared.command.Command.TheVariants.{Step, Auto};
 ghost use Rattle.cdb_control.specs.declared.control.Entry.{Entry};
 ghost use Rattle.cdb_control.specs.Answer.{Stepped, Undone, Redone, RolledBack, History, Decisions, Refused};
-ghost use Rattle.cdb_control.specs.Commands.{answer, obey};
+ghost use Rattle.cdb_control.specs.Commands.{TellsPause, answer, obey};
 ghost use Rattle.cdb_control.specs.Headline.{Headline};
 ghost use Rattle.cdb_control.specs.Journal.{entry, replay, own, replies_of, AreOfSeats, Begins};
 ghost use Rattle.cdb_control.specs.State.{State, redo_of};
@@ -35,6 +37,17 @@ pub fn other_lists_stay()
 pub fn numbers_rise()
     ensures { (rules : Rules) (t : State) (seat : ℕ) (command : Command) →
         t.next ≤ (obey rules t seat command).next }
+{}
+
+/// A step sets a pause by the least breakpoint that it fires, and by none where it fires none or a pause stands.
+#[tactic(auto)]
+pub fn least_fired()
+    ensures by_step { (rules : Rules) (setup : Parts) (seats seat p : ℕ) (journal : List Entry)
+        (act : Act) → let t = replay rules setup seats journal in
+        TellsPause rules t p (answer rules t seat (Step p act)) }
+    ensures by_auto { (rules : Rules) (setup : Parts) (seats seat p : ℕ) (journal : List Entry) →
+        let t = replay rules setup seats journal in
+        TellsPause rules t p (answer rules t seat (Auto p)) }
 {}
 
 /// One command more of a seat adds its reply to the seat's replies.

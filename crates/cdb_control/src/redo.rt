@@ -1,6 +1,7 @@
 //! The redo list of a seat.
 ghost use Rattle.std.specs.Prelude.{◌≡◌, ◌<◌, ◌≤◌, ◌+◌, [], IfOk, OnOk, OnErr, IsOk, length};
 ghost use Rattle.cdb_base.specs.Positions.{without_last};
+ghost use Rattle.cdb_base.specs.declared.limits.TheConstants.{MAX_ENTRIES};
 ghost use Rattle.cdb_control.specs.State.{last_of};
 ghost use Rattle.cdb_rules.specs.EventRefs.{name_of};
 ghost use Rattle.cdb_rules.specs.Refusals.{with_taken};
@@ -115,7 +116,7 @@ impl RedoList {
         run: &mut R,
         name: EventRef,
     ) -> Result<Result<u32, Refusal>, NoMemory>
-        requires { length (R.run run.old).history ≤ 999999 }
+        requires { length (R.run run.old).history ≤ MAX_ENTRIES }
         ensures rolled_back { RollsBackOnto (R.run run.old) (R.run run.new) (name_of name)
             self.old.events self.new.events result }
         ensures capacity { self.old.capacity ≤ self.new.capacity }

@@ -1,20 +1,21 @@
 //! The control state: a run, the breakpoints, the pause and the redo lists.
 ghost use Rattle.std.specs.Prelude.{◌≡◌, ℕ, ◌+◌, ◌-◌, ◌<◌, ◌≤◌, [], true, false, IfOk, OnOk, OnErr, IsOk, replicate, length, map, slice_index_or};
 ghost use Rattle.std.specs.Option.{option_or};
+ghost use Rattle.cdb_base.specs.declared.limits.TheConstants.{MAX_ENTRIES};
 ghost use Rattle.cdb_control.specs.Answer.{is_refused};
 ghost use Rattle.cdb_control.specs.Done.{came_out, Does, IsTaken, NoneShrinks};
 ghost use Rattle.cdb_control.specs.Auto.{choice};
-ghost use Rattle.cdb_control.specs.Commands.{step, undo, rollback, why, shown, decides, newly_fired};
+ghost use Rattle.cdb_control.specs.Commands.{step, undo, rollback, why, show, decides, newly_fired};
 ghost use Rattle.cdb_rules.specs.EventRefs.{name_of};
 ghost use Rattle.cdb_control.specs.Room.{is_spared};
-ghost use Rattle.cdb_control.specs.State.{first_state, held, redo_of, AreOfRun};
+ghost use Rattle.cdb_control.specs.State.{first_control_state, held, redo_of, AreOfRun};
 ghost use Rattle.cdb_rules.specs.Views.{round_of, decision_of};
 ghost use Rattle.cdb_setup.specs.Parts.{AreInRange};
 
 use crate::command::{Command, Stop, View};
 use crate::redo::RedoList;
 use crate::reply::Reply;
-use crate::stops::{Breakpoints, Taken, names_none_of};
+use crate::stops::{Breakpoints, TakenStep, names_none_of};
 use cdb_base::limits::{MAX_BREAKPOINTS, MAX_STEPS};
 use cdb_base::{Act, Event, NoMemory, Refusal, Val};
 use cdb_rules::{EventRef, Runs};
@@ -58,7 +59,7 @@ fn empty_lists(alloc: Global, seats: u8) -> Result<Vec<RedoList>, NoMemory>
 impl<R: Runs> ControlState<R> {
     /// The state in which nothing has happened.
     pub fn open(alloc: Global, setup: Setup, seats: u8) -> Result<Self, NoMemory>
-        ensures { IfOk result (λ t. t.state ≡ first_state setup seats) }
+        ensures { IfOk result (λ t. t.state ≡ first_control_state setup seats) }
     {
         let redo = empty_lists(alloc, seats)?;
         let run = R::start(alloc, setup)?;
@@ -115,7 +116,7 @@ impl<R: Runs> ControlState<R> {
     /// Sets a breakpoint.
     #[tactic(auto, unfolding(crate::specs::Commands::outcome))]
     pub fn set_break(&mut self, stop: Stop) -> Result<Reply, NoMemory>
-        requires { self.old.state.next ≤ 999999 }
+        requires { self.old.state.next ≤ MAX_ENTRIES }
         ensures ok { IfOk result
             (λ r. (seat : ℕ) →
             Does R.rules self.old.state seat (Command.Break stop) r self.new.state) }
@@ -139,7 +140,7 @@ impl<R: Runs> ControlState<R> {
     pub fn forget(&mut self, seat: u8) -> Reply
         requires from_one { 1 ≤ seat }
         requires to_last { seat ≤ length self.old.state.redo }
-        requires few { held self.old.state ≤ 999999 }
+        requires few { held self.old.state ≤ MAX_ENTRIES }
         ensures table { Does R.rules self.old.state seat Command.Forget result self.new.state }
         ensures capacities { NoneShrinks self.old.capacities self.new.capacities }
     {
@@ -188,7 +189,7 @@ impl<R: Runs> ControlState<R> {
     pub fn rollback(&mut self, alloc: Global, seat: u8, name: EventRef) -> Result<Reply, NoMemory>
         requires from_one { 1 ≤ seat }
         requires to_last { seat ≤ length self.old.state.redo }
-        requires few { held self.old.state ≤ 999999 }
+        requires few { held self.old.state ≤ MAX_ENTRIES }
         ensures ok { IfOk result
             (λ r. came_out r self.new.state ≡ rollback self.old.state seat (name_of name)) }
         ensures err { OnErr result (self.new.state ≡ self.old.state) }
@@ -268,7 +269,7 @@ impl<R: Runs> ControlState<R> {
     }
 
     /// Sets the pause, where none stands and a breakpoint fires.
-    fn fire(&mut self, taken: &Taken) -> Option<u32>
+    fn fire(&mut self, taken: &TakenStep) -> Option<u32>
         ensures fired { result ≡ newly_fired self.old.state.pause taken.now self.old.state.stops }
         ensures after { self.new.state
             ≡ record self.old.state { pause = option_or self.old.state.pause result } }
@@ -295,7 +296,7 @@ impl<R: Runs> ControlState<R> {
         match self.run.step(alloc, p, act)? {
             Ok(event) => {
                 let (decides, round_after) = self.decision_and_round_of(p);
-                let taken = Taken {
+                let taken = TakenStep {
                     event,
                     decides,
                     round_before,
@@ -401,7 +402,7 @@ impl<R: Runs> ControlState<R> {
 
     fn show_process(&self, p: u32) -> Reply
         ensures { came_out result self.now.state
-            ≡ shown (R.rules self.now.state.setup) self.now.state (View.Proc p) }
+            ≡ show (R.rules self.now.state.setup) self.now.state (View.Proc p) }
     {
         match self.run.view(p) {
             Some(process) => Reply::Proc(process),
@@ -444,8 +445,8 @@ impl<R: Runs> ControlState<R> {
     pub fn perform(&mut self, alloc: Global, seat: u8, command: Command) -> Result<Reply, NoMemory>
         requires from_one { 1 ≤ seat }
         requires to_last { seat ≤ length self.old.state.redo }
-        requires few { held self.old.state ≤ 999999 }
-        requires numbers { self.old.state.next ≤ 999999 }
+        requires few { held self.old.state ≤ MAX_ENTRIES }
+        requires numbers { self.old.state.next ≤ MAX_ENTRIES }
         requires of_run { AreOfRun self.old.state }
         requires in_range { AreInRange self.old.state.setup }
         ensures ok { IfOk result

@@ -2,6 +2,7 @@
 ghost use Rattle.std.specs.Prelude.{◌≡◌, ◌≤◌, ◌==◌, ◌&&◌, [], IfOk, OnOk, OnErr, length, nat_eq, not, is_some};
 ghost use Rattle.std.specs.Map.{lookup};
 ghost use Rattle.cdb_base.specs.Event.{is_step_of};
+ghost use Rattle.cdb_base.specs.declared.limits.TheConstants.{MAX_ENTRIES};
 ghost use Rattle.cdb_control.specs.Stops.{fires, first_fired, is_receive, is_write_of, names_none_of, with_stop, without_stop};
 ghost use Rattle.cdb_rules.specs.Step.{is_among};
 
@@ -13,14 +14,14 @@ use std::marker::Model;
 
 /// What breakpoints look at in a step that was taken.
 #[derive(Clone, Copy, Debug, PartialEq)]
-pub struct Taken {
+pub struct TakenStep {
     pub event: Event,
     pub decides: Option<Val>,
     pub round_before: u32,
     pub round_after: u32,
 }
 
-impl Taken {
+impl TakenStep {
     /// Whether the step fires a breakpoint.
     pub fn fires(&self, stop: &Stop) -> bool
         ensures { result ≡ fires self.now stop.now }
@@ -108,7 +109,7 @@ impl Breakpoints {
 
     /// Sets a breakpoint, and gives its number. After `NoMemory` nothing has changed.
     pub fn set(&mut self, stop: Stop) -> Result<u32, NoMemory>
-        requires { self.old.next ≤ 999999 }
+        requires { self.old.next ≤ MAX_ENTRIES }
         ensures number { IfOk result (λ number. number ≡ self.old.next) }
         ensures ok { OnOk result (self.new ≡ with_stop self.old stop) }
         ensures err { OnErr result (self.new ≡ self.old) }
@@ -135,7 +136,7 @@ impl Breakpoints {
     }
 
     /// The number of the first breakpoint that a step fires.
-    pub fn first_fired(&self, taken: &Taken) -> Option<u32>
+    pub fn first_fired(&self, taken: &TakenStep) -> Option<u32>
         ensures { result ≡ first_fired taken.now self.now.stops }
     {
         for (number, stop) in self.standing.iter() {

@@ -32,7 +32,7 @@ grown : (s : Session) (requests : List Request) → length s.control.journal ≤
 grown s [] few = sym (ap (take MAX_ENTRIES) (append-nil s.control.journal) ∙ take_all MAX_ENTRIES s.control.journal few)
 grown s (Call command ∷ requests) few =
     let c = s.control in
-    let d = extended (s.rules c.setup) c s.seat command in
+    let d = extended s.rules c s.seat command in
     let full = length c.journal == MAX_ENTRIES in
     let is_full : full ≡ true → MAX_ENTRIES ≤ length c.journal = λ yes. let e = (Decides-eqb (length c.journal) MAX_ENTRIES).0 yes in omega (arith, e) in
     let has_room : full ≡ false → length c.journal < MAX_ENTRIES = λ no. not_full (length c.journal) MAX_ENTRIES few no in

@@ -65,7 +65,7 @@ answer_to s TooLong = too_long_text (s.lines + 1)
 abbrev pub control_after : Session → Request → Journaled
 control_after s (Call command) =
     if length s.control.journal == MAX_ENTRIES then s.control
-    else extended (s.rules s.control.setup) s.control s.seat command
+    else extended s.rules s.control s.seat command
 control_after s (Seat seat) = s.control
 control_after s Help = s.control
 control_after s Quit = s.control

@@ -4,7 +4,7 @@ use Rattle.std.specs.Prelude.{[], MatchOption, MatchResult, IfErr, IsOk}
 use Rattle.cdb_base.specs.declared.name.StepId.{StepId}
 use Rattle.cdb_base.specs.declared.refusal.Refusal.{Refusal}
 use Rattle.cdb_explain.specs.Explanations.{because_text}
-use Rattle.cdb_control.specs.Journal.{Journaled, state_in}
+use Rattle.cdb_control.specs.Journal.{Journaled, control_state}
 use Rattle.cdb_play.specs.Faults.{IsFaultOfPlay, IsSetup, of_output}
 use Rattle.cdb_play.specs.Left.{Leaves, run_of}
 use Rattle.cdb_play.specs.Whole.{WritesWhole}
@@ -26,7 +26,7 @@ pub no_memory_as_err : {A : Type 0} (why : OutputFault) → why ≡ output.NoMem
 no_memory_as_err why same = ap (λ (f : OutputFault). Err f) same
 
 -- the run of a control
-pub same_run : (rules : Parts → Rules) (run : RunView) (control : Journaled) → run.setup ≡ control.setup → run.history ≡ (state_in rules control).history → run ≡ run_of rules control
+pub same_run : (rules : Parts → Rules) (run : RunView) (control : Journaled) → run.setup ≡ control.setup → run.history ≡ (control_state rules control).history → run ≡ run_of rules control
 same_run rules run control setup history =
     ap (λ s. let view : RunView = record { setup = s; history = run.history } in view) setup
     ∙ ap (λ h. let view : RunView = record { setup = control.setup; history = h } in view) history

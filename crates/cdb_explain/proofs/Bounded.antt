@@ -4,8 +4,8 @@ use Rattle.std.proofs.lemmas.List.{length-replicate}
 use Rattle.cdb_base.specs.declared.event.Event.{Event}
 use Rattle.cdb_control.proofs.Table.{obey-adds}
 use Rattle.cdb_control.specs.Commands.{obey}
-use Rattle.cdb_control.specs.Journal.{AreOfSeats, Journaled, replay, replay_from, state_in}
-use Rattle.cdb_control.specs.State.{State, first_state, held, waiting}
+use Rattle.cdb_control.specs.Journal.{AreOfSeats, Journaled, replay, replay_from, control_state}
+use Rattle.cdb_control.specs.State.{State, first_control_state, held, waiting}
 use Rattle.cdb_control.specs.declared.control.Entry.{Entry}
 use Rattle.cdb_rules.specs.Lawful.{AreLawful}
 use Rattle.cdb_rules.specs.Rules.{Rules}
@@ -24,10 +24,10 @@ held_after rules (e ∷ journal) t seats lawful lists of_seats =
     let more = held_after rules journal u seats (subst (AreLawful rules) (sym adds.setup) lawful) (adds.lists ∙ lists) of_seats.1 in
     omega (arith, more, adds.events)
 
-pub few_events : (rules : Parts → Rules) → ((setup : Parts) → AreInRange setup → AreLawful (rules setup) setup) → (control : Journaled) → AreInRange control.setup → AreOfSeats control.seats control.journal → length (state_in rules control).history ≤ length control.journal
+pub few_events : (rules : Parts → Rules) → ((setup : Parts) → AreInRange setup → AreLawful (rules setup) setup) → (control : Journaled) → AreInRange control.setup → AreOfSeats control.seats control.journal → length (control_state rules control).history ≤ length control.journal
 unfolding replay
 few_events rules lawful control in_range of_seats =
-    let t = first_state control.setup control.seats in
+    let t = first_control_state control.setup control.seats in
     let none = none_wait control.seats in
     let lists : length t.redo ≡ control.seats = length-replicate control.seats [] in
     let most = held_after (rules control.setup) control.journal t control.seats (lawful control.setup in_range) lists of_seats in

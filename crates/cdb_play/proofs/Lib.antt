@@ -11,6 +11,5 @@ pub mod RaceGrowth
 pub mod SeatsFit
 pub mod RunningFaults
 pub mod Agreeing
-pub mod Told
 pub mod OnHeadline
 pub mod WholeTexts

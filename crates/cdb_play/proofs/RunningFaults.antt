@@ -1,31 +1,40 @@
--- The faults of what was read well.
-use Rattle.std.proofs.Common.{◌≡◌, ◌≢◌, ℕ, ◌+◌, List, [], ◌∷◌, length, suc, refl, ap, arith}
+-- The faults of a race, of those of its parts.
+use Rattle.std.proofs.Common.{◌≡◌, ◌≢◌, inl, inr, ℕ, suc, ◌+◌, Bool, List, [], ◌∷◌, length, Option, Result, Ok, Err, refl, ap, arith}
+use Rattle.std.specs.Prelude.{IfErr}
 use Rattle.cdb_control.specs.declared.command.Command.{Command}
-use Rattle.cdb_race.specs.Faults.{IsAmongSeats}
+use Rattle.cdb_race.specs.Faults.{IsAmongSeats, IsFaultBehind, IsTold}
+use Rattle.cdb_race.specs.Faults as of_race_threads
+use Rattle.cdb_race.specs.Races.{MayFill}
 use Rattle.cdb_race.specs.declared.threads.RaceFault.{RaceFault as ThreadFault}
 use Rattle.cdb_race.specs.declared.threads.RaceFault.TheVariants as threads
+use Rattle.cdb_rules.specs.Rules.{Rules}
 use Rattle.cdb_setup.specs.Format.{Encodes}
 use Rattle.cdb_setup.specs.Order.{IsFirstFault}
 use Rattle.cdb_setup.specs.Parts.{Parts}
 use Rattle.cdb_setup.specs.declared.fault.SetupFault.{SetupFault}
 use Rattle.cdb_setup.specs.declared.fault.SetupFault.TheVariants as setup
-use Rattle.cdb_play.specs.Races.{race_fault_of_setup, race_fault_of_threads, race_fault_of_output, AreScripts, IsFaultOfRunning, IsFaultOfScripts, IsFaultOnSetup, IsFaultOfRace}
+use Rattle.cdb_shared.specs.Gates.{Heard}
+use Rattle.cdb_play.specs.Races.{race_fault_of_setup, race_fault_of_threads, race_fault_of_output, AreScripts, IsFaultUngated, IsFaultOfCommands, IsFaultOfScripts, IsFaultOnSetup, IsFaultOfRace, IsNotStopped}
 use Rattle.cdb_play.specs.declared.buffer.OutputFault.{OutputFault}
 use Rattle.cdb_play.specs.declared.buffer.OutputFault.TheVariants as output
 use Rattle.cdb_play.specs.declared.fault.RaceFault.{RaceFault}
 use Rattle.cdb_play.specs.declared.fault.RaceFault.TheVariants.{Setup, Line, ScriptTooLong, Write, NoMemory, JournalFull, Spawn, Stopped}
 
--- a fault of the threads is one of them
-pub of_threads : (seats : ℕ) (fault : ThreadFault) → IsAmongSeats seats fault → IsFaultOfRunning seats (race_fault_of_threads fault)
-of_threads seats threads.NoMemory is = tt
-of_threads seats threads.JournalFull is = tt
-of_threads seats (threads.Spawn refused) is = tt
-of_threads seats (threads.Stopped seat) is = is
+-- what two clauses say of an error gives a third
+pub both : {A E : Type 0} (result : Result A E) (P Q R : E → Type 0) → ((e : E) → P e → Q e → R e) → IfErr result P → IfErr result Q → IfErr result R
+both (Ok done) P Q R f p q = tt
+both (Err e) P Q R f p q = f e p q
 
--- nor is one of the output another
-pub of_writing : (seats : ℕ) (fault : OutputFault) → IsFaultOfRunning seats (race_fault_of_output fault)
-of_writing seats output.Write = tt
-of_writing seats output.NoMemory = tt
+-- a fault of the threads is one of the race
+pub of_threads : {G : Type 0} (T : Type 0) (rules : Parts → Rules) (heard : G → Option (List Heard)) (passes : G → Bool) (gates : List G) (setup : Parts) (turns : ℕ) (commands : List (List Command)) (fault : ThreadFault)
+    → IsAmongSeats (setup.processes + length commands) fault → (fault ≡ threads.JournalFull → MayFill setup turns commands) → IsTold T rules heard passes gates setup turns commands fault
+    → IsFaultOfCommands (IsFaultBehind T rules heard passes gates) setup turns commands (race_fault_of_threads fault)
+of_threads T rules heard passes gates setup turns commands threads.NoMemory within most told = tt
+of_threads T rules heard passes gates setup turns commands (threads.Spawn refused) within most told = tt
+of_threads T rules heard passes gates setup turns commands threads.JournalFull within most (inl none) = absurd none
+of_threads T rules heard passes gates setup turns commands threads.JournalFull within most (inr its) = (most refl, its)
+of_threads T rules heard passes gates setup turns commands (threads.Stopped seat) within most (inl none) = absurd none
+of_threads T rules heard passes gates setup turns commands (threads.Stopped seat) within most (inr its) = (within, its)
 
 -- each script has its commands
 so_many : (commands : List (List Command)) (scripts : List (List ℕ)) → AreScripts commands scripts → length commands ≡ length scripts
@@ -34,36 +43,75 @@ so_many [] (script ∷ scripts) are = absurd are
 so_many (list ∷ commands) [] are = absurd are
 so_many (list ∷ commands) (script ∷ scripts) are = ap suc (so_many commands scripts are.1)
 
--- what they say of the scripts
-pub on_setup : (setup : Parts) (commands : List (List Command)) (scripts : List (List ℕ)) → AreScripts commands scripts → (fault : RaceFault) → IsFaultOfRunning (setup.processes + length commands) fault → IsFaultOnSetup fault setup scripts
-on_setup setup commands scripts read (Setup fault) is = absurd is
-on_setup setup commands scripts read (Line position line fault) is = absurd is
-on_setup setup commands scripts read (ScriptTooLong position) is = absurd is
-on_setup setup commands scripts read Write is = (commands, read)
-on_setup setup commands scripts read NoMemory is = tt
-on_setup setup commands scripts read JournalFull is = (commands, read)
-on_setup setup commands scripts read (Spawn refused) is = (commands, read)
-on_setup setup commands scripts read (Stopped seat) is = let many = so_many commands scripts read in ((commands, read), (is.0, omega (arith, is.1, many)))
+module _ (IsFaultOfSessions : Parts → ℕ → List (List Command) → ThreadFault → Type 0) (turns : ℕ) where
+  -- so is one of the output
+  pub of_writing : (setup : Parts) (commands : List (List Command)) (fault : OutputFault) → IsFaultOfCommands IsFaultOfSessions setup turns commands (race_fault_of_output fault)
+  of_writing setup commands output.Write = tt
+  of_writing setup commands output.NoMemory = tt
 
--- so do those of reading them
-pub of_reading : (setup : Parts) (scripts : List (List ℕ)) (fault : RaceFault) → IsFaultOfScripts fault scripts → IsFaultOnSetup fault setup scripts
-of_reading setup scripts (Line position line fault) is = is
-of_reading setup scripts (ScriptTooLong position) is = is
-of_reading setup scripts NoMemory is = tt
-of_reading setup scripts fault is = absurd is
+  -- what they say of the scripts
+  pub on_setup : (setup : Parts) (commands : List (List Command)) (scripts : List (List ℕ)) → AreScripts commands scripts → (fault : RaceFault) → IsFaultOfCommands IsFaultOfSessions setup turns commands fault → IsFaultOnSetup IsFaultOfSessions setup turns scripts fault
+  on_setup setup commands scripts read (Setup fault) is = absurd is
+  on_setup setup commands scripts read (Line position line fault) is = absurd is
+  on_setup setup commands scripts read (ScriptTooLong position) is = absurd is
+  on_setup setup commands scripts read Write is = (commands, read)
+  on_setup setup commands scripts read NoMemory is = tt
+  on_setup setup commands scripts read JournalFull is = (commands, read, is.0, is.1)
+  on_setup setup commands scripts read (Spawn refused) is = (commands, read)
+  on_setup setup commands scripts read (Stopped seat) is = let many = so_many commands scripts read in (commands, read, (is.0.0, omega (arith, is.0.1, many)), is.1)
 
--- and on the setup that a text encodes
-pub of_race : (json : List ℕ) (setup : Parts) (scripts : List (List ℕ)) → Encodes json setup → (fault : RaceFault) → IsFaultOnSetup fault setup scripts → IsFaultOfRace fault json scripts
-of_race json setup scripts stands (Setup fault) is = absurd is
-of_race json setup scripts stands NoMemory is = tt
-of_race json setup scripts stands (Line position line fault) is = (setup, stands, is)
-of_race json setup scripts stands (ScriptTooLong position) is = (setup, stands, is)
-of_race json setup scripts stands Write is = (setup, stands, is)
-of_race json setup scripts stands JournalFull is = (setup, stands, is)
-of_race json setup scripts stands (Spawn refused) is = (setup, stands, is)
-of_race json setup scripts stands (Stopped seat) is = (setup, stands, is)
+  -- so do those of reading them
+  pub of_reading : (setup : Parts) (scripts : List (List ℕ)) (fault : RaceFault) → IsFaultOfScripts fault scripts → IsFaultOnSetup IsFaultOfSessions setup turns scripts fault
+  of_reading setup scripts (Line position line fault) is = is
+  of_reading setup scripts (ScriptTooLong position) is = is
+  of_reading setup scripts NoMemory is = tt
+  of_reading setup scripts fault is = absurd is
 
--- a fault of the setup is its first one, or an allocation failed
-pub of_setup_read : (json : List ℕ) (scripts : List (List ℕ)) (fault : SetupFault) → (fault ≢ setup.NoMemory → IsFirstFault fault json) → IsFaultOfRace (race_fault_of_setup fault) json scripts
-of_setup_read json scripts setup.NoMemory said = tt
-of_setup_read json scripts fault said = said (λ same. absurd cc)
+  -- and on the setup that a text encodes
+  pub of_race : (json : List ℕ) (setup : Parts) (scripts : List (List ℕ)) → Encodes json setup → (fault : RaceFault) → IsFaultOnSetup IsFaultOfSessions setup turns scripts fault → IsFaultOfRace IsFaultOfSessions json turns scripts fault
+  of_race json setup scripts stands (Setup fault) is = absurd is
+  of_race json setup scripts stands NoMemory is = tt
+  of_race json setup scripts stands (Line position line fault) is = (setup, stands, is)
+  of_race json setup scripts stands (ScriptTooLong position) is = (setup, stands, is)
+  of_race json setup scripts stands Write is = (setup, stands, is)
+  of_race json setup scripts stands JournalFull is = (setup, stands, is)
+  of_race json setup scripts stands (Spawn refused) is = (setup, stands, is)
+  of_race json setup scripts stands (Stopped seat) is = (setup, stands, is)
+
+  -- a fault of the setup is its first one, or an allocation failed
+  pub of_setup_read : (json : List ℕ) (scripts : List (List ℕ)) (fault : SetupFault) → (fault ≢ setup.NoMemory → IsFirstFault fault json) → IsFaultOfRace IsFaultOfSessions json turns scripts (race_fault_of_setup fault)
+  of_setup_read json scripts setup.NoMemory said = tt
+  of_setup_read json scripts fault said = said (λ same. absurd cc)
+
+  -- a fault by which no gate stopped a session is one of gates that always pass
+  pub ungated : (setup : Parts) (commands : List (List Command)) (scripts : List (List ℕ)) → AreScripts commands scripts → (fault : RaceFault) → IsFaultOfCommands IsFaultOfSessions setup turns commands fault → IsNotStopped fault → IsFaultOnSetup IsFaultUngated setup turns scripts fault
+  ungated setup commands scripts read JournalFull is none = (commands, read, is.0, tt)
+  ungated setup commands scripts read (Stopped seat) is none = absurd none
+  ungated setup commands scripts read (Setup fault) is none = is
+  ungated setup commands scripts read (Line position line fault) is none = absurd is
+  ungated setup commands scripts read (ScriptTooLong position) is none = absurd is
+  ungated setup commands scripts read Write is none = (commands, read)
+  ungated setup commands scripts read NoMemory is none = tt
+  ungated setup commands scripts read (Spawn refused) is none = (commands, read)
+
+-- ---- a gate stopped no session
+
+pub not_of_threads : (fault : ThreadFault) → of_race_threads.IsNotStopped fault → IsNotStopped (race_fault_of_threads fault)
+not_of_threads threads.NoMemory is = tt
+not_of_threads threads.JournalFull is = tt
+not_of_threads (threads.Spawn refused) is = tt
+not_of_threads (threads.Stopped seat) is = is
+
+pub not_of_writing : (fault : OutputFault) → IsNotStopped (race_fault_of_output fault)
+not_of_writing output.Write = tt
+not_of_writing output.NoMemory = tt
+
+pub not_of_reading : (scripts : List (List ℕ)) (fault : RaceFault) → IsFaultOfScripts fault scripts → IsNotStopped fault
+not_of_reading scripts (Line position line fault) is = tt
+not_of_reading scripts (ScriptTooLong position) is = tt
+not_of_reading scripts NoMemory is = tt
+not_of_reading scripts fault is = absurd is
+
+pub not_of_setup : (fault : SetupFault) → IsNotStopped (race_fault_of_setup fault)
+not_of_setup setup.NoMemory = tt
+not_of_setup fault = tt

@@ -1,5 +1,6 @@
 -- Bytes stand for one setup.
 use Rattle.std.proofs.Common.{◌≡◌, ◌⊎◌, inl, inr, ℕ, ◌+◌, ◌≤◌, Result, Ok, Err, ap, subst, ◌∙◌}
+use Rattle.cdb_base.specs.declared.limits.TheConstants.{MAX_SEATS}
 use Rattle.cdb_setup.specs.Parts.{Parts}
 use Rattle.cdb_setup.specs.declared.fault.SetupFault.{SetupFault}
 use Rattle.cdb_setup.specs.declared.fault.SetupFault.TheVariants.{NoMemory}
@@ -11,8 +12,8 @@ module _ (read : Result Parts SetupFault) (found parts : Parts) (is : read ≡ O
   same_setup (inr e) = absurd cc
 
   -- so it has as many processes
-  pub still_fits : (scripts : ℕ) → (read ≡ Ok parts) ⊎ (read ≡ Err NoMemory) → found.processes + scripts ≤ 64 → parts.processes + scripts ≤ 64
-  still_fits scripts only few = subst (λ (p : Parts). p.processes + scripts ≤ 64) (same_setup only) few
+  pub still_fits : (scripts : ℕ) → (read ≡ Ok parts) ⊎ (read ≡ Err NoMemory) → found.processes + scripts ≤ MAX_SEATS → parts.processes + scripts ≤ MAX_SEATS
+  still_fits scripts only few = subst (λ (p : Parts). p.processes + scripts ≤ MAX_SEATS) (same_setup only) few
 
   pub still_counts : (gates scripts : ℕ) → (read ≡ Ok parts) ⊎ (read ≡ Err NoMemory) → gates ≡ found.processes + scripts → gates ≡ parts.processes + scripts
   still_counts gates scripts only count = count ∙ ap (λ (p : Parts). p.processes + scripts) (same_setup only)

@@ -4,11 +4,11 @@ use Rattle.std.specs.List.{flat_map}
 use Rattle.std.proofs.lemmas.List.{map-append}
 use Rattle.std.proofs.lemmas.Grind.{flat_map-append}
 use Rattle.cdb_control.specs.declared.command.Command.{Command}
-use Rattle.cdb_control.specs.Commands.{answer, obey}
-use Rattle.cdb_control.specs.Journal.{Journaled, entry, extended, replay, replay_from, replies_from, state_of}
+use Rattle.cdb_control.specs.Commands.{obey}
+use Rattle.cdb_control.specs.Journal.{Journaled, entry, extended, replay, replay_from, replies_from, reply_in}
 use Rattle.cdb_control.specs.Answer.{Answer}
 use Rattle.cdb_control.specs.Room.{cost, lowered}
-use Rattle.cdb_control.specs.State.{first_state}
+use Rattle.cdb_control.specs.State.{first_control_state}
 use Rattle.cdb_control.proofs.Own.{replies_from-append}
 use Rattle.cdb_rules.specs.Rules.{Rules}
 use Rattle.cdb_setup.specs.Parts.{Parts}
@@ -29,14 +29,14 @@ no_texts rules setup = refl
 
 -- the texts of what follows a command
 abbrev pub texts_behind : Rules → Parts → List Command → Command → List Command → List ℕ
-texts_behind rules setup done command rest = flat_map text_of (replies_from rules (obey rules (replay_from rules (first_state setup 1) (journal_of done)) 1 command) 1 (journal_of rest))
+texts_behind rules setup done command rest = flat_map text_of (replies_from rules (obey rules (replay_from rules (first_control_state setup 1) (journal_of done)) 1 command) 1 (journal_of rest))
 
 pub one_text : (rules : Parts → Rules) (setup : Parts) (done : List Command) (command : Command) (rest : List Command)
     → transcript (rules setup) setup (done ++ command ∷ rest) ≡ transcript (rules setup) setup done ++ (reply_to rules (so_far setup done) command ++ texts_behind (rules setup) setup done command rest)
 unfolding transcript replay
 one_text rules setup done command rest =
     let r = rules setup in
-    let first = first_state setup 1 in
+    let first = first_control_state setup 1 in
     ap (λ journal. flat_map text_of (replies_from r first 1 journal)) (map-append (entry 1) done (command ∷ rest))
     ∙ ap (flat_map text_of) (replies_from-append r first 1 (journal_of done) (journal_of (command ∷ rest)))
     ∙ flat_map-append text_of (replies_from r first 1 (journal_of done)) (replies_from r (replay_from r first (journal_of done)) 1 (journal_of (command ∷ rest)))
@@ -45,10 +45,10 @@ module _ (rules : Parts → Rules) (setup : Parts) (done : List Command) (comman
   same_text : reply_to rules control command ≡ reply_to rules (so_far setup done) command
   same_text = ap (λ c. reply_to rules c command) along
 
-  pub one_command : (left : Journaled) → left ≡ extended (rules control.setup) control 1 command → left ≡ so_far setup (done ++ command ∷ [])
+  pub one_command : (left : Journaled) → left ≡ extended rules control 1 command → left ≡ so_far setup (done ++ command ∷ [])
   one_command left is =
-      is ∙ ap (λ c. extended (rules c.setup) c 1 command) along
-      ∙ ap (λ (rooms : List ℕ). record (so_far setup done) { journal = journal_of done ++ entry 1 command ∷ []; rooms = rooms }) (still_no_room (answer (rules setup) (state_of (rules setup) (so_far setup done)) 1 command))
+      is ∙ ap (λ c. extended rules c 1 command) along
+      ∙ ap (λ (rooms : List ℕ). record (so_far setup done) { journal = journal_of done ++ entry 1 command ∷ []; rooms = rooms }) (still_no_room (reply_in rules (so_far setup done) 1 command))
       ∙ ap (λ journal. record (so_far setup done) { journal = journal }) (sym (map-append (entry 1) done (command ∷ [])))
 
   -- the transcript so far, and the text of the reply to one command more

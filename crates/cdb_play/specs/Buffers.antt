@@ -2,11 +2,12 @@
 use Rattle.std.specs.Prelude.{◌≡◌, ℕ, ◌*◌, List, ◌++◌, length, Option, Result, Ok, Err}
 use Rattle.cdb_play.specs.Streams.{Takes, Fails}
 use Rattle.cdb_play.specs.declared.buffer.OutputFault.{OutputFault}
+use Rattle.cdb_play.specs.declared.buffer.TheConstants.{PIECE}
 use Rattle.cdb_play.specs.declared.buffer.OutputFault.TheVariants.{Write, NoMemory}
 
 -- how many bytes a buffer hands on at a time
 abbrev pub piece : ℕ
-piece = 65536
+piece = PIECE
 
 -- a number of bytes that is a number of whole pieces
 abbrev pub AreWholePieces : List ℕ → Type 0
@@ -15,7 +16,8 @@ AreWholePieces bytes = (count : ℕ) × (length bytes ≡ count * piece)
 module _ {W : Type 0} (contents : W → Option (List ℕ)) (failures : W → ℕ) where
   -- The writer took whole pieces that are a beginning of the text, and no call failed
   abbrev pub TakesPieces : W → W → List ℕ → Type 0
-  TakesPieces old new text = (written rest : List ℕ) × (text ≡ written ++ rest) × AreWholePieces written × Takes contents failures old new written
+  TakesPieces old new text =
+      (written rest : List ℕ) × (text ≡ written ++ rest) × AreWholePieces written × Takes contents failures old new written
 
   -- The text was written, by how that ended; where an allocation failed, what was left in the buffer is not written
   abbrev pub Wrote : {A : Type 0} → Result A OutputFault → W → W → List ℕ → Type 0

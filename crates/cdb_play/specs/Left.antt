@@ -1,7 +1,7 @@
 -- The run that a script leaves.
 use Rattle.std.specs.Prelude.{◌≡◌, ℕ, ◌≤◌, List, [], ◌∷◌, length, Option}
 use Rattle.cdb_control.specs.declared.command.Command.{Command}
-use Rattle.cdb_control.specs.Journal.{Journaled, state_in}
+use Rattle.cdb_control.specs.Journal.{Journaled, control_state}
 use Rattle.cdb_rules.specs.RunView.{RunView}
 use Rattle.cdb_rules.specs.Rules.{Rules}
 use Rattle.cdb_setup.specs.Format.{Encodes, longest}
@@ -17,7 +17,7 @@ carried_out setup commands = record { setup = setup; seats = 1; journal = journa
 
 -- the run of a control: its setup and its standing events
 abbrev pub run_of : (Parts → Rules) → Journaled → RunView
-run_of rules control = record { setup = control.setup; history = (state_in rules control).history }
+run_of rules control = record { setup = control.setup; history = (control_state rules control).history }
 
 -- the run is the one that a script leaves, on the setup that a text of JSON encodes
 pub record IsRunLeft (rules : Parts → Rules) (json script : List ℕ) (run : RunView) : Type 0 where

@@ -1,11 +1,11 @@
 -- What a race reads and writes.
-use Rattle.std.specs.Prelude.{◌≡◌, ℕ, ◌+◌, ◌-◌, ◌==◌, Bool, true, List, [], ◌∷◌, ◌++◌, length, map, codes, decimal, Option, if◌then◌else◌}
+use Rattle.std.specs.Prelude.{◌≡◌, ℕ, ◌+◌, ◌-◌, ◌==◌, Bool, true, List, [], ◌∷◌, ◌++◌, length, map, codes, decimal, if◌then◌else◌}
 use Rattle.std.specs.List.{AllZip, flat_map, list_all, range_with_len}
 use Rattle.std.proofs.Common.{Vec, Global}
 use Rattle.cdb_control.specs.Answer.{Answer}
-use Rattle.cdb_control.specs.Journal.{Journaled, state_of}
+use Rattle.cdb_control.specs.Journal.{Journaled, control_state}
 use Rattle.cdb_control.specs.declared.command.Command.{Command}
-use Rattle.cdb_race.specs.Faults.{IsFaultOfSeats}
+use Rattle.cdb_race.specs.Faults as of_threads
 use Rattle.cdb_race.specs.Races.{IsRaced, MayFill, answers_to}
 use Rattle.cdb_race.specs.declared.threads.RaceFault.{RaceFault as ThreadFault}
 use Rattle.cdb_race.specs.declared.threads.RaceFault.TheVariants as threads
@@ -15,7 +15,6 @@ use Rattle.cdb_setup.specs.Order.{IsFirstFault}
 use Rattle.cdb_setup.specs.Parts.{Parts, IsWithin}
 use Rattle.cdb_setup.specs.declared.fault.SetupFault.{SetupFault}
 use Rattle.cdb_setup.specs.declared.fault.SetupFault.TheVariants as setup
-use Rattle.cdb_shared.specs.Gates.{Heard}
 use Rattle.cdb_text.specs.Reports.{decisions_text}
 use Rattle.cdb_text.specs.Texts.{text_of}
 use Rattle.cdb_play.specs.Scripts.{IsScript, IsFaultOfScript}
@@ -60,7 +59,7 @@ end_text decisions = decisions_text decisions ++ verdict_text decisions
 
 -- the decisions of the last state
 abbrev pub last_decisions : (Parts → Rules) → Journaled → List (ℕ × ℕ)
-last_decisions rules c = (rules c.setup).decisions (state_of (rules c.setup) c).history
+last_decisions rules c = (rules c.setup).decisions (control_state rules c).history
 
 -- the seats of the scripts, which are those after the processes'
 abbrev pub script_seats : Journaled → List ℕ
@@ -68,7 +67,8 @@ script_seats c = range_with_len (c.setup.processes + 1) (c.seats - c.setup.proce
 
 -- the text of a race with this journal
 unfoldable pub race_text : (Parts → Rules) → Journaled → List ℕ
-race_text rules c = seats_text (c.setup.processes + 1) (map (λ seat. answers_to rules seat c) (script_seats c)) ++ end_text (last_decisions rules c)
+race_text rules c =
+    seats_text (c.setup.processes + 1) (map (λ seat. answers_to rules seat c) (script_seats c)) ++ end_text (last_decisions rules c)
 
 -- ---- the scripts
 
@@ -83,7 +83,8 @@ AreScripts read scripts = AllZip IsScript read scripts
 -- the script of this number, counted from 1, has this fault, and each before it has its commands
 abbrev pub IsFirstBad : ℕ → ScriptFault → List (List ℕ) → Type 0
 IsFirstBad position fault scripts =
-    (read : List (List Command)) × (good : List (List ℕ)) × (bad : List ℕ) × (rest : List (List ℕ)) × (scripts ≡ good ++ bad ∷ rest) × (position ≡ length good + 1) × AreScripts read good × IsFaultOfScript fault bad
+    (read : List (List Command)) × (good : List (List ℕ)) × (bad : List ℕ) × (rest : List (List ℕ))
+    × (scripts ≡ good ++ bad ∷ rest) × (position ≡ length good + 1) × AreScripts read good × IsFaultOfScript fault bad
 
 -- all of them have their commands
 abbrev pub AreAllRead : List (List ℕ) → Type 0
@@ -126,76 +127,57 @@ race_fault_of_output output.NoMemory = NoMemory
 
 -- ---- what they say
 
--- What a fault says of a race of these scripts on a setup. Those of the scripts come before the others; a stopped seat
--- is one of a process or of a script.
-abbrev pub IsFaultOnSetup : RaceFault → Parts → List (List ℕ) → Type 0
-IsFaultOnSetup (Setup fault) setup scripts = ⊥
-IsFaultOnSetup (Line position line fault) setup scripts = IsFirstBad position (script.Line line fault) scripts
-IsFaultOnSetup (ScriptTooLong position) setup scripts = IsFirstBad position script.TooLong scripts
-IsFaultOnSetup JournalFull setup scripts = AreAllRead scripts
-IsFaultOnSetup (Spawn refused) setup scripts = AreAllRead scripts
-IsFaultOnSetup (Stopped seat) setup scripts = AreAllRead scripts × IsWithin 1 (setup.processes + length scripts) seat
-IsFaultOnSetup Write setup scripts = AreAllRead scripts
-IsFaultOnSetup NoMemory setup scripts = Unit {0}
-
--- the same of a race on the setup that a text of JSON encodes: a fault of the setup comes before all others
-abbrev pub IsFaultOfRace : RaceFault → List ℕ → List (List ℕ) → Type 0
-IsFaultOfRace (Setup fault) json scripts = IsFirstFault fault json
-IsFaultOfRace NoMemory json scripts = Unit {0}
-IsFaultOfRace fault json scripts = (setup : Parts) × Encodes json setup × IsFaultOnSetup fault setup scripts
-
--- ---- which of several faults of sessions is reported
-
--- A full journal and a stopped seat are told of the least seat whose session ended so. Such a race of these scripts
--- makes, at most, as many calls as a journal has entries at most.
-abbrev pub IsToldOnSetup : {G : Type 0} → Type 0 → (Parts → Rules) → (G → Option (List Heard)) → (G → Bool) → Parts → ℕ → List (List ℕ) → List G → RaceFault → Type 0
-IsToldOnSetup T rules heard passes setup turns scripts gates JournalFull =
-    (commands : List (List Command)) × AreScripts commands scripts × MayFill setup turns commands
-    × IsFaultOfSeats T rules heard passes setup turns commands gates threads.JournalFull
-IsToldOnSetup T rules heard passes setup turns scripts gates (Stopped seat) =
-    (commands : List (List Command)) × AreScripts commands scripts
-    × IsFaultOfSeats T rules heard passes setup turns commands gates (threads.Stopped seat)
-IsToldOnSetup T rules heard passes setup turns scripts gates other = Unit {0}
-
--- the same on the setup that a text of JSON encodes
-abbrev pub IsToldOfRace : {G : Type 0} → Type 0 → (Parts → Rules) → (G → Option (List Heard)) → (G → Bool) → List ℕ → ℕ → List (List ℕ) → List G → RaceFault → Type 0
-IsToldOfRace T rules heard passes json turns scripts gates JournalFull =
-    (setup : Parts) × Encodes json setup × IsToldOnSetup T rules heard passes setup turns scripts gates JournalFull
-IsToldOfRace T rules heard passes json turns scripts gates (Stopped seat) =
-    (setup : Parts) × Encodes json setup × IsToldOnSetup T rules heard passes setup turns scripts gates (Stopped seat)
-IsToldOfRace T rules heard passes json turns scripts gates other = Unit {0}
-
 -- no gate stopped a session
 abbrev pub IsNotStopped : RaceFault → Type 0
 IsNotStopped (Stopped seat) = ⊥
 IsNotStopped other = Unit {0}
 
--- With gates that always pass: a journal is full only where a race of these scripts may fill one, and none is stopped.
-abbrev pub IsUnstoppedOnSetup : Parts → ℕ → List (List ℕ) → RaceFault → Type 0
-IsUnstoppedOnSetup setup turns scripts JournalFull =
-    (commands : List (List Command)) × AreScripts commands scripts × MayFill setup turns commands
-IsUnstoppedOnSetup setup turns scripts (Stopped seat) = ⊥
-IsUnstoppedOnSetup setup turns scripts other = Unit {0}
+-- What a fault of the sessions says of the setup, the turns and the commands of a race whose gates always pass: none was stopped.
+abbrev pub IsFaultUngated : Parts → ℕ → List (List Command) → ThreadFault → Type 0
+IsFaultUngated setup turns commands fault = of_threads.IsNotStopped fault
 
-abbrev pub IsUnstoppedOfRace : List ℕ → ℕ → List (List ℕ) → RaceFault → Type 0
-IsUnstoppedOfRace json turns scripts JournalFull =
-    (setup : Parts) × Encodes json setup × IsUnstoppedOnSetup setup turns scripts JournalFull
-IsUnstoppedOfRace json turns scripts (Stopped seat) = ⊥
-IsUnstoppedOfRace json turns scripts other = Unit {0}
+module _ (IsFaultOfSessions : Parts → ℕ → List (List Command) → ThreadFault → Type 0) where
+  -- What a fault says of a race of these scripts on a setup, each process with this many turns. Those of the scripts come before
+  -- the others. A journal is full only where the most calls of such a race are as many as a journal has entries at most; a
+  -- stopped seat is one of a process or of a script; of both the parameter says what ended the sessions.
+  abbrev pub IsFaultOnSetup : Parts → ℕ → List (List ℕ) → RaceFault → Type 0
+  IsFaultOnSetup setup turns scripts (Setup fault) = ⊥
+  IsFaultOnSetup setup turns scripts (Line position line fault) = IsFirstBad position (script.Line line fault) scripts
+  IsFaultOnSetup setup turns scripts (ScriptTooLong position) = IsFirstBad position script.TooLong scripts
+  IsFaultOnSetup setup turns scripts JournalFull =
+      (commands : List (List Command)) × AreScripts commands scripts × MayFill setup turns commands
+      × IsFaultOfSessions setup turns commands threads.JournalFull
+  IsFaultOnSetup setup turns scripts (Stopped seat) =
+      (commands : List (List Command)) × AreScripts commands scripts × IsWithin 1 (setup.processes + length scripts) seat
+      × IsFaultOfSessions setup turns commands (threads.Stopped seat)
+  IsFaultOnSetup setup turns scripts (Spawn refused) = AreAllRead scripts
+  IsFaultOnSetup setup turns scripts Write = AreAllRead scripts
+  IsFaultOnSetup setup turns scripts NoMemory = Unit {0}
 
--- ---- what the code keeps for itself
+  -- the same of a race on the setup that a text of JSON encodes: a fault of the setup comes before all others
+  abbrev pub IsFaultOfRace : List ℕ → ℕ → List (List ℕ) → RaceFault → Type 0
+  IsFaultOfRace json turns scripts (Setup fault) = IsFirstFault fault json
+  IsFaultOfRace json turns scripts NoMemory = Unit {0}
+  IsFaultOfRace json turns scripts fault = (setup : Parts) × Encodes json setup × IsFaultOnSetup setup turns scripts fault
 
--- the same of a race of these commands
-abbrev pub IsToldOfCommands : {G : Type 0} → Type 0 → (Parts → Rules) → (G → Option (List Heard)) → (G → Bool) → Parts → ℕ → List (List Command) → List G → RaceFault → Type 0
-IsToldOfCommands T rules heard passes setup turns commands gates JournalFull =
-    MayFill setup turns commands × IsFaultOfSeats T rules heard passes setup turns commands gates threads.JournalFull
-IsToldOfCommands T rules heard passes setup turns commands gates (Stopped seat) = IsFaultOfSeats T rules heard passes setup turns commands gates (threads.Stopped seat)
-IsToldOfCommands T rules heard passes setup turns commands gates other = Unit {0}
+  -- ---- what the code keeps for itself
+
+  -- a fault of a race of these commands
+  abbrev pub IsFaultOfCommands : Parts → ℕ → List (List Command) → RaceFault → Type 0
+  IsFaultOfCommands setup turns commands JournalFull =
+      MayFill setup turns commands × IsFaultOfSessions setup turns commands threads.JournalFull
+  IsFaultOfCommands setup turns commands (Stopped seat) =
+      IsWithin 1 (setup.processes + length commands) seat × IsFaultOfSessions setup turns commands (threads.Stopped seat)
+  IsFaultOfCommands setup turns commands (Spawn refused) = Unit {0}
+  IsFaultOfCommands setup turns commands Write = Unit {0}
+  IsFaultOfCommands setup turns commands NoMemory = Unit {0}
+  IsFaultOfCommands setup turns commands other = ⊥
 
 -- the text is that of a race of these commands
 abbrev pub IsTextOfCommands : (Parts → Rules) → Parts → ℕ → List (List Command) → List ℕ → Type 0
 IsTextOfCommands rules setup turns commands text =
-    (control : Journaled) × (answers : List (List Answer)) × IsRaced rules setup turns commands control answers × (text ≡ race_text rules control)
+    (control : Journaled) × (answers : List (List Answer)) × IsRaced rules setup turns commands control answers
+    × (text ≡ race_text rules control)
 
 -- a fault of reading the scripts
 abbrev pub IsFaultOfScripts : RaceFault → List (List ℕ) → Type 0
@@ -203,11 +185,3 @@ IsFaultOfScripts (Line position line fault) scripts = IsFirstBad position (scrip
 IsFaultOfScripts (ScriptTooLong position) scripts = IsFirstBad position script.TooLong scripts
 IsFaultOfScripts NoMemory scripts = Unit {0}
 IsFaultOfScripts fault scripts = ⊥
-
--- a fault of what was read, with this many seats
-abbrev pub IsFaultOfRunning : ℕ → RaceFault → Type 0
-IsFaultOfRunning seats (Setup fault) = ⊥
-IsFaultOfRunning seats (Line position line fault) = ⊥
-IsFaultOfRunning seats (ScriptTooLong position) = ⊥
-IsFaultOfRunning seats (Stopped seat) = IsWithin 1 seats seat
-IsFaultOfRunning seats fault = Unit {0}

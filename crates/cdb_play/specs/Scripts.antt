@@ -18,7 +18,8 @@ AreCommandsOf commands lines = AllZip IsLineOf commands lines
 -- the line of this number, counted from 1, is no command and has this fault, and each line before it is a command
 abbrev pub IsFirstBadLine : ℕ → LineFault → List (List ℕ) → Type 0
 IsFirstBadLine position fault lines =
-    (commands : List Command) × (good : List (List ℕ)) × (bad : List ℕ) × (rest : List (List ℕ)) × (lines ≡ good ++ bad ∷ rest) × (position ≡ length good + 1) × AreCommandsOf commands good × IsFaultOf fault bad
+    (commands : List Command) × (good : List (List ℕ)) × (bad : List ℕ) × (rest : List (List ℕ))
+    × (lines ≡ good ++ bad ∷ rest) × (position ≡ length good + 1) × AreCommandsOf commands good × IsFaultOf fault bad
 
 -- a script that is not too long, with its commands
 abbrev pub IsScript : List Command → List ℕ → Type 0

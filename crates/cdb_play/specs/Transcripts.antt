@@ -4,9 +4,8 @@ use Rattle.std.specs.List.{flat_map}
 use Rattle.cdb_base.specs.declared.event.Event.{Event}
 use Rattle.cdb_control.specs.declared.command.Command.{Command}
 use Rattle.cdb_control.specs.declared.control.Entry.{Entry}
-use Rattle.cdb_control.specs.Commands.{answer}
 use Rattle.cdb_control.specs.Headline.{Headline}
-use Rattle.cdb_control.specs.Journal.{Journaled, entry, replies_of, state_of}
+use Rattle.cdb_control.specs.Journal.{Journaled, entry, reply_in, replies_of}
 use Rattle.cdb_rules.specs.Rules.{Rules}
 use Rattle.cdb_setup.specs.Parts.{Parts}
 use Rattle.cdb_setup.specs.Format.{Encodes, longest}
@@ -17,7 +16,7 @@ use Rattle.cdb_play.specs.Streams.{IsReadToEnd}
 
 -- the text of the reply to a command of the only seat
 abbrev pub reply_to : (Parts → Rules) → Journaled → Command → List ℕ
-reply_to rules control command = text_of (answer (rules control.setup) (state_of (rules control.setup) control) 1 command)
+reply_to rules control command = text_of (reply_in rules control 1 command)
 
 -- the commands as the journal of the only seat
 abbrev pub journal_of : List Command → List Entry

@@ -77,15 +77,18 @@ pub struct Buffer {
 }
 
 impl Model for Buffer {
+    ghost use Rattle.std.specs.Prelude.{ℕ, ◌≤◌, List, length, vec_capacity};
+    ghost use Rattle.cdb_play.specs.Buffers.{piece};
+
     ghost Value = { List ℕ };
 
     ghost view = { λ buffer. buffer.held.items };
 
-    ghost invariant = { λ buffer. (length buffer.held.items ≤ 65536) × (65536 ≤ vec_capacity buffer.held) };
+    ghost invariant = { λ buffer. (length buffer.held.items ≤ piece) × (piece ≤ vec_capacity buffer.held) };
 }
 
 impl Buffer {
-    ghost use Rattle.cdb_play.specs.Buffers.{IsPut};
+    ghost use Rattle.cdb_play.specs.Buffers.{piece, IsPut};
     ghost use Rattle.cdb_play.specs.Streams.{Fails, Writes};
 
     /// An empty buffer, which has all the memory that it will need.
@@ -97,8 +100,8 @@ impl Buffer {
     }
 
     fn is_full(&self) -> bool
-        ensures full { IsTrue result ↔ (length self.now ≡ 65536) }
-        ensures within { length self.now ≤ 65536 }
+        ensures full { IsTrue result ↔ (length self.now ≡ piece) }
+        ensures within { length self.now ≤ piece }
     {
         self.held.len() == PIECE
     }
@@ -107,7 +110,7 @@ impl Buffer {
     fn fill(&mut self, bytes: &[u8]) -> usize
         ensures within { result ≤ length bytes.now }
         ensures held { self.new ≡ self.old ++ take result bytes.now }
-        ensures some { length self.old < 65536 → 0 < length bytes.now → 0 < result }
+        ensures some { length self.old < piece → 0 < length bytes.now → 0 < result }
     {
         let count = bytes.len().min(PIECE - self.held.len());
         match self.held.extend_from_slice(&bytes[..count]) {
@@ -130,7 +133,7 @@ impl Buffer {
     fn make_room<W: Sink>(&mut self, out: &mut W) -> Result<(), Failed>
         ensures put { OnOk result
             (IsPut W.contents W.failures out.old self.old out.new self.new []) }
-        ensures room { OnOk result (length self.new < 65536) }
+        ensures room { OnOk result (length self.new < piece) }
         ensures err { OnErr result (Fails W.contents W.failures out.old out.new self.old) }
     {
         if self.is_full() {

@@ -1,6 +1,7 @@
 //! The run that a script leaves: its commands are carried out one after the other, without their replies.
 
 ghost use Rattle.std.specs.Prelude.{◌≡◌, ◌≢◌, ◌<◌, length, Err, IfErr, IfOk, OnOk};
+ghost use Rattle.cdb_base.specs.declared.limits.TheConstants.{MAX_ENTRIES};
 ghost use Rattle.cdb_control.specs.Headline.{Headline};
 ghost use Rattle.cdb_control.specs.Journal.{extended};
 ghost use Rattle.cdb_setup.specs.declared.fault.SetupFault.{SetupFault as SetupFaultName};
@@ -26,9 +27,9 @@ fn carry_out<T: Runs>(
     command: Command,
 ) -> Result<(), NoMemory>
     requires seats { control.old.seats ≡ 1 }
-    requires room { length control.old.journal < 999999 }
+    requires room { length control.old.journal < MAX_ENTRIES }
     ensures { OnOk result
-        (control.new ≡ extended (T.rules control.old.setup) control.old 1 command) }
+        (control.new ≡ extended T.rules control.old 1 command) }
 {
     match control.execute(alloc, 1, command) {
         Ok(_) => Ok(()),
@@ -43,7 +44,7 @@ fn control_after<T: Runs>(
     setup: Setup,
     commands: &[Command],
 ) -> Result<Control<T>, NoMemory>
-    requires { length commands.now < 999999 }
+    requires { length commands.now < MAX_ENTRIES }
     ensures { IfOk result (λ control. control ≡ carried_out setup commands.now) }
 {
     let Ok(mut control) = Control::<T>::open(alloc, setup, 1) else {

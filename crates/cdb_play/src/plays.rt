@@ -1,6 +1,7 @@
 //! A script is played: its commands are carried out one after the other, and each reply is written.
 
 ghost use Rattle.std.specs.Prelude.{◌≡◌, ◌<◌, length, Err, IfErr, OnOk};
+ghost use Rattle.cdb_base.specs.declared.limits.TheConstants.{MAX_ENTRIES};
 ghost use Rattle.cdb_control.specs.Journal.{extended};
 ghost use Rattle.cdb_setup.specs.declared.fault.SetupFault.{SetupFault as SetupFaultName};
 ghost use Rattle.cdb_play.specs.Buffers.{Puts, Wrote};
@@ -29,9 +30,9 @@ fn perform<T: Runs, W: Sink>(
     out: &mut W,
 ) -> Result<(), OutputFault>
     requires seats { control.old.seats ≡ 1 }
-    requires room { length control.old.journal < 999999 }
+    requires room { length control.old.journal < MAX_ENTRIES }
     ensures done { OnOk result
-        (control.new ≡ extended (T.rules control.old.setup) control.old 1 command) }
+        (control.new ≡ extended T.rules control.old 1 command) }
     ensures put { Puts W.contents W.failures result out.old buffer.old out.new buffer.new
         (reply_to T.rules control.old command) }
 {
@@ -52,7 +53,7 @@ fn perform_all<T: Runs, W: Sink>(
     buffer: &mut Buffer,
     out: &mut W,
 ) -> Result<(), OutputFault>
-    requires { length commands.now < 999999 }
+    requires { length commands.now < MAX_ENTRIES }
     ensures { Puts W.contents W.failures result out.old buffer.old out.new buffer.new
         (transcript (T.rules setup) setup commands.now) }
 {
@@ -73,7 +74,7 @@ fn write_transcript<T: Runs, W: Sink>(
     commands: &[Command],
     out: &mut W,
 ) -> Result<(), OutputFault>
-    requires { length commands.now < 999999 }
+    requires { length commands.now < MAX_ENTRIES }
     ensures { Wrote W.contents W.failures result out.old out.new
         (transcript (T.rules setup) setup commands.now) }
 {

@@ -1,13 +1,15 @@
 //! A race: one thread for each process and one for each script, over one shared run, and its text.
 
 ghost use Rattle.std.specs.Prelude.{◌≡◌, ◌+◌, ◌≤◌, length, vec_len, IfOk, IfErr};
+ghost use Rattle.cdb_base.specs.declared.limits.TheConstants.{MAX_SEATS};
+ghost use Rattle.cdb_race.specs.Faults.{IsFaultBehind};
 ghost use Rattle.cdb_race.specs.Races.{AllPass};
 ghost use Rattle.cdb_rules.specs.Agreement.{HasMajorityIfNeeded};
 ghost use Rattle.cdb_setup.specs.Format.{Encodes};
 ghost use Rattle.cdb_setup.specs.Parts.{Parts};
-ghost use Rattle.cdb_play.specs.Races.{race_fault_of_script, bytes_of, AreScripts, IsTextOnSetup, IsTextOfRace, IsFaultOnSetup, IsFaultOfRace};
-ghost use Rattle.cdb_play.specs.Races.{IsNotStopped, IsToldOnSetup, IsToldOfRace, IsUnstoppedOnSetup, IsUnstoppedOfRace};
-ghost use Rattle.cdb_play.specs.Races.{IsTextOfCommands, IsFaultOfScripts, IsFaultOfRunning, IsToldOfCommands};
+ghost use Rattle.cdb_play.specs.Races.{race_fault_of_script, bytes_of, AreScripts, IsTextOnSetup, IsTextOfRace};
+ghost use Rattle.cdb_play.specs.Races.{IsNotStopped, IsFaultUngated, IsFaultOnSetup, IsFaultOfRace};
+ghost use Rattle.cdb_play.specs.Races.{IsTextOfCommands, IsFaultOfScripts, IsFaultOfCommands};
 ghost use Rattle.cdb_play.specs.Written.{AgreesAtEnd, RaceWrites};
 
 mod text;
@@ -141,15 +143,14 @@ fn run_race<T: Runs + Send, G: Gate + Drop + Send, R: Threads + Wait + Sync, W: 
     gates: Vec<G>,
     out: &mut W,
 ) -> Result<(), RaceFault>
-    requires fits { setup.processes + length scripts.now ≤ 64 }
+    requires fits { setup.processes + length scripts.now ≤ MAX_SEATS }
     requires gates { vec_len gates ≡ setup.processes + length scripts.now }
     ensures wrote { RaceWrites W.contents W.failures result out.old out.new
         (IsTextOfCommands T.rules setup turns scripts.now) }
     ensures agree { HasMajorityIfNeeded setup
         → AgreesAtEnd W.contents W.failures result out.old out.new }
-    ensures fault { IfErr result (IsFaultOfRunning (setup.processes + length scripts.now)) }
-    ensures told { IfErr result
-        (IsToldOfCommands T T.rules G.heard G.passes setup turns scripts.now gates.items) }
+    ensures fault { IfErr result
+        (IsFaultOfCommands (IsFaultBehind T T.rules G.heard G.passes gates.items) setup turns scripts.now) }
     ensures passes { AllPass G.passes gates.items → IfErr result IsNotStopped }
 {
     let buffer = Buffer::new(alloc)?;
@@ -186,16 +187,14 @@ pub fn race_on_with<T: Runs + Send, G: Gate + Drop + Send, R: Threads + Wait + S
     gates: Vec<G>,
     out: &mut W,
 ) -> Result<(), RaceFault>
-    requires turns { turns ≤ 99999 }
-    requires fits { setup.processes + length scripts.now ≤ 64 }
+    requires fits { setup.processes + length scripts.now ≤ MAX_SEATS }
     requires gates { vec_len gates ≡ setup.processes + length scripts.now }
     ensures wrote { RaceWrites W.contents W.failures result out.old out.new
         (IsTextOnSetup T.rules setup turns (bytes_of scripts.now)) }
     ensures agree { HasMajorityIfNeeded setup
         → AgreesAtEnd W.contents W.failures result out.old out.new }
-    ensures fault { IfErr result (λ fault. IsFaultOnSetup fault setup (bytes_of scripts.now)) }
-    ensures told { IfErr result
-        (IsToldOnSetup T T.rules G.heard G.passes setup turns (bytes_of scripts.now) gates.items) }
+    ensures fault { IfErr result
+        (IsFaultOnSetup (IsFaultBehind T T.rules G.heard G.passes gates.items) setup turns (bytes_of scripts.now)) }
     ensures passes { AllPass G.passes gates.items → IfErr result IsNotStopped }
 {
     let commands = scripts_of(alloc, scripts)?;
@@ -211,14 +210,12 @@ pub fn race_on<T: Runs + Send, R: Threads + Wait + Sync, W: Sink>(
     scripts: &[Vec<u8>],
     out: &mut W,
 ) -> Result<(), RaceFault>
-    requires turns { turns ≤ 99999 }
-    requires fits { setup.processes + length scripts.now ≤ 64 }
+    requires fits { setup.processes + length scripts.now ≤ MAX_SEATS }
     ensures wrote { RaceWrites W.contents W.failures result out.old out.new
         (IsTextOnSetup T.rules setup turns (bytes_of scripts.now)) }
     ensures agree { HasMajorityIfNeeded setup
         → AgreesAtEnd W.contents W.failures result out.old out.new }
-    ensures fault { IfErr result (λ fault. IsFaultOnSetup fault setup (bytes_of scripts.now)) }
-    ensures told { IfErr result (IsUnstoppedOnSetup setup turns (bytes_of scripts.now)) }
+    ensures fault { IfErr result (IsFaultOnSetup IsFaultUngated setup turns (bytes_of scripts.now)) }
 {
     let commands = scripts_of(alloc, scripts)?;
     let gates = open_gates(alloc, usize::from(setup.n()) + commands.len())?;
@@ -236,18 +233,16 @@ pub fn race_with<T: Runs + Send, G: Gate + Drop + Send, R: Threads + Wait + Sync
     gates: Vec<G>,
     out: &mut W,
 ) -> Result<(), RaceFault>
-    requires turns { turns ≤ 99999 }
     requires fits { (parts : Parts) → Encodes setup.now parts →
-        parts.processes + length scripts.now ≤ 64 }
+        parts.processes + length scripts.now ≤ MAX_SEATS }
     requires gates { (parts : Parts) → Encodes setup.now parts
         → vec_len gates ≡ parts.processes + length scripts.now }
     ensures wrote { RaceWrites W.contents W.failures result out.old out.new
         (IsTextOfRace T.rules setup.now turns (bytes_of scripts.now)) }
     ensures agree { (parts : Parts) → Encodes setup.now parts → HasMajorityIfNeeded parts
         → AgreesAtEnd W.contents W.failures result out.old out.new }
-    ensures fault { IfErr result (λ fault. IsFaultOfRace fault setup.now (bytes_of scripts.now)) }
-    ensures told { IfErr result
-        (IsToldOfRace T T.rules G.heard G.passes setup.now turns (bytes_of scripts.now) gates.items) }
+    ensures fault { IfErr result
+        (IsFaultOfRace (IsFaultBehind T T.rules G.heard G.passes gates.items) setup.now turns (bytes_of scripts.now)) }
     ensures passes { AllPass G.passes gates.items → IfErr result IsNotStopped }
 {
     let parts = Setup::read(alloc, setup)?;
@@ -263,15 +258,13 @@ pub fn race<T: Runs + Send, R: Threads + Wait + Sync, W: Sink>(
     scripts: &[Vec<u8>],
     out: &mut W,
 ) -> Result<(), RaceFault>
-    requires turns { turns ≤ 99999 }
     requires fits { (parts : Parts) → Encodes setup.now parts →
-        parts.processes + length scripts.now ≤ 64 }
+        parts.processes + length scripts.now ≤ MAX_SEATS }
     ensures wrote { RaceWrites W.contents W.failures result out.old out.new
         (IsTextOfRace T.rules setup.now turns (bytes_of scripts.now)) }
     ensures agree { (parts : Parts) → Encodes setup.now parts → HasMajorityIfNeeded parts
         → AgreesAtEnd W.contents W.failures result out.old out.new }
-    ensures fault { IfErr result (λ fault. IsFaultOfRace fault setup.now (bytes_of scripts.now)) }
-    ensures told { IfErr result (IsUnstoppedOfRace setup.now turns (bytes_of scripts.now)) }
+    ensures fault { IfErr result (IsFaultOfRace IsFaultUngated setup.now turns (bytes_of scripts.now)) }
 {
     let parts = Setup::read(alloc, setup)?;
     race_on::<T, R, W>(rt, alloc, parts, turns, scripts, out)

@@ -1,6 +1,7 @@
 //! The commands of a script.
 
 ghost use Rattle.std.specs.Prelude.{◌≡◌, ◌+◌, ◌*◌, ◌<◌, ◌≤◌, [], ◌∷◌, ◌++◌, length, Err, IfOk, IfErr, OnOk};
+ghost use Rattle.cdb_base.specs.declared.limits.TheConstants.{MAX_ENTRIES};
 ghost use Rattle.cdb_setup.specs.Format.{longest};
 ghost use Rattle.cdb_play.specs.Faults.{IsFaultOfReading};
 ghost use Rattle.cdb_play.specs.Lines.{lines_of};
@@ -100,7 +101,7 @@ pub(crate) fn read_commands<R: Source>(
 ) -> Result<Vec<Command>, PlayFault>
     ensures commands { IfOk result (λ commands. GivesCommands
         (R.remaining script.old) (R.remaining script.new) commands.items) }
-    ensures few { IfOk result (λ commands. length commands.items < 999999) }
+    ensures few { IfOk result (λ commands. length commands.items < MAX_ENTRIES) }
     ensures fault { IfErr result (λ fault.
         IsFaultOfReading fault (R.remaining script.old) (R.remaining script.new)) }
     ensures read { FailsWhere R.failures (result ≡ Err PlayFault.Read) script.old script.new }

@@ -36,7 +36,7 @@ pub fn race_status_of(fault: &RaceFault) -> u8
 
 /// Tells whether a race has a seat for each process and each of this many scripts: together at most 64.
 pub fn fits(setup: &Setup, scripts: usize) -> bool
-    ensures { IsTrue result ↔ (setup.now.processes + scripts ≤ 64) }
+    ensures { IsTrue result ↔ (setup.now.processes + scripts ≤ MAX_SEATS) }
 {
     scripts <= usize::from(MAX_SEATS - setup.n())
 }

@@ -4,8 +4,7 @@ use Rattle.std.specs.Prelude.{IfErr}
 use Rattle.std.proofs.lemmas.Result.{IfErr-weaker}
 use Rattle.cdb_play.proofs.Ending.{race_unwritten_setup, race_writes_weaker}
 use Rattle.cdb_play.proofs.RunningFaults.{of_race, of_setup_read}
-use Rattle.cdb_play.proofs.Told.{unstopped_of_race, unstopped_of_setup}
-use Rattle.cdb_play.specs.Races.{race_fault_of_setup, IsFaultOnSetup, IsTextOfRace, IsTextOnSetup, IsUnstoppedOnSetup}
+use Rattle.cdb_play.specs.Races.{race_fault_of_setup, IsFaultOnSetup, IsFaultUngated, IsTextOfRace, IsTextOnSetup}
 use Rattle.cdb_play.specs.Written.{AgreesAtEnd, RaceWrites}
 use Rattle.cdb_play.specs.declared.fault.RaceFault.{RaceFault}
 use Rattle.cdb_rules.specs.Agreement.{HasMajorityIfNeeded}
@@ -23,16 +22,15 @@ use Rattle.cdb_rules.specs.Algorithms.{rules}
 -- the race ran on the setup that the text encodes
 pub race_seen : {W : Type 0} (held : W → Option (List ℕ)) (failed : W → ℕ) (json : List ℕ) (turns : ℕ) (parts : Parts) (scripts : List (List ℕ)) (raced : Result (Unit {0}) RaceFault) (old new : W) → Encodes json parts
     → ((other : Parts) → Encodes json other → parts ≡ other) → parts.processes + length scripts ≤ 64 → RaceWrites held failed raced old new (IsTextOnSetup rules parts turns scripts)
-    → (HasMajorityIfNeeded parts → AgreesAtEnd held failed raced old new) → IfErr raced (λ fault. IsFaultOnSetup fault parts scripts) → IfErr raced (IsUnstoppedOnSetup parts turns scripts)
+    → (HasMajorityIfNeeded parts → AgreesAtEnd held failed raced old new) → IfErr raced (IsFaultOnSetup IsFaultUngated parts turns scripts)
     → IsRace json turns scripts raced (stream_of held failed old) (stream_of held failed new)
-race_seen held failed json turns parts scripts raced old new stands only few wrote agree fault told = record {
+race_seen held failed json turns parts scripts raced old new stands only few wrote agree fault = record {
   fits = λ ended other its. subst (λ (p : Parts). p.processes + length scripts ≤ 64) (only other its) few;
   wrote =
       race_wrote held failed (IsTextOfRace rules json turns scripts) raced old new
       (race_writes_weaker held failed (Unit {0}) (IsTextOnSetup rules parts turns scripts) raced old new (IsTextOfRace rules json turns scripts) (λ text is. (parts, stands, is)) wrote);
   agree = λ other its majority. agree (subst HasMajorityIfNeeded (sym (only other its)) majority);
-  fault = IfErr-weaker raced _ _ (of_race json parts scripts stands) fault;
-  told = IfErr-weaker raced _ _ (unstopped_of_race json parts turns scripts stands) told;
+  fault = IfErr-weaker raced _ _ (of_race IsFaultUngated turns json parts scripts stands) fault;
 }
 
 -- the text was not read as a setup
@@ -42,8 +40,7 @@ race_unread json turns scripts fault out said only = record {
   fits = λ ended other its. absurd (ended (ap (λ (f : SetupFault). Err (race_fault_of_setup f)) (only other its)));
   wrote = race_unwritten_setup contents failures (Unit {0}) (IsTextOfRace rules json turns scripts) out fault;
   agree = λ other its majority. tt;
-  fault = of_setup_read json scripts fault said;
-  told = unstopped_of_setup json turns scripts fault;
+  fault = of_setup_read IsFaultUngated turns json scripts fault said;
 }
 
 -- what was read is the only setup that the text encodes

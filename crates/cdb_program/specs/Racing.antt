@@ -1,6 +1,6 @@
 -- What races do.
 use Rattle.std.specs.Prelude.{◌≡◌, ◌≢◌, ◌⊎◌, ℕ, ◌+◌, ◌<◌, ◌≤◌, List, [], ◌∷◌, length, Result, Err, IfErr}
-use Rattle.cdb_play.specs.Races.{IsTextOfRace, IsFaultOfRace, IsUnstoppedOfRace}
+use Rattle.cdb_play.specs.Races.{IsTextOfRace, IsFaultOfRace, IsFaultUngated}
 use Rattle.cdb_play.specs.Written.{AgreesAtEnd, RaceWrites}
 use Rattle.cdb_play.specs.declared.fault.RaceFault.{RaceFault}
 use Rattle.cdb_play.specs.declared.fault.RaceFault.TheVariants.{NoMemory}
@@ -22,8 +22,7 @@ pub record IsRace (json : List ℕ) (turns : ℕ) (scripts : List (List ℕ)) (r
   pub fits : raced ≢ Err NoMemory → (setup : Parts) → Encodes json setup → setup.processes + length scripts ≤ 64
   pub wrote : RaceWrites contents failures raced old new (IsTextOfRace rules json turns scripts)
   pub agree : (setup : Parts) → Encodes json setup → HasMajorityIfNeeded setup → AgreesAtEnd contents failures raced old new
-  pub fault : IfErr raced (λ fault. IsFaultOfRace fault json scripts)
-  pub told : IfErr raced (IsUnstoppedOfRace json turns scripts)
+  pub fault : IfErr raced (IsFaultOfRace IsFaultUngated json turns scripts)
 
 -- a race of the scripts on the setup, or too many seats for it, and then nothing is written
 abbrev pub RacesOn : List ℕ → ℕ → List (List ℕ) → Stream → Stream → Outcome → Type 0

@@ -3,7 +3,7 @@ use Rattle.std.proofs.Common.{◌≡◌, inl, inr, ℕ, ◌+◌, ◌-◌, ◌<�
 use Rattle.atomic_table.specs.Seated.{TableId}
 use Rattle.cdb_control.specs.Journal.{opened}
 use Rattle.cdb_control.specs.declared.command.Command.{Command}
-use Rattle.cdb_race.specs.Faults.{fault_at, AreFresh, IsAmongSeats, IsFaultOfSeats, IsFaultOfThreads, IsNotStopped, IsOfLeastSeat, IsTold}
+use Rattle.cdb_race.specs.Faults.{fault_at, AreFresh, IsAmongSeats, IsFaultBehind, IsFaultOfThreads, IsNotStopped, IsOfLeastSeat, IsTold}
 use Rattle.cdb_race.specs.Plans.{seats_of}
 use Rattle.cdb_race.specs.Races.{AllRan, AllPass}
 use Rattle.cdb_race.specs.declared.plan.Plan.{Plan}
@@ -51,9 +51,9 @@ some_gate [] low = absurd (omega arith)
 some_gate (gate ∷ gates) low = gate
 
 -- where all gates let every call go on no seat stopped
-never_stopped : {G : Type 0} (T : Type 0) (rules : Parts → Rules) (heard : G → Option (List Heard)) (passes : G → Bool) (setup : Parts) (turns : ℕ) (scripts : List (List Command)) (gates : List G) (why : RaceFault) → length gates ≡ setup.processes + length scripts
-    → IsFaultOfSeats T rules heard passes setup turns scripts gates why → AllPass passes gates → (seat : ℕ) → why ≡ fault.Stopped seat → ⊥
-never_stopped T rules heard passes setup turns scripts gates why many it all seat is =
+never_stopped : {G : Type 0} (T : Type 0) (rules : Parts → Rules) (heard : G → Option (List Heard)) (passes : G → Bool) (gates : List G) (setup : Parts) (turns : ℕ) (scripts : List (List Command)) (why : RaceFault) → length gates ≡ setup.processes + length scripts
+    → IsFaultBehind T rules heard passes gates setup turns scripts why → AllPass passes gates → (seat : ℕ) → why ≡ fault.Stopped seat → ⊥
+never_stopped T rules heard passes gates setup turns scripts why many it all seat is =
     let least = it.least in
     let its = least.its in
     let nobody = fresh_seat it.shared (opened setup 0) 0 in
@@ -75,7 +75,7 @@ not_of_threads fault.NoMemory it = tt
 not_of_threads fault.JournalFull it = tt
 not_of_threads (fault.Spawn refused) it = tt
 
-pub told_passes : {G : Type 0} (T : Type 0) (rules : Parts → Rules) (heard : G → Option (List Heard)) (passes : G → Bool) (setup : Parts) (turns : ℕ) (scripts : List (List Command)) (gates : List G) (why : RaceFault) → length gates ≡ setup.processes + length scripts
-    → IsTold T rules heard passes setup turns scripts gates why → AllPass passes gates → IsNotStopped why
-told_passes T rules heard passes setup turns scripts gates why many (inl threads) all = not_of_threads why threads
-told_passes T rules heard passes setup turns scripts gates why many (inr it) all = not_stopped why (never_stopped T rules heard passes setup turns scripts gates why many it all)
+pub told_passes : {G : Type 0} (T : Type 0) (rules : Parts → Rules) (heard : G → Option (List Heard)) (passes : G → Bool) (gates : List G) (setup : Parts) (turns : ℕ) (scripts : List (List Command)) (why : RaceFault) → length gates ≡ setup.processes + length scripts
+    → IsTold T rules heard passes gates setup turns scripts why → AllPass passes gates → IsNotStopped why
+told_passes T rules heard passes gates setup turns scripts why many (inl threads) all = not_of_threads why threads
+told_passes T rules heard passes gates setup turns scripts why many (inr it) all = not_stopped why (never_stopped T rules heard passes gates setup turns scripts why many it all)

@@ -1,6 +1,7 @@
 -- What the final journal has of the seats of a race that a fault ended.
 use Rattle.std.proofs.Common.{◌≡◌, ℕ, ◌+◌, ◌-◌, ◌<◌, ◌≤◌, List, [], All, Some, Result, Err, length, map, replicate, take, get_or, sym, ap, ◌∙◌, subst, arith, length-append}
 use Rattle.atomic_table.specs.Seated.{TableId}
+use Rattle.cdb_base.specs.declared.limits.TheConstants.{MAX_ENTRIES}
 use Rattle.cdb_control.specs.Answer.{told}
 use Rattle.cdb_control.specs.Journal.{Journaled, opened, own, AreOfSeats}
 use Rattle.cdb_control.specs.declared.command.Command.TheVariants.{Auto}
@@ -86,7 +87,7 @@ module _ {T : Type 0} (rules : Parts → Rules) (shared : TableId) (plan : Plan)
       }
 
   -- the journal that a seat saw is no longer than the final one
-  pub full_at : (position : ℕ) → position < length rans → (get_or rans position nobody).end ≡ JournalFull → length c.journal ≤ 999999 → length c.journal ≡ 999999
+  pub full_at : (position : ℕ) → position < length rans → (get_or rans position nobody).end ≡ JournalFull → length c.journal ≤ MAX_ENTRIES → length c.journal ≡ MAX_ENTRIES
   full_at position low is few =
       let seat = (get_or rans position nobody).seat in
       let seen = (all position nobody low (fresh_seat shared (opened setup 0) 0)).full is in

@@ -70,8 +70,9 @@ pub record AreFresh (shared : TableId) (setup : Parts) (count : ℕ) (seats : Li
   pub many : length seats ≡ count
   pub each : (k : ℕ) (d : SeatView) → k < count → slice_index_or seats k d ≡ fresh_seat shared (opened setup count) (1 + k)
 
--- each seat has run, its session ended by its gate, and of the seats whose session a fault ended the least has this one
-pub record IsFaultOfSeats {G : Type 0} (T : Type 0) (rules : Parts → Rules) (heard : G → Option (List Heard)) (passes : G → Bool) (setup : Parts) (turns : ℕ) (scripts : List (List Command)) (gates : List G) (fault : RaceFault) : Type 0 where
+-- Behind these gates: each seat has run, its session ended by its gate, and of the seats whose session a fault ended the least
+-- has this one.
+pub record IsFaultBehind {G : Type 0} (T : Type 0) (rules : Parts → Rules) (heard : G → Option (List Heard)) (passes : G → Bool) (gates : List G) (setup : Parts) (turns : ℕ) (scripts : List (List Command)) (fault : RaceFault) : Type 0 where
   pub plan : Plan
   pub processes_are : plan.processes ≡ setup.processes
   pub turns_are : plan.turns ≡ turns
@@ -86,6 +87,7 @@ pub record IsFaultOfSeats {G : Type 0} (T : Type 0) (rules : Parts → Rules) (h
   pub least : IsOfLeastSeat fault rans
 
 -- a fault of starting or joining the threads, or that of a seat
-abbrev pub IsTold : {G : Type 0} → Type 0 → (Parts → Rules) → (G → Option (List Heard)) → (G → Bool) → Parts → ℕ → List (List Command) → List G → RaceFault → Type 0
-IsTold T rules heard passes setup turns scripts gates fault =
-    IsFaultOfThreads fault ⊎ IsFaultOfSeats T rules heard passes setup turns scripts gates fault
+abbrev pub IsTold : {G : Type 0} → Type 0 → (Parts → Rules) → (G → Option (List Heard)) → (G → Bool) → List G
+    → Parts → ℕ → List (List Command) → RaceFault → Type 0
+IsTold T rules heard passes gates setup turns scripts fault =
+    IsFaultOfThreads fault ⊎ IsFaultBehind T rules heard passes gates setup turns scripts fault

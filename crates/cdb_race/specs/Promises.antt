@@ -21,10 +21,12 @@ pub record IsPromise {T G : Type 0} (plan : Plan) (seat : SeatView) (gate : G) (
   pub gate_is : promise.gate.value ≡ gate
 
 -- each handle promises that of a seat and its gate, the last seat's first
-abbrev pub ArePromises : {T G : Type 0} → Plan → Vec SeatView Global → Vec G Global → Vec (PromisedHandle (Ran T) (SeatPromise T G)) Global → Type 0
+abbrev pub ArePromises : {T G : Type 0} → Plan → Vec SeatView Global → Vec G Global
+    → Vec (PromisedHandle (Ran T) (SeatPromise T G)) Global → Type 0
 ArePromises {T} {G} plan seats gates handles =
     (k : ℕ) (before : SeatView) (gate : G) (handle : PromisedHandle (Ran T) (SeatPromise T G)) → k < vec_len seats
-    → IsPromise plan (slice_index_or seats.items (vec_len seats - 1 - k) before) (slice_index_or gates.items (vec_len gates - 1 - k) gate) (slice_index_or handles.items k handle).promise
+    → IsPromise plan (slice_index_or seats.items (vec_len seats - 1 - k) before)
+    (slice_index_or gates.items (vec_len gates - 1 - k) gate) (slice_index_or handles.items k handle).promise
 
 -- what the seat's thread hands back says what the seat has done
 abbrev pub HasRan : {T : Type 0} → (Parts → Rules) → Plan → SeatView → Ran T → Type 0

@@ -24,13 +24,15 @@ all_told replies = map (λ list. map told list.items) replies
 -- the outcomes of the threads of these seats, the last seat's first
 abbrev pub AllRan : {T : Type 0} → (Parts → Rules) → Plan → List SeatView → List (Ran T) → Type 0
 AllRan {T} rules plan seats rans =
-    (k : ℕ) (ran : Ran T) → k < length rans → (before : SeatView) → HasRan rules plan (slice_index_or seats (length seats - 1 - k) before) (slice_index_or rans k ran)
+    (k : ℕ) (ran : Ran T) → k < length rans → (before : SeatView)
+    → HasRan rules plan (slice_index_or seats (length seats - 1 - k) before) (slice_index_or rans k ran)
 
 -- how the sessions of these outcomes ended, by their gates; the last gate's and seat's first
 abbrev pub AllEnded : {T G : Type 0} → (G → Option (List Heard)) → (G → Bool) → List G → List SeatView → List (Ran T) → Type 0
 AllEnded {T} {G} heard passes gates seats rans =
     (k : ℕ) (ran : Ran T) (gate : G) → k < length rans → (before : SeatView)
-    → HasEnded heard passes (slice_index_or gates (length gates - 1 - k) gate) (slice_index_or seats (length seats - 1 - k) before) (slice_index_or rans k ran).seat (slice_index_or rans k ran).end
+    → let of_k = slice_index_or rans k ran in
+    HasEnded heard passes (slice_index_or gates (length gates - 1 - k) gate) (slice_index_or seats (length seats - 1 - k) before) of_k.seat of_k.end
 
 -- each of these gates lets every call go on
 abbrev pub AllPass : {G : Type 0} → (G → Bool) → List G → Type 0
@@ -38,7 +40,9 @@ AllPass passes gates = All (λ gate. passes gate ≡ true) gates
 
 -- these are the seats of the outcomes, the first seat first
 abbrev pub AreSeatsOf : {T : Type 0} → List SeatView → List (Ran T) → Type 0
-AreSeatsOf {T} seats rans = (k : ℕ) (seat : SeatView) (ran : Ran T) → k < length rans → slice_index_or seats k seat ≡ (slice_index_or rans (length rans - 1 - k) ran).seat
+AreSeatsOf {T} seats rans =
+    (k : ℕ) (seat : SeatView) (ran : Ran T) → k < length rans
+    → slice_index_or seats k seat ≡ (slice_index_or rans (length rans - 1 - k) ran).seat
 
 -- each of these seats has finished, and each has its replies
 abbrev pub AllFinished : (Parts → Rules) → Plan → List SeatView → List SeatView → List (List Answer) → Type 0
@@ -50,7 +54,8 @@ AllFinished rules plan before seats answers =
 abbrev pub answers_to : (Parts → Rules) → ℕ → Journaled → List Answer
 answers_to rules seat c = replies_of (rules c.setup) c.setup c.seats seat c.journal
 
--- the final control and the replies of each seat: each process was driven by its seat, each script was served by its seat, and the journal has no other entries
+-- The final control and the replies of each seat: each process was driven by its seat, each script was served by its seat, and
+-- the journal has no other entries.
 pub record IsRaced (rules : Parts → Rules) (setup : Parts) (turns : ℕ) (scripts : List (List Command)) (c : Journaled) (answers : List (List Answer)) : Type 0 where
   pub setup_is : c.setup ≡ setup
   pub seats_are : c.seats ≡ setup.processes + length scripts
@@ -59,7 +64,8 @@ pub record IsRaced (rules : Parts → Rules) (setup : Parts) (turns : ℕ) (scri
   pub served : (k : ℕ) → k < length scripts → own (setup.processes + k + 1) c.journal ≡ slice_index_or scripts k []
   pub many : length answers ≡ c.seats
   pub none : (k : ℕ) → k < setup.processes → slice_index_or answers k [] ≡ []
-  pub answered : (k : ℕ) → k < length scripts → slice_index_or answers (setup.processes + k) [] ≡ answers_to rules (setup.processes + k + 1) c
+  pub answered : (k : ℕ) → k < length scripts
+      → slice_index_or answers (setup.processes + k) [] ≡ answers_to rules (setup.processes + k + 1) c
 
 -- A race that is not at its end: each process was driven by its seat for no more than its turns, of each script its seat served
 -- a beginning, and the journal has no other entries.
@@ -68,7 +74,8 @@ pub record IsUnderWay (setup : Parts) (turns : ℕ) (scripts : List (List Comman
   pub seats_are : c.seats ≡ setup.processes + length scripts
   pub entries : AreOfSeats c.seats c.journal
   pub driven : (p : ℕ) → 1 ≤ p → p ≤ setup.processes → (count : ℕ) × (count ≤ turns) × (own p c.journal ≡ replicate count (Auto p))
-  pub served : (k : ℕ) → k < length scripts → (count : ℕ) × (own (setup.processes + k + 1) c.journal ≡ take count (slice_index_or scripts k []))
+  pub served : (k : ℕ) → k < length scripts
+      → (count : ℕ) × (own (setup.processes + k + 1) c.journal ≡ take count (slice_index_or scripts k []))
 
 -- how many calls a race makes at most: of each process its turns, and each command of each script
 abbrev pub most_calls : Parts → ℕ → List (List Command) → ℕ

@@ -1,5 +1,6 @@
 //! Starting and joining the threads of a race.
 ghost use Rattle.std.specs.Prelude.{◌≡◌, ◌+◌, ◌<◌, ◌≤◌, length, vec_len, All, IfOk, IfErr, MatchOption, Err};
+ghost use Rattle.cdb_base.specs.declared.limits.TheConstants.{MAX_SEATS};
 ghost use Rattle.cdb_race.specs.Faults.{fault_in, AreWell, HaveFinished, IsAmongSeats, IsFaultOfThreads, IsNotStopped, IsOfLeastSeat, IsTold};
 ghost use Rattle.cdb_race.specs.Plans.{IsReady};
 ghost use Rattle.cdb_race.specs.Promises.{ArePromises, IsPromise, HasRan, HasEnded};
@@ -219,14 +220,14 @@ pub fn race<T: Runs + Send, G: Gate + Drop + Send, R: Threads + Wait + Sync>(
     scripts: &[Script],
     gates: Vec<G>,
 ) -> Result<Raced<T>, RaceFault>
-    requires fits { setup.processes + length scripts.now ≤ 64 }
+    requires fits { setup.processes + length scripts.now ≤ MAX_SEATS }
     requires gates { vec_len gates ≡ setup.processes + length scripts.now }
     ensures raced { IfOk result (HasRaced T.rules setup turns scripts.now) }
     ensures headline { IfOk result (λ r. HasHeadline T.rules T.same_state r.control) }
     ensures fault { IfErr result (IsAmongSeats (setup.processes + length scripts.now)) }
     ensures full { result ≡ Err RaceFault.JournalFull → FillsJournal setup turns scripts.now }
     ensures most { result ≡ Err RaceFault.JournalFull → MayFill setup turns scripts.now }
-    ensures told { IfErr result (IsTold T T.rules G.heard G.passes setup turns scripts.now gates.items) }
+    ensures told { IfErr result (IsTold T T.rules G.heard G.passes gates.items setup turns scripts.now) }
     ensures passes { AllPass G.passes gates.items → IfErr result IsNotStopped }
 {
     let processes = setup.n();

@@ -10,7 +10,7 @@ use Rattle.cdb_control.specs.declared.control.CallFault.{CallFault}
 use Rattle.cdb_control.specs.Answer.{Answer, told}
 use Rattle.cdb_control.specs.Commands.{answer}
 use Rattle.cdb_control.specs.Headline.{Headline}
-use Rattle.cdb_control.specs.Journal.{Journaled, Begins, entry, extended, replay, state_of}
+use Rattle.cdb_control.specs.Journal.{Journaled, Begins, entry, extended, replay, reply_in}
 use Rattle.cdb_control.proofs.Own.{Begins-refl, Begins-push}
 use Rattle.cdb_base.specs.declared.event.Event.{Event}
 use Rattle.cdb_rules.specs.Rules.{Rules}
@@ -29,7 +29,7 @@ pub knows_one : (number : ℕ) (v : Knowledge) (c : Story) → IsPassFor number 
 knows_one number v c one all = (subst (λ (ps : List KnownSeat). AllKnow c ps) one.only all).0
 
 -- an executed command, or a refused one, may be given back
-pub may_give : (rules : Parts → Rules) (number : ℕ) (v w : Knowledge) (c after : Journaled) (command : Command) (r : Result Reply CallFault) → IsPassFor number v → Taken v c w → IfOk r (λ _. after ≡ extended (rules c.setup) c number command) → OnErr r (after ≡ c) → MayGive w after
+pub may_give : (rules : Parts → Rules) (number : ℕ) (v w : Knowledge) (c after : Journaled) (command : Command) (r : Result Reply CallFault) → IsPassFor number v → Taken v c w → IfOk r (λ _. after ≡ extended rules c number command) → OnErr r (after ≡ c) → MayGive w after
 may_give rules number v w c after command (Ok reply) one taken ok err =
     let is = taken.0 in (
       ap (λ (u : Knowledge). u.stage) is,
@@ -39,7 +39,7 @@ may_give rules number v w c after command (Err fault) one taken ok err =
     let is = taken.0 in (ap (λ (u : Knowledge). u.stage) is, subst (λ (u : Knowledge). MayFollow u.held u.known_seats (story after)) (sym is) (inl (ap story err)))
 
 -- the journal has grown by no more than one command
-pub begins_after : (rules : Parts → Rules) (c after : Journaled) (number : ℕ) (command : Command) (r : Result Reply CallFault) (seen : List Entry) → IfOk r (λ _. after ≡ extended (rules c.setup) c number command) → OnErr r (after ≡ c) → Begins seen c.journal → Begins seen after.journal
+pub begins_after : (rules : Parts → Rules) (c after : Journaled) (number : ℕ) (command : Command) (r : Result Reply CallFault) (seen : List Entry) → IfOk r (λ _. after ≡ extended rules c number command) → OnErr r (after ≡ c) → Begins seen c.journal → Begins seen after.journal
 begins_after rules c after number command (Ok reply) seen ok err begins = subst (λ (y : Journaled). Begins seen y.journal) (sym ok) (Begins-push seen c.journal (entry number command) begins)
 begins_after rules c after number command (Err fault) seen ok err begins = subst (λ (y : Journaled). Begins seen y.journal) (sym err) begins
 
@@ -171,7 +171,7 @@ met_begins home u v y z c a is known first second =
     )
 
 call_at : (rules : Parts → Rules) (number : ℕ) (home home' : TableId) (v w x : Knowledge) (c after : Journaled) (command : Command) (reply : Answer) → IsPassFor number v → Taken v c w → Given w after x
-    → reply ≡ answer (rules c.setup) (state_of (rules c.setup) c) number command → after ≡ extended (rules c.setup) c number command → IsCall rules (seat_of home v) command reply (seat_of home' x)
+    → reply ≡ reply_in rules c number command → after ≡ extended rules c number command → IsCall rules (seat_of home v) command reply (seat_of home' x)
 call_at rules number home home' v w x c after command reply one taken given answered extends =
     let p = known_seat_of v.known_seats in
     let known = knows_one number v (story c) one taken.1 in
@@ -186,19 +186,19 @@ call_at rules number home home' v w x c after command reply one taken given answ
 
 -- a call that was answered
 pub is_call : (rules : Parts → Rules) (number : ℕ) (home home' : TableId) (v w x : Knowledge) (c after : Journaled) (command : Command) (r : Result Reply CallFault) (old : SeatView) → seat_of home v ≡ old → IsPassFor number v → Taken v c w → Given w after x
-    → IfOk r (λ reply. told reply ≡ answer (rules c.setup) (state_of (rules c.setup) c) number command) → IfOk r (λ _. after ≡ extended (rules c.setup) c number command) → IfOk r (λ reply. IsCall rules old command (told reply) (seat_of home' x))
+    → IfOk r (λ reply. told reply ≡ reply_in rules c number command) → IfOk r (λ _. after ≡ extended rules c number command) → IfOk r (λ reply. IsCall rules old command (told reply) (seat_of home' x))
 is_call rules number home home' v w x c after command (Ok reply) old is one taken given answered extends =
     subst (λ (s : SeatView). IsCall rules s command (told reply) (seat_of home' x)) is (call_at rules number home home' v w x c after command (told reply) one taken given answered extends)
 is_call rules number home home' v w x c after command (Err fault) old is one taken given answered extends = tt
 
 -- a call leaves the setup and the number of seats
-same_parts : (rules : Parts → Rules) (c after : Journaled) (number : ℕ) (command : Command) (r : Result Reply CallFault) → IfOk r (λ _. after ≡ extended (rules c.setup) c number command) → OnErr r (after ≡ c) → (after.setup ≡ c.setup) × (after.seats ≡ c.seats)
+same_parts : (rules : Parts → Rules) (c after : Journaled) (number : ℕ) (command : Command) (r : Result Reply CallFault) → IfOk r (λ _. after ≡ extended rules c number command) → OnErr r (after ≡ c) → (after.setup ≡ c.setup) × (after.seats ≡ c.seats)
 same_parts rules c after number command (Ok reply) ok err = (ap (λ (y : Journaled). y.setup) ok, ap (λ (y : Journaled). y.seats) ok)
 same_parts rules c after number command (Err fault) ok err = (ap (λ (y : Journaled). y.setup) err, ap (λ (y : Journaled). y.seats) err)
 
 -- the headline of the control that is given back is that of the seat
 pub sees_headline : (rules : Parts → Rules) (SameState : Parts → List Event → List Event → Type 0) (number : ℕ) (home' : TableId) (v w x : Knowledge) (c after : Journaled) (command : Command) (r : Result Reply CallFault) → IsPassFor number v → Taken v c w → Given w after x
-    → IfOk r (λ _. after ≡ extended (rules c.setup) c number command) → OnErr r (after ≡ c) → HasHeadline rules SameState after → SeesHeadline rules SameState (seat_of home' x)
+    → IfOk r (λ _. after ≡ extended rules c number command) → OnErr r (after ≡ c) → HasHeadline rules SameState after → SeesHeadline rules SameState (seat_of home' x)
 sees_headline rules SameState number home' v w x c after command r one taken given ok err headline =
     let known = knows_one number v (story c) one taken.1 in
     let mine = ap known_seat_of (ap (λ (u : Knowledge). u.known_seats) given ∙ ap (λ (u : Knowledge). seats_after u.held u.known_seats (story after)) taken.0 ∙ ap (seen_by (story after)) one.only) in

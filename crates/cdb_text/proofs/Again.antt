@@ -9,7 +9,7 @@ use Rattle.cdb_control.specs.declared.command.View.TheVariants as view
 use Rattle.cdb_text.specs.declared.keyword.Keyword.TheVariants as key
 use Rattle.cdb_text.specs.declared.verb.Verb.{Verb}
 use Rattle.cdb_text.specs.declared.verb.Verb.TheVariants as verb
-use Rattle.cdb_text.specs.Commands.{number, parts_of}
+use Rattle.cdb_text.specs.Commands.{number, command_parts}
 use Rattle.cdb_text.specs.Grammar.{IsInRange, HasNumbersInRange, part_text}
 use Rattle.cdb_text.specs.Reading.{keyword_of}
 use Rattle.cdb_text.specs.Verbs.{on_step, on_loss}
@@ -39,7 +39,7 @@ loss_again : (v : Verb) (s m p : ℕ) → IsInRange (number s) → IsInRange (nu
 unfolding event_at
 loss_again v s m p first second third = rw (keyword_again key.Lost) (three_again (on_loss v) s m p first second third)
 
-pub again : (command : Command) → HasNumbersInRange command → command_at (map part_text (parts_of command)) ≡ Ok command
+pub again : (command : Command) → HasNumbersInRange command → command_at (map part_text (command_parts command)) ≡ Ok command
 unfolding command_at step_at break_at show_at keyword_of
 again (Step p act.Go) is = rw (number_again p is.1.0.0 is.1.0.1) refl
 again (Step p act.Learn) is = rw (number_again p is.1.0.0 is.1.0.1) refl

@@ -10,8 +10,8 @@ use Rattle.cdb_text.specs.declared.keyword.Keyword.{Keyword}
 use Rattle.cdb_text.specs.declared.keyword.Keyword.TheVariants as key
 use Rattle.cdb_text.specs.declared.verb.Verb.{Verb}
 use Rattle.cdb_text.specs.declared.verb.Verb.TheVariants as verb
-use Rattle.cdb_text.specs.Commands.{Part, fixed, number}
-use Rattle.cdb_text.specs.Faults.{IsFirstFault}
+use Rattle.cdb_text.specs.Commands.{CommandPart, fixed, number}
+use Rattle.cdb_text.specs.Faults.{IsFirstFaultOfWords}
 use Rattle.cdb_text.specs.Grammar.{AreWordsOf, IsInRange, part_text}
 use Rattle.cdb_text.specs.Keywords.{keyword_name}
 use Rattle.cdb_text.specs.Reading.{◌>>=◌, IsRead, keyword_of, number_at, number_of, word_at}
@@ -22,18 +22,18 @@ use Rattle.cdb_text.proofs.Reading.{break_at, command_at, event_at, query_at, re
 use Rattle.cdb_text.proofs.States.{Completes, Reader, Reads, State}
 use Rattle.cdb_text.proofs.Table.{all_words, break_state, query_state, recv_state, event_state, show_state, step_p, step_state}
 
-All-both : (xs ys : List Part) → AllByRecursion IsInRange xs → AllByRecursion IsInRange ys → AllByRecursion IsInRange (xs ++ ys)
+All-both : (xs ys : List CommandPart) → AllByRecursion IsInRange xs → AllByRecursion IsInRange ys → AllByRecursion IsInRange (xs ++ ys)
 All-both [] ys a b = b
 All-both (x ∷ xs) ys a b = (a.0, All-both xs ys a.1 b)
 
-completed : (parts : List Part) (words : List (List ℕ)) (command : Command) → AllByRecursion IsInRange parts → Completes parts words command → AreWordsOf command (map part_text parts ++ words)
+completed : (parts : List CommandPart) (words : List (List ℕ)) (command : Command) → AllByRecursion IsInRange parts → Completes parts words command → AreWordsOf command (map part_text parts ++ words)
 completed parts words command ranges found = (
   ap (λ (ws : List (List ℕ)). map part_text parts ++ ws) found.2 ∙ sym (ap (map part_text) found.1 ∙ map-append part_text parts found.0),
-  subst (λ (ps : List Part). AllByRecursion IsInRange ps) (sym found.1) (All-both parts found.0 ranges found.3),
+  subst (λ (ps : List CommandPart). AllByRecursion IsInRange ps) (sym found.1) (All-both parts found.0 ranges found.3),
 )
 
 -- a state finds the command, or the first fault
-read_by : (parts : List Part) (k : Reader) → State parts k → AllByRecursion IsInRange parts → (words : List (List ℕ)) (read : Result Command LineFault) → read ≡ k words → IsRead (map part_text parts) words read
+read_by : (parts : List CommandPart) (k : Reader) → State parts k → AllByRecursion IsInRange parts → (words : List (List ℕ)) (read : Result Command LineFault) → read ≡ k words → IsRead (map part_text parts) words read
 unfolding IsRead
 read_by parts k at ranges words (Ok command) e = completed parts words command ranges (at.says words command (sym e))
 read_by parts k at ranges words (Err fault) e = at.faults words fault (sym e)
@@ -102,7 +102,7 @@ command_read = read_by [] command_at all_words tt
 longer : (before words : List (List ℕ)) (word : List ℕ) (read : Result Command LineFault) → IsRead (before ++ word ∷ []) words read → IsRead before (word ∷ words) read
 unfolding IsRead
 longer before words word (Ok command) is = subst (λ (ws : List (List ℕ)). AreWordsOf command ws) (append_assoc before (word ∷ []) words) is
-longer before words word (Err fault) is = subst (λ (ws : List (List ℕ)). IsFirstFault fault ws) (append_assoc before (word ∷ []) words) is
+longer before words word (Err fault) is = subst (λ (ws : List (List ℕ)). IsFirstFaultOfWords fault ws) (append_assoc before (word ∷ []) words) is
 
 word_says : (words : List (List ℕ)) (word : List ℕ) (rest : List (List ℕ)) → word_at words ≡ Ok (word, rest) → words ≡ word ∷ rest
 word_says [] word rest e = absurd cc

@@ -15,7 +15,7 @@ use Rattle.cdb_control.specs.declared.command.Command.{Command}
 use Rattle.cdb_control.specs.declared.command.Command.TheVariants.{Step, Break, Show}
 use Rattle.cdb_control.specs.declared.command.Stop.TheVariants as stop
 use Rattle.cdb_control.specs.declared.command.View.TheVariants as view
-use Rattle.cdb_text.specs.Commands.{Part, fixed, number, register, parts_of}
+use Rattle.cdb_text.specs.Commands.{CommandPart, fixed, number, register, command_parts}
 use Rattle.cdb_text.specs.Grammar.{IsInRange, HasNumbersInRange, IsLineOf, printed, words_of, part_text}
 use Rattle.cdb_text.specs.Laws.{EachCommandHasOneLine}
 use Rattle.cdb_text.proofs.Cut.{is_space}
@@ -45,12 +45,12 @@ digits_are_spaceless (byte ∷ word) all = (digit_is_no_space byte all.0, digits
 number_is_spaceless : (n : ℕ) → n ≤ 999999 → IsSpaceless (decimal n)
 number_is_spaceless n high = digits_are_spaceless (decimal n) (digits_decimal (numerals_by_value (AllDigits 10) tells_digits) n (omega arith))
 
-abbrev no_space : Part → Bool
+abbrev no_space : CommandPart → Bool
 no_space (fixed text) = list_all (λ byte. not (is_space byte)) (codes text)
 no_space other = true
 
 -- no fixed word has a space
-no_spaces : (command : Command) → list_all no_space (parts_of command) ≡ true
+no_spaces : (command : Command) → list_all no_space (command_parts command) ≡ true
 no_spaces (Step p act.Go) = refl
 no_spaces (Step p act.Learn) = refl
 no_spaces (Step p act.Crash) = refl
@@ -71,22 +71,22 @@ tested : (word : List ℕ) → list_all (λ byte. not (is_space byte)) word ≡ 
 tested [] e = tt
 tested (byte ∷ word) e = let parts = and_parts _ _ e in (not-true (is_space byte) parts.0, tested word parts.1)
 
-part_is_spaceless : (part : Part) → no_space part ≡ true → IsInRange part → IsSpaceless (part_text part)
+part_is_spaceless : (part : CommandPart) → no_space part ≡ true → IsInRange part → IsSpaceless (part_text part)
 part_is_spaceless (fixed text) e is = tested (codes text) e
 part_is_spaceless (number n) e is = number_is_spaceless n is.1
 part_is_spaceless (register (R p)) e is = (refl, number_is_spaceless p (omega (arith, is.1)))
 part_is_spaceless (register Dec) e is = (refl, (refl, (refl, tt)))
 
-parts_are_spaceless : (parts : List Part) → list_all no_space parts ≡ true → AllByRecursion IsInRange parts → AllByRecursion IsSpaceless (map part_text parts)
+parts_are_spaceless : (parts : List CommandPart) → list_all no_space parts ≡ true → AllByRecursion IsInRange parts → AllByRecursion IsSpaceless (map part_text parts)
 parts_are_spaceless [] e all = tt
 parts_are_spaceless (part ∷ parts) e all = let tests = and_parts _ _ e in (part_is_spaceless part tests.0 all.0, parts_are_spaceless parts tests.1 all.1)
 
 -- a command has a part
-cut_again : (parts : List Part) → parts ≢ [] → AllByRecursion IsSpaceless (map part_text parts) → words_of (join_with_byte 32 (map part_text parts)) ≡ map part_text parts
+cut_again : (parts : List CommandPart) → parts ≢ [] → AllByRecursion IsSpaceless (map part_text parts) → words_of (join_with_byte 32 (map part_text parts)) ≡ map part_text parts
 cut_again [] some all = absurd (some refl)
 cut_again (part ∷ parts) some all = joined (part_text part) (map part_text parts) all.0 all.1
 
-some_part : (command : Command) → parts_of command ≢ []
+some_part : (command : Command) → command_parts command ≢ []
 some_part (Step p act.Go) e = cc
 some_part (Step p act.Learn) e = cc
 some_part (Step p act.Crash) e = cc
@@ -104,7 +104,7 @@ some_part (Show view.History) e = cc
 some_part other e = cc
 
 printed_is_line : (command : Command) → HasNumbersInRange command → IsLineOf command (printed command)
-printed_is_line command ranges = (cut_again (parts_of command) (some_part command) (parts_are_spaceless (parts_of command) (no_spaces command) ranges), ranges)
+printed_is_line command ranges = (cut_again (command_parts command) (some_part command) (parts_are_spaceless (command_parts command) (no_spaces command) ranges), ranges)
 
 line_is_printed : (command : Command) (line : List ℕ) → IsLineOf command line → line ≡ printed command
 line_is_printed command line is = sym (join_with_byte-slice_split 32 line) ∙ ap (join_with_byte 32) is.0

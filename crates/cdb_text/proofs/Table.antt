@@ -14,7 +14,7 @@ use Rattle.cdb_text.specs.declared.keyword.Keyword.{Keyword}
 use Rattle.cdb_text.specs.declared.keyword.Keyword.TheVariants as key
 use Rattle.cdb_text.specs.declared.verb.Verb.{Verb}
 use Rattle.cdb_text.specs.declared.verb.Verb.TheVariants as verb
-use Rattle.cdb_text.specs.Commands.{Part, fixed, number, register, parts_of}
+use Rattle.cdb_text.specs.Commands.{CommandPart, fixed, number, register, command_parts}
 use Rattle.cdb_text.specs.Faults.{GoesOn}
 use Rattle.cdb_text.specs.Grammar.{IsInRange, part_text}
 use Rattle.cdb_text.specs.Keywords.{keyword_name}
@@ -26,12 +26,12 @@ use Rattle.cdb_text.proofs.States.{Reader, Reads, State, Choice, accept, state, 
 
 -- ---- `step`
 
-abbrev pub step_p : ℕ → List Part
+abbrev pub step_p : ℕ → List CommandPart
 step_p p = fixed "step" ∷ number p ∷ []
 
 pub query_state : (p : ℕ) → IsInRange (number p) → Reads (step_p p ++ fixed "query" ∷ []) (query_at p) → State (step_p p ++ fixed "query" ∷ []) (query_at p)
 query_state p range reads =
-    let parts : List Part = step_p p ++ fixed "query" ∷ [] in
+    let parts : List CommandPart = step_p p ++ fixed "query" ∷ [] in
     let goes : GoesOn (map part_text parts) (decimal 1) = (Step p (act.Query (Some 1)), [], (refl, (tt, (range, (tt, (one, tt)))))) in
     state parts (query_at p) Number reads (inl (Step p (act.Query None), refl, refl))
     (λ word no. (no, (1, one, goes), not_show (codes "step") _ refl))
@@ -70,7 +70,7 @@ step_state reads =
 
 -- ---- `break`
 
-abbrev breaks : List Part
+abbrev breaks : List CommandPart
 breaks = fixed "break" ∷ []
 
 register_choice : Reads (breaks ++ fixed "write" ∷ []) (stop_of (Some key.Write)) → (word : List ℕ) (found : Option Reg) → register_of word ≡ found
@@ -111,7 +111,7 @@ break_state reads =
 
 -- ---- `show`
 
-abbrev shows : List Part
+abbrev shows : List CommandPart
 shows = fixed "show" ∷ []
 
 number_view : Reads shows show_at → (word : List ℕ) → ((rest : List (List ℕ)) → show_at (word ∷ rest) ≡ (ok_or (number_of word) Word >>= λ p. ended (Show (view.Proc p)) rest)) → Choice shows show_at Word word
@@ -140,8 +140,8 @@ show_state reads =
 
 -- ---- `undo`, `rollback` and `why`
 
-module _ (v : Verb) (name : String) (differs : bytes_eq (codes name) (codes "show") ≡ false) (on_steps : (p k : ℕ) → parts_of (on_step v p k) ≡ fixed name ∷ number p ∷ number k ∷ [])
-    (on_losses : (s m p : ℕ) → parts_of (on_loss v s m p) ≡ fixed name ∷ fixed "lost" ∷ number s ∷ number m ∷ number p ∷ []) where
+module _ (v : Verb) (name : String) (differs : bytes_eq (codes name) (codes "show") ≡ false) (on_steps : (p k : ℕ) → command_parts (on_step v p k) ≡ fixed name ∷ number p ∷ number k ∷ [])
+    (on_losses : (s m p : ℕ) → command_parts (on_loss v s m p) ≡ fixed name ∷ fixed "lost" ∷ number s ∷ number m ∷ number p ∷ []) where
   number_event : Reads (fixed name ∷ []) (event_at v) → (word : List ℕ)
       → ((rest : List (List ℕ)) → event_at v (word ∷ rest) ≡ (ok_or (number_of word) Number >>= λ p. one_at (on_step v p) rest)) → Choice (fixed name ∷ []) (event_at v) Number word
   number_event reads word on =
@@ -164,7 +164,7 @@ module _ (v : Verb) (name : String) (differs : bytes_eq (codes name) (codes "sho
 -- ---- a whole line
 
 -- a fixed word alone
-word_alone : (name : String) (command : Command) → parts_of command ≡ fixed name ∷ [] → Reads (fixed name ∷ []) (ended command) → State (fixed name ∷ []) (ended command)
+word_alone : (name : String) (command : Command) → command_parts command ≡ fixed name ∷ [] → Reads (fixed name ∷ []) (ended command) → State (fixed name ∷ []) (ended command)
 word_alone name command are = end_state command (fixed name ∷ []) are (tt, tt)
 
 reads_all : Reads [] command_at

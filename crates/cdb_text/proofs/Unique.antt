@@ -5,7 +5,7 @@ use Rattle.std.proofs.lemmas.List.{append-nil}
 use Rattle.cdb_control.specs.declared.command.Command.{Command}
 use Rattle.cdb_text.specs.declared.fault.LineFault.{LineFault}
 use Rattle.cdb_text.specs.declared.fault.LineFault.TheVariants.{Empty, Word, Number, Extra, Missing}
-use Rattle.cdb_text.specs.Faults.{GoesOn, IsFaultAt, IsFirstFault}
+use Rattle.cdb_text.specs.Faults.{GoesOn, IsFaultAt, IsFirstFaultOfWords}
 use Rattle.cdb_text.specs.Grammar.{AreWordsOf}
 
 abbrev Words : Type 0
@@ -84,19 +84,19 @@ stop_at_one f g line a b =
       | inr (inr behind) ↦ absurd (fault_stops g b.0 b.1 b.4 (goes_on_within a.0 b.0 b.1 behind.0 behind.1 (fault_begins f a.0 (Some a.1) a.4)))
     ]
 
-missing_alone : (fault : LineFault) (line : Words) → IsFirstFault Missing line → IsFirstFault fault line → Missing ≡ fault
+missing_alone : (fault : LineFault) (line : Words) → IsFirstFaultOfWords Missing line → IsFirstFaultOfWords fault line → Missing ≡ fault
 missing_alone Missing line missing first = refl
 missing_alone Empty line missing first = absurd (begins_nowhere_stops Empty line (fault_begins Missing line None missing) first)
 missing_alone Word line missing first = absurd (begins_nowhere_stops Word line (fault_begins Missing line None missing) first)
 missing_alone Number line missing first = absurd (begins_nowhere_stops Number line (fault_begins Missing line None missing) first)
 missing_alone Extra line missing first = absurd (begins_nowhere_stops Extra line (fault_begins Missing line None missing) first)
 
-pub one_first_fault : (f g : LineFault) (line : Words) → IsFirstFault f line → IsFirstFault g line → f ≡ g
+pub one_first_fault : (f g : LineFault) (line : Words) → IsFirstFaultOfWords f line → IsFirstFaultOfWords g line → f ≡ g
 one_first_fault Missing g line a b = missing_alone g line a b
 one_first_fault f Missing line a b = sym (missing_alone f line b a)
 one_first_fault f g line a b = stop_at_one f g line a b
 
 -- the words of a command have no fault
-pub whole_has_no_fault : (command : Command) (fault : LineFault) (line : Words) → AreWordsOf command line → ¬ IsFirstFault fault line
+pub whole_has_no_fault : (command : Command) (fault : LineFault) (line : Words) → AreWordsOf command line → ¬ IsFirstFaultOfWords fault line
 whole_has_no_fault command Missing line is first = first.0 (command, is)
 whole_has_no_fault command fault line is first = begins_nowhere_stops fault line (whole_begins command line is) first

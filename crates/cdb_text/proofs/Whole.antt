@@ -4,7 +4,7 @@ use Rattle.std.specs.Prelude.{Result, Ok, Err}
 use Rattle.cdb_control.specs.declared.command.Command.{Command}
 use Rattle.cdb_text.specs.declared.fault.LineFault.{LineFault}
 use Rattle.cdb_text.specs.declared.fault.LineFault.TheVariants.{Empty, Word, Number, Extra, Missing}
-use Rattle.cdb_text.specs.Faults.{IsFirstFault, IsFaultOf}
+use Rattle.cdb_text.specs.Faults.{IsFirstFaultOfWords, IsFaultOf}
 use Rattle.cdb_text.specs.Grammar.{AreWordsOf, IsLineOf, words_of}
 use Rattle.cdb_text.specs.Reading.{IsRead, keyword_of}
 use Rattle.cdb_text.proofs.Reading.{command_at}
@@ -24,22 +24,22 @@ module _ (words : List (List ℕ)) where
   )
   one_command (Err fault) command is = (λ e. absurd cc, λ whole. absurd (whole_has_no_fault command fault words whole is))
 
-  pub one_fault : (read : Result Command LineFault) (fault : LineFault) → IsRead [] words read → (read ≡ Err fault) ↔ IsFirstFault fault words
+  pub one_fault : (read : Result Command LineFault) (fault : LineFault) → IsRead [] words read → (read ≡ Err fault) ↔ IsFirstFaultOfWords fault words
   unfolding IsRead
   one_fault (Ok command) fault is = (λ e. absurd cc, λ first. absurd (whole_has_no_fault command fault words is first))
   one_fault (Err other) fault is = (
-    (λ e. let same : other ≡ fault = cc in subst (λ (f : LineFault). IsFirstFault f words) same is),
+    (λ e. let same : other ≡ fault = cc in subst (λ (f : LineFault). IsFirstFaultOfWords f words) same is),
     (λ first. ap (λ (f : LineFault). Err f) (one_first_fault other fault words is first)),
   )
 
-of_line : (fault : LineFault) (line : List ℕ) → line ≢ [] → IsFirstFault fault (words_of line) → IsFaultOf fault line
+of_line : (fault : LineFault) (line : List ℕ) → line ≢ [] → IsFirstFaultOfWords fault (words_of line) → IsFaultOf fault line
 of_line Empty line some first = absurd first.4
 of_line Missing line some first = (some, first)
 of_line Word line some first = (some, first)
 of_line Number line some first = (some, first)
 of_line Extra line some first = (some, first)
 
-first_of_line : (fault : LineFault) (line : List ℕ) → line ≢ [] → IsFaultOf fault line → IsFirstFault fault (words_of line)
+first_of_line : (fault : LineFault) (line : List ℕ) → line ≢ [] → IsFaultOf fault line → IsFirstFaultOfWords fault (words_of line)
 first_of_line Empty line some none = absurd (some none)
 first_of_line Missing line some is = is.1
 first_of_line Word line some is = is.1

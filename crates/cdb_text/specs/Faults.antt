@@ -42,13 +42,13 @@ IsFaultAt Missing words None = (¬ IsWhole words) × IsPart words
 IsFaultAt fault words next = ⊥
 
 -- The first fault of the words of a line: the words before it begin a command, or are one.
-abbrev pub IsFirstFault : LineFault → List (List ℕ) → Type 0
-IsFirstFault Missing line = IsFaultAt Missing line None
-IsFirstFault fault line =
+abbrev pub IsFirstFaultOfWords : LineFault → List (List ℕ) → Type 0
+IsFirstFaultOfWords Missing line = IsFaultAt Missing line None
+IsFirstFaultOfWords fault line =
     (words : List (List ℕ)) × (word : List ℕ) × (others : List (List ℕ))
     × (line ≡ words ++ word ∷ others) × IsFaultAt fault words (Some word)
 
 -- The first fault of a line.
 abbrev pub IsFaultOf : LineFault → List ℕ → Type 0
 IsFaultOf Empty line = line ≡ []
-IsFaultOf fault line = (line ≢ []) × IsFirstFault fault (words_of line)
+IsFaultOf fault line = (line ≢ []) × IsFirstFaultOfWords fault (words_of line)

@@ -9,7 +9,7 @@ use Rattle.cdb_text.specs.declared.fault.LineFault.{LineFault}
 use Rattle.cdb_text.specs.declared.fault.LineFault.TheVariants.{Word, Number, Extra, Missing}
 use Rattle.cdb_text.specs.declared.keyword.Keyword.{Keyword}
 use Rattle.cdb_text.specs.declared.keyword.TheConstants as constants
-use Rattle.cdb_text.specs.Faults.{IsFirstFault}
+use Rattle.cdb_text.specs.Faults.{IsFirstFaultOfWords}
 use Rattle.cdb_text.specs.Grammar.{AreWordsOf}
 use Rattle.cdb_text.specs.Keywords.{keyword_name}
 
@@ -74,4 +74,4 @@ Gives view (Err fault) read = read ≡ Err fault
 -- what is read after these words: the command of all the words, or their first fault
 unfoldable pub IsRead : List (List ℕ) → List (List ℕ) → Result Command LineFault → Type 0
 IsRead before words (Ok command) = AreWordsOf command (before ++ words)
-IsRead before words (Err fault) = IsFirstFault fault (before ++ words)
+IsRead before words (Err fault) = IsFirstFaultOfWords fault (before ++ words)

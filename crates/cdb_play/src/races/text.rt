@@ -2,6 +2,7 @@
 
 ghost use Rattle.std.specs.Prelude.{◌≡◌, ◌+◌, ◌≤◌, [], ◌++◌, length, map};
 ghost use Rattle.std.specs.List.{flat_map};
+ghost use Rattle.cdb_base.specs.declared.limits.TheConstants.{MAX_SEATS};
 ghost use Rattle.cdb_control.specs.Answer.{told};
 ghost use Rattle.cdb_race.specs.Races.{all_told};
 ghost use Rattle.cdb_text.specs.Texts.{text_of};
@@ -124,7 +125,7 @@ fn put_race<T: Runs, W: Sink>(
     buffer: &mut Buffer,
     out: &mut W,
 ) -> Result<(), OutputFault>
-    requires { control.now.setup.processes + length replies.now ≤ 64 }
+    requires { control.now.setup.processes + length replies.now ≤ MAX_SEATS }
     ensures { Puts W.contents W.failures result out.old buffer.old out.new buffer.new
         (seats_text (control.now.setup.processes + 1) (all_told replies.now) ++ end_text (last_decisions T.rules control.now)) }
 {
@@ -149,7 +150,7 @@ pub(super) fn write_race<T: Runs, W: Sink>(
     buffer: Buffer,
     out: &mut W,
 ) -> Result<(), OutputFault>
-    requires seats { control.now.setup.processes + length replies.now ≤ 64 }
+    requires seats { control.now.setup.processes + length replies.now ≤ MAX_SEATS }
     requires empty { buffer ≡ [] }
     ensures { Wrote W.contents W.failures result out.old out.new
         (seats_text (control.now.setup.processes + 1) (all_told replies.now) ++ end_text (last_decisions T.rules control.now)) }

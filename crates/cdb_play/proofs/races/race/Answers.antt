@@ -1,10 +1,9 @@
 use Rattle.std.proofs.Common.{Ok, refl, sym, subst}
 use Rattle.std.proofs.lemmas.Result.{err_from_is_err_and, IfErr-weaker}
 use Rattle.cdb_rules.specs.Agreement.{HasMajorityIfNeeded}
-use Rattle.cdb_play.specs.Races.{bytes_of, IsTextOnSetup, IsTextOfRace}
+use Rattle.cdb_play.specs.Races.{IsFaultUngated, bytes_of, IsTextOnSetup, IsTextOfRace}
 use Rattle.cdb_play.proofs.Ending.{race_unwritten_setup, race_writes_weaker}
 use Rattle.cdb_play.proofs.RunningFaults.{of_race, of_setup_read}
-use Rattle.cdb_play.proofs.Told.{unstopped_of_race, unstopped_of_setup}
 use Rattle.cdb_play.proofs.SeatsFit.{same_setup}
 use Rattle.cdb_play.proofs.races.race.Goals as goal
 
@@ -22,27 +21,19 @@ returns-clause-wrote g c =
 
 pub returns-clause-fault : goal.returns-clause-fault
 returns-clause-fault g c =
-    IfErr-weaker c.race_on.result _ _ (of_race c.args.setup.now c.in_ok-parts.parts (bytes_of c.args.scripts.now) c.in_ok-parts.ensures.found) c.race_on.ensures.fault
+    IfErr-weaker c.race_on.result _ _ (of_race IsFaultUngated c.args.turns c.args.setup.now c.in_ok-parts.parts (bytes_of c.args.scripts.now) c.in_ok-parts.ensures.found) c.race_on.ensures.fault
 
 pub returns-in_err-parts-clause-fault : goal.returns-in_err-parts-clause-fault
 returns-in_err-parts-clause-fault g c =
     let p = err_from_is_err_and c.from_residual.result c.from_residual.ensures.1 in
-    rw (p.1, p.2) (of_setup_read c.args.setup.now (bytes_of c.args.scripts.now) c.in_err-parts.field-0.0 c.in_err-parts.ensures.fault)
+    rw (p.1, p.2) (of_setup_read IsFaultUngated c.args.turns c.args.setup.now (bytes_of c.args.scripts.now) c.in_err-parts.field-0.0 c.in_err-parts.ensures.fault)
 
 pub returns-in_err-parts-clause-agree : goal.returns-in_err-parts-clause-agree
 returns-in_err-parts-clause-agree g c = λ parts stands majority.
     let p = err_from_is_err_and c.from_residual.result c.from_residual.ensures.1 in
     rw p.1 tt
 
-pub returns-in_err-parts-clause-told : goal.returns-in_err-parts-clause-told
-returns-in_err-parts-clause-told g c =
-    let p = err_from_is_err_and c.from_residual.result c.from_residual.ensures.1 in
-    rw (p.1, p.2) (unstopped_of_setup c.args.setup.now c.args.turns (bytes_of c.args.scripts.now) c.in_err-parts.field-0.0)
-
 pub returns-clause-agree : goal.returns-clause-agree
 returns-clause-agree g c = λ parts stands majority.
     let found = c.in_ok-parts.parts in
     c.race_on.ensures.agree (subst HasMajorityIfNeeded (sym (same_setup (Ok found) found parts refl (c.in_ok-parts.ensures.only parts stands))) majority)
-
-pub returns-clause-told : goal.returns-clause-told
-returns-clause-told g c = IfErr-weaker c.race_on.result _ _ (unstopped_of_race c.args.setup.now c.in_ok-parts.parts c.args.turns (bytes_of c.args.scripts.now) c.in_ok-parts.ensures.found) c.race_on.ensures.told

@@ -1,10 +1,11 @@
-use Rattle.std.proofs.Common.{refl}
-use Rattle.std.proofs.lemmas.Result.{err_from_is_err_and, IfErr-weaker}
-use Rattle.cdb_play.specs.Races.{bytes_of, IsTextOnSetup, IsTextOfCommands}
+use Rattle.std.proofs.Common.{true, None, refl}
+use Rattle.std.proofs.lemmas.Result.{err_from_is_err_and}
+use Rattle.cdb_race.specs.Faults.{IsFaultBehind}
+use Rattle.cdb_play.specs.declared.races.Open.{Open}
+use Rattle.cdb_play.specs.Races.{IsFaultUngated, bytes_of, IsTextOnSetup, IsTextOfCommands}
 use Rattle.cdb_play.proofs.Ending.{race_unwritten_scripts, race_writes_weaker}
 use Rattle.cdb_play.proofs.RaceTexts.{of_scripts}
-use Rattle.cdb_play.proofs.RunningFaults.{of_reading, on_setup}
-use Rattle.cdb_play.proofs.Told.{both, unstopped_of_reading, unstopped_on_setup}
+use Rattle.cdb_play.proofs.RunningFaults.{both, of_reading, ungated}
 use Rattle.cdb_play.proofs.races.race_on.Goals as goal
 
 pub returns-in_err-commands-clause-wrote : goal.returns-in_err-commands-clause-wrote
@@ -15,7 +16,7 @@ returns-in_err-commands-clause-wrote g c =
 pub returns-in_err-commands-clause-fault : goal.returns-in_err-commands-clause-fault
 returns-in_err-commands-clause-fault g c =
     let p = err_from_is_err_and c.from_residual.result c.from_residual.ensures.1 in
-    rw (p.1, p.2) (of_reading c.args.setup (bytes_of c.args.scripts.now) c.in_err-commands.field-0.0 c.in_err-commands.ensures.fault)
+    rw (p.1, p.2) (of_reading IsFaultUngated c.args.turns c.args.setup (bytes_of c.args.scripts.now) c.in_err-commands.field-0.0 c.in_err-commands.ensures.fault)
 
 pub returns-clause-wrote : goal.returns-clause-wrote
 returns-clause-wrote g c =
@@ -27,20 +28,11 @@ returns-clause-wrote g c =
 pub returns-clause-fault : goal.returns-clause-fault
 returns-clause-fault g c =
     let commands = c.in_ok-commands.commands.items in
-    IfErr-weaker c.run_race.result _ _ (on_setup c.args.setup commands (bytes_of c.args.scripts.now) c.in_ok-commands.ensures.read) (rw c.as_slice.ensures.value at c.run_race.ensures.fault)
+    both c.run_race.result _ _ _
+    (ungated (IsFaultBehind g.row.T.Denot g.T.Runs.rules (λ (gate : Open). None) (λ (gate : Open). true) c.in_ok-gates.gates.items) c.args.turns c.args.setup commands (bytes_of c.args.scripts.now) c.in_ok-commands.ensures.read)
+    (rw c.as_slice.ensures.value at c.run_race.ensures.fault) (c.run_race.ensures.passes (λ k gate low. refl))
 
 pub returns-in_err-commands-clause-agree : goal.returns-in_err-commands-clause-agree
 returns-in_err-commands-clause-agree g c = λ majority.
     let p = err_from_is_err_and c.from_residual.result c.from_residual.ensures.1 in
     rw p.1 tt
-
-pub returns-in_err-commands-clause-told : goal.returns-in_err-commands-clause-told
-returns-in_err-commands-clause-told g c =
-    let p = err_from_is_err_and c.from_residual.result c.from_residual.ensures.1 in
-    rw (p.1, p.2) (unstopped_of_reading c.args.setup c.args.turns (bytes_of c.args.scripts.now) c.in_err-commands.field-0.0 c.in_err-commands.ensures.fault)
-
-pub returns-clause-told : goal.returns-clause-told
-returns-clause-told g c =
-    let commands = c.in_ok-commands.commands.items in
-    both c.run_race.result _ _ _ (unstopped_on_setup _ _ _ _ c.args.turns _ c.args.setup commands (bytes_of c.args.scripts.now) c.in_ok-commands.ensures.read)
-    (rw c.as_slice.ensures.value at c.run_race.ensures.told) (c.run_race.ensures.passes (λ k gate low. refl))

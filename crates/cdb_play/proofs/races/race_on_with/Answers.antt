@@ -1,9 +1,9 @@
 use Rattle.std.proofs.lemmas.Result.{err_from_is_err_and, IfErr-weaker}
+use Rattle.cdb_race.specs.Faults.{IsFaultBehind}
 use Rattle.cdb_play.specs.Races.{bytes_of, IsTextOnSetup, IsTextOfCommands}
 use Rattle.cdb_play.proofs.Ending.{race_unwritten_scripts, race_writes_weaker}
 use Rattle.cdb_play.proofs.RaceTexts.{of_scripts}
-use Rattle.cdb_play.proofs.RunningFaults.{of_reading, on_setup}
-use Rattle.cdb_play.proofs.Told.{not_of_reading, told_of_reading, told_on_setup}
+use Rattle.cdb_play.proofs.RunningFaults.{of_reading, on_setup, not_of_reading}
 use Rattle.cdb_play.proofs.races.race_on_with.Goals as goal
 
 pub returns-in_err-commands-clause-wrote : goal.returns-in_err-commands-clause-wrote
@@ -14,7 +14,7 @@ returns-in_err-commands-clause-wrote g c =
 pub returns-in_err-commands-clause-fault : goal.returns-in_err-commands-clause-fault
 returns-in_err-commands-clause-fault g c =
     let p = err_from_is_err_and c.from_residual.result c.from_residual.ensures.1 in
-    rw (p.1, p.2) (of_reading c.args.setup (bytes_of c.args.scripts.now) c.in_err-commands.field-0.0 c.in_err-commands.ensures.fault)
+    rw (p.1, p.2) (of_reading (IsFaultBehind g.row.T.Denot g.T.Runs.rules g.G.Gate.heard g.G.Gate.passes c.args.gates.items) c.args.turns c.args.setup (bytes_of c.args.scripts.now) c.in_err-commands.field-0.0 c.in_err-commands.ensures.fault)
 
 pub returns-clause-wrote : goal.returns-clause-wrote
 returns-clause-wrote g c =
@@ -26,26 +26,14 @@ returns-clause-wrote g c =
 pub returns-clause-fault : goal.returns-clause-fault
 returns-clause-fault g c =
     let commands = c.in_ok-commands.commands.items in
-    IfErr-weaker c.run_race.result _ _ (on_setup c.args.setup commands (bytes_of c.args.scripts.now) c.in_ok-commands.ensures.read) (rw c.as_slice.ensures.value at c.run_race.ensures.fault)
+    IfErr-weaker c.run_race.result _ _ (on_setup (IsFaultBehind g.row.T.Denot g.T.Runs.rules g.G.Gate.heard g.G.Gate.passes c.args.gates.items) c.args.turns c.args.setup commands (bytes_of c.args.scripts.now) c.in_ok-commands.ensures.read) (rw c.as_slice.ensures.value at c.run_race.ensures.fault)
 
 pub returns-in_err-commands-clause-agree : goal.returns-in_err-commands-clause-agree
 returns-in_err-commands-clause-agree g c = λ majority.
     let p = err_from_is_err_and c.from_residual.result c.from_residual.ensures.1 in
     rw p.1 tt
 
-pub returns-in_err-commands-clause-told : goal.returns-in_err-commands-clause-told
-returns-in_err-commands-clause-told g c =
-    let p = err_from_is_err_and c.from_residual.result c.from_residual.ensures.1 in
-    rw (p.1, p.2)
-    (told_of_reading g.row.T.Denot g.T.Runs.rules g.G.Gate.heard g.G.Gate.passes c.args.turns c.args.gates.items c.args.setup (bytes_of c.args.scripts.now) c.in_err-commands.field-0.0 c.in_err-commands.ensures.fault)
-
 pub returns-in_err-commands-clause-passes : goal.returns-in_err-commands-clause-passes
 returns-in_err-commands-clause-passes g c = λ all.
     let p = err_from_is_err_and c.from_residual.result c.from_residual.ensures.1 in
     rw (p.1, p.2) (not_of_reading (bytes_of c.args.scripts.now) c.in_err-commands.field-0.0 c.in_err-commands.ensures.fault)
-
-pub returns-clause-told : goal.returns-clause-told
-returns-clause-told g c =
-    let commands = c.in_ok-commands.commands.items in
-    IfErr-weaker c.run_race.result _ _ (told_on_setup g.row.T.Denot g.T.Runs.rules g.G.Gate.heard g.G.Gate.passes c.args.turns c.args.gates.items c.args.setup commands (bytes_of c.args.scripts.now) c.in_ok-commands.ensures.read)
-    (rw c.as_slice.ensures.value at c.run_race.ensures.told)

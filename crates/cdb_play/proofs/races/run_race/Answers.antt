@@ -1,13 +1,13 @@
 use Rattle.std.proofs.Common.{◌∙◌, ap, Err}
 use Rattle.std.proofs.lemmas.Result.{err_from_is_err_and}
+use Rattle.cdb_race.specs.Faults.{IsFaultBehind}
 use Rattle.cdb_race.specs.Races.{all_told}
 use Rattle.cdb_race.specs.declared.threads.RaceFault.{RaceFault as ThreadFault}
 use Rattle.cdb_play.specs.Races.{last_decisions, IsTextOfCommands}
 use Rattle.cdb_play.proofs.Ending.{race_unwritten_threads, race_wrote}
 use Rattle.cdb_play.proofs.RaceTexts.{text_of_replies}
-use Rattle.cdb_play.proofs.RunningFaults.{of_threads, of_writing}
+use Rattle.cdb_play.proofs.RunningFaults.{of_threads, of_writing, not_of_threads, not_of_writing}
 use Rattle.cdb_play.proofs.Agreeing.{agrees, ends_in_agreement}
-use Rattle.cdb_play.proofs.Told.{not_of_threads, not_of_writing, told_of_threads, told_of_writing}
 use Rattle.cdb_play.proofs.races.run_race.Goals as goal
 
 pub returns-in_err-raced-clause-wrote : goal.returns-in_err-raced-clause-wrote
@@ -18,7 +18,9 @@ returns-in_err-raced-clause-wrote g c =
 pub returns-in_err-raced-clause-fault : goal.returns-in_err-raced-clause-fault
 returns-in_err-raced-clause-fault g c =
     let p = err_from_is_err_and c.from_residual-in_err-raced.result c.from_residual-in_err-raced.ensures.1 in
-    rw (p.1, p.2) (of_threads _ c.in_err-raced.field-0.0 c.in_err-raced.ensures.fault)
+    let said = c.in_err-raced.ensures in
+    rw (p.1, p.2)
+    (of_threads g.row.T.Denot g.T.Runs.rules g.G.Gate.heard g.G.Gate.passes c.args.gates.items c.args.setup c.args.turns c.args.scripts.now c.in_err-raced.field-0.0 said.fault (λ is. said.most (ap (λ (f : ThreadFault). Err f) is)) said.told)
 
 pub returns-in_err-write_race-clause-wrote : goal.returns-in_err-write_race-clause-wrote
 returns-in_err-write_race-clause-wrote g c =
@@ -32,7 +34,7 @@ returns-in_err-write_race-clause-wrote g c =
 pub returns-in_err-write_race-clause-fault : goal.returns-in_err-write_race-clause-fault
 returns-in_err-write_race-clause-fault g c =
     let p = err_from_is_err_and c.from_residual-in_err-write_race.result c.from_residual-in_err-write_race.ensures.1 in
-    rw (p.1, p.2) (of_writing _ c.in_err-write_race.field-0.0)
+    rw (p.1, p.2) (of_writing (IsFaultBehind g.row.T.Denot g.T.Runs.rules g.G.Gate.heard g.G.Gate.passes c.args.gates.items) c.args.turns c.args.setup c.args.scripts.now c.in_err-write_race.field-0.0)
 
 pub returns-clause-wrote : goal.returns-clause-wrote
 returns-clause-wrote g c =
@@ -56,18 +58,6 @@ pub returns-in_err-write_race-clause-agree : goal.returns-in_err-write_race-clau
 returns-in_err-write_race-clause-agree g c = λ majority.
     let p = err_from_is_err_and c.from_residual-in_err-write_race.result c.from_residual-in_err-write_race.ensures.1 in
     rw p.1 tt
-
-pub returns-in_err-raced-clause-told : goal.returns-in_err-raced-clause-told
-returns-in_err-raced-clause-told g c =
-    let p = err_from_is_err_and c.from_residual-in_err-raced.result c.from_residual-in_err-raced.ensures.1 in
-    let said = c.in_err-raced.ensures in
-    rw (p.1, p.2)
-    (told_of_threads g.row.T.Denot g.T.Runs.rules g.G.Gate.heard g.G.Gate.passes c.args.turns c.args.gates.items c.args.setup c.args.scripts.now c.in_err-raced.field-0.0 (λ is. said.most (ap (λ (f : ThreadFault). Err f) is)) said.told)
-
-pub returns-in_err-write_race-clause-told : goal.returns-in_err-write_race-clause-told
-returns-in_err-write_race-clause-told g c =
-    let p = err_from_is_err_and c.from_residual-in_err-write_race.result c.from_residual-in_err-write_race.ensures.1 in
-    rw (p.1, p.2) (told_of_writing g.row.T.Denot g.T.Runs.rules g.G.Gate.heard g.G.Gate.passes c.args.turns c.args.gates.items c.args.setup c.args.scripts.now c.in_err-write_race.field-0.0)
 
 pub returns-in_err-raced-clause-passes : goal.returns-in_err-raced-clause-passes
 returns-in_err-raced-clause-passes g c = λ all.

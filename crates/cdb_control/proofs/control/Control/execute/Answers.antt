@@ -4,7 +4,7 @@ use Rattle.cdb_control.specs.Answer.{told, is_refused}
 use Rattle.cdb_control.specs.declared.control.Entry.{Entry}
 use Rattle.cdb_control.specs.Commands.{Outcome, answer, outcome}
 use Rattle.cdb_control.specs.Headline.{Headline}
-use Rattle.cdb_control.specs.Journal.{Journaled, IsReplayed, entry, extended, state_of}
+use Rattle.cdb_control.specs.Journal.{Journaled, IsReplayed, entry, extended, reply_in}
 use Rattle.cdb_control.specs.Room.{HasRoom, cost, lowered, rooms_at}
 use Rattle.cdb_control.specs.State.{State}
 use Rattle.cdb_control.proofs.Along.{obey-setup, IsReplayed-next}
@@ -79,7 +79,7 @@ returns-clause-journal g c =
     ∙ ap (λ (o : Outcome). lowered (rooms_at n marks) seat o.reply) c.in-Ok.ensures.ok
     ∙ ap (λ (t : State). lowered (rooms_at n marks) seat (answer rules t seat c.args.command)) (sym was.0.replayed) in
     (λ j. let v : Journaled = record { setup = same j; seats = i.seats; journal = added j; rooms = rooms j } in v)
-    ∙ ap (λ (v : Journaled). extended (g.R.Runs.rules v.setup) v seat c.args.command) c.self.view_is
+    ∙ ap (λ (v : Journaled). extended g.R.Runs.rules v seat c.args.command) c.self.view_is
 
 pub returns-clause-spared : goal.returns-clause-spared
 returns-clause-spared g c = λ spared some same. cc
@@ -137,5 +137,5 @@ returns-in_default-clause-refusal g c = λ some refused same.
     let command = c.args.command in
     let as_shown =
     ap (λ (t : State). is_refused (answer (rules i.state.state.setup) t seat command)) (sym c.self.invariant.0.replayed)
-    ∙ ap (λ (v : Journaled). is_refused (answer (rules v.setup) (state_of (rules v.setup) v) seat command)) c.self.view_is in
+    ∙ ap (λ (v : Journaled). is_refused (reply_in rules v seat command)) c.self.view_is in
     absurd (true≢false (sym refused ∙ sym as_shown ∙ c.in_default.ensures.memory))
