@@ -1,6 +1,6 @@
-pub mod Above
 pub mod MarkLaws
 pub mod Closed
+pub mod Tables
 pub mod Pending
 pub mod Sets
 pub mod TakenBack

@@ -1,10 +1,10 @@
 -- Where the look for a pending copy may begin: the marks.
-use Rattle.std.specs.Prelude.{◌≡◌, ℕ, ◌-◌, ◌<◌, ◌≤◌, ◌==◌, ◌&&◌, min, false, unwrap_or, if◌then◌else◌}
+use Rattle.std.specs.Prelude.{◌≡◌, ℕ, ◌-◌, ◌≤◌, ◌==◌, ◌&&◌, min, false, unwrap_or, if◌then◌else◌}
 use Rattle.std.specs.Option.{option_map}
 use Rattle.cdb_base.specs.Positions.{nth}
 use Rattle.cdb_message.specs.declared.marks.Row.{Row}
 use Rattle.cdb_message.specs.declared.marks.Marks.{Marks}
-use Rattle.cdb_message.specs.Mail.{MailState, message_name, is_open, is_received}
+use Rattle.cdb_message.specs.Mail.{MailState, message_name, is_open}
 
 -- the number of sender s
 abbrev pub number_of : Row → ℕ → ℕ
@@ -27,14 +27,6 @@ HasNoneOpen mail p s number =
 -- up to each mark every copy was received or lost
 abbrev pub AreBelowOpenCopies : Marks → MailState → Type 0
 AreBelowOpenCopies marks mail = (p s : ℕ) → HasNoneOpen mail p s (mark_of marks p s)
-
--- p received no message of s above this number
-abbrev pub HasNoneReceivedAbove : MailState → ℕ → ℕ → ℕ → Type 0
-HasNoneReceivedAbove mail p s number = (m : ℕ) → number < m → is_received mail p (message_name s m) ≡ false
-
--- above each mark nothing was received
-abbrev pub AreAboveReceived : Marks → MailState → Type 0
-AreAboveReceived marks mail = (p s : ℕ) → HasNoneReceivedAbove mail p s (mark_of marks p s)
 
 -- the mark of p and s is put at the number, and every other stays
 abbrev pub SetsMark : Marks → Marks → ℕ → ℕ → ℕ → Type 0

@@ -1,29 +1,41 @@
-//! Sets of the names of copies.
+//! Sets of the copies of messages.
 
-ghost use Rattle.std.specs.Prelude.{◌≡◌, OnOk, OnErr};
+ghost use Rattle.std.specs.Prelude.{◌≡◌, ◌<◌, true, OnOk, OnErr};
 ghost use Rattle.std.specs.FinSet as set;
+ghost use Rattle.cdb_message.specs.Flags.{is_copy, copy_cell};
 
+use crate::flags::{clear, is_set, set as set_flag};
+use crate::names::cell_of as cell_of_name;
 use cdb_base::{CopyName, NoMemory};
 use std::alloc::Global;
-use std::collections::BTreeSet;
 use std::marker::Model;
 
-/// A set of copies.
+/// The cell of a copy in a table of flags.
+fn cell_of(copy: CopyName) -> usize
+    ensures value { result ≡ copy_cell copy }
+    ensures small { result < 9437184 }
+    ensures named { is_copy copy ≡ true }
+{
+    cell_of_name(copy.msg) * 9 + copy.to.index()
+}
+
+/// A set of the copies of messages, as a table with a flag for each copy.
 #[derive(Drop)]
 pub struct Copies {
-    copies: BTreeSet<CopyName>,
+    flags: Vec<bool>,
 }
 
 impl Model for Copies {
     ghost use Rattle.std.specs.FinSet as set;
     ghost use Rattle.cdb_message.specs.Codes.{copy_code};
+    ghost use Rattle.cdb_message.specs.Flags.{copies_in};
     ghost use Rattle.cdb_message.specs.Names.{CopySet};
 
     ghost Value = { CopySet };
 
     ghost coded = { set.code copy_code };
 
-    ghost view = { λ x. set.from_list x.copies.keys };
+    ghost view = { λ x. copies_in x.flags.items };
 }
 
 impl Copies {
@@ -32,7 +44,7 @@ impl Copies {
         ensures { result ≡ set.empty }
     {
         Copies {
-            copies: BTreeSet::new(alloc),
+            flags: Vec::new(alloc),
         }
     }
 
@@ -40,7 +52,7 @@ impl Copies {
     pub fn contains(&self, copy: CopyName) -> bool
         ensures { result ≡ set.contains self.now copy }
     {
-        self.copies.contains(&copy)
+        is_set(&self.flags, cell_of(copy))
     }
 
     /// Adds a copy. After `NoMemory` the set is as it was.
@@ -48,7 +60,7 @@ impl Copies {
         ensures ok { OnOk result (self.new ≡ set.insert self.old copy) }
         ensures err { OnErr result (self.new ≡ self.old) }
     {
-        let _ = self.copies.insert(copy)?;
+        set_flag(&mut self.flags, cell_of(copy))?;
         Ok(())
     }
 
@@ -56,6 +68,6 @@ impl Copies {
     pub fn remove(&mut self, copy: CopyName)
         ensures { self.new ≡ set.remove self.old copy }
     {
-        let _ = self.copies.remove(&copy);
+        clear(&mut self.flags, cell_of(copy));
     }
 }

@@ -9,6 +9,7 @@
 #![tactic(auto)]
 
 mod copies;
+mod flags;
 pub mod mail;
 mod marks;
 mod names;

@@ -22,8 +22,6 @@ pub struct Mail {
     lost: Copies,
     // Where the look for a pending copy begins: below a mark every copy was received or lost.
     marks: Marks,
-    // Above these nothing was received, so that no set is searched for a message that is new.
-    tops: Marks,
 }
 
 impl Model for Mail {
@@ -31,7 +29,7 @@ impl Model for Mail {
     ghost use Rattle.cdb_base.specs.declared.limits.TheConstants.{MAX_PROCESSES};
     ghost use Rattle.cdb_message.specs.Codes.{mail_code};
     ghost use Rattle.cdb_message.specs.Mail.{MailState};
-    ghost use Rattle.cdb_message.specs.Marks.{AreBelowOpenCopies, AreAboveReceived};
+    ghost use Rattle.cdb_message.specs.Marks.{AreBelowOpenCopies};
 
     ghost Value = { MailState };
 
@@ -46,11 +44,6 @@ impl Model for Mail {
     ghost invariant = { λ x. (length x.sent.items ≡ length x.received.items)
         × (length x.sent.items ≤ MAX_PROCESSES)
         × AreBelowOpenCopies x.marks (record {
-          sent = x.sent.items;
-          received = x.received.items;
-          lost = x.lost;
-        })
-        × AreAboveReceived x.tops (record {
           sent = x.sent.items;
           received = x.received.items;
           lost = x.lost;
@@ -85,13 +78,11 @@ impl Mail {
         }
         let lost = Copies::new(alloc);
         let marks = Marks::new();
-        let tops = Marks::new();
         Ok(Mail {
             sent,
             received,
             lost,
             marks,
-            tops,
         })
     }
 
@@ -138,11 +129,8 @@ impl Mail {
         ensures err { OnErr result (self.new ≡ self.old) }
     {
         let sender = name.s;
-        let number = name.m;
         let names = &mut self.received[p.index()];
         names.insert(name)?;
-        let top = self.tops.get(p, sender).max(number);
-        self.tops.set(p, sender, top);
         self.pass_over(p, sender);
         Ok(())
     }
@@ -237,9 +225,6 @@ impl Mail {
         requires { p ≤ length self.now.received }
         ensures { result ≡ is_received self.now p name }
     {
-        if name.m > self.tops.get(p, name.s) {
-            return false;
-        }
         let names = &self.received[p.index()];
         names.contains(name)
     }

@@ -1,29 +1,40 @@
 //! Sets of the names of messages.
 
-ghost use Rattle.std.specs.Prelude.{◌≡◌, OnOk, OnErr};
+ghost use Rattle.std.specs.Prelude.{◌≡◌, ◌<◌, true, OnOk, OnErr};
 ghost use Rattle.std.specs.FinSet as set;
+ghost use Rattle.cdb_message.specs.Flags.{is_name, name_cell};
 
+use crate::flags::{clear, is_set, set as set_flag};
 use cdb_base::{MsgName, NoMemory};
 use std::alloc::Global;
-use std::collections::BTreeSet;
 use std::marker::Model;
 
-/// A set of the names of messages.
+/// The cell of a name in a table of flags.
+pub(crate) fn cell_of(name: MsgName) -> usize
+    ensures value { result ≡ name_cell name }
+    ensures small { result < 1048576 }
+    ensures named { is_name name ≡ true }
+{
+    name.m as usize * 9 + name.s.index()
+}
+
+/// A set of the names of messages, as a table with a flag for each name.
 #[derive(Drop)]
 pub struct Names {
-    names: BTreeSet<MsgName>,
+    flags: Vec<bool>,
 }
 
 impl Model for Names {
     ghost use Rattle.std.specs.FinSet as set;
     ghost use Rattle.cdb_message.specs.Codes.{name_code};
+    ghost use Rattle.cdb_message.specs.Flags.{names_in};
     ghost use Rattle.cdb_message.specs.Names.{NameSet};
 
     ghost Value = { NameSet };
 
     ghost coded = { set.code name_code };
 
-    ghost view = { λ x. set.from_list x.names.keys };
+    ghost view = { λ x. names_in x.flags.items };
 }
 
 impl Names {
@@ -32,7 +43,7 @@ impl Names {
         ensures { result ≡ set.empty }
     {
         Names {
-            names: BTreeSet::new(alloc),
+            flags: Vec::new(alloc),
         }
     }
 
@@ -40,7 +51,7 @@ impl Names {
     pub fn contains(&self, name: MsgName) -> bool
         ensures { result ≡ set.contains self.now name }
     {
-        self.names.contains(&name)
+        is_set(&self.flags, cell_of(name))
     }
 
     /// Adds a name. After `NoMemory` the set is as it was.
@@ -48,7 +59,7 @@ impl Names {
         ensures ok { OnOk result (self.new ≡ set.insert self.old name) }
         ensures err { OnErr result (self.new ≡ self.old) }
     {
-        let _ = self.names.insert(name)?;
+        set_flag(&mut self.flags, cell_of(name))?;
         Ok(())
     }
 
@@ -56,6 +67,6 @@ impl Names {
     pub fn remove(&mut self, name: MsgName)
         ensures { self.new ≡ set.remove self.old name }
     {
-        let _ = self.names.remove(&name);
+        clear(&mut self.flags, cell_of(name));
     }
 }

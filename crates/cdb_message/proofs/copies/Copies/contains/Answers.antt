@@ -1,10 +1,13 @@
-use Rattle.std.proofs.Common.{sym, ◌∙◌, ap}
+use Rattle.std.proofs.Common.{◌∙◌, ap}
 use Rattle.std.specs.FinSet as set
-use Rattle.cdb_message.proofs.Sets.{copy_cmp_total}
+use Rattle.cdb_message.specs.Flags.{flag_in}
+use Rattle.cdb_message.proofs.Tables.{contains-copy}
 use Rattle.cdb_message.proofs.copies.Copies.contains.Goals as goal
 
 pub returns : goal.returns
 returns c =
-    c.contains.ensures
-    ∙ sym (set.contains-from_list copy_cmp_total c.self.inside.copies.keys c.args.copy)
+    c.is_set.ensures
+    ∙ ap (λ l. flag_in l c.cell_of.result) c.deref.ensures.value
+    ∙ ap (flag_in c.self.inside.flags.items) c.cell_of.ensures.value
+    ∙ contains-copy c.self.inside.flags.items c.args.copy c.cell_of.ensures.named
     ∙ ap (λ s. set.contains s c.args.copy) c.self.view_is

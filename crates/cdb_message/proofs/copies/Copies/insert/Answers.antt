@@ -1,9 +1,11 @@
-use Rattle.std.proofs.Common.{◌∙◌, ap}
+use Rattle.std.proofs.Common.{◌∙◌, ap, subst, true}
 use Rattle.std.specs.FinSet as set
-use Rattle.cdb_message.proofs.Sets.{same_insert, copy_cmp_total, copy_cmp-IsAntisymmetric}
+use Rattle.cdb_message.specs.Flags.{SetsFlag}
+use Rattle.cdb_message.proofs.Tables.{copy-inserted}
 use Rattle.cdb_message.proofs.copies.Copies.insert.Goals as goal
 
 pub returns-clause-ok : goal.returns-clause-ok
 returns-clause-ok c =
-    same_insert copy_cmp_total copy_cmp-IsAntisymmetric _ _ _ (λ q. c.in_ok-insert.ensures.updates.0 q)
+    copy-inserted c.self.inside.flags.items c.set.new.flags.items c.args.copy c.cell_of.ensures.named
+    (subst (λ cell. SetsFlag c.self.inside.flags.items c.set.new.flags.items cell true) c.cell_of.ensures.value c.in_ok-set.ensures.ok)
     ∙ ap (λ s. set.insert s c.args.copy) c.self.view_is

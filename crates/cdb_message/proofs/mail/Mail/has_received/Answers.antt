@@ -1,17 +1,10 @@
-use Rattle.std.proofs.Common.{◌≡◌, ℕ, suc, ◌+◌, ◌<◌, ◌≤◌, false, Some, length, refl, sym, ap, ◌∙◌, subst, arith}
+use Rattle.std.proofs.Common.{◌≡◌, suc, ◌<◌, Some, length, refl, sym, ap, ◌∙◌, arith}
 use Rattle.std.specs.Prelude.{unwrap_or}
 use Rattle.std.specs.FinSet as finite
 use Rattle.std.proofs.lemmas.Option.{slice_get_read}
 use Rattle.cdb_base.specs.Positions.{nth}
 use Rattle.cdb_message.specs.Mail.{MailState, is_received}
 use Rattle.cdb_message.proofs.mail.Mail.has_received.Goals as goal
-
-pub returns-then-name-get : goal.returns-then-name-get
-returns-then-name-get c =
-    let is = c.get.ensures in
-    let over = c.if-name-get.true in
-    subst (λ (mail : MailState). false ≡ is_received mail c.args.p c.args.name) c.self.view_is
-    (sym (c.self.invariant.3 c.args.p c.args.name.s c.args.name.m (omega (arith, is, over))))
 
 pub returns : goal.returns
 returns c =

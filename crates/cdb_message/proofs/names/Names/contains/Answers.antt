@@ -1,10 +1,13 @@
-use Rattle.std.proofs.Common.{sym, ◌∙◌, ap}
+use Rattle.std.proofs.Common.{◌∙◌, ap}
 use Rattle.std.specs.FinSet as set
-use Rattle.cdb_message.proofs.Sets.{name_cmp_total}
+use Rattle.cdb_message.specs.Flags.{flag_in}
+use Rattle.cdb_message.proofs.Tables.{contains-name}
 use Rattle.cdb_message.proofs.names.Names.contains.Goals as goal
 
 pub returns : goal.returns
 returns c =
-    c.contains.ensures
-    ∙ sym (set.contains-from_list name_cmp_total c.self.inside.names.keys c.args.name)
+    c.is_set.ensures
+    ∙ ap (λ l. flag_in l c.cell_of.result) c.deref.ensures.value
+    ∙ ap (flag_in c.self.inside.flags.items) c.cell_of.ensures.value
+    ∙ contains-name c.self.inside.flags.items c.args.name c.cell_of.ensures.named
     ∙ ap (λ s. set.contains s c.args.name) c.self.view_is

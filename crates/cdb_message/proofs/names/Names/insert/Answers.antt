@@ -1,9 +1,11 @@
-use Rattle.std.proofs.Common.{◌∙◌, ap}
+use Rattle.std.proofs.Common.{◌∙◌, ap, subst, true}
 use Rattle.std.specs.FinSet as set
-use Rattle.cdb_message.proofs.Sets.{same_insert, name_cmp_total, name_cmp-IsAntisymmetric}
+use Rattle.cdb_message.specs.Flags.{SetsFlag}
+use Rattle.cdb_message.proofs.Tables.{name-inserted}
 use Rattle.cdb_message.proofs.names.Names.insert.Goals as goal
 
 pub returns-clause-ok : goal.returns-clause-ok
 returns-clause-ok c =
-    same_insert name_cmp_total name_cmp-IsAntisymmetric _ _ _ (λ q. c.in_ok-insert.ensures.updates.0 q)
+    name-inserted c.self.inside.flags.items c.set.new.flags.items c.args.name c.cell_of.ensures.named
+    (subst (λ cell. SetsFlag c.self.inside.flags.items c.set.new.flags.items cell true) c.cell_of.ensures.value c.in_ok-set.ensures.ok)
     ∙ ap (λ s. set.insert s c.args.name) c.self.view_is
