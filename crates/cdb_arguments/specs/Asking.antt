@@ -1,15 +1,16 @@
 -- What the arguments ask for.
-use Rattle.std.specs.Prelude.{◌≡◌, ◌⊎◌, ℕ, ◌≤◌, List, [], codes, map, Option, Some, None, unwrap_or, Result, IfOk, IfErr}
+use Rattle.std.specs.Prelude.{◌≡◌, ◌⊎◌, ℕ, ◌≤◌, List, [], ◌∷◌, codes, map, Option, Some, None, unwrap_or, Result, IfOk, IfErr}
 use Rattle.std.specs.Borrow.{Bor}
 use Rattle.std.specs.Str.Parse.{IsNumeral, digits_value, without_leading_plus}
 use Rattle.clap.specs.Words.{Kinds, IsAmong, Row, Text, first_of, all_of, kind_of}
 use Rattle.clap.specs.declared.error.kind.ErrorKind.{ErrorKind}
 use Rattle.clap.specs.declared.error.kind.ErrorKind.TheVariants.{DisplayHelp, DisplayVersion}
+use Rattle.cdb_arguments.specs.declared.limits.TheConstants.{MAX_NUMBER, MAX_TURNS}
 use Rattle.cdb_arguments.specs.declared.request.AskFault.{AskFault}
 use Rattle.cdb_arguments.specs.declared.request.AskFault.TheVariants.{Words, NoMemory}
 use Rattle.cdb_arguments.specs.declared.request.Asked.{Asked}
 use Rattle.cdb_arguments.specs.declared.request.Asked.TheVariants.{Script, Play, Race, Explain, Draw, Debug}
-use Rattle.cdb_arguments.specs.Plain.{Writes}
+use Rattle.cdb_arguments.specs.Plain.{IsDebugLine, IsDrawLine, IsExplainLine, IsPlayLine, IsRaceLine, Writes}
 
 -- the texts of the arguments
 abbrev pub texts : List (Bor Text) → List Text
@@ -29,15 +30,15 @@ text_at id rows = unwrap_or (first_of id rows) []
 abbrev pub texts_at : Text → List Row → List Text
 texts_at id rows = unwrap_or (all_of id rows) []
 
--- a number of 0 to 99,999, and the one that the text's digits write, after a plus or not
+-- a number of turns, and the one that the text's digits write, after a plus or not
 abbrev pub IsTurns : Text → ℕ → Type 0
 IsTurns text turns =
-    (turns ≤ 99999)
-    × (IsNumeral 10 (without_leading_plus text) → digits_value 10 (without_leading_plus text) ≤ 99999 → turns ≡ digits_value 10 (without_leading_plus text))
+    (turns ≤ MAX_TURNS)
+    × (IsNumeral 10 (without_leading_plus text) → digits_value 10 (without_leading_plus text) ≤ MAX_TURNS → turns ≡ digits_value 10 (without_leading_plus text))
 
--- a number of 1 to 999,999, and the one that the text writes where it writes one
+-- a number from 1 on, and the one that the text writes where it writes one
 abbrev pub IsNumber : Text → ℕ → Type 0
-IsNumber text number = (1 ≤ number) × (number ≤ 999999) × ((written : ℕ) → Writes text written → number ≡ written)
+IsNumber text number = (1 ≤ number) × (number ≤ MAX_NUMBER) × ((written : ℕ) → Writes text written → number ≡ written)
 
 -- the number of an argument, and none where the matches have none
 abbrev pub IsNumberOf : Option Text → Option ℕ → Type 0
@@ -95,6 +96,29 @@ IsDebugOf setup seats asked = ⊥
 -- what was asked for, or no memory to say it
 abbrev pub IsAnswer : Result Asked AskFault → (Asked → Type 0) → Type 0
 IsAnswer result IsIt = IfOk result IsIt × IfErr result (λ fault. fault ≡ NoMemory)
+
+-- a line of one of these forms has what its words say as the answer
+abbrev pub AnswersPlay : Result Asked AskFault → List Text → Type 0
+AnswersPlay result words =
+    (setup script : Text) → IsPlayLine words setup script → IsAnswer result (IsPlayOf setup script)
+
+abbrev pub AnswersRace : Result Asked AskFault → List Text → Type 0
+AnswersRace result words =
+    (setup : Text) (turns : ℕ) (script : Text) (more : List Text) → IsRaceLine words setup turns script more
+    → IsAnswer result (IsRaceOf setup turns (script ∷ more))
+
+abbrev pub AnswersExplain : Result Asked AskFault → List Text → Type 0
+AnswersExplain result words =
+    (setup script : Text) (p : ℕ) (k : Option ℕ) → IsExplainLine words setup script p k
+    → IsAnswer result (IsExplainOf setup script p k)
+
+abbrev pub AnswersDraw : Result Asked AskFault → List Text → Type 0
+AnswersDraw result words =
+    (setup script : Text) (p k : Option ℕ) → IsDrawLine words setup script p k → IsAnswer result (IsDrawOf setup script p k)
+
+abbrev pub AnswersDebug : Result Asked AskFault → List Text → Type 0
+AnswersDebug result words =
+    (setup : Text) (seats : List Text) → IsDebugLine words setup seats → IsAnswer result (IsDebugOf setup seats)
 
 -- out of memory, or an error of one of the kinds
 abbrev pub IsOfKinds : Kinds → AskFault → Type 0

@@ -4,18 +4,19 @@ use Rattle.clap.specs.Lexer.{usize_max}
 use Rattle.clap.specs.Simple.{on_top}
 use Rattle.clap.specs.Words.{App, Rule, Text, new_app, new_rule, with_rule, with_subcommand}
 use Rattle.clap.specs.declared.builder.value_parser.ValueParser.TheVariants as vp
+use Rattle.cdb_arguments.specs.declared.limits.TheConstants.{MAX_NUMBER, MAX_TURNS}
 
 -- a positional argument that has to be given
 abbrev pub required_rule : Text → Rule
 required_rule id = record (new_rule id) { required = true }
 
--- a number of 0 to 99,999
+-- a number of turns
 abbrev pub turns_rule : Rule
-turns_rule = record (required_rule (codes "TURNS")) { parser = Some (vp.Signed (pos 0) (pos 99999)) }
+turns_rule = record (required_rule (codes "TURNS")) { parser = Some (vp.Signed (pos 0) (pos MAX_TURNS)) }
 
--- a number of 1 to 999,999
+-- a number from 1 on
 abbrev pub numbered : Rule → Rule
-numbered rule = record rule { parser = Some (vp.Signed (pos 1) (pos 999999)) }
+numbered rule = record rule { parser = Some (vp.Signed (pos 1) (pos MAX_NUMBER)) }
 
 -- one value or more, as many as a machine's word counts
 abbrev pub several : Rule → Rule

@@ -4,6 +4,7 @@ use Rattle.std.specs.List.{AllByRecursion}
 use Rattle.std.specs.Str.Parse.{IsNumeral, digits_value, without_leading_plus}
 use Rattle.clap.specs.Lexer.{usize_max}
 use Rattle.clap.specs.Words.{Text}
+use Rattle.cdb_arguments.specs.declared.limits.TheConstants.{MAX_NUMBER, MAX_TURNS}
 
 -- a text that does not begin with a hyphen, so that it is no option
 abbrev pub IsPlain : Text → Type 0
@@ -14,15 +15,15 @@ IsPlain (first ∷ rest) = first ≢ 45
 abbrev pub ArePlain : List Text → Type 0
 ArePlain = AllByRecursion IsPlain
 
--- a number of 0 to 99,999 in digits, after a plus or not
+-- a number of turns in digits, after a plus or not
 abbrev pub IsNumberOfTurns : Text → ℕ → Type 0
 IsNumberOfTurns text turns =
-    IsNumeral 10 (without_leading_plus text) × (digits_value 10 (without_leading_plus text) ≡ turns) × (turns ≤ 99999)
+    IsNumeral 10 (without_leading_plus text) × (digits_value 10 (without_leading_plus text) ≡ turns) × (turns ≤ MAX_TURNS)
 
--- a number of 1 to 999,999 in digits, after a plus or not
+-- a number from 1 on in digits, after a plus or not
 abbrev pub Writes : Text → ℕ → Type 0
 Writes text number =
-    IsNumeral 10 (without_leading_plus text) × (digits_value 10 (without_leading_plus text) ≡ number) × (1 ≤ number) × (number ≤ 999999)
+    IsNumeral 10 (without_leading_plus text) × (digits_value 10 (without_leading_plus text) ≡ number) × (1 ≤ number) × (number ≤ MAX_NUMBER)
 
 -- the texts of a number, none where there is no number
 abbrev pub WritesOption : List Text → Option ℕ → Type 0

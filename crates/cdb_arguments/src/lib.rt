@@ -1,9 +1,11 @@
 //! The command line of `revdbg`: what its arguments ask for, read by `clap`.
 #![tactic(auto)]
 
+mod limits;
 mod reading;
 mod request;
 
+pub use limits::{MAX_NUMBER, MAX_TURNS};
 pub use reading::{ask_status, asked};
 pub use request::{AskFault, Asked};
 

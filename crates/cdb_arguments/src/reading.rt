@@ -1,12 +1,13 @@
 //! Reading the words of the command line.
 
-ghost use Rattle.std.specs.Prelude.{◌≡◌, ◌∷◌, ℕ, List, Option, IfOk, OnOk, IfErr, [], false, true, map, codes};
+ghost use Rattle.std.specs.Prelude.{◌≡◌, IfOk, OnOk, IfErr, [], false, true, map, codes};
 ghost use Rattle.clap.specs.Words.{Kinds, Text, HasKind, app_of, new_rule, rule_of, fault_of, found_of, kind_of, rows_of, subcommand_of, subcommand_rows_of, takes};
 ghost use Rattle.clap.specs.declared.builder.command.Command.TheViews.{out-Command};
 ghost use Rattle.cdb_arguments.specs.CommandLine.{required_rule, turns_rule, numbered, several, on_files, play_app, race_app, explain_app, draw_app, debug_app, playing, program};
-ghost use Rattle.cdb_arguments.specs.Asking.{NamesOne, IsTurns, IsNumber, IsNumberAt, text_at, texts, texts_at, Asks, IsOfKinds, IsAnswer, IsPlayOf, IsRaceOf, IsExplainOf, IsDrawOf, IsDebugOf, ask_status_of, words_status};
-ghost use Rattle.cdb_arguments.specs.Plain.{IsNameAlone, IsPlayLine, IsRaceLine, IsExplainLine, IsDrawLine, IsDebugLine};
+ghost use Rattle.cdb_arguments.specs.Asking.{NamesOne, IsTurns, IsNumber, IsNumberAt, text_at, texts, texts_at, Asks, IsOfKinds, IsAnswer, AnswersPlay, AnswersRace, AnswersExplain, AnswersDraw, AnswersDebug, ask_status_of, words_status};
+ghost use Rattle.cdb_arguments.specs.Plain.{IsNameAlone};
 
+use crate::limits::{MAX_NUMBER, MAX_TURNS};
 use crate::request::{AskFault, Asked};
 use clap::error::ErrorKind;
 use clap::{Arg, ArgMatches, Command, Error};
@@ -276,19 +277,19 @@ fn turns_of(text: &str) -> u32
     ensures { IsTurns text.now result }
 {
     match text.parse::<u32>() {
-        Ok(turns) if turns <= 99_999 => turns,
+        Ok(turns) if turns <= MAX_TURNS => turns,
         _ => 0,
     }
 }
 
-/// The number of 1 to 999,999 that the text is.
+/// The number from 1 on that the text is.
 fn number_of(text: &str) -> u32
     ensures { IsNumber text.now result }
 {
     let Ok(number) = text.parse::<u32>() else {
         return 1;
     };
-    if 1 <= number && number <= 999_999 {
+    if 1 <= number && number <= MAX_NUMBER {
         number
     } else {
         1
@@ -424,20 +425,11 @@ pub fn asked<'a>(alloc: Global, words: &'a [&'a str]) -> Result<Asked<'a>, AskFa
         (λ fault. IsOfKinds (fault_of program (texts words.entry.now)) fault) }
     ensures script { IsNameAlone (texts words.entry.now) →
         IsAnswer result (λ asked. asked ≡ Asked.Script) }
-    ensures play { (setup script : Text) → IsPlayLine (texts words.entry.now) setup script →
-        IsAnswer result (IsPlayOf setup script) }
-    ensures race { (setup : Text) (turns : ℕ) (script : Text) (more : List Text) →
-        IsRaceLine (texts words.entry.now) setup turns script more →
-        IsAnswer result (IsRaceOf setup turns (script ∷ more)) }
-    ensures explain { (setup script : Text) (p : ℕ) (k : Option ℕ) →
-        IsExplainLine (texts words.entry.now) setup script p k →
-        IsAnswer result (IsExplainOf setup script p k) }
-    ensures draw { (setup script : Text) (p k : Option ℕ) →
-        IsDrawLine (texts words.entry.now) setup script p k →
-        IsAnswer result (IsDrawOf setup script p k) }
-    ensures debug { (setup : Text) (seats : List Text) →
-        IsDebugLine (texts words.entry.now) setup seats →
-        IsAnswer result (IsDebugOf setup seats) }
+    ensures play { AnswersPlay result (texts words.entry.now) }
+    ensures race { AnswersRace result (texts words.entry.now) }
+    ensures explain { AnswersExplain result (texts words.entry.now) }
+    ensures draw { AnswersDraw result (texts words.entry.now) }
+    ensures debug { AnswersDebug result (texts words.entry.now) }
 {
     read(alloc, words)
 }

@@ -6,8 +6,9 @@ use Rattle.cdb_play.specs.declared.buffer.OutputFault.TheVariants as output
 use Rattle.cdb_play.specs.declared.fault.PlayFault.{PlayFault}
 use Rattle.cdb_play.specs.Faults.{of_output}
 use Rattle.cdb_setup.specs.Format.{longest}
-use Rattle.cdb_setup.specs.Parts.{IsWithin}
-use Rattle.cdb_debug.specs.Dialogues.{Session, after, session_after, shown, dialogue}
+use Rattle.cdb_rules.specs.Rules.{Rules}
+use Rattle.cdb_setup.specs.Parts.{Parts}
+use Rattle.cdb_debug.specs.Dialogues.{Session, SessionView, session_by, after, session_after, shown, dialogue}
 use Rattle.cdb_debug.specs.Moves.{Known, Move, read_in, written_in, AreWrites, FailsToWrite, EndsWith, FindsTheEnd, Makes}
 use Rattle.cdb_debug.specs.Requests.{Asks, quit_line}
 use Rattle.cdb_debug.specs.Sessions.{most_input, AnswersInTime, IsSession}
@@ -81,6 +82,10 @@ abbrev pub AnswersHeld : Result Bool OutputFault → Known → Known → List �
 AnswersHeld result before behind prompt old new held left =
     (made : List Move) × Makes before behind made × AnswersAs result prompt old new held left made
 
+-- the same of a session by these rules
+abbrev pub AnswersHeldBy : (Parts → Rules) → Result Bool OutputFault → Known → Known → List ℕ → SessionView → SessionView → List ℕ → List ℕ → Type 0
+AnswersHeldBy rules result before behind prompt old new = AnswersHeld result before behind prompt (session_by rules old) (session_by rules new)
+
 -- what the session returns at its end, and where its output failed
 abbrev pub ended_well : Result (Unit {0}) PlayFault
 ended_well = Ok tt
@@ -99,6 +104,10 @@ abbrev pub Hears : Result Bool OutputFault → Known → Known → List ℕ → 
 Hears result before behind prompt old new held left bytes =
     (start : Session) (moves : List Move) → IsAt prompt start moves old held bytes
     → (made : List Move) × Makes before behind made × AreWrites made × StandsAs result prompt start (moves ++ made) new left
+
+-- the same of a session by these rules
+abbrev pub HearsBy : (Parts → Rules) → Result Bool OutputFault → Known → Known → List ℕ → SessionView → SessionView → List ℕ → List ℕ → List ℕ → Type 0
+HearsBy rules result before behind prompt old new = Hears result before behind prompt (session_by rules old) (session_by rules new)
 
 -- the input was at its end, or as much was read as may be
 abbrev pub IsOver : List Move → Type 0

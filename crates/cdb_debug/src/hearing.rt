@@ -2,8 +2,7 @@
 
 ghost use Rattle.std.specs.Prelude.{◌≡◌, ◌+◌, ◌-◌, ◌<◌, ◌≤◌, ◌^◌, length, OnOk};
 ghost use Rattle.cdb_setup.specs.Format.{longest};
-ghost use Rattle.cdb_debug.specs.Dialogues.{session_by};
-ghost use Rattle.cdb_debug.specs.Held.{AnswersHeld, Hears};
+ghost use Rattle.cdb_debug.specs.Held.{AnswersHeldBy, HearsBy};
 
 use crate::held::{cut, hold};
 use crate::request::{Request, request_of};
@@ -22,9 +21,8 @@ pub(crate) fn answer_held<R: Runs, T: Talk>(
     talk: &mut T,
 ) -> Result<bool, OutputFault>
     requires { session.old.lines < 2 ^ 64 - 1 }
-    ensures { AnswersHeld result (T.known talk.old) (T.known talk.new)
-        prompt.now (session_by R.rules session.old) (session_by R.rules session.new)
-        held.old.items held.new.items }
+    ensures { AnswersHeldBy R.rules result (T.known talk.old) (T.known talk.new)
+        prompt.now session.old session.new held.old.items held.new.items }
 {
     let request = request_of(held.as_slice());
     let text = session.show(alloc, prompt, held.as_slice(), request)?;
@@ -45,9 +43,8 @@ pub(crate) fn hear<R: Runs, T: Talk>(
 ) -> Result<bool, OutputFault>
     requires lines { session.old.lines + length bytes.now < 2 ^ 64 }
     requires held { length held.old.items ≤ longest + 1 }
-    ensures heard { Hears result (T.known talk.old) (T.known talk.new)
-        prompt.now (session_by R.rules session.old) (session_by R.rules session.new)
-        held.old.items held.new.items bytes.now }
+    ensures heard { HearsBy R.rules result (T.known talk.old) (T.known talk.new)
+        prompt.now session.old session.new held.old.items held.new.items bytes.now }
     ensures held { OnOk result (length held.new.items ≤ longest + 1) }
     ensures lines { OnOk result (session.new.lines ≤ session.old.lines + length bytes.now) }
 {

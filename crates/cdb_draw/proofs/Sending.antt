@@ -1,5 +1,5 @@
 -- The table of sends, when the history grows.
-use Rattle.std.proofs.Common.{◌≡◌, ℕ, zero, suc, ◌+◌, ◌<◌, Bool, true, false, ◌&&◌, List, [], ◌∷◌, ◌++◌, length, Option, Some, None, Result, Ok, Err, OnOk, cond, nat_eq, refl, sym, ap, ◌∙◌, arith}
+use Rattle.std.proofs.Common.{◌≡◌, ℕ, zero, suc, ◌+◌, ◌^◌, ◌<◌, Bool, true, false, ◌&&◌, List, [], ◌∷◌, ◌++◌, length, Option, Some, None, Result, Ok, Err, OnOk, cond, nat_eq, refl, sym, ap, ◌∙◌, arith}
 use Rattle.std.specs.HashMap.{HashMap, get}
 use Rattle.std.specs.List.{position_from}
 use Rattle.std.specs.Prelude.{position}
@@ -38,7 +38,7 @@ kept_false None n = refl
 
 -- ---- codes
 
-same_code : (p m s k : ℕ) → m < 65536 → k < 65536 → nat_eq (message_code p m) (message_code s k) ≡ (nat_eq p s && nat_eq m k)
+same_code : (p m s k : ℕ) → m < 2 ^ 16 → k < 2 ^ 16 → nat_eq (message_code p m) (message_code s k) ≡ (nat_eq p s && nat_eq m k)
 same_code p m s k a b = grind (arith, nat_tests)
 
 -- ---- one event more
@@ -59,7 +59,7 @@ is_send name (Step p k Learn) = refl
 is_send name (Step p k Crash) = refl
 is_send name (Lost copy) = refl
 
-pub with_send : {A E S : Type 0} (result : Result A E) (old new : HashMap ℕ ℕ S) (event : Event) (name : MsgName) (code position : ℕ) → message_of event ≡ Some name → code ≡ message_code name.s name.m → name.m < 65536
+pub with_send : {A E S : Type 0} (result : Result A E) (old new : HashMap ℕ ℕ S) (event : Event) (name : MsgName) (code position : ℕ) → message_of event ≡ Some name → code ≡ message_code name.s name.m → name.m < 2 ^ 16
     → OnOk result ((q : ℕ) → get nat_eq new q ≡ kept_or_noted (get nat_eq old q) (nat_eq code q) position)
     → OnOk result ((before : List Event) → length before ≡ position → AreSendsOf old before → AreSendsOf new (before ++ event ∷ []))
 unfolding sends_named

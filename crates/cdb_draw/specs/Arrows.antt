@@ -5,6 +5,8 @@ use Rattle.cdb_base.specs.declared.event.Event.{Event}
 use Rattle.cdb_base.specs.declared.event.Event.TheVariants.{Step, Lost}
 use Rattle.cdb_base.specs.declared.event.Kind.{Kind}
 use Rattle.cdb_base.specs.declared.event.Kind.TheVariants.{Recv, Read, Write}
+use Rattle.cdb_base.specs.declared.name.MsgName.{MsgName}
+use Rattle.cdb_base.specs.declared.register.Reg.{Reg}
 use Rattle.cdb_explain.specs.Marked.{is_marked}
 use Rattle.cdb_message.specs.Mail.{message_name}
 use Rattle.cdb_rules.specs.RunView.{RunView}
@@ -61,22 +63,31 @@ copy_arrow setup class full (Some i) s j p =
 unfoldable pub upright_text : ℕ → ℕ → ℕ → List ℕ
 upright_text x from to = point_text x from ++ codes "V" ++ decimal to
 
+-- that of a copy of the message of that name, from its send
+abbrev pub arrow_from_send : RunView → List ℕ → Bool → MsgName → ℕ → ℕ → List ℕ
+arrow_from_send run class full name j p = copy_arrow run.setup class full (sent_at run.history name) name.s j p
+
+-- to a read at that position on the lane of process p, from the register, and from a write to it
+abbrev pub read_arrow : Parts → Bool → ℕ → ℕ → Reg → List ℕ
+read_arrow setup full position p register =
+    arrow_text (codes "read") full (upright_text (x_of position) (register_y setup register) (lane_y setup p))
+
+abbrev pub write_arrow : Parts → Bool → ℕ → ℕ → Reg → List ℕ
+write_arrow setup full position p register =
+    arrow_text (codes "write") full (upright_text (x_of position) (lane_y setup p) (register_y setup register))
+
 -- the arrow to a step of process p of that kind: to a receive from its send, to a read from the register; and of a
 -- write to the register
 abbrev pub step_arrow : RunView → Bool → ℕ → ℕ → Kind → List ℕ
-step_arrow run full position p (Recv s m) =
-    copy_arrow run.setup (codes "copy") full (sent_at run.history (message_name s m)) s position p
-step_arrow run full position p (Read register) =
-    arrow_text (codes "read") full (upright_text (x_of position) (register_y run.setup register) (lane_y run.setup p))
-step_arrow run full position p (Write register) =
-    arrow_text (codes "write") full (upright_text (x_of position) (lane_y run.setup p) (register_y run.setup register))
+step_arrow run full position p (Recv s m) = arrow_from_send run (codes "copy") full (message_name s m) position p
+step_arrow run full position p (Read register) = read_arrow run.setup full position p register
+step_arrow run full position p (Write register) = write_arrow run.setup full position p register
 step_arrow run full position p kind = []
 
 -- the arrow of the event at that position; that of a lost copy ends on the lane of its receiver, where its cross stands
 abbrev pub event_arrow : RunView → Bool → ℕ → Event → List ℕ
 event_arrow run full position (Step p k kind) = step_arrow run full position p kind
-event_arrow run full position (Lost copy) =
-    copy_arrow run.setup (codes "lost") full (sent_at run.history copy.msg) (copy.msg).s position copy.to
+event_arrow run full position (Lost copy) = arrow_from_send run (codes "lost") full copy.msg position copy.to
 
 abbrev pub arrow_at : RunView → List Bool → ℕ → List ℕ
 arrow_at run marks position =

@@ -52,13 +52,16 @@ register_lane run register =
 abbrev pub own_register_lane : RunView → ℕ → List ℕ
 own_register_lane run p = register_lane run (R p)
 
+abbrev pub own_register_lanes : RunView → List ℕ
+own_register_lanes run = flat_map (own_register_lane run) (range_with_len 1 run.setup.processes)
+
 abbrev pub register_lanes_by : Algorithm → RunView → List ℕ
 register_lanes_by Leader run = []
-register_lanes_by Alpha run =
-    flat_map (own_register_lane run) (range_with_len 1 run.setup.processes) ++ register_lane run Dec
+register_lanes_by Alpha run = own_register_lanes run ++ register_lane run Dec
+
+abbrev pub process_lanes : RunView → List ℕ
+process_lanes run = flat_map (process_lane run) (range_with_len 1 run.setup.processes)
 
 -- a lane for each process, and then one for each register
 abbrev pub lanes_text : RunView → List ℕ
-lanes_text run =
-    flat_map (process_lane run) (range_with_len 1 run.setup.processes)
-    ++ register_lanes_by run.setup.algorithm run
+lanes_text run = process_lanes run ++ register_lanes_by run.setup.algorithm run

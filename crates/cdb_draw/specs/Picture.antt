@@ -56,14 +56,18 @@ positions history = range_with_len 0 (length history)
 unfoldable pub foot : List ℕ
 foot = codes "</svg>\n"
 
--- Lanes first, then the arrows of all events, and then, so that no arrow hides them, their marks, each in the order of
--- the history; what is marked is drawn in full, the rest pale.
+-- the arrows of all events, and their marks, each in the order of the history
+abbrev pub arrows_text : RunView → List Bool → List ℕ
+arrows_text run marks = flat_map (arrow_at run marks) (positions run.history)
+
+abbrev pub marks_text : (Parts → Rules) → RunView → List Bool → List ℕ
+marks_text rules run marks = flat_map (mark_at rules run marks) (positions run.history)
+
+-- Lanes first, then the arrows, and then the marks, so that no arrow hides one; what is marked is drawn in full, the
+-- rest pale.
 abbrev pub picture_text : (Parts → Rules) → RunView → List Bool → List ℕ
 picture_text rules run marks =
-    head_text run ++ lanes_text run
-    ++ flat_map (arrow_at run marks) (positions run.history)
-    ++ flat_map (mark_at rules run marks) (positions run.history)
-    ++ foot
+    head_text run ++ lanes_text run ++ arrows_text run marks ++ marks_text rules run marks ++ foot
 
 -- everything is in full, or exactly what led to the event at that position
 abbrev pub AreInFull : Option ℕ → List Event → List Bool → Type 0

@@ -1,6 +1,6 @@
 -- What the code keeps for itself: a table of the positions at which messages were sent.
 use Rattle.std.specs.HashMap.{HashMap, get}
-use Rattle.std.specs.Prelude.{◌≡◌, ℕ, ◌+◌, ◌*◌, ◌<◌, Bool, List, Option, None, Some, nat_eq, if◌then◌else◌}
+use Rattle.std.specs.Prelude.{◌≡◌, ℕ, ◌+◌, ◌*◌, ◌^◌, ◌<◌, Bool, List, [], ◌∷◌, ◌++◌, length, Option, None, Some, nat_eq, if◌then◌else◌}
 use Rattle.cdb_base.specs.declared.event.Event.{Event}
 use Rattle.cdb_base.specs.declared.event.Event.TheVariants.{Step}
 use Rattle.cdb_base.specs.declared.event.Kind.TheVariants.{Send}
@@ -10,7 +10,7 @@ use Rattle.cdb_draw.specs.Positions.{sent_at}
 
 -- the number of a name
 abbrev pub message_code : ℕ → ℕ → ℕ
-message_code s m = s * 65536 + m
+message_code s m = s * 2 ^ 16 + m
 
 -- the message that an event sends, if it sends one
 abbrev pub message_of : Event → Option MsgName
@@ -25,4 +25,9 @@ kept_or_noted None holds position = if holds then Some position else None
 -- the table has the position of each message's send
 abbrev pub AreSendsOf : {S : Type 0} → HashMap ℕ ℕ S → List Event → Type 0
 AreSendsOf sends history =
-    (s m : ℕ) → m < 65536 → get nat_eq sends (message_code s m) ≡ sent_at history (message_name s m)
+    (s m : ℕ) → m < 2 ^ 16 → get nat_eq sends (message_code s m) ≡ sent_at history (message_name s m)
+
+-- the table got that of the next event, at this position
+abbrev pub HasNoted : {S : Type 0} → HashMap ℕ ℕ S → HashMap ℕ ℕ S → ℕ → Event → Type 0
+HasNoted old new position event =
+    (before : List Event) → length before ≡ position → AreSendsOf old before → AreSendsOf new (before ++ event ∷ [])

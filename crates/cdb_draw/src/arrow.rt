@@ -1,15 +1,15 @@
 //! The arrows of a picture.
 
-ghost use Rattle.std.specs.Prelude.{◌≡◌, ◌≤◌, length, codes, Some};
-ghost use Rattle.cdb_draw.specs.Arrows.{arrow_close, arrow_open, arrow_text, below_text, bend_text, copy_arrow, event_arrow, point_text, spot_text, step_arrow, straight_text, upright_text, way_text, weight_text};
+ghost use Rattle.std.specs.Prelude.{◌≡◌, ◌≤◌, length, Some};
+ghost use Rattle.cdb_draw.specs.Arrows.{arrow_close, arrow_from_send, arrow_open, arrow_text, below_text, bend_text, copy_arrow, event_arrow, point_text, read_arrow, spot_text, step_arrow, straight_text, upright_text, way_text, weight_text, write_arrow};
 ghost use Rattle.cdb_draw.specs.Layout.{lane_y, register_y, x_of};
-ghost use Rattle.cdb_draw.specs.Positions.{sent_at};
 ghost use Rattle.cdb_draw.specs.Sends.{AreSendsOf};
 ghost use Rattle.cdb_text.specs.Pushes.{Pushes};
 
 use crate::layout::{lane_y, register_y, x_of};
 use crate::piece::{push, push_number};
 use crate::sends::{Sends, position_of_send};
+use cdb_base::limits::MAX_ENTRIES;
 use cdb_base::{Event, Kind, MsgName, Proc, Reg};
 use cdb_rules::Chronicle;
 use cdb_setup::Setup;
@@ -43,7 +43,7 @@ pub(crate) fn push_spot(
     position: usize,
     p: Proc,
 ) -> Result<(), AllocError>
-    requires { position ≤ 999999 }
+    requires { position ≤ MAX_ENTRIES }
     ensures { Pushes result text.old text.new (spot_text setup.now position p) }
 {
     push_point(text, x_of(position), lane_y(setup, p))
@@ -51,7 +51,7 @@ pub(crate) fn push_spot(
 
 /// Adds the point below it.
 fn push_below(text: &mut String, setup: &Setup, position: usize, p: Proc) -> Result<(), AllocError>
-    requires { position ≤ 999999 }
+    requires { position ≤ MAX_ENTRIES }
     ensures { Pushes result text.old text.new (below_text setup.now position p) }
 {
     push_point(text, x_of(position), lane_y(setup, p) + 32)
@@ -59,7 +59,7 @@ fn push_below(text: &mut String, setup: &Setup, position: usize, p: Proc) -> Res
 
 /// Adds the way of a copy to another lane.
 fn push_straight(text: &mut String, setup: &Setup, j: usize, p: Proc) -> Result<(), AllocError>
-    requires { j ≤ 999999 }
+    requires { j ≤ MAX_ENTRIES }
     ensures { Pushes result text.old text.new (straight_text setup.now j p) }
 {
     push(text, "L")?;
@@ -74,8 +74,8 @@ fn push_bend(
     j: usize,
     p: Proc,
 ) -> Result<(), AllocError>
-    requires sent { i ≤ 999999 }
-    requires received { j ≤ 999999 }
+    requires sent { i ≤ MAX_ENTRIES }
+    requires received { j ≤ MAX_ENTRIES }
     ensures { Pushes result text.old text.new (bend_text setup.now i j p) }
 {
     let (first, second) = (p, p);
@@ -96,8 +96,8 @@ fn push_way(
     j: usize,
     p: Proc,
 ) -> Result<(), AllocError>
-    requires sent { i ≤ 999999 }
-    requires received { j ≤ 999999 }
+    requires sent { i ≤ MAX_ENTRIES }
+    requires received { j ≤ MAX_ENTRIES }
     ensures { Pushes result text.old text.new (way_text setup.now i s j p) }
 {
     if s == p {
@@ -147,8 +147,8 @@ fn push_copy(
     j: usize,
     p: Proc,
 ) -> Result<(), AllocError>
-    requires sent { i ≤ 999999 }
-    requires received { j ≤ 999999 }
+    requires sent { i ≤ MAX_ENTRIES }
+    requires received { j ≤ MAX_ENTRIES }
     ensures { Pushes result text.old text.new
         (copy_arrow setup.now class.now full (Some i) s j p) }
 {
@@ -168,7 +168,7 @@ fn push_upright(
     from: usize,
     to: usize,
 ) -> Result<(), AllocError>
-    requires { position ≤ 999999 }
+    requires { position ≤ MAX_ENTRIES }
     ensures { Pushes result text.old text.new
         (arrow_text class.now full (upright_text (x_of position) from to)) }
 {
@@ -188,11 +188,11 @@ fn push_from_send(
     position: usize,
     p: Proc,
 ) -> Result<(), AllocError>
-    requires few { length run.now.history ≤ 999999 }
-    requires position { position ≤ 999999 }
+    requires few { length run.now.history ≤ MAX_ENTRIES }
+    requires position { position ≤ MAX_ENTRIES }
     requires sends { AreSendsOf sends.now run.now.history }
     ensures { Pushes result text.old text.new
-        (copy_arrow run.now.setup class.now full (sent_at run.now.history name) name.s position p) }
+        (arrow_from_send run.now class.now full name position p) }
 {
     let sender = name.s;
     match position_of_send(sends, name) {
@@ -210,9 +210,8 @@ fn push_read(
     p: Proc,
     register: Reg,
 ) -> Result<(), AllocError>
-    requires { position ≤ 999999 }
-    ensures { Pushes result text.old text.new (arrow_text (codes "read") full
-        (upright_text (x_of position) (register_y setup.now register) (lane_y setup.now p))) }
+    requires { position ≤ MAX_ENTRIES }
+    ensures { Pushes result text.old text.new (read_arrow setup.now full position p register) }
 {
     let from = register_y(setup, register);
     push_upright(text, "read", full, position, from, lane_y(setup, p))
@@ -227,9 +226,8 @@ fn push_write(
     p: Proc,
     register: Reg,
 ) -> Result<(), AllocError>
-    requires { position ≤ 999999 }
-    ensures { Pushes result text.old text.new (arrow_text (codes "write") full
-        (upright_text (x_of position) (lane_y setup.now p) (register_y setup.now register))) }
+    requires { position ≤ MAX_ENTRIES }
+    ensures { Pushes result text.old text.new (write_arrow setup.now full position p register) }
 {
     push_upright(
         text,
@@ -251,8 +249,8 @@ fn push_step_arrow(
     p: Proc,
     kind: Kind,
 ) -> Result<(), AllocError>
-    requires few { length run.now.history ≤ 999999 }
-    requires position { position ≤ 999999 }
+    requires few { length run.now.history ≤ MAX_ENTRIES }
+    requires position { position ≤ MAX_ENTRIES }
     requires sends { AreSendsOf sends.now run.now.history }
     ensures { Pushes result text.old text.new (step_arrow run.now full position p kind) }
 {
@@ -282,8 +280,8 @@ pub(crate) fn push_arrow(
     position: usize,
     event: &Event,
 ) -> Result<(), AllocError>
-    requires few { length run.now.history ≤ 999999 }
-    requires position { position ≤ 999999 }
+    requires few { length run.now.history ≤ MAX_ENTRIES }
+    requires position { position ≤ MAX_ENTRIES }
     requires sends { AreSendsOf sends.now run.now.history }
     ensures { Pushes result text.old text.new (event_arrow run.now full position event.now) }
 {

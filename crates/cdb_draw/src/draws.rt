@@ -7,6 +7,7 @@ ghost use Rattle.cdb_draw.specs.Written.{WritesOne};
 
 use crate::picture::write_picture;
 use cdb_base::NoMemory;
+use cdb_base::limits::MAX_ENTRIES;
 use cdb_explain::past_of;
 use cdb_play::{OutputFault, Sink};
 use cdb_rules::{Chronicle, Runs};
@@ -36,7 +37,7 @@ pub fn draw_run<T: Runs, W: Sink>(
     out: &mut W,
 ) -> Result<(), OutputFault>
     requires valid { IsInOrder T.rules run.now }
-    requires few { length run.now.history ≤ 999999 }
+    requires few { length run.now.history ≤ MAX_ENTRIES }
     requires stands { IfSome position (λ position. position < length run.now.history) }
     ensures { WritesOne W.contents W.failures result out.old out.new
         (IsPicture T.rules run.now position) }

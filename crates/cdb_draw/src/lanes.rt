@@ -1,13 +1,13 @@
 //! The lanes of a picture.
 
-ghost use Rattle.std.specs.List.{flat_map, range_with_len};
 ghost use Rattle.std.specs.Prelude.{◌≡◌, ◌≤◌, length};
-ghost use Rattle.cdb_draw.specs.Lanes.{lane_end, lane_open, lanes_text, line_text, own_register_lane, process_lane, process_text, register_lane, register_lanes_by, register_line};
+ghost use Rattle.cdb_draw.specs.Lanes.{lane_end, lane_open, lanes_text, line_text, own_register_lanes, process_lane, process_lanes, process_text, register_lane, register_lanes_by, register_line};
 ghost use Rattle.cdb_text.specs.Pushes.{Pushes};
 
 use crate::layout::{end_x, lane_y, register_y, x_of};
 use crate::piece::{push, push_number, push_process, push_register, push_val};
 use crate::sends::crashed_at;
+use cdb_base::limits::MAX_ENTRIES;
 use cdb_base::{Proc, Reg, Val};
 use cdb_causal::History;
 use cdb_rules::Chronicle;
@@ -25,7 +25,7 @@ fn push_line(text: &mut String, end: usize) -> Result<(), AllocError>
 
 /// Where the lane of a process ends: at its crash, or else at the edge.
 fn lane_end(history: &History, p: Proc) -> usize
-    requires { length history.now ≤ 999999 }
+    requires { length history.now ≤ MAX_ENTRIES }
     ensures { result ≡ lane_end history.now p }
 {
     match crashed_at(history, p) {
@@ -83,7 +83,7 @@ fn push_register_text(
 
 /// Adds the lane of a process.
 fn push_process_lane(text: &mut String, run: &Chronicle, p: Proc) -> Result<(), AllocError>
-    requires few { length run.now.history ≤ 999999 }
+    requires few { length run.now.history ≤ MAX_ENTRIES }
     requires among { p ≤ run.now.setup.processes }
     ensures { Pushes result text.old text.new (process_lane run.now p) }
 {
@@ -94,7 +94,7 @@ fn push_process_lane(text: &mut String, run: &Chronicle, p: Proc) -> Result<(), 
 
 /// Adds the lane of a register.
 fn push_register_lane(text: &mut String, run: &Chronicle, register: Reg) -> Result<(), AllocError>
-    requires { length run.now.history ≤ 999999 }
+    requires { length run.now.history ≤ MAX_ENTRIES }
     ensures { Pushes result text.old text.new (register_lane run.now register) }
 {
     let again = register;
@@ -105,9 +105,8 @@ fn push_register_lane(text: &mut String, run: &Chronicle, register: Reg) -> Resu
 
 /// Adds the lanes of the processes' registers.
 fn push_own_registers(text: &mut String, run: &Chronicle) -> Result<(), AllocError>
-    requires { length run.now.history ≤ 999999 }
-    ensures { Pushes result text.old text.new
-        (flat_map (own_register_lane run.now) (range_with_len 1 run.now.setup.processes)) }
+    requires { length run.now.history ≤ MAX_ENTRIES }
+    ensures { Pushes result text.old text.new (own_register_lanes run.now) }
 {
     for i in 0..run.setup().n() {
         push_register_lane(text, run, Reg::R(Proc::new(i + 1)))?;
@@ -117,7 +116,7 @@ fn push_own_registers(text: &mut String, run: &Chronicle) -> Result<(), AllocErr
 
 /// Adds the lanes of the registers, of which Alpha alone has some.
 fn push_register_lanes(text: &mut String, run: &Chronicle) -> Result<(), AllocError>
-    requires { length run.now.history ≤ 999999 }
+    requires { length run.now.history ≤ MAX_ENTRIES }
     ensures { Pushes result text.old text.new
         (register_lanes_by run.now.setup.algorithm run.now) }
 {
@@ -132,9 +131,8 @@ fn push_register_lanes(text: &mut String, run: &Chronicle) -> Result<(), AllocEr
 
 /// Adds the lanes of the processes.
 fn push_process_lanes(text: &mut String, run: &Chronicle) -> Result<(), AllocError>
-    requires { length run.now.history ≤ 999999 }
-    ensures { Pushes result text.old text.new
-        (flat_map (process_lane run.now) (range_with_len 1 run.now.setup.processes)) }
+    requires { length run.now.history ≤ MAX_ENTRIES }
+    ensures { Pushes result text.old text.new (process_lanes run.now) }
 {
     for i in 0..run.setup().n() {
         push_process_lane(text, run, Proc::new(i + 1))?;
@@ -144,7 +142,7 @@ fn push_process_lanes(text: &mut String, run: &Chronicle) -> Result<(), AllocErr
 
 /// Adds all lanes. Only out of memory is an error.
 pub(crate) fn push_lanes(text: &mut String, run: &Chronicle) -> Result<(), AllocError>
-    requires { length run.now.history ≤ 999999 }
+    requires { length run.now.history ≤ MAX_ENTRIES }
     ensures { Pushes result text.old text.new (lanes_text run.now) }
 {
     push_process_lanes(text, run)?;

@@ -3,12 +3,13 @@
 ghost use Rattle.std.specs.Prelude.{◌≡◌, ◌≤◌};
 ghost use Rattle.cdb_draw.specs.Layout.{end_x, height, lane_gap, lane_y, register_y, width, x_of};
 
+use cdb_base::limits::MAX_ENTRIES;
 use cdb_base::{Proc, Reg};
 use cdb_setup::{Algorithm, Setup};
 
 /// The event at a position of the history, from 0.
 pub(crate) fn x_of(position: usize) -> usize
-    requires { position ≤ 999999 }
+    requires { position ≤ MAX_ENTRIES }
     ensures { result ≡ x_of position }
 {
     84 + 24 * position
@@ -16,7 +17,7 @@ pub(crate) fn x_of(position: usize) -> usize
 
 /// Where a lane ends that no crash ends.
 pub(crate) fn end_x(count: usize) -> usize
-    requires { count ≤ 999999 }
+    requires { count ≤ MAX_ENTRIES }
     ensures { result ≡ end_x count }
 {
     108 + 24 * count
@@ -24,7 +25,7 @@ pub(crate) fn end_x(count: usize) -> usize
 
 /// How wide the picture is, in millimetres.
 pub(crate) fn width(count: usize) -> usize
-    requires { count ≤ 999999 }
+    requires { count ≤ MAX_ENTRIES }
     ensures { result ≡ width count }
 {
     29 + 6 * count

@@ -10,6 +10,7 @@ ghost use Rattle.cdb_text.specs.Pushes.{Pushes};
 
 use crate::arrow::{push_spot, push_weight};
 use crate::piece::{push, push_message, push_number, push_process, push_register, push_val};
+use cdb_base::limits::MAX_ENTRIES;
 use cdb_base::{CopyName, Event, Kind, MsgName, Proc, Val};
 use cdb_control::Runs;
 use cdb_explain::{decision_by, push_whole};
@@ -223,7 +224,7 @@ fn push_open(
     position: usize,
     p: Proc,
 ) -> Result<(), AllocError>
-    requires { position ≤ 999999 }
+    requires { position ≤ MAX_ENTRIES }
     ensures { Pushes result text.old text.new (open_text full (spot_text setup.now position p)) }
 {
     push(text, "<g class='")?;
@@ -265,7 +266,7 @@ pub(crate) fn push_mark<T: Runs>(
     position: usize,
     event: &Event,
 ) -> Result<(), AllocError>
-    requires { position ≤ 999999 }
+    requires { position ≤ MAX_ENTRIES }
     ensures { Pushes result text.old text.new
         (mark_text T.rules (T.run run.now) (T.run run.now) full position event.now) }
 {

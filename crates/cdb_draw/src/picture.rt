@@ -1,11 +1,10 @@
 //! The picture of a run, written in pieces: lanes, the arrows of all events, and then their marks.
 
-ghost use Rattle.std.specs.List.{flat_map};
 ghost use Rattle.std.specs.Prelude.{◌≡◌, ◌<◌, ◌≤◌, ◌++◌, length, string_bytes, IfOk};
 ghost use Rattle.cdb_draw.specs.Arrows.{arrow_at};
 ghost use Rattle.cdb_draw.specs.EventMarks.{mark_at};
 ghost use Rattle.cdb_draw.specs.Lanes.{lanes_text};
-ghost use Rattle.cdb_draw.specs.Picture.{algorithm_text, document_text, foot, head_text, heading_text, namespace_text, picture_text, positions, shapes_text, size_text, style_text};
+ghost use Rattle.cdb_draw.specs.Picture.{algorithm_text, arrows_text, document_text, foot, head_text, heading_text, marks_text, namespace_text, picture_text, shapes_text, size_text, style_text};
 ghost use Rattle.cdb_draw.specs.Sends.{AreSendsOf};
 ghost use Rattle.cdb_explain.specs.Explanations.{run_after};
 ghost use Rattle.cdb_play.specs.Buffers.{Puts, Wrote};
@@ -19,6 +18,7 @@ use crate::mark::push_mark;
 use crate::piece::{push, push_number};
 use crate::sends::{Sends, sends_of};
 use crate::style::{NAMESPACE, SHAPES, STYLE};
+use cdb_base::limits::MAX_ENTRIES;
 use cdb_explain::{fresh, take_next};
 use cdb_play::{Buffer, OutputFault, Sink};
 use cdb_rules::{Chronicle, Runs};
@@ -113,7 +113,7 @@ fn push_document(
 
 /// Adds what comes before the lanes.
 fn push_head(text: &mut String, run: &Chronicle) -> Result<(), AllocError>
-    requires { length run.now.history ≤ 999999 }
+    requires { length run.now.history ≤ MAX_ENTRIES }
     ensures { Pushes result text.old text.new (head_text run.now) }
 {
     let setup = run.setup();
@@ -124,7 +124,7 @@ fn push_head(text: &mut String, run: &Chronicle) -> Result<(), AllocError>
 
 /// Adds what comes before the arrows.
 fn push_front(text: &mut String, run: &Chronicle) -> Result<(), AllocError>
-    requires { length run.now.history ≤ 999999 }
+    requires { length run.now.history ≤ MAX_ENTRIES }
     ensures { Pushes result text.old text.new (head_text run.now ++ lanes_text run.now) }
 {
     push_head(text, run)?;
@@ -133,7 +133,7 @@ fn push_front(text: &mut String, run: &Chronicle) -> Result<(), AllocError>
 
 /// The text of what comes before the arrows.
 fn front_of(alloc: Global, run: &Chronicle) -> Result<String, AllocError>
-    requires { length run.now.history ≤ 999999 }
+    requires { length run.now.history ≤ MAX_ENTRIES }
     ensures { IfOk result (λ text. string_bytes text ≡ head_text run.now ++ lanes_text run.now) }
 {
     let mut text = String::new(alloc);
@@ -149,7 +149,7 @@ fn arrow_of(
     marks: &[bool],
     position: usize,
 ) -> Result<String, AllocError>
-    requires few { length run.now.history ≤ 999999 }
+    requires few { length run.now.history ≤ MAX_ENTRIES }
     requires a_mark_each { length marks.now ≡ length run.now.history }
     requires within { position < length run.now.history }
     requires sends { AreSendsOf sends.now run.now.history }
@@ -170,7 +170,7 @@ fn mark_of<T: Runs>(
     marks: &[bool],
     position: usize,
 ) -> Result<String, AllocError>
-    requires few { length run.now.history ≤ 999999 }
+    requires few { length run.now.history ≤ MAX_ENTRIES }
     requires a_mark_each { length marks.now ≡ length run.now.history }
     requires within { position < length run.now.history }
     requires after { T.run after.now ≡ run_after run.now position }
@@ -203,7 +203,7 @@ fn put_arrow<W: Sink>(
     buffer: &mut Buffer,
     out: &mut W,
 ) -> Result<(), OutputFault>
-    requires few { length run.now.history ≤ 999999 }
+    requires few { length run.now.history ≤ MAX_ENTRIES }
     requires a_mark_each { length marks.now ≡ length run.now.history }
     requires within { position < length run.now.history }
     requires sends { AreSendsOf sends.now run.now.history }
@@ -222,10 +222,10 @@ fn put_arrows<W: Sink>(
     buffer: &mut Buffer,
     out: &mut W,
 ) -> Result<(), OutputFault>
-    requires few { length run.now.history ≤ 999999 }
+    requires few { length run.now.history ≤ MAX_ENTRIES }
     requires a_mark_each { length marks.now ≡ length run.now.history }
     ensures { Puts W.contents W.failures result out.old buffer.old out.new buffer.new
-        (flat_map (arrow_at run.now marks.now) (positions run.now.history)) }
+        (arrows_text run.now marks.now) }
 {
     let history = run.history();
     let sends = sends_of(alloc, history)?;
@@ -245,7 +245,7 @@ fn put_mark<T: Runs, W: Sink>(
     buffer: &mut Buffer,
     out: &mut W,
 ) -> Result<(), OutputFault>
-    requires few { length run.now.history ≤ 999999 }
+    requires few { length run.now.history ≤ MAX_ENTRIES }
     requires a_mark_each { length marks.now ≡ length run.now.history }
     requires within { position < length run.now.history }
     requires after { T.run after.now ≡ run_after run.now position }
@@ -266,10 +266,10 @@ fn put_marks<T: Runs, W: Sink>(
     out: &mut W,
 ) -> Result<(), OutputFault>
     requires valid { IsInOrder T.rules run.now }
-    requires few { length run.now.history ≤ 999999 }
+    requires few { length run.now.history ≤ MAX_ENTRIES }
     requires a_mark_each { length marks.now ≡ length run.now.history }
     ensures { Puts W.contents W.failures result out.old buffer.old out.new buffer.new
-        (flat_map (mark_at T.rules run.now marks.now) (positions run.now.history)) }
+        (marks_text T.rules run.now marks.now) }
 {
     let mut again = fresh::<T>(alloc, run)?;
     // Its clause says that the parts of the setup are in range.
@@ -290,7 +290,7 @@ fn put_front<W: Sink>(
     buffer: &mut Buffer,
     out: &mut W,
 ) -> Result<(), OutputFault>
-    requires { length run.now.history ≤ 999999 }
+    requires { length run.now.history ≤ MAX_ENTRIES }
     ensures { Puts W.contents W.failures result out.old buffer.old out.new buffer.new
         (head_text run.now ++ lanes_text run.now) }
 {
@@ -316,7 +316,7 @@ fn put_picture<T: Runs, W: Sink>(
     out: &mut W,
 ) -> Result<(), OutputFault>
     requires valid { IsInOrder T.rules run.now }
-    requires few { length run.now.history ≤ 999999 }
+    requires few { length run.now.history ≤ MAX_ENTRIES }
     requires a_mark_each { length marks.now ≡ length run.now.history }
     ensures { Puts W.contents W.failures result out.old buffer.old out.new buffer.new
         (picture_text T.rules run.now marks.now) }
@@ -336,7 +336,7 @@ pub(crate) fn write_picture<T: Runs, W: Sink>(
     out: &mut W,
 ) -> Result<(), OutputFault>
     requires valid { IsInOrder T.rules run.now }
-    requires few { length run.now.history ≤ 999999 }
+    requires few { length run.now.history ≤ MAX_ENTRIES }
     requires a_mark_each { length marks.now ≡ length run.now.history }
     ensures { Wrote W.contents W.failures result out.old out.new
         (picture_text T.rules run.now marks.now) }

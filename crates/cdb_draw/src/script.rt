@@ -10,6 +10,7 @@ ghost use Rattle.cdb_rules.specs.ByRules.{IsInOrder};
 ghost use Rattle.cdb_setup.specs.declared.fault.SetupFault.{SetupFault as SetupFaultName};
 
 use crate::draws::draw_run;
+use cdb_base::limits::MAX_ENTRIES;
 use cdb_causal::History;
 use cdb_explain::{ExplainFault, chronicle_of, position_of_step};
 use cdb_play::{Sink, Source, left_by};
@@ -46,7 +47,7 @@ fn write_drawing<T: Runs, W: Sink>(
     out: &mut W,
 ) -> Result<(), ExplainFault>
     requires valid { IsInOrder T.rules run.now }
-    requires few { length run.now.history ≤ 999999 }
+    requires few { length run.now.history ≤ MAX_ENTRIES }
     ensures wrote { DrawWrites W.contents W.failures result out.old out.new
         (IsPictureFor T.rules run.now step) }
     ensures fault { IfErr result (IsFaultOfStep (IsMissing run.now.history step)) }

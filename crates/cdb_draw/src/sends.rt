@@ -1,10 +1,10 @@
 //! Where each message was sent, and where each process crashed.
 
 ghost use Rattle.std.specs.HashMap.{get};
-ghost use Rattle.std.specs.Prelude.{◌≡◌, ◌<◌, ℕ, List, ◌++◌, ◌∷◌, [], length, nat_eq, IfOk, OnOk};
+ghost use Rattle.std.specs.Prelude.{◌≡◌, ◌<◌, ◌^◌, ℕ, List, nat_eq, IfOk, OnOk};
 ghost use Rattle.cdb_base.specs.declared.event.Event.{Event as EventName};
 ghost use Rattle.cdb_draw.specs.Positions.{crashed_at, is_crash_of, sent_at};
-ghost use Rattle.cdb_draw.specs.Sends.{AreSendsOf, kept_or_noted, message_code, message_of};
+ghost use Rattle.cdb_draw.specs.Sends.{AreSendsOf, HasNoted, kept_or_noted, message_code, message_of};
 
 use cdb_base::{Event, Kind, MsgName, NoMemory, Proc};
 use cdb_causal::History;
@@ -17,7 +17,7 @@ pub(crate) type Sends = HashMap<u32, usize>;
 /// A number for the name of a message.
 fn message_code(name: MsgName) -> u32
     ensures value { result ≡ message_code name.s name.m }
-    ensures small { name.m < 65536 }
+    ensures small { name.m < 2 ^ 16 }
 {
     u32::from(name.s.number()) * 65_536 + u32::from(name.m)
 }
@@ -47,8 +47,7 @@ fn note(sends: &mut Sends, code: u32, position: usize) -> Result<(), NoMemory>
 
 /// Notes the position of an event, where it sends a message.
 fn note_event(sends: &mut Sends, event: &Event, position: usize) -> Result<(), NoMemory>
-    ensures { OnOk result ((before : List EventName) → length before ≡ position →
-        AreSendsOf sends.old before → AreSendsOf sends.new (before ++ event.now ∷ [])) }
+    ensures { OnOk result (HasNoted sends.old sends.new position event.now) }
 {
     match message_of(event) {
         Some(name) => note(sends, message_code(name), position),

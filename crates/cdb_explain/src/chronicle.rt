@@ -4,6 +4,7 @@ ghost use Rattle.cdb_play.specs.Left.{run_of};
 ghost use Rattle.cdb_rules.specs.ByRules.{IsInOrder};
 ghost use Rattle.std.specs.Prelude.{◌≡◌, ◌≤◌, length};
 
+use cdb_base::limits::MAX_ENTRIES;
 use cdb_control::Control;
 use cdb_rules::{Chronicle, Runs};
 
@@ -12,7 +13,7 @@ use cdb_rules::{Chronicle, Runs};
 pub fn chronicle_of<T: Runs>(control: Control<T>) -> Chronicle
     ensures is { result ≡ run_of T.rules control }
     ensures valid { IsInOrder T.rules result }
-    ensures few { length result.history ≤ 999999 }
+    ensures few { length result.history ≤ MAX_ENTRIES }
 {
     // Its clause says that each entry is of one of the seats, and how many entries there are.
     let _journal = control.journal();

@@ -13,8 +13,8 @@ use Rattle.cdb_debug.specs.declared.request.Request.TheVariants.{Call, Seat, Hel
 use Rattle.cdb_play.specs.declared.buffer.OutputFault.TheVariants as output
 use Rattle.cdb_shared.specs.Seats.{IsLater, IsCall}
 use Rattle.cdb_hall.specs.Dialogues.{prompt_after}
-use Rattle.cdb_hall.specs.Held.{AnswersHeld}
-use Rattle.cdb_hall.specs.Lines.{Session, HasDone, Answers, Shows, own_answer}
+use Rattle.cdb_hall.specs.Held.{SeatAnswersHeld}
+use Rattle.cdb_hall.specs.Lines.{SeatSession, HasDone, Answers, Shows, own_answer}
 use Rattle.cdb_debug.proofs.Ordered.{Makes-nothing}
 use Rattle.cdb_hall.proofs.Going.{none_done, may_have_done}
 use Rattle.cdb_rules.specs.Rules.{Rules}
@@ -22,14 +22,14 @@ use Rattle.cdb_setup.specs.Parts.{Parts}
 
 module _ (rules : Parts → Rules) where
   -- a command was carried out
-  pub call_answers : {E : Type 0} (r : Result (Vec ℕ Global) E) (old new : Session) (command : Command) (reply : Answer) → IsLater old.seat new.seat → IsCall rules old.seat command reply new.seat → length new.seat.seen ≤ MAX_ENTRIES
+  pub call_answers : {E : Type 0} (r : Result (Vec ℕ Global) E) (old new : SeatSession) (command : Command) (reply : Answer) → IsLater old.seat new.seat → IsCall rules old.seat command reply new.seat → length new.seat.seen ≤ MAX_ENTRIES
       → IfOk r (λ text. text.items ≡ text_of reply) → Answers rules r old (Call command) new
   call_answers (Ok text) old new command reply later call few is =
       (reply ∷ [], record { later = later; calls = (command, refl, call, few); full = λ c asks none. let long = ap length none in absurd (omega (arith, long)) }, is)
   call_answers (Err fault) old new command reply later call few is = (reply ∷ [], record { later = later; calls = (command, refl, call, few) })
 
   -- a line that asks for no command
-  pub own_answers : {E : Type 0} (r : Result (Vec ℕ Global) E) (old : Session) (request : Request) → old.seat.rests ≡ true → ((command : Command) → request ≢ Call command) → IfOk r (λ text. text.items ≡ own_answer old.lines request) → Answers rules r old request old
+  pub own_answers : {E : Type 0} (r : Result (Vec ℕ Global) E) (old : SeatSession) (request : Request) → old.seat.rests ≡ true → ((command : Command) → request ≢ Call command) → IfOk r (λ text. text.items ≡ own_answer old.lines request) → Answers rules r old request old
   own_answers (Ok text) old (Call command) rests other is = absurd (other command refl)
   own_answers (Ok text) old (Seat seat) rests other is = ([], none_done rules old.seat (Seat seat) rests other, is)
   own_answers (Ok text) old Help rests other is = ([], none_done rules old.seat Help rests other, is)
@@ -39,11 +39,11 @@ module _ (rules : Parts → Rules) where
   own_answers (Err fault) old request rests other is = ([], may_have_done rules old.seat request rests)
 
   -- what may have been done where it was done
-  pub may_have : (E : Type 0) (e : E) (text : Vec ℕ Global) (prompt : List ℕ) (old new : Session) (request : Request) → Answers rules {E = E} (Ok text) old request new → (let r : Result (Vec ℕ Global) E = Err e in Shows rules prompt r old request new)
+  pub may_have : (E : Type 0) (e : E) (text : Vec ℕ Global) (prompt : List ℕ) (old new : SeatSession) (request : Request) → Answers rules {E = E} (Ok text) old request new → (let r : Result (Vec ℕ Global) E = Err e in Shows rules prompt r old request new)
   may_have E e text prompt old new request a = (a.0, record { later = a.1.later; calls = a.1.calls })
 
   -- the answer, and the prompt behind it
-  pub shows : (E : Type 0) (text all : Vec ℕ Global) (prompt : List ℕ) (old middle new : Session) (request : Request) → new.seat ≡ middle.seat → Answers rules {E = E} (Ok text) old request middle → all.items ≡ text.items ++ prompt_after prompt request
+  pub shows : (E : Type 0) (text all : Vec ℕ Global) (prompt : List ℕ) (old middle new : SeatSession) (request : Request) → new.seat ≡ middle.seat → Answers rules {E = E} (Ok text) old request middle → all.items ≡ text.items ++ prompt_after prompt request
       → (let r : Result (Vec ℕ Global) E = Ok all in Shows rules prompt r old request new)
   shows E text all prompt old middle new request same a is = (
     a.0,
@@ -53,11 +53,11 @@ module _ (rules : Parts → Rules) where
 
   -- ---- a held line
 
-  module _ (before behind : Known) (prompt : List ℕ) (old new : Session) (held kept : List ℕ) (request : Request) (asks : Asks request held) where
-    pub held_lost : (E : Type 0) (e : E) → before ≡ behind → (let r : Result (Vec ℕ Global) E = Err e in Shows rules prompt r old request new) → AnswersHeld rules (Err output.NoMemory) before behind prompt old new held kept
+  module _ (before behind : Known) (prompt : List ℕ) (old new : SeatSession) (held kept : List ℕ) (request : Request) (asks : Asks request held) where
+    pub held_lost : (E : Type 0) (e : E) → before ≡ behind → (let r : Result (Vec ℕ Global) E = Err e in Shows rules prompt r old request new) → SeatAnswersHeld rules (Err output.NoMemory) before behind prompt old new held kept
     held_lost E e same s = ([], subst (λ now. Makes before now []) same (Makes-nothing before), record { request = request; asks = asks; got = s.0; done = s.1; none = refl })
 
-    pub held_broken : (E : Type 0) (text : Vec ℕ Global) (A F : Type 0) (f : F) → Shows rules {E = E} prompt (Ok text) old request new → Says {A = A} {E = F} (Err f) before behind text.items → AnswersHeld rules (Err output.Write) before behind prompt old new held kept
+    pub held_broken : (E : Type 0) (text : Vec ℕ Global) (A F : Type 0) (f : F) → Shows rules {E = E} prompt (Ok text) old request new → Says {A = A} {E = F} (Err f) before behind text.items → SeatAnswersHeld rules (Err output.Write) before behind prompt old new held kept
     held_broken E text A F f s says = (
       says.0,
       says.1,
@@ -65,7 +65,7 @@ module _ (rules : Parts → Rules) where
     )
 
     pub held_done : (E : Type 0) (text : Vec ℕ Global) (A F : Type 0) (a : A) (stops : Bool) → Shows rules {E = E} prompt (Ok text) old request new → Says {A = A} {E = F} (Ok a) before behind text.items → new.lines ≡ old.lines + 1 → kept ≡ []
-        → (IsTrue stops ↔ (request ≡ Quit)) → AnswersHeld rules (Ok stops) before behind prompt old new held kept
+        → (IsTrue stops ↔ (request ≡ Quit)) → SeatAnswersHeld rules (Ok stops) before behind prompt old new held kept
     held_done E text A F a stops s says one emptied stopped = (
       says.0,
       says.1,

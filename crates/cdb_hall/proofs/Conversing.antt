@@ -13,32 +13,32 @@ use Rattle.cdb_debug.specs.Moves.{Known, Move, Read, ReadFailed, read_in, Makes}
 use Rattle.cdb_debug.specs.Sessions.{most_input}
 use Rattle.cdb_debug.proofs.Ordered.{Makes-nothing, Makes-more, read-append, nothing_read}
 use Rattle.cdb_shared.specs.Sessions.{calls_of, replies_to}
-use Rattle.cdb_hall.specs.Dialogues.{Along, begun}
-use Rattle.cdb_hall.specs.Held.{IsAt, StandsAt, AnswersHeld, HasEndedAs, Hears, AnswersLast, Converses}
-use Rattle.cdb_hall.specs.Lines.{Session, at_line}
+use Rattle.cdb_hall.specs.Dialogues.{Along, begun_along}
+use Rattle.cdb_hall.specs.Held.{IsSeatAt, StandsAt, SeatAnswersHeld, HasEndedAs, SeatHears, SeatAnswersLast, SeatConverses}
+use Rattle.cdb_hall.specs.Lines.{SeatSession, at_line}
 use Rattle.cdb_hall.proofs.Looking.{as_seen, last_is_none, last_is_done, last_breaks, last_loses}
 use Rattle.cdb_hall.proofs.Stepping.{more_read, read_failed, prompted, not_prompted}
 
 module _ (rules : Parts → Rules) where
   -- all that was read is answered, as far as it has ended
-  abbrev pub Stands : List ℕ → Known → Known → Session → List ℕ → ℕ → Type 0
+  abbrev pub Stands : List ℕ → Known → Known → SeatSession → List ℕ → ℕ → Type 0
   Stands prompt before now session held read = (made : List Move) × Makes before now made × StandsAt rules prompt made session held [] × (length (read_in made) ≡ read)
 
   -- ---- the last line
 
-  module _ (prompt : List ℕ) (before behind : Known) (session : Session) (held : List ℕ) where
-    pub last_none : length held ≡ 0 → before ≡ behind → AnswersLast rules ended_well before behind prompt session session held
+  module _ (prompt : List ℕ) (before behind : Known) (session : SeatSession) (held : List ℕ) where
+    pub last_none : length held ≡ 0 → before ≡ behind → SeatAnswersLast rules ended_well before behind prompt session session held
     last_none none same moves at over = (
       [],
       subst (λ now. Makes before now []) same (Makes-nothing before),
       subst (λ made. HasEndedAs rules ended_well prompt made session) (sym (append-nil moves)) (last_is_none rules prompt moves session held at over none),
     )
 
-    module _ (some : 0 < length held) (new : Session) (kept : List ℕ) where
-      pub last_done : (stops : Bool) → AnswersHeld rules (Ok stops) before behind prompt session new held kept → AnswersLast rules ended_well before behind prompt session new held
+    module _ (some : 0 < length held) (new : SeatSession) (kept : List ℕ) where
+      pub last_done : (stops : Bool) → SeatAnswersHeld rules (Ok stops) before behind prompt session new held kept → SeatAnswersLast rules ended_well before behind prompt session new held
       last_done stops a moves at over = (a.0, a.1, last_is_done rules prompt moves session held at over some new kept stops a.0 a.2)
 
-      pub last_fails : (why : OutputFault) → AnswersHeld rules (Err why) before behind prompt session new held kept → AnswersLast rules (ended_by why) before behind prompt session new held
+      pub last_fails : (why : OutputFault) → SeatAnswersHeld rules (Err why) before behind prompt session new held kept → SeatAnswersLast rules (ended_by why) before behind prompt session new held
       last_fails output.Write a moves at over = (a.0, a.1, last_breaks rules prompt moves session held at over some new a.0 a.2)
       last_fails output.NoMemory a moves at over = (
         a.0,
@@ -48,7 +48,7 @@ module _ (rules : Parts → Rules) where
 
   -- ---- the first
 
-  module _ (prompt : List ℕ) (before now : Known) (session : Session) (new : session.seat.seen ≡ []) where
+  module _ (prompt : List ℕ) (before now : Known) (session : SeatSession) (new : session.seat.seen ≡ []) where
     no_calls : calls_of session.seat ≡ []
     no_calls = ap (own session.seat.number) new
 
@@ -60,18 +60,18 @@ module _ (rules : Parts → Rules) where
       says.0,
       says.1,
       λ more may.
-          let first : begun (replies_to rules session.seat ++ more) ≡ at_line session more = λ i. record { replies = no_replies i ++ more; lines = sym none i } in
-          subst (λ (s : Along). IsAt rules prompt (replies_to rules session.seat ++ more) says.0 session.seat s [] []) first (prompted rules prompt (replies_to rules session.seat ++ more) session.seat no_calls says.0 says.2 says.3),
+          let first : begun_along (replies_to rules session.seat ++ more) ≡ at_line session more = λ i. record { replies = no_replies i ++ more; lines = sym none i } in
+          subst (λ (s : Along). IsSeatAt rules prompt (replies_to rules session.seat ++ more) says.0 session.seat s [] []) first (prompted rules prompt (replies_to rules session.seat ++ more) session.seat no_calls says.0 says.2 says.3),
       ap length (nothing_read says.0 says.2),
     )
 
-    pub not_started : (A E : Type 0) (e : E) → Says {A = A} (Err e) before now prompt → Converses rules (ended_by output.Write) before now prompt session
+    pub not_started : (A E : Type 0) (e : E) → Says {A = A} (Err e) before now prompt → SeatConverses rules (ended_by output.Write) before now prompt session
     not_started A E e says = (says.0, says.1, not_prompted rules prompt (replies_to rules session.seat) session.seat no_calls says.0 says.2 says.3.0 says.3.1 says.3.2)
 
   -- ---- in between
 
-  module _ (prompt : List ℕ) (before now : Known) (session : Session) (held : List ℕ) (read : ℕ) (so : Stands prompt before now session held read) (next : Known) where
-    pub not_read : Makes now next (ReadFailed ∷ []) → Converses rules (Err fault.Read) before next prompt session
+  module _ (prompt : List ℕ) (before now : Known) (session : SeatSession) (held : List ℕ) (read : ℕ) (so : Stands prompt before now session held read) (next : Known) where
+    pub not_read : Makes now next (ReadFailed ∷ []) → SeatConverses rules (Err fault.Read) before next prompt session
     not_read makes = (
       so.0 ++ ReadFailed ∷ [],
       Makes-more before now next so.0 (ReadFailed ∷ []) so.1 makes,
@@ -79,7 +79,7 @@ module _ (rules : Parts → Rules) where
     )
 
     -- as much was read as may be
-    pub over_at_most : most_input ≤ read → (behind : Known) (new : Session) (outcome : Result (Unit {0}) PlayFault) → AnswersLast rules outcome now behind prompt session new held → Converses rules outcome before behind prompt new
+    pub over_at_most : most_input ≤ read → (behind : Known) (new : SeatSession) (outcome : Result (Unit {0}) PlayFault) → SeatAnswersLast rules outcome now behind prompt session new held → SeatConverses rules outcome before behind prompt new
     over_at_most most behind new outcome last =
         let l = last so.0 so.2 (inr (subst (λ n. most_input ≤ n) (sym so.3) most)) in
         (so.0 ++ l.0, Makes-more before now behind so.0 l.0 so.1 l.1, l.2)
@@ -94,27 +94,27 @@ module _ (rules : Parts → Rules) where
             omega (arith, long, so.3, ap length (append-nil bytes)),
           )
 
-      pub goes_on : (new : Session) (kept : List ℕ) → Hears rules (Ok false) next behind prompt session new held kept bytes → Stands prompt before behind new kept (read + length bytes)
+      pub goes_on : (new : SeatSession) (kept : List ℕ) → SeatHears rules (Ok false) next behind prompt session new held kept bytes → Stands prompt before behind new kept (read + length bytes)
       goes_on new kept hears =
           let s = given in
           let h = hears s.0 s.2 in
           let same = ap length (read-append s.0 h.0 ∙ ap (λ more. read_in s.0 ++ more) (nothing_read h.0 h.2) ∙ append-nil (read_in s.0)) in
           (s.0 ++ h.0, Makes-more before next behind s.0 h.0 s.1 h.1, h.3, same ∙ s.3)
 
-      pub quits : (new : Session) (kept : List ℕ) → Hears rules (Ok true) next behind prompt session new held kept bytes → Converses rules ended_well before behind prompt new
+      pub quits : (new : SeatSession) (kept : List ℕ) → SeatHears rules (Ok true) next behind prompt session new held kept bytes → SeatConverses rules ended_well before behind prompt new
       quits new kept hears =
           let s = given in
           let h = hears s.0 s.2 in
           (s.0 ++ h.0, Makes-more before next behind s.0 h.0 s.1 h.1, h.3)
 
-      pub breaks : (new : Session) (kept : List ℕ) (why : OutputFault) → Hears rules (Err why) next behind prompt session new held kept bytes → Converses rules (ended_by why) before behind prompt new
+      pub breaks : (new : SeatSession) (kept : List ℕ) (why : OutputFault) → SeatHears rules (Err why) next behind prompt session new held kept bytes → SeatConverses rules (ended_by why) before behind prompt new
       breaks new kept why hears =
           let s = given in
           let h = hears s.0 s.2 in
           (s.0 ++ h.0, Makes-more before next behind s.0 h.0 s.1 h.1, h.3)
 
       -- the end of the input was found
-      pub over_at_end : bytes ≡ [] → (new : Session) (outcome : Result (Unit {0}) PlayFault) → AnswersLast rules outcome next behind prompt session new held → Converses rules outcome before behind prompt new
+      pub over_at_end : bytes ≡ [] → (new : SeatSession) (outcome : Result (Unit {0}) PlayFault) → SeatAnswersLast rules outcome next behind prompt session new held → SeatConverses rules outcome before behind prompt new
       unfolding given
       over_at_end none new outcome last =
           let g = given in

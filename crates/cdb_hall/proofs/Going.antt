@@ -11,7 +11,7 @@ use Rattle.cdb_debug.specs.declared.request.Request.TheVariants.{Call, Seat, Hel
 use Rattle.cdb_shared.specs.Seats.{SeatView, IsLater, IsCall, SameCalls, SeesFull}
 use Rattle.cdb_shared.specs.Sessions.{calls_of, replies_to}
 use Rattle.cdb_shared.proofs.Steps.{calls_of-call, calls_of-fault, replies_to-call, replies_to-fault}
-use Rattle.cdb_hall.specs.Dialogues.{Along, answer_to, after, shown}
+use Rattle.cdb_hall.specs.Dialogues.{Along, seat_answer, next_along, seat_shown}
 use Rattle.cdb_hall.specs.Held.{MayFollow}
 use Rattle.cdb_hall.specs.Lines.{HasGot, FindsFull, HasDone, MayHaveDone}
 use Rattle.cdb_hall.specs.Parts.{part_seen, command_in, commands_in, HasCommands}
@@ -33,7 +33,7 @@ abbrev SameLine : List ℕ → Request → List Answer → List Answer → ℕ �
 SameLine prompt request got more lines =
     let short : Along = record { replies = got; lines = lines } in
     let long : Along = record { replies = got ++ more; lines = lines } in
-    (shown prompt short request ≡ shown prompt long request) × (after long request ≡ record { replies = more; lines = lines + 1 })
+    (seat_shown prompt short request ≡ seat_shown prompt long request) × (next_along long request ≡ record { replies = more; lines = lines + 1 })
 
 commands-more : (requests : List Request) (request : Request) → commands_in (requests ++ request ∷ []) ≡ commands_in requests ++ command_in request
 commands-more requests request = flat_map-append command_in requests (request ∷ []) ∙ ap (λ more. commands_in requests ++ more) (append-nil (command_in request))
@@ -86,8 +86,8 @@ module _ (rules : Parts → Rules) where
 
   -- the answer is that of the replies that were got
   call_text : (command : Command) (got more : List Answer) (lines : ℕ) → (got ≡ [] → more ≡ []) → (old : SeatView) (new : SeatView) → HasGot rules old (Call command) got new
-      → (answer_to (record { replies = got; lines = lines }) (Call command) ≡ answer_to (record { replies = got ++ more; lines = lines }) (Call command))
-      × (after (record { replies = got ++ more; lines = lines }) (Call command) ≡ record { replies = more; lines = lines + 1 })
+      → (seat_answer (record { replies = got; lines = lines }) (Call command) ≡ seat_answer (record { replies = got ++ more; lines = lines }) (Call command))
+      × (next_along (record { replies = got ++ more; lines = lines }) (Call command) ≡ record { replies = more; lines = lines + 1 })
   call_text command [] [] lines none old new is = (refl, refl)
   call_text command [] (other ∷ more) lines none old new is = let e : (other ∷ more) ≡ [] = none refl in absurd (omega (arith, ap length e))
   call_text command (reply ∷ []) more lines none old new is = (refl, refl)

@@ -15,9 +15,9 @@ use Rattle.cdb_rules.specs.Rules.{Rules}
 use Rattle.cdb_setup.specs.Parts.{Parts}
 use Rattle.cdb_shared.specs.Seats.{SeatView, IsKnownBy}
 use Rattle.cdb_shared.specs.Sessions.{calls_of, replies_to}
-use Rattle.cdb_hall.specs.Dialogues.{dialogue}
+use Rattle.cdb_hall.specs.Dialogues.{seat_dialogue}
 use Rattle.cdb_hall.specs.Parts.{part_in, part_seen, HasCommands}
-use Rattle.cdb_hall.specs.Sessions.{AnswersInTime, IsServed, EndsAs, IsSession}
+use Rattle.cdb_hall.specs.Sessions.{SeatAnswersInTime, IsServed, SeatEndsAs, IsSeatSession}
 
 module _ (rules : Parts → Rules) (prompt : List ℕ) (c : Journaled) (seat : SeatView) (n : ℕ) (is : seat.number ≡ n) (known : IsKnownBy c seat) (few : length c.journal ≤ MAX_ENTRIES) where
   calls_known : calls_of seat ≡ own n c.journal
@@ -36,9 +36,9 @@ module _ (rules : Parts → Rules) (prompt : List ℕ) (c : Journaled) (seat : S
   has_known requests (inr some) = inr (full_known some.0, some.1, some.2 ∙ ap (λ calls. calls ++ some.1) calls_known)
 
   served_known : (lines : List (List ℕ)) (text : List ℕ) → IsServed prompt (part_seen rules seat) lines text → IsServed prompt (part_in rules c n) lines text
-  served_known lines text s = (s.0, s.1, s.2 ∙ ap (λ (r : List Answer). dialogue prompt r s.0) replies_known, has_known s.0 s.3)
+  served_known lines text s = (s.0, s.1, s.2 ∙ ap (λ (r : List Answer). seat_dialogue prompt r s.0) replies_known, has_known s.0 s.3)
 
-  ends_known : (returned : Result (Unit {0}) PlayFault) (moves : List Move) → EndsAs prompt (part_seen rules seat) returned moves → EndsAs prompt (part_in rules c n) returned moves
+  ends_known : (returned : Result (Unit {0}) PlayFault) (moves : List Move) → SeatEndsAs prompt (part_seen rules seat) returned moves → SeatEndsAs prompt (part_in rules c n) returned moves
   ends_known (Ok done) moves e = record { served = served_known (lines_of (read_in moves)) (written_in moves) e.served; ended = e.ended }
   ends_known (Err fault.Read) moves e = (record { served = served_known (ended_lines (read_in moves)) (written_in moves) e.0.served; goes_on = e.0.goes_on }, e.1)
   ends_known (Err fault.Write) moves e = (
@@ -51,7 +51,7 @@ module _ (rules : Parts → Rules) (prompt : List ℕ) (c : Journaled) (seat : S
     others = e.others;
     begins = e.begins;
     one = e.one;
-    answered = (e.answered.0, e.answered.1, e.answered.2 ∙ ap (λ (r : List Answer). dialogue prompt r e.answered.0) replies_known);
+    answered = (e.answered.0, e.answered.1, e.answered.2 ∙ ap (λ (r : List Answer). seat_dialogue prompt r e.answered.0) replies_known);
     commands = (e.commands.0, e.commands.1, has_known e.commands.0 e.commands.2);
   }
   ends_known (Err (fault.Setup why)) moves e = e
@@ -59,8 +59,8 @@ module _ (rules : Parts → Rules) (prompt : List ℕ) (c : Journaled) (seat : S
   ends_known (Err (fault.ScriptTooLong script)) moves e = e
 
   -- a session by what the seat has seen is one by the final journal
-  pub session_known : (returned : Result (Unit {0}) PlayFault) (moves : List Move) → IsSession prompt (part_seen rules seat) returned moves → IsSession prompt (part_in rules c n) returned moves
+  pub session_known : (returned : Result (Unit {0}) PlayFault) (moves : List Move) → IsSeatSession prompt (part_seen rules seat) returned moves → IsSeatSession prompt (part_in rules c n) returned moves
   session_known returned moves s = record {
-    in_time = subst (λ (r : List Answer). AnswersInTime prompt r moves) replies_known s.in_time;
+    in_time = subst (λ (r : List Answer). SeatAnswersInTime prompt r moves) replies_known s.in_time;
     ends = ends_known returned moves s.ends;
   }

@@ -12,7 +12,7 @@ use Rattle.cdb_shared.specs.Seats.{SeatView, RestsAt, IsKnownBy, fresh_seat, fre
 use Rattle.cdb_hall.specs.Halls.{IsAttended, IsHall}
 use Rattle.cdb_hall.specs.Parts.{part_seen}
 use Rattle.cdb_hall.specs.Promises.{IsReady, HasAttended, AllAttended, AreOfLefts}
-use Rattle.cdb_hall.specs.Sessions.{IsSession}
+use Rattle.cdb_hall.specs.Sessions.{IsSeatSession}
 use Rattle.cdb_hall.specs.declared.station.Station.{Station}
 use Rattle.cdb_hall.specs.declared.station.Attended.{Attended}
 use Rattle.cdb_hall.specs.declared.worker.Left.{Left}
@@ -73,7 +73,7 @@ module _ {R T : Type 0} (rules : Parts → Rules) (known : T → Known) (shared 
         let is = gathered k nobody a left (omega (arith, many, low)) in
         let seat = get_or seats k nobody in
         let number : seat.number ≡ k + 1 = ap (λ (s : SeatView). s.number) is.0 ∙ its.later.number ∙ omega arith in
-        let session : IsSession station.prompt.now (part_seen rules seat) there.attended.outcome its.made = subst (λ (s : SeatView). IsSession station.prompt.now (part_seen rules s) there.attended.outcome its.made) (sym is.0) its.session in
+        let session : IsSeatSession station.prompt.now (part_seen rules seat) there.attended.outcome its.made = subst (λ (s : SeatView). IsSeatSession station.prompt.now (part_seen rules s) there.attended.outcome its.made) (sym is.0) its.session in
         subst (λ (its : Attended T). IsAttended rules known c (k + 1) station its) (sym is.1)
         (record { made = its.made; makes = its.makes; session = session_known rules station.prompt.now c seat (k + 1) number (by k nobody (omega (arith, long, many, low))) few there.attended.outcome its.made session })
 

@@ -25,11 +25,11 @@ use Rattle.cdb_rules.specs.Rules.{Rules}
 use Rattle.cdb_setup.specs.Parts.{Parts}
 use Rattle.cdb_shared.specs.Seats.{SeatView}
 use Rattle.cdb_shared.specs.Sessions.{calls_of}
-use Rattle.cdb_hall.specs.Dialogues.{Along, begun, after, shown, dialogue, IsDialogue}
-use Rattle.cdb_hall.specs.Held.{IsAt}
+use Rattle.cdb_hall.specs.Dialogues.{Along, begun_along, next_along, seat_shown, seat_dialogue, IsSeatDialogue}
+use Rattle.cdb_hall.specs.Held.{IsSeatAt}
 use Rattle.cdb_hall.specs.Parts.{Part, part_seen, HasCommands}
-use Rattle.cdb_hall.specs.Sessions.{IsAnswered, AnswersInTime, IsServed, IsSession}
-use Rattle.cdb_hall.proofs.Along.{along_after-more, dialogue-more}
+use Rattle.cdb_hall.specs.Sessions.{IsSeatAnswered, SeatAnswersInTime, IsServed, IsSeatSession}
+use Rattle.cdb_hall.proofs.Along.{along_after-more, seat_dialogue-more}
 
 -- what the seat has seen, with these replies
 abbrev pub part_with : List Answer → SeatView → Part
@@ -76,9 +76,9 @@ over_more moves made writes (inr most) =
     at_most (subst (λ bytes. most_input ≤ length bytes) (sym (read-append moves made ∙ ap (λ more. read_in moves ++ more) (nothing_read made writes) ∙ append-nil (read_in moves))) most)
 
 module _ (rules : Parts → Rules) (prompt : List ℕ) (replies : List Answer) where
-  module _ (moves : List Move) (seat : SeatView) (along : Along) (held left : List ℕ) (at : IsAt rules prompt replies moves seat along held left) where
+  module _ (moves : List Move) (seat : SeatView) (along : Along) (held left : List ℕ) (at : IsSeatAt rules prompt replies moves seat along held left) where
     -- bytes that end no line are held
-    pub more_held : (more behind kept : List ℕ) → left ≡ more ++ behind → HasNoEnd more → kept ≡ take (longest + 1) (held ++ more) → IsAt rules prompt replies moves seat along kept behind
+    pub more_held : (more behind kept : List ℕ) → left ≡ more ++ behind → HasNoEnd more → kept ≡ take (longest + 1) (held ++ more) → IsSeatAt rules prompt replies moves seat along kept behind
     more_held more behind kept cut none is =
         record {
           lines = at.lines;
@@ -105,11 +105,11 @@ module _ (rules : Parts → Rules) (prompt : List ℕ) (replies : List Answer) w
     asked_so_far : AreAsked at.requests at.lines
     asked_so_far = asked_all at.requests at.lines at.asked at.goes_on
 
-    answered_so_far : left ≡ [] → IsAnswered prompt replies moves
+    answered_so_far : left ≡ [] → IsSeatAnswered prompt replies moves
     answered_so_far none =
         let lines = lines_so_far none in
         record {
-          answered = subst (λ parts. IsDialogue prompt replies parts (written_in moves)) (sym lines) (at.requests, asked_so_far, at.written);
+          answered = subst (λ parts. IsSeatDialogue prompt replies parts (written_in moves)) (sym lines) (at.requests, asked_so_far, at.written);
           goes_on = subst (λ parts. ¬ HaveQuit parts) (sym lines) (have_none at.lines at.goes_on);
         }
 
@@ -118,7 +118,7 @@ module _ (rules : Parts → Rules) (prompt : List ℕ) (replies : List Answer) w
     lines_begin = ap lines_of at.read ∙ lines_of_joined at.lines (at.line ++ left) at.ended
 
     -- memory is out, and the journal has nothing of the next line, or its command too
-    pub lost_before : (new : SeatView) → HasCommands (part_seen rules new) at.requests → IsSession prompt (part_with replies new) (ended_by output.NoMemory) moves
+    pub lost_before : (new : SeatView) → HasCommands (part_seen rules new) at.requests → IsSeatSession prompt (part_with replies new) (ended_by output.NoMemory) moves
     lost_before new has =
         record {
           in_time = at.in_time;
@@ -134,7 +134,7 @@ module _ (rules : Parts → Rules) (prompt : List ℕ) (replies : List Answer) w
         }
 
     lost_behind : (new : SeatView) (request : Request) → Asks request at.line → (others : List (List ℕ)) → lines_of (read_in moves) ≡ (at.lines ++ at.line ∷ []) ++ others → HasCommands (part_seen rules new) (at.requests ++ request ∷ [])
-        → IsSession prompt (part_with replies new) (ended_by output.NoMemory) moves
+        → IsSeatSession prompt (part_with replies new) (ended_by output.NoMemory) moves
     lost_behind new request asks others begins has =
         record {
           in_time = at.in_time;
@@ -150,7 +150,7 @@ module _ (rules : Parts → Rules) (prompt : List ℕ) (replies : List Answer) w
         }
 
     -- more input is asked for
-    pub more_read : left ≡ [] → (bytes : List ℕ) → IsAt rules prompt replies (moves ++ Read bytes ∷ []) seat along held bytes
+    pub more_read : left ≡ [] → (bytes : List ℕ) → IsSeatAt rules prompt replies (moves ++ Read bytes ∷ []) seat along held bytes
     more_read none bytes =
         record {
           lines = at.lines;
@@ -168,18 +168,18 @@ module _ (rules : Parts → Rules) (prompt : List ℕ) (replies : List Answer) w
           written = written-append moves (Read bytes ∷ []) ∙ append-nil (written_in moves) ∙ at.written;
           along_is = at.along_is;
           few = omega (arith, at.few, ap length (read-append moves (Read bytes ∷ [])), length-append (read_in moves) (bytes ++ []), ap length (append-nil bytes));
-          in_time = one_move (IsAnswered prompt replies) moves (Read bytes) at.in_time (λ asks. answered_so_far none);
+          in_time = one_move (IsSeatAnswered prompt replies) moves (Read bytes) at.in_time (λ asks. answered_so_far none);
           commands = at.commands;
         }
 
-    pub read_failed : left ≡ [] → let outcome : Result (Unit {0}) PlayFault = Err fault.Read in IsSession prompt (part_with replies seat) outcome (moves ++ ReadFailed ∷ [])
+    pub read_failed : left ≡ [] → let outcome : Result (Unit {0}) PlayFault = Err fault.Read in IsSeatSession prompt (part_with replies seat) outcome (moves ++ ReadFailed ∷ [])
     read_failed none =
         let lines = lines_so_far none in
         let same_read : read_in (moves ++ ReadFailed ∷ []) ≡ read_in moves = read-append moves (ReadFailed ∷ []) ∙ append-nil (read_in moves) in
         let same_written : written_in (moves ++ ReadFailed ∷ []) ≡ written_in moves = written-append moves (ReadFailed ∷ []) ∙ append-nil (written_in moves) in
         let same_lines = ap ended_lines same_read ∙ lines in
         record {
-          in_time = one_move (IsAnswered prompt replies) moves ReadFailed at.in_time (λ asks. answered_so_far none);
+          in_time = one_move (IsSeatAnswered prompt replies) moves ReadFailed at.in_time (λ asks. answered_so_far none);
           ends = (
             record {
               served = subst (λ parts. IsServed prompt (part_with replies seat) parts (written_in (moves ++ ReadFailed ∷ []))) (sym same_lines) (at.requests, asked_so_far, same_written ∙ at.written, at.commands);
@@ -190,27 +190,27 @@ module _ (rules : Parts → Rules) (prompt : List ℕ) (replies : List Answer) w
         }
 
   -- what was written once one line more is answered, or the beginning of its answer
-  module _ (moves : List Move) (seat : SeatView) (along : Along) (held left : List ℕ) (at : IsAt rules prompt replies moves seat along held left) (request : Request) (asks : Asks request held) (made : List Move) (writes : AreWrites made) where
+  module _ (moves : List Move) (seat : SeatView) (along : Along) (held left : List ℕ) (at : IsSeatAt rules prompt replies moves seat along held left) (request : Request) (asks : Asks request held) (made : List Move) (writes : AreWrites made) where
     whole_line : Asks request at.line
     whole_line = asks_whole request at.line (subst (Asks request) at.held_is asks)
 
     same_read : read_in (moves ++ made) ≡ read_in moves
     same_read = read-append moves made ∙ ap (λ more. read_in moves ++ more) (nothing_read made writes) ∙ append-nil (read_in moves)
 
-    text_before : written_in moves ++ shown prompt along request ≡ dialogue prompt replies (at.requests ++ request ∷ [])
+    text_before : written_in moves ++ seat_shown prompt along request ≡ seat_dialogue prompt replies (at.requests ++ request ∷ [])
     text_before =
-        ap (λ text. text ++ shown prompt along request) at.written ∙ ap (λ s. dialogue prompt replies at.requests ++ shown prompt s request) at.along_is
-        ∙ sym (dialogue-more prompt replies at.requests request)
+        ap (λ text. text ++ seat_shown prompt along request) at.written ∙ ap (λ s. seat_dialogue prompt replies at.requests ++ seat_shown prompt s request) at.along_is
+        ∙ sym (seat_dialogue-more prompt replies at.requests request)
 
-    text_now : written_in made ≡ shown prompt along request → written_in (moves ++ made) ≡ dialogue prompt replies (at.requests ++ request ∷ [])
+    text_now : written_in made ≡ seat_shown prompt along request → written_in (moves ++ made) ≡ seat_dialogue prompt replies (at.requests ++ request ∷ [])
     text_now said = written-append moves made ∙ ap (λ text. written_in moves ++ text) said ∙ text_before
 
-    still_in_time : AnswersInTime prompt replies (moves ++ made)
-    still_in_time = writes_more (IsAnswered prompt replies) moves made at.in_time writes
+    still_in_time : SeatAnswersInTime prompt replies (moves ++ made)
+    still_in_time = writes_more (IsSeatAnswered prompt replies) moves made at.in_time writes
 
     -- the writing failed
-    broken : (others : List (List ℕ)) → lines_of (read_in moves) ≡ (at.lines ++ at.line ∷ []) ++ others → (missing : List ℕ) → shown prompt along request ≡ written_in made ++ missing → EndsWith FailsToWrite made
-        → (new : SeatView) → HasCommands (part_seen rules new) (at.requests ++ request ∷ []) → IsSession prompt (part_with replies new) (ended_by output.Write) (moves ++ made)
+    broken : (others : List (List ℕ)) → lines_of (read_in moves) ≡ (at.lines ++ at.line ∷ []) ++ others → (missing : List ℕ) → seat_shown prompt along request ≡ written_in made ++ missing → EndsWith FailsToWrite made
+        → (new : SeatView) → HasCommands (part_seen rules new) (at.requests ++ request ∷ []) → IsSeatSession prompt (part_with replies new) (ended_by output.Write) (moves ++ made)
     broken others begins missing said fails new has =
         record {
           in_time = still_in_time;
@@ -218,7 +218,7 @@ module _ (rules : Parts → Rules) (prompt : List ℕ) (replies : List Answer) w
             record {
               lines = at.lines ++ at.line ∷ [];
               others = others;
-              text = dialogue prompt replies (at.requests ++ request ∷ []);
+              text = seat_dialogue prompt replies (at.requests ++ request ∷ []);
               missing = missing;
               begins = ap lines_of same_read ∙ begins;
               served = (at.requests ++ request ∷ [], asked_with at.requests at.lines request at.line at.asked at.goes_on whole_line, refl, has);
@@ -231,7 +231,7 @@ module _ (rules : Parts → Rules) (prompt : List ℕ) (replies : List Answer) w
         }
 
   -- a line has ended
-  module _ (moves : List Move) (seat : SeatView) (along : Along) (held left : List ℕ) (at : IsAt rules prompt replies moves seat along held (10 ∷ left)) (request : Request) (asks : Asks request held) (new : SeatView) where
+  module _ (moves : List Move) (seat : SeatView) (along : Along) (held left : List ℕ) (at : IsSeatAt rules prompt replies moves seat along held (10 ∷ left)) (request : Request) (asks : Asks request held) (new : SeatView) where
     now_read : read_in moves ≡ joined (at.lines ++ at.line ∷ []) ++ left
     now_read =
         at.read
@@ -244,16 +244,16 @@ module _ (rules : Parts → Rules) (prompt : List ℕ) (replies : List Answer) w
     now_lines = ap lines_of now_read ∙ lines_of_joined (at.lines ++ at.line ∷ []) left now_ended
 
     -- memory is out
-    pub line_lost : HasCommands (part_seen rules new) at.requests ⊎ HasCommands (part_seen rules new) (at.requests ++ request ∷ []) → IsSession prompt (part_with replies new) (ended_by output.NoMemory) moves
+    pub line_lost : HasCommands (part_seen rules new) at.requests ⊎ HasCommands (part_seen rules new) (at.requests ++ request ∷ []) → IsSeatSession prompt (part_with replies new) (ended_by output.NoMemory) moves
     line_lost (inl has) = lost_before moves seat along held (10 ∷ left) at new has
     line_lost (inr has) = lost_behind moves seat along held (10 ∷ left) at new request (whole_line moves seat along held (10 ∷ left) at request asks [] tt) (lines_of left) now_lines has
 
     module _ (has : HasCommands (part_seen rules new) (at.requests ++ request ∷ [])) (made : List Move) (writes : AreWrites made) where
-      pub line_broken : (missing : List ℕ) → shown prompt along request ≡ written_in made ++ missing → EndsWith FailsToWrite made → IsSession prompt (part_with replies new) (ended_by output.Write) (moves ++ made)
+      pub line_broken : (missing : List ℕ) → seat_shown prompt along request ≡ written_in made ++ missing → EndsWith FailsToWrite made → IsSeatSession prompt (part_with replies new) (ended_by output.Write) (moves ++ made)
       line_broken missing said fails = broken moves seat along held (10 ∷ left) at request asks made writes (lines_of left) now_lines missing said fails new has
 
       -- it was another line than `quit`
-      pub line_answered : (next : Along) (kept : List ℕ) → written_in made ≡ shown prompt along request → next ≡ after along request → next.lines ≡ along.lines + 1 → kept ≡ [] → request ≢ Quit → IsAt rules prompt replies (moves ++ made) new next kept left
+      pub line_answered : (next : Along) (kept : List ℕ) → written_in made ≡ seat_shown prompt along request → next ≡ next_along along request → next.lines ≡ along.lines + 1 → kept ≡ [] → request ≢ Quit → IsSeatAt rules prompt replies (moves ++ made) new next kept left
       line_answered next kept said is one emptied other =
           let asked : Asks request at.line = whole_line moves seat along held (10 ∷ left) at request asks made writes in
           let read : read_in (moves ++ made) ≡ read_in moves = same_read moves seat along held (10 ∷ left) at request asks made writes in
@@ -268,14 +268,14 @@ module _ (rules : Parts → Rules) (prompt : List ℕ) (replies : List Answer) w
             asked = AllZip-more at.requests at.lines request at.line at.asked asked;
             goes_on = AreOthers-more at.lines at.line at.goes_on (is_not_quit request at.line asked other);
             written = text_now moves seat along held (10 ∷ left) at request asks made writes said;
-            along_is = is ∙ ap (λ s. after s request) at.along_is ∙ sym (along_after-more (begun replies) at.requests request);
+            along_is = is ∙ ap (λ s. next_along s request) at.along_is ∙ sym (along_after-more (begun_along replies) at.requests request);
             few = omega (arith, at.few, ap length read, one);
             in_time = still_in_time moves seat along held (10 ∷ left) at request asks made writes;
             commands = has;
           }
 
       -- it was `quit`
-      pub line_quit : written_in made ≡ shown prompt along request → request ≡ Quit → IsSession prompt (part_with replies new) ended_well (moves ++ made)
+      pub line_quit : written_in made ≡ seat_shown prompt along request → request ≡ Quit → IsSeatSession prompt (part_with replies new) ended_well (moves ++ made)
       line_quit said is_quit =
           let asked : Asks Quit at.line = subst (λ r. Asks r at.line) is_quit (whole_line moves seat along held (10 ∷ left) at request asks made writes) in
           let read : read_in (moves ++ made) ≡ read_in moves = same_read moves seat along held (10 ∷ left) at request asks made writes in
@@ -283,8 +283,8 @@ module _ (rules : Parts → Rules) (prompt : List ℕ) (replies : List Answer) w
           let ended : ended_lines (read_in (moves ++ made)) ≡ at.lines ++ quit_line ∷ ended_lines left =
           ap ended_lines (read ∙ now_read) ∙ ended_and_more (at.lines ++ at.line ∷ []) left now_ended
           ∙ append_assoc at.lines (at.line ∷ []) (ended_lines left) ∙ ap (λ line. at.lines ++ line ∷ ended_lines left) asked.1 in
-          let text : written_in (moves ++ made) ≡ dialogue prompt replies (at.requests ++ Quit ∷ []) =
-          text_now moves seat along held (10 ∷ left) at request asks made writes said ∙ ap (λ r. dialogue prompt replies (at.requests ++ r ∷ [])) is_quit in
+          let text : written_in (moves ++ made) ≡ seat_dialogue prompt replies (at.requests ++ Quit ∷ []) =
+          text_now moves seat along held (10 ∷ left) at request asks made writes said ∙ ap (λ r. seat_dialogue prompt replies (at.requests ++ r ∷ [])) is_quit in
           record {
             in_time = still_in_time moves seat along held (10 ∷ left) at request asks made writes;
             ends = record {
@@ -296,7 +296,7 @@ module _ (rules : Parts → Rules) (prompt : List ℕ) (replies : List Answer) w
           }
 
   -- there is no more input
-  module _ (moves : List Move) (seat : SeatView) (along : Along) (held : List ℕ) (at : IsAt rules prompt replies moves seat along held []) (over : IsOver moves) where
+  module _ (moves : List Move) (seat : SeatView) (along : Along) (held : List ℕ) (at : IsSeatAt rules prompt replies moves seat along held []) (over : IsOver moves) where
     last_lines : 0 < length held → lines_of (read_in moves) ≡ at.lines ++ at.line ∷ []
     last_lines some =
         let some_line : 0 < length at.line = omega (arith, some, ap length at.held_is, length-take (longest + 1) at.line) in
@@ -304,15 +304,15 @@ module _ (rules : Parts → Rules) (prompt : List ℕ) (replies : List Answer) w
 
     -- a last line without its end
     module _ (some : 0 < length held) (request : Request) (asks : Asks request held) (new : SeatView) where
-      pub last_lost : HasCommands (part_seen rules new) at.requests ⊎ HasCommands (part_seen rules new) (at.requests ++ request ∷ []) → IsSession prompt (part_with replies new) (ended_by output.NoMemory) moves
+      pub last_lost : HasCommands (part_seen rules new) at.requests ⊎ HasCommands (part_seen rules new) (at.requests ++ request ∷ []) → IsSeatSession prompt (part_with replies new) (ended_by output.NoMemory) moves
       last_lost (inl has) = lost_before moves seat along held [] at new has
       last_lost (inr has) = lost_behind moves seat along held [] at new request (whole_line moves seat along held [] at request asks [] tt) [] (last_lines some ∙ sym (append-nil (at.lines ++ at.line ∷ []))) has
 
       module _ (has : HasCommands (part_seen rules new) (at.requests ++ request ∷ [])) (made : List Move) (writes : AreWrites made) where
-        pub last_broken : (missing : List ℕ) → shown prompt along request ≡ written_in made ++ missing → EndsWith FailsToWrite made → IsSession prompt (part_with replies new) (ended_by output.Write) (moves ++ made)
+        pub last_broken : (missing : List ℕ) → seat_shown prompt along request ≡ written_in made ++ missing → EndsWith FailsToWrite made → IsSeatSession prompt (part_with replies new) (ended_by output.Write) (moves ++ made)
         last_broken missing said fails = broken moves seat along held [] at request asks made writes [] (last_lines some ∙ sym (append-nil (at.lines ++ at.line ∷ []))) missing said fails new has
 
-        pub last_answered : written_in made ≡ shown prompt along request → IsSession prompt (part_with replies new) ended_well (moves ++ made)
+        pub last_answered : written_in made ≡ seat_shown prompt along request → IsSeatSession prompt (part_with replies new) ended_well (moves ++ made)
         last_answered said =
             let read : read_in (moves ++ made) ≡ read_in moves = same_read moves seat along held [] at request asks made writes in
             let lines : lines_of (read_in (moves ++ made)) ≡ at.lines ++ at.line ∷ [] = ap lines_of read ∙ last_lines some in
@@ -328,7 +328,7 @@ module _ (rules : Parts → Rules) (prompt : List ℕ) (replies : List Answer) w
             }
 
     -- or none
-    pub no_last_line : length held ≡ 0 → IsSession prompt (part_with replies seat) ended_well moves
+    pub no_last_line : length held ≡ 0 → IsSeatSession prompt (part_with replies seat) ended_well moves
     no_last_line none =
         let no_line : at.line ≡ [] = nil_from_length at.line (omega (arith, none, ap length at.held_is, length-take (longest + 1) at.line)) in
         let lines : lines_of (read_in moves) ≡ at.lines =
@@ -344,7 +344,7 @@ module _ (rules : Parts → Rules) (prompt : List ℕ) (replies : List Answer) w
   -- ---- before the first line
 
   module _ (seat : SeatView) (new : calls_of seat ≡ []) (made : List Move) (writes : AreWrites made) where
-    pub prompted : written_in made ≡ prompt → IsAt rules prompt replies made seat (begun replies) [] []
+    pub prompted : written_in made ≡ prompt → IsSeatAt rules prompt replies made seat (begun_along replies) [] []
     prompted said =
         record {
           lines = [];
@@ -359,19 +359,19 @@ module _ (rules : Parts → Rules) (prompt : List ℕ) (replies : List Answer) w
           written = said ∙ sym (append-nil prompt);
           along_is = refl;
           few = omega (arith, ap length (nothing_read made writes));
-          in_time = writes_more (IsAnswered prompt replies) [] made (nothing_asked (IsAnswered prompt replies)) writes;
+          in_time = writes_more (IsSeatAnswered prompt replies) [] made (nothing_asked (IsSeatAnswered prompt replies)) writes;
           commands = inl new;
         }
 
-    pub not_prompted : (missing : List ℕ) → prompt ≡ written_in made ++ missing → EndsWith FailsToWrite made → IsSession prompt (part_with replies seat) (ended_by output.Write) made
+    pub not_prompted : (missing : List ℕ) → prompt ≡ written_in made ++ missing → EndsWith FailsToWrite made → IsSeatSession prompt (part_with replies seat) (ended_by output.Write) made
     not_prompted missing said fails =
         record {
-          in_time = writes_more (IsAnswered prompt replies) [] made (nothing_asked (IsAnswered prompt replies)) writes;
+          in_time = writes_more (IsSeatAnswered prompt replies) [] made (nothing_asked (IsSeatAnswered prompt replies)) writes;
           ends = (
             record {
               lines = [];
               others = lines_of (read_in made);
-              text = dialogue prompt replies [];
+              text = seat_dialogue prompt replies [];
               missing = missing;
               begins = refl;
               served = ([], tt, refl, inl new);

@@ -15,8 +15,8 @@ pub record Along : Type 0 where
   pub lines : ℕ
 
 -- before the first line of a seat whose commands get these replies
-abbrev pub begun : List Answer → Along
-begun replies = record { replies = replies; lines = 0 }
+abbrev pub begun_along : List Answer → Along
+begun_along replies = record { replies = replies; lines = 0 }
 
 -- A command has the text of its reply. Where the replies have ended, the journal is full.
 abbrev pub reply_text : List Answer → List ℕ
@@ -29,13 +29,13 @@ next_replies [] = []
 next_replies (reply ∷ replies) = replies
 
 -- The answer to what a line asks for. Each seat has its own lines, so one that chooses a seat has a wrong word.
-abbrev pub answer_to : Along → Request → List ℕ
-answer_to s (Call command) = reply_text s.replies
-answer_to s (Seat seat) = fault_text (s.lines + 1) Word
-answer_to s Help = HELP.now
-answer_to s Quit = []
-answer_to s (Fault fault) = fault_text (s.lines + 1) fault
-answer_to s TooLong = too_long_text (s.lines + 1)
+abbrev pub seat_answer : Along → Request → List ℕ
+seat_answer s (Call command) = reply_text s.replies
+seat_answer s (Seat seat) = fault_text (s.lines + 1) Word
+seat_answer s Help = HELP.now
+seat_answer s Quit = []
+seat_answer s (Fault fault) = fault_text (s.lines + 1) fault
+seat_answer s TooLong = too_long_text (s.lines + 1)
 
 -- the replies that are left then
 abbrev pub replies_after : Along → Request → List Answer
@@ -47,8 +47,8 @@ replies_after s (Fault fault) = s.replies
 replies_after s TooLong = s.replies
 
 -- the seat after a line that asks for this
-abbrev pub after : Along → Request → Along
-after s request = record { replies = replies_after s request; lines = s.lines + 1 }
+abbrev pub next_along : Along → Request → Along
+next_along s request = record { replies = replies_after s request; lines = s.lines + 1 }
 
 -- ---- all lines
 
@@ -58,22 +58,22 @@ module _ (prompt : List ℕ) where
   prompt_after Quit = []
   prompt_after request = prompt
 
-  abbrev pub shown : Along → Request → List ℕ
-  shown s request = answer_to s request ++ prompt_after request
+  abbrev pub seat_shown : Along → Request → List ℕ
+  seat_shown s request = seat_answer s request ++ prompt_after request
 
-  abbrev pub shown_from : Along → List Request → List ℕ
-  shown_from s [] = []
-  shown_from s (request ∷ requests) = shown s request ++ shown_from (after s request) requests
+  abbrev pub seat_shown_from : Along → List Request → List ℕ
+  seat_shown_from s [] = []
+  seat_shown_from s (request ∷ requests) = seat_shown s request ++ seat_shown_from (next_along s request) requests
 
   -- all that is shown to a seat whose commands get these replies, and whose lines ask for this
-  abbrev pub dialogue : List Answer → List Request → List ℕ
-  dialogue replies requests = prompt ++ shown_from (begun replies) requests
+  abbrev pub seat_dialogue : List Answer → List Request → List ℕ
+  seat_dialogue replies requests = prompt ++ seat_shown_from (begun_along replies) requests
 
   -- the text is what is shown to a seat with these replies and lines, of which it answers those up to `quit`
-  abbrev pub IsDialogue : List Answer → List (List ℕ) → List ℕ → Type 0
-  IsDialogue replies lines text =
-      (requests : List Request) × AreAsked requests lines × (text ≡ dialogue replies requests)
+  abbrev pub IsSeatDialogue : List Answer → List (List ℕ) → List ℕ → Type 0
+  IsSeatDialogue replies lines text =
+      (requests : List Request) × AreAsked requests lines × (text ≡ seat_dialogue replies requests)
 
 -- the seat after these requests
 abbrev pub along_after : Along → List Request → Along
-along_after s requests = fold after s requests
+along_after s requests = fold next_along s requests

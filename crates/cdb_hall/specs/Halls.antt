@@ -8,7 +8,7 @@ use Rattle.cdb_rules.specs.Rules.{Rules}
 use Rattle.cdb_setup.specs.Parts.{Parts}
 use Rattle.cdb_text.specs.Grammar.{printed}
 use Rattle.cdb_hall.specs.Parts.{part_in}
-use Rattle.cdb_hall.specs.Sessions.{IsSession}
+use Rattle.cdb_hall.specs.Sessions.{IsSeatSession}
 use Rattle.cdb_hall.specs.declared.station.Station.{Station}
 use Rattle.cdb_hall.specs.declared.station.Attended.{Attended}
 
@@ -16,7 +16,7 @@ use Rattle.cdb_hall.specs.declared.station.Attended.{Attended}
 pub record IsAttended {T : Type 0} (rules : Parts → Rules) (known : T → Known) (c : Journaled) (seat : ℕ) (station : Station T) (attended : Attended T) : Type 0 where
   pub made : List Move
   pub makes : Makes (known station.talk) (known attended.talk) made
-  pub session : IsSession station.prompt.now (part_in rules c seat) attended.outcome made
+  pub session : IsSeatSession station.prompt.now (part_in rules c seat) attended.outcome made
 
 -- One journal explains what all seats were answered: each talk is that of its seat, and no entry is of another.
 pub record IsHall {T : Type 0} (rules : Parts → Rules) (known : T → Known) (setup : Parts) (stations : List (Station T)) (c : Journaled) (attended : List (Attended T)) : Type 0 where

@@ -12,10 +12,10 @@ use Rattle.cdb_play.specs.declared.buffer.OutputFault.TheVariants as output
 use Rattle.cdb_play.specs.declared.fault.PlayFault.{PlayFault}
 use Rattle.cdb_shared.specs.Seats.{SeatView, SeesFull}
 use Rattle.cdb_shared.specs.Sessions.{replies_to}
-use Rattle.cdb_hall.specs.Dialogues.{Along, begun, along_after, shown, dialogue}
-use Rattle.cdb_hall.specs.Lines.{Session, HasDone, MayHaveDone, at_line}
+use Rattle.cdb_hall.specs.Dialogues.{Along, begun_along, along_after, seat_shown, seat_dialogue}
+use Rattle.cdb_hall.specs.Lines.{SeatSession, HasDone, MayHaveDone, at_line}
 use Rattle.cdb_hall.specs.Parts.{part_seen, HasCommands}
-use Rattle.cdb_hall.specs.Sessions.{AnswersInTime, IsSession}
+use Rattle.cdb_hall.specs.Sessions.{SeatAnswersInTime, IsSeatSession}
 use Rattle.cdb_rules.specs.Rules.{Rules}
 use Rattle.cdb_setup.specs.Parts.{Parts}
 
@@ -26,7 +26,7 @@ MayFollow more seat = SeesFull seat → more ≡ []
 module _ (rules : Parts → Rules) where
   -- After these moves the lines that have ended are answered, with these of the seat's replies. Of the next line this much is
   -- held, and these bytes that were read are not yet looked at.
-  pub record IsAt (prompt : List ℕ) (replies : List Answer) (moves : List Move) (seat : SeatView) (along : Along) (held left : List ℕ) : Type 0 where
+  pub record IsSeatAt (prompt : List ℕ) (replies : List Answer) (moves : List Move) (seat : SeatView) (along : Along) (held left : List ℕ) : Type 0 where
     pub lines : List (List ℕ)
     pub line : List ℕ
     pub requests : List Request
@@ -36,81 +36,81 @@ module _ (rules : Parts → Rules) where
     pub held_is : held ≡ held_of line
     pub asked : AllZip Asks requests lines
     pub goes_on : AllByRecursion (λ line. ¬ (line ≡ quit_line)) lines
-    pub written : written_in moves ≡ dialogue prompt replies requests
-    pub along_is : along ≡ along_after (begun replies) requests
+    pub written : written_in moves ≡ seat_dialogue prompt replies requests
+    pub along_is : along ≡ along_after (begun_along replies) requests
     pub few : along.lines + length left ≤ length (read_in moves)
-    pub in_time : AnswersInTime prompt replies moves
+    pub in_time : SeatAnswersInTime prompt replies moves
     pub commands : HasCommands (part_seen rules seat) requests
 
   -- so it is whatever replies will follow
-  abbrev pub StandsAt : List ℕ → List Move → Session → List ℕ → List ℕ → Type 0
+  abbrev pub StandsAt : List ℕ → List Move → SeatSession → List ℕ → List ℕ → Type 0
   StandsAt prompt moves session held left =
       (more : List Answer) → MayFollow more session.seat
-      → IsAt prompt (replies_to rules session.seat ++ more) moves session.seat (at_line session more) held left
+      → IsSeatAt prompt (replies_to rules session.seat ++ more) moves session.seat (at_line session more) held left
 
   -- what a held line asks for was done and answered; it was `quit` where this is true
-  pub record IsLineDone (prompt : List ℕ) (old new : Session) (held left : List ℕ) (stops : Bool) (made : List Move) : Type 0 where
+  pub record IsSeatLineDone (prompt : List ℕ) (old new : SeatSession) (held left : List ℕ) (stops : Bool) (made : List Move) : Type 0 where
     pub request : Request
     pub asks : Asks request held
     pub writes : AreWrites made
     pub got : List Answer
     pub done : HasDone rules old.seat request got new.seat
-    pub said : written_in made ≡ shown prompt (at_line old got) request
+    pub said : written_in made ≡ seat_shown prompt (at_line old got) request
     pub lines : new.lines ≡ old.lines + 1
     pub emptied : left ≡ []
     pub stopped : IsTrue stops ↔ (request ≡ Quit)
 
   -- a beginning of the answer was written
-  pub record IsLineBroken (prompt : List ℕ) (old new : Session) (held : List ℕ) (made : List Move) : Type 0 where
+  pub record IsSeatLineBroken (prompt : List ℕ) (old new : SeatSession) (held : List ℕ) (made : List Move) : Type 0 where
     pub request : Request
     pub asks : Asks request held
     pub writes : AreWrites made
     pub got : List Answer
     pub done : HasDone rules old.seat request got new.seat
     pub missing : List ℕ
-    pub said : shown prompt (at_line old got) request ≡ written_in made ++ missing
+    pub said : seat_shown prompt (at_line old got) request ≡ written_in made ++ missing
     pub fails : EndsWith FailsToWrite made
 
   -- nothing of it was written, and memory is out
-  pub record IsLineLost (old new : Session) (held : List ℕ) (made : List Move) : Type 0 where
+  pub record IsLineLost (old new : SeatSession) (held : List ℕ) (made : List Move) : Type 0 where
     pub request : Request
     pub asks : Asks request held
     pub got : List Answer
     pub done : MayHaveDone rules old.seat request got new.seat
     pub none : made ≡ []
 
-  abbrev pub AnswersAs : Result Bool OutputFault → List ℕ → Session → Session → List ℕ → List ℕ → List Move → Type 0
-  AnswersAs (Ok stops) prompt old new held left made = IsLineDone prompt old new held left stops made
-  AnswersAs (Err output.Write) prompt old new held left made = IsLineBroken prompt old new held made
-  AnswersAs (Err output.NoMemory) prompt old new held left made = IsLineLost old new held made
+  abbrev pub SeatAnswersAs : Result Bool OutputFault → List ℕ → SeatSession → SeatSession → List ℕ → List ℕ → List Move → Type 0
+  SeatAnswersAs (Ok stops) prompt old new held left made = IsSeatLineDone prompt old new held left stops made
+  SeatAnswersAs (Err output.Write) prompt old new held left made = IsSeatLineBroken prompt old new held made
+  SeatAnswersAs (Err output.NoMemory) prompt old new held left made = IsLineLost old new held made
 
   -- a held line was answered
-  abbrev pub AnswersHeld : Result Bool OutputFault → Known → Known → List ℕ → Session → Session → List ℕ → List ℕ → Type 0
-  AnswersHeld result before behind prompt old new held left =
-      (made : List Move) × Makes before behind made × AnswersAs result prompt old new held left made
+  abbrev pub SeatAnswersHeld : Result Bool OutputFault → Known → Known → List ℕ → SeatSession → SeatSession → List ℕ → List ℕ → Type 0
+  SeatAnswersHeld result before behind prompt old new held left =
+      (made : List Move) × Makes before behind made × SeatAnswersAs result prompt old new held left made
 
   -- the session has ended, and returns this
-  abbrev pub HasEndedAs : Result (Unit {0}) PlayFault → List ℕ → List Move → Session → Type 0
-  HasEndedAs returned prompt moves session = IsSession prompt (part_seen rules session.seat) returned moves
+  abbrev pub HasEndedAs : Result (Unit {0}) PlayFault → List ℕ → List Move → SeatSession → Type 0
+  HasEndedAs returned prompt moves session = IsSeatSession prompt (part_seen rules session.seat) returned moves
 
   -- where a session stands that was at some bytes to be looked at: behind them, or at its end
-  abbrev pub StandsAs : Result Bool OutputFault → List ℕ → List Move → Session → List ℕ → Type 0
-  StandsAs (Ok false) prompt moves session held = StandsAt prompt moves session held []
-  StandsAs (Ok true) prompt moves session held = HasEndedAs ended_well prompt moves session
-  StandsAs (Err fault) prompt moves session held = HasEndedAs (ended_by fault) prompt moves session
+  abbrev pub SeatStandsAs : Result Bool OutputFault → List ℕ → List Move → SeatSession → List ℕ → Type 0
+  SeatStandsAs (Ok false) prompt moves session held = StandsAt prompt moves session held []
+  SeatStandsAs (Ok true) prompt moves session held = HasEndedAs ended_well prompt moves session
+  SeatStandsAs (Err fault) prompt moves session held = HasEndedAs (ended_by fault) prompt moves session
 
   -- the bytes were looked at
-  abbrev pub Hears : Result Bool OutputFault → Known → Known → List ℕ → Session → Session → List ℕ → List ℕ → List ℕ → Type 0
-  Hears result before behind prompt old new held left bytes =
+  abbrev pub SeatHears : Result Bool OutputFault → Known → Known → List ℕ → SeatSession → SeatSession → List ℕ → List ℕ → List ℕ → Type 0
+  SeatHears result before behind prompt old new held left bytes =
       (moves : List Move) → StandsAt prompt moves old held bytes
-      → (made : List Move) × Makes before behind made × AreWrites made × StandsAs result prompt (moves ++ made) new left
+      → (made : List Move) × Makes before behind made × AreWrites made × SeatStandsAs result prompt (moves ++ made) new left
 
   -- a last line that has not ended was answered
-  abbrev pub AnswersLast : Result (Unit {0}) PlayFault → Known → Known → List ℕ → Session → Session → List ℕ → Type 0
-  AnswersLast result before behind prompt old new held =
+  abbrev pub SeatAnswersLast : Result (Unit {0}) PlayFault → Known → Known → List ℕ → SeatSession → SeatSession → List ℕ → Type 0
+  SeatAnswersLast result before behind prompt old new held =
       (moves : List Move) → StandsAt prompt moves old held [] → IsOver moves
       → (made : List Move) × Makes before behind made × HasEndedAs result prompt (moves ++ made) new
 
   -- all was answered from the first line on
-  abbrev pub Converses : Result (Unit {0}) PlayFault → Known → Known → List ℕ → Session → Type 0
-  Converses result before behind prompt new = (made : List Move) × Makes before behind made × HasEndedAs result prompt made new
+  abbrev pub SeatConverses : Result (Unit {0}) PlayFault → Known → Known → List ℕ → SeatSession → Type 0
+  SeatConverses result before behind prompt new = (made : List Move) × Makes before behind made × HasEndedAs result prompt made new

@@ -10,7 +10,7 @@ use Rattle.cdb_setup.specs.Format.{Encodes}
 use Rattle.cdb_setup.specs.Order.{IsFirstFault}
 use Rattle.cdb_setup.specs.Parts.{Parts}
 use Rattle.cdb_hall.specs.Halls.{IsHall, journal_text}
-use Rattle.cdb_hall.specs.Reports.{outcomes, failures_text, status_of, IsPut}
+use Rattle.cdb_hall.specs.Reports.{outcomes, failures_text, status_of, HallWrites}
 use Rattle.cdb_hall.specs.declared.station.Station.{Station}
 use Rattle.cdb_hall.specs.declared.station.Attended.{Attended}
 
@@ -23,9 +23,9 @@ pub record Holds {T O E : Type 0} (rules : Parts → Rules) (known : T → Known
   pub attended : List (Attended T)
   pub hall : IsHall rules known setup stations control attended
   pub written : Result (Unit {0}) PlayFault
-  pub journal : IsPut contents failures written output output_after (journal_text control.journal)
+  pub journal : HallWrites contents failures written output output_after (journal_text control.journal)
   pub told : Result (Unit {0}) PlayFault
-  pub lines : IsPut told_contents told_failures told error error_after (failures_text written (outcomes attended))
+  pub lines : HallWrites told_contents told_failures told error error_after (failures_text written (outcomes attended))
   pub status_is : status ≡ status_of written (outcomes attended)
 
 -- the faults of memory and threads

@@ -10,17 +10,17 @@ use Rattle.cdb_debug.specs.declared.request.Request.TheVariants.{Call, Seat, Hel
 use Rattle.cdb_text.specs.declared.fault.LineFault.TheVariants.{Word}
 use Rattle.cdb_hall.specs.declared.help.TheConstants.{HELP}
 use Rattle.cdb_shared.specs.Seats.{SeatView, IsLater, IsCall, SameCalls, SeesFull}
-use Rattle.cdb_hall.specs.Dialogues.{Along, answer_to, shown}
+use Rattle.cdb_hall.specs.Dialogues.{Along, seat_answer, seat_shown}
 use Rattle.cdb_rules.specs.Rules.{Rules}
 use Rattle.cdb_setup.specs.Parts.{Parts}
 
 -- A seat's session between two lines: the seat, and how many lines there were.
-pub record Session : Type 0 where
+pub record SeatSession : Type 0 where
   pub seat : SeatView
   pub lines : ℕ
 
 -- a session that got these replies at its next line
-abbrev pub at_line : Session → List Answer → Along
+abbrev pub at_line : SeatSession → List Answer → Along
 at_line session got = record { replies = got; lines = session.lines }
 
 -- the answer to a line that asks for no command, after this many lines
@@ -56,13 +56,13 @@ module _ (rules : Parts → Rules) where
     pub calls : HasGot old request got new
 
   -- the answer to a line that asks for this
-  abbrev pub Answers : {E : Type 0} → Result (Vec ℕ Global) E → Session → Request → Session → Type 0
+  abbrev pub Answers : {E : Type 0} → Result (Vec ℕ Global) E → SeatSession → Request → SeatSession → Type 0
   Answers (Ok text) old request new =
-      (got : List Answer) × HasDone old.seat request got new.seat × (text.items ≡ answer_to (at_line old got) request)
+      (got : List Answer) × HasDone old.seat request got new.seat × (text.items ≡ seat_answer (at_line old got) request)
   Answers (Err fault) old request new = (got : List Answer) × MayHaveDone old.seat request got new.seat
 
   -- what is shown then
-  abbrev pub Shows : {E : Type 0} → List ℕ → Result (Vec ℕ Global) E → Session → Request → Session → Type 0
+  abbrev pub Shows : {E : Type 0} → List ℕ → Result (Vec ℕ Global) E → SeatSession → Request → SeatSession → Type 0
   Shows prompt (Ok text) old request new =
-      (got : List Answer) × HasDone old.seat request got new.seat × (text.items ≡ shown prompt (at_line old got) request)
+      (got : List Answer) × HasDone old.seat request got new.seat × (text.items ≡ seat_shown prompt (at_line old got) request)
   Shows prompt (Err fault) old request new = (got : List Answer) × MayHaveDone old.seat request got new.seat

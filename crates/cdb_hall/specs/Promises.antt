@@ -8,7 +8,7 @@ use Rattle.cdb_rules.specs.Rules.{Rules}
 use Rattle.cdb_setup.specs.Parts.{Parts}
 use Rattle.cdb_shared.specs.Seats.{SeatView, RestsAt, IsLater}
 use Rattle.cdb_hall.specs.Parts.{part_seen}
-use Rattle.cdb_hall.specs.Sessions.{IsSession}
+use Rattle.cdb_hall.specs.Sessions.{IsSeatSession}
 use Rattle.cdb_hall.specs.declared.station.Station.{Station}
 use Rattle.cdb_hall.specs.declared.station.Attended.{Attended}
 use Rattle.cdb_hall.specs.declared.worker.Left.{Left}
@@ -24,7 +24,7 @@ pub record HasAttended {R T : Type 0} (rules : Parts → Rules) (known : T → K
   pub later : IsLater before left.seat
   pub made : List Move
   pub makes : Makes (known station.talk) (known left.attended.talk) made
-  pub session : IsSession station.prompt.now (part_seen rules left.seat) left.attended.outcome made
+  pub session : IsSeatSession station.prompt.now (part_seen rules left.seat) left.attended.outcome made
 
 -- a promise of this seat at this station
 pub record IsPromise {R T : Type 0} (seat : SeatView) (station : Station T) (promise : SeatPromise R T) : Type 0 where

@@ -42,8 +42,8 @@ status_of (Ok done) outcomes = seats_status outcomes
 status_of (Err fault) outcomes = play_status fault
 
 -- The writer took the text; or it failed, and took a beginning of the text; or memory was out, and it is as it was.
-abbrev pub IsPut : {W : Type 0} → (W → Option (List ℕ)) → (W → ℕ) → Result (Unit {0}) PlayFault → W → W → List ℕ → Type 0
-IsPut contents failures (Ok done) old new text = Takes contents failures old new text
-IsPut contents failures (Err fault.Write) old new text = Fails contents failures old new text
-IsPut contents failures (Err fault.NoMemory) old new text = new ≡ old
-IsPut contents failures (Err other) old new text = ⊥
+abbrev pub HallWrites : {W : Type 0} → (W → Option (List ℕ)) → (W → ℕ) → Result (Unit {0}) PlayFault → W → W → List ℕ → Type 0
+HallWrites contents failures (Ok done) old new text = Takes contents failures old new text
+HallWrites contents failures (Err fault.Write) old new text = Fails contents failures old new text
+HallWrites contents failures (Err fault.NoMemory) old new text = new ≡ old
+HallWrites contents failures (Err other) old new text = ⊥

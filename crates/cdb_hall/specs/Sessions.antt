@@ -8,29 +8,29 @@ use Rattle.cdb_debug.specs.Moves.{Move, ReadFailed, read_in, written_in, AsksFor
 use Rattle.cdb_debug.specs.Requests.{ended_lines, HaveQuit, AreAsked}
 use Rattle.cdb_debug.specs.Sessions.{HasEnded}
 use Rattle.cdb_debug.specs.declared.request.Request.{Request}
-use Rattle.cdb_hall.specs.Dialogues.{dialogue, IsDialogue}
+use Rattle.cdb_hall.specs.Dialogues.{seat_dialogue, IsSeatDialogue}
 use Rattle.cdb_hall.specs.Parts.{Part, HasCommands, HasCommandsOf}
 
 module _ (prompt : List ℕ) where
   -- with these replies all lines that have ended are answered in full, and none of them is `quit`
-  pub record IsAnswered (replies : List Answer) (moves : List Move) : Type 0 where
-    pub answered : IsDialogue prompt replies (ended_lines (read_in moves)) (written_in moves)
+  pub record IsSeatAnswered (replies : List Answer) (moves : List Move) : Type 0 where
+    pub answered : IsSeatDialogue prompt replies (ended_lines (read_in moves)) (written_in moves)
     pub goes_on : ¬ HaveQuit (ended_lines (read_in moves))
 
   -- whenever the session asks for more input, all lines that it was given so far are answered in full
-  abbrev pub AnswersInTime : List Answer → List Move → Type 0
-  AnswersInTime replies moves =
+  abbrev pub SeatAnswersInTime : List Answer → List Move → Type 0
+  SeatAnswersInTime replies moves =
       (before : List Move) (ask : Move) (later : List Move) → moves ≡ before ++ ask ∷ later → AsksForInput ask
-      → IsAnswered replies before
+      → IsSeatAnswered replies before
 
   module _ (part : Part) where
     -- the text has the replies to the commands of these lines, which the journal has
     abbrev pub IsServed : List (List ℕ) → List ℕ → Type 0
     IsServed lines text =
-        (requests : List Request) × AreAsked requests lines × (text ≡ dialogue prompt part.replies requests) × HasCommands part requests
+        (requests : List Request) × AreAsked requests lines × (text ≡ seat_dialogue prompt part.replies requests) × HasCommands part requests
 
     -- all is answered, a last line too that lacks its byte 10
-    pub record IsWhole (moves : List Move) : Type 0 where
+    pub record IsSeatWhole (moves : List Move) : Type 0 where
       pub served : IsServed (lines_of (read_in moves)) (written_in moves)
       pub ended : HasEnded moves
 
@@ -40,7 +40,7 @@ module _ (prompt : List ℕ) where
       pub goes_on : ¬ HaveQuit (ended_lines (read_in moves))
 
     -- What was written is a beginning of the answers to the first of the lines.
-    pub record IsBroken (moves : List Move) : Type 0 where
+    pub record IsSeatBroken (moves : List Move) : Type 0 where
       pub lines : List (List ℕ)
       pub others : List (List ℕ)
       pub text : List ℕ
@@ -51,26 +51,26 @@ module _ (prompt : List ℕ) where
 
     -- The first of the lines are answered in full, and the others not at all. The journal has the commands of the first
     -- lines, and maybe that of the next line too.
-    pub record IsCutShort (moves : List Move) : Type 0 where
+    pub record IsSeatCutShort (moves : List Move) : Type 0 where
       pub lines : List (List ℕ)
       pub next : List (List ℕ)
       pub others : List (List ℕ)
       pub begins : lines_of (read_in moves) ≡ (lines ++ next) ++ others
       pub one : length next ≤ 1
-      pub answered : IsDialogue prompt part.replies lines (written_in moves)
+      pub answered : IsSeatDialogue prompt part.replies lines (written_in moves)
       pub commands : HasCommandsOf part (lines ++ next)
 
     -- the moves by what the session returned
-    abbrev pub EndsAs : {A : Type 0} → Result A PlayFault → List Move → Type 0
-    EndsAs (Ok done) moves = IsWhole moves
-    EndsAs (Err fault.Read) moves = IsUnread moves × EndsWith (λ last. last ≡ ReadFailed) moves
-    EndsAs (Err fault.Write) moves = IsBroken moves × EndsWith FailsToWrite moves
-    EndsAs (Err fault.NoMemory) moves = IsCutShort moves
-    EndsAs (Err (fault.Setup why)) moves = ⊥
-    EndsAs (Err (fault.Line script line why)) moves = ⊥
-    EndsAs (Err (fault.ScriptTooLong script)) moves = ⊥
+    abbrev pub SeatEndsAs : {A : Type 0} → Result A PlayFault → List Move → Type 0
+    SeatEndsAs (Ok done) moves = IsSeatWhole moves
+    SeatEndsAs (Err fault.Read) moves = IsUnread moves × EndsWith (λ last. last ≡ ReadFailed) moves
+    SeatEndsAs (Err fault.Write) moves = IsSeatBroken moves × EndsWith FailsToWrite moves
+    SeatEndsAs (Err fault.NoMemory) moves = IsSeatCutShort moves
+    SeatEndsAs (Err (fault.Setup why)) moves = ⊥
+    SeatEndsAs (Err (fault.Line script line why)) moves = ⊥
+    SeatEndsAs (Err (fault.ScriptTooLong script)) moves = ⊥
 
     -- a session that has made these moves, and returned this
-    pub record IsSession {A : Type 0} (returned : Result A PlayFault) (moves : List Move) : Type 0 where
-      pub in_time : AnswersInTime part.replies moves
-      pub ends : EndsAs returned moves
+    pub record IsSeatSession {A : Type 0} (returned : Result A PlayFault) (moves : List Move) : Type 0 where
+      pub in_time : SeatAnswersInTime part.replies moves
+      pub ends : SeatEndsAs returned moves

@@ -1,7 +1,7 @@
 //! A seat's session from its first line to its last.
 
 ghost use Rattle.std.specs.Prelude.{◌≡◌, [], ◌-◌, ◌<◌, ◌^◌};
-ghost use Rattle.cdb_hall.specs.Held.{AnswersLast, Converses};
+ghost use Rattle.cdb_hall.specs.Held.{SeatAnswersLast, SeatConverses};
 ghost use Rattle.cdb_shared.specs.Seats.{RestsAt, IsLater};
 
 use crate::hearing::{answer_held, hear};
@@ -31,7 +31,7 @@ fn answer_last<R: Runs, T: Talk, Rt: Wait>(
 ) -> Result<(), PlayFault>
     requires rests { RestsAt shared.now session.old.seat }
     requires lines { session.old.lines < 2 ^ 64 - 1 }
-    ensures last { AnswersLast R.rules result (T.known talk.old) (T.known talk.new)
+    ensures last { SeatAnswersLast R.rules result (T.known talk.old) (T.known talk.new)
         prompt.now session.old session.new held.items }
     ensures seat { IsLater session.old.seat session.new.seat }
 {
@@ -57,7 +57,7 @@ pub(crate) fn converse<R: Runs, T: Talk, Rt: Wait>(
     requires rests { RestsAt shared.now session.old.seat }
     requires new { session.old.seat.seen ≡ [] }
     requires lines { session.old.lines ≡ 0 }
-    ensures all { Converses R.rules result (T.known talk.old) (T.known talk.new)
+    ensures all { SeatConverses R.rules result (T.known talk.old) (T.known talk.new)
         prompt.now session.new }
     ensures seat { IsLater session.old.seat session.new.seat }
 {

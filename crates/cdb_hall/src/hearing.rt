@@ -1,7 +1,7 @@
 //! What a seat's session does with the bytes that it was given.
 
 ghost use Rattle.std.specs.Prelude.{◌≡◌, ◌+◌, ◌-◌, ◌<◌, ◌≤◌, ◌^◌, length, OnOk};
-ghost use Rattle.cdb_hall.specs.Held.{AnswersHeld, Hears};
+ghost use Rattle.cdb_hall.specs.Held.{SeatAnswersHeld, SeatHears};
 ghost use Rattle.cdb_setup.specs.Format.{longest};
 ghost use Rattle.cdb_shared.specs.Seats.{RestsAt, IsLater};
 
@@ -25,7 +25,7 @@ pub(crate) fn answer_held<R: Runs, T: Talk, Rt: Wait>(
 ) -> Result<bool, OutputFault>
     requires rests { RestsAt shared.now session.old.seat }
     requires lines { session.old.lines < 2 ^ 64 - 1 }
-    ensures held { AnswersHeld R.rules result (T.known talk.old) (T.known talk.new)
+    ensures held { SeatAnswersHeld R.rules result (T.known talk.old) (T.known talk.new)
         prompt.now session.old session.new held.old.items held.new.items }
     ensures seat { IsLater session.old.seat session.new.seat }
 {
@@ -51,7 +51,7 @@ pub(crate) fn hear<R: Runs, T: Talk, Rt: Wait>(
     requires rests { RestsAt shared.now session.old.seat }
     requires lines { session.old.lines + length bytes.now < 2 ^ 64 }
     requires held { length held.old.items ≤ longest + 1 }
-    ensures heard { Hears R.rules result (T.known talk.old) (T.known talk.new)
+    ensures heard { SeatHears R.rules result (T.known talk.old) (T.known talk.new)
         prompt.now session.old session.new held.old.items held.new.items bytes.now }
     ensures held { OnOk result (length held.new.items ≤ longest + 1) }
     ensures lines { OnOk result (session.new.lines ≤ session.old.lines + length bytes.now) }

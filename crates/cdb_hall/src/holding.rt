@@ -7,6 +7,7 @@ ghost use Rattle.cdb_hall.specs.Holding.{Holds, IsFaultOfHall};
 use crate::reports::{status_after, write_failures, write_journal};
 use crate::station::Station;
 use crate::threads::{HallFault, debug_seats};
+use cdb_base::limits::MAX_SEATS;
 use cdb_debug::Talk;
 use cdb_play::{RaceFault, Sink};
 use cdb_rules::Runs;
@@ -42,7 +43,7 @@ pub fn hold<R: Runs + Send, T: Talk + Drop + Send, Rt: Threads + Wait + Sync, O:
     error: &mut E,
 ) -> Result<u8, RaceFault>
     requires some { 1 ≤ vec_len stations }
-    requires fits { vec_len stations ≤ 64 }
+    requires fits { vec_len stations ≤ MAX_SEATS }
     ensures held { IfOk result (Holds R.rules T.known O.contents O.failures
         E.contents E.failures setup.now stations.items output.old output.new error.old error.new) }
     ensures fault { IfErr result (IsFaultOfHall setup.now) }

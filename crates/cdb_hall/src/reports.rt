@@ -3,19 +3,20 @@
 ghost use Rattle.std.specs.Prelude.{◌≡◌, ◌≤◌, ◌++◌, length, string_bytes, OnOk, IfOk};
 ghost use Rattle.cdb_text.specs.Pushes.{Pushes};
 ghost use Rattle.cdb_hall.specs.Halls.{journal_text};
-ghost use Rattle.cdb_hall.specs.Reports.{IsPut, outcomes, seat_line, seat_lines, seats_status};
+ghost use Rattle.cdb_hall.specs.Reports.{HallWrites, outcomes, seat_line, seat_lines, seats_status};
 ghost use Rattle.cdb_hall.specs.Reports.{journal_line, failures_text, status_of as status_is};
 
 use crate::journal::journal_text;
 use crate::station::Attended;
 use cdb_base::NoMemory;
+use cdb_base::limits::MAX_SEATS;
 use cdb_control::Entry;
 use cdb_play::{PlayFault, Sink, status_of, write_all};
 use std::alloc::{AllocError, Global};
 
 /// Writes a text.
 fn put<W: Sink>(text: &[u8], out: &mut W) -> Result<(), PlayFault>
-    ensures { IsPut W.contents W.failures result out.old out.new text.now }
+    ensures { HallWrites W.contents W.failures result out.old out.new text.now }
 {
     match write_all(out, text) {
         Ok(()) => Ok(()),
@@ -33,7 +34,7 @@ pub fn write_journal<W: Sink>(
     journal: &[Entry],
     out: &mut W,
 ) -> Result<(), PlayFault>
-    ensures { IsPut W.contents W.failures result out.old out.new (journal_text journal.now) }
+    ensures { HallWrites W.contents W.failures result out.old out.new (journal_text journal.now) }
 {
     match journal_text(alloc, journal) {
         Ok(text) => put(text.as_slice(), out),
@@ -63,7 +64,7 @@ fn push_journal(text: &mut String, written: &Result<(), PlayFault>) -> Result<()
 
 /// Adds a line for each seat whose session failed, with its number and the fault.
 fn push_seats<T>(text: &mut String, attended: &[Attended<T>]) -> Result<(), AllocError>
-    requires { length attended.now ≤ 64 }
+    requires { length attended.now ≤ MAX_SEATS }
     ensures { Pushes result text.old text.new (seat_lines 1 (outcomes attended.now)) }
 {
     let mut seat = 0u8;
@@ -80,7 +81,7 @@ fn failures<T>(
     attended: &[Attended<T>],
     written: &Result<(), PlayFault>,
 ) -> Result<Vec<u8>, NoMemory>
-    requires { length attended.now ≤ 64 }
+    requires { length attended.now ≤ MAX_SEATS }
     ensures { IfOk result
         (λ text. text.items ≡ failures_text written.now (outcomes attended.now)) }
 {
@@ -102,8 +103,8 @@ pub fn write_failures<T, W: Sink>(
     written: &Result<(), PlayFault>,
     out: &mut W,
 ) -> Result<(), PlayFault>
-    requires { length attended.now ≤ 64 }
-    ensures { IsPut W.contents W.failures result out.old out.new
+    requires { length attended.now ≤ MAX_SEATS }
+    ensures { HallWrites W.contents W.failures result out.old out.new
         (failures_text written.now (outcomes attended.now)) }
 {
     match failures(alloc, attended, written) {

@@ -25,9 +25,9 @@ pub(crate) struct Session<R: Runs> {
 }
 
 impl<R: Runs> Model for Session<R> {
-    ghost use Rattle.cdb_hall.specs.Lines.{Session as SessionView};
+    ghost use Rattle.cdb_hall.specs.Lines.{SeatSession};
 
-    ghost Value = { SessionView };
+    ghost Value = { SeatSession };
 
     ghost view = { λ s. record { seat = s.seat; lines = s.lines } };
 }

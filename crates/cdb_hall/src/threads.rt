@@ -7,6 +7,7 @@ ghost use Rattle.cdb_shared.specs.Seats.{HasHeadline};
 
 use crate::station::{Attended, Station};
 use crate::worker::{Left, SeatPromise, attend};
+use cdb_base::limits::MAX_SEATS;
 use cdb_control::Control;
 use cdb_debug::Talk;
 use cdb_race::{RefusedStart, start};
@@ -183,7 +184,7 @@ pub fn debug_seats<R: Runs + Send, T: Talk + Drop + Send, Rt: Threads + Wait + S
     stations: Vec<Station<T>>,
 ) -> Result<(Control<R>, Vec<Attended<T>>), HallFault>
     requires some { 1 ≤ vec_len stations }
-    requires fits { vec_len stations ≤ 64 }
+    requires fits { vec_len stations ≤ MAX_SEATS }
     ensures hall { IfOk result (λ r. IsHall R.rules T.known setup stations.items r.0 r.1.items) }
     ensures headline { IfOk result (λ r. HasHeadline R.rules R.same_state r.0) }
 {

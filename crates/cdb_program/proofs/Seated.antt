@@ -5,7 +5,7 @@ use Rattle.std.proofs.lemmas.List.{length-map, get_or-map}
 use Rattle.cdb_debug.specs.Moves.{Known}
 use Rattle.cdb_hall.specs.Halls.{IsAttended}
 use Rattle.cdb_hall.specs.Holding.{Holds}
-use Rattle.cdb_hall.specs.Reports.{IsPut, outcomes, failures_text, status_of}
+use Rattle.cdb_hall.specs.Reports.{HallWrites, outcomes, failures_text, status_of}
 use Rattle.cdb_hall.specs.declared.station.Station.{Station}
 use Rattle.cdb_hall.specs.declared.station.Attended.{Attended}
 use Rattle.cdb_rules.specs.Rules.{Rules}
@@ -120,7 +120,7 @@ module _ {T : Type 0} (known : T → Known) where
   same_outcomes (its ∷ attended) = ap (λ (l : List (Result (Unit {0}) PlayFault)). its.outcome ∷ l) (same_outcomes attended)
 
 module _ {W : Type 0} (held : W → Option (List ℕ)) (failed : W → ℕ) where
-  put_seen : (put : Result (Unit {0}) PlayFault) (old new : W) (text : List ℕ) → IsPut held failed put old new text → IsPut contents failures put (stream_of held failed old) (stream_of held failed new) text
+  put_seen : (put : Result (Unit {0}) PlayFault) (old new : W) (text : List ℕ) → HallWrites held failed put old new text → HallWrites contents failures put (stream_of held failed old) (stream_of held failed new) text
   put_seen (Ok done) old new text is = is
   put_seen (Err play.Write) old new text is = is
   put_seen (Err play.NoMemory) old new text is = ap (stream_of held failed) is
@@ -158,6 +158,6 @@ holds_seen rules known held failed told untold json stations output output_after
       written = h.written;
       journal = put_seen held failed h.written output output_after _ h.journal;
       told = h.told;
-      lines = subst (λ (o : List (Result (Unit {0}) PlayFault)). IsPut contents failures h.told (stream_of told untold error) (stream_of told untold error_after) (failures_text h.written o)) (sym same) (put_seen told untold h.told error error_after _ h.lines);
+      lines = subst (λ (o : List (Result (Unit {0}) PlayFault)). HallWrites contents failures h.told (stream_of told untold error) (stream_of told untold error_after) (failures_text h.written o)) (sym same) (put_seen told untold h.told error error_after _ h.lines);
       status_is = h.status_is ∙ ap (status_of h.written) (sym same);
     }

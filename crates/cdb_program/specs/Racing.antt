@@ -1,5 +1,6 @@
 -- What races do.
 use Rattle.std.specs.Prelude.{◌≡◌, ◌≢◌, ◌⊎◌, ℕ, ◌+◌, ◌<◌, ◌≤◌, List, [], ◌∷◌, length, Result, Err, IfErr}
+use Rattle.cdb_base.specs.declared.limits.TheConstants.{MAX_SEATS}
 use Rattle.cdb_play.specs.Races.{IsTextOfRace, IsFaultOfRace, IsFaultUngated}
 use Rattle.cdb_play.specs.Written.{AgreesAtEnd, RaceWrites}
 use Rattle.cdb_play.specs.declared.fault.RaceFault.{RaceFault}
@@ -15,11 +16,11 @@ use Rattle.cdb_rules.specs.Algorithms.{rules}
 
 -- the setup's processes and this many scripts need more seats than there are
 abbrev pub NeedsTooManySeats : List ℕ → ℕ → Type 0
-NeedsTooManySeats json scripts = (setup : Parts) × Encodes json setup × (64 < setup.processes + scripts)
+NeedsTooManySeats json scripts = (setup : Parts) × Encodes json setup × (MAX_SEATS < setup.processes + scripts)
 
 -- A race of scripts on the setup of this text ended so. The output is seen before and after.
 pub record IsRace (json : List ℕ) (turns : ℕ) (scripts : List (List ℕ)) (raced : Result (Unit {0}) RaceFault) (old new : Stream) : Type 0 where
-  pub fits : raced ≢ Err NoMemory → (setup : Parts) → Encodes json setup → setup.processes + length scripts ≤ 64
+  pub fits : raced ≢ Err NoMemory → (setup : Parts) → Encodes json setup → setup.processes + length scripts ≤ MAX_SEATS
   pub wrote : RaceWrites contents failures raced old new (IsTextOfRace rules json turns scripts)
   pub agree : (setup : Parts) → Encodes json setup → HasMajorityIfNeeded setup → AgreesAtEnd contents failures raced old new
   pub fault : IfErr raced (IsFaultOfRace IsFaultUngated json turns scripts)

@@ -14,6 +14,7 @@ use Rattle.cdb_program.specs.Reports.{IsReported}
 use Rattle.cdb_program.specs.Seating.{PerformsHall}
 use Rattle.cdb_program.specs.declared.fault.Fault.TheVariants.{Play}
 use Rattle.cdb_program.specs.declared.request.Request.{Request}
+use Rattle.cdb_program.specs.declared.request.TheConstants.{MAX_TURNS}
 use Rattle.cdb_program.specs.declared.request.Request.TheVariants as request
 
 -- no file is opened, and standard input is left as it is
@@ -26,9 +27,9 @@ Prints text old new (Ok done) = Takes contents failures old new text
 Prints text old new (Err (Play Write name)) = Fails contents failures old new text
 Prints text old new (Err other) = ⊥
 
--- a race has turns that its threads can count, 0 to 99,999, and sessions of seats have one seat at least
+-- a race has turns that its threads can count, and sessions of seats have one seat at least
 abbrev pub HasTurns : Request → Type 0
-HasTurns (request.Race setup turns scripts) = turns ≤ 99999
+HasTurns (request.Race setup turns scripts) = turns ≤ MAX_TURNS
 HasTurns (request.Hall setup seats) = 1 ≤ length seats.now
 HasTurns other = Unit {0}
 

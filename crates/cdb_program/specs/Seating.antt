@@ -1,6 +1,7 @@
 -- What sessions of several seats do.
 use Rattle.std.specs.Prelude.{◌≡◌, ◌⊎◌, ℕ, ◌<◌, List, [], ◌∷◌, length, Result, Ok, Err, IfSome}
 use Rattle.std.specs.List.{AllZip}
+use Rattle.cdb_base.specs.declared.limits.TheConstants.{MAX_SEATS}
 use Rattle.cdb_debug.specs.Moves.{Known}
 use Rattle.cdb_hall.specs.Holding.{Holds, IsFaultOfHall}
 use Rattle.cdb_hall.specs.declared.station.Station.{Station}
@@ -34,7 +35,7 @@ HasSeated old new setup seats json = (new ≡ after_opening old (setup ∷ seats
 -- Why no sessions were held: there are too many seats, and then no file was opened; the setup has a fault, or memory or threads
 -- are out; or the setup or a seat can't be opened, and then nothing after it was.
 abbrev pub IsFaultOfSeats : List ℕ → List (List ℕ) → FilesSeen → FilesSeen → Fault → Type 0
-IsFaultOfSeats setup seats old new TooManySeats = (64 < length seats) × (new ≡ old)
+IsFaultOfSeats setup seats old new TooManySeats = (MAX_SEATS < length seats) × (new ≡ old)
 IsFaultOfSeats setup seats old new (Race why) = (json : List ℕ) × HasSeated old new setup seats json × IsFaultOfHall json why
 IsFaultOfSeats setup seats old new other = FailsToRead old new (setup ∷ seats) other
 

@@ -16,4 +16,4 @@ mod seats;
 pub use fault::Fault;
 pub use files::Files;
 pub use outside::Outside;
-pub use request::{Request, perform};
+pub use request::{MAX_TURNS, Request, perform};

@@ -9,6 +9,7 @@ ghost use Rattle.cdb_program.specs.Streaming.{stream_of};
 use crate::fault::{Fault, of_race};
 use crate::files::{Files, read_each, read_file};
 use crate::outside::Outside;
+use crate::request::MAX_TURNS;
 use cdb_any_run::RunOfSetup;
 use cdb_play::{RaceFault, Sink, Source, fits, race_on};
 use cdb_setup::Setup;
@@ -25,7 +26,7 @@ fn race_bytes<R: Threads + Wait + Sync, O: Sink>(
     scripts: &[Vec<u8>],
     output: &mut O,
 ) -> Result<(), Fault<'static>>
-    requires { turns ≤ 99999 }
+    requires { turns ≤ MAX_TURNS }
     ensures { RacesOn setup.now turns (bytes_of scripts.now)
         (stream_of O.contents O.failures output.old) (stream_of O.contents O.failures output.new) result }
 {
@@ -56,7 +57,7 @@ pub fn race_files<
     scripts: &[&'a str],
     outside: &mut Outside<F, I, O, E>,
 ) -> Result<(), Fault<'a>>
-    requires { turns ≤ 99999 }
+    requires { turns ≤ MAX_TURNS }
     ensures does { RacesFiles setup.entry.now turns (texts scripts.now) outside.old outside.new result }
     ensures error { outside.new.error ≡ outside.old.error }
 {

@@ -20,6 +20,9 @@ use std::alloc::Global;
 use std::sync::Wait;
 use std::thread::Threads;
 
+/// The most turns of a race.
+pub const MAX_TURNS: u32 = 99_999;
+
 /// What the program is asked to do.
 #[derive(Clone, Copy)]
 pub enum Request<'a> {
@@ -30,7 +33,7 @@ pub enum Request<'a> {
         setup: &'a str,
         script: &'a str,
     },
-    /// Runs a race of script files on a run of a setup file, with 0 to 99,999 turns for each process.
+    /// Runs a race of script files on a run of a setup file, with up to `MAX_TURNS` turns for each process.
     Race {
         setup: &'a str,
         turns: u32,

@@ -10,14 +10,12 @@ use crate::files::{Files, read_file};
 use crate::outside::Outside;
 use crate::reports::report;
 use cdb_any_run::RunOfSetup;
+use cdb_base::limits::MAX_SEATS;
 use cdb_hall::{Station, hold};
 use cdb_play::{PlayFault, Sink, Source};
 use std::alloc::Global;
 use std::sync::Wait;
 use std::thread::Threads;
-
-/// How many seats there can be.
-const MOST_SEATS: usize = 64;
 
 /// The station of the seat of this name.
 ///
@@ -92,7 +90,7 @@ fn hold_seats<
     ensures error { IfErr result (λ _. outside.new.error ≡ outside.old.error) }
     ensures input { outside.new.input ≡ outside.old.input }
 {
-    if seats.len() > MOST_SEATS {
+    if seats.len() > usize::from(MAX_SEATS) {
         return Err(Fault::TooManySeats);
     }
     let json = read_file(alloc, &mut outside.files, setup)?;

@@ -9,7 +9,7 @@ use Rattle.cdb_race.specs.declared.worker.Ran.{Ran}
 use Rattle.cdb_race.specs.declared.worker.SeatPromise.{SeatPromise}
 use Rattle.cdb_rules.specs.Rules.{Rules}
 use Rattle.cdb_setup.specs.Parts.{Parts}
-use Rattle.cdb_shared.specs.Gates.{Heard, HearsServed}
+use Rattle.cdb_shared.specs.Gates.{Heard, Hears}
 use Rattle.cdb_shared.specs.Seats.{SeatView}
 use Rattle.cdb_shared.specs.declared.session.End.{End}
 use Rattle.cdb_shared.specs.declared.session.End.TheVariants.{Stopped}
@@ -35,5 +35,5 @@ HasRan rules plan before ran = HasRun rules plan before ran.seat (map told ran.r
 -- how a session ended, by its gate: the gate has heard of it, and one that lets all calls go on has stopped none
 pub record HasEnded {G : Type 0} (heard : G → Option (List Heard)) (passes : G → Bool) (gate : G) (before after : SeatView) (end : End) : Type 0 where
   pub last : G
-  pub hears : HearsServed (heard gate) (heard last) before after end
+  pub hears : Hears (heard gate) (heard last) before after end
   pub passed : passes gate ≡ true → end ≢ Stopped

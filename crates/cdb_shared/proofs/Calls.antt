@@ -21,21 +21,43 @@ use Rattle.cdb_shared.specs.declared.knowledge.KnownSeat.{KnownSeat}
 use Rattle.cdb_shared.specs.declared.knowledge.Story.{Story}
 use Rattle.cdb_shared.specs.declared.knowledge.Knowledge.{Knowledge}
 use Rattle.cdb_shared.specs.Turn.{story, longer, MayFollow, seats_after, resting, Knows, AllKnow, seen_at, seen_by, Taken, Given, MayGive, known_seat_at, known_seats_from, first_alone, without_first, joined}
-use Rattle.cdb_shared.specs.Passes.{is_resting, known_seat_of, seat_of, IsPassFor}
+use Rattle.cdb_shared.specs.Passes.{is_resting, IsOfOneSeat, only_of, known_seat_of, seat_of, HasNumber}
 use Rattle.cdb_shared.specs.Seats.{SeatView, IsLater, IsCall, SameCalls, RestsAt, IsKnownBy, SeesHeadline, HasHeadline, fresh_seat, fresh_seats}
 
+-- the only seat of a pass, by what its list is
+pub only_is : (ps : List KnownSeat) (one : length ps ≡ 1) → ps ≡ only_of ps one ∷ []
+only_is [] one = absurd (cc)
+only_is (p ∷ []) one = refl
+only_is (p ∷ q ∷ ps) one = absurd (omega arith)
+
+pub only_at : (ps : List KnownSeat) (one : length ps ≡ 1) (p : KnownSeat) → ps ≡ p ∷ [] → only_of ps one ≡ p
+only_at [] one p is = absurd (cc)
+only_at (q ∷ qs) one p is = ap (λ (l : List KnownSeat). get_or l 0 q) is
+
 -- what one seat knows of the control that it took
-pub knows_one : (number : ℕ) (v : Knowledge) (c : Story) → IsPassFor number v → AllKnow c v.known_seats → Knows c (known_seat_of v.known_seats)
-knows_one number v c one all = (subst (λ (ps : List KnownSeat). AllKnow c ps) one.only all).0
+pub knows_one : (v : Knowledge) (c : Story) (one : IsOfOneSeat v) → AllKnow c v.known_seats → Knows c (known_seat_of v one)
+knows_one v c one all = (subst (λ (ps : List KnownSeat). AllKnow c ps) (only_is v.known_seats one) all).0
+
+-- a pass that has had the turn is of the one seat that it was of, which has seen the journal
+given_one : (v w x : Knowledge) (c after : Journaled) (one : IsOfOneSeat v) → Taken v c w → Given w after x → x ≡ resting (seen_at (story after) (known_seat_of v one) ∷ [])
+given_one v w x c after one taken given =
+    given ∙ ap (λ (u : Knowledge). resting (seats_after u.held u.known_seats (story after))) taken.0 ∙ ap (λ ps. resting (seen_by (story after) ps)) (only_is v.known_seats one)
+
+pub still_one : (v w x : Knowledge) (c after : Journaled) → IsOfOneSeat v → Taken v c w → Given w after x → IsOfOneSeat x
+still_one v w x c after one taken given =
+    ap (λ (u : Knowledge). length u.known_seats) (given_one v w x c after one taken given)
+
+seen_one : (v w x : Knowledge) (c after : Journaled) (one : IsOfOneSeat v) (other : IsOfOneSeat x) → Taken v c w → Given w after x → known_seat_of x other ≡ seen_at (story after) (known_seat_of v one)
+seen_one v w x c after one other taken given = only_at x.known_seats other _ (ap (λ (u : Knowledge). u.known_seats) (given_one v w x c after one taken given))
 
 -- an executed command, or a refused one, may be given back
-pub may_give : (rules : Parts → Rules) (number : ℕ) (v w : Knowledge) (c after : Journaled) (command : Command) (r : Result Reply CallFault) → IsPassFor number v → Taken v c w → IfOk r (λ _. after ≡ extended rules c number command) → OnErr r (after ≡ c) → MayGive w after
-may_give rules number v w c after command (Ok reply) one taken ok err =
+pub may_give : (rules : Parts → Rules) (number : ℕ) (v w : Knowledge) (c after : Journaled) (command : Command) (r : Result Reply CallFault) (one : IsOfOneSeat v) → HasNumber number (known_seat_of v one) → Taken v c w → IfOk r (λ _. after ≡ extended rules c number command) → OnErr r (after ≡ c) → MayGive w after
+may_give rules number v w c after command (Ok reply) one its taken ok err =
     let is = taken.0 in (
       ap (λ (u : Knowledge). u.stage) is,
-      subst (λ (u : Knowledge). MayFollow u.held u.known_seats (story after)) (sym is) (inr (known_seat_of v.known_seats, command, one.only, ap story ok ∙ ap (λ n. longer (story c) n command) (sym one.same))),
+      subst (λ (u : Knowledge). MayFollow u.held u.known_seats (story after)) (sym is) (inr (known_seat_of v one, command, only_is v.known_seats one, ap story ok ∙ ap (λ n. longer (story c) n command) (sym its.same))),
     )
-may_give rules number v w c after command (Err fault) one taken ok err =
+may_give rules number v w c after command (Err fault) one its taken ok err =
     let is = taken.0 in (ap (λ (u : Knowledge). u.stage) is, subst (λ (u : Knowledge). MayFollow u.held u.known_seats (story after)) (sym is) (inl (ap story err)))
 
 -- the journal has grown by no more than one command
@@ -43,23 +65,31 @@ pub begins_after : (rules : Parts → Rules) (c after : Journaled) (number : ℕ
 begins_after rules c after number command (Ok reply) seen ok err begins = subst (λ (y : Journaled). Begins seen y.journal) (sym ok) (Begins-push seen c.journal (entry number command) begins)
 begins_after rules c after number command (Err fault) seen ok err begins = subst (λ (y : Journaled). Begins seen y.journal) (sym err) begins
 
-later_of : (number : ℕ) (home home' : TableId) (v w x : Knowledge) (c after : Journaled) → home' ≡ home → IsPassFor number v → Taken v c w → Given w after x → Begins (known_seat_of v.known_seats).seen after.journal → IsLater (seat_of home v) (seat_of home' x)
-later_of number home home' v w x c after same one taken given begins =
-    let is = taken.0 in
-    let known_seats = ap (λ (u : Knowledge). u.known_seats) given ∙ ap (λ (u : Knowledge). seats_after u.held u.known_seats (story after)) is ∙ ap (seen_by (story after)) one.only in
-    let mine = ap known_seat_of known_seats in
+later_of : (home home' : TableId) (v w x : Knowledge) (c after : Journaled) (one : IsOfOneSeat v) (other : IsOfOneSeat x) → home' ≡ home → Taken v c w → Given w after x → Begins (known_seat_of v one).seen after.journal → IsLater (seat_of home v one) (seat_of home' x other)
+later_of home home' v w x c after one other same taken given begins =
+    let mine = seen_one v w x c after one other taken given in
     record {
       home = same;
       setup = ap (λ (p : KnownSeat). p.setup) mine;
       seats = ap (λ (p : KnownSeat). p.seats) mine;
       number = ap (λ (p : KnownSeat). p.number) mine;
       rests = ap (λ (u : Knowledge). is_resting u.stage) given;
-      begins = subst (λ (l : List Entry). Begins (known_seat_of v.known_seats).seen l) (sym (ap (λ (p : KnownSeat). p.seen) mine)) begins;
+      begins = subst (λ (l : List Entry). Begins (known_seat_of v one).seen l) (sym (ap (λ (p : KnownSeat). p.seen) mine)) begins;
     }
 
 -- the seat, after the turn was given back
-pub later : (number : ℕ) (home home' : TableId) (v w x : Knowledge) (c after : Journaled) (old : SeatView) → seat_of home v ≡ old → home' ≡ home → IsPassFor number v → Taken v c w → Given w after x → Begins (known_seat_of v.known_seats).seen after.journal → IsLater old (seat_of home' x)
-later number home home' v w x c after old is same one taken given begins = subst (λ (s : SeatView). IsLater s (seat_of home' x)) is (later_of number home home' v w x c after same one taken given begins)
+pub later : (home home' : TableId) (v w x : Knowledge) (c after : Journaled) (old : SeatView) (one : IsOfOneSeat v) (other : IsOfOneSeat x) → seat_of home v one ≡ old → home' ≡ home → Taken v c w → Given w after x → Begins (known_seat_of v one).seen after.journal → IsLater old (seat_of home' x other)
+later home home' v w x c after old one other is same taken given begins = subst (λ (s : SeatView). IsLater s (seat_of home' x other)) is (later_of home home' v w x c after one other same taken given begins)
+
+-- and has its number
+pub still_numbered : (number : ℕ) (v w x : Knowledge) (c after : Journaled) (one : IsOfOneSeat v) (other : IsOfOneSeat x) → HasNumber number (known_seat_of v one) → Taken v c w → Given w after x → HasNumber number (known_seat_of x other)
+still_numbered number v w x c after one other its taken given =
+    let mine = seen_one v w x c after one other taken given in
+    record {
+      same = ap (λ (p : KnownSeat). p.number) mine ∙ its.same;
+      from_one = its.from_one;
+      to_last = subst (λ n. number ≤ n) (sym (ap (λ (p : KnownSeat). p.seats) mine)) its.to_last;
+    }
 
 rests_stage : (stage : Stage) → is_resting stage ≡ true → stage ≡ Resting
 rests_stage Spent e = absurd (cc)
@@ -67,8 +97,8 @@ rests_stage Resting e = refl
 rests_stage Holding e = absurd (cc)
 
 -- the pass of a seat at rest
-pub rests_of : (home : TableId) (v : Knowledge) (seat : SeatView) → seat_of home v ≡ seat → seat.rests ≡ true → v.stage ≡ Resting
-rests_of home v seat is rests = rests_stage v.stage (ap (λ (s : SeatView). s.rests) is ∙ rests)
+pub rests_of : (home : TableId) (v : Knowledge) (one : IsOfOneSeat v) (seat : SeatView) → seat_of home v one ≡ seat → seat.rests ≡ true → v.stage ≡ Resting
+rests_of home v one seat is rests = rests_stage v.stage (ap (λ (s : SeatView). s.rests) is ∙ rests)
 
 -- the next seat to be dealt
 pub known_seats_from-next : (c : Journaled) (dealt count : ℕ) → dealt < count → known_seats_from (story c) (dealt + 1) (count - dealt) ≡ known_seat_at (story c) (dealt + 1) ∷ known_seats_from (story c) (dealt + 1 + 1) (count - (dealt + 1))
@@ -77,20 +107,29 @@ known_seats_from-next c dealt count low =
     ap (known_seats_from (story c) (dealt + 1)) e
 
 -- the pass of the next seat, and that of the others
-pub dealt_pass : (c : Journaled) (dealt count : ℕ) (v alone : Knowledge) → dealt < count → count ≤ c.seats → v ≡ resting (known_seats_from (story c) (dealt + 1) (count - dealt)) → alone ≡ first_alone v → IsPassFor (dealt + 1) alone
-dealt_pass c dealt count v alone low most is cut =
-    let next : alone ≡ resting (known_seat_at (story c) (dealt + 1) ∷ []) = cut ∙ ap first_alone (is ∙ ap resting (known_seats_from-next c dealt count low)) in
-    subst (IsPassFor (dealt + 1)) (sym next) (record { only = refl; same = refl; from_one = omega arith; to_last = omega arith })
+dealt_next : (c : Journaled) (dealt count : ℕ) (v alone : Knowledge) → dealt < count → v ≡ resting (known_seats_from (story c) (dealt + 1) (count - dealt)) → alone ≡ first_alone v → alone ≡ resting (known_seat_at (story c) (dealt + 1) ∷ [])
+dealt_next c dealt count v alone low is cut = cut ∙ ap first_alone (is ∙ ap resting (known_seats_from-next c dealt count low))
+
+pub dealt_one : (c : Journaled) (dealt count : ℕ) (v alone : Knowledge) → dealt < count → v ≡ resting (known_seats_from (story c) (dealt + 1) (count - dealt)) → alone ≡ first_alone v → IsOfOneSeat alone
+dealt_one c dealt count v alone low is cut = ap (λ (u : Knowledge). length u.known_seats) (dealt_next c dealt count v alone low is cut)
+
+dealt_known : (c : Journaled) (dealt count : ℕ) (v alone : Knowledge) (one : IsOfOneSeat alone) → dealt < count → v ≡ resting (known_seats_from (story c) (dealt + 1) (count - dealt)) → alone ≡ first_alone v → known_seat_of alone one ≡ known_seat_at (story c) (dealt + 1)
+dealt_known c dealt count v alone one low is cut = only_at alone.known_seats one _ (ap (λ (u : Knowledge). u.known_seats) (dealt_next c dealt count v alone low is cut))
+
+pub dealt_pass : (c : Journaled) (dealt count : ℕ) (v alone : Knowledge) (one : IsOfOneSeat alone) → dealt < count → count ≤ c.seats → v ≡ resting (known_seats_from (story c) (dealt + 1) (count - dealt)) → alone ≡ first_alone v → HasNumber (dealt + 1) (known_seat_of alone one)
+dealt_pass c dealt count v alone one low most is cut =
+    subst (HasNumber (dealt + 1)) (sym (dealt_known c dealt count v alone one low is cut)) (record { same = refl; from_one = omega arith; to_last = omega arith })
 
 pub dealt_rest : (c : Journaled) (dealt count : ℕ) (v left : Knowledge) → dealt < count → v ≡ resting (known_seats_from (story c) (dealt + 1) (count - dealt)) → left ≡ without_first v → left ≡ resting (known_seats_from (story c) (dealt + 1 + 1) (count - (dealt + 1)))
 dealt_rest c dealt count v left low is cut = cut ∙ ap without_first (is ∙ ap resting (known_seats_from-next c dealt count low))
 
 -- the seat of the pass that was dealt
-pub dealt_seat : (home home' : TableId) (c : Journaled) (dealt count : ℕ) (v alone : Knowledge) → dealt < count → v ≡ resting (known_seats_from (story c) (dealt + 1) (count - dealt)) → alone ≡ first_alone v → home ≡ home' → seat_of home alone ≡ fresh_seat home' c (1 + dealt)
-dealt_seat home home' c dealt count v alone low is cut same =
-    let next : alone ≡ resting (known_seat_at (story c) (dealt + 1) ∷ []) = cut ∙ ap first_alone (is ∙ ap resting (known_seats_from-next c dealt count low)) in
-    let one : dealt + 1 ≡ 1 + dealt = omega arith in
-    (λ i. seat_of (same i) (next i)) ∙ ap (fresh_seat home' c) one
+pub dealt_seat : (home home' : TableId) (c : Journaled) (dealt count : ℕ) (v alone : Knowledge) (one : IsOfOneSeat alone) → dealt < count → v ≡ resting (known_seats_from (story c) (dealt + 1) (count - dealt)) → alone ≡ first_alone v → home ≡ home' → seat_of home alone one ≡ fresh_seat home' c (1 + dealt)
+dealt_seat home home' c dealt count v alone one low is cut same =
+    let its = dealt_known c dealt count v alone one low is cut in
+    let rests : is_resting alone.stage ≡ true = ap (λ (u : Knowledge). is_resting u.stage) (dealt_next c dealt count v alone low is cut) in
+    let after_it : dealt + 1 ≡ 1 + dealt = omega arith in
+    (λ i. record { home = same i; setup = (its i).setup; seats = (its i).seats; number = (its i).number; seen = (its i).seen; rests = rests i }) ∙ ap (fresh_seat home' c) after_it
 
 pub fresh_seats-push : (shared : TableId) (c : Journaled) (first n : ℕ) → fresh_seats shared c first (n + 1) ≡ fresh_seats shared c first n ++ fresh_seat shared c (first + n) ∷ []
 fresh_seats-push shared c first n = map-range_with_len_more (fresh_seat shared c) first n (first + n) refl
@@ -100,17 +139,17 @@ AllKnow-parts c [] qs all = (tt, all)
 AllKnow-parts c (p ∷ ps) qs all = let rest = AllKnow-parts c ps qs all.1 in ((all.0, rest.0), rest.1)
 
 -- a seat knows what its pass knows
-pub known_by : (home : TableId) (number : ℕ) (u : Knowledge) (seat : SeatView) (c : Journaled) → IsPassFor number u → seat_of home u ≡ seat → AllKnow (story c) u.known_seats → IsKnownBy c seat
-known_by home number u seat c one is all =
-    let knows = knows_one number u (story c) one all in
-    let known : IsKnownBy c (seat_of home u) = record { setup = knows.setup; seats = knows.seats; begins = knows.begins; calls = knows.calls } in
+pub known_by : (home : TableId) (u : Knowledge) (one : IsOfOneSeat u) (seat : SeatView) (c : Journaled) → seat_of home u one ≡ seat → AllKnow (story c) u.known_seats → IsKnownBy c seat
+known_by home u one seat c is all =
+    let knows = knows_one u (story c) one all in
+    let known : IsKnownBy c (seat_of home u one) = record { setup = knows.setup; seats = knows.seats; begins = knows.begins; calls = knows.calls } in
     subst (IsKnownBy c) is known
 
 -- a seat whose pass was taken in knows what the joined pass knows
-pub known_joined : (home : TableId) (v u w : Knowledge) (number : ℕ) (seat : SeatView) (c : Journaled) → IsPassFor number u → seat_of home u ≡ seat → w ≡ joined v u → AllKnow (story c) w.known_seats → AllKnow (story c) v.known_seats × IsKnownBy c seat
-known_joined home v u w number seat c one is both all =
+pub known_joined : (home : TableId) (v u w : Knowledge) (one : IsOfOneSeat u) (seat : SeatView) (c : Journaled) → seat_of home u one ≡ seat → w ≡ joined v u → AllKnow (story c) w.known_seats → AllKnow (story c) v.known_seats × IsKnownBy c seat
+known_joined home v u w one seat c is both all =
     let parts = AllKnow-parts (story c) u.known_seats v.known_seats (subst (λ (x : Knowledge). AllKnow (story c) x.known_seats) both all) in
-    (parts.1, known_by home number u seat c one is parts.0)
+    (parts.1, known_by home u one seat c is parts.0)
 
 pub known_push : (c : Journaled) (front back : List SeatView) (seat : SeatView) → back ≡ front ++ seat ∷ [] → All (IsKnownBy c) front → IsKnownBy c seat → All (IsKnownBy c) back
 known_push c front back seat is all one = subst (λ (l : List SeatView). All (IsKnownBy c) l) (sym is) (All-push (IsKnownBy c) front seat all one)
@@ -142,54 +181,73 @@ pub rest_dealt : (shared : TableId) (c : Journaled) (n : ℕ) (seats : List Seat
 rest_dealt shared c n seats is = subst (λ (l : List SeatView). All (λ seat. RestsAt shared seat) l) (sym is) (rest_fresh shared c 1 n)
 
 -- the pass that took another in, after it had the turn
-pub met_pass : (n m : ℕ) (u v j w x : Knowledge) (c : Journaled) → IsPassFor n u → IsPassFor m v → j ≡ joined v u → Taken j c w → Given w c x → x ≡ resting (seen_at (story c) (known_seat_of u.known_seats) ∷ seen_at (story c) (known_seat_of v.known_seats) ∷ [])
-met_pass n m u v j w x c one two is taken given =
+pub met_pass : (u v j w x : Knowledge) (c : Journaled) (one : IsOfOneSeat u) (two : IsOfOneSeat v) → j ≡ joined v u → Taken j c w → Given w c x → x ≡ resting (seen_at (story c) (known_seat_of u one) ∷ seen_at (story c) (known_seat_of v two) ∷ [])
+met_pass u v j w x c one two is taken given =
     given ∙ ap (λ (k : Knowledge). resting (seats_after k.held k.known_seats (story c))) taken.0 ∙ ap (λ (k : Knowledge). resting (seen_by (story c) k.known_seats)) is
-    ∙ (λ i. resting (seen_by (story c) (one.only i ++ two.only i)))
+    ∙ (λ i. resting (seen_by (story c) (only_is u.known_seats one i ++ only_is v.known_seats two i)))
 
-pub met_known : (n m : ℕ) (u v j w : Knowledge) (c : Journaled) → IsPassFor n u → IsPassFor m v → j ≡ joined v u → Taken j c w → Knows (story c) (known_seat_of u.known_seats) × Knows (story c) (known_seat_of v.known_seats)
-met_known n m u v j w c one two is taken =
+pub met_known : (u v j w : Knowledge) (c : Journaled) (one : IsOfOneSeat u) (two : IsOfOneSeat v) → j ≡ joined v u → Taken j c w → Knows (story c) (known_seat_of u one) × Knows (story c) (known_seat_of v two)
+met_known u v j w c one two is taken =
     let all = subst (λ (k : Knowledge). AllKnow (story c) k.known_seats) is taken.1 in
-    let both = subst (λ (ps : List KnownSeat). AllKnow (story c) ps) (λ i. one.only i ++ two.only i) all in
+    let both = subst (λ (ps : List KnownSeat). AllKnow (story c) ps) (λ i. only_is u.known_seats one i ++ only_is v.known_seats two i) all in
     (both.0, both.1.0)
 
--- a seat of the pass that met
-pub met_later : (home home' : TableId) (v y : Knowledge) (c : Journaled) (b : SeatView) → seat_of home v ≡ b → home' ≡ home → Knows (story c) (known_seat_of v.known_seats) → y ≡ resting (seen_at (story c) (known_seat_of v.known_seats) ∷ []) → IsLater b (seat_of home' y) × SameCalls b (seat_of home' y).seen
-met_later home home' v y c b is same known after =
-    let it : seat_of home' y ≡ seat_of home (resting (seen_at (story c) (known_seat_of v.known_seats) ∷ [])) = λ i. seat_of (same i) (after i) in
-    subst (λ (s : SeatView × SeatView). IsLater s.0 s.1 × SameCalls s.0 s.1.seen) (λ i. (is i, sym it i))
-    (record { home = refl; setup = refl; seats = refl; number = refl; rests = refl; begins = known.begins }, known.calls)
+-- each of both seats has a pass of its own again
+pub met_one : (p : KnownSeat) (y : Knowledge) → y ≡ resting (p ∷ []) → IsOfOneSeat y
+met_one p y is = ap (λ (u : Knowledge). length u.known_seats) is
 
--- what the one has seen is a beginning of what the other has
-pub met_begins : (home : TableId) (u v y z : Knowledge) (c : Journaled) (a : SeatView) → seat_of home u ≡ a → Knows (story c) (known_seat_of u.known_seats) → y ≡ resting (seen_at (story c) (known_seat_of u.known_seats) ∷ []) → z ≡ resting (seen_at (story c) (known_seat_of v.known_seats) ∷ [])
-    → Begins (known_seat_of y.known_seats).seen (known_seat_of z.known_seats).seen × SameCalls a (known_seat_of z.known_seats).seen
-met_begins home u v y z c a is known first second =
-    let one : (known_seat_of y.known_seats).seen ≡ c.journal = ap (λ (k : Knowledge). (known_seat_of k.known_seats).seen) first in
-    let two : (known_seat_of z.known_seats).seen ≡ c.journal = ap (λ (k : Knowledge). (known_seat_of k.known_seats).seen) second in (
-      subst (λ (l : List Entry × List Entry). Begins l.0 l.1) (λ i. (sym one i, sym two i)) (Begins-refl c.journal),
-      subst (λ (s : SeatView × List Entry). SameCalls s.0 s.1) (λ i. (is i, sym two i)) known.calls,
+pub met_numbered : (number : ℕ) (c : Story) (p : KnownSeat) (y : Knowledge) (one : IsOfOneSeat y) → HasNumber number p → y ≡ resting (seen_at c p ∷ []) → HasNumber number (known_seat_of y one)
+met_numbered number c p y one its is =
+    let mine = only_at y.known_seats one _ (ap (λ (u : Knowledge). u.known_seats) is) in
+    subst (HasNumber number) (sym mine) (record { same = its.same; from_one = its.from_one; to_last = its.to_last })
+
+-- a seat of the pass that met
+pub met_later : (home home' : TableId) (v y : Knowledge) (c : Journaled) (b : SeatView) (one : IsOfOneSeat v) (other : IsOfOneSeat y) → seat_of home v one ≡ b → home' ≡ home → Knows (story c) (known_seat_of v one) → y ≡ resting (seen_at (story c) (known_seat_of v one) ∷ [])
+    → IsLater b (seat_of home' y other) × SameCalls b (seat_of home' y other).seen
+met_later home home' v y c b one other is same known after =
+    let mine = only_at y.known_seats other _ (ap (λ (u : Knowledge). u.known_seats) after) in
+    subst (λ (s : SeatView). IsLater s (seat_of home' y other) × SameCalls s (seat_of home' y other).seen) is (
+      record {
+        home = same;
+        setup = ap (λ (p : KnownSeat). p.setup) mine;
+        seats = ap (λ (p : KnownSeat). p.seats) mine;
+        number = ap (λ (p : KnownSeat). p.number) mine;
+        rests = ap (λ (u : Knowledge). is_resting u.stage) after;
+        begins = subst (λ (l : List Entry). Begins (known_seat_of v one).seen l) (sym (ap (λ (p : KnownSeat). p.seen) mine)) known.begins;
+      },
+      subst (λ (l : List Entry). SameCalls (seat_of home v one) l) (sym (ap (λ (p : KnownSeat). p.seen) mine)) known.calls,
     )
 
-call_at : (rules : Parts → Rules) (number : ℕ) (home home' : TableId) (v w x : Knowledge) (c after : Journaled) (command : Command) (reply : Answer) → IsPassFor number v → Taken v c w → Given w after x
-    → reply ≡ reply_in rules c number command → after ≡ extended rules c number command → IsCall rules (seat_of home v) command reply (seat_of home' x)
-call_at rules number home home' v w x c after command reply one taken given answered extends =
-    let p = known_seat_of v.known_seats in
-    let known = knows_one number v (story c) one taken.1 in
-    let mine = ap known_seat_of (ap (λ (u : Knowledge). u.known_seats) given ∙ ap (λ (u : Knowledge). seats_after u.held u.known_seats (story after)) taken.0 ∙ ap (seen_by (story after)) one.only) in
+-- what the one has seen is a beginning of what the other has
+pub met_begins : (home : TableId) (u v y z : Knowledge) (c : Journaled) (a : SeatView) (one : IsOfOneSeat u) (two : IsOfOneSeat v) (other_one : IsOfOneSeat y) (other_two : IsOfOneSeat z) → seat_of home u one ≡ a → Knows (story c) (known_seat_of u one) → y ≡ resting (seen_at (story c) (known_seat_of u one) ∷ []) → z ≡ resting (seen_at (story c) (known_seat_of v two) ∷ [])
+    → Begins (known_seat_of y other_one).seen (known_seat_of z other_two).seen × SameCalls a (known_seat_of z other_two).seen
+met_begins home u v y z c a one two other_one other_two is known first second =
+    let mine : (known_seat_of y other_one).seen ≡ c.journal = ap (λ (p : KnownSeat). p.seen) (only_at y.known_seats other_one _ (ap (λ (k : Knowledge). k.known_seats) first)) in
+    let its : (known_seat_of z other_two).seen ≡ c.journal = ap (λ (p : KnownSeat). p.seen) (only_at z.known_seats other_two _ (ap (λ (k : Knowledge). k.known_seats) second)) in (
+      subst (λ (l : List Entry × List Entry). Begins l.0 l.1) (λ i. (sym mine i, sym its i)) (Begins-refl c.journal),
+      subst (λ (s : SeatView × List Entry). SameCalls s.0 s.1) (λ i. (is i, sym its i)) known.calls,
+    )
+
+call_at : (rules : Parts → Rules) (number : ℕ) (home home' : TableId) (v w x : Knowledge) (c after : Journaled) (command : Command) (reply : Answer) (one : IsOfOneSeat v) (other : IsOfOneSeat x) → HasNumber number (known_seat_of v one) → Taken v c w → Given w after x
+    → reply ≡ reply_in rules c number command → after ≡ extended rules c number command → IsCall rules (seat_of home v one) command reply (seat_of home' x other)
+call_at rules number home home' v w x c after command reply one other its taken given answered extends =
+    let p = known_seat_of v one in
+    let known = knows_one v (story c) one taken.1 in
+    let mine = seen_one v w x c after one other taken given in
     record {
       journal = c.journal;
       begins = known.begins;
       calls = known.calls;
-      entry = ap (λ (q : KnownSeat). q.seen) mine ∙ ap (λ (y : Journaled). y.journal) extends ∙ ap (λ n. c.journal ++ entry n command ∷ []) (sym one.same);
-      reply = answered ∙ (λ i. answer (rules (known.setup i)) (replay (rules (known.setup i)) (known.setup i) (known.seats i) c.journal) (sym one.same i) command);
+      entry = ap (λ (q : KnownSeat). q.seen) mine ∙ ap (λ (y : Journaled). y.journal) extends ∙ ap (λ n. c.journal ++ entry n command ∷ []) (sym its.same);
+      reply = answered ∙ (λ i. answer (rules (known.setup i)) (replay (rules (known.setup i)) (known.setup i) (known.seats i) c.journal) (sym its.same i) command);
     }
 
 -- a call that was answered
-pub is_call : (rules : Parts → Rules) (number : ℕ) (home home' : TableId) (v w x : Knowledge) (c after : Journaled) (command : Command) (r : Result Reply CallFault) (old : SeatView) → seat_of home v ≡ old → IsPassFor number v → Taken v c w → Given w after x
-    → IfOk r (λ reply. told reply ≡ reply_in rules c number command) → IfOk r (λ _. after ≡ extended rules c number command) → IfOk r (λ reply. IsCall rules old command (told reply) (seat_of home' x))
-is_call rules number home home' v w x c after command (Ok reply) old is one taken given answered extends =
-    subst (λ (s : SeatView). IsCall rules s command (told reply) (seat_of home' x)) is (call_at rules number home home' v w x c after command (told reply) one taken given answered extends)
-is_call rules number home home' v w x c after command (Err fault) old is one taken given answered extends = tt
+pub is_call : (rules : Parts → Rules) (number : ℕ) (home home' : TableId) (v w x : Knowledge) (c after : Journaled) (command : Command) (r : Result Reply CallFault) (old : SeatView) (one : IsOfOneSeat v) (other : IsOfOneSeat x) → seat_of home v one ≡ old → HasNumber number (known_seat_of v one) → Taken v c w → Given w after x
+    → IfOk r (λ reply. told reply ≡ reply_in rules c number command) → IfOk r (λ _. after ≡ extended rules c number command) → IfOk r (λ reply. IsCall rules old command (told reply) (seat_of home' x other))
+is_call rules number home home' v w x c after command (Ok reply) old one other is its taken given answered extends =
+    subst (λ (s : SeatView). IsCall rules s command (told reply) (seat_of home' x other)) is (call_at rules number home home' v w x c after command (told reply) one other its taken given answered extends)
+is_call rules number home home' v w x c after command (Err fault) old one other is its taken given answered extends = tt
 
 -- a call leaves the setup and the number of seats
 same_parts : (rules : Parts → Rules) (c after : Journaled) (number : ℕ) (command : Command) (r : Result Reply CallFault) → IfOk r (λ _. after ≡ extended rules c number command) → OnErr r (after ≡ c) → (after.setup ≡ c.setup) × (after.seats ≡ c.seats)
@@ -197,11 +255,11 @@ same_parts rules c after number command (Ok reply) ok err = (ap (λ (y : Journal
 same_parts rules c after number command (Err fault) ok err = (ap (λ (y : Journaled). y.setup) err, ap (λ (y : Journaled). y.seats) err)
 
 -- the headline of the control that is given back is that of the seat
-pub sees_headline : (rules : Parts → Rules) (SameState : Parts → List Event → List Event → Type 0) (number : ℕ) (home' : TableId) (v w x : Knowledge) (c after : Journaled) (command : Command) (r : Result Reply CallFault) → IsPassFor number v → Taken v c w → Given w after x
-    → IfOk r (λ _. after ≡ extended rules c number command) → OnErr r (after ≡ c) → HasHeadline rules SameState after → SeesHeadline rules SameState (seat_of home' x)
-sees_headline rules SameState number home' v w x c after command r one taken given ok err headline =
-    let known = knows_one number v (story c) one taken.1 in
-    let mine = ap known_seat_of (ap (λ (u : Knowledge). u.known_seats) given ∙ ap (λ (u : Knowledge). seats_after u.held u.known_seats (story after)) taken.0 ∙ ap (seen_by (story after)) one.only) in
+pub sees_headline : (rules : Parts → Rules) (SameState : Parts → List Event → List Event → Type 0) (number : ℕ) (home' : TableId) (v w x : Knowledge) (c after : Journaled) (command : Command) (r : Result Reply CallFault) (one : IsOfOneSeat v) (other : IsOfOneSeat x) → Taken v c w → Given w after x
+    → IfOk r (λ _. after ≡ extended rules c number command) → OnErr r (after ≡ c) → HasHeadline rules SameState after → SeesHeadline rules SameState (seat_of home' x other)
+sees_headline rules SameState number home' v w x c after command r one other taken given ok err headline =
+    let known = knows_one v (story c) one taken.1 in
+    let mine = seen_one v w x c after one other taken given in
     let parts = same_parts rules c after number command r ok err in
     let setup = parts.0 ∙ known.setup ∙ sym (ap (λ (q : KnownSeat). q.setup) mine) in
     let seats = parts.1 ∙ known.seats ∙ sym (ap (λ (q : KnownSeat). q.seats) mine) in

@@ -1,5 +1,5 @@
 -- The calls of a gate by a session: it is asked before each call, and notified after each reply.
-use Rattle.std.specs.Prelude.{◌≡◌, ◌⊎◌, ℕ, ◌+◌, Bool, true, false, List, [], ◌∷◌, ◌++◌, length, Option, Some, None}
+use Rattle.std.specs.Prelude.{◌≡◌, ℕ, ◌+◌, Bool, true, false, List, [], ◌∷◌, ◌++◌, length, Option, Some, None}
 use Rattle.cdb_control.specs.declared.command.Command.{Command}
 use Rattle.cdb_shared.specs.Seats.{SeatView}
 use Rattle.cdb_shared.specs.Sessions.{calls_of}
@@ -53,8 +53,3 @@ pub record Hears (old new : Option (List Heard)) (before after : SeatView) (end 
   pub answered : List Command
   pub calls : calls_of after ≡ calls_of before ++ answered
   pub heard : new ≡ heard_more old (heard_in (calls_of before) answered end)
-
--- the same of a session that makes room for all replies first: where that fails, the gate hears nothing
-abbrev pub HearsServed : Option (List Heard) → Option (List Heard) → SeatView → SeatView → End → Type 0
-HearsServed old new before after end =
-    Hears old new before after end ⊎ ((end ≡ NoMemory) × (after ≡ before) × (new ≡ old))

@@ -1,5 +1,7 @@
 //! A seat: what one session holds of a shared control.
 ghost use Rattle.std.specs.Prelude.{◌≡◌, ◌≤◌};
+ghost use Rattle.crossbeam_queue.specs.Passes.{view as view_of};
+ghost use Rattle.cdb_shared.specs.Passes.{IsOfOneSeat};
 
 use crate::turn::TurnPass;
 use cdb_rules::Runs;
@@ -12,19 +14,21 @@ use std::marker::Model;
 pub struct Seat<T: Runs> {
     pub(crate) number: u8,
     pub(crate) pass: TurnPass<T>,
+    ghost one: { IsOfOneSeat (view_of pass) },
 }
 
 impl<T: Runs> Model for Seat<T> {
     ghost use Rattle.std.specs.Prelude.{◌≡◌, []};
     ghost use Rattle.crossbeam_queue.specs.Passes.{view as view_of};
-    ghost use Rattle.cdb_shared.specs.Passes.{seat_of, IsPassFor};
+    ghost use Rattle.cdb_shared.specs.Passes.{seat_of, known_seat_of, HasNumber};
     ghost use Rattle.cdb_shared.specs.Seats.{SeatView};
 
     ghost Value = { SeatView };
 
-    ghost view = { λ s. seat_of s.pass.table_id (view_of s.pass) };
+    ghost view = { λ s. seat_of s.pass.table_id (view_of s.pass) s.one };
 
-    ghost invariant = { λ s. (s.pass.me.1 ≡ []) × IsPassFor s.number (view_of s.pass) };
+    ghost invariant = { λ s. (s.pass.me.1 ≡ [])
+        × HasNumber s.number (known_seat_of (view_of s.pass) s.one) };
 }
 
 impl<T: Runs> Seat<T> {

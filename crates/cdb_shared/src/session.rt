@@ -1,7 +1,7 @@
 //! Sessions: a seat's calls in order, each after its gate was asked.
-ghost use Rattle.std.specs.Prelude.{◌≡◌, ◌≢◌, ◌++◌, ◌≤◌, ◌↔◌, ◌⊎◌, length, map, take, replicate, vec_len, List, Bool, true, false, Option, None, IsTrue};
+ghost use Rattle.std.specs.Prelude.{◌≡◌, ◌≢◌, ◌++◌, ◌≤◌, ◌↔◌, length, map, take, replicate, vec_len, List, Bool, true, false, Option, None, IsTrue};
 ghost use Rattle.cdb_control.specs.Answer.{Refused, told};
-ghost use Rattle.cdb_shared.specs.Gates.{Heard, HearsAsked, HearsTold, Hears, HearsServed};
+ghost use Rattle.cdb_shared.specs.Gates.{Heard, HearsAsked, HearsTold, Hears};
 ghost use Rattle.cdb_shared.specs.Seats.{RestsAt, IsLater, SeesFull, SeesRoom};
 ghost use Rattle.cdb_shared.specs.Sessions.{calls_of, replies_to, end_at, IsDrivenFrom};
 
@@ -67,7 +67,7 @@ fn is_done(reply: &Reply) -> bool
 
 /// Makes a session's calls in order, each after the gate was asked, and hands the seat back with the replies. It
 /// ends with `Stopped` where the gate says so, and with `JournalFull` or `NoMemory` where a call meets
-/// that; the replies are those before. Room for all of them is reserved first.
+/// that; the replies are those before. Room for all of them is made at the first call.
 pub fn serve<T: Runs, G: Gate + Drop, R: Wait>(
     shared: &Shared<T>,
     rt: &R,
@@ -85,19 +85,20 @@ pub fn serve<T: Runs, G: Gate + Drop, R: Wait>(
     ensures all { (result.2 ≡ End.All) ↔ (vec_len result.1 ≡ length commands.now) }
     ensures done { result.2 ≢ End.Done }
     ensures full { result.2 ≡ End.JournalFull → SeesFull result.0 }
-    ensures short { result.2 ≡ End.NoMemory → (result.0 ≡ seat) ⊎ SeesRoom result.0 }
-    ensures gate { (last : G) × HearsServed (G.heard gate) (G.heard last) seat result.0 result.2 }
+    ensures short { result.2 ≡ End.NoMemory → SeesRoom result.0 }
+    ensures gate { (last : G) × Hears (G.heard gate) (G.heard last) seat result.0 result.2 }
     ensures passes { G.passes gate ≡ true → result.2 ≢ End.Stopped }
 {
     let mut replies = Vec::new(alloc);
     let mut number = 0u32;
-    if replies.reserve(commands.len()).is_err() {
-        return (seat, replies, End::NoMemory);
-    }
     for command in commands {
         number += 1;
         if !gate.before(number, &seat) {
             return (seat, replies, End::Stopped);
+        }
+        if replies.reserve(commands.len() - replies.len()).is_err() {
+            let fault = shared.no_room(rt, &mut seat);
+            return (seat, replies, ended_by(fault));
         }
         match shared.call(rt, alloc, &mut seat, *command) {
             Ok(reply) => replies.push_reserved(reply),

@@ -63,6 +63,24 @@ impl<T: Runs> Shared<T> {
         reply
     }
 
+    /// The fault of a call for whose reply there is no memory. It may wait for the turn, and lets the seat see
+    /// whether the journal is full.
+    pub(crate) fn no_room<R: Wait>(&self, rt: &R, seat: &mut Seat<T>) -> CallFault
+        requires { RestsAt self.now seat.old }
+        ensures seat { IsLater seat.old seat.new × SameCalls seat.old seat.new.seen }
+        ensures full { (result ≡ CallFault.JournalFull) ↔ SeesFull seat.new }
+        ensures limit { length seat.new.seen ≤ MAX_ENTRIES }
+    {
+        let held = take(rt, &self.turn, &mut seat.pass);
+        let entries = held.journal().len();
+        give(rt, &self.turn, &mut seat.pass, held);
+        if entries == MAX_ENTRIES as usize {
+            CallFault::JournalFull
+        } else {
+            CallFault::NoMemory
+        }
+    }
+
     /// Shares a control, with one seat for each of its seats, numbered from 1, which has seen the journal
     /// so far. `NoMemory` hands the control back as it was.
     pub fn open<R: Wait>(

@@ -1,14 +1,12 @@
-use Rattle.std.proofs.Common.{◌≡◌, inl, inr, ◌+◌, ◌∙◌, rules, refl, sym, ap, arith, true, false, List, [], ◌∷◌, ◌++◌, length, length-take, map, take}
+use Rattle.std.proofs.Common.{◌≡◌, ◌+◌, ◌∙◌, rules, refl, sym, ap, arith, true, false, List, [], ◌∷◌, ◌++◌, length, length-take, map, take}
 use Rattle.std.proofs.lemmas.List.{map-append}
 use Rattle.cdb_control.specs.Answer.{told}
+use Rattle.cdb_control.specs.declared.reply.Reply.{Reply}
 use Rattle.cdb_shared.specs.Gates.{Asked, heard_more, heard_of}
 use Rattle.cdb_shared.specs.Sessions.{calls_of, replies_to}
 use Rattle.cdb_shared.proofs.Hears.{heard_asked, heard_told, hears_asked, hears_fault}
 use Rattle.cdb_shared.proofs.Steps.{IsLater-trans, calls_of-call, calls_of-fault, replies_to-call, replies_to-fault, append_one, take_one_more, few_calls}
 use Rattle.cdb_shared.proofs.session.serve.Goals as goal
-
-pub returns-then-is_err-clause-gate : goal.returns-then-is_err-clause-gate
-returns-then-is_err-clause-gate g c = (c.args.gate, inr (refl, refl, refl))
 
 pub returns-then-not-before-clause-gate : goal.returns-then-not-before-clause-gate
 returns-then-not-before-clause-gate g c =
@@ -19,7 +17,24 @@ returns-then-not-before-clause-gate g c =
     let count : c.loop-command.number + 1 ≡ length answered + 1 = omega (arith, length-take index c.args.commands.now, was.number) in
     let asked = heard_asked (g.G.Gate.heard c.args.gate) (g.G.Gate.heard c.loop-command.gate) (g.G.Gate.heard c.before-in-loop-command.new.self) (calls_of c.args.seat) answered (calls_of c.loop-command.seat) (c.loop-command.number + 1) false was.heard was.calls count
     (c.before-in-loop-command.ensures.heard ∙ ap (λ b. heard_more (g.G.Gate.heard c.loop-command.gate) (Asked (c.loop-command.number + 1) (calls_of c.loop-command.seat) b ∷ [])) refused) in
-    (c.before-in-loop-command.new.self, inl (hears_asked _ _ c.args.seat c.loop-command.seat answered _ false was.calls refl asked))
+    (c.before-in-loop-command.new.self, hears_asked _ _ c.args.seat c.loop-command.seat answered _ false was.calls refl asked)
+
+pub returns-then-is_err-clause-gate : goal.returns-then-is_err-clause-gate
+returns-then-is_err-clause-gate g c =
+    let was = c.loop-command.invariant in
+    let index = c.loop-command.command-index in
+    let answered = take index c.args.commands.now in
+    let passed : c.before-in-loop-command.result ≡ true = search rules in
+    let count : c.loop-command.number + 1 ≡ length answered + 1 = omega (arith, length-take index c.args.commands.now, was.number) in
+    let asked = heard_asked (g.G.Gate.heard c.args.gate) (g.G.Gate.heard c.loop-command.gate) (g.G.Gate.heard c.before-in-loop-command.new.self) (calls_of c.args.seat) answered (calls_of c.loop-command.seat) (c.loop-command.number + 1) true was.heard was.calls count
+    (c.before-in-loop-command.ensures.heard ∙ ap (λ b. heard_more (g.G.Gate.heard c.loop-command.gate) (Asked (c.loop-command.number + 1) (calls_of c.loop-command.seat) b ∷ [])) passed) in
+    let calls = calls_of-fault c.loop-command.seat c.no_room-fault.new.seat c.no_room-fault.ensures.seat.0 c.no_room-fault.ensures.seat.1 ∙ was.calls in
+    (c.before-in-loop-command.new.self, hears_fault _ _ c.args.seat c.no_room-fault.new.seat answered c.no_room-fault.result _ c.ended_by.ensures calls asked)
+
+pub returns-then-is_err-clause-replies : goal.returns-then-is_err-clause-replies
+returns-then-is_err-clause-replies g c =
+    replies_to-fault g.T.Runs.rules c.loop-command.seat c.no_room-fault.new.seat c.no_room-fault.ensures.seat.0 c.no_room-fault.ensures.seat.1 ∙ c.loop-command.invariant.replies
+    ∙ ap (λ (l : List Reply). replies_to g.T.Runs.rules c.args.seat ++ map told l) (sym c.reserve.ensures.items)
 
 pub returns-in-Err-clause-gate : goal.returns-in-Err-clause-gate
 returns-in-Err-clause-gate g c =
@@ -31,10 +46,12 @@ returns-in-Err-clause-gate g c =
     let asked = heard_asked (g.G.Gate.heard c.args.gate) (g.G.Gate.heard c.loop-command.gate) (g.G.Gate.heard c.before-in-loop-command.new.self) (calls_of c.args.seat) answered (calls_of c.loop-command.seat) (c.loop-command.number + 1) true was.heard was.calls count
     (c.before-in-loop-command.ensures.heard ∙ ap (λ b. heard_more (g.G.Gate.heard c.loop-command.gate) (Asked (c.loop-command.number + 1) (calls_of c.loop-command.seat) b ∷ [])) passed) in
     let calls = calls_of-fault c.loop-command.seat c.call.new.seat c.call.ensures.seat c.in-Err.ensures.fault ∙ was.calls in
-    (c.before-in-loop-command.new.self, inl (hears_fault _ _ c.args.seat c.call.new.seat answered c.in-Err.fault _ c.ended_by.ensures calls asked))
+    (c.before-in-loop-command.new.self, hears_fault _ _ c.args.seat c.call.new.seat answered c.in-Err.fault _ c.ended_by-in-Err.ensures calls asked)
 
 pub returns-in-Err-clause-replies : goal.returns-in-Err-clause-replies
-returns-in-Err-clause-replies g c = replies_to-fault g.T.Runs.rules c.loop-command.seat c.call.new.seat c.call.ensures.seat c.in-Err.ensures.fault ∙ c.loop-command.invariant.replies
+returns-in-Err-clause-replies g c =
+    replies_to-fault g.T.Runs.rules c.loop-command.seat c.call.new.seat c.call.ensures.seat c.in-Err.ensures.fault ∙ c.loop-command.invariant.replies
+    ∙ ap (λ (l : List Reply). replies_to g.T.Runs.rules c.args.seat ++ map told l) (sym c.reserve.ensures.items)
 
 pub loop-command-preserved : goal.loop-command-preserved
 loop-command-preserved g c =
@@ -53,7 +70,8 @@ loop-command-preserved g c =
     let told_it = heard_told (g.G.Gate.heard c.args.gate) (g.G.Gate.heard c.before-in-loop-command.new.self) (g.G.Gate.heard c.after.new.self) (calls_of c.args.seat) before (calls_of now) c.command-item.result (c.loop-command.number + 1) asked one_more count_is c.after.ensures.heard in
     let heard = told_it ∙ ap (λ l. heard_more (g.G.Gate.heard c.args.gate) (heard_of 1 (calls_of c.args.seat) l)) (sym (take_one_more commands index c.command-item.result (omega arith) c.command-item.is)) in
     let few = few_calls c.args.seat now (take (index + 1) commands) calls c.call.ensures.limit in
-    let answered = ap (map told) c.push_reserved.ensures.items ∙ map-append told c.loop-command.replies.items (c.in-Ok.reply ∷ []) in
+    let kept = c.reserve.ensures.items in
+    let answered = ap (map told) (c.push_reserved.ensures.items ∙ ap (λ (l : List Reply). l ++ c.in-Ok.reply ∷ []) kept) ∙ map-append told c.loop-command.replies.items (c.in-Ok.reply ∷ []) in
     record {
       seat = IsLater-trans c.args.seat c.loop-command.seat now was.seat c.call.ensures.seat;
       calls = calls;
@@ -61,7 +79,6 @@ loop-command-preserved g c =
       count = omega arith;
       number = omega arith;
       limit = omega (arith, length-take (index + 1) commands);
-      room = omega arith;
       heard = heard;
       passes = λ always. c.after.ensures.passes (c.before-in-loop-command.ensures.passes (was.passes always)).1;
     }

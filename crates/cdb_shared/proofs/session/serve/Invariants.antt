@@ -1,4 +1,4 @@
-use Rattle.std.proofs.Common.{◌≡◌, ◌≤◌, ◌++◌, length, map, take, true, vec_len, vec_capacity}
+use Rattle.std.proofs.Common.{◌≡◌, ◌≤◌, ◌++◌, map, take, true, vec_len}
 use Rattle.cdb_control.specs.Answer.{told}
 use Rattle.cdb_shared.specs.Gates.{heard_more, heard_of}
 use Rattle.cdb_shared.specs.Seats.{IsLater}
@@ -13,7 +13,6 @@ invariant-loop-command g l = record {
   count : vec_len l.replies ≡ l.command-index;
   number : l.number ≡ l.command-index;
   limit : l.number ≤ 999999;
-  room : length l.commands ≤ vec_capacity l.replies;
   heard : g.G.Gate.heard l.gate ≡ heard_more (g.G.Gate.heard l.fn.gate) (heard_of 1 (calls_of l.fn.seat) (take l.command-index l.commands));
   passes : g.G.Gate.passes l.fn.gate ≡ true → g.G.Gate.passes l.gate ≡ true;
 }
