@@ -23,7 +23,7 @@ pub record Session : Type 0 where
   pub seat : ℕ
   pub lines : ℕ
 
--- what a contract sees of a session, which is of a run by rules that the code's type gives
+-- what a contract sees of a session; its rules are those of the type of its run
 pub record SessionView : Type 0 where
   pub control : Journaled
   pub seat : ℕ
