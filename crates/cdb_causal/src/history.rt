@@ -297,7 +297,8 @@ impl History {
 
     /// The position of the event of that name, from 1, if one stands.
     pub fn position(&self, name: StepId) -> Option<usize>
-        ensures { MatchOption result (IsNewName self.now name) (λ at. IsPositionOf self.now name at) }
+        ensures { MatchOption result (IsNewName self.now name)
+            (λ at. IsPositionOf self.now name at) }
     {
         let end = self.events.position_above(self.bounds.end_of_name(&name));
         position_of(self, &name, end)

@@ -66,7 +66,8 @@ pub fn push_whole<T: Runs>(
     run: &T,
     event: &Event,
 ) -> Result<(), AllocError>
-    ensures { Pushes result text.old text.new (whole_text T.rules (T.run run.now) (T.run run.now) event.now) }
+    ensures { Pushes result text.old text.new
+        (whole_text T.rules (T.run run.now) (T.run run.now) event.now) }
 {
     push_event(text, event)?;
     push_detail(text, run, event)?;
@@ -81,7 +82,8 @@ pub(crate) fn push_line<T: Runs>(
     run: &T,
     event: &Event,
 ) -> Result<(), AllocError>
-    ensures { Pushes result text.old text.new (line_text T.rules (T.run run.now) (T.run run.now) event.now) }
+    ensures { Pushes result text.old text.new
+        (line_text T.rules (T.run run.now) (T.run run.now) event.now) }
 {
     push_whole(alloc, text, run, event)?;
     text.push_str("\n")

@@ -1,7 +1,8 @@
 //! A run that is played again, event by event.
 
+ghost use Rattle.cdb_rules.specs.ByRules.{IsInOrder};
 ghost use Rattle.cdb_rules.specs.Runs.{with_event, with_history};
-ghost use Rattle.std.specs.Prelude.{◌≡◌, ◌++◌, ◌∷◌, [], IfOk, IsTrue, OnOk};
+ghost use Rattle.std.specs.Prelude.{◌≡◌, [], IfOk, OnOk};
 
 use cdb_base::{CopyName, Event, Kind, MsgName, NoMemory, Reg, StepId, StepName};
 use cdb_rules::{Chronicle, Runs};
@@ -17,7 +18,7 @@ pub fn fresh<T: Runs>(alloc: Global, run: &Chronicle) -> Result<T, NoMemory>
 
 /// Takes the next event of the run that is played again.
 pub fn take_next<T: Runs>(alloc: Global, again: &mut T, event: &Event) -> Result<(), NoMemory>
-    requires { IsTrue ((T.rules (T.run again.old).setup).valid ((T.run again.old).history ++ event.now ∷ [])) }
+    requires { IsInOrder T.rules (with_event (T.run again.old) event.now) }
     ensures { OnOk result (T.run again.new ≡ with_event (T.run again.old) event.now) }
 {
     // Names each type inside an event and a refusal, which the check finds in no other part of the function.
