@@ -38,6 +38,7 @@ module _ {K : Type 0} {R : K → K → Ordering} (total : IsTotalOrder R) (antis
     where
       at : (q : K) → q ≡ k → (new q && list_any (eq_by_cmp R q) all) ≡ true
       at q e = subst (λ x. (new x && list_any (eq_by_cmp R x) all) ≡ true) (sym e) (rw (is, listed) refl)
+
       go : (q : K) (b : Bool) → eq_by_cmp R q k ≡ b → (new q && list_any (eq_by_cmp R q) all) ≡ (eq_by_cmp R q k || (old q && list_any (eq_by_cmp R q) all))
       go q true e = at q (is_same q k e) ∙ sym (ap (λ b. b || (old q && list_any (eq_by_cmp R q) all)) e)
       go q false e = ap (λ b. b && list_any (eq_by_cmp R q) all) (others q e) ∙ sym (ap (λ b. b || (old q && list_any (eq_by_cmp R q) all)) e)
@@ -82,9 +83,9 @@ module _ {B : Type 0} (test : B → Bool) (f : ℕ → List B) (i : ℕ) (here :
   joined_at (suc n) a low high =
       list_any-append test (f a) (flat_map f (range_with_len (a + 1) n))
       ∙ ⊎_elim
-          (λ e. ap (λ b. b || list_any test (flat_map f (range_with_len (a + 1) n))) (subst (λ x. list_any test (f x) ≡ true) e here))
-          (λ ne. ap (λ b. list_any test (f a) || b) (joined_at n (a + 1) (omega arith) (omega arith)) ∙ or-true (list_any test (f a)))
-          (cases_eq i a)
+      (λ e. ap (λ b. b || list_any test (flat_map f (range_with_len (a + 1) n))) (subst (λ x. list_any test (f x) ≡ true) e here))
+      (λ ne. ap (λ b. list_any test (f a) || b) (joined_at n (a + 1) (omega arith) (omega arith)) ∙ or-true (list_any test (f a)))
+      (cases_eq i a)
 
 module _ {B : Type 0} (test : B → Bool) (g : ℕ → B) (i : ℕ) (here : test (g i) ≡ true) where
   mapped_at : (n a : ℕ) → a ≤ i → i < a + n → list_any test (map g (range_with_len a n)) ≡ true
