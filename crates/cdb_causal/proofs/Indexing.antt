@@ -1,5 +1,5 @@
 -- A log of events with its bounds, where room is made and where an event is added.
-use Rattle.std.proofs.Common.{◌≡◌, ℕ, ◌<◌, List, Some, slice_get, sym, ap, ◌∙◌, subst}
+use Rattle.std.proofs.Common.{◌≡◌, ℕ, ◌<◌, Some, slice_get, sym, ap, ◌∙◌, subst}
 use Rattle.std.proofs.lemmas.Option.{slice_get_within}
 use Rattle.cdb_base.specs.declared.event.Event.{Event}
 use Rattle.cdb_base.specs.declared.event.Event.TheVariants.{Step}
@@ -13,15 +13,14 @@ use Rattle.cdb_causal.specs.declared.bounds.Bounds.{Bounds}
 use Rattle.cdb_causal.proofs.Bounding.{all_raised}
 use Rattle.cdb_causal.proofs.Owning.{own_raised}
 use Rattle.cdb_causal.proofs.Receives.{alone_kept}
-use Rattle.cdb_log.specs.Marks.{mark, IsSameLog}
-use Rattle.cdb_log.specs.Pieces.{joined}
+use Rattle.cdb_log.specs.Marks.{Marked, mark, IsSameLog}
 
-module _ (old new : List (List Event)) (same : IsSameLog old new) where
-  stood : (i : ℕ) (event : Event) → slice_get (joined new) i ≡ Some event → slice_get (joined old) i ≡ Some event
+module _ (old new : Marked Event) (same : IsSameLog old new) where
+  stood : (i : ℕ) (event : Event) → slice_get new.items i ≡ Some event → slice_get old.items i ≡ Some event
   stood i event at = ap (λ l. slice_get l i) (sym same.items) ∙ at
 
-  mark_is : (i : ℕ) (event : Event) → slice_get (joined new) i ≡ Some event → mark old i ≡ mark new i
-  mark_is i event at = sym (same.marks i (slice_get_within (joined old) i event (stood i event at)))
+  mark_is : (i : ℕ) (event : Event) → slice_get new.items i ≡ Some event → mark old i ≡ mark new i
+  mark_is i event at = sym (same.marks i (slice_get_within old.items i event (stood i event at)))
 
   -- the bounds of a log are those of one in which the same events stand under the same marks
   pub indexed_same : (bounds : Bounds) → IsIndexed old bounds → IsIndexed new bounds
@@ -41,12 +40,12 @@ module _ (old new : List (List Event)) (same : IsSameLog old new) where
       }
 
 -- and they may be raised
-pub indexed_raised : (log : List (List Event)) (old new : Bounds) → ((top : ℕ) → AreRaised top old new) → KeepsReceives old new → IsIndexed log old → IsIndexed log new
+pub indexed_raised : (log : Marked Event) (old new : Bounds) → ((top : ℕ) → AreRaised top old new) → KeepsReceives old new → IsIndexed log old → IsIndexed log new
 indexed_raised log old new raised receives indexed =
     record {
       standing = indexed.standing;
-      within = all_raised old new (mark log) (joined log) raised indexed.within;
-      alone = alone_kept old new (joined log) receives indexed.alone;
-      own = own_raised old new (mark log) (joined log) raised indexed.own;
+      within = all_raised old new (mark log) log.items raised indexed.within;
+      alone = alone_kept old new log.items receives indexed.alone;
+      own = own_raised old new (mark log) log.items raised indexed.own;
       ranged = indexed.ranged;
     }

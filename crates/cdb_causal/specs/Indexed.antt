@@ -1,5 +1,4 @@
--- A history, as a list in pieces, with the bounds from which its events are sought.
-use Rattle.std.specs.Prelude.{List}
+-- A log of events, with the bounds from which they are sought.
 use Rattle.cdb_base.specs.declared.event.Event.{Event}
 use Rattle.cdb_causal.specs.Alone.{AreAlone}
 use Rattle.cdb_causal.specs.Bounds.{AreWithin}
@@ -7,12 +6,11 @@ use Rattle.cdb_causal.specs.Named.{AreRanged}
 use Rattle.cdb_causal.specs.Own.{AreOwn}
 use Rattle.cdb_causal.specs.Standing.{IsStanding}
 use Rattle.cdb_causal.specs.declared.bounds.Bounds.{Bounds}
-use Rattle.cdb_log.specs.Marks.{mark}
-use Rattle.cdb_log.specs.Pieces.{joined}
+use Rattle.cdb_log.specs.Marks.{Marked, mark}
 
-pub record IsIndexed (log : List (List Event)) (bounds : Bounds) : Type 0 where
-  pub standing : IsStanding (joined log)
-  pub within : AreWithin bounds (mark log) (joined log)
-  pub alone : AreAlone bounds (joined log)
-  pub own : AreOwn bounds (mark log) (joined log)
-  pub ranged : AreRanged (joined log)
+pub record IsIndexed (log : Marked Event) (bounds : Bounds) : Type 0 where
+  pub standing : IsStanding log.items
+  pub within : AreWithin bounds (mark log) log.items
+  pub alone : AreAlone bounds log.items
+  pub own : AreOwn bounds (mark log) log.items
+  pub ranged : AreRanged log.items

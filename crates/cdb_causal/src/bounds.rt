@@ -1,6 +1,6 @@
 //! Bounds of the marks under which events stand, by what another event may look for, so that a search
-//! begins near it. A bound may be too high, never too low; and no mark rises: so a bound stays right
-//! where events are taken out. An event that is added stands above all others, so its mark gives a
+//! begins near it. A bound may be too high, never too low; and an event keeps its mark: so a bound stays
+//! right where events are taken out. An event that is added stands above all others, so its mark gives a
 //! bound of each cell that it joins.
 
 ghost use Rattle.std.specs.Prelude.{◌≡◌, ◌≢◌, IsTrue, ℕ, ◌+◌, ◌-◌, ◌<◌, ◌≤◌, ◌==◌, ◌||◌, [], OnOk, true, false, length, nat_eq, slice_index, replicate, vec_len, if◌then◌else◌};

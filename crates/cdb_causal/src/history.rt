@@ -20,7 +20,6 @@ ghost use Rattle.cdb_causal.specs.Names.{IsNamedAt, IsNewName, IsPositionOf};
 ghost use Rattle.cdb_causal.specs.Rollback.{without};
 ghost use Rattle.cdb_causal.specs.Standing.{IsStanding, HasNoLostCopy};
 ghost use Rattle.cdb_log.specs.Marks.{HasRoom, IsPushed};
-ghost use Rattle.cdb_log.specs.Pieces.{joined};
 
 use crate::bounds::Bounds;
 use cdb_base::{Event, Kind, NoMemory, Proc, Reg, StepId};
@@ -40,11 +39,10 @@ impl Model for History {
     ghost use Rattle.std.specs.Prelude.{List};
     ghost use Rattle.cdb_base.specs.declared.event.Event.{Event};
     ghost use Rattle.cdb_causal.specs.Indexed.{IsIndexed};
-    ghost use Rattle.cdb_log.specs.Pieces.{joined};
 
     ghost Value = { List Event };
 
-    ghost view = { λ h. joined h.events };
+    ghost view = { λ h. h.events.items };
 
     ghost invariant = { λ h. IsIndexed h.events h.bounds };
 }
@@ -76,7 +74,7 @@ fn append_to_log(log: &mut Log<Event>, event: Event) -> Mark
 /// Makes room for an event in a log and in its bounds. No more changes, whatever is returned.
 fn make_room(events: &mut Log<Event>, bounds: &mut Bounds, event: &Event) -> Result<(), NoMemory>
     requires { IsIndexed events.old bounds.old }
-    ensures same { joined events.new ≡ joined events.old }
+    ensures same { events.new.items ≡ events.old.items }
     ensures indexed { IsIndexed events.new bounds.new }
     ensures room { OnOk result (HasRoom events.new) }
     ensures bounds { OnOk result (HasBoundsFor bounds.new event.now) }
@@ -91,9 +89,9 @@ fn add(events: &mut Log<Event>, bounds: &mut Bounds, event: Event)
     requires indexed { IsIndexed events.old bounds.old }
     requires room { HasRoom events.old }
     requires bounds { HasBoundsFor bounds.old event }
-    requires new_name { IsNewName (joined events.old) (event_name event) }
-    requires not_lost { HasNoLostCopy (joined events.old) event }
-    ensures added { joined events.new ≡ joined events.old ++ event ∷ [] }
+    requires new_name { IsNewName events.old.items (event_name event) }
+    requires not_lost { HasNoLostCopy events.old.items event }
+    ensures added { events.new.items ≡ events.old.items ++ event ∷ [] }
     ensures indexed { IsIndexed events.new bounds.new }
 {
     let added = event;

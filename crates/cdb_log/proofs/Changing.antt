@@ -1,39 +1,12 @@
 -- A list in pieces is changed in one piece, or gains or loses one without items.
-use Rattle.std.proofs.Common.{◌≡◌, ℕ, zero, suc, ◌+◌, ◌*◌, ◌<◌, ◌≤◌, ⊎_elim, List, [], ◌∷◌, ◌++◌, Option, Some, None, Vec, vec_capacity, length, get_or, set, slice_get, slice_index, remove, refl, sym, ap, ◌∙◌, subst, arith}
-use Rattle.std.proofs.lemmas.List.{map-append, map-set, length-set, nil_from_length, get_or_append_left, get_or_at, length_push}
+use Rattle.std.proofs.Common.{◌≡◌, ℕ, zero, suc, ◌+◌, ◌<◌, ◌≤◌, ⊎_elim, List, [], ◌∷◌, ◌++◌, Option, Some, None, Vec, vec_capacity, length, get_or, set, slice_get, slice_index, refl, sym, ap, ◌∙◌, subst, arith}
+use Rattle.std.proofs.lemmas.List.{map-append, map-set, length-set, nil_from_length, get_or_append_left, get_or_at, get_or-set_same, get_or-set_other, length_push}
 use Rattle.std.specs.Option.{option_to_list, MatchOption}
 use Rattle.cdb_log.specs.Ends.{start, AreRoomy, HasEnds}
-use Rattle.cdb_log.specs.Marks.{KeepsMarks, HasRoom, IsSameLog, IsPushed, IsReplaced, IsTakenOut}
-use Rattle.cdb_log.specs.Pieces.{joined, before, lists}
-use Rattle.cdb_log.proofs.Counting.{below_or_above, before_rises, before_step, before_all, located, mark_at, marks_kept, marks_before, marks_after}
-use Rattle.cdb_log.proofs.Ended.{start_is, lists_at, lists_long}
-use Rattle.cdb_log.proofs.Splitting.{item_at, joined_remove, joined_set, joined_push, before-set_low, before-set_high, joined-push_empty, before-push_empty, length-remove}
-
-module _ {T : Type 0} where
-  marks-push_empty : (ps : List (List T)) → KeepsMarks (length (joined ps)) ps (ps ++ [] ∷ [])
-  marks-push_empty ps =
-      marks_kept ps (ps ++ [] ∷ []) (let e = length_push ps [] in omega arith)
-      (λ l less. (before-push_empty ps l, (let e = before-push_empty ps (suc l) in omega arith)))
-
-  pub same_log : (old : List (List T)) → IsSameLog old old
-  same_log old = record { items = refl; marks = λ i less. refl }
-
-  pub same_then : (old middle new : List (List T)) → IsSameLog old middle → IsSameLog middle new → IsSameLog old new
-  same_then old middle new one two =
-      record { items = two.items ∙ one.items; marks = λ i less. two.marks i (subst (λ l. i < length l) (sym one.items) less) ∙ one.marks i less }
-
-  pub taken_then : (old middle new : List (List T)) (position : ℕ) (item : T) → position < length (joined old) → IsTakenOut old position item middle → IsSameLog middle new → IsTakenOut old position item new
-  taken_then old middle new position item within one two =
-      record {
-        stood = one.stood;
-        items = two.items ∙ one.items;
-        earlier = λ i less. two.marks i (let e = ap length one.items in let f = length-remove (joined old) position within in omega arith) ∙ one.earlier i less;
-        later = λ i le less.
-            let in_middle = subst (λ l. i < length l) two.items less in
-            let same = two.marks i in_middle in
-            let fall = one.later i le in_middle in
-            omega arith;
-      }
+use Rattle.cdb_log.specs.Pieces.{before, lists}
+use Rattle.cdb_log.proofs.Counting.{below_or_above, before_rises, before_step, before_all}
+use Rattle.cdb_log.proofs.Ended.{start_is, lists_at, lists_long, roomy_at, small_piece}
+use Rattle.cdb_log.proofs.Splitting.{before-set_low, before-set_high, before-push_empty}
 
 module _ {T Z : Type 0} where
   pub lists_set : (vs : List (Vec T Z)) (k : ℕ) (w : Vec T Z) → lists (set vs k w) ≡ set (lists vs) k w.items
@@ -107,125 +80,34 @@ module _ {T Z : Type 0} where
           roomy = roomy_set pieces k w h.roomy room;
         }
 
-  module _ (pieces : List (Vec T Z)) (ends : List ℕ) (h : HasEnds pieces ends) (k : ℕ) (v w : Vec T Z) (is : v ≡ get_or pieces k v) where
-    abbrev old : List (List T)
-    old = lists pieces
+  -- one item more in the last piece
+  pub ends_pushed : (pieces : List (Vec T Z)) (ends : List ℕ) (h : HasEnds pieces ends) (k e : ℕ) (v w : Vec T Z) → suc k ≡ length pieces → v ≡ get_or pieces k v → e ≡ slice_index ends k
+      → length w.items ≡ length v.items + 1 → length w.items ≤ 128 → 128 ≤ vec_capacity w → HasEnds (set pieces k w) (set ends k (e + 1))
+  ends_pushed pieces ends h k e v w last is is_end more small room =
+      let same = h.same_length in
+      ends_set pieces ends (set ends k (e + 1)) h k v w (omega arith) is (length-set ends k (e + 1))
+      (λ j less. get_or-set_other ends k j (e + 1) 0 (λ q. absurd (omega arith)))
+      (λ j le less.
+      let here : j ≡ k = omega arith in
+      let now = get_or-set_same ends k (e + 1) 0 (omega arith) in
+      let a = ap (slice_index (set ends k (e + 1))) here in
+      let b = ap (slice_index ends) here in
+      omega arith)
+      small room
 
-    abbrev changed : List T → List (List T)
-    changed q = set (lists pieces) k q
-
-    long : length (lists pieces) ≡ length pieces
-    long = lists_long pieces
-
-    pub pushed : (item : T) → suc k ≡ length pieces → w.items ≡ v.items ++ item ∷ [] → IsPushed (lists pieces) item (k * 128 + length v.items) (lists (set pieces k w))
-    pushed item last is_w =
-        subst (λ l. IsPushed old item (k * 128 + length v.items) l) (sym (lists_set pieces k w ∙ ap (set old k) is_w))
-        (record {
-          items = joined_push old k v.items item at_k (last ∙ sym long);
-          marks = marks_kept old (changed (v.items ++ item ∷ [])) (omega (arith, length-set old k (v.items ++ item ∷ [])))
-              (λ l less. (
-                low l (let a = long in omega arith),
-                (let a = long in ⊎_elim
-                    (λ before_k. let e = low (suc l) (omega arith) in omega arith)
-                    (λ not_before. let e = high (suc l) (omega arith) in omega arith)
-                    (below_or_above l k)),
-              ));
-          last =
-              let a = long in
-              let e = before_all old (suc k) (omega arith) in
-              let step = before_step old k v.items at_k in
-              let f = low k (omega arith) in
-              let g = high (suc k) (omega arith) in
-              let m = mark_at (changed (v.items ++ item ∷ [])) k (length (joined old)) (omega (arith, length-set old k (v.items ++ item ∷ []))) (omega arith) (omega arith) in
-              omega arith;
-          above = λ i less.
-              let a = located old i less in
-              let in_a = a.within in
-              let low_a = a.low in
-              let high_a = a.high in
-              let m = mark_at old a.k i a.within a.low a.high in
-              let s = h.small a.k in
-              let long_old = long in
-              let step = before_step old k v.items at_k in
-              ⊎_elim
-              (λ before_k. omega arith)
-              (λ not_before.
-              let same : a.k ≡ k = omega arith in
-              let e = ap (before old) same in
-              let f = ap (λ l. before old (suc l)) same in
-              omega arith)
-              (below_or_above a.k k);
-        })
-      where
-        at_k : slice_get (lists pieces) k ≡ Some v.items
-        at_k = lists_at pieces k v (omega arith) is
-
-        low : (j : ℕ) → j ≤ k → before (changed (v.items ++ item ∷ [])) j ≡ before old j
-        low j le = before-set_low old k j (v.items ++ item ∷ []) le
-
-        high : (j : ℕ) → k < j → before (changed (v.items ++ item ∷ [])) j ≡ before old j + 1
-        high j less = let e = before-set_high old k j v.items (v.items ++ item ∷ []) at_k less in let f = length_push v.items item in omega arith
-
-    pub replaced : (position i : ℕ) (item : T) → k < length pieces → position ≡ before (lists pieces) k + i → i < length v.items → w.items ≡ set v.items i item
-        → IsReplaced (lists pieces) position item (lists (set pieces k w)) × (HasRoom (lists pieces) → HasRoom (lists (set pieces k w)))
-    replaced position i item within is_position less is_w =
-        subst (λ l. IsReplaced old position item l × (HasRoom old → HasRoom l)) (sym (lists_set pieces k w ∙ ap (set old k) is_w)) (
-          record {
-            items = joined_set old k v.items at_k position i is_position less item;
-            marks = marks_kept old (changed (set v.items i item)) (omega (arith, length-set old k (set v.items i item))) (λ l in_old. (same l, (let e = same (suc l) in omega arith)));
-          },
-          λ room. (room.0, room.1 ∙ sym (length-set old k (set v.items i item)), (let a = same (suc room.0) in let b = same room.0 in let r = room.2 in omega arith)),
-        )
-      where
-        at_k : slice_get (lists pieces) k ≡ Some v.items
-        at_k = lists_at pieces k v within is
-
-        same : (j : ℕ) → before (changed (set v.items i item)) j ≡ before old j
-        same j =
-            ⊎_elim
-            (λ after. let e = before-set_high old k j v.items (set v.items i item) at_k after in let f = length-set v.items i item in omega arith)
-            (λ not_after. before-set_low old k j (set v.items i item) not_after)
-            (below_or_above k j)
-
-    pub taken_out : (position i : ℕ) (item : T) → k < length pieces → position ≡ before (lists pieces) k + i → i < length v.items → slice_get v.items i ≡ Some item → w.items ≡ remove v.items i
-        → IsTakenOut (lists pieces) position item (lists (set pieces k w))
-    taken_out position i item within is_position less at_i is_w =
-        subst (λ l. IsTakenOut old position item l) (sym (lists_set pieces k w ∙ ap (set old k) is_w))
-        (record {
-          stood = item_at old k v.items at_k position i is_position less ∙ at_i;
-          items = joined_remove old k v.items at_k position i is_position less;
-          earlier = let a = long in let step = before_step old k v.items at_k in marks_before old (changed (remove v.items i)) k position (length-set old k (remove v.items i)) (omega arith) (omega arith) (omega arith) low high;
-          later = let a = long in let step = before_step old k v.items at_k in marks_after old (changed (remove v.items i)) k position (length-set old k (remove v.items i)) (omega arith) (omega arith) (omega arith) low high;
-        })
-      where
-        at_k : slice_get (lists pieces) k ≡ Some v.items
-        at_k = lists_at pieces k v within is
-
-        low : (j : ℕ) → j ≤ k → before (changed (remove v.items i)) j ≡ before old j
-        low j le = before-set_low old k j (remove v.items i) le
-
-        high : (j : ℕ) → k < j → before (changed (remove v.items i)) j + 1 ≡ before old j
-        high j after = let e = before-set_high old k j v.items (remove v.items i) at_k after in let f = length-remove v.items i less in omega arith
+  -- one item less in a piece
+  pub ends_lowered : (pieces : List (Vec T Z)) (ends left : List ℕ) (h : HasEnds pieces ends) (k : ℕ) (v w : Vec T Z) → k < length pieces → v ≡ get_or pieces k v → length left ≡ length ends
+      → ((j : ℕ) → j < k → slice_index left j ≡ slice_index ends j) → ((j : ℕ) → k ≤ j → j < length ends → slice_index left j + 1 ≡ slice_index ends j)
+      → length w.items + 1 ≡ length v.items → vec_capacity w ≡ vec_capacity v → HasEnds (set pieces k w) left
+  ends_lowered pieces ends left h k v w within is same_length earlier lowered fewer same_room =
+      let s = small_piece pieces ends h k v within is in
+      let roomy = roomy_at pieces k v h.roomy within is in
+      ends_set pieces ends left h k v w within is same_length earlier (λ j le less. let l = lowered j le less in omega arith) (omega arith) (omega arith)
 
   -- a piece without items is added
   module _ (pieces : List (Vec T Z)) (ends : List ℕ) (h : HasEnds pieces ends) (v : Vec T Z) (none : v.items ≡ []) where
-    lists_more : lists (pieces ++ v ∷ []) ≡ lists pieces ++ [] ∷ []
+    pub lists_more : lists (pieces ++ v ∷ []) ≡ lists pieces ++ [] ∷ []
     lists_more = lists_push pieces v ∙ ap (λ l. lists pieces ++ l ∷ []) none
-
-    pub same_added : IsSameLog (lists pieces) (lists (pieces ++ v ∷ []))
-    same_added = subst (λ l. IsSameLog (lists pieces) l) (sym lists_more) (record { items = joined-push_empty (lists pieces); marks = marks-push_empty (lists pieces) })
-
-    pub room_added : HasRoom (lists (pieces ++ v ∷ []))
-    room_added =
-        subst HasRoom (sym lists_more) (
-          length (lists pieces),
-          (let e = length_push (lists pieces) [] in omega arith),
-          (let a = before-push_empty (lists pieces) (length (lists pieces)) in
-              let b = before-push_empty (lists pieces) (suc (length (lists pieces))) in
-              let c = before_all (lists pieces) (length (lists pieces)) (omega arith) in
-              let d = before_all (lists pieces) (suc (length (lists pieces))) (omega arith) in
-              omega arith),
-        )
 
     pub ends_added : length pieces < 33554431 → 128 ≤ vec_capacity v → HasEnds (pieces ++ v ∷ []) (ends ++ start ends (length ends) ∷ [])
     ends_added few room =
@@ -271,16 +153,8 @@ module _ {T Z : Type 0} where
         rises : (ps : List (List T)) (k : ℕ) → before ps k ≤ before ps (suc k)
         rises ps k = before_rises ps k (suc k) (omega arith)
 
-    lists_less : lists (pieces ++ v ∷ []) ≡ lists pieces ++ [] ∷ []
+    pub lists_less : lists (pieces ++ v ∷ []) ≡ lists pieces ++ [] ∷ []
     lists_less = lists_push pieces v ∙ ap (λ l. lists pieces ++ l ∷ []) none_left
-
-    pub same_dropped : IsSameLog (lists (pieces ++ v ∷ [])) (lists pieces)
-    same_dropped =
-        subst (λ l. IsSameLog l (lists pieces)) (sym lists_less)
-        (record {
-          items = sym (joined-push_empty (lists pieces));
-          marks = λ i less. sym (marks-push_empty (lists pieces) i (subst (λ l. i < length l) (joined-push_empty (lists pieces)) less));
-        })
 
     pub ends_dropped : HasEnds pieces ends
     ends_dropped =
@@ -303,13 +177,11 @@ module _ {T Z : Type 0} where
   -- the last of both is popped
   pub popped : (pieces left : List (Vec T Z)) (r : Option (Vec T Z)) (ends left_ends : List ℕ) (e : Option ℕ) → pieces ≡ left ++ option_to_list r → ends ≡ left_ends ++ option_to_list e → (n m i j : ℕ) → n ≡ length pieces → i ≡ length ends
       → MatchOption r ((n ≡ 0) × (m ≡ 0)) (λ v. m + 1 ≡ n) → MatchOption e ((i ≡ 0) × (j ≡ 0)) (λ v. j + 1 ≡ i)
-      → HasEnds pieces ends → (k : ℕ) → suc (suc k) ≡ length ends → slice_index ends (suc k) ≡ start ends k → HasEnds left left_ends × IsSameLog (lists pieces) (lists left)
+      → HasEnds pieces ends → (k : ℕ) → suc (suc k) ≡ length ends → slice_index ends (suc k) ≡ start ends k → HasEnds left left_ends × (lists pieces ≡ lists left ++ [] ∷ [])
   popped pieces left None ends left_ends e is is_ends n m i j long long_ends cases cases_ends h k last spare = absurd (let a = cases.0 in let b = h.same_length in omega arith)
   popped pieces left (Some v) ends left_ends None is is_ends n m i j long long_ends cases cases_ends h k last spare = absurd (let a = cases_ends.0 in omega arith)
   popped pieces left (Some v) ends left_ends (Some end) is is_ends n m i j long long_ends cases cases_ends h k last spare =
       let g = subst (λ l. HasEnds (left ++ v ∷ []) l) is_ends (subst (λ p. HasEnds p ends) is h) in
       let last_is = last ∙ ap length is_ends in
-      let spare_is = subst (λ l. slice_index l (suc k) ≡ start l k) is_ends spare in (
-        ends_dropped left left_ends v end g k last_is spare_is,
-        subst (λ p. IsSameLog (lists p) (lists left)) (sym is) (same_dropped left left_ends v end g k last_is spare_is),
-      )
+      let spare_is = subst (λ l. slice_index l (suc k) ≡ start l k) is_ends spare in
+      (ends_dropped left left_ends v end g k last_is spare_is, ap lists is ∙ lists_less left left_ends v end g k last_is spare_is)

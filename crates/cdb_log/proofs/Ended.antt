@@ -1,10 +1,9 @@
 -- What the ends of pieces say of them.
-use Rattle.std.proofs.Common.{◌≡◌, ℕ, zero, suc, ◌+◌, ◌-◌, ◌*◌, ◌<◌, ◌≤◌, ◌↔◌, ⊎_elim, List, [], ◌∷◌, Some, Vec, vec_capacity, length, get_or, slice_get, slice_index, refl, sym, ap, ◌∙◌, subst, arith}
+use Rattle.std.proofs.Common.{◌≡◌, ℕ, zero, suc, ◌+◌, ◌-◌, ◌*◌, ◌<◌, ◌≤◌, ⊎_elim, List, [], ◌∷◌, Some, Vec, vec_capacity, length, get_or, slice_get, slice_index, refl, sym, ap, ◌∙◌, subst, arith}
 use Rattle.std.proofs.lemmas.List.{length-map}
 use Rattle.cdb_log.specs.Ends.{start, AreEnds, IsSpot, AreRoomy, HasEnds}
-use Rattle.cdb_log.specs.Marks.{mark}
 use Rattle.cdb_log.specs.Pieces.{joined, before, lists}
-use Rattle.cdb_log.proofs.Counting.{below_or_above, before_rises, before_step, before_all, located, mark_at}
+use Rattle.cdb_log.proofs.Counting.{below_or_above, before_rises, before_step, before_all}
 
 pub same_start : (ends : List ℕ) (n : ℕ) → 0 < n → start ends n ≡ slice_index ends (n - 1)
 same_start ends zero some = absurd (omega arith)
@@ -73,49 +72,8 @@ module _ {T Z : Type 0} where
     bounded zero = omega arith
     bounded (suc k) = let b = bounded k in let s = h.small k in omega arith
 
-    pub last_in : (l : List ℕ) (view : List (List T)) (position : ℕ) → l ≡ ends → lists pieces ≡ view → position < length (joined view) → position < slice_index l (length l - 1)
-    last_in l view position same is less =
-        subst (λ m. position < slice_index m (length m - 1)) (sym same) (last_above position (subst (λ m. position < length (joined m)) (sym is) less))
+    pub last_in : (l : List ℕ) (items : List T) (position : ℕ) → l ≡ ends → joined (lists pieces) ≡ items → position < length items → position < slice_index l (length l - 1)
+    last_in l items position same is less = subst (λ m. position < slice_index m (length m - 1)) (sym same) (last_above position (subst (λ m. position < length m) (sym is) less))
 
     pub small_piece : (k : ℕ) (v : Vec T Z) → k < length pieces → v ≡ get_or pieces k v → length v.items ≤ 128
     small_piece k v within is = let step = before_step (lists pieces) k v.items (lists_at pieces k v within is) in let s = h.small k in omega arith
-
-    -- below the position of a bound stand the items whose marks are below the bound
-    pub all_marked : (bound i : ℕ) → 128 * length pieces ≤ bound → i < length (joined (lists pieces)) → mark (lists pieces) i < bound
-    all_marked bound i past less =
-        let a = located (lists pieces) i less in
-        let long = lists_long pieces in
-        let in_a = a.within in
-        let low = a.low in
-        let high = a.high in
-        let small = h.small a.k in
-        let m = mark_at (lists pieces) a.k i a.within a.low a.high in
-        omega arith
-
-    pub marks_small : (i : ℕ) → i < length (joined (lists pieces)) → mark (lists pieces) i < 4294967295
-    marks_small i less = let few = h.few in let m = all_marked (128 * length pieces) i (omega arith) less in omega arith
-
-    pub position_marked : (k extra i : ℕ) → k < length pieces → extra < 128 → i < length (joined (lists pieces))
-        → ((i < slice_index ends k) × (i < start ends k + extra)) ↔ (mark (lists pieces) i < 128 * k + extra)
-    position_marked k extra i within less_extra less =
-        let a = located (lists pieces) i less in
-        let long = lists_long pieces in
-        let same = h.same_length in
-        let in_a = a.within in
-        let low = a.low in
-        let high = a.high in
-        let small = h.small a.k in
-        let m = mark_at (lists pieces) a.k i a.within a.low a.high in
-        let s = start_is k (omega arith) in
-        let e = h.each k (omega arith) in
-        ⊎_elim
-        (λ earlier. let r = before_rises (lists pieces) (suc a.k) k (omega arith) in let t = before_rises (lists pieces) k (suc k) (omega arith) in (λ q. omega arith, λ q. (omega arith, omega arith)))
-        (λ not_earlier. ⊎_elim
-        (λ later. let r = before_rises (lists pieces) (suc k) a.k (omega arith) in (λ q. absurd (let b = q.0 in omega arith), λ q. absurd (omega arith)))
-        (λ not_later.
-        let here : a.k ≡ k = omega arith in
-        let u = ap (before (lists pieces)) here in
-        let v = ap (λ n. before (lists pieces) (suc n)) here in
-        (λ q. (let b = q.1 in omega arith), λ q. (omega arith, omega arith)))
-        (below_or_above k a.k))
-        (below_or_above a.k k)

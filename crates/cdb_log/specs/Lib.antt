@@ -1,5 +1,6 @@
 -- what a reader of the contracts believes
 pub mod Marks
-pub mod Pieces
--- what the code keeps for itself: where pieces end
+-- what the code keeps for itself: pieces, where they end, and the offsets of their items
 pub mod Ends
+pub mod Offsets
+pub mod Pieces

@@ -45,16 +45,6 @@ pub(crate) fn spot_of(ends: &[usize], position: usize) -> (usize, usize)
     (k, position - start_of(ends, k))
 }
 
-/// Whether the last piece has room for one item more.
-pub(crate) fn is_open(ends: &[usize]) -> bool
-    requires { AreEnds ends.now }
-    ensures { IsTrue result
-        ↔ ((k : ℕ) × (suc k ≡ length ends.now) × (slice_index ends.now k < start ends.now k + 128)) }
-{
-    let count = ends.len();
-    count > 0 && ends[count - 1] - start_of(ends, count - 1) < PIECE
-}
-
 /// Whether the last two pieces are empty.
 pub(crate) fn is_spare(ends: &[usize]) -> bool
     ensures { IsTrue result → (k : ℕ)

@@ -1,5 +1,5 @@
 //! A list in pieces, of which an item is taken out at the same cost wherever it stands, and in which
-//! each item has a mark that never rises.
+//! each item keeps the mark under which it was added.
 //!
 //! ```text
 //! let mark = log.push(item)?;
@@ -10,5 +10,6 @@
 
 mod ends;
 mod log;
+mod offsets;
 
 pub use log::{ABOVE_ALL, Log, Mark};

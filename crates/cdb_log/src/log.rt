@@ -1,11 +1,11 @@
 //! A list in pieces.
 
-ghost use Rattle.std.specs.Prelude.{◌≡◌, ℕ, ◌-◌, ◌<◌, ◌≤◌, ◌==◌, ◌↔◌, List, [], ◌∷◌, ◌++◌, Some, length, slice_get, Vec, OnOk, OnErr, IfOk};
-ghost use Rattle.cdb_log.specs.Ends.{HasEnds};
-ghost use Rattle.cdb_log.specs.Marks.{mark, HasRoom, IsSameLog, IsPushed, IsReplaced, IsTakenOut};
-ghost use Rattle.cdb_log.specs.Pieces.{joined, lists};
+ghost use Rattle.std.specs.Prelude.{◌≡◌, ℕ, ◌<◌, ◌≤◌, ◌==◌, ◌↔◌, Some, length, slice_get, OnOk, OnErr, IfOk};
+ghost use Rattle.cdb_log.specs.Marks.{mark, without_items, HasRoom, IsSameLog, IsPushed, IsReplaced, IsTakenOut};
+ghost use Rattle.cdb_log.specs.Offsets.{AreInPieces, seen};
 
-use crate::ends::{PIECE, is_open, is_spare, lower, spot_of, start_of};
+use crate::ends::{PIECE, is_spare, lower, spot_of, start_of};
+use crate::offsets::{count_below, is_open, next_of};
 use cdb_base::NoMemory;
 use std::alloc::Global;
 use std::marker::Model;
@@ -19,38 +19,41 @@ pub type Mark = u32;
 /// Above the marks of all items.
 pub const ABOVE_ALL: Mark = u32::MAX;
 
-/// A list of items. To take one out moves at most the items of one piece. A contract sees the pieces;
-/// positions count from 0, over all of them. The mark of an item is a number that rises along the list,
-/// and never rises in time.
+/// A list of items. To take one out moves at most the items of one piece. A contract sees the items in
+/// order, and the mark of each; positions count from 0. Marks rise along the list, and an item keeps its
+/// mark.
 #[derive(Drop)]
 pub struct Log<T: Drop> {
     pieces: Vec<Vec<T>>,
+    /// The offsets of the items of each piece.
+    offsets: Vec<Vec<u8>>,
     /// How many items stand in the pieces up to each.
     ends: Vec<usize>,
     alloc: Global,
 }
 
 impl<T: Drop> Model for Log<T> {
-    ghost use Rattle.std.specs.Prelude.{List};
+    ghost use Rattle.cdb_log.specs.Marks.{Marked};
 
-    ghost Value = { List (List T) };
+    ghost Value = { Marked T };
 
-    ghost use Rattle.cdb_log.specs.Ends.{HasEnds};
-    ghost use Rattle.cdb_log.specs.Pieces.{lists};
+    ghost use Rattle.cdb_log.specs.Offsets.{AreInPieces, seen};
 
-    ghost view = { λ log. lists log.pieces.items };
+    ghost view = { λ log. seen log.pieces.items log.offsets.items };
 
-    ghost invariant = { λ log. HasEnds log.pieces.items log.ends.items };
+    ghost invariant = { λ log. AreInPieces log.pieces.items log.offsets.items log.ends.items };
 }
 
 /// Drops the last piece while it and the one before it are empty.
-fn drop_spares<T: Drop>(pieces: &mut Vec<Vec<T>>, ends: &mut Vec<usize>)
-    requires { HasEnds pieces.old.items ends.old.items }
-    ensures ends { HasEnds pieces.new.items ends.new.items }
-    ensures same { IsSameLog (lists pieces.old.items) (lists pieces.new.items) }
+fn drop_spares<T: Drop>(pieces: &mut Vec<Vec<T>>, offsets: &mut Vec<Vec<u8>>, ends: &mut Vec<usize>)
+    requires { AreInPieces pieces.old.items offsets.old.items ends.old.items }
+    ensures kept { AreInPieces pieces.new.items offsets.new.items ends.new.items }
+    ensures same { IsSameLog (seen pieces.old.items offsets.old.items)
+        (seen pieces.new.items offsets.new.items) }
 {
     while is_spare(ends) {
         pieces.pop();
+        offsets.pop();
         ends.pop();
     }
 }
@@ -58,10 +61,11 @@ fn drop_spares<T: Drop>(pieces: &mut Vec<Vec<T>>, ends: &mut Vec<usize>)
 impl<T: Drop> Log<T> {
     /// A log without items.
     pub fn new(alloc: Global) -> Self
-        ensures { result ≡ [] }
+        ensures { result ≡ without_items }
     {
         Log {
             pieces: Vec::new(alloc),
+            offsets: Vec::new(alloc),
             ends: Vec::new(alloc),
             alloc,
         }
@@ -69,7 +73,7 @@ impl<T: Drop> Log<T> {
 
     /// How many items there are.
     pub fn len(&self) -> usize
-        ensures { result ≡ length (joined self.now) }
+        ensures { result ≡ length self.now.items }
     {
         let count = self.ends.len();
         start_of(&self.ends, count)
@@ -77,15 +81,15 @@ impl<T: Drop> Log<T> {
 
     /// Whether there is no item.
     pub fn is_empty(&self) -> bool
-        ensures { result ≡ (length (joined self.now) == 0) }
+        ensures { result ≡ (length self.now.items == 0) }
     {
         self.len() == 0
     }
 
     /// The item at a position.
     pub fn get(&self, position: usize) -> &T
-        requires { position < length (joined self.now) }
-        ensures { slice_get (joined self.now) position ≡ Some result.now }
+        requires { position < length self.now.items }
+        ensures { slice_get self.now.items position ≡ Some result.now }
     {
         let (k, i) = spot_of(&self.ends, position);
         let piece = &self.pieces[k];
@@ -95,10 +99,10 @@ impl<T: Drop> Log<T> {
     /// How many items have a mark below the bound: those before the result. No mark is as high as
     /// `ABOVE_ALL`.
     pub fn position_above(&self, bound: Mark) -> usize
-        ensures within { result ≤ length (joined self.now) }
-        ensures marks { (i : ℕ) → i < length (joined self.now) →
+        ensures within { result ≤ length self.now.items }
+        ensures marks { (i : ℕ) → i < length self.now.items →
             (i < result) ↔ (mark self.now i < bound) }
-        ensures small { (i : ℕ) → i < length (joined self.now) →
+        ensures small { (i : ℕ) → i < length self.now.items →
             mark self.now i < ABOVE_ALL }
     {
         let bound = bound as usize;
@@ -106,7 +110,8 @@ impl<T: Drop> Log<T> {
         if k >= self.ends.len() {
             return self.len();
         }
-        self.ends[k].min(start_of(&self.ends, k) + bound % PIECE)
+        let offsets = &self.offsets[k];
+        start_of(&self.ends, k) + count_below(offsets, bound % PIECE)
     }
 
     /// Adds a piece without items.
@@ -119,10 +124,13 @@ impl<T: Drop> Log<T> {
             return Err(NoMemory);
         }
         self.ends.reserve(1)?;
+        self.offsets.reserve(1)?;
         self.pieces.reserve(1)?;
+        let offsets = Vec::with_capacity(self.alloc, PIECE)?;
         let piece = Vec::with_capacity(self.alloc, PIECE)?;
         let end = start_of(&self.ends, self.ends.len());
         self.pieces.push_reserved(piece);
+        self.offsets.push_reserved(offsets);
         self.ends.push_reserved(end);
         Ok(())
     }
@@ -133,7 +141,7 @@ impl<T: Drop> Log<T> {
         ensures ok { OnOk result (HasRoom self.new) }
         ensures err { OnErr result (self.new ≡ self.old) }
     {
-        if is_open(&self.ends) {
+        if is_open(&self.offsets) {
             return Ok(());
         }
         self.add_piece()
@@ -146,11 +154,13 @@ impl<T: Drop> Log<T> {
         ensures small { result < ABOVE_ALL }
     {
         let last = self.ends.len() - 1;
+        let offsets = &mut self.offsets[last];
+        let offset = next_of(offsets);
+        offsets.push_reserved(offset as u8);
         let piece = &mut self.pieces[last];
-        let position = piece.len();
         piece.push_reserved(item);
         self.ends[last] += 1;
-        (last * PIECE + position) as Mark
+        (last * PIECE + offset) as Mark
     }
 
     /// Adds an item at the end, and returns its mark. Where an allocation fails, the log is as it
@@ -166,7 +176,7 @@ impl<T: Drop> Log<T> {
 
     /// Puts another item at a position.
     pub fn set(&mut self, position: usize, item: T)
-        requires { position < length (joined self.old) }
+        requires { position < length self.old.items }
         ensures replaced { IsReplaced self.old position item self.new }
         ensures room { HasRoom self.old → HasRoom self.new }
     {
@@ -175,16 +185,18 @@ impl<T: Drop> Log<T> {
         piece[i] = item;
     }
 
-    /// Takes the item at a position out. The others keep their order. It takes no memory.
+    /// Takes the item at a position out. The others keep their order, and their marks. It takes no memory.
     pub fn take_out(&mut self, position: usize) -> T
-        requires { position < length (joined self.old) }
+        requires { position < length self.old.items }
         ensures { IsTakenOut self.old position result self.new }
     {
         let (k, i) = spot_of(&self.ends, position);
         let piece = &mut self.pieces[k];
         let item = piece.remove(i);
+        let offsets = &mut self.offsets[k];
+        offsets.remove(i);
         lower(&mut self.ends, k);
-        drop_spares(&mut self.pieces, &mut self.ends);
+        drop_spares(&mut self.pieces, &mut self.offsets, &mut self.ends);
         item
     }
 }

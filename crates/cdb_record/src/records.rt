@@ -40,11 +40,10 @@ impl<B: Drop> Model for Records<B> {
     ghost Value = { List (Entry B) };
 
     ghost use Rattle.cdb_record.specs.Entries.{entries_of};
-    ghost use Rattle.cdb_log.specs.Pieces.{joined};
 
-    ghost view = { λ records. entries_of records.history (joined records.left) };
+    ghost view = { λ records. entries_of records.history records.left.items };
 
-    ghost invariant = { λ records. (length (joined records.left) ≡ length records.history)
+    ghost invariant = { λ records. (length records.left.items ≡ length records.history)
         × (length records.history ≤ 4294967295) };
 }
 

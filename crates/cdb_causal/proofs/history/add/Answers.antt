@@ -10,14 +10,13 @@ use Rattle.cdb_causal.proofs.Keeping.{standing_push}
 use Rattle.cdb_causal.proofs.Naming.{ranged_push}
 use Rattle.cdb_causal.proofs.Owning.{own_push}
 use Rattle.cdb_causal.proofs.Receives.{alone_push}
-use Rattle.cdb_log.specs.Marks.{mark}
-use Rattle.cdb_log.specs.Pieces.{joined}
+use Rattle.cdb_log.specs.Marks.{Marked, mark}
 use Rattle.cdb_causal.proofs.history.add.Goals as goal
 
 pub returns-clause-indexed : goal.returns-clause-indexed
 returns-clause-indexed c =
-    let old : List (List Event) = c.args.events.now in
-    let items : List Event = joined old in
+    let old : Marked Event = c.args.events.now in
+    let items : List Event = old.items in
     let event : Event = c.args.event in
     let bounds = c.args.bounds.now in
     let noted = c.note.new.self in

@@ -5,7 +5,6 @@ use Rattle.cdb_causal.specs.Causality.{IsLink}
 use Rattle.cdb_causal.specs.Dependence.{same_process, depends}
 use Rattle.cdb_causal.proofs.Ends.{end_above_between}
 use Rattle.cdb_log.specs.Marks.{mark}
-use Rattle.cdb_log.specs.Pieces.{joined}
 use Rattle.cdb_causal.proofs.history.History.end_between.Goals as goal
 use Rattle.cdb_log.specs.declared.log.TheConstants.{ABOVE_ALL}
 
@@ -16,6 +15,6 @@ returns c =
     let effect : Event = c.get-effect.result.now in
     subst (λ h. (k : ℕ) (l : IsLink depends h c.args.i k) → IsLink depends h k c.args.j → same_process l.cause l.effect ≡ false → k < c.position_above.result) c.self.view_is
     (λ k one two another.
-    (c.position_above.ensures.marks k (slice_get_within (joined log) k two.cause two.at_cause)).1
-    (end_above_between (joined log) c.self.invariant.standing c.self.inside.bounds (mark log) c.self.invariant.within c.self.invariant.alone c.args.i c.args.j c.end_between-bound.result ABOVE_ALL cause effect c.get-cause.ensures c.get-effect.ensures
-    (λ i less. c.position_above.ensures.small i (let within = slice_get_within (joined log) c.args.j effect c.get-effect.ensures in omega (arith, less, within))) c.end_between-bound.ensures k one two another))
+    (c.position_above.ensures.marks k (slice_get_within log.items k two.cause two.at_cause)).1
+    (end_above_between log.items c.self.invariant.standing c.self.inside.bounds (mark log) c.self.invariant.within c.self.invariant.alone c.args.i c.args.j c.end_between-bound.result ABOVE_ALL cause effect c.get-cause.ensures c.get-effect.ensures
+    (λ i less. c.position_above.ensures.small i (let within = slice_get_within log.items c.args.j effect c.get-effect.ensures in omega (arith, less, within))) c.end_between-bound.ensures k one two another))

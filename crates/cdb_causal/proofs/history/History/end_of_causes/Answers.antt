@@ -7,7 +7,6 @@ use Rattle.cdb_causal.specs.LastCauses.{IsSlot}
 use Rattle.cdb_causal.proofs.Ends.{end_above}
 use Rattle.cdb_causal.proofs.Owning.{below_slot}
 use Rattle.cdb_log.specs.Marks.{mark}
-use Rattle.cdb_log.specs.Pieces.{joined}
 use Rattle.cdb_causal.proofs.history.History.end_of_causes.Goals as goal
 
 pub returns : goal.returns
@@ -16,8 +15,8 @@ returns c =
     let effect : Event = c.args.effect.now in
     subst (λ h. (i j : ℕ) (l : IsLink depends h i j) → slice_get h j ≡ Some effect → IsSlot l.cause c.args.slot → i < c.position_above.result) c.self.view_is
     (λ i j l at_j in_slot.
-    (c.position_above.ensures.marks i (slice_get_within (joined log) i l.cause l.at_cause)).1
-    (end_above (joined log) c.self.invariant.standing c.self.inside.bounds (mark log) c.self.invariant.within j c.args.slot c.end-bound.result c.end_before-before.result effect at_j
+    (c.position_above.ensures.marks i (slice_get_within log.items i l.cause l.at_cause)).1
+    (end_above log.items c.self.invariant.standing c.self.inside.bounds (mark log) c.self.invariant.within j c.args.slot c.end-bound.result c.end_before-before.result effect at_j
     (λ k m in_slot. subst (λ b. mark log k < b) (sym c.end_before-before.ensures)
-    (below_slot c.self.inside.bounds (mark log) (joined log) c.self.invariant.standing c.self.invariant.own c.position_above.ensures.small k j c.args.slot m.later effect m.cause at_j m.at_cause in_slot))
+    (below_slot c.self.inside.bounds (mark log) log.items c.self.invariant.standing c.self.invariant.own c.position_above.ensures.small k j c.args.slot m.later effect m.cause at_j m.at_cause in_slot))
     c.end-bound.ensures i l in_slot))

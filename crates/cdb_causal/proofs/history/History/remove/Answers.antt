@@ -13,12 +13,11 @@ use Rattle.cdb_causal.proofs.Lists.{remove-without}
 use Rattle.cdb_causal.proofs.Naming.{ranged_without, within_named}
 use Rattle.cdb_causal.proofs.Owning.{leaves_then, own_same, own_without}
 use Rattle.cdb_causal.proofs.Receives.{alone_kept, alone_without}
-use Rattle.cdb_log.specs.Marks.{mark, IsTakenOut}
-use Rattle.cdb_log.specs.Pieces.{joined}
+use Rattle.cdb_log.specs.Marks.{Marked, mark, IsTakenOut}
 use Rattle.cdb_causal.proofs.history.History.remove.Goals as goal
 
 -- no mark has risen
-marks_fall : (old new : List (List Event)) (gone : ℕ) (event : Event) → IsTakenOut old gone event new → (i : ℕ) → i < length (joined new) → mark new i ≤ mark old (position_before gone i)
+marks_fall : (old new : Marked Event) (gone : ℕ) (event : Event) → IsTakenOut old gone event new → (i : ℕ) → i < length new.items → mark new i ≤ mark old (position_before gone i)
 marks_fall old new gone event taken i less =
     ⊎_elim
     (λ before. let e = taken.earlier i before in let f = ap (mark old) (position_before_low gone i before) in omega arith)
@@ -30,9 +29,9 @@ marks_fall old new gone event taken i less =
 
 pub invariant_of-self : goal.invariant_of-self
 invariant_of-self c =
-    let old : List (List Event) = c.self.inside.events in
-    let new : List (List Event) = c.take_out-event.new.self in
-    let items : List Event = joined old in
+    let old : Marked Event = c.self.inside.events in
+    let new : Marked Event = c.take_out-event.new.self in
+    let items : List Event = old.items in
     let gone : ℕ = c.args.at - 1 in
     let taken = c.take_out-event.ensures in
     let left = taken.items ∙ remove-without items gone in
@@ -66,4 +65,4 @@ invariant_of-self c =
 
 pub returns-clause-rest : goal.returns-clause-rest
 returns-clause-rest c =
-    c.take_out-event.ensures.items ∙ remove-without (joined c.self.inside.events) (c.args.at - 1) ∙ ap (λ l. without l (c.args.at - 1)) c.self.view_is
+    c.take_out-event.ensures.items ∙ remove-without c.self.inside.events.items (c.args.at - 1) ∙ ap (λ l. without l (c.args.at - 1)) c.self.view_is

@@ -1,45 +1,68 @@
-use Rattle.std.proofs.Common.{ℕ, suc, ◌<◌, refl, sym, ap, subst, length, set, arith}
+use Rattle.std.proofs.Common.{ℕ, suc, ◌<◌, ◌∙◌, refl, sym, ap, subst, length, set, arith}
 use Rattle.std.proofs.lemmas.Option.{slice_get_read}
+use Rattle.std.specs.List.{AllByRecursion}
 use Rattle.cdb_log.specs.Ends.{AreEnds, IsSpot}
 use Rattle.cdb_log.specs.Marks.{IsTakenOut}
-use Rattle.cdb_log.specs.Pieces.{lists, joined}
-use Rattle.cdb_log.proofs.Changing.{ends_set, taken_out, taken_then}
+use Rattle.cdb_log.specs.Offsets.{AreOffsets, seen}
+use Rattle.cdb_log.specs.Pieces.{lists}
+use Rattle.cdb_log.proofs.Changing.{lists_set, ends_lowered}
 use Rattle.cdb_log.proofs.Counting.{before_rises}
-use Rattle.cdb_log.proofs.Ended.{ends_rise, last_in, found, roomy_at, small_piece}
+use Rattle.cdb_log.proofs.Ended.{ends_rise, last_in, found, lists_at}
+use Rattle.cdb_log.proofs.Marking.{items_of, same_pieces, same_piece, taken_out, taken_then}
+use Rattle.cdb_log.proofs.Offsetting.{all_set, offsets_at, offsets_remove}
 use Rattle.cdb_log.proofs.Splitting.{length-remove}
 use Rattle.cdb_log.proofs.log.Log.take_out.Goals as goal
 
 pub spot_of-k-requires-clause-ends : goal.spot_of-k-requires-clause-ends
-spot_of-k-requires-clause-ends g c = subst AreEnds (sym c.deref.ensures.value) (ends_rise c.self.inside.pieces.items c.self.inside.ends.items c.self.invariant)
+spot_of-k-requires-clause-ends g c = subst AreEnds (sym c.deref.ensures.value) (ends_rise c.self.inside.pieces.items c.self.inside.ends.items c.self.invariant.items_end)
 
 pub spot_of-k-requires-clause-within : goal.spot_of-k-requires-clause-within
-spot_of-k-requires-clause-within g c = last_in c.self.inside.pieces.items c.self.inside.ends.items c.self.invariant _ _ c.args.position c.deref.ensures.value c.self.view_is c.requires
+spot_of-k-requires-clause-within g c =
+    last_in c.self.inside.pieces.items c.self.inside.ends.items c.self.invariant.items_end _ _ c.args.position c.deref.ensures.value (ap items_of c.self.view_is) c.requires
 
 pub remove-item-requires : goal.remove-item-requires
 remove-item-requires g c =
     let pieces = c.self.inside.pieces.items in
+    let offsets = c.self.inside.offsets.items in
     let ends = c.self.inside.ends.items in
     let h = c.self.invariant in
     let k : ℕ = c.spot_of-k.result.0 in
     let i : ℕ = c.spot_of-k.result.1 in
     let v = c.index_mut-piece.result.now in
-    let f = found pieces ends h c.args.position k i (subst (λ l. IsSpot l c.args.position k i) c.deref.ensures.value c.spot_of-k.ensures) v c.index_mut-piece.ensures.value in
+    let f = found pieces ends h.items_end c.args.position k i (subst (λ l. IsSpot l c.args.position k i) c.deref.ensures.value c.spot_of-k.ensures) v c.index_mut-piece.ensures.value in
     let less = f.less in
     let ok = v.ok.0 in
+    omega arith
+
+pub remove-requires : goal.remove-requires
+remove-requires g c =
+    let pieces = c.self.inside.pieces.items in
+    let offsets = c.self.inside.offsets.items in
+    let ends = c.self.inside.ends.items in
+    let h = c.self.invariant in
+    let k : ℕ = c.spot_of-k.result.0 in
+    let i : ℕ = c.spot_of-k.result.1 in
+    let v = c.index_mut-piece.result.now in
+    let f = found pieces ends h.items_end c.args.position k i (subst (λ l. IsSpot l c.args.position k i) c.deref.ensures.value c.spot_of-k.ensures) v c.index_mut-piece.ensures.value in
+    let o = c.index_mut-offsets.result.now in
+    let same = same_piece pieces offsets ends h k v o f.within c.index_mut-piece.ensures.value c.index_mut-offsets.ensures.value in
+    let less = f.less in
+    let ok = o.ok.0 in
     omega arith
 
 pub lower-requires : goal.lower-requires
 lower-requires g c = record {
   above = λ j le less.
       let pieces = c.self.inside.pieces.items in
+      let offsets = c.self.inside.offsets.items in
       let ends = c.self.inside.ends.items in
       let h = c.self.invariant in
       let k : ℕ = c.spot_of-k.result.0 in
       let i : ℕ = c.spot_of-k.result.1 in
       let v = c.index_mut-piece.result.now in
-      let f = found pieces ends h c.args.position k i (subst (λ l. IsSpot l c.args.position k i) c.deref.ensures.value c.spot_of-k.ensures) v c.index_mut-piece.ensures.value in
-      let same = h.same_length in
-      let e = h.each j (omega arith) in
+      let f = found pieces ends h.items_end c.args.position k i (subst (λ l. IsSpot l c.args.position k i) c.deref.ensures.value c.spot_of-k.ensures) v c.index_mut-piece.ensures.value in
+      let same = h.items_end.same_length in
+      let e = h.items_end.each j (omega arith) in
       let rises = before_rises (lists pieces) (suc k) (suc j) (omega arith) in
       let high = f.high in
       omega arith;
@@ -48,33 +71,54 @@ lower-requires g c = record {
 pub drop_spares-requires : goal.drop_spares-requires
 drop_spares-requires g c =
     let pieces = c.self.inside.pieces.items in
+    let offsets = c.self.inside.offsets.items in
     let ends = c.self.inside.ends.items in
     let h = c.self.invariant in
     let k : ℕ = c.spot_of-k.result.0 in
     let i : ℕ = c.spot_of-k.result.1 in
     let v = c.index_mut-piece.result.now in
-    let f = found pieces ends h c.args.position k i (subst (λ l. IsSpot l c.args.position k i) c.deref.ensures.value c.spot_of-k.ensures) v c.index_mut-piece.ensures.value in
+    let f = found pieces ends h.items_end c.args.position k i (subst (λ l. IsSpot l c.args.position k i) c.deref.ensures.value c.spot_of-k.ensures) v c.index_mut-piece.ensures.value in
+    let o = c.index_mut-offsets.result.now in
     let w = c.remove-item.new.self in
+    let u = c.remove.new.self in
+    let same = same_piece pieces offsets ends h k v o f.within c.index_mut-piece.ensures.value c.index_mut-offsets.ensures.value in
+    let same_long = same_pieces pieces offsets ends h in
+    let within = f.within in
+    let less = f.less in
+    let less_o : i < length o.items = omega arith in
     let left = ap length c.remove-item.ensures.items in
     let fewer = length-remove v.items i f.less in
-    let s = small_piece pieces ends h k v f.within c.index_mut-piece.ensures.value in
-    let roomy = roomy_at pieces k v h.roomy f.within c.index_mut-piece.ensures.value in
-    let cap = c.remove-item.ensures.capacity in
-    ends_set pieces ends c.lower.new.ends.items h k v w f.within c.index_mut-piece.ensures.value c.lower.ensures.same_length c.lower.ensures.earlier
-    (λ j le less. let l = c.lower.ensures.lowered j le less in omega arith) (omega arith) (omega arith)
+    let left_o = ap length c.remove.ensures.items in
+    let fewer_o = length-remove o.items i less_o in
+    let low = c.lower.ensures in
+    record {
+      items_end = ends_lowered pieces ends c.lower.new.ends.items h.items_end k v w f.within c.index_mut-piece.ensures.value low.same_length low.earlier low.lowered (omega arith) c.remove-item.ensures.capacity;
+      offsets_end = ends_lowered offsets ends c.lower.new.ends.items h.offsets_end k o u (omega arith) c.index_mut-offsets.ensures.value low.same_length low.earlier low.lowered (omega arith) c.remove.ensures.capacity;
+      rise =
+          subst (AllByRecursion AreOffsets) (sym (lists_set offsets k u ∙ ap (set (lists offsets) k) c.remove.ensures.items))
+          (all_set (lists offsets) k _ h.rise
+          (offsets_remove o.items i less_o (offsets_at (lists offsets) k o.items h.rise (lists_at offsets k o (omega arith) c.index_mut-offsets.ensures.value))));
+    }
 
 pub returns : goal.returns
 returns g c =
     let pieces = c.self.inside.pieces.items in
+    let offsets = c.self.inside.offsets.items in
     let ends = c.self.inside.ends.items in
     let h = c.self.invariant in
     let k : ℕ = c.spot_of-k.result.0 in
     let i : ℕ = c.spot_of-k.result.1 in
     let v = c.index_mut-piece.result.now in
-    let f = found pieces ends h c.args.position k i (subst (λ l. IsSpot l c.args.position k i) c.deref.ensures.value c.spot_of-k.ensures) v c.index_mut-piece.ensures.value in
+    let f = found pieces ends h.items_end c.args.position k i (subst (λ l. IsSpot l c.args.position k i) c.deref.ensures.value c.spot_of-k.ensures) v c.index_mut-piece.ensures.value in
+    let o = c.index_mut-offsets.result.now in
     let w = c.remove-item.new.self in
+    let u = c.remove.new.self in
+    let same = same_piece pieces offsets ends h k v o f.within c.index_mut-piece.ensures.value c.index_mut-offsets.ensures.value in
+    let less = f.less in
     let read = slice_get_read v.items (length v.items) i c.remove-item.result refl f.less c.remove-item.ensures.value in
-    subst (λ l. IsTakenOut l c.args.position c.remove-item.result (lists c.drop_spares.new.pieces.items)) c.self.view_is
-    (taken_then (lists pieces) (lists (set pieces k w)) (lists c.drop_spares.new.pieces.items) c.args.position c.remove-item.result (subst (λ l. c.args.position < length (joined l)) (sym c.self.view_is) c.requires)
-    (taken_out pieces ends h k v w c.index_mut-piece.ensures.value c.args.position i c.remove-item.result f.within f.is_position f.less read c.remove-item.ensures.items)
+    let left = seen c.drop_spares.new.pieces.items c.drop_spares.new.offsets.items in
+    subst (λ log. IsTakenOut log c.args.position c.remove-item.result left) c.self.view_is
+    (taken_then (seen pieces offsets) (seen (set pieces k w) (set offsets k u)) left c.args.position c.remove-item.result (subst (λ log. c.args.position < length (items_of log)) (sym c.self.view_is) c.requires)
+    (taken_out pieces offsets ends h k c.args.position i v w o u c.remove-item.result c.index_mut-piece.ensures.value c.index_mut-offsets.ensures.value f.within f.is_position f.less (omega arith) read
+    c.remove-item.ensures.items c.remove.ensures.items)
     c.drop_spares.ensures.same)

@@ -1,6 +1,5 @@
-use Rattle.cdb_log.specs.Pieces.{joined}
 use Rattle.cdb_record.proofs.Seams.{history_seen}
 use Rattle.cdb_record.proofs.records.Records.history.Goals as goal
 
 pub returns : goal.returns
-returns g c = history_seen c.self.inside.history (joined c.self.inside.left) c.self.invariant.0 c.self.view_is
+returns g c = history_seen c.self.inside.history c.self.inside.left.items c.self.invariant.0 c.self.view_is

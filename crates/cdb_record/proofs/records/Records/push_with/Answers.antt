@@ -2,23 +2,22 @@ use Rattle.std.proofs.Common.{[], ◌∷◌, ◌++◌, ap, ap₂, sym, ◌∙◌
 use Rattle.cdb_base.specs.Event.{event_name}
 use Rattle.cdb_causal.specs.Names.{IsNewName}
 use Rattle.cdb_causal.specs.Standing.{HasNoLostCopy}
-use Rattle.cdb_log.specs.Pieces.{joined}
 use Rattle.cdb_record.specs.Entries.{entry_of, entries_of}
 use Rattle.cdb_record.proofs.Seams.{history_seen, entries_push}
 use Rattle.cdb_record.proofs.records.Records.push_with.Goals as goal
 
 pub push_with-requires-clause-new_name : goal.push_with-requires-clause-new_name
 push_with-requires-clause-new_name g c =
-    subst (λ l. IsNewName l (event_name c.args.event)) (sym (history_seen c.self.inside.history (joined c.self.inside.left) c.self.invariant.0 c.self.view_is)) c.requires.new_name
+    subst (λ l. IsNewName l (event_name c.args.event)) (sym (history_seen c.self.inside.history c.self.inside.left.items c.self.invariant.0 c.self.view_is)) c.requires.new_name
 
 pub push_with-requires-clause-not_lost : goal.push_with-requires-clause-not_lost
 push_with-requires-clause-not_lost g c =
-    subst (λ l. HasNoLostCopy l c.args.event) (sym (history_seen c.self.inside.history (joined c.self.inside.left) c.self.invariant.0 c.self.view_is)) c.requires.not_lost
+    subst (λ l. HasNoLostCopy l c.args.event) (sym (history_seen c.self.inside.history c.self.inside.left.items c.self.invariant.0 c.self.view_is)) c.requires.not_lost
 
 pub returns-clause-ok : goal.returns-clause-ok
 returns-clause-ok g c =
     let events = c.self.inside.history in
-    let lefts = joined c.self.inside.left in
+    let lefts = c.self.inside.left.items in
     let left = c.in_ok-left.left in
     let items = c.push_reserved.ensures.pushed.items ∙ ap (λ l. l ++ left ∷ []) c.reserve.ensures.same.items in (
       left,

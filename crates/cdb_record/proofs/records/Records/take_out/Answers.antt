@@ -2,21 +2,20 @@ use Rattle.std.proofs.Common.{◌≡◌, ◌-◌, length, Some, sym, ap, ap₂, 
 use Rattle.cdb_base.specs.Positions.{nth}
 use Rattle.cdb_causal.specs.Rollback.{without}
 use Rattle.cdb_causal.proofs.Lists.{remove-without}
-use Rattle.cdb_log.specs.Pieces.{joined}
 use Rattle.cdb_record.specs.Entries.{entry_of, entries_of}
 use Rattle.cdb_record.proofs.Seams.{fewer_without, same_length_without, length_entries, entries_without, entry_stood}
 use Rattle.cdb_record.proofs.records.Records.take_out.Goals as goal
 
 pub remove-event-requires-clause-to_len : goal.remove-event-requires-clause-to_len
 remove-event-requires-clause-to_len g c =
-    let all = length_entries c.self.inside.history (joined c.self.inside.left) c.self.invariant.0 in
+    let all = length_entries c.self.inside.history c.self.inside.left.items c.self.invariant.0 in
     let seen = ap length c.self.view_is in
     let within = c.requires.to_len in
     omega (arith, all, seen, within)
 
 pub take_out-back-requires : goal.take_out-back-requires
 take_out-back-requires g c =
-    let all = length_entries c.self.inside.history (joined c.self.inside.left) c.self.invariant.0 in
+    let all = length_entries c.self.inside.history c.self.inside.left.items c.self.invariant.0 in
     let seen = ap length c.self.view_is in
     let each = c.self.invariant.0 in
     let first = c.requires.from_one in
@@ -26,7 +25,7 @@ take_out-back-requires g c =
 pub invariant_of-self : goal.invariant_of-self
 invariant_of-self g c =
     let events = c.self.inside.history in
-    let lefts = joined c.self.inside.left in
+    let lefts = c.self.inside.left.items in
     let i = c.args.at - 1 in
     let left = ap length (c.take_out-back.ensures.items ∙ remove-without lefts i) in
     let rest = ap length c.remove-event.ensures.rest in
@@ -38,12 +37,12 @@ invariant_of-self g c =
 pub returns-clause-entry : goal.returns-clause-entry
 returns-clause-entry g c =
     subst (λ l. nth l c.args.at ≡ Some (entry_of c.remove-event.result c.take_out-back.result)) c.self.view_is
-    (entry_stood c.self.inside.history (joined c.self.inside.left) c.args.at c.remove-event.result c.take_out-back.result c.requires.from_one c.remove-event.ensures.event c.take_out-back.ensures.stood)
+    (entry_stood c.self.inside.history c.self.inside.left.items c.args.at c.remove-event.result c.take_out-back.result c.requires.from_one c.remove-event.ensures.event c.take_out-back.ensures.stood)
 
 pub returns-clause-rest : goal.returns-clause-rest
 returns-clause-rest g c =
     let events = c.self.inside.history in
-    let lefts = joined c.self.inside.left in
+    let lefts = c.self.inside.left.items in
     let i = c.args.at - 1 in
     ap₂ entries_of c.remove-event.ensures.rest (c.take_out-back.ensures.items ∙ remove-without lefts i)
     ∙ entries_without events lefts i c.self.invariant.0
