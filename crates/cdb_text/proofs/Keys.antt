@@ -1,8 +1,8 @@
 -- Fixed words and registers.
-use Rattle.std.proofs.Common.{◌≡◌, ℕ, ◌+◌, ◌-◌, ◌<◌, ◌≤◌, Bool, true, ◌&&◌, cond, List, [], ◌∷◌, length, get_or, Option, Some, None, bytes_eq, eqb, refl, ap, subst, ◌∙◌, arith, inl, inr, lit≤}
+use Rattle.std.proofs.Common.{◌≡◌, ℕ, ◌+◌, ◌-◌, ◌<◌, ◌≤◌, Bool, true, ◌&&◌, cond, List, [], ◌∷◌, length, get_or, Option, Some, None, bytes_eq, eqb, refl, sym, ap, subst, ◌∙◌, arith, inl, inr, lit≤}
 use Rattle.std.specs.Prelude.{find, codes, decimal, slice_index, nat_le}
 use Rattle.std.proofs.lemmas.Bool.{and_parts, cases_Bool, le-leb, leb-true, eqb-true}
-use Rattle.std.proofs.lemmas.Slice.Eq.{bytes_eq-Decides}
+use Rattle.std.proofs.lemmas.Slice.Eq.{bytes_eq-Decides, HasBytesAt, text_from_reads}
 use Rattle.std.proofs.lemmas.Fmt.{decimal_digit, decimal_nonempty, digits_decimal}
 use Rattle.std.specs.Str.Parse.{AllDigits}
 use Rattle.std.proofs.lemmas.Str.Parse.{digit_at, numerals_by_value, tells_digits}
@@ -10,8 +10,7 @@ use Rattle.cdb_base.specs.declared.register.Reg.{Reg}
 use Rattle.cdb_base.specs.declared.register.Reg.TheVariants.{R, Dec}
 use Rattle.cdb_text.specs.declared.keyword.Keyword.{Keyword}
 use Rattle.cdb_text.specs.declared.keyword.Keyword.TheVariants as key
-use Rattle.cdb_text.specs.declared.keyword.TheConstants as constants
-use Rattle.cdb_text.specs.Keywords.{keyword_name}
+use Rattle.cdb_text.specs.Keywords.{keyword_name, keywords}
 use Rattle.cdb_text.specs.Commands.{register}
 use Rattle.cdb_text.specs.Grammar.{part_text, IsInRange}
 use Rattle.cdb_text.specs.Reading.{keyword_of, register_of}
@@ -27,7 +26,7 @@ found_is p (y ∷ xs) x e =
 -- a word that is read as a fixed word is that word
 pub keyword_says : (word : List ℕ) (k : Keyword) → keyword_of word ≡ Some k → word ≡ keyword_name k
 unfolding keyword_of
-keyword_says word k e = (bytes_eq-Decides word (keyword_name k)).0 (found_is (λ k. bytes_eq word (keyword_name k)) constants.Keyword.ALL k e)
+keyword_says word k e = (bytes_eq-Decides word (keyword_name k)).0 (found_is (λ k. bytes_eq word (keyword_name k)) keywords k e)
 
 -- each fixed word is read as itself
 pub keyword_again : (k : Keyword) → keyword_of (keyword_name k) ≡ Some k
@@ -57,6 +56,10 @@ keyword_again key.Regs = refl
 keyword_again key.Mail = refl
 keyword_again key.History = refl
 keyword_again key.Lost = refl
+
+-- a word with the length and the bytes of a fixed word is read as that
+pub keyword_read : (k : Keyword) (word : List ℕ) → length word ≡ length (keyword_name k) → HasBytesAt word 0 (keyword_name k) → Some k ≡ keyword_of word
+keyword_read k word long reads = sym (keyword_again k) ∙ ap keyword_of (sym (text_from_reads word (keyword_name k) long reads))
 
 -- a fixed word begins with a letter
 letter : (k : Keyword) → 97 ≤ get_or (keyword_name k) 0 0

@@ -1,5 +1,5 @@
 -- The fixed words.
-use Rattle.std.specs.Prelude.{ℕ, List, codes}
+use Rattle.std.specs.Prelude.{ℕ, List, [], ◌∷◌, codes}
 use Rattle.cdb_text.specs.declared.keyword.Keyword.{Keyword}
 use Rattle.cdb_text.specs.declared.keyword.Keyword.TheVariants.{Step, Auto, Lose, Undo, Redo, Forget, Rollback, Why, Break, Unbreak, Resume, Show, Decisions, Go, Learn, Crash, Query, Recv, Decide, Round, Write, Regs, Mail, History, Lost}
 
@@ -29,3 +29,8 @@ keyword_name Regs = codes "regs"
 keyword_name Mail = codes "mail"
 keyword_name History = codes "history"
 keyword_name Lost = codes "lost"
+
+abbrev pub keywords : List Keyword
+keywords =
+    Step ∷ Auto ∷ Lose ∷ Undo ∷ Redo ∷ Forget ∷ Rollback ∷ Why ∷ Break ∷ Unbreak ∷ Resume ∷ Show ∷ Decisions
+    ∷ Go ∷ Learn ∷ Crash ∷ Query ∷ Recv ∷ Decide ∷ Round ∷ Write ∷ Regs ∷ Mail ∷ History ∷ Lost ∷ []

@@ -8,10 +8,9 @@ use Rattle.cdb_control.specs.declared.command.Command.{Command}
 use Rattle.cdb_text.specs.declared.fault.LineFault.{LineFault}
 use Rattle.cdb_text.specs.declared.fault.LineFault.TheVariants.{Word, Number, Extra, Missing}
 use Rattle.cdb_text.specs.declared.keyword.Keyword.{Keyword}
-use Rattle.cdb_text.specs.declared.keyword.TheConstants as constants
 use Rattle.cdb_text.specs.Faults.{IsFirstFaultOfWords}
 use Rattle.cdb_text.specs.Grammar.{AreWordsOf}
-use Rattle.cdb_text.specs.Keywords.{keyword_name}
+use Rattle.cdb_text.specs.Keywords.{keyword_name, keywords}
 
 infixl 10 ◌>>=◌
 abbrev pub ◌>>=◌ : {A B : Type 0} → Result A LineFault → (A → Result B LineFault) → Result B LineFault
@@ -45,7 +44,7 @@ ended command (word ∷ words) = Err Extra
 
 -- the fixed word that this is
 unfoldable pub keyword_of : List ℕ → Option Keyword
-keyword_of word = find (λ k. bytes_eq word (keyword_name k)) constants.Keyword.ALL
+keyword_of word = find (λ k. bytes_eq word (keyword_name k)) keywords
 
 -- `r1` to `r9`
 abbrev pub is_numbered : List ℕ → Bool
