@@ -1,15 +1,52 @@
 //! The texts of numbers.
 
-ghost use Rattle.std.specs.Prelude.{decimal};
+ghost use Rattle.std.specs.Prelude.{◌+◌, ◌/◌, ◌%◌, ◌<◌, ◌∷◌, [], decimal};
 ghost use Rattle.cdb_text.specs.Pushes.{Pushes};
 
 use itoa::Buffer;
 use std::alloc::AllocError;
 
+#[inline(always)]
+fn push_digit(text: &mut String, digit: u32) -> Result<(), AllocError>
+    requires { digit < 10 }
+    ensures { Pushes result text.old text.new ((48 + digit) ∷ []) }
+{
+    text.push(char::from(b'0' + digit as u8))
+}
+
+/// Two digits, the first of which may be 0.
+#[inline(always)]
+fn push_two_digits(text: &mut String, number: u32) -> Result<(), AllocError>
+    requires { number < 100 }
+    ensures { Pushes result text.old text.new ((48 + number / 10) ∷ (48 + number % 10) ∷ []) }
+{
+    push_digit(text, number / 10)?;
+    push_digit(text, number % 10)
+}
+
+/// A number of one or two digits.
+#[inline(always)]
+fn push_short(text: &mut String, number: u32) -> Result<(), AllocError>
+    requires { number < 100 }
+    ensures { Pushes result text.old text.new (decimal number) }
+{
+    if number < 10 {
+        return push_digit(text, number);
+    }
+    push_two_digits(text, number)
+}
+
 /// Adds a number in decimal at the end of a text. Only out of memory is an error.
 pub fn push_number(text: &mut String, number: u32) -> Result<(), AllocError>
     ensures { Pushes result text.old text.new (decimal number) }
 {
+    if number < 100 {
+        return push_short(text, number);
+    }
+    if number < 10_000 {
+        push_short(text, number / 100)?;
+        return push_two_digits(text, number % 100);
+    }
     let mut digits = Buffer::new();
     text.push_str(digits.format(number))
 }
