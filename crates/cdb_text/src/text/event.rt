@@ -1,5 +1,6 @@
 //! The texts of events.
 
+ghost use Rattle.std.specs.Prelude.{◌++◌, codes};
 ghost use Rattle.cdb_text.specs.Pushes.{Pushes};
 ghost use Rattle.cdb_text.specs.Events.{kind_text, event_text};
 
@@ -8,33 +9,34 @@ use super::number::push_number;
 use cdb_base::{Event, Kind, MsgName, Proc};
 use std::alloc::AllocError;
 
+/// What a step does, after a space.
 fn push_kind(text: &mut String, p: Proc, kind: Kind) -> Result<(), AllocError>
-    ensures { Pushes result text.old text.new (kind_text p kind) }
+    ensures { Pushes result text.old text.new (codes " " ++ kind_text p kind) }
 {
     match kind {
         Kind::Query(leader) => {
-            text.push_str("query ")?;
+            text.push_str(" query ")?;
             push_number(text, u32::from(leader.number()))
         }
         Kind::Send(m) => {
-            text.push_str("send ")?;
+            text.push_str(" send ")?;
             push_message(text, MsgName { s: p, m })
         }
         Kind::Recv(s, m) => {
-            text.push_str("recv ")?;
+            text.push_str(" recv ")?;
             push_message(text, MsgName { s, m })
         }
         Kind::Read(register) => {
-            text.push_str("read ")?;
+            text.push_str(" read ")?;
             push_register(text, register)
         }
         Kind::Write(register) => {
-            text.push_str("write ")?;
+            text.push_str(" write ")?;
             push_register(text, register)
         }
-        Kind::Local => text.push_str("local"),
-        Kind::Learn => text.push_str("learn"),
-        Kind::Crash => text.push_str("crash"),
+        Kind::Local => text.push_str(" local"),
+        Kind::Learn => text.push_str(" learn"),
+        Kind::Crash => text.push_str(" crash"),
     }
 }
 
@@ -46,7 +48,6 @@ pub fn push_event(text: &mut String, event: &Event) -> Result<(), AllocError>
         Event::Step { p, k, kind } => {
             let doer = p;
             push_step(text, p, k)?;
-            text.push_str(" ")?;
             push_kind(text, doer, kind)
         }
         Event::Lost(copy) => push_loss(text, copy),
