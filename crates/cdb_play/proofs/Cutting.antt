@@ -1,6 +1,6 @@
 -- The first line of a script, and the lines after it.
-use Rattle.std.proofs.Common.{◌≡◌, ℕ, ◌+◌, ◌<◌, ◌≤◌, Bool, false, List, [], ◌∷◌, length, nat_eq, refl, ap, ◌∙◌, arith}
-use Rattle.std.specs.List.{All, slice_split, position_or_len, before_first, after_first, count_by}
+use Rattle.std.proofs.Common.{◌≡◌, ℕ, ◌<◌, Bool, false, List, [], ◌∷◌, length, nat_eq, refl, ap, ◌∙◌, arith}
+use Rattle.std.specs.List.{All, slice_split, position_or_len, before_first, after_first}
 use Rattle.std.proofs.lemmas.List.Splits.{slice_split_none, slice_split_first, length-slice_split}
 use Rattle.cdb_play.specs.Lines.{without_empty_end, lines_of}
 
@@ -30,15 +30,3 @@ pub cut_none : (script : List ℕ) → 0 < length script → All (λ byte. is_ne
 unfolding lines_of
 cut_none [] some none = absurd (omega arith)
 cut_none (byte ∷ script) some none = ap without_empty_end (slice_split_none is_newline (byte ∷ script) none)
-
--- an empty last part is left out, and nothing else
-no_longer : (parts : List (List ℕ)) → length (without_empty_end parts) ≤ length parts
-no_longer [] = omega arith
-no_longer ([] ∷ []) = omega arith
-no_longer ([] ∷ (next ∷ parts)) = omega (arith, no_longer (next ∷ parts))
-no_longer ((byte ∷ part) ∷ parts) = omega (arith, no_longer parts)
-
--- a script has at most one line more than bytes 10
-pub few_lines : (script : List ℕ) → length (lines_of script) ≤ count_by is_newline script + 1
-unfolding lines_of
-few_lines script = omega (arith, no_longer (slice_split is_newline script), length-slice_split is_newline script)

@@ -16,11 +16,3 @@ pub fn first_line(script: &[u8]) -> (&[u8], &[u8])
         None => (script, &[]),
     }
 }
-
-/// A number of lines that a script has at most: one more than its line ends.
-#[tactic(auto, using(crate::proofs::Cutting::few_lines))]
-pub(crate) fn most_lines(script: &[u8]) -> usize
-    ensures { length (lines_of script.now) ≤ result }
-{
-    script.iter().filter(|byte| **byte == b'\n').count() + 1
-}

@@ -9,7 +9,7 @@ ghost use Rattle.cdb_play.specs.Scripts.{AreCommandsOf, GivesCommands, IsFaultOf
 ghost use Rattle.cdb_play.specs.Streams.{FailsWhere};
 
 use crate::fault::PlayFault;
-use crate::lines::{first_line, most_lines};
+use crate::lines::first_line;
 use crate::source::{Source, read_up_to};
 use cdb_base::limits::MAX_BYTES;
 use cdb_base::{Act, Reg};
@@ -81,7 +81,7 @@ pub fn commands_of(alloc: Global, script: &[u8]) -> Result<Vec<Command>, ScriptF
     if script.len() > MAX_BYTES {
         return Err(ScriptFault::TooLong);
     }
-    let mut commands = Vec::with_capacity(alloc, most_lines(script))?;
+    let mut commands = Vec::new(alloc);
     let mut rest = script;
     while !rest.is_empty() {
         let (line, behind) = first_line(rest);
