@@ -1,6 +1,6 @@
 //! A buffer between what is put and a writer.
 
-ghost use Rattle.std.specs.Prelude.{◌≡◌, ◌↔◌, ℕ, ◌<◌, ◌≤◌, List, [], ◌++◌, take, length, vec_capacity, IsTrue, IfOk, OnOk, OnErr};
+ghost use Rattle.std.specs.Prelude.{◌≡◌, ◌↔◌, ℕ, ◌+◌, ◌<◌, ◌≤◌, List, [], ◌++◌, take, length, vec_capacity, IsTrue, IfOk, OnOk, OnErr};
 
 use crate::fault::PlayFault;
 use crate::sink::{Failed, Sink, write_all};
@@ -106,6 +106,17 @@ impl Buffer {
         self.held.len() == PIECE
     }
 
+    /// Holds the bytes too.
+    fn hold(&mut self, bytes: &[u8])
+        requires { length self.old + length bytes.now ≤ piece }
+        ensures { self.new ≡ self.old ++ bytes.now }
+    {
+        match self.held.extend_from_slice(bytes) {
+            Ok(()) => (),
+            Err(_) => unreachable!(),
+        }
+    }
+
     /// Holds a beginning of the bytes too, as many as there is room for, and returns how many.
     fn fill(&mut self, bytes: &[u8]) -> usize
         ensures within { result ≤ length bytes.now }
@@ -113,10 +124,8 @@ impl Buffer {
         ensures some { length self.old < piece → 0 < length bytes.now → 0 < result }
     {
         let count = bytes.len().min(PIECE - self.held.len());
-        match self.held.extend_from_slice(&bytes[..count]) {
-            Ok(()) => count,
-            Err(_) => unreachable!(),
-        }
+        self.hold(&bytes[..count]);
+        count
     }
 
     /// Writes what is held, and holds nothing then.
@@ -142,8 +151,9 @@ impl Buffer {
         Ok(())
     }
 
-    /// Puts the bytes after those that are held. Each full piece is written before there is more to hold.
-    pub fn put<W: Sink>(&mut self, out: &mut W, bytes: &[u8]) -> Result<(), Failed>
+    /// Puts bytes for which there may be no room, as `put` does.
+    #[inline(never)]
+    fn put_in_pieces<W: Sink>(&mut self, out: &mut W, bytes: &[u8]) -> Result<(), Failed>
         ensures ok { OnOk result
             (IsPut W.contents W.failures out.old self.old out.new self.new bytes.now) }
         ensures err { OnErr result
@@ -155,5 +165,19 @@ impl Buffer {
             done += self.fill(&bytes[done..]);
         }
         Ok(())
+    }
+
+    /// Puts the bytes after those that are held. Each full piece is written before there is more to hold.
+    pub fn put<W: Sink>(&mut self, out: &mut W, bytes: &[u8]) -> Result<(), Failed>
+        ensures ok { OnOk result
+            (IsPut W.contents W.failures out.old self.old out.new self.new bytes.now) }
+        ensures err { OnErr result
+            (Fails W.contents W.failures out.old out.new (self.old ++ bytes.now)) }
+    {
+        if bytes.len() <= PIECE - self.held.len() {
+            self.hold(bytes);
+            return Ok(());
+        }
+        self.put_in_pieces(out, bytes)
     }
 }

@@ -4,7 +4,7 @@ use Rattle.std.proofs.lemmas.List.{length-drop, length-take, take_rest}
 use Rattle.std.proofs.Math.Seq.{take-add}
 use Rattle.cdb_play.specs.Buffers.{IsPut}
 use Rattle.cdb_play.proofs.Putting.{fails_after, put_more, stays}
-use Rattle.cdb_play.proofs.buffer.Buffer.put.Goals as goal
+use Rattle.cdb_play.proofs.buffer.Buffer.put_in_pieces.Goals as goal
 
 pub returns-in_err-make_room-clause-err : goal.returns-in_err-make_room-clause-err
 returns-in_err-make_room-clause-err g c =

@@ -1,6 +1,6 @@
 use Rattle.std.proofs.Common.{◌≤◌, ◌-◌, length, take}
 use Rattle.cdb_play.specs.Buffers.{IsPut}
-use Rattle.cdb_play.proofs.buffer.Buffer.put.Given as goal
+use Rattle.cdb_play.proofs.buffer.Buffer.put_in_pieces.Given as goal
 
 abbrev pub invariant-loop-done : goal.invariant-loop-done
 invariant-loop-done g l = record {
