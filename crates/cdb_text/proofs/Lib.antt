@@ -1,6 +1,7 @@
 pub mod Again
 pub mod Behind
 pub mod Cut
+pub mod Digits
 pub mod Keys
 pub mod Numbers
 pub mod Printed
