@@ -79,7 +79,7 @@ fn push_counted(text: &mut String, words: &str, number: u32) -> Result<(), Alloc
 {
     text.push_str(words)?;
     push_number(text, number)?;
-    text.push_str("\n")
+    text.push('\n')
 }
 
 /// Adds the text of a reply at the end of a text: its lines, each of which ends with byte 10. Only out of memory
@@ -95,22 +95,22 @@ pub fn push_reply(text: &mut String, reply: &Reply) -> Result<(), AllocError>
         } => {
             push_taken(text, event, *decides)?;
             push_break(text, *paused)?;
-            text.push_str("\n")
+            text.push('\n')
         }
         Reply::Undone(event) => {
             text.push_str("undone ")?;
             push_event(text, event)?;
-            text.push_str("\n")
+            text.push('\n')
         }
         Reply::Redone { event, decides } => {
             text.push_str("redone ")?;
             push_taken(text, event, *decides)?;
-            text.push_str("\n")
+            text.push('\n')
         }
         Reply::RolledBack(count) => push_counted(text, "rolled back ", *count),
         Reply::Because(name, causes) => {
             push_because(text, *name, causes.as_slice())?;
-            text.push_str("\n")
+            text.push('\n')
         }
         Reply::BreakSet(number) => push_counted(text, "break ", *number),
         Reply::BreakGone(number) => push_counted(text, "unbreak ", *number),
@@ -123,7 +123,7 @@ pub fn push_reply(text: &mut String, reply: &Reply) -> Result<(), AllocError>
         Reply::Decisions(decisions) => push_decisions(text, decisions.as_slice()),
         Reply::Refused(refusal) => {
             push_refusal(text, refusal)?;
-            text.push_str("\n")
+            text.push('\n')
         }
     }
 }

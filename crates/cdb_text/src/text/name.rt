@@ -12,7 +12,7 @@ pub(super) fn push_step(text: &mut String, p: Proc, k: u16) -> Result<(), AllocE
     ensures { Pushes result text.old text.new (step_text p k) }
 {
     push_number(text, u32::from(p.number()))?;
-    text.push_str(".")?;
+    text.push('.')?;
     push_number(text, u32::from(k))
 }
 
@@ -20,7 +20,7 @@ pub(super) fn push_message(text: &mut String, name: MsgName) -> Result<(), Alloc
     ensures { Pushes result text.old text.new (message_text name.s name.m) }
 {
     push_number(text, u32::from(name.s.number()))?;
-    text.push_str("#")?;
+    text.push('#')?;
     push_number(text, u32::from(name.m))
 }
 
@@ -47,7 +47,7 @@ pub(super) fn push_register(text: &mut String, register: Reg) -> Result<(), Allo
 {
     match register {
         Reg::R(p) => {
-            text.push_str("r")?;
+            text.push('r')?;
             push_number(text, u32::from(p.number()))
         }
         Reg::Dec => text.push_str("dec"),

@@ -14,11 +14,11 @@ fn push_detail(text: &mut String, refusal: &Refusal) -> Result<(), AllocError>
 {
     match refusal {
         Refusal::NeededBy(name) => {
-            text.push_str(" ")?;
+            text.push(' ')?;
             push_name(text, *name)
         }
         Refusal::Paused(number) => {
-            text.push_str(" ")?;
+            text.push(' ')?;
             push_number(text, *number)
         }
         _ => Ok(()),
@@ -30,7 +30,7 @@ pub(super) fn push_refusal(text: &mut String, refusal: &Refusal) -> Result<(), A
 {
     text.push_str("refused ")?;
     push_number(text, u32::from(refusal.number()))?;
-    text.push_str(" ")?;
+    text.push(' ')?;
     text.push_str(refusal.name())?;
     push_detail(text, refusal)
 }

@@ -32,7 +32,7 @@ fn push_phase(text: &mut String, phase: &str, round: u32) -> Result<(), AllocErr
 {
     text.push_str(phase)?;
     push_number(text, round)?;
-    text.push_str(" ")
+    text.push(' ')
 }
 
 /// Adds a payload at the end of a text, as `show mail` prints it. Only out of memory is an error.
@@ -43,7 +43,7 @@ pub fn push_payload(text: &mut String, payload: &Payload) -> Result<(), AllocErr
         Payload::P1 { round, est, lead } => {
             push_phase(text, "p1 ", round)?;
             push_number(text, est.number())?;
-            text.push_str(" ")?;
+            text.push(' ')?;
             push_number(text, u32::from(lead.number()))
         }
         Payload::P2 { round, aux } => {
@@ -84,7 +84,7 @@ pub(super) fn push_process(text: &mut String, view: &ProcView) -> Result<(), All
     let queries = view.queries;
     write!(text, "{life} steps {steps} queries {queries} decision ")?;
     push_value(text, view.decision)?;
-    text.push_str("\n")
+    text.push('\n')
 }
 
 /// Each cause after a space.
@@ -92,7 +92,7 @@ fn push_each_cause(text: &mut String, causes: &[StepId]) -> Result<(), AllocErro
     ensures { Pushes result text.old text.new (flat_map cause_text causes.now) }
 {
     for name in causes {
-        text.push_str(" ")?;
+        text.push(' ')?;
         push_name(text, *name)?;
     }
     Ok(())
@@ -114,7 +114,7 @@ fn push_each_event(text: &mut String, events: &[Event]) -> Result<(), AllocError
 {
     for event in events {
         push_event(text, event)?;
-        text.push_str("\n")?;
+        text.push('\n')?;
     }
     Ok(())
 }
@@ -148,11 +148,11 @@ fn push_copy(
 {
     text.push_str("to ")?;
     push_number(text, u32::from(receiver.number()))?;
-    text.push_str(" ")?;
+    text.push(' ')?;
     push_message(text, name)?;
-    text.push_str(" ")?;
+    text.push(' ')?;
     push_payload(text, payload)?;
-    text.push_str("\n")
+    text.push('\n')
 }
 
 pub(super) fn push_mail(
@@ -172,9 +172,9 @@ fn push_each_decision(text: &mut String, decisions: &[(Proc, Val)]) -> Result<()
     ensures { Pushes result text.old text.new (flat_map decision_text decisions.now) }
 {
     for (p, value) in decisions {
-        text.push_str(" ")?;
+        text.push(' ')?;
         push_number(text, u32::from(p.number()))?;
-        text.push_str("=")?;
+        text.push('=')?;
         push_number(text, value.number())?;
     }
     Ok(())
@@ -188,7 +188,7 @@ pub(super) fn push_decisions(text: &mut String, decisions: &[(Proc, Val)]) -> Re
     }
     text.push_str("decisions")?;
     push_each_decision(text, decisions)?;
-    text.push_str("\n")
+    text.push('\n')
 }
 
 /// The register with this number and what it holds.
@@ -199,7 +199,7 @@ fn push_register_line(text: &mut String, number: usize, cell: &Cell) -> Result<(
     let lrww = cell.lrww;
     write!(text, "r{number} lre {lre} lrww {lrww} val ")?;
     push_value(text, cell.val)?;
-    text.push_str("\n")
+    text.push('\n')
 }
 
 /// The cell of the decision.
@@ -208,7 +208,7 @@ fn push_decision_line(text: &mut String, cell: &Cell) -> Result<(), AllocError>
 {
     text.push_str("dec ")?;
     push_value(text, cell.val)?;
-    text.push_str("\n")
+    text.push('\n')
 }
 
 /// The registers of the processes, and then that of the decision.
