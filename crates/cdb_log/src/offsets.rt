@@ -1,7 +1,6 @@
 //! The offsets of the items of a piece.
 
 ghost use Rattle.std.specs.Prelude.{◌≡◌, ℕ, ◌<◌, ◌≤◌, ◌↔◌, length, slice_index};
-ghost use Rattle.std.specs.List.{AllByRecursion};
 ghost use Rattle.cdb_log.specs.Offsets.{AreOffsets, has_room, next};
 ghost use Rattle.cdb_log.specs.Pieces.{lists};
 
