@@ -275,8 +275,10 @@ impl AnyRun {
     /// holds: `NoProcess` or `NoStep`. It takes no memory.
     pub fn causes_of(&self, alloc: Global, event: EventRef) -> Result<SmallVec<StepId, 9>, Refusal>
         requires { IsTrueToSetup self.now }
-        ensures answer { Tells (λ c. c.items) result (causes_in (run_view self.now) (name_of event)) }
-        ensures direct { IfOk result (λ c. AreCausesOf (run_view self.now) (name_of event) c.items) }
+        ensures answer { Tells (λ c. c.items) result
+            (causes_in (run_view self.now) (name_of event)) }
+        ensures direct { IfOk result
+            (λ c. AreCausesOf (run_view self.now) (name_of event) c.items) }
     {
         match self {
             AnyRun::Leader(run) => run.causes_of(alloc, event),
@@ -287,8 +289,10 @@ impl AnyRun {
     /// The direct causes of the `k`-th step of process `p`, as `causes_of` returns them.
     pub fn causes(&self, alloc: Global, p: u32, k: u32) -> Result<SmallVec<StepId, 9>, Refusal>
         requires { IsTrueToSetup self.now }
-        ensures answer { Tells (λ c. c.items) result (causes_in (run_view self.now) (step_name p k)) }
-        ensures direct { IfOk result (λ c. AreCausesOf (run_view self.now) (step_name p k) c.items) }
+        ensures answer { Tells (λ c. c.items) result
+            (causes_in (run_view self.now) (step_name p k)) }
+        ensures direct { IfOk result
+            (λ c. AreCausesOf (run_view self.now) (step_name p k) c.items) }
     {
         self.causes_of(alloc, EventRef::Step(p, k))
     }

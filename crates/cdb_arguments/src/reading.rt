@@ -319,7 +319,8 @@ fn texts_of<'a>(
     matches: &ArgMatches<'a>,
     id: &str,
 ) -> Result<Vec<&'a str>, AllocError>
-    ensures { IfOk result (λ texts. map (λ text. text.now) texts.items ≡ texts_at id.now (rows_of (found_of matches.now))) }
+    ensures { IfOk result (λ texts. map (λ text. text.now) texts.items
+        ≡ texts_at id.now (rows_of (found_of matches.now))) }
 {
     match matches.get_raw(id) {
         Some(texts) => Vec::from_slice(alloc, texts),

@@ -611,8 +611,9 @@ impl Bounds {
     /// Above what stands between a step of process `q` and a read of the register by process `p`,
     /// under mark `j`.
     fn end_before_read(&self, q: Proc, first: Kind, p: Proc, register: Reg, j: Mark) -> Mark
-        ensures { (i k l : ℕ) (between : AnEvent) → i < j
-            → IsBetween self.now (Step q k first) (Step p l (Read register)) i between → i < result }
+        ensures { (i k l : ℕ) (between : AnEvent) → i < j →
+            IsBetween self.now (Step q k first) (Step p l (Read register)) i between →
+            i < result }
     {
         if accesses(&register, &first) {
             let written = self.end_of_writes(&register);

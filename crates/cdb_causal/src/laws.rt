@@ -28,7 +28,8 @@ pub fn free_to_end<E>()
 #[tactic(auto, using(crate::proofs::Exchanges::rollback_to_end))]
 pub fn rollback_to_end<E>()
     ensures { OfPositions (λ (depends : E → E → Bool) history i.
-        IsExchanged depends history (remaining depends history i ++ rolled_back depends history i)) }
+        IsExchanged depends history
+        (remaining depends history i ++ rolled_back depends history i)) }
 {}
 
 /// What is rolled back is the event with exactly its consequences, and what remains is all else,

@@ -92,10 +92,17 @@ impl<R: Runs> Model for Control<R> {
 
     ghost Value = { Journaled };
 
-    ghost view = { λ c. record { setup = c.state.state.setup; seats = c.seats; journal = c.journal.items; rooms = rooms_at (vec_len c.journal) c.marks.items } };
+    ghost view = { λ c. record {
+      setup = c.state.state.setup;
+      seats = c.seats;
+      journal = c.journal.items;
+      rooms = rooms_at (vec_len c.journal) c.marks.items;
+    } };
 
-    ghost invariant = { λ c. IsReplayed (R.rules c.state.state.setup) c.state.state.setup c.seats c.journal.items c.state.state
-        × HasRoom (vec_len c.journal) (vec_capacity c.journal) (rooms_at (vec_len c.journal) c.marks.items) c.state };
+    ghost invariant = { λ c. IsReplayed (R.rules c.state.state.setup)
+        c.state.state.setup c.seats c.journal.items c.state.state
+        × HasRoom (vec_len c.journal) (vec_capacity c.journal)
+        (rooms_at (vec_len c.journal) c.marks.items) c.state };
 }
 
 impl<R: Runs> Control<R> {
@@ -190,8 +197,8 @@ impl<R: Runs> Control<R> {
 
     /// What `auto` would do for a process, whether or not a pause stands; nothing where it would be refused.
     pub fn pick(&self, p: u32) -> Option<Act>
-        ensures { result
-            ≡ result_ok (choice (R.rules self.now.setup) (control_state R.rules self.now).history p) }
+        ensures { result ≡ result_ok
+            (choice (R.rules self.now.setup) (control_state R.rules self.now).history p) }
     {
         self.state.choose(p).ok()
     }

@@ -39,7 +39,14 @@ impl<R: Runs> Model for ControlState<R> {
     ghost Value = { StoredState };
 
     ghost view = { λ t. record {
-      state = record { setup = (R.run t.run).setup; history = (R.run t.run).history; stops = t.breakpoints.stops; next = t.breakpoints.next; pause = t.pause; redo = map (λ list. list.events) t.redo.items };
+      state = record {
+        setup = (R.run t.run).setup;
+        history = (R.run t.run).history;
+        stops = t.breakpoints.stops;
+        next = t.breakpoints.next;
+        pause = t.pause;
+        redo = map (λ list. list.events) t.redo.items;
+      };
       capacities = map (λ list. list.capacity) t.redo.items;
     } };
 }

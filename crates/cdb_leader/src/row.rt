@@ -100,7 +100,8 @@ impl Row {
     /// Forgets an entry of the round, which came after those.
     pub(crate) fn forget(&mut self, round: u32, entries: &[Received], entry: &Received)
         ensures { round_of entry.now.payload ≡ Some round
-            → IsRowOf round self.old (entries.now ++ entry.now ∷ []) → IsRowOf round self.new entries.now }
+            → IsRowOf round self.old (entries.now ++ entry.now ∷ [])
+            → IsRowOf round self.new entries.now }
     {
         match entry.payload {
             Payload::P1 { .. } => self.first_phases.forget(entry.from, entries.len()),

@@ -84,7 +84,8 @@ impl Model for Buffer {
 
     ghost view = { λ buffer. buffer.held.items };
 
-    ghost invariant = { λ buffer. (length buffer.held.items ≤ piece) × (piece ≤ vec_capacity buffer.held) };
+    ghost invariant = { λ buffer. (length buffer.held.items ≤ piece)
+        × (piece ≤ vec_capacity buffer.held) };
 }
 
 impl Buffer {

@@ -68,7 +68,8 @@ fn write_numbered<W: Sink>(number: u8, fault: &SetupFault, err: &mut W) -> Resul
 }
 
 fn write_setup_fault<W: Sink>(fault: &SetupFault, err: &mut W) -> Result<(), Failed>
-    ensures { Writes W.contents W.failures result err.old err.new (as_line (setup_fault_text fault.now)) }
+    ensures { Writes W.contents W.failures result err.old err.new
+        (as_line (setup_fault_text fault.now)) }
 {
     match fault.number() {
         Some(number) => write_numbered(number, fault, err),

@@ -150,7 +150,8 @@ fn run_race<T: Runs + Send, G: Gate + Drop + Send, R: Threads + Wait + Sync, W: 
     ensures agree { HasMajorityIfNeeded setup
         → AgreesAtEnd W.contents W.failures result out.old out.new }
     ensures fault { IfErr result
-        (IsFaultOfCommands (IsFaultBehind T T.rules G.heard G.passes gates.items) setup turns scripts.now) }
+        (IsFaultOfCommands (IsFaultBehind T T.rules G.heard G.passes gates.items)
+        setup turns scripts.now) }
     ensures passes { AllPass G.passes gates.items → IfErr result IsNotStopped }
 {
     let buffer = Buffer::new(alloc)?;
@@ -194,7 +195,8 @@ pub fn race_on_with<T: Runs + Send, G: Gate + Drop + Send, R: Threads + Wait + S
     ensures agree { HasMajorityIfNeeded setup
         → AgreesAtEnd W.contents W.failures result out.old out.new }
     ensures fault { IfErr result
-        (IsFaultOnSetup (IsFaultBehind T T.rules G.heard G.passes gates.items) setup turns (bytes_of scripts.now)) }
+        (IsFaultOnSetup (IsFaultBehind T T.rules G.heard G.passes gates.items)
+        setup turns (bytes_of scripts.now)) }
     ensures passes { AllPass G.passes gates.items → IfErr result IsNotStopped }
 {
     let commands = scripts_of(alloc, scripts)?;
@@ -215,7 +217,8 @@ pub fn race_on<T: Runs + Send, R: Threads + Wait + Sync, W: Sink>(
         (IsTextOnSetup T.rules setup turns (bytes_of scripts.now)) }
     ensures agree { HasMajorityIfNeeded setup
         → AgreesAtEnd W.contents W.failures result out.old out.new }
-    ensures fault { IfErr result (IsFaultOnSetup IsFaultUngated setup turns (bytes_of scripts.now)) }
+    ensures fault { IfErr result
+        (IsFaultOnSetup IsFaultUngated setup turns (bytes_of scripts.now)) }
 {
     let commands = scripts_of(alloc, scripts)?;
     let gates = open_gates(alloc, usize::from(setup.n()) + commands.len())?;
@@ -242,7 +245,8 @@ pub fn race_with<T: Runs + Send, G: Gate + Drop + Send, R: Threads + Wait + Sync
     ensures agree { (parts : Parts) → Encodes setup.now parts → HasMajorityIfNeeded parts
         → AgreesAtEnd W.contents W.failures result out.old out.new }
     ensures fault { IfErr result
-        (IsFaultOfRace (IsFaultBehind T T.rules G.heard G.passes gates.items) setup.now turns (bytes_of scripts.now)) }
+        (IsFaultOfRace (IsFaultBehind T T.rules G.heard G.passes gates.items)
+        setup.now turns (bytes_of scripts.now)) }
     ensures passes { AllPass G.passes gates.items → IfErr result IsNotStopped }
 {
     let parts = Setup::read(alloc, setup)?;
@@ -264,7 +268,8 @@ pub fn race<T: Runs + Send, R: Threads + Wait + Sync, W: Sink>(
         (IsTextOfRace T.rules setup.now turns (bytes_of scripts.now)) }
     ensures agree { (parts : Parts) → Encodes setup.now parts → HasMajorityIfNeeded parts
         → AgreesAtEnd W.contents W.failures result out.old out.new }
-    ensures fault { IfErr result (IsFaultOfRace IsFaultUngated setup.now turns (bytes_of scripts.now)) }
+    ensures fault { IfErr result
+        (IsFaultOfRace IsFaultUngated setup.now turns (bytes_of scripts.now)) }
 {
     let parts = Setup::read(alloc, setup)?;
     race_on::<T, R, W>(rt, alloc, parts, turns, scripts, out)

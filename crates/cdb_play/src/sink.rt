@@ -36,7 +36,8 @@ pub trait Sink {
     fn write(&mut self, piece: &[u8]) -> Result<usize, Failed>
         ensures within { WritesAtMost result piece.now }
         ensures bytes { WriteAppends (contents self.old) (contents self.new) result piece.now }
-        ensures failures { failures self.new ≡ counted (is_failure result piece.now) (failures self.old) };
+        ensures failures { failures self.new
+            ≡ counted (is_failure result piece.now) (failures self.old) };
 }
 
 /// Writes all the bytes. A write that takes none of them is a failure, and none is tried again.

@@ -28,7 +28,8 @@ fn race_bytes<R: Threads + Wait + Sync, O: Sink>(
 ) -> Result<(), Fault<'static>>
     requires { turns ≤ MAX_TURNS }
     ensures { RacesOn setup.now turns (bytes_of scripts.now)
-        (stream_of O.contents O.failures output.old) (stream_of O.contents O.failures output.new) result }
+        (stream_of O.contents O.failures output.old)
+        (stream_of O.contents O.failures output.new) result }
 {
     let parts = match Setup::read(alloc, setup) {
         Ok(parts) => parts,
@@ -58,7 +59,8 @@ pub fn race_files<
     outside: &mut Outside<F, I, O, E>,
 ) -> Result<(), Fault<'a>>
     requires { turns ≤ MAX_TURNS }
-    ensures does { RacesFiles setup.entry.now turns (texts scripts.now) outside.old outside.new result }
+    ensures does { RacesFiles setup.entry.now turns (texts scripts.now)
+        outside.old outside.new result }
     ensures error { outside.new.error ≡ outside.old.error }
 {
     let json = read_file(alloc, &mut outside.files, setup)?;

@@ -42,7 +42,8 @@ fn write_text<E: Sink>(fault: &Fault<'_>, error: &mut E) -> Result<(), Failed>
 /// Reports how a request ended, and returns the status.
 pub fn report<E: Sink>(outcome: Result<(), Fault<'_>>, error: &mut E) -> u8
     ensures { IsReported outcome.entry
-        (stream_of E.contents E.failures error.old) (stream_of E.contents E.failures error.new) result }
+        (stream_of E.contents E.failures error.old)
+        (stream_of E.contents E.failures error.new) result }
 {
     match outcome {
         Ok(()) => 0,

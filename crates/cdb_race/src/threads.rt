@@ -227,7 +227,8 @@ pub fn race<T: Runs + Send, G: Gate + Drop + Send, R: Threads + Wait + Sync>(
     ensures fault { IfErr result (IsAmongSeats (setup.processes + length scripts.now)) }
     ensures full { result ≡ Err RaceFault.JournalFull → FillsJournal setup turns scripts.now }
     ensures most { result ≡ Err RaceFault.JournalFull → MayFill setup turns scripts.now }
-    ensures told { IfErr result (IsTold T T.rules G.heard G.passes gates.items setup turns scripts.now) }
+    ensures told { IfErr result
+        (IsTold T T.rules G.heard G.passes gates.items setup turns scripts.now) }
     ensures passes { AllPass G.passes gates.items → IfErr result IsNotStopped }
 {
     let processes = setup.n();

@@ -104,7 +104,8 @@ impl<'a> Model for Noted<'a> {
 
     ghost view = { λ x. noted (count_of x.writes) (drop x.position x.history.now) };
 
-    ghost invariant = { λ x. (register : ARegister) → count_of x.writes register + length (drop x.position x.history.now) < 2 ^ 64 };
+    ghost invariant = { λ x. (register : ARegister) →
+        count_of x.writes register + length (drop x.position x.history.now) < 2 ^ 64 };
 }
 
 impl<'a> Noted<'a> {

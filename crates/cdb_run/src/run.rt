@@ -49,8 +49,8 @@ impl<P: Process> Model for Run<P> {
 
     ghost view = { λ run. record { setup = run.setup; history = events_of run.records } };
 
-    ghost invariant = { λ run. IsCurrent (machine_of P.table run.setup) P.before run.state.processes.items run.state.mail
-        run.state.registers (events_of run.records) run.records };
+    ghost invariant = { λ run. IsCurrent (machine_of P.table run.setup) P.before
+        run.state.processes.items run.state.mail run.state.registers (events_of run.records) run.records };
 }
 
 impl<P: Process> Run<P> {

@@ -51,7 +51,8 @@ impl<T: Runs> Shared<T> {
     ) -> Result<Reply, CallFault>
         requires { RestsAt self.now seat.old }
         ensures seat { IsLater seat.old seat.new }
-        ensures call { IfOk result (λ reply. IsCall T.rules seat.old command (told reply) seat.new) }
+        ensures call { IfOk result
+            (λ reply. IsCall T.rules seat.old command (told reply) seat.new) }
         ensures fault { OnErr result (SameCalls seat.old seat.new.seen) }
         ensures full { IfErr result (λ f. (f ≡ CallFault.JournalFull) ↔ SeesFull seat.new) }
         ensures limit { length seat.new.seen ≤ MAX_ENTRIES }

@@ -127,7 +127,8 @@ fn put_race<T: Runs, W: Sink>(
 ) -> Result<(), OutputFault>
     requires { control.now.setup.processes + length replies.now ≤ MAX_SEATS }
     ensures { Puts W.contents W.failures result out.old buffer.old out.new buffer.new
-        (seats_text (control.now.setup.processes + 1) (all_told replies.now) ++ end_text (last_decisions T.rules control.now)) }
+        (seats_text (control.now.setup.processes + 1) (all_told replies.now)
+        ++ end_text (last_decisions T.rules control.now)) }
 {
     let run = control.run();
     let mut text = String::new(alloc);
@@ -153,7 +154,8 @@ pub(super) fn write_race<T: Runs, W: Sink>(
     requires seats { control.now.setup.processes + length replies.now ≤ MAX_SEATS }
     requires empty { buffer ≡ [] }
     ensures { Wrote W.contents W.failures result out.old out.new
-        (seats_text (control.now.setup.processes + 1) (all_told replies.now) ++ end_text (last_decisions T.rules control.now)) }
+        (seats_text (control.now.setup.processes + 1) (all_told replies.now)
+        ++ end_text (last_decisions T.rules control.now)) }
 {
     let mut buffer = buffer;
     put_race(alloc, control, replies, &mut buffer, out)?;

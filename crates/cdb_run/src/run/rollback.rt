@@ -109,7 +109,8 @@ impl<P: Process> Run<P> {
             taken.old.items taken.new.items result }
         ensures exact { OnOk result (IsExactRollback self.old (name_of event) self.new) }
         ensures again { OnOk result
-            (AllLeadTo P.table self.new (reverse (removed_by_rollback self.old (name_of event))) self.old) }
+            (AllLeadTo P.table self.new
+            (reverse (removed_by_rollback self.old (name_of event))) self.old) }
         ensures capacity { vec_capacity taken.old ≤ vec_capacity taken.new }
     {
         let _ranges = self.setup().n();
@@ -165,7 +166,8 @@ impl<P: Process> Run<P> {
     /// The direct causes of a standing event, in order of process, at most one of each; or the first refusal that
     /// holds: `NoProcess` or `NoStep`. It takes no memory.
     pub fn causes_of(&self, alloc: Global, event: EventRef) -> Result<SmallVec<StepId, 9>, Refusal>
-        ensures answer { Tells (λ causes. causes.items) result (causes_in self.now (name_of event)) }
+        ensures answer { Tells (λ causes. causes.items) result
+            (causes_in self.now (name_of event)) }
         ensures direct { IfOk result (λ causes. AreCausesOf self.now (name_of event) causes.items) }
     {
         let _ranges = self.setup.n();
@@ -175,7 +177,8 @@ impl<P: Process> Run<P> {
 
     /// The direct causes of the `k`-th step of process `p`, as `causes_of` returns them.
     pub fn causes(&self, alloc: Global, p: u32, k: u32) -> Result<SmallVec<StepId, 9>, Refusal>
-        ensures answer { Tells (λ causes. causes.items) result (causes_in self.now (step_name p k)) }
+        ensures answer { Tells (λ causes. causes.items) result
+            (causes_in self.now (step_name p k)) }
         ensures direct { IfOk result (λ causes. AreCausesOf self.now (step_name p k) causes.items) }
     {
         self.causes_of(alloc, EventRef::Step(p, k))

@@ -71,7 +71,8 @@ fn may_send(event: &Event) -> bool
 
 /// False where the earlier event is not the loss of a copy of what the event sends.
 fn has_lost(event: &Event, earlier: &Event) -> bool
-    ensures { (copy : ACopy) → earlier.now ≡ Lost copy → result ≡ false → send_and_loss event.now (Lost copy) ≡ false }
+    ensures { (copy : ACopy) → earlier.now ≡ Lost copy → result ≡ false →
+        send_and_loss event.now (Lost copy) ≡ false }
 {
     match earlier {
         Event::Step { .. } => false,
