@@ -89,7 +89,7 @@ stepped rules t p e =
 -- what is told of a step that stands last, and the pause that it sets; the code keeps this word for itself
 abbrev pub step_told : Rules → State → ℕ → Event → ℕ → Outcome
 step_told rules t p e round_before =
-    let taken = record { event = e; decides = decision_of rules t.history p; round_before = round_before; round_after = round_of rules t.history p } in
+    let taken : TakenStep = record { event = e; decides = decision_of rules t.history p; round_before = round_before; round_after = round_of rules t.history p } in
     let paused = newly_fired t.pause taken t.stops in
     record {
       reply = reply.Stepped e taken.decides paused;
