@@ -3,12 +3,12 @@
 //! right where events are taken out. An event that is added stands above all others, so its mark gives a
 //! bound of each cell that it joins.
 
-ghost use Rattle.std.specs.Prelude.{◌≡◌, ◌≢◌, IsTrue, ℕ, ◌+◌, ◌-◌, ◌<◌, ◌≤◌, [], OnOk, true, false, length, nat_eq, slice_index, replicate, vec_len};
+ghost use Rattle.std.specs.Prelude.{◌≡◌, ◌≢◌, IsTrue, ℕ, ◌+◌, ◌<◌, ◌≤◌, [], OnOk, true, false, length, nat_eq, slice_index, replicate, vec_len};
 ghost use Rattle.cdb_base.specs.Event.{event_name};
 ghost use Rattle.cdb_base.specs.declared.event.Event.{Event as AnEvent};
 ghost use Rattle.cdb_base.specs.declared.event.Event.TheVariants.{Step, Lost};
 ghost use Rattle.cdb_base.specs.declared.event.Kind.{Kind as AKind};
-ghost use Rattle.cdb_base.specs.declared.event.Kind.TheVariants.{Send, Recv, Read, Write};
+ghost use Rattle.cdb_base.specs.declared.event.Kind.TheVariants.{Recv, Read, Write};
 ghost use Rattle.cdb_base.specs.declared.name.CopyName.{CopyName as ACopy};
 ghost use Rattle.cdb_causal.specs.Cells.{row, register_cell as register_cell_of, named_cell as named_cell_of, copy_cell as copy_cell_of};
 ghost use Rattle.cdb_causal.specs.Dependence.{accesses as accesses_of, same_process};

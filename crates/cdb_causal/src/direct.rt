@@ -1,12 +1,11 @@
 //! The direct causes of an event of a history.
 
-ghost use Rattle.std.specs.Prelude.{◌≡◌, ℕ, ◌+◌, ◌-◌, ◌<◌, ◌≤◌, ◌↔◌, None, Some, length, slice_get, get_or, MatchOption, IsTrue, true};
+ghost use Rattle.std.specs.Prelude.{◌≡◌, ℕ, ◌-◌, ◌<◌, ◌≤◌, ◌↔◌, None, Some, length, slice_get, get_or, MatchOption, IsTrue, true};
 ghost use Rattle.cdb_causal.specs.Causality.{IsLink, HasNothingBetween};
 ghost use Rattle.cdb_causal.specs.Dependence.{depends as depends_of};
 ghost use Rattle.cdb_causal.specs.DirectCauses.{AreDirectCauses};
 ghost use Rattle.cdb_causal.specs.LastCauses.{IsSlot, IsNoCause, IsLastCause};
 ghost use Rattle.cdb_causal.specs.LastCauses.{IsLastOrNone, AreLastCauses, IsDirectCauseOrNone};
-ghost use Rattle.cdb_causal.specs.Standing.{IsStanding};
 
 use crate::dependence::depends;
 use crate::history::History;
