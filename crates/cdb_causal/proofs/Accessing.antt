@@ -6,7 +6,7 @@ use Rattle.cdb_base.specs.declared.event.Event.TheVariants.{Step, Lost}
 use Rattle.cdb_base.specs.declared.event.Kind.{Kind}
 use Rattle.cdb_base.specs.declared.event.Kind.TheVariants.{Send, Read, Write}
 use Rattle.cdb_base.specs.declared.register.Reg.{Reg}
-use Rattle.cdb_causal.specs.Between.{IsBetween}
+use Rattle.cdb_causal.specs.Between.{IsBetween, IsAboveWrites, IsAboveAccesses, IsAboveAccessesBy}
 use Rattle.cdb_causal.specs.Bounds.{IsWithin}
 use Rattle.cdb_causal.specs.Dependence.{accesses}
 use Rattle.cdb_causal.specs.Effects.{kind_affects}
@@ -101,15 +101,8 @@ module _ (bounds : Bounds) (register : Reg) (q k : ℕ) (first : Kind) (p l i : 
           (λ f. f)
           (true_or_false (nat_eq x p))
 
-  abbrev pub AreWritesBelow : ℕ → Type 0
-  AreWritesBelow end = (i x n slot : ℕ) → IsWithin bounds i (Step x n (Write register)) → slot + 1 ≡ x → slot ≤ 8 → i < end
-
-  abbrev pub AreAccessesBelow : ℕ → Type 0
-  AreAccessesBelow end = (i x n slot : ℕ) (kind : Kind) → accesses register kind ≡ true → IsWithin bounds i (Step x n kind) → slot + 1 ≡ x → slot ≤ 8 → i < end
-
   -- before a read stands a write, or an access by the reading process
-  pub between_read : (written accessed : ℕ) → accesses register first ≡ true → AreWritesBelow written
-      → ((i n : ℕ) (kind : Kind) → accesses register kind ≡ true → IsWithin bounds i (Step p n kind) → i < accessed)
+  pub between_read : (written accessed : ℕ) → accesses register first ≡ true → IsAboveWrites bounds register written → IsAboveAccessesBy bounds register p accessed
       → (event : Event) → IsBetween bounds (Step q k first) (Step p l (Read register)) i event → (i < written) ⊎ (i < accessed)
   between_read written accessed met writes own event b = go s.kind s.within (access_affected q s.x register first s.kind met s.from_first) s.to_second
     where
@@ -126,7 +119,7 @@ module _ (bounds : Bounds) (register : Reg) (q k : ℕ) (first : Kind) (p l i : 
       go _ within kind_met to = absurd (true≢false (sym kind_met))
 
   -- after a read stands a write of what it read
-  pub between_from_read : (written : ℕ) (a : Reg) → accesses register (Read a) ≡ true → first ≡ Read a → AreWritesBelow written → (event : Event) → IsBetween bounds (Step q k first) (Step p l (Write register)) i event → i < written
+  pub between_from_read : (written : ℕ) (a : Reg) → accesses register (Read a) ≡ true → first ≡ Read a → IsAboveWrites bounds register written → (event : Event) → IsBetween bounds (Step q k first) (Step p l (Write register)) i event → i < written
   between_from_read written a met is writes event b =
       go s.kind s.within (access_affected q s.x register first s.kind (ap (accesses register) is ∙ met) s.from_first) (subst (λ f. (kind_affects q f s.kind || kind_affects s.x s.kind f) ≡ true) is s.from_first)
     where
@@ -138,7 +131,7 @@ module _ (bounds : Bounds) (register : Reg) (q k : ℕ) (first : Kind) (p l i : 
       go (Read c) within kind_met from = absurd (true≢false (sym from))
       go _ within kind_met from = absurd (true≢false (sym kind_met))
 
-  pub between_accesses : (accessed : ℕ) → accesses register first ≡ true → AreAccessesBelow accessed → (event : Event) → IsBetween bounds (Step q k first) (Step p l (Write register)) i event → i < accessed
+  pub between_accesses : (accessed : ℕ) → accesses register first ≡ true → IsAboveAccesses bounds register accessed → (event : Event) → IsBetween bounds (Step q k first) (Step p l (Write register)) i event → i < accessed
   between_accesses accessed met all event b =
       let s = step_between (Write register) (same_register-itself register) event b in
       all i s.x s.n s.slot s.kind (access_affected q s.x register first s.kind met s.from_first) s.within s.at s.low

@@ -4,7 +4,7 @@ use Rattle.std.proofs.lemmas.Option.{same_Some}
 use Rattle.cdb_base.specs.declared.event.Event.{Event}
 use Rattle.cdb_base.specs.declared.event.Event.TheVariants.{Step, Lost}
 use Rattle.cdb_base.specs.declared.event.Kind.{Kind}
-use Rattle.cdb_base.specs.declared.name.CopyName.{CopyName}
+use Rattle.cdb_causal.specs.AboveCauses.{IsNoLossOfSent, IsAboveStepsFor, IsAboveLossesFor, IsAboveCauses}
 use Rattle.cdb_causal.specs.Alone.{AreAlone}
 use Rattle.cdb_causal.specs.Between.{IsBetween}
 use Rattle.cdb_causal.specs.Bounds.{IsWithin, AreWithin}
@@ -27,17 +27,13 @@ unfolding process_or_none
 same_step_process event p k kind q l other one two = ap process_or_none (sym one ∙ two)
 
 module _ (bounds : Bounds) (slot result : ℕ) where
-  -- no copy of what the event sends is lost by the cause
-  abbrev pub IsNoLossOfSent : Event → Event → Type 0
-  IsNoLossOfSent event cause = (copy : CopyName) → cause ≡ Lost copy → send_and_loss event (Lost copy) ≡ false
-
-  pub above_losses : (event : Event) (p k : ℕ) (kind : Kind) → event ≡ Step p k kind → slot ≡ 9 → ((i k : ℕ) (copy : CopyName) → IsWithin bounds i (Lost copy) → send_and_loss (Step p k kind) (Lost copy) ≡ false → depends (Lost copy) (Step p k kind) ≡ true → i < result)
+  pub above_losses : (event : Event) (p k : ℕ) (kind : Kind) → event ≡ Step p k kind → slot ≡ 9 → IsAboveLossesFor bounds p kind result
       → (i : ℕ) (cause : Event) → IsWithin bounds i cause → IsSlot cause slot → IsNoLossOfSent event cause → depends cause event ≡ true → i < result
   above_losses event p k kind is last above i (Step q l other) within in_slot unsent h = absurd (let s = in_slot.1 in omega (arith, last))
   above_losses event p k kind is last above i (Lost copy) within in_slot unsent h =
       above i k copy within (ap (λ e. send_and_loss e (Lost copy)) (sym is) ∙ unsent copy refl) (ap (λ e. depends (Lost copy) e) (sym is) ∙ h)
 
-  pub above_steps : (event : Event) (p k : ℕ) (kind : Kind) → event ≡ Step p k kind → slot ≢ 9 → slot + 1 ≢ p → ((i q l : ℕ) (other : Kind) → IsWithin bounds i (Step q l other) → slot + 1 ≡ q → (kind_affects q other kind || kind_affects p kind other) ≡ true → i < result)
+  pub above_steps : (event : Event) (p k : ℕ) (kind : Kind) → event ≡ Step p k kind → slot ≢ 9 → slot + 1 ≢ p → IsAboveStepsFor bounds p kind slot result
       → (i : ℕ) (cause : Event) → IsWithin bounds i cause → IsSlot cause slot → depends cause event ≡ true → i < result
   above_steps event p k kind is not_last other_process above i (Step q l other) within in_slot h =
       let apart = is_false (nat_eq q p) (λ same. other_process (in_slot.0 ∙ eqb-true q p same)) in
@@ -47,7 +43,7 @@ module _ (bounds : Bounds) (slot result : ℕ) where
 
 -- the bound of a slot is above each event of a history on which the one at position j depends
 pub end_above : (history : List Event) → IsStanding history → (bounds : Bounds) (marks : ℕ → ℕ) → AreWithin bounds marks history → (j slot result top : ℕ) (event : Event) → slice_get history j ≡ Some event → ((i : ℕ) (l : IsLink depends history i j) → IsSlot l.cause slot → marks i < top)
-    → ((i : ℕ) (cause : Event) → i < top → IsWithin bounds i cause → IsSlot cause slot → ((copy : CopyName) → cause ≡ Lost copy → send_and_loss event (Lost copy) ≡ false) → depends cause event ≡ true → i < result)
+    → IsAboveCauses bounds event top slot result
     → (i : ℕ) (l : IsLink depends history i j) → IsSlot l.cause slot → marks i < result
 end_above history standing bounds marks within j slot result top event at_j rises above i l in_slot =
     above (marks i) l.cause (rises i l in_slot) (within i l.cause l.at_cause) in_slot

@@ -9,7 +9,7 @@ use Rattle.cdb_base.specs.declared.event.Kind.TheVariants.{Recv}
 use Rattle.cdb_base.specs.declared.name.CopyName.{CopyName}
 use Rattle.cdb_base.specs.declared.name.StepId.{StepId}
 use Rattle.cdb_base.specs.declared.name.StepId.TheVariants as named
-use Rattle.cdb_causal.specs.Causality.{IsLink}
+use Rattle.cdb_causal.specs.Causality.{IsLink, HasNothingBetween}
 use Rattle.cdb_causal.specs.Dependence.{same_process, sends, receives, send_and_loss, depends}
 use Rattle.cdb_causal.specs.Effects.{kind_affects}
 use Rattle.cdb_causal.proofs.Effects.{by_effect}
@@ -113,11 +113,11 @@ module _ (history : List Event) (standing : IsStanding history) (j : ℕ) where
       (λ here. here)
       (order_cases n.position i (last.last n.position n.direct.link n.has_slot))
 
-  pub none_if_not_direct : (slot i : ℕ) → IsLastCause history j slot i → (((k : ℕ) → IsLink depends history i k → IsLink depends history k j → ⊥) → ⊥) → (name : StepId) → NamesDirectCauseIn history j slot name → ⊥
+  pub none_if_not_direct : (slot i : ℕ) → IsLastCause history j slot i → (HasNothingBetween depends history i j → ⊥) → (name : StepId) → NamesDirectCauseIn history j slot name → ⊥
   none_if_not_direct slot i last not name n =
-      not (subst (λ x. (k : ℕ) → IsLink depends history x k → IsLink depends history k j → ⊥) (same_last slot i last name n) n.direct.nothing_between)
+      not (subst (λ x. HasNothingBetween depends history x j) (same_last slot i last name n) n.direct.nothing_between)
 
-  pub named_in : (slot i : ℕ) (event : Event) (name : StepId) → IsLastCause history j slot i → ((k : ℕ) → IsLink depends history i k → IsLink depends history k j → ⊥) → slice_get history i ≡ Some event → event_name event ≡ name → NamesDirectCauseIn history j slot name
+  pub named_in : (slot i : ℕ) (event : Event) (name : StepId) → IsLastCause history j slot i → HasNothingBetween depends history i j → slice_get history i ≡ Some event → event_name event ≡ name → NamesDirectCauseIn history j slot name
   named_in slot i event name last direct at_i has_name =
       record {
         position = i;

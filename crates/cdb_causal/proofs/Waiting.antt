@@ -1,13 +1,13 @@
 -- What stands between a send and a receive of another process, and depends on both.
 use Rattle.std.proofs.Common.{◌≡◌, ℕ, ◌-◌, ◌<◌, ◌≤◌, Bool, true, false, ◌&&◌, ◌||◌, nat_eq, slice_index, refl, sym, ap, ◌∙◌, subst, true≢false, eqb-true, arith}
-use Rattle.cdb_base.specs.declared.event.Event.{Event}
 use Rattle.cdb_base.specs.declared.event.Event.TheVariants.{Step, Lost}
 use Rattle.cdb_base.specs.declared.event.Kind.{Kind}
 use Rattle.cdb_base.specs.declared.event.Kind.TheVariants.{Send, Recv, Write}
 use Rattle.cdb_causal.specs.Alone.{ShareCell}
+use Rattle.cdb_causal.specs.Between.{IsAboveOtherReceives, IsAboveWaiting}
 use Rattle.cdb_causal.specs.Bounds.{IsWithin}
 use Rattle.cdb_causal.specs.Cells.{named_cell, copy_cell}
-use Rattle.cdb_causal.specs.Dependence.{depends, receives}
+use Rattle.cdb_causal.specs.Dependence.{receives}
 use Rattle.cdb_causal.specs.Effects.{kind_affects}
 use Rattle.cdb_causal.specs.declared.bounds.Bounds.{Bounds}
 use Rattle.cdb_causal.proofs.Effects.{by_effect}
@@ -30,9 +30,8 @@ not_both q p x differ same = ap (λ y. nat_eq y p) (sym (eqb-true q x same)) ∙
 
 module _ (bounds : Bounds) (q m p s r result : ℕ) (differ : nat_eq q p ≡ false) where
   pub above_waiting : (sent : slice_index bounds.sends.items (named_cell s r) ≤ result) (lost : slice_index bounds.losses.items (copy_cell s r (p - 1)) ≤ result)
-      → (received : (i k l : ℕ) → IsWithin bounds i (Step p k (Recv q m)) → (ShareCell bounds (Step p k (Recv q m)) (Step p l (Recv s r)) → ⊥) → i < result)
-      → (i k l : ℕ) (between : Event) → IsWithin bounds i between → (ShareCell bounds between (Step p l (Recv s r)) → ⊥)
-      → depends (Step q k (Send m)) between ≡ true → depends between (Step p l (Recv s r)) ≡ true → i < result
+      → (received : IsAboveOtherReceives bounds q m p s r result)
+      → IsAboveWaiting bounds q m p s r result
   above_waiting sent lost received i k l (Step x n kind) within unshared h g = go kind within unshared (sym (by_effect (Step q k (Send m)) (Step x n kind)) ∙ h) (sym (by_effect (Step x n kind) (Step p l (Recv s r))) ∙ g)
     where
       go : (kind : Kind) → IsWithin bounds i (Step x n kind) → (ShareCell bounds (Step x n kind) (Step p l (Recv s r)) → ⊥)

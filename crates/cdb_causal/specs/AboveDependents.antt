@@ -3,6 +3,7 @@ use Rattle.std.specs.Prelude.{◌≡◌, ℕ, ◌<◌, true, false}
 use Rattle.cdb_base.specs.declared.event.Event.{Event}
 use Rattle.cdb_base.specs.declared.event.Event.TheVariants.{Lost}
 use Rattle.cdb_base.specs.declared.name.CopyName.{CopyName}
+use Rattle.cdb_causal.specs.AboveCauses.{IsNoLossOfSent}
 use Rattle.cdb_causal.specs.Bounds.{IsWithin}
 use Rattle.cdb_causal.specs.Dependence.{same_process, send_and_loss, depends}
 use Rattle.cdb_causal.specs.LastCauses.{IsSlot}
@@ -14,8 +15,7 @@ use Rattle.cdb_log.specs.declared.log.TheConstants.{ABOVE_ALL}
 abbrev pub IsAboveInSlot : Bounds → Event → ℕ → ℕ → Type 0
 IsAboveInSlot bounds event slot end =
     (i : ℕ) (other : Event) → i < ABOVE_ALL → IsWithin bounds i other → IsSlot other slot
-    → same_process event other ≡ false → ((copy : CopyName) → other ≡ Lost copy → send_and_loss event (Lost copy) ≡ false)
-    → depends other event ≡ true → i < end
+    → same_process event other ≡ false → IsNoLossOfSent event other → depends other event ≡ true → i < end
 
 -- above all losses of copies of what the event sends
 abbrev pub IsAboveLosses : Bounds → Event → ℕ → Type 0

@@ -1,5 +1,5 @@
 -- Receives that stand alone in their cell of the bounds: no other event receives the copy.
-use Rattle.std.specs.Prelude.{◌≡◌, ◌≢◌, ℕ, ◌-◌, List, Some, slice_get, slice_index}
+use Rattle.std.specs.Prelude.{◌≡◌, ◌≢◌, ℕ, ◌-◌, ◌<◌, List, Some, slice_get, slice_index}
 use Rattle.cdb_base.specs.declared.event.Event.{Event}
 use Rattle.cdb_base.specs.declared.event.Event.TheVariants.{Step}
 use Rattle.cdb_base.specs.declared.event.Kind.TheVariants.{Recv}
@@ -15,6 +15,11 @@ receive_bound bounds n = slice_index bounds.receives.items n
 abbrev pub IsReceiveIn : Event → ℕ → Type 0
 IsReceiveIn (Step p k (Recv s m)) n = copy_cell s m (p - 1) ≡ n
 IsReceiveIn _ n = ⊥
+
+-- no event before position j receives the copy that has that cell
+abbrev pub HasNoReceiveBefore : List Event → ℕ → ℕ → Type 0
+HasNoReceiveBefore history j n =
+    (i : ℕ) (event : Event) → i < j → slice_get history i ≡ Some event → IsReceiveIn event n → ⊥
 
 -- where the bound of a cell does not say that several events may stand there, at most one does
 abbrev pub AreAlone : Bounds → List Event → Type 0

@@ -13,6 +13,7 @@ pub mod Reach
 pub mod Rollback
 pub mod Standing
 -- what the code keeps for itself: tests by effect, and the bounds from which events are sought
+pub mod AboveCauses
 pub mod AboveDependents
 pub mod Alone
 pub mod Between

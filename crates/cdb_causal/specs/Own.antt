@@ -18,6 +18,12 @@ pub record AreOwn (bounds : Bounds) (marks : ℕ → ℕ) (history : List Event)
   pub all : (i p k : ℕ) (kind : Kind) → slice_get history i ≡ Some (Step p k kind) → marks i < own_bound bounds p
   pub earlier : (h i p k l : ℕ) (kind other : Kind) → h < i → slice_get history h ≡ Some (Step p k kind) → slice_get history i ≡ Some (Step p l other) → marks h < bound_before bounds p l
 
+-- no step of its process stands after the step at a position, which counts from 1
+abbrev pub IsLastOfItsProcess : List Event → ℕ → Type 0
+IsLastOfItsProcess history at =
+    (i p k l : ℕ) (kind other : Kind) → slice_get history (at - 1) ≡ Some (Step p k kind)
+    → slice_get history i ≡ Some (Step p l other) → i < at
+
 -- the event, under that mark, is the last of its process now; all of that process's before it are within what was their bound
 abbrev pub IsOwnNoted : Bounds → Bounds → ℕ → Event → Type 0
 IsOwnNoted old new mark (Step p k kind) = (mark < own_bound new p) × (own_bound old p ≤ bound_before new p k)

@@ -1,5 +1,5 @@
 -- Tables of bounds, as they are raised.
-use Rattle.std.specs.Prelude.{ℕ, ◌<◌, ◌==◌, List, slice_index, if◌then◌else◌}
+use Rattle.std.specs.Prelude.{◌≡◌, ℕ, ◌<◌, ◌==◌, List, slice_index, if◌then◌else◌}
 use Rattle.cdb_causal.specs.declared.bounds.TheConstants.{SEVERAL}
 
 -- of the marks below the top, those that were below a bound still are
@@ -13,3 +13,8 @@ joined old bound = if old == 0 then bound else SEVERAL
 -- and where an event leaves it
 abbrev pub left : ℕ → ℕ
 left old = if old == SEVERAL then SEVERAL else 0
+
+-- the bound of one cell is changed so, and every other stays
+abbrev pub ChangesCell : (ℕ → ℕ) → List ℕ → List ℕ → ℕ → Type 0
+ChangesCell change old new cell =
+    (n : ℕ) → slice_index new n ≡ (if n == cell then change (slice_index old n) else slice_index old n)

@@ -3,18 +3,17 @@
 //! right where events are taken out. An event that is added stands above all others, so its mark gives a
 //! bound of each cell that it joins.
 
-ghost use Rattle.std.specs.Prelude.{◌≡◌, ◌≢◌, IsTrue, ℕ, ◌+◌, ◌-◌, ◌<◌, ◌≤◌, ◌==◌, ◌||◌, [], OnOk, true, false, length, nat_eq, slice_index, replicate, vec_len, if◌then◌else◌};
+ghost use Rattle.std.specs.Prelude.{◌≡◌, ◌≢◌, IsTrue, ℕ, ◌+◌, ◌<◌, ◌≤◌, [], OnOk, true, false, length, nat_eq, slice_index, replicate, vec_len};
 ghost use Rattle.cdb_base.specs.Event.{event_name};
 ghost use Rattle.cdb_base.specs.declared.event.Event.{Event as AnEvent};
 ghost use Rattle.cdb_base.specs.declared.event.Event.TheVariants.{Step, Lost};
 ghost use Rattle.cdb_base.specs.declared.event.Kind.{Kind as AKind};
-ghost use Rattle.cdb_base.specs.declared.event.Kind.TheVariants.{Send, Recv, Read, Write};
+ghost use Rattle.cdb_base.specs.declared.event.Kind.TheVariants.{Recv, Read, Write};
 ghost use Rattle.cdb_base.specs.declared.name.CopyName.{CopyName as ACopy};
 ghost use Rattle.cdb_causal.specs.Cells.{row, register_cell as register_cell_of, named_cell as named_cell_of, copy_cell as copy_cell_of};
-ghost use Rattle.cdb_causal.specs.Dependence.{accesses as accesses_of, same_process, send_and_loss, depends as depends_of};
-ghost use Rattle.cdb_causal.specs.Effects.{kind_affects};
+ghost use Rattle.cdb_causal.specs.Dependence.{accesses as accesses_of, same_process};
 ghost use Rattle.cdb_causal.specs.LastCauses.{IsSlot};
-ghost use Rattle.cdb_causal.specs.Raised.{IsRaised, joined, left};
+ghost use Rattle.cdb_causal.specs.Raised.{IsRaised, ChangesCell, joined, left};
 
 use crate::dependence::accesses;
 use cdb_base::{CopyName, Event, Kind, NoMemory, Proc, Reg, StepId};
@@ -110,8 +109,7 @@ fn raise(table: &mut [Mark], cell: usize, bound: Mark)
 fn join(table: &mut [Mark], cell: usize, bound: Mark)
     requires cell { cell < length table.old }
     requires bound { bound ≤ SEVERAL }
-    ensures joined { (n : ℕ) → slice_index table.new n
-        ≡ (if n == cell then joined (slice_index table.old n) bound else slice_index table.old n) }
+    ensures joined { ChangesCell (λ old. joined old bound) table.old table.new cell }
     ensures raised { IsRaised bound table.old table.new }
 {
     table[cell] = if table[cell] == 0 { bound } else { SEVERAL };
@@ -119,8 +117,7 @@ fn join(table: &mut [Mark], cell: usize, bound: Mark)
 
 /// Takes the bound from a cell in which one event stands.
 fn leave(table: &mut [Mark], cell: usize)
-    ensures { (n : ℕ) → slice_index table.new n
-        ≡ (if n == cell then left (slice_index table.old n) else slice_index table.old n) }
+    ensures { ChangesCell left table.old table.new cell }
 {
     if cell < table.len() && table[cell] != SEVERAL {
         table[cell] = 0;
@@ -169,12 +166,16 @@ fn is_own_slot(event: &Event, slot: usize) -> bool
 }
 
 impl Bounds {
+    ghost use Rattle.cdb_causal.specs.AboveCauses.{IsAboveStepsFor, IsAboveForLoss};
+    ghost use Rattle.cdb_causal.specs.AboveCauses.{IsAboveLossesFor, IsAboveCauses};
     ghost use Rattle.cdb_causal.specs.AboveDependents.{IsAboveInSlot, IsAboveLosses, IsAboveOthers};
-    ghost use Rattle.cdb_causal.specs.Between.{IsBetween};
+    ghost use Rattle.cdb_causal.specs.Between.{IsBetween, IsAboveBetween, IsAboveBetweenKinds};
+    ghost use Rattle.cdb_causal.specs.Between.{IsAboveOtherReceives, IsAboveWaiting};
+    ghost use Rattle.cdb_causal.specs.Between.{IsAboveWrites, IsAboveAccesses, IsAboveAccessesBy};
     ghost use Rattle.cdb_causal.specs.Bounds.{IsWithin, IsKindWithin, AreRaised, HasRoom, HasRoomFor};
     ghost use Rattle.cdb_causal.specs.Named.{IsRanged, IsNameForgotten};
     ghost use Rattle.cdb_causal.specs.Own.{own_bound, bound_of_slot, IsOwnNoted, IsOwnForgotten};
-    ghost use Rattle.cdb_causal.specs.Alone.{receive_bound, Joins, Leaves, KeepsReceives, ShareCell};
+    ghost use Rattle.cdb_causal.specs.Alone.{receive_bound, Joins, Leaves, KeepsReceives};
 
     /// The bounds of a history without events.
     pub fn new(alloc: Global) -> Self
@@ -427,8 +428,7 @@ impl Bounds {
     /// depends.
     fn end_for_step(&self, p: Proc, kind: Kind, slot: usize) -> Mark
         requires { slot < 9 }
-        ensures { (i q l : ℕ) (other : AKind) → IsWithin self.now i (Step q l other) → slot + 1 ≡ q
-            → (kind_affects q other kind || kind_affects p kind other) ≡ true → i < result }
+        ensures { IsAboveStepsFor self.now p kind slot result }
     {
         match kind {
             Kind::Recv(s, m) if s.index() == slot => self.end_of_sends(s, m),
@@ -442,8 +442,7 @@ impl Bounds {
     /// Above all events in a slot on which the loss of the copy depends.
     fn end_for_loss(&self, copy: &CopyName, slot: usize) -> Mark
         requires { slot < 10 }
-        ensures { (i : ℕ) (cause : AnEvent) → IsWithin self.now i cause → IsSlot cause slot
-            → depends_of cause (Lost copy.now) ≡ true → i < result }
+        ensures { IsAboveForLoss self.now copy.now slot result }
     {
         let mut end = 0;
         if copy.msg.s.index() == slot {
@@ -458,9 +457,7 @@ impl Bounds {
     /// Above all losses on which a step of process `p` of that kind depends that is no send of the
     /// copy.
     fn end_of_lost_for(&self, p: Proc, kind: Kind) -> Mark
-        ensures { (i k : ℕ) (copy : ACopy) → IsWithin self.now i (Lost copy)
-            → send_and_loss (Step p k kind) (Lost copy) ≡ false
-            → depends_of (Lost copy) (Step p k kind) ≡ true → i < result }
+        ensures { IsAboveLossesFor self.now p kind result }
     {
         match kind {
             Kind::Recv(s, m) => self.end_of_losses(s, m, p.index()),
@@ -485,9 +482,7 @@ impl Bounds {
     /// A mark above all events in a slot on which the event under mark `j` depends.
     pub fn end(&self, event: &Event, j: Mark, slot: usize) -> Mark
         requires { slot < 10 }
-        ensures { (i : ℕ) (cause : AnEvent) → i < j → IsWithin self.now i cause → IsSlot cause slot
-            → ((copy : ACopy) → cause ≡ Lost copy → send_and_loss event.now (Lost copy) ≡ false)
-            → depends_of cause event.now ≡ true → i < result }
+        ensures { IsAboveCauses self.now event.now j slot result }
     {
         match event {
             Event::Step { p, kind, .. } if slot == 9 => self.end_of_lost_for(*p, *kind),
@@ -559,8 +554,7 @@ impl Bounds {
     /// Above all receives by process `p` of the m-th message of process `q`, but for the receive of the
     /// r-th message of process `s` itself.
     fn end_of_other_receives(&self, q: Proc, m: u16, p: Proc, s: Proc, r: u16) -> Mark
-        ensures { (i k l : ℕ) → IsWithin self.now i (Step p k (Recv q m))
-            → (ShareCell self.now (Step p k (Recv q m)) (Step p l (Recv s r)) → ⊥) → i < result }
+        ensures { IsAboveOtherReceives self.now q m p s r result }
     {
         let end = self.end_of_receives(q, m, p.index());
         if end != SEVERAL && q == s && m == r {
@@ -573,10 +567,7 @@ impl Bounds {
     /// another process `p`, of the r-th message of process `s` depends.
     fn end_of_waiting(&self, q: Proc, m: u16, p: Proc, s: Proc, r: u16) -> Mark
         requires { nat_eq q p ≡ false }
-        ensures { (i k l : ℕ) (between : AnEvent) → IsWithin self.now i between
-            → (ShareCell self.now between (Step p l (Recv s r)) → ⊥)
-            → depends_of (Step q k (Send m)) between ≡ true
-            → depends_of between (Step p l (Recv s r)) ≡ true → i < result }
+        ensures { IsAboveWaiting self.now q m p s r result }
     {
         let sent = self.end_of_sends(s, r);
         let lost = self.end_of_losses(s, r, p.index());
@@ -586,24 +577,21 @@ impl Bounds {
 
     /// Above all writes of the register.
     fn end_of_writes(&self, register: &Reg) -> Mark
-        ensures { (i x n slot : ℕ) → IsWithin self.now i (Step x n (Write register.now))
-            → slot + 1 ≡ x → slot ≤ 8 → i < result }
+        ensures { IsAboveWrites self.now register.now result }
     {
         highest(&self.writes, register)
     }
 
     /// Above all accesses of the register.
     fn end_of_accesses(&self, register: &Reg) -> Mark
-        ensures { (i x n slot : ℕ) (kind : AKind) → accesses_of register.now kind ≡ true
-            → IsWithin self.now i (Step x n kind) → slot + 1 ≡ x → slot ≤ 8 → i < result }
+        ensures { IsAboveAccesses self.now register.now result }
     {
         highest(&self.accesses, register)
     }
 
     /// Above all accesses of the register by one process.
     fn end_of_accesses_by(&self, p: Proc, register: &Reg) -> Mark
-        ensures { (i n : ℕ) (kind : AKind) → accesses_of register.now kind ≡ true
-            → IsWithin self.now i (Step p n kind) → i < result }
+        ensures { IsAboveAccessesBy self.now register.now p result }
     {
         self.accesses[register_cell(*register, p.index())]
     }
@@ -611,9 +599,7 @@ impl Bounds {
     /// Above what stands between a step of process `q` and a read of the register by process `p`,
     /// under mark `j`.
     fn end_before_read(&self, q: Proc, first: Kind, p: Proc, register: Reg, j: Mark) -> Mark
-        ensures { (i k l : ℕ) (between : AnEvent) → i < j →
-            IsBetween self.now (Step q k first) (Step p l (Read register)) i between →
-            i < result }
+        ensures { IsAboveBetween self.now q first p (Read register) j result }
     {
         if accesses(&register, &first) {
             let written = self.end_of_writes(&register);
@@ -625,9 +611,7 @@ impl Bounds {
     /// Above what stands between two accesses of the register, the second a write.
     fn end_before_write_of(&self, first: &Kind, register: &Reg) -> Mark
         requires { accesses_of register.now first.now ≡ true }
-        ensures { (i q k p l : ℕ) (between : AnEvent)
-            → IsBetween self.now (Step q k first.now) (Step p l (Write register.now)) i between
-            → i < result }
+        ensures { IsAboveBetweenKinds self.now first.now (Write register.now) result }
     {
         match first {
             Kind::Read(_) => self.end_of_writes(register),
@@ -638,9 +622,7 @@ impl Bounds {
     /// Above what stands between a step of process `q` and a write of the register by process `p`,
     /// under mark `j`.
     fn end_before_write(&self, q: Proc, first: Kind, p: Proc, register: Reg, j: Mark) -> Mark
-        ensures { (i k l : ℕ) (between : AnEvent) → i < j
-            → IsBetween self.now (Step q k first) (Step p l (Write register)) i between
-            → i < result }
+        ensures { IsAboveBetween self.now q first p (Write register) j result }
     {
         if accesses(&register, &first) {
             return self.end_before_write_of(&first, &register);
@@ -651,8 +633,7 @@ impl Bounds {
     /// Above what stands between a step of process `q` and the receive of a message by process `p`,
     /// under mark `j`.
     fn end_before_receive(&self, q: Proc, first: Kind, p: Proc, s: Proc, r: u16, j: Mark) -> Mark
-        ensures { (i k l : ℕ) (between : AnEvent) → i < j
-            → IsBetween self.now (Step q k first) (Step p l (Recv s r)) i between → i < result }
+        ensures { IsAboveBetween self.now q first p (Recv s r) j result }
     {
         match first {
             Kind::Send(m) if q != p => self.end_of_waiting(q, m, p, s, r),
@@ -662,8 +643,7 @@ impl Bounds {
 
     /// The same for steps of any kind of the processes `q` and `p`, the second under mark `j`.
     fn end_between_steps(&self, q: Proc, first: Kind, p: Proc, second: Kind, j: Mark) -> Mark
-        ensures { (i k l : ℕ) (between : AnEvent) → i < j
-            → IsBetween self.now (Step q k first) (Step p l second) i between → i < result }
+        ensures { IsAboveBetween self.now q first p second j result }
     {
         match second {
             Kind::Read(register) => self.end_before_read(q, first, p, register, j),

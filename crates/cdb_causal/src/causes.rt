@@ -1,11 +1,10 @@
 //! What depends on an event of a history.
 
-ghost use Rattle.std.specs.Prelude.{◌≡◌, ◌-◌, ◌<◌, ◌≤◌, length, map, MatchOption, IfOk};
+ghost use Rattle.std.specs.Prelude.{◌≡◌, ◌-◌, ◌<◌, ◌≤◌, length, map, IfOk};
 ghost use Rattle.cdb_base.specs.Event.{event_name};
-ghost use Rattle.cdb_causal.specs.Causality.{IsFree};
 ghost use Rattle.cdb_causal.specs.Dependence.{depends as depends_of};
-ghost use Rattle.cdb_causal.specs.Names.{IsFirstDependent};
-ghost use Rattle.cdb_causal.specs.Rollback.{depends_on_one as depends_on_one_of, consequences as consequences_of, rolled_back};
+ghost use Rattle.cdb_causal.specs.Names.{IsFirstDependentOrFree, consequence_names};
+ghost use Rattle.cdb_causal.specs.Rollback.{depends_on_one as depends_on_one_of, rolled_back};
 
 use crate::dependence::depends;
 use crate::history::{History, append};
@@ -15,8 +14,7 @@ use std::alloc::Global;
 /// The first event that depends on the one at position `i`, from 0.
 fn first_linked(history: &History, i: usize) -> Option<StepId>
     requires { i < length history.now }
-    ensures { MatchOption result (IsFree depends_of history.now i)
-        (λ name. IsFirstDependent history.now i name) }
+    ensures { IsFirstDependentOrFree history.now i result }
 {
     let cause = history.event(i);
     let end = history.len().min(history.end_of_dependents(i));
@@ -34,8 +32,7 @@ fn first_linked(history: &History, i: usize) -> Option<StepId>
 pub fn first_dependent(history: &History, at: usize) -> Option<StepId>
     requires from_one { 1 ≤ at }
     requires to_len { at ≤ length history.now }
-    ensures { MatchOption result (IsFree depends_of history.now (at - 1))
-        (λ name. IsFirstDependent history.now (at - 1) name) }
+    ensures { IsFirstDependentOrFree history.now (at - 1) result }
 {
     first_linked(history, at - 1)
 }
@@ -81,8 +78,7 @@ fn names(alloc: Global, events: &[Event]) -> Result<Vec<StepId>, NoMemory>
 pub fn consequences(alloc: Global, history: &History, at: usize) -> Result<Vec<StepId>, NoMemory>
     requires from_one { 1 ≤ at }
     requires to_len { at ≤ length history.now }
-    ensures { IfOk result
-        (λ names. names.items ≡ map event_name (consequences_of depends_of history.now (at - 1))) }
+    ensures { IfOk result (λ names. names.items ≡ consequence_names history.now (at - 1)) }
 {
     let taken = rolled_back_events(alloc, history, at - 1)?;
     names(alloc, &taken[1..])

@@ -1,10 +1,9 @@
 //! How many events have an event of a history as a direct cause.
 
-ghost use Rattle.std.specs.Prelude.{◌≡◌, ◌-◌, ◌<◌, ◌≤◌, ◌↔◌, Some, IsTrue, drop, length, slice_get};
-ghost use Rattle.cdb_base.specs.declared.event.Event.{Event as AnEvent};
+ghost use Rattle.std.specs.Prelude.{◌<◌, ◌≤◌, ◌↔◌, IsTrue, length};
 ghost use Rattle.cdb_causal.specs.Causality.{IsDirectCause};
 ghost use Rattle.cdb_causal.specs.Dependence.{depends as depends_of};
-ghost use Rattle.cdb_causal.specs.DirectDependents.{direct_dependents};
+ghost use Rattle.cdb_causal.specs.DirectDependents.{CountsDirectDependents};
 
 use crate::dependence::depends;
 use crate::direct::is_direct;
@@ -23,8 +22,7 @@ fn is_direct_cause(history: &History, i: usize, j: usize) -> bool
 pub fn count_direct_dependents(history: &History, at: usize) -> usize
     requires from_one { 1 ≤ at }
     requires to_len { at ≤ length history.now }
-    ensures count { (event : AnEvent) → slice_get history.now (at - 1) ≡ Some event →
-        result ≡ direct_dependents depends_of event (drop at history.now) }
+    ensures count { CountsDirectDependents depends_of history.now at result }
     ensures few { result ≤ length history.now }
 {
     let mut count = 0;

@@ -1,12 +1,11 @@
 //! The direct causes of an event of a history.
 
-ghost use Rattle.std.specs.Prelude.{◌≡◌, ℕ, ◌+◌, ◌-◌, ◌<◌, ◌≤◌, ◌↔◌, None, Some, length, slice_get, get_or, MatchOption, IsTrue, true};
-ghost use Rattle.cdb_base.specs.declared.name.StepId.{StepId as AName};
-ghost use Rattle.cdb_causal.specs.Causality.{IsLink};
+ghost use Rattle.std.specs.Prelude.{◌≡◌, ℕ, ◌-◌, ◌<◌, ◌≤◌, ◌↔◌, None, Some, length, slice_get, get_or, MatchOption, IsTrue, true};
+ghost use Rattle.cdb_causal.specs.Causality.{IsLink, HasNothingBetween};
 ghost use Rattle.cdb_causal.specs.Dependence.{depends as depends_of};
 ghost use Rattle.cdb_causal.specs.DirectCauses.{AreDirectCauses};
-ghost use Rattle.cdb_causal.specs.LastCauses.{IsSlot, IsNoCause, IsLastCause, IsLastOrNone, AreLastCauses, NamesDirectCauseIn};
-ghost use Rattle.cdb_causal.specs.Standing.{IsStanding};
+ghost use Rattle.cdb_causal.specs.LastCauses.{IsSlot, IsNoCause, IsLastCause};
+ghost use Rattle.cdb_causal.specs.LastCauses.{IsLastOrNone, AreLastCauses, IsDirectCauseOrNone};
 
 use crate::dependence::depends;
 use crate::history::History;
@@ -81,8 +80,7 @@ pub(crate) fn is_direct(history: &History, i: usize, j: usize, end: usize) -> bo
     requires within { j < length history.now }
     requires end { (k : ℕ) → IsLink depends_of history.now i k →
         IsLink depends_of history.now k j → k < end }
-    ensures { IsTrue result
-        ↔ ((k : ℕ) → IsLink depends_of history.now i k → IsLink depends_of history.now k j → ⊥) }
+    ensures { IsTrue result ↔ HasNothingBetween depends_of history.now i j }
 {
     let cause = history.event(i);
     let effect = history.event(j);
@@ -135,8 +133,7 @@ fn direct_cause(
     requires within { j < length history.now }
     requires last { IsLastOrNone history.now j slot last }
     requires end { (k : ℕ) → IsLink depends_of history.now k j → k < end }
-    ensures { MatchOption result ((name : AName) → NamesDirectCauseIn history.now j slot name → ⊥)
-        (λ name. NamesDirectCauseIn history.now j slot name) }
+    ensures { IsDirectCauseOrNone history.now j slot result }
 {
     let _standing = history.len();
     if let Some(i) = last {

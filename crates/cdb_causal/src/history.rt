@@ -1,22 +1,20 @@
 //! The standing events of a run, in the order in which they were taken.
 
-ghost use Rattle.std.specs.Prelude.{◌≡◌, ℕ, ◌-◌, ◌<◌, ◌≤◌, List, [], ◌∷◌, ◌++◌, Some, Ok, false, length, slice_get, take, MatchOption, OnOk, OnErr, IfOk, IfErr, IsTrue, ◌==◌, ◌↔◌};
+ghost use Rattle.std.specs.Prelude.{◌≡◌, ℕ, ◌-◌, ◌<◌, ◌≤◌, List, [], ◌∷◌, ◌++◌, Some, Ok, length, slice_get, MatchOption, OnOk, OnErr, IfOk, IfErr, IsTrue, ◌==◌, ◌↔◌};
 ghost use Rattle.std.specs.Fn.{FnOnceReturnsAtMut, FnOnceTakesAtMut};
-ghost use Rattle.cdb_base.specs.Event.{event_name, is_step_of};
-ghost use Rattle.cdb_base.specs.declared.event.Event.{Event as AnEvent};
-ghost use Rattle.cdb_base.specs.declared.event.Event.TheVariants.{Step};
-ghost use Rattle.cdb_base.specs.declared.event.Kind.{Kind as AKind};
+ghost use Rattle.cdb_base.specs.Event.{event_name};
 ghost use Rattle.cdb_base.specs.declared.event.Kind.TheVariants.{Send};
 ghost use Rattle.cdb_base.specs.Positions.{nth};
 ghost use Rattle.cdb_causal.specs.Causality.{IsLink};
-ghost use Rattle.cdb_causal.specs.Dependence.{same_process as same_process_of, depends as depends_of};
-ghost use Rattle.cdb_causal.specs.Alone.{IsReceiveIn};
+ghost use Rattle.cdb_causal.specs.Dependence.{depends as depends_of};
+ghost use Rattle.cdb_causal.specs.Alone.{IsReceiveIn, HasNoReceiveBefore};
 ghost use Rattle.cdb_causal.specs.Bounds.{HasRoom as HasBoundsFor};
 ghost use Rattle.cdb_causal.specs.Cells.{copy_cell};
 ghost use Rattle.cdb_causal.specs.Changing.{HasFailed};
 ghost use Rattle.cdb_causal.specs.Indexed.{IsIndexed};
-ghost use Rattle.cdb_causal.specs.LastCauses.{IsSlot, IsNoCause};
-ghost use Rattle.cdb_causal.specs.Names.{IsNamedAt, IsNewName, IsPositionOf};
+ghost use Rattle.cdb_causal.specs.LastCauses.{IsNoCause, HasNoCauseAsStep, IsEndOfCauses, IsEndBetween};
+ghost use Rattle.cdb_causal.specs.Names.{IsNamedAt, IsNewName, IsPositionOf, IsEndOfSteps};
+ghost use Rattle.cdb_causal.specs.Own.{IsLastOfItsProcess};
 ghost use Rattle.cdb_causal.specs.Rollback.{without};
 ghost use Rattle.cdb_causal.specs.Standing.{IsStanding, HasNoLostCopy};
 ghost use Rattle.cdb_log.specs.Marks.{HasRoom, IsPushed};
@@ -186,8 +184,7 @@ impl History {
     /// Whether the slot's process receives the message at position `j`, from 0, or later, and at most once.
     fn receives_later(&self, s: Proc, m: u16, j: usize, slot: usize) -> bool
         requires { slot < 9 }
-        ensures { IsTrue result → (i : ℕ) (event : AnEvent) → i < j →
-            slice_get self.now i ≡ Some event → IsReceiveIn event (copy_cell s m slot) → ⊥ }
+        ensures { IsTrue result → HasNoReceiveBefore self.now j (copy_cell s m slot) }
     {
         if !self.bounds.is_received_once(s, m, slot) {
             return false;
@@ -205,8 +202,7 @@ impl History {
 
     /// The same of a message that process `p` sends at position `j`, to another process.
     fn is_message_received_later(&self, p: &Proc, m: u16, j: usize, slot: usize) -> bool
-        ensures { IsTrue result → (k : ℕ) → slice_get self.now j ≡ Some (Step p.now k (Send m)) →
-            IsNoCause self.now j slot }
+        ensures { IsTrue result → HasNoCauseAsStep self.now j p.now (Send m) slot }
     {
         if slot >= 9 {
             return false;
@@ -219,8 +215,7 @@ impl History {
 
     /// The same of a step of process `p` of that kind at position `j`.
     fn is_step_received_later(&self, p: &Proc, kind: &Kind, j: usize, slot: usize) -> bool
-        ensures { IsTrue result → (k : ℕ) →
-            slice_get self.now j ≡ Some (Step p.now k kind.now) → IsNoCause self.now j slot }
+        ensures { IsTrue result → HasNoCauseAsStep self.now j p.now kind.now slot }
     {
         match kind {
             Kind::Send(m) => self.is_message_received_later(p, *m, j, slot),
@@ -243,8 +238,7 @@ impl History {
     /// A position, from 0, above all events in a slot on which the effect depends, where it stands.
     pub(crate) fn end_of_causes(&self, effect: &Event, slot: usize) -> usize
         requires { slot < 10 }
-        ensures { (i j : ℕ) (l : IsLink depends_of self.now i j) →
-            slice_get self.now j ≡ Some effect.now → IsSlot l.cause slot → i < result }
+        ensures { IsEndOfCauses self.now effect.now slot result }
     {
         let before = self.bounds.end_before(effect, slot);
         let bound = self.bounds.end(effect, before, slot);
@@ -256,8 +250,7 @@ impl History {
     pub(crate) fn end_between(&self, i: usize, j: usize) -> usize
         requires order { i < j }
         requires within { j < length self.now }
-        ensures { (k : ℕ) (l : IsLink depends_of self.now i k) → IsLink depends_of self.now k j →
-            same_process_of l.cause l.effect ≡ false → k < result }
+        ensures { IsEndBetween self.now i j result }
     {
         let cause = self.events.get(i);
         let effect = self.events.get(j);
@@ -278,8 +271,7 @@ impl History {
     /// A position, from 0, above all steps of a process.
     pub fn end_of_steps(&self, p: Proc) -> usize
         ensures within { result ≤ length self.now }
-        ensures above { (i : ℕ) (event : AnEvent) → slice_get self.now i ≡ Some event →
-            IsTrue (is_step_of p event) → i < result }
+        ensures above { IsEndOfSteps self.now p result }
     {
         self.events.position_above(self.bounds.end_of_process(p))
     }
@@ -343,9 +335,7 @@ impl History {
     fn last_of_its_process(&self, at: usize) -> bool
         requires from_one { 1 ≤ at }
         requires to_len { at ≤ length self.now }
-        ensures { IsTrue result → (i p k l : ℕ) (kind other : AKind) →
-            slice_get self.now (at - 1) ≡ Some (Step p k kind) →
-            slice_get self.now i ≡ Some (Step p l other) → i < at }
+        ensures { IsTrue result → IsLastOfItsProcess self.now at }
     {
         let event = self.events.get(at - 1);
         self.events.position_above(self.bounds.end_of_own(event)) <= at

@@ -4,6 +4,8 @@ use Rattle.std.proofs.lemmas.List.{map-append, map-set, length-set, nil_from_len
 use Rattle.std.specs.Option.{option_to_list, MatchOption}
 use Rattle.cdb_log.specs.Ends.{start, AreRoomy, HasEnds}
 use Rattle.cdb_log.specs.Pieces.{before, lists}
+use Rattle.cdb_log.specs.declared.ends.TheConstants.{PIECE}
+use Rattle.cdb_log.specs.declared.log.TheConstants.{PIECES}
 use Rattle.cdb_log.proofs.Counting.{below_or_above, before_rises, before_step, before_all}
 use Rattle.cdb_log.proofs.Ended.{start_is, lists_at, lists_long, roomy_at, small_piece}
 use Rattle.cdb_log.proofs.Splitting.{before-set_low, before-set_high, before-push_empty}
@@ -15,12 +17,12 @@ module _ {T Z : Type 0} where
   pub lists_push : (vs : List (Vec T Z)) (w : Vec T Z) → lists (vs ++ w ∷ []) ≡ lists vs ++ w.items ∷ []
   lists_push vs w = map-append (λ (v : Vec T Z). v.items) vs (w ∷ [])
 
-  roomy_set : (vs : List (Vec T Z)) (k : ℕ) (w : Vec T Z) → AreRoomy vs → 128 ≤ vec_capacity w → AreRoomy (set vs k w)
+  roomy_set : (vs : List (Vec T Z)) (k : ℕ) (w : Vec T Z) → AreRoomy vs → PIECE ≤ vec_capacity w → AreRoomy (set vs k w)
   roomy_set [] k w roomy room = roomy
   roomy_set (v ∷ vs) zero w roomy room = (room, roomy.1)
   roomy_set (v ∷ vs) (suc k) w roomy room = (roomy.0, roomy_set vs k w roomy.1 room)
 
-  roomy_push : (vs : List (Vec T Z)) (w : Vec T Z) → AreRoomy vs → 128 ≤ vec_capacity w → AreRoomy (vs ++ w ∷ [])
+  roomy_push : (vs : List (Vec T Z)) (w : Vec T Z) → AreRoomy vs → PIECE ≤ vec_capacity w → AreRoomy (vs ++ w ∷ [])
   roomy_push [] w roomy room = (room, tt)
   roomy_push (v ∷ vs) w roomy room = (roomy.0, roomy_push vs w roomy.1 room)
 
@@ -31,7 +33,7 @@ module _ {T Z : Type 0} where
   -- piece k is changed, and the ends from there on go up or down with it
   module _ (pieces : List (Vec T Z)) (ends left : List ℕ) (h : HasEnds pieces ends) (k : ℕ) (v w : Vec T Z) (within : k < length pieces) (is : v ≡ get_or pieces k v) (same_length : length left ≡ length ends)
       (earlier : (j : ℕ) → j < k → slice_index left j ≡ slice_index ends j) (later : (j : ℕ) → k ≤ j → j < length ends → slice_index left j + length v.items ≡ slice_index ends j + length w.items)
-      (small : length w.items ≤ 128) (room : 128 ≤ vec_capacity w) where
+      (small : length w.items ≤ PIECE) (room : PIECE ≤ vec_capacity w) where
     abbrev old_lists : List (List T)
     old_lists = lists pieces
 
@@ -60,7 +62,7 @@ module _ {T Z : Type 0} where
               (λ from_k. let e = later j from_k (omega arith) in let l = high (suc j) (omega arith) in (let q : slice_index left j ≡ before new_lists (suc j) = omega arith in q))
               (below_or_above j k)) ∙ ap (λ l. before l (suc j)) (sym (lists_set pieces k w));
           small = λ j.
-              subst (λ l. before l (suc j) ≤ before l j + 128) (sym (lists_set pieces k w))
+              subst (λ l. before l (suc j) ≤ before l j + PIECE) (sym (lists_set pieces k w))
               (let s = h.small j in
               ⊎_elim
               (λ before_k. let a = low j (omega arith) in let b = low (suc j) (omega arith) in omega arith)
@@ -82,7 +84,7 @@ module _ {T Z : Type 0} where
 
   -- one item more in the last piece
   pub ends_pushed : (pieces : List (Vec T Z)) (ends : List ℕ) (h : HasEnds pieces ends) (k e : ℕ) (v w : Vec T Z) → suc k ≡ length pieces → v ≡ get_or pieces k v → e ≡ slice_index ends k
-      → length w.items ≡ length v.items + 1 → length w.items ≤ 128 → 128 ≤ vec_capacity w → HasEnds (set pieces k w) (set ends k (e + 1))
+      → length w.items ≡ length v.items + 1 → length w.items ≤ PIECE → PIECE ≤ vec_capacity w → HasEnds (set pieces k w) (set ends k (e + 1))
   ends_pushed pieces ends h k e v w last is is_end more small room =
       let same = h.same_length in
       ends_set pieces ends (set ends k (e + 1)) h k v w (omega arith) is (length-set ends k (e + 1))
@@ -109,7 +111,7 @@ module _ {T Z : Type 0} where
     pub lists_more : lists (pieces ++ v ∷ []) ≡ lists pieces ++ [] ∷ []
     lists_more = lists_push pieces v ∙ ap (λ l. lists pieces ++ l ∷ []) none
 
-    pub ends_added : length pieces < 33554431 → 128 ≤ vec_capacity v → HasEnds (pieces ++ v ∷ []) (ends ++ start ends (length ends) ∷ [])
+    pub ends_added : length pieces < PIECES → PIECE ≤ vec_capacity v → HasEnds (pieces ++ v ∷ []) (ends ++ start ends (length ends) ∷ [])
     ends_added few room =
         record {
           same_length = let a = length_push ends (start ends (length ends)) in let b = length_push pieces v in let c = h.same_length in omega arith;
@@ -123,7 +125,7 @@ module _ {T Z : Type 0} where
               (below_or_above k (length pieces))
               ∙ sym (before-push_empty (lists pieces) (suc k)) ∙ ap (λ l. before l (suc k)) (sym lists_more);
           small = λ k.
-              subst (λ l. before l (suc k) ≤ before l k + 128) (sym lists_more)
+              subst (λ l. before l (suc k) ≤ before l k + PIECE) (sym lists_more)
               (let a = before-push_empty (lists pieces) k in let b = before-push_empty (lists pieces) (suc k) in let s = h.small k in omega arith);
           few = let long = length_push pieces v in omega arith;
           roomy = roomy_push pieces v h.roomy room;
@@ -166,7 +168,7 @@ module _ {T Z : Type 0} where
               let same = h.same_length in
               sym (get_or_append_left ends (end ∷ []) 0 j (omega arith)) ∙ h.each j (omega arith) ∙ ap (λ l. before l (suc j)) lists_less ∙ before-push_empty (lists pieces) (suc j);
           small = λ j.
-              let s = subst (λ l. before l (suc j) ≤ before l j + 128) lists_less (h.small j) in
+              let s = subst (λ l. before l (suc j) ≤ before l j + PIECE) lists_less (h.small j) in
               let a = before-push_empty (lists pieces) j in
               let b = before-push_empty (lists pieces) (suc j) in
               omega arith;

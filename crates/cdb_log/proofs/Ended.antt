@@ -3,6 +3,7 @@ use Rattle.std.proofs.Common.{◌≡◌, ℕ, zero, suc, ◌+◌, ◌-◌, ◌*�
 use Rattle.std.proofs.lemmas.List.{length-map}
 use Rattle.cdb_log.specs.Ends.{start, AreEnds, IsSpot, AreRoomy, HasEnds}
 use Rattle.cdb_log.specs.Pieces.{joined, before, lists}
+use Rattle.cdb_log.specs.declared.ends.TheConstants.{PIECE}
 use Rattle.cdb_log.proofs.Counting.{below_or_above, before_rises, before_step, before_all}
 
 pub same_start : (ends : List ℕ) (n : ℕ) → 0 < n → start ends n ≡ slice_index ends (n - 1)
@@ -15,9 +16,9 @@ module _ {T Z : Type 0} where
   lists_at (w ∷ vs) zero v within is = ap (λ (u : Vec T Z). Some u.items) (sym is)
   lists_at (w ∷ vs) (suc k) v within is = lists_at vs k v (omega arith) is
 
-  pub roomy_at : (vs : List (Vec T Z)) (k : ℕ) (v : Vec T Z) → AreRoomy vs → k < length vs → v ≡ get_or vs k v → 128 ≤ vec_capacity v
+  pub roomy_at : (vs : List (Vec T Z)) (k : ℕ) (v : Vec T Z) → AreRoomy vs → k < length vs → v ≡ get_or vs k v → PIECE ≤ vec_capacity v
   roomy_at [] k v roomy within is = absurd (omega arith)
-  roomy_at (w ∷ vs) zero v roomy within is = subst (λ (u : Vec T Z). 128 ≤ vec_capacity u) (sym is) roomy.0
+  roomy_at (w ∷ vs) zero v roomy within is = subst (λ (u : Vec T Z). PIECE ≤ vec_capacity u) (sym is) roomy.0
   roomy_at (w ∷ vs) (suc k) v roomy within is = roomy_at vs k v roomy.1 (omega arith) is
 
   pub lists_long : (vs : List (Vec T Z)) → length (lists vs) ≡ length vs
@@ -68,12 +69,12 @@ module _ {T Z : Type 0} where
         let step = before_step (lists pieces) k v.items at in
         record { within = omega arith; at = at; is_position = omega arith; less = omega arith; high = omega arith }
 
-    pub bounded : (k : ℕ) → before (lists pieces) k ≤ 128 * k
+    pub bounded : (k : ℕ) → before (lists pieces) k ≤ PIECE * k
     bounded zero = omega arith
     bounded (suc k) = let b = bounded k in let s = h.small k in omega arith
 
     pub last_in : (l : List ℕ) (items : List T) (position : ℕ) → l ≡ ends → joined (lists pieces) ≡ items → position < length items → position < slice_index l (length l - 1)
     last_in l items position same is less = subst (λ m. position < slice_index m (length m - 1)) (sym same) (last_above position (subst (λ m. position < length m) (sym is) less))
 
-    pub small_piece : (k : ℕ) (v : Vec T Z) → k < length pieces → v ≡ get_or pieces k v → length v.items ≤ 128
+    pub small_piece : (k : ℕ) (v : Vec T Z) → k < length pieces → v ≡ get_or pieces k v → length v.items ≤ PIECE
     small_piece k v within is = let step = before_step (lists pieces) k v.items (lists_at pieces k v within is) in let s = h.small k in omega arith

@@ -4,40 +4,42 @@ use Rattle.std.proofs.lemmas.List.{map-append, length-map, get_or-map, get_or_ap
 use Rattle.std.proofs.lemmas.List.Edits.{get_or-remove_below, get_or-remove_above}
 use Rattle.std.proofs.lemmas.Option.{same_Some, none-some, slice_get-get_or, get_or_from_slice_get}
 use Rattle.std.specs.List.{AllByRecursion}
-use Rattle.cdb_log.specs.Marks.{Marked, mark, HasRoom, IsSameLog, IsPushed, IsReplaced, IsTakenOut}
+use Rattle.cdb_log.specs.Marks.{Marked, mark, HasRoom, IsSameLog, IsPushed, IsTakenOut}
 use Rattle.cdb_log.specs.Offsets.{AreOffsets, next, marks_from, seen, AreInPieces}
 use Rattle.cdb_log.specs.Pieces.{joined, before, lists}
+use Rattle.cdb_log.specs.declared.ends.TheConstants.{PIECE}
+use Rattle.cdb_log.specs.declared.log.TheConstants.{ABOVE_ALL}
 use Rattle.cdb_log.proofs.Changing.{lists_set}
 use Rattle.cdb_log.proofs.Counting.{below_or_above, before_rises, before_step, before_all, located}
 use Rattle.cdb_log.proofs.Ended.{start_is, lists_at, lists_long, total, roomy_at}
 use Rattle.cdb_log.proofs.Offsetting.{offsets_at, next_above, next_many, room_some, room_left}
-use Rattle.cdb_log.proofs.Splitting.{item_at, joined_remove, joined_set, joined_push, joined-push_empty, length-remove}
+use Rattle.cdb_log.proofs.Splitting.{item_at, joined_remove, joined_push, joined-push_empty, length-remove}
 
 -- ---- the marks of pieces, by their offsets
 
-marks_at : (first : ℕ) (os : List (List ℕ)) (k m : ℕ) (o : List ℕ) → m ≡ first + 128 * k → slice_get os k ≡ Some o → slice_get (marks_from first os) k ≡ Some (map (λ x. m + x) o)
+marks_at : (first : ℕ) (os : List (List ℕ)) (k m : ℕ) (o : List ℕ) → m ≡ first + PIECE * k → slice_get os k ≡ Some o → slice_get (marks_from first os) k ≡ Some (map (λ x. m + x) o)
 marks_at first [] k m o e at = absurd (none-some o at)
 marks_at first (p ∷ os) zero m o e at =
     ap (λ l. Some (map (λ x. first + x) l)) (same_Some p o at) ∙ ap (λ n. Some (map (λ x. n + x) o)) (let s : first ≡ m = omega arith in s)
-marks_at first (p ∷ os) (suc k) m o e at = marks_at (first + 128) os k m o (omega arith) at
+marks_at first (p ∷ os) (suc k) m o e at = marks_at (first + PIECE) os k m o (omega arith) at
 
-marks_set : (first : ℕ) (os : List (List ℕ)) (k m : ℕ) (o : List ℕ) → m ≡ first + 128 * k → marks_from first (set os k o) ≡ set (marks_from first os) k (map (λ x. m + x) o)
+marks_set : (first : ℕ) (os : List (List ℕ)) (k m : ℕ) (o : List ℕ) → m ≡ first + PIECE * k → marks_from first (set os k o) ≡ set (marks_from first os) k (map (λ x. m + x) o)
 marks_set first [] k m o e = refl
-marks_set first (p ∷ os) zero m o e = ap (λ n. map (λ x. n + x) o ∷ marks_from (first + 128) os) (let s : first ≡ m = omega arith in s)
-marks_set first (p ∷ os) (suc k) m o e = ap (λ l. map (λ x. first + x) p ∷ l) (marks_set (first + 128) os k m o (omega arith))
+marks_set first (p ∷ os) zero m o e = ap (λ n. map (λ x. n + x) o ∷ marks_from (first + PIECE) os) (let s : first ≡ m = omega arith in s)
+marks_set first (p ∷ os) (suc k) m o e = ap (λ l. map (λ x. first + x) p ∷ l) (marks_set (first + PIECE) os k m o (omega arith))
 
 marks-push_empty : (first : ℕ) (os : List (List ℕ)) → marks_from first (os ++ [] ∷ []) ≡ marks_from first os ++ [] ∷ []
 marks-push_empty first [] = refl
-marks-push_empty first (o ∷ os) = ap (λ l. map (λ x. first + x) o ∷ l) (marks-push_empty (first + 128) os)
+marks-push_empty first (o ∷ os) = ap (λ l. map (λ x. first + x) o ∷ l) (marks-push_empty (first + PIECE) os)
 
 before_marks : (first : ℕ) (os : List (List ℕ)) (k : ℕ) → before (marks_from first os) k ≡ before os k
 before_marks first os zero = refl
 before_marks first [] (suc k) = refl
-before_marks first (o ∷ os) (suc k) = let e = length-map o (λ x. first + x) in let h = before_marks (first + 128) os k in omega arith
+before_marks first (o ∷ os) (suc k) = let e = length-map o (λ x. first + x) in let h = before_marks (first + PIECE) os k in omega arith
 
 marks_long : (first : ℕ) (os : List (List ℕ)) → length (marks_from first os) ≡ length os
 marks_long first [] = refl
-marks_long first (o ∷ os) = let h = marks_long (first + 128) os in omega arith
+marks_long first (o ∷ os) = let h = marks_long (first + PIECE) os in omega arith
 
 many_marks : (first : ℕ) (os : List (List ℕ)) → length (joined (marks_from first os)) ≡ length (joined os)
 many_marks first os =
@@ -56,8 +58,8 @@ pub record IsPlaced (os : List (List ℕ)) (i : ℕ) : Type 0 where
   pub at : slice_get os k ≡ Some piece
   pub low : before os k ≤ i
   pub high : i < before os k + length piece
-  pub mark : slice_index (joined (marks_from 0 os)) i ≡ 128 * k + slice_index piece (i - before os k)
-  pub small : slice_index piece (i - before os k) < 128
+  pub mark : slice_index (joined (marks_from 0 os)) i ≡ PIECE * k + slice_index piece (i - before os k)
+  pub small : slice_index piece (i - before os k) < PIECE
 
 pub placed : (os : List (List ℕ)) → AllByRecursion AreOffsets os → (i : ℕ) → i < length (joined os) → IsPlaced os i
 placed os all i less =
@@ -71,10 +73,10 @@ placed os all i less =
     let step = before_step os k o at in
     let j : ℕ = i - before os k in
     let in_piece : j < length o = omega arith in
-    let f : ℕ → ℕ = λ x. 128 * k + x in
+    let f : ℕ → ℕ = λ x. PIECE * k + x in
     let long = length-map o f in
     let before_same = before_marks 0 os k in
-    let here = item_at (marks_from 0 os) k (map f o) (marks_at 0 os k (128 * k) o (omega arith) at) i j (omega arith) (omega arith) in
+    let here = item_at (marks_from 0 os) k (map f o) (marks_at 0 os k (PIECE * k) o (omega arith) at) i j (omega arith) (omega arith) in
     record {
       k = k;
       piece = o;
@@ -153,9 +155,9 @@ module _ {T Z : Type 0} where
     pub record IsOpen (k : ℕ) (o : Vec ℕ Z) : Type 0 where
       pub last : suc k ≡ length pieces
       pub are : AreOffsets o.items
-      pub below : next o.items < 128
+      pub below : next o.items < PIECE
       pub many : length o.items ≤ next o.items
-      pub roomy : 128 ≤ vec_capacity o
+      pub roomy : PIECE ≤ vec_capacity o
 
     pub opened : (n : ℕ) (o : Vec ℕ Z) → n ≡ length ends → HasRoom (seen pieces offsets) → o ≡ get_or offsets (n - 1) o → IsOpen (n - 1) o
     opened n o is_n room is_o =
@@ -175,14 +177,14 @@ module _ {T Z : Type 0} where
 
     -- an item is added at the end of the last piece
     pub pushed : (k x : ℕ) (v w : Vec T Z) (o u : Vec ℕ Z) (item : T) → v ≡ get_or pieces k v → o ≡ get_or offsets k o → suc k ≡ length pieces → x ≡ next o.items → w.items ≡ v.items ++ item ∷ [] → u.items ≡ o.items ++ x ∷ []
-        → IsPushed (seen pieces offsets) item (k * 128 + x) (seen (set pieces k w) (set offsets k u))
+        → IsPushed (seen pieces offsets) item (k * PIECE + x) (seen (set pieces k w) (set offsets k u))
     pushed k x v w o u item is_v is_o last is_x is_w is_u =
         record {
           items = ap joined (lists_set pieces k w ∙ ap (set (lists pieces) k) is_w) ∙ joined_push (lists pieces) k v.items item (lists_at pieces k v (omega arith) is_v) (last ∙ sym (lists_long pieces));
-          marks = λ i less. let many = marks_many in ap (λ l. slice_index l i) new_marks ∙ get_or_append_left old_marks ((128 * k + x) ∷ []) 0 i (omega arith);
+          marks = λ i less. let many = marks_many in ap (λ l. slice_index l i) new_marks ∙ get_or_append_left old_marks ((PIECE * k + x) ∷ []) 0 i (omega arith);
           last =
               let many = marks_many in
-              ap (λ l. slice_index l (length (joined (lists pieces)))) new_marks ∙ get_or_at old_marks (128 * k + x) [] 0 (length (joined (lists pieces))) (omega arith) ∙ omega arith;
+              ap (λ l. slice_index l (length (joined (lists pieces)))) new_marks ∙ get_or_at old_marks (PIECE * k + x) [] 0 (length (joined (lists pieces))) (omega arith) ∙ omega arith;
           above = λ i less.
               let many = same_many in
               let a = placed os h.rise i (omega arith) in
@@ -193,7 +195,7 @@ module _ {T Z : Type 0} where
               let high = a.high in
               let long = lists_long offsets in
               let same = same_pieces in
-              let is_mark : slice_index (joined (marks_from 0 (lists offsets))) i < k * 128 + x = ⊎_elim
+              let is_mark : slice_index (joined (marks_from 0 (lists offsets))) i < k * PIECE + x = ⊎_elim
               (λ earlier. omega arith)
               (λ here.
               let k_is : a.k ≡ k = omega arith in
@@ -208,22 +210,13 @@ module _ {T Z : Type 0} where
         at_o : slice_get (lists offsets) k ≡ Some o.items
         at_o = lists_at offsets k o (let e = same_pieces in omega arith) is_o
 
-        new_marks : joined (marks_from 0 (lists (set offsets k u))) ≡ old_marks ++ (128 * k + x) ∷ []
+        new_marks : joined (marks_from 0 (lists (set offsets k u))) ≡ old_marks ++ (PIECE * k + x) ∷ []
         new_marks =
             ap (λ l. joined (marks_from 0 l)) (lists_set offsets k u ∙ ap (set os k) is_u)
-            ∙ ap joined (marks_set 0 os k (128 * k) (o.items ++ x ∷ []) (omega arith))
-            ∙ ap (λ l. joined (set (marks_from 0 os) k l)) (map-append (λ y. 128 * k + y) o.items (x ∷ []))
-            ∙ joined_push (marks_from 0 os) k (map (λ y. 128 * k + y) o.items) (128 * k + x) (marks_at 0 os k (128 * k) o.items (omega arith) at_o)
+            ∙ ap joined (marks_set 0 os k (PIECE * k) (o.items ++ x ∷ []) (omega arith))
+            ∙ ap (λ l. joined (set (marks_from 0 os) k l)) (map-append (λ y. PIECE * k + y) o.items (x ∷ []))
+            ∙ joined_push (marks_from 0 os) k (map (λ y. PIECE * k + y) o.items) (PIECE * k + x) (marks_at 0 os k (PIECE * k) o.items (omega arith) at_o)
             (let e = same_pieces in let f = lists_long offsets in let g = marks_long 0 os in omega arith)
-
-    -- an item of a piece is replaced
-    pub replaced : (k position i : ℕ) (v w : Vec T Z) (item : T) → v ≡ get_or pieces k v → k < length pieces → position ≡ before (lists pieces) k + i → i < length v.items → w.items ≡ set v.items i item
-        → IsReplaced (seen pieces offsets) position item (seen (set pieces k w) offsets)
-    replaced k position i v w item is_v within is_position less is_w =
-        record {
-          items = ap joined (lists_set pieces k w ∙ ap (set (lists pieces) k) is_w) ∙ joined_set (lists pieces) k v.items (lists_at pieces k v within is_v) position i is_position less item;
-          marks = λ j in_old. refl;
-        }
 
     -- an item of a piece is taken out, with its offset
     pub taken_out : (k position i : ℕ) (v w : Vec T Z) (o u : Vec ℕ Z) (item : T) → v ≡ get_or pieces k v → o ≡ get_or offsets k o → k < length pieces → position ≡ before (lists pieces) k + i → i < length v.items → i < length o.items
@@ -255,16 +248,16 @@ module _ {T Z : Type 0} where
 
         new_marks : joined (marks_from 0 (lists (set offsets k u))) ≡ remove old_marks position
         new_marks =
-            let f : ℕ → ℕ = λ y. 128 * k + y in
+            let f : ℕ → ℕ = λ y. PIECE * k + y in
             let long = length-map o.items f in
             ap (λ l. joined (marks_from 0 l)) (lists_set offsets k u ∙ ap (set os k) is_u)
-            ∙ ap joined (marks_set 0 os k (128 * k) (remove o.items i) (omega arith))
+            ∙ ap joined (marks_set 0 os k (PIECE * k) (remove o.items i) (omega arith))
             ∙ ap (λ l. joined (set (marks_from 0 os) k l)) (map-remove f o.items i less_o)
-            ∙ joined_remove (marks_from 0 os) k (map f o.items) (marks_at 0 os k (128 * k) o.items (omega arith) at_o) position i
+            ∙ joined_remove (marks_from 0 os) k (map f o.items) (marks_at 0 os k (PIECE * k) o.items (omega arith) at_o) position i
             (let a = before_marks 0 os k in let b = same_before k (omega arith) in omega arith) (omega arith)
 
     -- below the position of a bound stand the items whose marks are below the bound
-    pub all_marked : (bound i : ℕ) → 128 * length pieces ≤ bound → i < length (joined (lists pieces)) → mark (seen pieces offsets) i < bound
+    pub all_marked : (bound i : ℕ) → PIECE * length pieces ≤ bound → i < length (joined (lists pieces)) → mark (seen pieces offsets) i < bound
     all_marked bound i past less =
         let many = same_many in
         let a = placed os h.rise i (omega arith) in
@@ -276,16 +269,16 @@ module _ {T Z : Type 0} where
         let is_mark : slice_index (joined (marks_from 0 (lists offsets))) i < bound = omega arith in
         is_mark
 
-    pub marks_small : (i : ℕ) → i < length (joined (lists pieces)) → mark (seen pieces offsets) i < 4294967295
-    marks_small i less = let few = h.items_end.few in let m = all_marked (128 * length pieces) i (omega arith) less in omega arith
+    pub marks_small : (i : ℕ) → i < length (joined (lists pieces)) → mark (seen pieces offsets) i < ABOVE_ALL
+    marks_small i less = let few = h.items_end.few in let m = all_marked (PIECE * length pieces) i (omega arith) less in omega arith
 
-    pub position_marked : (k extra count : ℕ) (o : Vec ℕ Z) → o ≡ get_or offsets k o → k < length pieces → extra < 128 → count ≤ length o.items → ((j : ℕ) → j < length o.items → (j < count) ↔ (slice_index o.items j < extra))
-        → (i : ℕ) → i < length (joined (lists pieces)) → (i < before (lists pieces) k + count) ↔ (mark (seen pieces offsets) i < 128 * k + extra)
+    pub position_marked : (k extra count : ℕ) (o : Vec ℕ Z) → o ≡ get_or offsets k o → k < length pieces → extra < PIECE → count ≤ length o.items → ((j : ℕ) → j < length o.items → (j < count) ↔ (slice_index o.items j < extra))
+        → (i : ℕ) → i < length (joined (lists pieces)) → (i < before (lists pieces) k + count) ↔ (mark (seen pieces offsets) i < PIECE * k + extra)
     position_marked k extra count o is_o within less_extra most below i less =
         let many = same_many in
         let a = placed os h.rise i (omega arith) in
         let in_a = a.within in
-        let m : mark (seen pieces offsets) i ≡ 128 * a.k + slice_index a.piece (i - before os a.k) = a.mark in
+        let m : mark (seen pieces offsets) i ≡ PIECE * a.k + slice_index a.piece (i - before os a.k) = a.mark in
         let s = a.small in
         let low = a.low in
         let high = a.high in

@@ -6,6 +6,7 @@ use Rattle.std.proofs.lemmas.List.Edits.{get_or-remove_below, get_or-remove_abov
 use Rattle.std.proofs.lemmas.Option.{same_Some, none-some}
 use Rattle.std.specs.List.{AllByRecursion}
 use Rattle.cdb_log.specs.Offsets.{AreOffsets, next, has_room}
+use Rattle.cdb_log.specs.declared.ends.TheConstants.{PIECE}
 use Rattle.cdb_log.proofs.Counting.{below_or_above}
 use Rattle.cdb_log.proofs.Splitting.{length-remove}
 
@@ -45,7 +46,7 @@ next_many o are =
 pub offsets_none : AreOffsets []
 offsets_none = record { rise = λ i j less within. absurd (omega arith); small = λ i less. absurd (omega arith) }
 
-pub offsets_push : (o : List ℕ) → AreOffsets o → next o < 128 → AreOffsets (o ++ next o ∷ [])
+pub offsets_push : (o : List ℕ) → AreOffsets o → next o < PIECE → AreOffsets (o ++ next o ∷ [])
 offsets_push o are room =
     record {
       rise = λ i j less within.
@@ -115,15 +116,15 @@ pub room_some : (os : List (List ℕ)) → has_room os ≡ true → 0 < length o
 room_some [] room = absurd (true≢false (sym room))
 room_some (o ∷ os) room = omega arith
 
-pub room_is : (os : List (List ℕ)) (k : ℕ) (o : List ℕ) → suc k ≡ length os → slice_get os k ≡ Some o → has_room os ≡ ltb (next o) 128
+pub room_is : (os : List (List ℕ)) (k : ℕ) (o : List ℕ) → suc k ≡ length os → slice_get os k ≡ Some o → has_room os ≡ ltb (next o) PIECE
 room_is [] k o last at = absurd (omega arith)
-room_is (p ∷ []) zero o last at = ap (λ l. ltb (next l) 128) (same_Some p o at)
+room_is (p ∷ []) zero o last at = ap (λ l. ltb (next l) PIECE) (same_Some p o at)
 room_is (p ∷ []) (suc k) o last at = absurd (omega arith)
 room_is (p ∷ q ∷ os) zero o last at = absurd (omega arith)
 room_is (p ∷ q ∷ os) (suc k) o last at = room_is (q ∷ os) k o (omega arith) at
 
-pub room_left : (os : List (List ℕ)) (k : ℕ) (o : List ℕ) → has_room os ≡ true → suc k ≡ length os → slice_get os k ≡ Some o → next o < 128
-room_left os k o room last at = let is : ltb (next o) 128 ≡ true = sym (room_is os k o last at) ∙ room in grind (arith, nat_tests, is)
+pub room_left : (os : List (List ℕ)) (k : ℕ) (o : List ℕ) → has_room os ≡ true → suc k ≡ length os → slice_get os k ≡ Some o → next o < PIECE
+room_left os k o room last at = let is : ltb (next o) PIECE ≡ true = sym (room_is os k o last at) ∙ room in grind (arith, nat_tests, is)
 
 pub room_added : (os : List (List ℕ)) → has_room (os ++ [] ∷ []) ≡ true
 room_added [] = refl

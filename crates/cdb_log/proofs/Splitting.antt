@@ -27,16 +27,6 @@ module _ {T : Type 0} where
   remove-front (x ∷ xs) zs zero less = refl
   remove-front (x ∷ xs) zs (suc n) less = ap (λ l. x ∷ l) (remove-front xs zs n (omega arith))
 
-  set-past : (xs zs : List T) (n i : ℕ) (y : T) → n ≡ length xs + i → set (xs ++ zs) n y ≡ xs ++ set zs i y
-  set-past [] zs n i y e = ap (λ m. set zs m y) (omega (arith, e))
-  set-past (x ∷ xs) zs zero i y e = absurd (omega arith)
-  set-past (x ∷ xs) zs (suc n) i y e = ap (λ l. x ∷ l) (set-past xs zs n i y (omega arith))
-
-  set-front : (xs zs : List T) (n : ℕ) (y : T) → n < length xs → set (xs ++ zs) n y ≡ set xs n y ++ zs
-  set-front [] zs n y less = absurd (omega arith)
-  set-front (x ∷ xs) zs zero y less = refl
-  set-front (x ∷ xs) zs (suc n) y less = ap (λ l. x ∷ l) (set-front xs zs n y (omega arith))
-
   pub length-remove : (xs : List T) (n : ℕ) → n < length xs → length (remove xs n) + 1 ≡ length xs
   length-remove [] n less = absurd (omega arith)
   length-remove (x ∷ xs) zero less = omega arith
@@ -78,12 +68,6 @@ module _ {T : Type 0} where
         let s = split_at ps k p at in
         let many = s.so_many in
         s.other (remove p i) ∙ sym (ap (λ l. remove l position) s.is ∙ remove-past s.front (p ++ s.back) position i (omega arith) ∙ ap (λ l. s.front ++ l) (remove-front p s.back i less))
-
-    pub joined_set : (item : T) → joined (set ps k (set p i item)) ≡ set (joined ps) position item
-    joined_set item =
-        let s = split_at ps k p at in
-        let many = s.so_many in
-        s.other (set p i item) ∙ sym (ap (λ l. set l position item) s.is ∙ set-past s.front (p ++ s.back) position i item (omega arith) ∙ ap (λ l. s.front ++ l) (set-front p s.back i item less))
 
   pub joined_push : (ps : List (List T)) (k : ℕ) (p : List T) (item : T) → slice_get ps k ≡ Some p → suc k ≡ length ps → joined (set ps k (p ++ item ∷ [])) ≡ joined ps ++ item ∷ []
   joined_push ps k p item at last =

@@ -1,5 +1,5 @@
 -- A list of items, each under a mark. Marks rise along the list, and an item keeps its mark for as long as it stands.
-use Rattle.std.specs.Prelude.{◌≡◌, ℕ, suc, ◌<◌, ◌≤◌, List, [], ◌∷◌, ◌++◌, Bool, false, IsTrue, length, remove, set, slice_get, slice_index, Some}
+use Rattle.std.specs.Prelude.{◌≡◌, ℕ, suc, ◌<◌, ◌≤◌, List, [], ◌∷◌, ◌++◌, Bool, false, IsTrue, length, remove, slice_get, slice_index, Some}
 
 -- the items in order, the mark of each, and whether there is room for one item more
 pub record Marked (T : Type 0) : Type 0 where
@@ -34,11 +34,6 @@ pub record IsPushed {T : Type 0} (old : Marked T) (item : T) (end : ℕ) (new : 
   pub marks : KeepsMarks (length old.items) old new
   pub last : mark new (length old.items) ≡ end
   pub above : (i : ℕ) → i < length old.items → mark old i < end
-
--- the item at that position is another, and all else is as it was
-pub record IsReplaced {T : Type 0} (old : Marked T) (position : ℕ) (item : T) (new : Marked T) : Type 0 where
-  pub items : new.items ≡ set old.items position item
-  pub marks : KeepsMarks (length old.items) old new
 
 -- the item stood at that position, and the others are left, each under the mark that it had
 pub record IsTakenOut {T : Type 0} (old : Marked T) (position : ℕ) (item : T) (new : Marked T) : Type 0 where

@@ -1,7 +1,7 @@
 //! Where the pieces of a list end.
 
-ghost use Rattle.std.specs.Prelude.{◌≡◌, ℕ, suc, ◌-◌, ◌+◌, ◌<◌, ◌≤◌, ◌↔◌, IsTrue, length, ltb, slice_index, if◌then◌else◌};
-ghost use Rattle.cdb_log.specs.Ends.{start, AreEnds, IsInPiece, IsSpot};
+ghost use Rattle.std.specs.Prelude.{◌≡◌, ℕ, ◌-◌, ◌<◌, ◌≤◌, ◌↔◌, IsTrue, length, slice_index};
+ghost use Rattle.cdb_log.specs.Ends.{start, AreEnds, AreLastTwoEmpty, AreLoweredFrom, IsInPiece, IsSpot};
 
 /// How many items a piece has at most.
 pub(crate) const PIECE: usize = 128;
@@ -47,8 +47,7 @@ pub(crate) fn spot_of(ends: &[usize], position: usize) -> (usize, usize)
 
 /// Whether the last two pieces are empty.
 pub(crate) fn is_spare(ends: &[usize]) -> bool
-    ensures { IsTrue result → (k : ℕ)
-        × (suc (suc k) ≡ length ends.now) × (slice_index ends.now (suc k) ≡ start ends.now k) }
+    ensures { IsTrue result → AreLastTwoEmpty ends.now }
 {
     let count = ends.len();
     count > 1 && ends[count - 1] == start_of(ends, count - 2)
@@ -61,8 +60,7 @@ pub(crate) fn lower(ends: &mut Vec<usize>, k: usize)
     ensures same_length { length ends.new.items ≡ length ends.old.items }
     ensures earlier { (j : ℕ) → j < k →
         slice_index ends.new.items j ≡ slice_index ends.old.items j }
-    ensures lowered { (j : ℕ) → k ≤ j → j < length ends.old.items →
-        slice_index ends.new.items j + 1 ≡ slice_index ends.old.items j }
+    ensures lowered { AreLoweredFrom k ends.old.items ends.new.items }
 {
     for j in k..ends.len() {
         ends[j] -= 1;

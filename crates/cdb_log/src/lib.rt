@@ -2,7 +2,8 @@
 //! each item keeps the mark under which it was added.
 //!
 //! ```text
-//! let mark = log.push(item)?;
+//! log.reserve()?;
+//! let mark = log.push_reserved(item);
 //! let position = log.position_above(mark);
 //! let item = log.take_out(position);
 //! ```

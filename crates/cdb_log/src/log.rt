@@ -1,7 +1,7 @@
 //! A list in pieces.
 
-ghost use Rattle.std.specs.Prelude.{◌≡◌, ℕ, ◌<◌, ◌≤◌, ◌==◌, ◌↔◌, Some, length, slice_get, OnOk, OnErr, IfOk};
-ghost use Rattle.cdb_log.specs.Marks.{mark, without_items, HasRoom, IsSameLog, IsPushed, IsReplaced, IsTakenOut};
+ghost use Rattle.std.specs.Prelude.{◌≡◌, ℕ, ◌<◌, ◌≤◌, ◌==◌, ◌↔◌, Some, length, slice_get, OnOk, OnErr};
+ghost use Rattle.cdb_log.specs.Marks.{mark, without_items, HasRoom, IsSameLog, IsPushed, IsTakenOut};
 ghost use Rattle.cdb_log.specs.Offsets.{AreInPieces, seen};
 
 use crate::ends::{PIECE, is_spare, lower, spot_of, start_of};
@@ -161,28 +161,6 @@ impl<T: Drop> Log<T> {
         piece.push_reserved(item);
         self.ends[last] += 1;
         (last * PIECE + offset) as Mark
-    }
-
-    /// Adds an item at the end, and returns its mark. Where an allocation fails, the log is as it
-    /// was.
-    pub fn push(&mut self, item: T) -> Result<Mark, NoMemory>
-        ensures ok { IfOk result (λ mark. IsPushed self.old item mark self.new) }
-        ensures small { IfOk result (λ mark. mark < ABOVE_ALL) }
-        ensures err { OnErr result (self.new ≡ self.old) }
-    {
-        self.reserve()?;
-        Ok(self.push_reserved(item))
-    }
-
-    /// Puts another item at a position.
-    pub fn set(&mut self, position: usize, item: T)
-        requires { position < length self.old.items }
-        ensures replaced { IsReplaced self.old position item self.new }
-        ensures room { HasRoom self.old → HasRoom self.new }
-    {
-        let (k, i) = spot_of(&self.ends, position);
-        let piece = &mut self.pieces[k];
-        piece[i] = item;
     }
 
     /// Takes the item at a position out. The others keep their order, and their marks. It takes no memory.

@@ -104,6 +104,22 @@ remove_receive mail p name =
 abbrev pub remove_loss : MailState → CopyName → MailState
 remove_loss mail copy = record mail { lost = set.remove mail.lost copy }
 
+-- the mail from which a send by p leads to the old one is the new one
+abbrev pub TakesBackSend : MailState → ℕ → MailState → Type 0
+TakesBackSend old p new =
+    (mail : MailState) (sent : Payload) → old ≡ add_send mail p sent → new ≡ mail
+
+-- so with a receive by p of a message that it had not received
+abbrev pub TakesBackReceive : MailState → ℕ → MsgName → MailState → Type 0
+TakesBackReceive old p name new =
+    (mail : MailState) → is_received mail p name ≡ false
+    → old ≡ add_receive mail p name → new ≡ mail
+
+-- so with the loss of a copy that was not lost
+abbrev pub TakesBackLoss : MailState → CopyName → MailState → Type 0
+TakesBackLoss old copy new =
+    (mail : MailState) → is_lost mail copy ≡ false → old ≡ add_loss mail copy → new ≡ mail
+
 -- ---- which copies are still to be received
 
 -- the names of the messages that process s sent, in order

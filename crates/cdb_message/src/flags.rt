@@ -1,6 +1,6 @@
 //! Tables of flags.
 
-ghost use Rattle.std.specs.Prelude.{◌≡◌, ℕ, ◌<◌, true, false, length, vec_len, OnOk, OnErr};
+ghost use Rattle.std.specs.Prelude.{◌≡◌, ℕ, ◌<◌, true, false, vec_len, OnOk, OnErr};
 ghost use Rattle.cdb_message.specs.Flags.{flag_in, SetsFlag};
 
 use cdb_base::NoMemory;

@@ -1,6 +1,6 @@
 //! The messages of a run.
 
-ghost use Rattle.std.specs.Prelude.{◌≡◌, ◌+◌, ◌<◌, ◌≤◌, length, false, IsTrue, find};
+ghost use Rattle.std.specs.Prelude.{◌≡◌, ◌<◌, ◌≤◌, length, false, IsTrue, find};
 ghost use Rattle.std.specs.Prelude.{IfOk, OnOk, OnErr, IfSome, IfNone, MatchOption};
 ghost use Rattle.std.specs.Option.{option_copied};
 ghost use Rattle.cdb_message.specs.Search.{IsLowestAbove, HasNoneAbove};
@@ -53,13 +53,13 @@ impl Model for Mail {
 impl Mail {
     ghost use Rattle.std.specs.Prelude.{ℕ};
     ghost use Rattle.cdb_base.specs.declared.limits.TheConstants.{MAX_PROCESSES, MAX_STEPS};
-    ghost use Rattle.cdb_base.specs.declared.payload.Payload.{Payload};
-    ghost use Rattle.cdb_message.specs.Mail.{MailState, first_mail, sent_by};
+    ghost use Rattle.cdb_message.specs.Mail.{first_mail, sent_by};
     ghost use Rattle.cdb_message.specs.Mail.{message_name, copy_name};
     ghost use Rattle.cdb_message.specs.Mail.{last_name, next_name, MaySend, IsNameOfSent, IsUnsent};
     ghost use Rattle.cdb_message.specs.Mail.{payload_of, is_sent, is_received, is_lost, is_open};
     ghost use Rattle.cdb_message.specs.Mail.{add_send, add_receive, add_loss};
     ghost use Rattle.cdb_message.specs.Mail.{remove_send, remove_receive, remove_loss};
+    ghost use Rattle.cdb_message.specs.Mail.{TakesBackSend, TakesBackReceive, TakesBackLoss};
     ghost use Rattle.cdb_message.specs.Mail.{next_pending, HasNonePending, IsLeastPending};
     ghost use Rattle.cdb_message.specs.Marks.{HasNoneOpen};
     ghost use Rattle.cdb_message.specs.Search.{first_of_sender, messages_from};
@@ -111,8 +111,7 @@ impl Mail {
         requires not_lost { (q : ℕ)
             → is_lost self.old (copy_name (last_name self.old p) q) ≡ false }
         ensures after { self.new ≡ remove_send self.old p }
-        ensures undoes { (mail : MailState) (sent : Payload)
-            → self.old ≡ add_send mail p sent → self.new ≡ mail }
+        ensures undoes { TakesBackSend self.old p self.new }
     {
         let outbox = &mut self.sent[p.index()];
         outbox.pop();
@@ -140,8 +139,7 @@ impl Mail {
         requires among { p ≤ length self.old.received }
         requires received { IsTrue (is_received self.old p name) }
         ensures after { self.new ≡ remove_receive self.old p name }
-        ensures undoes { (mail : MailState) → is_received mail p name ≡ false
-            → self.old ≡ add_receive mail p name → self.new ≡ mail }
+        ensures undoes { TakesBackReceive self.old p name self.new }
     {
         self.marks.lower(p, name.s, name.m);
         let names = &mut self.received[p.index()];
@@ -168,8 +166,7 @@ impl Mail {
     pub fn take_back_lose(&mut self, p: Proc, name: MsgName)
         requires lost { IsTrue (is_lost self.old (copy_name name p)) }
         ensures after { self.new ≡ remove_loss self.old (copy_name name p) }
-        ensures undoes { (mail : MailState) → is_lost mail (copy_name name p) ≡ false
-            → self.old ≡ add_loss mail (copy_name name p) → self.new ≡ mail }
+        ensures undoes { TakesBackLoss self.old (copy_name name p) self.new }
     {
         self.marks.lower(p, name.s, name.m);
         self.lost.remove(CopyName { msg: name, to: p });

@@ -1,15 +1,14 @@
 -- An event is free exactly where it is a direct cause of none, by its count.
-use Rattle.std.proofs.Common.{◌≡◌, ℕ, suc, ◌+◌, ◌-◌, ◌<◌, ◌↔◌, List, drop, Some, slice_get, sym, ap, ◌∙◌, arith}
-use Rattle.cdb_base.specs.Event.{event_name}
+use Rattle.std.proofs.Common.{◌≡◌, ℕ, suc, ◌+◌, ◌-◌, ◌<◌, List, drop, Some, slice_get, sym, ap, ◌∙◌, arith}
 use Rattle.cdb_base.specs.declared.event.Event.{Event}
 use Rattle.cdb_base.specs.declared.name.StepId.{StepId}
 use Rattle.cdb_causal.specs.Causality.{IsFree}
 use Rattle.cdb_causal.specs.Dependence.{depends}
-use Rattle.cdb_causal.specs.DirectDependents.{direct_dependents}
-use Rattle.cdb_causal.specs.Names.{IsNamedAt, IsPositionOf}
+use Rattle.cdb_causal.specs.DirectDependents.{direct_dependents, CountsDirectDependents}
+use Rattle.cdb_causal.specs.Names.{IsPositionOf}
 use Rattle.cdb_causal.proofs.Dependents.{no_direct_dependent, no_dependent, free_behind, behind_free}
 use Rattle.cdb_causal.proofs.Prefixes.{get_drop}
-use Rattle.cdb_record.specs.Counts.{dependents_at}
+use Rattle.cdb_record.specs.Counts.{dependents_at, IsCountOf, IsZeroWhereFree}
 
 position_behind : (i j : ℕ) → i < j → suc i + (j - suc i) ≡ j
 position_behind i j less = omega (arith, less)
@@ -28,15 +27,15 @@ module _ (history : List Event) (i : ℕ) (event : Event) (at : slice_get histor
       (λ m other at_other. behind_free depends history i event at free (suc i + m) other (omega arith) (sym (get_drop history (suc i) m) ∙ at_other))
 
 -- what is counted of the event at the position of a name, the position counting from 1
-module _ (history : List Event) (name : StepId) (position : ℕ) (is : IsPositionOf history name position) (count : ℕ) (counts : (event : Event) → slice_get history (position - 1) ≡ Some event → count ≡ direct_dependents depends event (drop position history)) where
-  pub counted : (i : ℕ) (event : Event) → slice_get history i ≡ Some event → event_name event ≡ name → count ≡ dependents_at history i event
+module _ (history : List Event) (name : StepId) (position : ℕ) (is : IsPositionOf history name position) (count : ℕ) (counts : CountsDirectDependents depends history position count) where
+  pub counted : IsCountOf history name count
   counted i event at named =
       let same = is.only i (event, at, named) in
       let from_one = is.from_one in
       let next : position ≡ suc i = omega (arith, same, from_one) in
       counts event (ap (slice_get history) (sym same) ∙ at) ∙ ap (λ n. direct_dependents depends event (drop n history)) next
 
-  pub counted_free : (i : ℕ) → IsNamedAt history i name → (count ≡ 0) ↔ IsFree depends history i
+  pub counted_free : IsZeroWhereFree history name count
   counted_free i named =
       let same = counted i named.0 named.1 named.2 in
       ((λ zeros. zero_free history i named.0 named.1 (sym same ∙ zeros)), (λ free. same ∙ free_zero history i named.0 named.1 free))

@@ -1,9 +1,24 @@
 -- How many standing events have an event as a direct cause.
-use Rattle.std.specs.Prelude.{ℕ, suc, List, drop}
+use Rattle.std.specs.Prelude.{◌≡◌, ◌↔◌, ℕ, suc, List, Some, drop, slice_get}
+use Rattle.cdb_base.specs.Event.{event_name}
 use Rattle.cdb_base.specs.declared.event.Event.{Event}
+use Rattle.cdb_base.specs.declared.name.StepId.{StepId}
+use Rattle.cdb_causal.specs.Causality.{IsFree}
 use Rattle.cdb_causal.specs.Dependence.{depends}
 use Rattle.cdb_causal.specs.DirectDependents.{direct_dependents}
+use Rattle.cdb_causal.specs.Names.{IsNamedAt}
 
 -- how many events of the history the event at position i is a direct cause of
 abbrev pub dependents_at : List Event → ℕ → Event → ℕ
 dependents_at history i event = direct_dependents depends event (drop (suc i) history)
+
+-- the count of the event of that name
+abbrev pub IsCountOf : List Event → StepId → ℕ → Type 0
+IsCountOf history name count =
+    (i : ℕ) (event : Event) → slice_get history i ≡ Some event → event_name event ≡ name
+    → count ≡ dependents_at history i event
+
+-- it is 0 exactly where no event depends on that event
+abbrev pub IsZeroWhereFree : List Event → StepId → ℕ → Type 0
+IsZeroWhereFree history name count =
+    (i : ℕ) → IsNamedAt history i name → (count ≡ 0) ↔ IsFree depends history i

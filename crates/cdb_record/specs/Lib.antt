@@ -1,4 +1,7 @@
 -- what a reader of the contracts believes: what stands, what is counted of it, and what is taken back
 pub mod Entries
+pub mod Adding
 pub mod Counts
 pub mod Taken
+-- what the code keeps for itself: how an event is looked for, and taken out
+pub mod Search

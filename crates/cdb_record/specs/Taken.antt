@@ -20,14 +20,6 @@ IsStepOf history p i = (event : Event) × (slice_get history i ≡ Some event) �
 abbrev pub IsLastStepOf : List Event → ℕ → ℕ → Type 0
 IsLastStepOf history p i = IsStepOf history p i × ((j : ℕ) → IsStepOf history p j → j ≤ i)
 
--- the event at position i is not free, and nothing has changed
-abbrev pub IsKept : {B : Type 0} → List (Entry B) → ℕ → List (Entry B) → Type 0
-IsKept old i new = (IsFree depends (events_of old) i → ⊥) × (new ≡ old)
-
--- it was free, and it was taken out
-abbrev pub IsTakenFree : {B : Type 0} → List (Entry B) → ℕ → Entry B → List (Entry B) → Type 0
-IsTakenFree old i entry new = IsFree depends (events_of old) i × IsTakenOut old i entry new
-
 -- an event of that description is taken out where one stands free; where none does, nothing has changed
 abbrev pub TakesWhereFree : {B : Type 0} → (List Event → ℕ → Type 0) → Option (Entry B) → List (Entry B) → List (Entry B) → Type 0
 TakesWhereFree Is result old new =

@@ -1,10 +1,9 @@
 //! The records of all standing events.
 
-ghost use Rattle.std.specs.Prelude.{◌≡◌, ℕ, ◌-◌, ◌≤◌, ◌↔◌, [], ◌∷◌, ◌++◌, Some, Ok, length, slice_get, IfErr, OnOk, OnErr, MatchOption};
-ghost use Rattle.std.specs.Fn.{FnOnceReturnsAtMut, FnOnceTakesAtMut};
+ghost use Rattle.std.specs.Prelude.{◌≡◌, ◌-◌, ◌≤◌, [], Some, length, IfErr, OnOk, OnErr};
+ghost use Rattle.std.specs.Fn.{FnOnceTakesAtMut};
 ghost use Rattle.cdb_base.specs.Event.{event_name};
 ghost use Rattle.cdb_base.specs.Positions.{nth};
-ghost use Rattle.cdb_base.specs.declared.event.Event.{Event as AnEvent};
 ghost use Rattle.cdb_base.specs.declared.name.StepId.TheVariants as named;
 ghost use Rattle.cdb_causal.specs.Causality.{IsFree};
 ghost use Rattle.cdb_causal.specs.Changing.{HasFailed};
@@ -12,10 +11,11 @@ ghost use Rattle.cdb_causal.specs.Dependence.{depends as depends_of};
 ghost use Rattle.cdb_causal.specs.Names.{IsNamedAt, IsNewName};
 ghost use Rattle.cdb_causal.specs.Rollback.{without};
 ghost use Rattle.cdb_causal.specs.Standing.{HasNoLostCopy};
-ghost use Rattle.cdb_record.specs.Counts.{dependents_at};
-ghost use Rattle.cdb_record.specs.Entries.{events_of, entry_of};
-ghost use Rattle.cdb_record.specs.Taken.{IsKept, IsTakenFree, IsTakenOut, IsStepOf, IsLastStepOf, TakesWhereFree};
-ghost use Rattle.cdb_record.specs.declared.entry.Left.{Left as WhatIsLeft};
+ghost use Rattle.cdb_record.specs.Adding.{IsAddedBy};
+ghost use Rattle.cdb_record.specs.Counts.{IsCountOf, IsZeroWhereFree};
+ghost use Rattle.cdb_record.specs.Entries.{events_of};
+ghost use Rattle.cdb_record.specs.Search.{TakesFree, IsLastStepOrNone};
+ghost use Rattle.cdb_record.specs.Taken.{IsLastStepOf, TakesWhereFree};
 
 use crate::entry::{Entry, Left};
 use cdb_base::{CopyName, Event, NoMemory, Proc, StepId};
@@ -76,10 +76,8 @@ impl<B: Drop> Records<B> {
     /// How many standing events have the event of that name as a direct cause: 0 exactly where none
     /// depends on it, and 0 where no event has the name.
     pub fn count_of(&self, name: StepId) -> u32
-        ensures count { (i : ℕ) (event : AnEvent) → slice_get (events_of self.now) i ≡ Some event →
-            event_name event ≡ name → result ≡ dependents_at (events_of self.now) i event }
-        ensures free { (i : ℕ) → IsNamedAt (events_of self.now) i name →
-            (result ≡ 0) ↔ IsFree depends_of (events_of self.now) i }
+        ensures count { IsCountOf (events_of self.now) name result }
+        ensures free { IsZeroWhereFree (events_of self.now) name result }
         ensures none { IsNewName (events_of self.now) name → result ≡ 0 }
     {
         match self.history.position(name) {
@@ -101,9 +99,8 @@ impl<B: Drop> Records<B> {
         requires new_name { IsNewName (events_of self.old) (event_name event) }
         requires not_lost { HasNoLostCopy (events_of self.old) event }
         requires callable { FnOnceTakesAtMut F.FnOnce change state.old }
-        ensures ok { OnOk result ((left : WhatIsLeft B)
-            × FnOnceReturnsAtMut F.FnOnce change state.old (Ok left) state.new
-            × (self.new ≡ self.old ++ entry_of event left ∷ [])) }
+        ensures ok { OnOk result
+            (IsAddedBy F.FnOnce change state.old state.new event self.old self.new) }
         ensures failed { IfErr result (λ e. HasFailed F.FnOnce change state.old e state.new) }
         ensures err { OnErr result (self.new ≡ self.old) }
     {
@@ -138,8 +135,7 @@ impl<B: Drop> Records<B> {
     fn take_free(&mut self, at: usize) -> Option<Entry<B>>
         requires from_one { 1 ≤ at }
         requires to_len { at ≤ length self.old }
-        ensures { MatchOption result (IsKept self.old (at - 1) self.new)
-            (λ entry. IsTakenFree self.old (at - 1) entry self.new) }
+        ensures { TakesFree self.old (at - 1) result self.new }
     {
         match first_dependent(&self.history, at) {
             Some(_) => None,
@@ -169,8 +165,7 @@ impl<B: Drop> Records<B> {
 
 /// The position, from 1, of the last step of a process.
 fn last_of(history: &History, p: Proc) -> Option<usize>
-    ensures { MatchOption result ((i : ℕ) → IsStepOf history.now p i → ⊥)
-        (λ at. (1 ≤ at) × IsLastStepOf history.now p (at - 1)) }
+    ensures { IsLastStepOrNone history.now p result }
 {
     for i in (0..history.end_of_steps(p)).rev() {
         let event = history.event(i);

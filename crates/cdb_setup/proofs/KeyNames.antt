@@ -1,6 +1,6 @@
 -- The keys of an object, and the first needed key that is not there.
 use Rattle.std.proofs.Common.{◌≡◌, ◌≢◌, ℕ, ◌<◌, ◌+◌, Bool, true, false, ◌&&◌, cond, List, [], ◌∷◌, Option, Some, None, String, Global, string_bytes, bytes_eq, refl, sym, subst, ◌∙◌, arith, inl, inr}
-use Rattle.std.specs.Prelude.{MatchOption, MatchBool, is_none, find}
+use Rattle.std.specs.Prelude.{MatchOption, is_none, find}
 use Rattle.std.specs.List.{list_all, list_any}
 use Rattle.std.specs.Map.{keys_of}
 use Rattle.std.proofs.lemmas.Bool.{cases_Bool, cases_eq}
@@ -14,11 +14,12 @@ use Rattle.cdb_setup.specs.declared.key.Key.TheVariants.{Algorithm, Processes, Q
 use Rattle.cdb_setup.specs.declared.fault.SetupFault.{SetupFault}
 use Rattle.cdb_setup.specs.declared.fault.SetupFault.TheVariants as faults
 use Rattle.cdb_setup.specs.declared.key.TheConstants as constants
-use Rattle.cdb_setup.specs.Format.{name_of, HasKnownKeys}
+use Rattle.cdb_setup.specs.Format.{name_of}
 use Rattle.cdb_setup.specs.Names.{is_key_name}
 use Rattle.cdb_setup.specs.Faults.{Holds}
 use Rattle.cdb_setup.specs.Order.{IsBefore, rank, key_number}
-use Rattle.cdb_setup.specs.Ranks.{IsFirstOfRank}
+use Rattle.cdb_setup.specs.Ranks.{IsFirstOfRank, HasNeededKeys, IsFirstMissing}
+use Rattle.cdb_setup.specs.Stops.{TellsKnownKeys}
 
 -- one of the keys has the name
 some_key : (name : List ℕ) (keys : List Key) → list_any (λ k. bytes_eq name (name_of k)) keys ≡ true → (key : Key) × (name ≡ name_of key)
@@ -92,7 +93,7 @@ some_other (entry ∷ entries) e =
 
 -- what the test on all names says
 pub known_or_other : (entries : List Entry) (result : Bool) → result ≡ list_all (λ name. is_key_name (string_bytes name)) (keys_of entries)
-    → MatchBool result (HasKnownKeys (object (members_view entries))) (Holds faults.UnknownKey (object (members_view entries)))
+    → TellsKnownKeys result (object (members_view entries))
 known_or_other entries true e = all_known entries (sym e)
 known_or_other entries false e = some_other entries (sym e)
 
@@ -138,19 +139,16 @@ first_of_rank json k before holds other at earlier = absurd (omega arith)
 stops : (json : Data) (k : Key) → AreThereBelow json (key_number k) → Holds (faults.Missing k) json → IsFirstOfRank 4 (faults.Missing k) json
 stops json k before holds = record { in_rank = refl; holds = holds; first = first_of_rank json k before holds }
 
-abbrev AreAllThere : Data → Type 0
-AreAllThere json = (key : Key) → IsThere json key
-
 -- what a search that goes on from the key k says
 abbrev Finds : Data → Option Key → Type 0
-Finds json found = MatchOption found (AreAllThere json) (λ k. IsFirstOfRank 4 (faults.Missing k) json)
+Finds json found = MatchOption found (HasNeededKeys json) (λ k. IsFirstMissing k json)
 
 goes_on : (json : Data) (k : Key) (missing : Bool) (further : Option Key) → k ≢ Version → is_none (get (name_of k) json) ≡ missing → AreThereBelow json (key_number k)
     → (AreThereBelow json (key_number k + 1) → Finds json further) → Finds json (cond missing (Some k) further)
 goes_on json k true further needed e before rest = stops json k before (needed, λ value. absent (get (name_of k) json) value e)
 goes_on json k false further needed e before rest = rest (one_more json k before (λ holds. present (get (name_of k) json) e holds.1))
 
-all_there : (json : Data) → AreThereBelow json 5 → AreAllThere json
+all_there : (json : Data) → AreThereBelow json 5 → HasNeededKeys json
 all_there json below Algorithm = below Algorithm (omega arith)
 all_there json below Processes = below Processes (omega arith)
 all_there json below Quorum = below Quorum (omega arith)

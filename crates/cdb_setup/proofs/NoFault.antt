@@ -4,6 +4,7 @@ use Rattle.std.specs.Prelude.{slice_get}
 use Rattle.std.specs.List.{AllByRecursion}
 use Rattle.std.proofs.lemmas.List.{length-map}
 use Rattle.serde_json.specs.Data.{Data}
+use Rattle.cdb_base.specs.declared.limits.TheConstants.{MAX_VALUE}
 use Rattle.cdb_setup.specs.declared.key.Key.TheVariants as key
 use Rattle.cdb_setup.specs.declared.fault.SetupFault.TheVariants.{BadInput, BadOracle, BadVersion}
 use Rattle.cdb_setup.specs.Parts.{IsWithin}
@@ -15,7 +16,7 @@ use Rattle.cdb_setup.proofs.Ranks.{one_list, within_at, answer_in}
 -- ---- inputs
 
 module _ (n : ℕ) (inputs : List ℕ) (json : Data) (count : IsCount n json) (at : HasAt key.Inputs (array_of_whole inputs) json)
-    (len : length inputs ≡ n) (all : AllByRecursion (IsWithin 0 999999) inputs) where
+    (len : length inputs ≡ n) (all : AllByRecursion (IsWithin 0 MAX_VALUE) inputs) where
   -- the inputs as values, one for each process
   inputs_each : HasOneEach key.Inputs (map whole inputs) json
   inputs_each = (at, subst (λ (m : ℕ). IsCount m json) (sym (length-map inputs whole ∙ len)) count)
@@ -25,7 +26,7 @@ module _ (n : ℕ) (inputs : List ℕ) (json : Data) (count : IsCount n json) (a
   no_bad_input (suc i) holds =
       let same = one_list key.Inputs holds.0 (map whole inputs) json holds.2 inputs_each in
       let there : slice_get (map whole inputs) i ≡ Some holds.1 = subst (λ (vs : List Data). slice_get vs i ≡ Some holds.1) same holds.3 in
-      holds.4 (within_at 0 999999 inputs i holds.1 all there)
+      holds.4 (within_at 0 MAX_VALUE inputs i holds.1 all there)
 
 -- ---- lists of answers
 

@@ -4,6 +4,7 @@ use Rattle.std.specs.Prelude.{slice_get, Result, Ok, Err, IfErr}
 use Rattle.std.specs.List.{AllByRecursion}
 use Rattle.std.proofs.lemmas.Bool.{cases_lt}
 use Rattle.serde_json.specs.Data.{Data}
+use Rattle.cdb_base.specs.declared.limits.TheConstants.{MAX_VALUE}
 use Rattle.cdb_setup.specs.declared.key.Key.{Key}
 use Rattle.cdb_setup.specs.declared.key.Key.TheVariants as key
 use Rattle.cdb_setup.specs.declared.fault.SetupFault.{SetupFault}
@@ -24,7 +25,7 @@ before_is_so P (v ∷ values) (suc i) zero value all below there = let same : v 
 before_is_so P (v ∷ values) (suc i) (suc j) value all below there = before_is_so P values i j value all.1 (omega arith) there
 
 -- no input before the first that is none is a fault
-inputs_before : (values : List Data) (i : ℕ) (json : Data) → HasOneEach key.Inputs values json → IsFirstNot (IsWholeWithin 0 999999) values i
+inputs_before : (values : List Data) (i : ℕ) (json : Data) → HasOneEach key.Inputs values json → IsFirstNot (IsWholeWithin 0 MAX_VALUE) values i
     → (other : SetupFault) → rank other ≡ 8 → IsBefore other (BadInput (suc i)) → ¬ Holds other json
 inputs_before values i json each stop (BadInput zero) at before holds = holds values each
 inputs_before values i json each stop (BadInput (suc j)) at before holds =
@@ -32,11 +33,11 @@ inputs_before values i json each stop (BadInput (suc j)) at before holds =
     let equal : array_of theirs ≡ array_of values = let a = holds.2.0 in let b = each.0 in cc in
     let same : theirs ≡ values = array_same theirs values equal in
     let there : slice_get values j ≡ Some holds.1 = subst (λ (vs : List Data). slice_get vs j ≡ Some holds.1) same holds.3 in
-    holds.4 (before_is_so (IsWholeWithin 0 999999) values i j holds.1 stop.before (omega arith) there)
+    holds.4 (before_is_so (IsWholeWithin 0 MAX_VALUE) values i j holds.1 stop.before (omega arith) there)
 inputs_before values i json each stop other at before holds = absurd (omega arith)
 
 -- the first input that is none is the first fault of its rank
-pub input_first : (values : List Data) (i : ℕ) (json : Data) → HasOneEach key.Inputs values json → IsFirstNot (IsWholeWithin 0 999999) values i
+pub input_first : (values : List Data) (i : ℕ) (json : Data) → HasOneEach key.Inputs values json → IsFirstNot (IsWholeWithin 0 MAX_VALUE) values i
     → IsFirstOfRank 8 (BadInput (i + 1)) json
 input_first values i json each stop = rw add-one (record {
   in_rank = refl;
@@ -45,7 +46,7 @@ input_first values i json each stop = rw add-one (record {
 })
 
 pub inputs_first_fault : {A : Type 0} (values : List Data) (json : Data) (result : Result A SetupFault) → HasOneEach key.Inputs values json
-    → IfErr result (λ fault. fault ≢ NoMemory → (i : ℕ) × (fault ≡ BadInput (i + 1)) × IsFirstNot (IsWholeWithin 0 999999) values i)
+    → IfErr result (λ fault. fault ≢ NoMemory → (i : ℕ) × (fault ≡ BadInput (i + 1)) × IsFirstNot (IsWholeWithin 0 MAX_VALUE) values i)
     → IfErr result (λ fault. fault ≢ NoMemory → IsFirstOfRank 8 fault json)
 inputs_first_fault values json (Ok inputs) each stops = tt
 inputs_first_fault values json (Err fault) each stops = λ differs.

@@ -2,17 +2,17 @@
 use Rattle.std.proofs.Common.{◌≡◌, ℕ, ◌+◌, List, length, map, arith, inl, inr}
 use Rattle.std.specs.List.{AllByRecursion}
 use Rattle.std.proofs.lemmas.Bool.{cases_lt}
-use Rattle.serde_json.specs.Data.{Data, Members, string, object}
+use Rattle.serde_json.specs.Data.{Data, Members, object}
+use Rattle.cdb_base.specs.declared.limits.TheConstants.{MAX_VALUE}
 use Rattle.cdb_setup.specs.declared.setup.Algorithm.{Algorithm}
-use Rattle.cdb_setup.specs.declared.key.Key.{Key}
 use Rattle.cdb_setup.specs.declared.key.Key.TheVariants as key
 use Rattle.cdb_setup.specs.declared.fault.SetupFault.{SetupFault}
 use Rattle.cdb_setup.specs.declared.fault.SetupFault.TheVariants.{NotJson, NotObject, UnknownKey, Missing, BadAlgorithm, BadCount, BadQuorum, BadInput, BadOracle, TooLong, BadVersion, NoMemory}
 use Rattle.cdb_setup.specs.Parts.{IsWithin}
-use Rattle.cdb_setup.specs.Format.{algorithm_name, whole, array_of, array_of_whole, HasAt, HasKnownKeys}
+use Rattle.cdb_setup.specs.Format.{whole, array_of, array_of_whole, HasAt, HasAlgorithm, HasKnownKeys}
 use Rattle.cdb_setup.specs.Faults.{Holds, IsCount}
 use Rattle.cdb_setup.specs.Order.{rank, IsBefore}
-use Rattle.cdb_setup.specs.Ranks.{IsFirstOfRank, IsFirstOf, IsClearBelow}
+use Rattle.cdb_setup.specs.Ranks.{IsFirstOfRank, HasNeededKeys, IsFirstOf, IsClearBelow}
 use Rattle.cdb_setup.proofs.NoFault.{no_bad_input, no_bad_answer}
 
 -- the first fault of a rank is the first of all where no earlier rank has one
@@ -29,7 +29,7 @@ passes : (t : ℕ) (json : Data) → IsClearBelow t json → ((other : SetupFaul
 passes t json clear none other below =
     elim (cases_lt (rank other) t) [ inl lt ↦ clear other lt | inr le ↦ none other (omega arith) ]
 
-pub after_keys : (members : Members) (json : Data) → json ≡ object members → HasKnownKeys json → ((key : Key) → ¬ Holds (Missing key) json) → IsClearBelow 5 json
+pub after_keys : (members : Members) (json : Data) → json ≡ object members → HasKnownKeys json → HasNeededKeys json → IsClearBelow 5 json
 after_keys ms json is known none TooLong below holds = holds
 after_keys ms json is known none NotJson below holds = holds
 after_keys ms json is known none NotObject below holds = holds ms is
@@ -37,7 +37,7 @@ after_keys ms json is known none UnknownKey below holds = let found = known hold
 after_keys ms json is known none (Missing key) below holds = none key holds
 after_keys ms json is known none other below holds = absurd (omega arith)
 
-no_bad_algorithm : (algorithm : Algorithm) (json : Data) → HasAt key.Algorithm (string (algorithm_name algorithm)) json → (other : SetupFault) → rank other ≡ 5 → ¬ Holds other json
+no_bad_algorithm : (algorithm : Algorithm) (json : Data) → HasAlgorithm algorithm json → (other : SetupFault) → rank other ≡ 5 → ¬ Holds other json
 no_bad_algorithm algorithm json at BadAlgorithm is holds = holds algorithm at
 no_bad_algorithm algorithm json at other is holds = absurd (omega arith)
 
@@ -49,7 +49,7 @@ no_bad_quorum : (n q : ℕ) (json : Data) → IsCount n json → HasAt key.Quoru
 no_bad_quorum n q json count at within BadQuorum is holds = holds n q count at within
 no_bad_quorum n q json count at within other is holds = absurd (omega arith)
 
-no_input : (n : ℕ) (inputs : List ℕ) (json : Data) → IsCount n json → HasAt key.Inputs (array_of_whole inputs) json → length inputs ≡ n → AllByRecursion (IsWithin 0 999999) inputs
+no_input : (n : ℕ) (inputs : List ℕ) (json : Data) → IsCount n json → HasAt key.Inputs (array_of_whole inputs) json → length inputs ≡ n → AllByRecursion (IsWithin 0 MAX_VALUE) inputs
     → (other : SetupFault) → rank other ≡ 8 → ¬ Holds other json
 no_input n inputs json count at len all (BadInput position) is holds = no_bad_input n inputs json count at len all position holds
 no_input n inputs json count at len all other is holds = absurd (omega arith)
@@ -60,8 +60,8 @@ no_answer n lists json count at len all (BadOracle process position) is holds = 
 no_answer n lists json count at len all other is holds = absurd (omega arith)
 
 -- once the inputs are read, no fault of a rank up to theirs is left
-pub after_inputs : (algorithm : Algorithm) (n q : ℕ) (inputs : List ℕ) (json : Data) → IsClearBelow 5 json → HasAt key.Algorithm (string (algorithm_name algorithm)) json → IsCount n json
-    → HasAt key.Quorum (whole q) json → IsWithin 1 n q → HasAt key.Inputs (array_of_whole inputs) json → length inputs ≡ n → AllByRecursion (IsWithin 0 999999) inputs → IsClearBelow 9 json
+pub after_inputs : (algorithm : Algorithm) (n q : ℕ) (inputs : List ℕ) (json : Data) → IsClearBelow 5 json → HasAlgorithm algorithm json → IsCount n json
+    → HasAt key.Quorum (whole q) json → IsWithin 1 n q → HasAt key.Inputs (array_of_whole inputs) json → length inputs ≡ n → AllByRecursion (IsWithin 0 MAX_VALUE) inputs → IsClearBelow 9 json
 after_inputs algorithm n q inputs json five named count quorum within at len all =
     let six = passes 5 json five (no_bad_algorithm algorithm json named) in
     let seven = passes 6 json six (no_bad_count n json count) in

@@ -1,6 +1,6 @@
 -- What each fault says.
 use Rattle.std.specs.Prelude.{◌≡◌, ◌≢◌, ℕ, zero, suc, ◌<◌, List, length, slice_get, Some, Result, IfErr}
-use Rattle.serde_json.specs.Data.{Data, string, object, Members}
+use Rattle.serde_json.specs.Data.{Data, object, Members}
 use Rattle.serde_json.specs.Find.{get}
 use Rattle.cdb_base.specs.declared.limits.TheConstants.{MAX_PROCESSES, MAX_VALUE}
 use Rattle.cdb_setup.specs.declared.setup.Algorithm.{Algorithm}
@@ -12,7 +12,7 @@ use Rattle.cdb_setup.specs.declared.fault.SetupFault.TheVariants.{Missing, BadAl
 use Rattle.cdb_setup.specs.declared.fault.SetupFault.TheVariants.{BadQuorum, BadInput, BadOracle}
 use Rattle.cdb_setup.specs.declared.fault.SetupFault.TheVariants.{TooLong, BadVersion, NoMemory}
 use Rattle.cdb_setup.specs.Parts.{IsWithin}
-use Rattle.cdb_setup.specs.Format.{name_of, algorithm_name, whole, array_of, HasAt, IsJsonOf, longest}
+use Rattle.cdb_setup.specs.Format.{name_of, whole, array_of, HasAt, HasAlgorithm, IsJsonOf, longest}
 
 -- the value names this number of processes
 abbrev pub IsCount : ℕ → Data → Type 0
@@ -21,6 +21,10 @@ IsCount n json = HasAt key.Processes (whole n) json × IsWithin 1 MAX_PROCESSES 
 -- under this key stand these values, one for each process
 abbrev pub HasOneEach : Key → List Data → Data → Type 0
 HasOneEach key values json = HasAt key (array_of values) json × IsCount (length values) json
+
+-- under this key no values stand, one for each process
+abbrev pub LacksOneEach : Key → Data → Type 0
+LacksOneEach key json = (values : List Data) → ¬ HasOneEach key values json
 
 -- a whole number from low to high
 abbrev pub IsWholeWithin : ℕ → ℕ → Data → Type 0
@@ -35,17 +39,16 @@ Holds UnknownKey json =
     (name : List ℕ) × (value : Data)
     × (get name json ≡ Some value) × ((key : Key) → name ≢ name_of key)
 Holds (Missing needed) json = (needed ≢ key.Version) × ((value : Data) → ¬ HasAt needed value json)
-Holds BadAlgorithm json =
-    (algorithm : Algorithm) → ¬ HasAt key.Algorithm (string (algorithm_name algorithm)) json
+Holds BadAlgorithm json = (algorithm : Algorithm) → ¬ HasAlgorithm algorithm json
 Holds BadCount json = (n : ℕ) → ¬ IsCount n json
 Holds BadQuorum json =
     (n q : ℕ) → IsCount n json → HasAt key.Quorum (whole q) json → ¬ IsWithin 1 n q
-Holds (BadInput zero) json = (values : List Data) → ¬ HasOneEach key.Inputs values json
+Holds (BadInput zero) json = LacksOneEach key.Inputs json
 Holds (BadInput (suc i)) json =
     (values : List Data) × (value : Data)
     × HasOneEach key.Inputs values json × (slice_get values i ≡ Some value)
     × ¬ IsWholeWithin 0 MAX_VALUE value
-Holds (BadOracle zero zero) json = (lists : List Data) → ¬ HasOneEach key.Oracle lists json
+Holds (BadOracle zero zero) json = LacksOneEach key.Oracle json
 Holds (BadOracle zero (suc k)) json = ⊥
 Holds (BadOracle (suc p) zero) json =
     (lists : List Data) × (list : Data)

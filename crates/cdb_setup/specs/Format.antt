@@ -5,6 +5,7 @@ use Rattle.serde_json.specs.Data.{Data, number, unsigned, string, array}
 use Rattle.serde_json.specs.Find.{get}
 use Rattle.serde_json.specs.Read as reading
 use Rattle.serde_json.specs.View.{items_of}
+use Rattle.cdb_base.specs.declared.limits.TheConstants.{MAX_BYTES}
 use Rattle.cdb_setup.specs.declared.setup.Algorithm.{Algorithm}
 use Rattle.cdb_setup.specs.declared.setup.Algorithm.TheVariants.{Leader, Alpha}
 use Rattle.cdb_setup.specs.declared.key.Key.{Key}
@@ -47,6 +48,10 @@ HasKnownKeys json =
     (name : List ℕ) (value : Data) → get name json ≡ Some value
     → (key : Key) × (name ≡ name_of key)
 
+-- this algorithm stands under its key
+abbrev pub HasAlgorithm : Algorithm → Data → Type 0
+HasAlgorithm algorithm json = HasAt key.Algorithm (string (algorithm_name algorithm)) json
+
 -- this version stands under its key, or the key is absent and the version is 1
 abbrev pub HasVersion : ℕ → Data → Type 0
 HasVersion version json =
@@ -57,7 +62,7 @@ HasVersion version json =
 pub record IsSetupOf (json : Data) (parts : Parts) : Type 0 where
   pub keys : HasKnownKeys json
   pub version : HasVersion parts.version json
-  pub algorithm : HasAt key.Algorithm (string (algorithm_name parts.algorithm)) json
+  pub algorithm : HasAlgorithm parts.algorithm json
   pub processes : HasAt key.Processes (whole parts.processes) json
   pub quorum : HasAt key.Quorum (whole parts.quorum) json
   pub inputs : HasAt key.Inputs (array_of_whole parts.inputs) json
@@ -66,7 +71,7 @@ pub record IsSetupOf (json : Data) (parts : Parts) : Type 0 where
 
 -- the most bytes that a setup may have, and a script
 abbrev pub longest : ℕ
-longest = 1048576
+longest = MAX_BYTES
 
 -- the bytes are the text of this JSON value
 abbrev pub IsJsonOf : List ℕ → Data → Type 0

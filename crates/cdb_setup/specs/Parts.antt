@@ -16,6 +16,17 @@ pub record Parts : Type 0 where
   pub inputs : List ℕ
   pub answers : List (List ℕ)
 
+-- the parts of a setup of as many processes as inputs
+abbrev pub setup_with : ℕ → Algorithm → ℕ → List ℕ → List (List ℕ) → Parts
+setup_with version algorithm quorum inputs answers = record {
+  version = version;
+  algorithm = algorithm;
+  processes = length inputs;
+  quorum = quorum;
+  inputs = inputs;
+  answers = answers;
+}
+
 -- from low to high
 abbrev pub IsWithin : ℕ → ℕ → ℕ → Type 0
 IsWithin low high n = (low ≤ n) × (n ≤ high)

@@ -1,14 +1,14 @@
 -- What is read from a JSON value, and where the reading of an array stops.
-use Rattle.std.specs.Prelude.{◌≡◌, ◌≢◌, ◌⊎◌, ℕ, ◌+◌, List, length, map, take, slice_get, Some}
+use Rattle.std.specs.Prelude.{◌≡◌, ◌≢◌, ◌⊎◌, ℕ, ◌+◌, Bool, MatchBool, List, length, map, take, slice_get, Option, Some, MatchOption}
 use Rattle.std.specs.List.{AllByRecursion}
 use Rattle.serde_json.specs.Data.{Data}
 use Rattle.cdb_base.specs.declared.limits.TheConstants.{MAX_VALUE}
 use Rattle.cdb_setup.specs.declared.fault.SetupFault.{SetupFault}
-use Rattle.cdb_setup.specs.declared.fault.SetupFault.TheVariants.{BadInput, BadOracle}
+use Rattle.cdb_setup.specs.declared.fault.SetupFault.TheVariants.{UnknownKey, BadInput, BadOracle}
 use Rattle.cdb_setup.specs.declared.key.Key.TheVariants as key
 use Rattle.cdb_setup.specs.Parts.{IsWithin, AreValues, AreProcesses, AreListsOfProcesses}
-use Rattle.cdb_setup.specs.Format.{whole, array_of, array_of_whole, HasAt}
-use Rattle.cdb_setup.specs.Faults.{IsWholeWithin}
+use Rattle.cdb_setup.specs.Format.{whole, array_of, array_of_whole, HasAt, HasKnownKeys, HasVersion}
+use Rattle.cdb_setup.specs.Faults.{Holds, IsWholeWithin}
 
 -- the i-th value, counted from 0, is the first of which this isn't so
 pub record IsFirstNot (P : Data → Type 0) (values : List Data) (i : ℕ) : Type 0 where
@@ -20,6 +20,27 @@ pub record IsFirstNot (P : Data → Type 0) (values : List Data) (i : ℕ) : Typ
 -- the value is the whole number n, which is from low to high
 abbrev pub IsRead : ℕ → ℕ → Data → ℕ → Type 0
 IsRead low high value n = (value ≡ whole n) × IsWithin low high n
+
+-- that number was read; none was where the value is no such number
+abbrev pub IsReadIfWhole : ℕ → ℕ → Data → Option ℕ → Type 0
+IsReadIfWhole low high value found =
+    MatchOption found (¬ IsWholeWithin low high value) (IsRead low high value)
+
+-- what was found is so; where nothing was, the fault holds of the JSON value
+abbrev pub IsFoundOr : {A : Type 0} → SetupFault → (A → Data → Type 0) → Option A → Data → Type 0
+IsFoundOr fault Is found json = MatchOption found (Holds fault json) (λ it. Is it json)
+
+-- this quorum stands under its key, of at most n processes
+abbrev pub IsQuorum : ℕ → ℕ → Data → Type 0
+IsQuorum n q json = HasAt key.Quorum (whole q) json × IsWithin 1 n q
+
+-- the version is this one, which there is
+abbrev pub IsVersion : ℕ → Data → Type 0
+IsVersion version json = HasVersion version json × IsWithin 1 2 version
+
+-- only keys of a setup stand there, or another is the fault
+abbrev pub TellsKnownKeys : Bool → Data → Type 0
+TellsKnownKeys known json = MatchBool known (HasKnownKeys json) (Holds UnknownKey json)
 
 -- the values are these whole numbers, each from low to high
 abbrev pub AreRead : ℕ → ℕ → List Data → List ℕ → Type 0

@@ -1,12 +1,12 @@
 //! The lists of answers, read from the JSON value.
 
-ghost use Rattle.std.specs.Prelude.{◌≡◌, ◌<◌, ◌≤◌, length, map, MatchOption, IfOk};
+ghost use Rattle.std.specs.Prelude.{◌≡◌, ◌<◌, ◌≤◌, length, map, IfOk};
 ghost use Rattle.serde_json.specs.View.{view};
 ghost use Rattle.cdb_base.specs.declared.limits.TheConstants.{MAX_PROCESSES};
 ghost use Rattle.cdb_setup.specs.Parts.{lists_in};
-ghost use Rattle.cdb_setup.specs.Faults.{IfFault, IsCount, IsWholeWithin};
+ghost use Rattle.cdb_setup.specs.Faults.{IfFault, IsCount};
 ghost use Rattle.cdb_setup.specs.Ranks.{IsFirstOfRank};
-ghost use Rattle.cdb_setup.specs.Stops.{IsRead, AreRead, IsListRead, AreListsRead, HasAnswers};
+ghost use Rattle.cdb_setup.specs.Stops.{IsReadIfWhole, AreRead, IsListRead, AreListsRead, HasAnswers};
 ghost use Rattle.cdb_setup.specs.Stops.{IsFirstOfAnswers, IsFirstOfList, IsFirstOfLists};
 
 use crate::fault::SetupFault;
@@ -19,8 +19,7 @@ use std::alloc::Global;
 /// The process that the value names, where there are this many.
 fn process_of(value: &Value, count: u8) -> Option<Proc>
     requires { count ≤ MAX_PROCESSES }
-    ensures { MatchOption result (¬ IsWholeWithin 1 count (view value.now))
-        (λ answer. IsRead 1 count (view value.now) answer) }
+    ensures { IsReadIfWhole 1 count (view value.now) result }
 {
     Some(Proc::new(whole_within(value, 1, count as u64)? as u8))
 }

@@ -1,6 +1,6 @@
 //! The keys of the JSON value.
 
-ghost use Rattle.std.specs.Prelude.{◌≡◌, MatchOption, MatchBool, IfErr, OnOk};
+ghost use Rattle.std.specs.Prelude.{◌≡◌, MatchOption, IfErr, OnOk};
 ghost use Rattle.std.specs.Prelude.{string_bytes, is_none, find};
 ghost use Rattle.std.specs.BTreeMap.{keys};
 ghost use Rattle.std.specs.List.{list_all, list_any};
@@ -8,10 +8,9 @@ ghost use Rattle.std.specs.Str.{bytes_eq};
 ghost use Rattle.serde_json.specs.Data.{object};
 ghost use Rattle.serde_json.specs.Find.{get};
 ghost use Rattle.serde_json.specs.View.{view, members_view};
-ghost use Rattle.cdb_setup.specs.declared.key.Key.{Key as KeyName};
 ghost use Rattle.cdb_setup.specs.Format.{name_of, HasKnownKeys};
-ghost use Rattle.cdb_setup.specs.Faults.{Holds};
-ghost use Rattle.cdb_setup.specs.Ranks.{IsFirstOfRank, IsFirstOf, IsClearBelow};
+ghost use Rattle.cdb_setup.specs.Ranks.{HasNeededKeys, IsFirstMissing, IsFirstOf, IsClearBelow};
+ghost use Rattle.cdb_setup.specs.Stops.{TellsKnownKeys};
 ghost use Rattle.cdb_setup.specs.Names.{is_key_name};
 
 use crate::fault::SetupFault;
@@ -41,8 +40,7 @@ fn is_key_name(name: &str) -> bool
 
 /// Whether only keys of a setup stand there, as the fault says it.
 fn has_known_keys(members: &Map<String, Value>) -> bool
-    ensures { MatchBool result (HasKnownKeys (object (members_view members.now.entries)))
-        (Holds SetupFault.UnknownKey (object (members_view members.now.entries))) }
+    ensures { TellsKnownKeys result (object (members_view members.now.entries)) }
 {
     are_key_names(members)
 }
@@ -66,8 +64,8 @@ fn missing_key(value: &Value) -> Option<Key>
 
 /// The same, as the fault that it is.
 fn first_missing(value: &Value) -> Option<Key>
-    ensures { MatchOption result ((k : KeyName) → ¬ Holds (SetupFault.Missing k) (view value.now))
-        (λ k. IsFirstOfRank 4 (SetupFault.Missing k) (view value.now)) }
+    ensures { MatchOption result (HasNeededKeys (view value.now))
+        (λ k. IsFirstMissing k (view value.now)) }
 {
     missing_key(value)
 }

@@ -1,15 +1,13 @@
 //! The parts of a setup, each read from the JSON value under its key.
 
-ghost use Rattle.std.specs.Prelude.{◌≡◌, ◌<◌, ◌^◌, List, length, map, MatchOption, IfOk};
-ghost use Rattle.serde_json.specs.Data.{Data, string as text_value};
+ghost use Rattle.std.specs.Prelude.{◌≡◌, ◌<◌, ◌^◌, length, map, MatchOption, IfOk};
 ghost use Rattle.serde_json.specs.View.{view};
 ghost use Rattle.cdb_base.specs.declared.limits.TheConstants.{MAX_VALUE};
-ghost use Rattle.cdb_setup.specs.declared.key.Key.TheVariants as key;
-ghost use Rattle.cdb_setup.specs.Parts.{IsWithin};
-ghost use Rattle.cdb_setup.specs.Format.{algorithm_name, whole, HasAt, HasVersion};
-ghost use Rattle.cdb_setup.specs.Faults.{IfFault, Holds, IsCount, HasOneEach, IsWholeWithin};
+ghost use Rattle.cdb_setup.specs.Format.{HasAlgorithm};
+ghost use Rattle.cdb_setup.specs.Faults.{IfFault, IsCount, HasOneEach, LacksOneEach};
 ghost use Rattle.cdb_setup.specs.Ranks.{IsFirstOfRank};
-ghost use Rattle.cdb_setup.specs.Stops.{IsRead, AreRead, HasInputs, IsFirstOfInputs};
+ghost use Rattle.cdb_setup.specs.Stops.{IsReadIfWhole, IsFoundOr, IsQuorum, IsVersion};
+ghost use Rattle.cdb_setup.specs.Stops.{AreRead, HasInputs, IsFirstOfInputs};
 
 use crate::fault::SetupFault;
 use crate::key::Key;
@@ -22,8 +20,7 @@ use std::alloc::Global;
 /// A whole number of the JSON value, from low to high.
 pub(crate) fn whole_within(value: &Value, low: u64, high: u64) -> Option<u32>
     requires { high < 2 ^ 32 }
-    ensures { MatchOption result (¬ IsWholeWithin low high (view value.now))
-        (λ n. IsRead low high (view value.now) n) }
+    ensures { IsReadIfWhole low high (view value.now) result }
 {
     match value.as_u64() {
         Some(n) if low <= n && n <= high => Some(n as u32),
@@ -33,8 +30,7 @@ pub(crate) fn whole_within(value: &Value, low: u64, high: u64) -> Option<u32>
 
 /// The number of processes.
 pub(crate) fn count_of(value: &Value) -> Option<u8>
-    ensures { MatchOption result (Holds SetupFault.BadCount (view value.now))
-        (λ n. IsCount n (view value.now)) }
+    ensures { IsFoundOr SetupFault.BadCount IsCount result (view value.now) }
 {
     let count = value.get(Key::Processes.name())?;
     let number = whole_within(count, 1, MAX_PROCESSES as u64)?;
@@ -44,8 +40,7 @@ pub(crate) fn count_of(value: &Value) -> Option<u8>
 /// The quorum, where there are this many processes.
 pub(crate) fn quorum_of(value: &Value, count: u8) -> Option<u8>
     requires { IsCount count (view value.now) }
-    ensures { MatchOption result (Holds SetupFault.BadQuorum (view value.now))
-        (λ q. HasAt key.Quorum (whole q) (view value.now) × IsWithin 1 count q) }
+    ensures { IsFoundOr SetupFault.BadQuorum (IsQuorum count) result (view value.now) }
 {
     let quorum = value.get(Key::Quorum.name())?;
     let number = whole_within(quorum, 1, count as u64)?;
@@ -54,8 +49,7 @@ pub(crate) fn quorum_of(value: &Value, count: u8) -> Option<u8>
 
 /// The algorithm.
 pub(crate) fn algorithm_of(value: &Value) -> Option<Algorithm>
-    ensures { MatchOption result (Holds SetupFault.BadAlgorithm (view value.now))
-        (λ a. HasAt key.Algorithm (text_value (algorithm_name a)) (view value.now)) }
+    ensures { IsFoundOr SetupFault.BadAlgorithm HasAlgorithm result (view value.now) }
 {
     let name = value.get(Key::Algorithm.name())?;
     match name.as_str() {
@@ -67,8 +61,7 @@ pub(crate) fn algorithm_of(value: &Value) -> Option<Algorithm>
 
 /// The version, which is 1 where its key is absent.
 pub(crate) fn version_of(value: &Value) -> Option<u8>
-    ensures { MatchOption result (Holds SetupFault.BadVersion (view value.now))
-        (λ v. HasVersion v (view value.now) × IsWithin 1 2 v) }
+    ensures { IsFoundOr SetupFault.BadVersion IsVersion result (view value.now) }
 {
     let Some(version) = value.get(Key::Version.name()) else {
         return Some(1);
@@ -80,9 +73,8 @@ pub(crate) fn version_of(value: &Value) -> Option<u8>
 /// The values under the key, where there is one for each process.
 pub(crate) fn one_each(value: &Value, key: Key, count: u8) -> Option<&[Value]>
     requires { IsCount count (view value.now) }
-    ensures { MatchOption result ((values : List Data) → ¬ HasOneEach key values (view value.now))
-        (λ values. HasOneEach key (map view values.now) (view value.now)
-        × (length values.now ≡ count)) }
+    ensures { MatchOption result (LacksOneEach key (view value.now)) (λ values.
+        HasOneEach key (map view values.now) (view value.now) × (length values.now ≡ count)) }
 {
     let values = value.get(key.name())?.as_array()?.as_slice();
     if values.len() == count as usize {
@@ -110,8 +102,7 @@ fn all_inputs(alloc: Global, values: &[Value]) -> Result<Vec<Val>, SetupFault>
 
 /// The input that the value is.
 fn input_of(value: &Value) -> Option<Val>
-    ensures { MatchOption result (¬ IsWholeWithin 0 MAX_VALUE (view value.now))
-        (λ input. IsRead 0 MAX_VALUE (view value.now) input) }
+    ensures { IsReadIfWhole 0 MAX_VALUE (view value.now) result }
 {
     Val::from_number(value.as_u64()?)
 }

@@ -49,7 +49,7 @@ impl Model for Setup {
 impl Setup {
     ghost use Rattle.cdb_base.specs.declared.limits.TheConstants.{MAX_PROCESSES};
     ghost use Rattle.cdb_setup.specs.Parts.{Parts, IsWithin, AreInRange, AreValues};
-    ghost use Rattle.cdb_setup.specs.Parts.{AreListsOfProcesses, lists_of, answer_of};
+    ghost use Rattle.cdb_setup.specs.Parts.{AreListsOfProcesses, lists_of, setup_with, answer_of};
     ghost use Rattle.cdb_setup.specs.Faults.{IfFault};
     ghost use Rattle.cdb_setup.specs.Format.{Encodes, longest};
     ghost use Rattle.cdb_setup.specs.Order.{IsFirstFault};
@@ -91,14 +91,8 @@ impl Setup {
         requires inputs { AreValues inputs.now }
         requires a_list_each { length answers.now ≡ length inputs.now }
         requires answers { AreListsOfProcesses (length inputs.now) (lists_of answers.now) }
-        ensures { IfOk result (λ setup. setup ≡ record {
-          version = version;
-          algorithm = algorithm;
-          processes = length inputs.now;
-          quorum = quorum;
-          inputs = inputs.now;
-          answers = lists_of answers.now;
-        }) }
+        ensures { IfOk result (λ setup. setup
+            ≡ setup_with version algorithm quorum inputs.now (lists_of answers.now)) }
     {
         let mut lists = Vec::new(alloc);
         for list in answers {

@@ -1,8 +1,7 @@
-use Rattle.std.proofs.Common.{◌≡◌, ℕ, ◌<◌, false, subst, arith}
+use Rattle.std.proofs.Common.{subst, arith}
 use Rattle.std.proofs.lemmas.Option.{slice_get_within}
 use Rattle.cdb_base.specs.declared.event.Event.{Event}
-use Rattle.cdb_causal.specs.Causality.{IsLink}
-use Rattle.cdb_causal.specs.Dependence.{same_process, depends}
+use Rattle.cdb_causal.specs.LastCauses.{IsEndBetween}
 use Rattle.cdb_causal.proofs.Ends.{end_above_between}
 use Rattle.cdb_log.specs.Marks.{mark}
 use Rattle.cdb_causal.proofs.history.History.end_between.Goals as goal
@@ -13,7 +12,7 @@ returns c =
     let log = c.self.inside.events in
     let cause : Event = c.get-cause.result.now in
     let effect : Event = c.get-effect.result.now in
-    subst (λ h. (k : ℕ) (l : IsLink depends h c.args.i k) → IsLink depends h k c.args.j → same_process l.cause l.effect ≡ false → k < c.position_above.result) c.self.view_is
+    subst (λ h. IsEndBetween h c.args.i c.args.j c.position_above.result) c.self.view_is
     (λ k one two another.
     (c.position_above.ensures.marks k (slice_get_within log.items k two.cause two.at_cause)).1
     (end_above_between log.items c.self.invariant.standing c.self.inside.bounds (mark log) c.self.invariant.within c.self.invariant.alone c.args.i c.args.j c.end_between-bound.result ABOVE_ALL cause effect c.get-cause.ensures c.get-effect.ensures

@@ -1,9 +1,7 @@
-use Rattle.std.proofs.Common.{◌≡◌, ℕ, ◌<◌, Some, slice_get, sym, subst}
+use Rattle.std.proofs.Common.{◌<◌, sym, subst}
 use Rattle.std.proofs.lemmas.Option.{slice_get_within}
 use Rattle.cdb_base.specs.declared.event.Event.{Event}
-use Rattle.cdb_causal.specs.Causality.{IsLink}
-use Rattle.cdb_causal.specs.Dependence.{depends}
-use Rattle.cdb_causal.specs.LastCauses.{IsSlot}
+use Rattle.cdb_causal.specs.LastCauses.{IsEndOfCauses}
 use Rattle.cdb_causal.proofs.Ends.{end_above}
 use Rattle.cdb_causal.proofs.Owning.{below_slot}
 use Rattle.cdb_log.specs.Marks.{mark}
@@ -13,7 +11,7 @@ pub returns : goal.returns
 returns c =
     let log = c.self.inside.events in
     let effect : Event = c.args.effect.now in
-    subst (λ h. (i j : ℕ) (l : IsLink depends h i j) → slice_get h j ≡ Some effect → IsSlot l.cause c.args.slot → i < c.position_above.result) c.self.view_is
+    subst (λ h. IsEndOfCauses h effect c.args.slot c.position_above.result) c.self.view_is
     (λ i j l at_j in_slot.
     (c.position_above.ensures.marks i (slice_get_within log.items i l.cause l.at_cause)).1
     (end_above log.items c.self.invariant.standing c.self.inside.bounds (mark log) c.self.invariant.within j c.args.slot c.end-bound.result c.end_before-before.result effect at_j

@@ -3,6 +3,8 @@ use Rattle.cdb_log.specs.Ends.{start}
 use Rattle.cdb_log.specs.Marks.{mark}
 use Rattle.cdb_log.specs.Offsets.{AreOffsets, seen}
 use Rattle.cdb_log.specs.Pieces.{lists}
+use Rattle.cdb_log.specs.declared.ends.TheConstants.{PIECE}
+use Rattle.cdb_log.specs.declared.log.TheConstants.{ABOVE_ALL}
 use Rattle.cdb_log.proofs.Counting.{before_most, before_step}
 use Rattle.cdb_log.proofs.Ended.{start_is, bounded, lists_at, small_piece}
 use Rattle.cdb_log.proofs.Marking.{items_of, all_marked, marks_small, position_marked, same_many}
@@ -20,7 +22,7 @@ returns-then-k-len-clause-marks g c =
     let long = h.items_end.same_length in
     let ok = c.self.inside.ends.ok.0 in
     let len = c.len.ensures in
-    let past : 128 * length pieces ≤ c.args.bound = omega arith in (
+    let past : PIECE * length pieces ≤ c.args.bound = omega arith in (
       λ q. subst (λ log. mark log i < c.args.bound) c.self.view_is
           (all_marked pieces offsets ends h c.args.bound i past (subst (λ log. i < length (items_of log)) (sym c.self.view_is) less)),
       λ q. subst (λ n. i < n) (sym c.len-then-k-len.ensures) less,
@@ -34,7 +36,7 @@ count_below-requires g c =
     let long = h.offsets_end.same_length in
     let ok = c.self.inside.ends.ok.0 in
     let len = c.len.ensures in
-    let k : ℕ = c.args.bound / 128 in
+    let k : ℕ = c.args.bound / PIECE in
     let o = c.index-offsets.result.now in
     subst AreOffsets (sym c.deref-2.ensures.value) (offsets_at (lists offsets) k o.items h.rise (lists_at offsets k o (omega arith) c.index-offsets.ensures))
 
@@ -43,7 +45,7 @@ overflow_add-result g c =
     let offsets = c.self.inside.offsets.items in
     let ends = c.self.inside.ends.items in
     let h = c.self.invariant.offsets_end in
-    let k : ℕ = c.args.bound / 128 in
+    let k : ℕ = c.args.bound / PIECE in
     let test = c.if-k-len.false in
     let long = h.same_length in
     let few = h.few in
@@ -62,7 +64,7 @@ returns-clause-within g c =
     let offsets = c.self.inside.offsets.items in
     let ends = c.self.inside.ends.items in
     let h = c.self.invariant.offsets_end in
-    let k : ℕ = c.args.bound / 128 in
+    let k : ℕ = c.args.bound / PIECE in
     let test = c.if-k-len.false in
     let long = h.same_length in
     let ok = c.self.inside.ends.ok.0 in
@@ -89,27 +91,27 @@ returns-clause-marks g c =
     let long = h.items_end.same_length in
     let ok = c.self.inside.ends.ok.0 in
     let len = c.len.ensures in
-    let within : bound / 128 < length pieces = omega arith in
-    let rest : bound % 128 < 128 = omega arith in
-    let whole : 128 * (bound / 128) + bound % 128 ≡ bound = omega arith in
+    let within : bound / PIECE < length pieces = omega arith in
+    let rest : bound % PIECE < PIECE = omega arith in
+    let whole : PIECE * (bound / PIECE) + bound % PIECE ≡ bound = omega arith in
     let o = c.index-offsets.result.now in
-    let s = c.start_of.ensures ∙ ap (λ l. start l (bound / 128)) c.deref.ensures.value ∙ start_is pieces ends h.items_end (bound / 128) (omega arith) in
+    let s = c.start_of.ensures ∙ ap (λ l. start l (bound / PIECE)) c.deref.ensures.value ∙ start_is pieces ends h.items_end (bound / PIECE) (omega arith) in
     let most = subst (λ l. count ≤ length l) c.deref-2.ensures.value c.count_below.ensures.within in
-    let below = subst (λ l. (j : ℕ) → j < length l → (j < count) ↔ (slice_index l j < bound % 128)) c.deref-2.ensures.value c.count_below.ensures.below in
-    let p = position_marked pieces offsets ends h (bound / 128) (bound % 128) count o c.index-offsets.ensures within rest most below i (subst (λ log. i < length (items_of log)) (sym c.self.view_is) less) in
+    let below = subst (λ l. (j : ℕ) → j < length l → (j < count) ↔ (slice_index l j < bound % PIECE)) c.deref-2.ensures.value c.count_below.ensures.below in
+    let p = position_marked pieces offsets ends h (bound / PIECE) (bound % PIECE) count o c.index-offsets.ensures within rest most below i (subst (λ log. i < length (items_of log)) (sym c.self.view_is) less) in
     subst (λ log. (i < c.start_of.result + count) ↔ (mark log i < bound)) c.self.view_is (
-      λ q. (let m : mark (seen pieces offsets) i < 128 * (bound / 128) + bound % 128 = p.0 (omega arith) in omega arith),
+      λ q. (let m : mark (seen pieces offsets) i < PIECE * (bound / PIECE) + bound % PIECE = p.0 (omega arith) in omega arith),
       λ q. (let m = p.1 (omega arith) in omega arith),
     )
 
 pub returns-then-k-len-clause-small : goal.returns-then-k-len-clause-small
 returns-then-k-len-clause-small g c =
     λ i less.
-    subst (λ log. mark log i < 4294967295) c.self.view_is
+    subst (λ log. mark log i < ABOVE_ALL) c.self.view_is
     (marks_small c.self.inside.pieces.items c.self.inside.offsets.items c.self.inside.ends.items c.self.invariant i (subst (λ log. i < length (items_of log)) (sym c.self.view_is) less))
 
 pub returns-clause-small : goal.returns-clause-small
 returns-clause-small g c =
     λ i less.
-    subst (λ log. mark log i < 4294967295) c.self.view_is
+    subst (λ log. mark log i < ABOVE_ALL) c.self.view_is
     (marks_small c.self.inside.pieces.items c.self.inside.offsets.items c.self.inside.ends.items c.self.invariant i (subst (λ log. i < length (items_of log)) (sym c.self.view_is) less))

@@ -4,6 +4,8 @@ use Rattle.std.specs.List.{AllByRecursion}
 use Rattle.cdb_log.specs.Marks.{HasRoom, IsPushed}
 use Rattle.cdb_log.specs.Offsets.{AreOffsets, next, seen}
 use Rattle.cdb_log.specs.Pieces.{lists}
+use Rattle.cdb_log.specs.declared.ends.TheConstants.{PIECE}
+use Rattle.cdb_log.specs.declared.log.TheConstants.{ABOVE_ALL}
 use Rattle.cdb_log.proofs.Changing.{lists_set, ends_pushed}
 use Rattle.cdb_log.proofs.Ended.{roomy_at, bounded}
 use Rattle.cdb_log.proofs.Marking.{opened, same_piece, pushed}
@@ -94,14 +96,14 @@ returns-clause-small g c =
     let many = open_is.many in
     let next_is = c.next_of-offset.ensures ∙ ap next c.deref.ensures.value in
     let few = h.items_end.few in
-    let mark : k * 128 + c.next_of-offset.result < 4294967295 = omega arith in
+    let mark : k * PIECE + c.next_of-offset.result < ABOVE_ALL = omega arith in
     mark
 
 pub overflow_add-result : goal.overflow_add-result
-overflow_add-result g c = let small : (c.len-last.result - 1) * 128 + c.next_of-offset.result < 4294967295 = returns-clause-small g c in omega arith
+overflow_add-result g c = let small : (c.len-last.result - 1) * PIECE + c.next_of-offset.result < ABOVE_ALL = returns-clause-small g c in omega arith
 
 pub overflow_cast-result : goal.overflow_cast-result
-overflow_cast-result g c = let small : (c.len-last.result - 1) * 128 + c.next_of-offset.result < 4294967295 = returns-clause-small g c in omega arith
+overflow_cast-result g c = let small : (c.len-last.result - 1) * PIECE + c.next_of-offset.result < ABOVE_ALL = returns-clause-small g c in omega arith
 
 pub invariant_of-self : goal.invariant_of-self
 invariant_of-self g c =
@@ -154,5 +156,5 @@ returns-clause-pushed g c =
     let v = c.index_mut-piece.result.now in
     let w = c.push_reserved-2.new.self in
     let u = c.push_reserved.new.self in
-    subst (λ log. IsPushed log c.args.item (k * 128 + c.next_of-offset.result) (seen (set pieces k w) (set offsets k u))) c.self.view_is
+    subst (λ log. IsPushed log c.args.item (k * PIECE + c.next_of-offset.result) (seen (set pieces k w) (set offsets k u))) c.self.view_is
     (pushed pieces offsets ends h k c.next_of-offset.result v w o u c.args.item c.index_mut-piece.ensures.value c.index_mut-offsets.ensures.value last next_is c.push_reserved-2.ensures.items c.push_reserved.ensures.items)

@@ -1,10 +1,6 @@
-use Rattle.std.proofs.Common.{◌≡◌, ℕ, ◌-◌, ◌↔◌, Some, slice_get, subst}
-use Rattle.cdb_base.specs.Event.{event_name}
-use Rattle.cdb_base.specs.declared.event.Event.{Event}
-use Rattle.cdb_causal.specs.Causality.{IsFree}
-use Rattle.cdb_causal.specs.Dependence.{depends}
+use Rattle.std.proofs.Common.{◌-◌, subst}
 use Rattle.cdb_causal.specs.Names.{IsNamedAt, IsNewName}
-use Rattle.cdb_record.specs.Counts.{dependents_at}
+use Rattle.cdb_record.specs.Counts.{IsCountOf, IsZeroWhereFree}
 use Rattle.cdb_record.proofs.Free.{counted, counted_free}
 use Rattle.cdb_record.proofs.Seams.{history_seen}
 use Rattle.cdb_record.proofs.records.Records.count_of.Goals as goal
@@ -12,13 +8,13 @@ use Rattle.cdb_record.proofs.records.Records.count_of.Goals as goal
 pub returns-in-Some-clause-count : goal.returns-in-Some-clause-count
 returns-in-Some-clause-count g c =
     let seen = history_seen c.self.inside.history c.self.inside.left.items c.self.invariant.0 c.self.view_is in
-    subst (λ h. (i : ℕ) (event : Event) → slice_get h i ≡ Some event → event_name event ≡ c.args.name → c.count_direct_dependents.result ≡ dependents_at h i event) seen
+    subst (λ h. IsCountOf h c.args.name c.count_direct_dependents.result) seen
     (counted c.self.inside.history c.args.name c.in-Some.at c.in-Some.ensures c.count_direct_dependents.result c.count_direct_dependents.ensures.count)
 
 pub returns-in-Some-clause-free : goal.returns-in-Some-clause-free
 returns-in-Some-clause-free g c =
     let seen = history_seen c.self.inside.history c.self.inside.left.items c.self.invariant.0 c.self.view_is in
-    subst (λ h. (i : ℕ) → IsNamedAt h i c.args.name → (c.count_direct_dependents.result ≡ 0) ↔ IsFree depends h i) seen
+    subst (λ h. IsZeroWhereFree h c.args.name c.count_direct_dependents.result) seen
     (counted_free c.self.inside.history c.args.name c.in-Some.at c.in-Some.ensures c.count_direct_dependents.result c.count_direct_dependents.ensures.count)
 
 pub returns-in-Some-clause-none : goal.returns-in-Some-clause-none

@@ -1,0 +1,25 @@
+-- How an event that may be taken out is looked for, and taken out.
+use Rattle.std.specs.Prelude.{◌≡◌, ℕ, ◌-◌, ◌≤◌, List, Option, MatchOption}
+use Rattle.cdb_base.specs.declared.event.Event.{Event}
+use Rattle.cdb_causal.specs.Causality.{IsFree}
+use Rattle.cdb_causal.specs.Dependence.{depends}
+use Rattle.cdb_record.specs.Entries.{events_of}
+use Rattle.cdb_record.specs.Taken.{IsTakenOut, IsStepOf, IsLastStepOf}
+use Rattle.cdb_record.specs.declared.entry.Entry.{Entry}
+
+-- the event at position i is not free, and nothing has changed
+abbrev pub IsKept : {B : Type 0} → List (Entry B) → ℕ → List (Entry B) → Type 0
+IsKept old i new = (IsFree depends (events_of old) i → ⊥) × (new ≡ old)
+
+-- it was free, and it was taken out
+abbrev pub IsTakenFree : {B : Type 0} → List (Entry B) → ℕ → Entry B → List (Entry B) → Type 0
+IsTakenFree old i entry new = IsFree depends (events_of old) i × IsTakenOut old i entry new
+
+-- the one or the other, by whether an entry is returned
+abbrev pub TakesFree : {B : Type 0} → List (Entry B) → ℕ → Option (Entry B) → List (Entry B) → Type 0
+TakesFree old i result new = MatchOption result (IsKept old i new) (λ entry. IsTakenFree old i entry new)
+
+-- the position, which counts from 1, is that of the last step of process p; none says that no step of it stands
+abbrev pub IsLastStepOrNone : List Event → ℕ → Option ℕ → Type 0
+IsLastStepOrNone history p found =
+    MatchOption found ((i : ℕ) → IsStepOf history p i → ⊥) (λ at. (1 ≤ at) × IsLastStepOf history p (at - 1))
