@@ -4,7 +4,7 @@ ghost use Rattle.std.specs.Prelude.{◌≡◌, ℕ, ◌-◌, ◌<◌, ◌≤◌,
 ghost use Rattle.cdb_log.specs.Ends.{start, AreEnds, AreLastTwoEmpty, AreLoweredFrom, IsInPiece, IsSpot};
 
 /// How many items a piece has at most.
-pub(crate) const PIECE: usize = 128;
+pub(crate) const PIECE: usize = 256;
 
 /// Where piece `k` starts.
 pub(crate) fn start_of(ends: &[usize], k: usize) -> usize
@@ -54,13 +54,11 @@ pub(crate) fn is_spare(ends: &[usize]) -> bool
 }
 
 /// Lowers the ends of all pieces from piece `k` on, by one item that was taken out there.
-pub(crate) fn lower(ends: &mut Vec<usize>, k: usize)
-    requires above { (j : ℕ) → k ≤ j → j < length ends.old.items →
-        1 ≤ slice_index ends.old.items j }
-    ensures same_length { length ends.new.items ≡ length ends.old.items }
-    ensures earlier { (j : ℕ) → j < k →
-        slice_index ends.new.items j ≡ slice_index ends.old.items j }
-    ensures lowered { AreLoweredFrom k ends.old.items ends.new.items }
+pub(crate) fn lower(ends: &mut [usize], k: usize)
+    requires above { (j : ℕ) → k ≤ j → j < length ends.old → 1 ≤ slice_index ends.old j }
+    ensures same_length { length ends.new ≡ length ends.old }
+    ensures earlier { (j : ℕ) → j < k → slice_index ends.new j ≡ slice_index ends.old j }
+    ensures lowered { AreLoweredFrom k ends.old ends.new }
 {
     for j in k..ends.len() {
         ends[j] -= 1;

@@ -1,7 +1,8 @@
-use Rattle.std.proofs.Common.{ℕ, suc, ◌<◌, ◌∙◌, refl, sym, ap, subst, length, set, arith}
+use Rattle.std.proofs.Common.{◌≡◌, ℕ, suc, ◌<◌, ◌≤◌, ◌∙◌, List, slice_index, refl, sym, ap, subst, length, set, arith}
 use Rattle.std.proofs.lemmas.Option.{slice_get_read}
+use Rattle.std.proofs.lemmas.List.{with_items_is}
 use Rattle.std.specs.List.{AllByRecursion}
-use Rattle.cdb_log.specs.Ends.{AreEnds, IsSpot}
+use Rattle.cdb_log.specs.Ends.{AreEnds, AreLoweredFrom, HasEnds, IsSpot}
 use Rattle.cdb_log.specs.Marks.{IsTakenOut}
 use Rattle.cdb_log.specs.Offsets.{AreOffsets, seen}
 use Rattle.cdb_log.specs.Pieces.{lists}
@@ -52,7 +53,8 @@ remove-requires g c =
 
 pub lower-requires : goal.lower-requires
 lower-requires g c = record {
-  above = λ j le less.
+  above = λ j le less_than.
+      let less : j < length c.self.inside.ends.items = subst (λ (l : List ℕ). j < length l) c.deref_mut.ensures.value less_than in
       let pieces = c.self.inside.pieces.items in
       let offsets = c.self.inside.offsets.items in
       let ends = c.self.inside.ends.items in
@@ -65,7 +67,7 @@ lower-requires g c = record {
       let e = h.items_end.each j (omega arith) in
       let rises = before_rises (lists pieces) (suc k) (suc j) (omega arith) in
       let high = f.high in
-      omega arith;
+      subst (λ (l : List ℕ). 1 ≤ slice_index l j) (sym c.deref_mut.ensures.value) (omega arith);
 }
 
 pub drop_spares-requires : goal.drop_spares-requires
@@ -91,9 +93,15 @@ drop_spares-requires g c =
     let left_o = ap length c.remove.ensures.items in
     let fewer_o = length-remove o.items i less_o in
     let low = c.lower.ensures in
+    let is = with_items_is c.self.inside.ends c.lower.new.ends (let same = c.lower.auto.ends in let len = c.deref_mut.ensures.len in omega arith) in
+    let lowered = c.lower.new.ends in
+    let are = c.deref_mut.ensures.value in
+    let same_length = subst (λ (l : List ℕ). length lowered ≡ length l) are low.same_length in
+    let earlier = subst (λ (l : List ℕ). (j : ℕ) → j < k → slice_index lowered j ≡ slice_index l j) are low.earlier in
+    let later = subst (λ (l : List ℕ). AreLoweredFrom k l lowered) are low.lowered in
     record {
-      items_end = ends_lowered pieces ends c.lower.new.ends.items h.items_end k v w f.within c.index_mut-piece.ensures.value low.same_length low.earlier low.lowered (omega arith) c.remove-item.ensures.capacity;
-      offsets_end = ends_lowered offsets ends c.lower.new.ends.items h.offsets_end k o u (omega arith) c.index_mut-offsets.ensures.value low.same_length low.earlier low.lowered (omega arith) c.remove.ensures.capacity;
+      items_end = subst (λ l. HasEnds (set pieces k w) l) (sym is) (ends_lowered pieces ends lowered h.items_end k v w f.within c.index_mut-piece.ensures.value same_length earlier later (omega arith) c.remove-item.ensures.capacity);
+      offsets_end = subst (λ l. HasEnds (set offsets k u) l) (sym is) (ends_lowered offsets ends lowered h.offsets_end k o u (omega arith) c.index_mut-offsets.ensures.value same_length earlier later (omega arith) c.remove.ensures.capacity);
       rise =
           subst (AllByRecursion AreOffsets) (sym (lists_set offsets k u ∙ ap (set (lists offsets) k) c.remove.ensures.items))
           (all_set (lists offsets) k _ h.rise
