@@ -19,7 +19,7 @@ use Rattle.cdb_record.specs.Entries.{events_of}
 use Rattle.cdb_record.specs.declared.entry.Entry.{Entry}
 use Rattle.cdb_register.specs.declared.RegisterState.{RegisterState}
 use Rattle.cdb_run.specs.Back.{overwritten_cell}
-use Rattle.cdb_run.specs.Recorded.{IsRecorded, LeadsBack, overwritten_by}
+use Rattle.cdb_run.specs.Recorded.{IsRecorded, PutsBack, overwritten_by}
 use Rattle.cdb_rules.specs.State.{Machine, RunState}
 use Rattle.cdb_rules.specs.Step.{after}
 use Rattle.cdb_rules.proofs.Commutes.{after_commutes, lost_from}
@@ -53,7 +53,7 @@ module _ {L : Type 0} (machine : Machine L) where
 
   module _ {B : Type 0} (before : L → B → L) where
     module _ (state to other_state other_to : RunState L) where
-      back_kept : (event : Event) (back : Option B) → IsAlike other_state state event → IsAlike other_to to event → LeadsBack before state event back to → LeadsBack before other_state event back other_to
+      back_kept : (event : Event) (back : Option B) → IsAlike other_state state event → IsAlike other_to to event → PutsBack before state event back to → PutsBack before other_state event back other_to
       back_kept (Step p k kind) back was is h = λ process left at at_left. h process left (was.0 ∙ at) (is.0 ∙ at_left)
       back_kept (Lost copy) back was is h = h
 

@@ -29,7 +29,7 @@ use Rattle.cdb_register.specs.declared.RegisterState.{RegisterState}
 use Rattle.cdb_run.specs.Back.{put_back, overwritten_cell}
 use Rattle.cdb_run.specs.Current.{IsCurrent}
 use Rattle.cdb_rules.specs.Mail.{mail_of, mail_after}
-use Rattle.cdb_run.specs.Recorded.{IsRecorded, LeadsBack, overwritten_by}
+use Rattle.cdb_run.specs.Recorded.{IsRecorded, PutsBack, overwritten_by}
 use Rattle.cdb_run.specs.Restored.{queries_before, progress_before, mail_before, registers_before, IsCountable, IsUnpostable, IsRestorable}
 use Rattle.cdb_rules.specs.State.{Machine, ProcessState, RunState, start}
 use Rattle.cdb_rules.specs.Step.{wished_payload, wished_cell, after}
@@ -282,7 +282,7 @@ module _ {L B : Type 0} {machine : Machine L} {before : L → B → L} {processe
 
     step_leads_back : put_back before stands_now.progress.local entry.back ≡ step_taken.process.progress.local
     step_leads_back =
-        subst (λ e. LeadsBack before last e entry.back current.state) is earlier.2.back
+        subst (λ e. PutsBack before last e entry.back current.state) is earlier.2.back
         step_taken.process stands_now step_taken.at_process (left_there machine last current.state p k kind step_taken)
 
     cell_is : entry.overwritten ≡ overwritten_cell last.registers kind
