@@ -257,8 +257,8 @@ impl AnyRun {
         taken: &mut Vec<Event>,
     ) -> Result<Result<usize, Refusal>, NoMemory>
         requires { IsTrueToSetup self.old }
-        ensures rolled_back { RollsBackOnto (run_view self.old) (run_view self.new) (name_given event)
-            taken.old.items taken.new.items result }
+        ensures rolled_back { RollsBackOnto (run_view self.old) (run_view self.new)
+            (name_given event) taken.old.items taken.new.items result }
         ensures exact { OnOk result
             (IsExactRollback (run_view self.old) (name_given event) (run_view self.new)) }
         ensures capacity { vec_capacity taken.old ≤ vec_capacity taken.new }

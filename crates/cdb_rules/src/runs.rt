@@ -132,7 +132,8 @@ pub trait Runs: Sized + Drop {
         name: EventRef,
     ) -> Result<(StepId, SmallVec<StepId, 9>), Refusal>
         ensures name { IfOk result (λ r. r.0 ≡ name_given name) }
-        ensures causes { Tells (λ r. r.1.items) result (causes_in (run self.now) (name_given name)) };
+        ensures causes { Tells (λ r. r.1.items) result
+            (causes_in (run self.now) (name_given name)) };
 
     /// The process of that number as it is shown, where there is one.
     fn view(&self, p: u32) -> Option<ProcView>

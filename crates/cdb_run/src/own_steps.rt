@@ -72,8 +72,8 @@ impl WriteCounts {
     /// Counts the event, where it is a write.
     fn count(&mut self, event: &Event)
         requires { (register : ARegister) → writes_counted self.old register + 1 < 2 ^ 64 }
-        ensures { (register : ARegister) →
-            writes_counted self.new register ≡ writes_with (writes_counted self.old) event.now register }
+        ensures { (register : ARegister) → writes_counted self.new register
+            ≡ writes_with (writes_counted self.old) event.now register }
     {
         if let Event::Step {
             kind: Kind::Write(register),

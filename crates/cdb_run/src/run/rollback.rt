@@ -167,7 +167,8 @@ impl<P: Process> Run<P> {
     pub fn causes_of(&self, alloc: Global, event: EventRef) -> Result<SmallVec<StepId, 9>, Refusal>
         ensures answer { Tells (λ causes. causes.items) result
             (causes_in self.now (name_given event)) }
-        ensures direct { IfOk result (λ causes. AreCausesOf self.now (name_given event) causes.items) }
+        ensures direct { IfOk result
+            (λ causes. AreCausesOf self.now (name_given event) causes.items) }
     {
         let _ranges = self.setup.n();
         let at = self.find(event)?;

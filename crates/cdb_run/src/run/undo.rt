@@ -15,7 +15,7 @@ use crate::run::Run;
 use cdb_base::{CopyName, Event, MsgName, Refusal, StepId, StepName};
 use cdb_causal::first_dependent;
 use cdb_process::Process;
-use cdb_record::{Entry, Left};
+use cdb_record::{Left, Recorded};
 use cdb_rules::EventRef;
 
 impl<P: Process> Run<P> {
@@ -75,7 +75,7 @@ impl<P: Process> Run<P> {
         ensures event { nth self.old.history at ≡ Some result }
         ensures after { self.new ≡ with_history self.old (without self.old.history (at - 1)) }
     {
-        let Entry {
+        let Recorded {
             event,
             back,
             overwritten,
