@@ -63,9 +63,9 @@ replies_from rules t seat (e ∷ es) =
 abbrev pub replies_of : Rules → Parts → ℕ → ℕ → List Entry → List Answer
 replies_of rules setup seats seat journal = replies_from rules (first_control_state setup seats) seat journal
 
--- the replies to a seat's commands so far
-abbrev pub replies_in : (Parts → Rules) → Journaled → ℕ → List Answer
-replies_in rules c seat = replies_of (rules c.setup) c.setup c.seats seat c.journal
+-- the replies to a seat's commands in the journal of a control
+abbrev pub answers_to : (Parts → Rules) → ℕ → Journaled → List Answer
+answers_to rules seat c = replies_of (rules c.setup) c.setup c.seats seat c.journal
 
 -- the first journal is a beginning of the second
 abbrev pub Begins : List Entry → List Entry → Type 0

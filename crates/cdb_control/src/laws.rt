@@ -10,7 +10,7 @@ ghost use Rattle.cdb_control.specs.declared.control.Entry.{Entry};
 ghost use Rattle.cdb_control.specs.Answer.{Stepped, Undone, Redone, RolledBack, History, Decisions, Refused};
 ghost use Rattle.cdb_control.specs.Commands.{TellsPause, answer, obey};
 ghost use Rattle.cdb_control.specs.Headline.{Headline};
-ghost use Rattle.cdb_control.specs.Journal.{extended, own, replies_in, reply_in, AreOfSeats};
+ghost use Rattle.cdb_control.specs.Journal.{answers_to, extended, own, reply_in, AreOfSeats};
 ghost use Rattle.cdb_control.specs.Laws.{followed_by, AreTwoSeats, ForCommands, ForSeats, InReplayed};
 ghost use Rattle.cdb_control.specs.State.{redo_of};
 ghost use Rattle.cdb_control.specs.WorkedJournals.{replies, query, send, undone_and_redone, rolled_back_and_redone};
@@ -51,15 +51,15 @@ pub fn least_fired()
 #[tactic(auto)]
 pub fn own_command_adds_its_reply()
     ensures { ForSeats (λ rules c seat. (command : Command) →
-        replies_in rules (extended rules c seat command) seat
-        ≡ replies_in rules c seat ++ reply_in rules c seat command ∷ []) }
+        answers_to rules seat (extended rules c seat command)
+        ≡ answers_to rules seat c ++ reply_in rules c seat command ∷ []) }
 {}
 
 /// What others did adds no reply of a seat.
 #[tactic(auto)]
 pub fn others_add_no_reply()
     ensures { ForSeats (λ rules c seat. (more : List Entry) → own seat more ≡ [] →
-        replies_in rules (followed_by c more) seat ≡ replies_in rules c seat) }
+        answers_to rules seat (followed_by c more) ≡ answers_to rules seat c) }
 {}
 
 /// The headline holds of every journal of commands of seats that there are, by the rules of any run.
