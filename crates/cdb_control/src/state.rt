@@ -1,9 +1,8 @@
 //! The control state: a run, the breakpoints, the pause and the redo lists.
-ghost use Rattle.std.specs.Prelude.{◌≡◌, ◌+◌, ◌≤◌, [], true, false, IfOk, OnOk, OnErr, IsOk, replicate, length, map};
+ghost use Rattle.std.specs.Prelude.{◌≡◌, ◌+◌, ◌≤◌, [], true, IfOk, OnOk, OnErr, IsOk, replicate, length, map};
 ghost use Rattle.std.specs.Option.{option_or};
 ghost use Rattle.cdb_base.specs.declared.limits.TheConstants.{MAX_ENTRIES};
-ghost use Rattle.cdb_control.specs.Answer.{is_refused};
-ghost use Rattle.cdb_control.specs.Done.{CameOutAs, IsCarriedOut, IsCarriedOutForAny, IsTaken, IsTakenFromAny, NoneShrinks};
+ghost use Rattle.cdb_control.specs.Done.{CameOutAs, IsCarriedOut, IsCarriedOutForAny, IsNoRefusal, IsTaken, IsTakenFromAny, NoneShrinks};
 ghost use Rattle.cdb_control.specs.Auto.{choice};
 ghost use Rattle.cdb_control.specs.Commands.{step, undo, rollback, why, show, decides, newly_fired};
 ghost use Rattle.cdb_rules.specs.EventRefs.{name_given};
@@ -179,7 +178,7 @@ impl<R: Runs> ControlState<R> {
             (CameOutAs (undo self.old.state seat (name_given name)) self.new.state) }
         ensures err { OnErr result (self.new.state ≡ self.old.state) }
         ensures memory { OnErr result
-            (is_refused (undo self.old.state seat (name_given name)).reply ≡ false) }
+            (IsNoRefusal (undo self.old.state seat (name_given name))) }
         ensures capacities { NoneShrinks self.old.capacities self.new.capacities }
         ensures spared { HasSpace self.old seat → IsOk result }
     {
@@ -199,7 +198,7 @@ impl<R: Runs> ControlState<R> {
             (CameOutAs (rollback self.old.state seat (name_given name)) self.new.state) }
         ensures err { OnErr result (self.new.state ≡ self.old.state) }
         ensures memory { OnErr result
-            (is_refused (rollback self.old.state seat (name_given name)).reply ≡ false) }
+            (IsNoRefusal (rollback self.old.state seat (name_given name))) }
         ensures capacities { NoneShrinks self.old.capacities self.new.capacities }
     {
         let list = &mut self.redo[seat as usize - 1];
@@ -293,7 +292,7 @@ impl<R: Runs> ControlState<R> {
             (CameOutAs (step (R.rules self.old.state.setup) self.old.state p act) self.new.state) }
         ensures err { OnErr result (self.new.state ≡ self.old.state) }
         ensures memory { OnErr result
-            (is_refused (step (R.rules self.old.state.setup) self.old.state p act).reply ≡ false) }
+            (IsNoRefusal (step (R.rules self.old.state.setup) self.old.state p act)) }
         ensures kept { self.new.capacities ≡ self.old.capacities }
     {
         let round_before = self.round_of(p);

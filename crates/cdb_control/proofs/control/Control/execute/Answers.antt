@@ -1,4 +1,4 @@
-use Rattle.std.proofs.Common.{ℕ, ◌+◌, ◌-◌, ◌<◌, ◌≤◌, arith, ap, ◌∙◌, sym, subst, List, [], ◌∷◌, ◌++◌, length, vec_len, vec_capacity, true≢false}
+use Rattle.std.proofs.Common.{ℕ, ◌+◌, ◌-◌, ◌<◌, ◌≤◌, arith, ap, ◌∙◌, sym, subst, List, [], ◌∷◌, ◌++◌, length, vec_len, vec_capacity, inl, inr, true≢false}
 use Rattle.std.proofs.lemmas.List.{length-map}
 use Rattle.cdb_control.specs.Answer.{told, is_refused}
 use Rattle.cdb_control.specs.declared.control.Entry.{Entry}
