@@ -34,8 +34,8 @@ invariant_of-self g c =
     let few = c.self.invariant.1 in
     (left ∙ each ∙ sym rest, omega (arith, rest, fewer, few))
 
-pub returns-clause-entry : goal.returns-clause-entry
-returns-clause-entry g c =
+pub returns-clause-recorded : goal.returns-clause-recorded
+returns-clause-recorded g c =
     subst (λ l. nth l c.args.at ≡ Some (recorded_of c.remove-event.result c.take_out-back.result)) c.self.view_is
     (entry_stood c.self.inside.history c.self.inside.left.items c.args.at c.remove-event.result c.take_out-back.result c.requires.from_one c.remove-event.ensures.event c.take_out-back.ensures.stood)
 
