@@ -1,5 +1,5 @@
 -- What is read in the words of a line, from the left.
-use Rattle.std.specs.Prelude.{◌≡◌, ℕ, ◌&&◌, ◌==◌, ◌-◌, ◌++◌, Bool, not, nat_lt, nat_le, List, [], ◌∷◌, length, slice_index, codes, find, Option, Some, None, ok_or, Result, Ok, Err, if◌then◌else◌}
+use Rattle.std.specs.Prelude.{ℕ, ◌&&◌, ◌==◌, ◌-◌, ◌++◌, Bool, not, nat_lt, nat_le, List, [], ◌∷◌, length, slice_index, codes, find, Option, Some, None, ok_or, Result, Ok, Err, if◌then◌else◌}
 use Rattle.std.specs.Str.{bytes_eq, all_ascii_digits}
 use Rattle.std.specs.Str.Parse.{digits_value}
 use Rattle.cdb_base.specs.declared.register.Reg.{Reg}
