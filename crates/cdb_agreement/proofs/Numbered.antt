@@ -3,7 +3,7 @@ use Rattle.std.proofs.Common.{◌≡◌, ℕ, zero, suc, ◌+◌, Bool, true, fa
 use Rattle.std.proofs.lemmas.List.{length_push}
 use Rattle.std.proofs.lemmas.Bool.Decides.{nat_tests}
 use Rattle.std.proofs.lemmas.Option.{none-some, same_Some}
-use Rattle.cdb_agreement.specs.Numbering.{is_send_of, AreStepsNumbered, AreSendsNumbered}
+use Rattle.cdb_agreement.specs.Numbering.{is_send_by, AreStepsNumbered, AreSendsNumbered}
 use Rattle.cdb_base.specs.Event.{event_name, is_step_of}
 use Rattle.cdb_base.specs.Positions.{nth}
 use Rattle.cdb_base.specs.declared.event.Event.{Event}
@@ -173,7 +173,7 @@ module _ {L : Type 0} (machine : Machine L) where
         ∙ length_push t.process.sent payload.0
         ∙ ap (λ n. n + 1) (sym (sends_were state next q k (Send m) t))
 
-    sends_count : (state next : RunState L) (event : Event) → after machine state event ≡ Some next → is_send_of p event ≡ true → (message_number event ≡ sends_of state p + 1) × (sends_of next p ≡ message_number event)
+    sends_count : (state next : RunState L) (event : Event) → after machine state event ≡ Some next → is_send_by p event ≡ true → (message_number event ≡ sends_of state p + 1) × (sends_of next p ≡ message_number event)
     sends_count state next (Step q k (Send m)) one e =
         let t = taken_from machine state next q k (Send m) one in
         let same : q ≡ p = nat_eq-is q p e in
@@ -196,7 +196,7 @@ module _ {L : Type 0} (machine : Machine L) where
           | false ↦ λ e. other_sends state next q k kind t e
         ] refl
 
-    sends_keep : (state next : RunState L) (event : Event) → after machine state event ≡ Some next → is_send_of p event ≡ false → sends_of next p ≡ sends_of state p
+    sends_keep : (state next : RunState L) (event : Event) → after machine state event ≡ Some next → is_send_by p event ≡ false → sends_of next p ≡ sends_of state p
     sends_keep state next (Step q k (Send m)) one e = other_sends state next q k (Send m) (taken_from machine state next q k (Send m) one) e
     sends_keep state next (Step q k kind) one e = unsent state next q k kind (taken_from machine state next q k kind one) refl
     sends_keep state next (Lost copy) one e = ap (λ (x : RunState L). sends_of x p) (sym (lost_from machine state next copy one).1)
@@ -210,22 +210,22 @@ module _ {L : Type 0} (machine : Machine L) where
         go None fresh = refl
         go (Some process) fresh = fresh process refl
 
-    send_is : (m : ℕ) (x : Event) → is_send_of p x ≡ true → message_number x ≡ m → (k : ℕ) × (x ≡ Step p k (Send m))
+    send_is : (m : ℕ) (x : Event) → is_send_by p x ≡ true → message_number x ≡ m → (k : ℕ) × (x ≡ Step p k (Send m))
     send_is m (Step q k (Send l)) is number = (k, ap₂ (λ i j. Step i k (Send j)) (nat_eq-is q p is) number)
     send_is m (Step q k kind) is number = absurd (true≢false (sym is))
     send_is m (Lost copy) is number = absurd (true≢false (sym is))
 
   pub sends_numbered : (history : List Event) → IsValid machine history → AreSendsNumbered history
-  sends_numbered history valid p m event = (at_number m, λ sent. stands m sent.0 (let is = sent.1.1 in (subst (λ x. is_send_of p x ≡ true) (sym is) (is_its_own p), ap (message_number p) is)))
+  sends_numbered history valid p m event = (at_number m, λ sent. stands m sent.0 (let is = sent.1.1 in (subst (λ x. is_send_by p x ≡ true) (sym is) (is_its_own p), ap (message_number p) is)))
     where
-      order : (i : ℕ) (x : Event) → slice_get (filter (is_send_of p) history) i ≡ Some x → (is_send_of p x ≡ true) × (message_number p x ≡ suc i)
-      order = in_order (is_send_of p) (message_number p) (λ state. sends_of state p) (sends_count p) (sends_keep p) history valid (no_sends p)
+      order : (i : ℕ) (x : Event) → slice_get (filter (is_send_by p) history) i ≡ Some x → (is_send_by p x ≡ true) × (message_number p x ≡ suc i)
+      order = in_order (is_send_by p) (message_number p) (λ state. sends_of state p) (sends_count p) (sends_keep p) history valid (no_sends p)
 
-      at_number : (m : ℕ) → nth (filter (is_send_of p) history) m ≡ Some event → IsIn event history × ((k : ℕ) × (event ≡ Step p k (Send m)))
+      at_number : (m : ℕ) → nth (filter (is_send_by p) history) m ≡ Some event → IsIn event history × ((k : ℕ) × (event ≡ Step p k (Send m)))
       at_number zero h = absurd (none-some event h)
-      at_number (suc i) h = (passes (is_send_of p) history i event h, let o = order i event h in send_is p (suc i) event o.0 o.1)
+      at_number (suc i) h = (passes (is_send_by p) history i event h, let o = order i event h in send_is p (suc i) event o.0 o.1)
 
-      stands : (m : ℕ) → IsIn event history → (is_send_of p event ≡ true) × (message_number p event ≡ m) → nth (filter (is_send_of p) history) m ≡ Some event
+      stands : (m : ℕ) → IsIn event history → (is_send_by p event ≡ true) × (message_number p event ≡ m) → nth (filter (is_send_by p) history) m ≡ Some event
       stands m is_in its =
-          let at = passed (is_send_of p) history event its.0 is_in in
-          subst (λ j. nth (filter (is_send_of p) history) j ≡ Some event) (sym (order at.0 event at.1).1 ∙ its.1) at.1
+          let at = passed (is_send_by p) history event its.0 is_in in
+          subst (λ j. nth (filter (is_send_by p) history) j ≡ Some event) (sym (order at.0 event at.1).1 ∙ its.1) at.1

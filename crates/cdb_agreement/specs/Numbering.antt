@@ -12,13 +12,13 @@ use Rattle.cdb_rules.specs.Runs.{step_name}
 abbrev pub steps_by : ℕ → List Event → List Event
 steps_by p history = filter (is_step_of p) history
 
-abbrev pub is_send_of : ℕ → Event → Bool
-is_send_of p (Step q k (Send m)) = q == p
-is_send_of p event = false
+abbrev pub is_send_by : ℕ → Event → Bool
+is_send_by p (Step q k (Send m)) = q == p
+is_send_by p event = false
 
 -- its sends, in order
 abbrev pub sends_by : ℕ → List Event → List Event
-sends_by p history = filter (is_send_of p) history
+sends_by p history = filter (is_send_by p) history
 
 -- the k-th step of process p is the event that is named so
 abbrev pub AreStepsNumbered : List Event → Type 0

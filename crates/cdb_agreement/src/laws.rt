@@ -68,8 +68,10 @@ pub fn answered_undo<L>()
     ensures no_process { ForAbsent (λ n history name.
         undo_of n history name ≡ Err Refusal.NoProcess) }
     ensures free { ForUndone IsUndone }
-    ensures back { (machine : Machine L) → ForUndone (λ history name event left.
-        IsValid machine history → IsValid machine left × LeadsBack machine left event history) }
+    ensures valid { (machine : Machine L) → ForUndone (λ history name event left.
+        IsValid machine history → IsValid machine left) }
+    ensures again { (machine : Machine L) → ForUndone (λ history name event left.
+        IsValid machine history → LeadsBack machine left event history) }
 {}
 
 /// An event may be taken back with its consequences. What remains is valid, and what was taken back,
@@ -92,9 +94,10 @@ pub fn answered_rollback<L>()
     ensures no_process { ForAbsent (λ n history name.
         rollback_of n history name ≡ Err Refusal.NoProcess) }
     ensures exact { ForRolledBack IsRolledBackTo }
-    ensures back { (machine : Machine L) → ForRolledBack (λ history name taken left.
-        IsValid machine history →
-        IsValid machine left × AllLeadBack machine left (reverse taken) history) }
+    ensures valid { (machine : Machine L) → ForRolledBack (λ history name taken left.
+        IsValid machine history → IsValid machine left) }
+    ensures again { (machine : Machine L) → ForRolledBack (λ history name taken left.
+        IsValid machine history → AllLeadBack machine left (reverse taken) history) }
 {}
 
 /// An event that was just taken is free, and the history without it is the one before it: where its

@@ -5,7 +5,7 @@ use Rattle.cdb_base.specs.declared.event.Event.{Event}
 use Rattle.cdb_base.specs.declared.name.StepId.{StepId}
 use Rattle.cdb_base.specs.declared.refusal.Refusal.{Refusal}
 use Rattle.cdb_causal.specs.Names.{IsNewName}
-use Rattle.cdb_rules.specs.EventRefs.{name_of, CanName}
+use Rattle.cdb_rules.specs.EventRefs.{name_given, CanName}
 use Rattle.cdb_rules.specs.declared.event_ref.EventRef.{EventRef}
 use Rattle.cdb_rules.specs.declared.event_ref.EventRef.TheVariants.{Step, Lost}
 use Rattle.cdb_rules.proofs.Finding.{number_of, too_great, none_named, no_process_named}
@@ -58,8 +58,8 @@ module _ (setup : Parts) (range : AreInRange setup) (history : List Event) (vali
       go true e = small (number_of name) e
       go false e = absurd (refused setup.processes history name causes _ answer (none_named history name setup.processes (there name answer) (number_new setup history valid name (great (number_of name) e))))
 
-  pub can_name : (name : EventRef) → causes_of setup.processes history (name_of name) ≡ Ok causes → CanName name
-  can_name (Step p k) answer = (among_nine setup.processes p range.processes.1 (there (name_of (Step p k)) answer), few (name_of (Step p k)) answer)
+  pub can_name : (name : EventRef) → causes_of setup.processes history (name_given name) ≡ Ok causes → CanName name
+  can_name (Step p k) answer = (among_nine setup.processes p range.processes.1 (there (name_given (Step p k)) answer), few (name_given (Step p k)) answer)
   can_name (Lost s m p) answer =
-      let among = both (is_among setup.processes s) (is_among setup.processes p) (there (name_of (Lost s m p)) answer) in
-      (among_nine setup.processes s range.processes.1 among.0, few (name_of (Lost s m p)) answer, among_nine setup.processes p range.processes.1 among.1)
+      let among = both (is_among setup.processes s) (is_among setup.processes p) (there (name_given (Lost s m p)) answer) in
+      (among_nine setup.processes s range.processes.1 among.0, few (name_given (Lost s m p)) answer, among_nine setup.processes p range.processes.1 among.1)

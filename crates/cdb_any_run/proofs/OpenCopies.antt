@@ -1,13 +1,11 @@
 -- The copies that a process can still receive, one pending copy after another.
 use Rattle.std.proofs.Common.{◌≡◌, ℕ, zero, suc, ◌+◌, ◌<◌, Bool, true, false, cond, List, [], ◌∷◌, ◌++◌, length, Option, None, Some, map, filter, find, refl, ap, sym, ◌∙◌, subst, arith, append_assoc, append-nil}
-use Rattle.std.specs.Prelude.{option_to_list}
 use Rattle.std.specs.List.{AllByRecursion, range_with_len, flat_map}
 use Rattle.std.proofs.lemmas.Bool.Decides.{nat_tests}
 use Rattle.std.proofs.lemmas.Option.{none-some, same_Some}
 use Rattle.cdb_base.specs.Processes.{all_processes}
 use Rattle.cdb_base.specs.declared.name.MsgName.{MsgName}
-use Rattle.cdb_base.specs.declared.payload.Payload.{Payload}
-use Rattle.cdb_message.specs.Mail.{MailState, message_name, sent_by, sent_names, messages_of, is_open, stands_above, copies_for, payload_of}
+use Rattle.cdb_message.specs.Mail.{MailState, message_name, sent_by, sent_names, messages_of, is_open, stands_above, copies_for}
 use Rattle.cdb_message.specs.Names.{is_name_below}
 use Rattle.cdb_rules.proofs.Alls.{all-append}
 
@@ -149,10 +147,6 @@ found-next after (first ∷ names) name rise found =
 all-left : {A : Type 0} (xs : List A) → filter (λ _. true) xs ≡ xs
 all-left [] = refl
 all-left (x ∷ xs) = ap (λ rest. x ∷ rest) (all-left xs)
-
--- the copy of a message for a process, where the message was sent
-abbrev pub shown_copy : MailState → ℕ → MsgName → List (ℕ × MsgName × Payload)
-shown_copy mail p name = map (λ payload. (p, name, payload)) (option_to_list (payload_of mail name))
 
 module _ {A : Type 0} (shown : MsgName → List A) (names : List MsgName) (before : List A) where
   -- before the first look

@@ -12,10 +12,10 @@ ghost use Rattle.cdb_rules.specs.Agreement.{AllAgree, HasMajorityIfNeeded};
 ghost use Rattle.cdb_rules.specs.Algorithms.{rules};
 ghost use Rattle.cdb_any_run.specs.Any.{run_view, IsTrueToSetup};
 ghost use Rattle.cdb_rules.specs.ByRules.{IsNext, IsInOrder, process_in, alive_in, steps_in, queries_in, place_in, round_in, decision_in, mail_in, register_in, cell_in, writes_in, decisions_in, answer_to_step, answer_to_again, answer_to_loss};
-ghost use Rattle.cdb_rules.specs.EventRefs.{name_of};
+ghost use Rattle.cdb_rules.specs.EventRefs.{name_given};
 ghost use Rattle.cdb_rules.specs.Refusals.{IsOfRun};
 ghost use Rattle.cdb_rules.specs.Runs.{step_name, loss_name, IsNumberAmong, RollsBackOnto, Tells, undo_answer, rollback_answer, causes_in, with_answer, after_undo, after_rollback, CanUndo, IsJustTaken, IsExactRollback, AreCausesOf};
-ghost use Rattle.cdb_rules.specs.SameState.{ReachSameState};
+ghost use Rattle.cdb_rules.specs.SameState.{AreInSameState};
 
 use cdb_alpha::Alpha;
 use cdb_base::{
@@ -147,9 +147,9 @@ impl AnyRun {
     /// memory.
     pub fn undo_event(&mut self, event: EventRef) -> Result<Event, Refusal>
         requires { IsTrueToSetup self.old }
-        ensures answer { result ≡ undo_answer (run_view self.old) (name_of event) }
-        ensures after { run_view self.new ≡ after_undo (run_view self.old) (name_of event) }
-        ensures free { IsOk result ↔ CanUndo (run_view self.old) (name_of event) }
+        ensures answer { result ≡ undo_answer (run_view self.old) (name_given event) }
+        ensures after { run_view self.new ≡ after_undo (run_view self.old) (name_given event) }
+        ensures free { IsOk result ↔ CanUndo (run_view self.old) (name_given event) }
         ensures true_to_setup { IsTrueToSetup self.new }
     {
         match self {
@@ -161,7 +161,7 @@ impl AnyRun {
     /// What `undo_event` would be refused with, if it would be. It takes no memory.
     pub fn refuses_undo(&self, event: EventRef) -> Option<Refusal>
         requires { IsTrueToSetup self.now }
-        ensures { result ≡ result_err (undo_answer (run_view self.now) (name_of event)) }
+        ensures { result ≡ result_err (undo_answer (run_view self.now) (name_given event)) }
     {
         match self {
             AnyRun::Leader(run) => run.refuses_undo(event),
@@ -257,10 +257,10 @@ impl AnyRun {
         taken: &mut Vec<Event>,
     ) -> Result<Result<usize, Refusal>, NoMemory>
         requires { IsTrueToSetup self.old }
-        ensures rolled_back { RollsBackOnto (run_view self.old) (run_view self.new) (name_of event)
-            taken.old.items taken.new.items result }
+        ensures rolled_back { RollsBackOnto (run_view self.old) (run_view self.new)
+            (name_given event) taken.old.items taken.new.items result }
         ensures exact { OnOk result
-            (IsExactRollback (run_view self.old) (name_of event) (run_view self.new)) }
+            (IsExactRollback (run_view self.old) (name_given event) (run_view self.new)) }
         ensures capacity { vec_capacity taken.old ≤ vec_capacity taken.new }
         ensures err { OnErr result (self.new ≡ self.old) }
         ensures true_to_setup { IsTrueToSetup self.new }
@@ -276,9 +276,9 @@ impl AnyRun {
     pub fn causes_of(&self, alloc: Global, event: EventRef) -> Result<SmallVec<StepId, 9>, Refusal>
         requires { IsTrueToSetup self.now }
         ensures answer { Tells (λ c. c.items) result
-            (causes_in (run_view self.now) (name_of event)) }
+            (causes_in (run_view self.now) (name_given event)) }
         ensures direct { IfOk result
-            (λ c. AreCausesOf (run_view self.now) (name_of event) c.items) }
+            (λ c. AreCausesOf (run_view self.now) (name_given event) c.items) }
     {
         match self {
             AnyRun::Leader(run) => run.causes_of(alloc, event),
@@ -495,8 +495,8 @@ impl AnyRun {
         requires true_to_setup { IsTrueToSetup self.now }
         requires other_true_to_setup { IsTrueToSetup other.now }
         requires equal_setups { (run_view self.now).setup ≡ (run_view other.now).setup }
-        ensures state { IsTrue result ↔ ReachSameState (run_view self.now).setup
-            (run_view self.now).history (run_view other.now).history }
+        ensures state { IsTrue result
+            ↔ AreInSameState (run_view self.now) (run_view other.now) }
         ensures exchange { IsTrue result
             ↔ IsExchanged depends (run_view self.now).history (run_view other.now).history }
     {

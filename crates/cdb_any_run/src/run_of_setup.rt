@@ -1,9 +1,8 @@
 //! A run of either algorithm, as one that keeps to the rules of its setup.
 
-ghost use Rattle.std.specs.Prelude.{◌≡◌, ◌≤◌, ◌++◌, OnOk, map, option_to_list, vec_capacity};
-ghost use Rattle.cdb_message.specs.Mail.{payload_of};
-ghost use Rattle.cdb_rules.specs.EventRefs.{name_of};
-ghost use Rattle.cdb_rules.specs.Views.{open_copies};
+ghost use Rattle.std.specs.Prelude.{◌≡◌, ◌≤◌, ◌++◌, OnOk, option_to_list, vec_capacity};
+ghost use Rattle.cdb_rules.specs.EventRefs.{name_given};
+ghost use Rattle.cdb_rules.specs.Views.{open_copies, shown_copy};
 ghost use Rattle.cdb_agreement.proofs.KeptHistories.{rules_keep_histories};
 ghost use Rattle.cdb_agreement.proofs.Lawful.{rules_are_lawful};
 ghost use Rattle.cdb_rules.specs.Algorithms.{rules as rules_of_setup};
@@ -41,8 +40,8 @@ impl Model for RunOfSetup {
 /// The copy of a message for a process, where the message was sent.
 fn copy_of(run: &AnyRun, p: &Proc, name: &MsgName) -> Option<(Proc, MsgName, Payload)>
     requires { IsTrueToSetup run.now }
-    ensures { option_to_list result ≡ map (λ payload. (p.now, name.now, payload))
-        (option_to_list (payload_of (mail_in rules_of_setup (run_view run.now)) name.now)) }
+    ensures { option_to_list result
+        ≡ shown_copy (mail_in rules_of_setup (run_view run.now)) p.now name.now }
 {
     let payload = run.payload(*name).copied()?;
     Some((*p, *name, payload))

@@ -26,7 +26,7 @@ use Rattle.cdb_control.specs.Auto.{choice}
 use Rattle.cdb_control.specs.Commands.{Outcome, refused, unless, granted, found, unpaused, stepped, step, lost, taken_back, undo, rollback, why, redone, show, outcome, answer, obey}
 use Rattle.cdb_control.specs.Headline.{undoing, rolling_back, TellsTaken, TellsRedone, IsUndoneWhereFree, IsUndoneNext, RedosLeadBack, IsRolledBackAndForth, HoldsAt, Headline}
 use Rattle.cdb_control.specs.Journal.{replay_from, replay, AreOfSeats, IsReplayed}
-use Rattle.cdb_rules.specs.EventRefs.{name_of}
+use Rattle.cdb_rules.specs.EventRefs.{name_given}
 use Rattle.cdb_control.specs.State.{State, first_control_state, redo_of, last_of, AreOfRun}
 use Rattle.cdb_control.specs.Stops.{names_none_of}
 use Rattle.cdb_control.specs.declared.command.Command.{Command}
@@ -151,14 +151,14 @@ module _ (rules : Rules) (SameState : List Event → List Event → Type 0) (t :
   obeyed-keeps seat (Lose s m p) =
       granted-keeps (rules.lose t.history (message_name s m) p) (lost t)
       (λ e h. one_more e (lost t e) (keeps.lose t.history valid (message_name s m) p e h) refl refl (λ event told. told))
-  obeyed-keeps seat (Undo p k) = undo-keeps seat (name_of (named.Step p k))
-  obeyed-keeps seat (UndoLost s m p) = undo-keeps seat (name_of (named.Lost s m p))
+  obeyed-keeps seat (Undo p k) = undo-keeps seat (name_given (named.Step p k))
+  obeyed-keeps seat (UndoLost s m p) = undo-keeps seat (name_given (named.Lost s m p))
   obeyed-keeps seat Redo = redo-keeps seat
   obeyed-keeps seat Forget = quiet _ refl refl (λ event tells. tells)
-  obeyed-keeps seat (Rollback p k) = rollback-keeps seat (name_of (named.Step p k))
-  obeyed-keeps seat (RollbackLost s m p) = rollback-keeps seat (name_of (named.Lost s m p))
-  obeyed-keeps seat (Why p k) = why-keeps (name_of (named.Step p k))
-  obeyed-keeps seat (WhyLost s m p) = why-keeps (name_of (named.Lost s m p))
+  obeyed-keeps seat (Rollback p k) = rollback-keeps seat (name_given (named.Step p k))
+  obeyed-keeps seat (RollbackLost s m p) = rollback-keeps seat (name_given (named.Lost s m p))
+  obeyed-keeps seat (Why p k) = why-keeps (name_given (named.Step p k))
+  obeyed-keeps seat (WhyLost s m p) = why-keeps (name_given (named.Lost s m p))
   obeyed-keeps seat (Break stop) =
       unless-keeps (names_none_of t.setup.processes stop) NoProcess _
       (unless-keeps (nat_le MAX_BREAKPOINTS (length t.stops)) BreakLimit _ (quiet _ refl refl (λ event tells. tells)))

@@ -74,6 +74,12 @@ replies_of-same rules setup seats seat seen journal begins same =
     let none : own seat rest ≡ [] = nothing_added (own seat seen) (own seat rest) (sym (own-append seat seen rest) ∙ ap (own seat) (sym begins.1) ∙ same) in
     ap (replies_from rules t seat) begins.1 ∙ replies_from-append rules t seat seen rest ∙ ap (λ l. replies_from rules t seat seen ++ l) (replies_from-none rules (replay_from rules t seen) seat rest none) ∙ append-nil (replies_from rules t seat seen)
 
+-- entries without a command of this seat add no reply
+pub replies_of-more : (rules : Rules) (setup : Parts) (seats seat : ℕ) (journal more : List Entry) → own seat more ≡ [] → replies_of rules setup seats seat (journal ++ more) ≡ replies_of rules setup seats seat journal
+replies_of-more rules setup seats seat journal more none =
+    replies_of-same rules setup seats seat journal (journal ++ more) (more, refl)
+    (own-append seat journal more ∙ ap (λ (l : List Command). own seat journal ++ l) none ∙ append-nil (own seat journal))
+
 -- one command of the seat adds its reply
 pub replies_of-push : (rules : Rules) (setup : Parts) (seats seat : ℕ) (journal : List Entry) (command : Command) → replies_of rules setup seats seat (journal ++ entry seat command ∷ []) ≡ replies_of rules setup seats seat journal ++ answer rules (replay rules setup seats journal) seat command ∷ []
 unfolding replay

@@ -16,7 +16,7 @@ use Rattle.cdb_control.specs.Answer as reply
 use Rattle.cdb_control.specs.Auto.{choice}
 use Rattle.cdb_rules.specs.Rules.{Rules}
 use Rattle.cdb_control.specs.Stops.{names_none_of}
-use Rattle.cdb_rules.specs.EventRefs.{name_of}
+use Rattle.cdb_rules.specs.EventRefs.{name_given}
 use Rattle.cdb_rules.specs.declared.event_ref.EventRef.TheVariants as named
 use Rattle.cdb_message.specs.Mail.{message_name}
 use Rattle.cdb_rules.specs.Undo.{undo_of, rollback_of, causes_of}
@@ -93,18 +93,18 @@ leaves rules t seat (Auto p) = granted-leaves (choice rules t.history p) t seat 
 leaves rules t seat (Lose s m p) =
     granted-leaves (rules.lose t.history (message_name s m) p) t seat (lost t)
     (λ e. record { refused = λ r h. absurd (cc); lists = λ other low from apart. refl; numbers = omega arith; stops = λ all. all })
-leaves rules t seat (Undo p k) = undo-leaves t seat (name_of (named.Step p k))
-leaves rules t seat (UndoLost s m p) = undo-leaves t seat (name_of (named.Lost s m p))
+leaves rules t seat (Undo p k) = undo-leaves t seat (name_given (named.Step p k))
+leaves rules t seat (UndoLost s m p) = undo-leaves t seat (name_given (named.Lost s m p))
 leaves rules t seat Redo =
     found-leaves (last_of (redo_of t seat)) NothingToRedo t seat _
     (λ e. granted-leaves (rules.again t.history e) t seat (redone rules t seat)
     (λ taken. record { refused = λ r h. absurd (cc); lists = λ other low from apart. other-list t seat other _ low from apart; numbers = omega arith; stops = λ all. all }))
 leaves rules t seat Forget =
     record { refused = λ r h. absurd (cc); lists = λ other low from apart. other-list t seat other _ low from apart; numbers = omega arith; stops = λ all. all }
-leaves rules t seat (Rollback p k) = rollback-leaves t seat (name_of (named.Step p k))
-leaves rules t seat (RollbackLost s m p) = rollback-leaves t seat (name_of (named.Lost s m p))
-leaves rules t seat (Why p k) = why-leaves t seat (name_of (named.Step p k))
-leaves rules t seat (WhyLost s m p) = why-leaves t seat (name_of (named.Lost s m p))
+leaves rules t seat (Rollback p k) = rollback-leaves t seat (name_given (named.Step p k))
+leaves rules t seat (RollbackLost s m p) = rollback-leaves t seat (name_given (named.Lost s m p))
+leaves rules t seat (Why p k) = why-leaves t seat (name_given (named.Step p k))
+leaves rules t seat (WhyLost s m p) = why-leaves t seat (name_given (named.Lost s m p))
 leaves rules t seat (Break stop) =
     unless-leaves (names_none_of t.setup.processes stop) NoProcess t seat _
     (unless-leaves (nat_le MAX_BREAKPOINTS (length t.stops)) BreakLimit t seat _

@@ -9,12 +9,10 @@ use Rattle.cdb_base.specs.declared.name.StepId.{StepId}
 use Rattle.cdb_base.specs.declared.refusal.Refusal.{Refusal}
 use Rattle.cdb_base.specs.declared.refusal.Refusal.TheVariants.{NoProcess, NothingToRedo, NoBreak, BreakLimit}
 use Rattle.cdb_base.specs.declared.limits.TheConstants.{MAX_BREAKPOINTS}
-use Rattle.cdb_control.specs.Answer.{Answer}
-use Rattle.cdb_control.specs.Answer as reply
 use Rattle.cdb_control.specs.Auto.{choice}
 use Rattle.cdb_control.specs.Commands.{Outcome, unless, granted, found, unpaused, stepped, step, lost, undo, rollback, why, redone, show, outcome}
 use Rattle.cdb_control.specs.Done.{NoneShrinks}
-use Rattle.cdb_rules.specs.EventRefs.{name_of}
+use Rattle.cdb_rules.specs.EventRefs.{name_given}
 use Rattle.cdb_rules.proofs.Removed.{removed-one}
 use Rattle.cdb_control.specs.Room.{StoredList, StoredState, HasRoom, cost, room_of, lowered, raised, rooms_at}
 use Rattle.cdb_control.specs.State.{State, redo_of, last_of}
@@ -184,14 +182,14 @@ module _ (rules : Rules) (t : State) (seat : ℕ) (low : seat - 1 < length t.red
   spends (Step p act) = step-spends p act
   spends (Auto p) = granted-kept seat (choice rules t.history p) t _ (λ act. unpaused-kept seat t.pause t _ (step-spends p act))
   spends (Lose s m p) = granted-kept seat (rules.lose t.history (message_name s m) p) t (lost t) (λ e. kept seat t _ refl (omega arith))
-  spends (Undo p k) = undo-spends (name_of (named.Step p k))
-  spends (UndoLost s m p) = undo-spends (name_of (named.Lost s m p))
+  spends (Undo p k) = undo-spends (name_given (named.Step p k))
+  spends (UndoLost s m p) = undo-spends (name_given (named.Lost s m p))
   spends Redo = redo-spends
   spends Forget = forget-spends
-  spends (Rollback p k) = rollback-spends (name_of (named.Step p k))
-  spends (RollbackLost s m p) = rollback-spends (name_of (named.Lost s m p))
-  spends (Why p k) = why-spends (name_of (named.Step p k))
-  spends (WhyLost s m p) = why-spends (name_of (named.Lost s m p))
+  spends (Rollback p k) = rollback-spends (name_given (named.Step p k))
+  spends (RollbackLost s m p) = rollback-spends (name_given (named.Lost s m p))
+  spends (Why p k) = why-spends (name_given (named.Step p k))
+  spends (WhyLost s m p) = why-spends (name_given (named.Lost s m p))
   spends (Break stop) =
       unless-kept seat (names_none_of t.setup.processes stop) NoProcess t _
       (unless-kept seat (nat_le MAX_BREAKPOINTS (length t.stops)) BreakLimit t _ (kept seat t _ refl (omega arith)))

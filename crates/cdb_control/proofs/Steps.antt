@@ -12,7 +12,7 @@ use Rattle.cdb_control.specs.Answer.{is_refused}
 use Rattle.cdb_control.specs.Answer as reply
 use Rattle.cdb_control.specs.Auto.{choice}
 use Rattle.cdb_control.specs.Commands.{Outcome, granted, found, unpaused, taken_back, redone, decides, step, undo, rollback, why, answer, outcome}
-use Rattle.cdb_rules.specs.EventRefs.{name_of}
+use Rattle.cdb_rules.specs.EventRefs.{name_given}
 use Rattle.cdb_control.specs.State.{State, redo_of, last_of}
 use Rattle.cdb_control.specs.declared.command.Command.TheVariants as command
 use Rattle.cdb_rules.specs.declared.event_ref.EventRef.TheVariants.{Step, Lost}
@@ -24,27 +24,27 @@ pub as_step : (rules : Rules) (t : State) (seat p : ℕ) (act : Act) (o : Outcom
 unfolding outcome
 as_step rules t seat p act o h = h
 
-pub as_undo : (rules : Rules) (t : State) (seat p k : ℕ) (o : Outcome) → o ≡ undo t seat (name_of (Step p k)) → o ≡ outcome rules t seat (command.Undo p k)
+pub as_undo : (rules : Rules) (t : State) (seat p k : ℕ) (o : Outcome) → o ≡ undo t seat (name_given (Step p k)) → o ≡ outcome rules t seat (command.Undo p k)
 unfolding outcome
 as_undo rules t seat p k o h = h
 
-pub as_undo_lost : (rules : Rules) (t : State) (seat s m p : ℕ) (o : Outcome) → o ≡ undo t seat (name_of (Lost s m p)) → o ≡ outcome rules t seat (command.UndoLost s m p)
+pub as_undo_lost : (rules : Rules) (t : State) (seat s m p : ℕ) (o : Outcome) → o ≡ undo t seat (name_given (Lost s m p)) → o ≡ outcome rules t seat (command.UndoLost s m p)
 unfolding outcome
 as_undo_lost rules t seat s m p o h = h
 
-pub as_rollback : (rules : Rules) (t : State) (seat p k : ℕ) (o : Outcome) → o ≡ rollback t seat (name_of (Step p k)) → o ≡ outcome rules t seat (command.Rollback p k)
+pub as_rollback : (rules : Rules) (t : State) (seat p k : ℕ) (o : Outcome) → o ≡ rollback t seat (name_given (Step p k)) → o ≡ outcome rules t seat (command.Rollback p k)
 unfolding outcome
 as_rollback rules t seat p k o h = h
 
-pub as_rollback_lost : (rules : Rules) (t : State) (seat s m p : ℕ) (o : Outcome) → o ≡ rollback t seat (name_of (Lost s m p)) → o ≡ outcome rules t seat (command.RollbackLost s m p)
+pub as_rollback_lost : (rules : Rules) (t : State) (seat s m p : ℕ) (o : Outcome) → o ≡ rollback t seat (name_given (Lost s m p)) → o ≡ outcome rules t seat (command.RollbackLost s m p)
 unfolding outcome
 as_rollback_lost rules t seat s m p o h = h
 
-pub as_why : (rules : Rules) (t : State) (seat p k : ℕ) (o : Outcome) → o ≡ why t (name_of (Step p k)) → o ≡ outcome rules t seat (command.Why p k)
+pub as_why : (rules : Rules) (t : State) (seat p k : ℕ) (o : Outcome) → o ≡ why t (name_given (Step p k)) → o ≡ outcome rules t seat (command.Why p k)
 unfolding outcome
 as_why rules t seat p k o h = h
 
-pub as_why_lost : (rules : Rules) (t : State) (seat s m p : ℕ) (o : Outcome) → o ≡ why t (name_of (Lost s m p)) → o ≡ outcome rules t seat (command.WhyLost s m p)
+pub as_why_lost : (rules : Rules) (t : State) (seat s m p : ℕ) (o : Outcome) → o ≡ why t (name_given (Lost s m p)) → o ≡ outcome rules t seat (command.WhyLost s m p)
 unfolding outcome
 as_why_lost rules t seat s m p o h = h
 
@@ -54,19 +54,19 @@ pub step_taken : (rules : Rules) (t : State) (seat p : ℕ) (act : Act) → is_r
 unfolding outcome
 step_taken rules t seat p act h = h
 
-pub undo_taken : (rules : Rules) (t : State) (seat p k : ℕ) → is_refused (undo t seat (name_of (Step p k))).reply ≡ false → is_refused (answer rules t seat (command.Undo p k)) ≡ false
+pub undo_taken : (rules : Rules) (t : State) (seat p k : ℕ) → is_refused (undo t seat (name_given (Step p k))).reply ≡ false → is_refused (answer rules t seat (command.Undo p k)) ≡ false
 unfolding outcome
 undo_taken rules t seat p k h = h
 
-pub undo_lost_taken : (rules : Rules) (t : State) (seat s m p : ℕ) → is_refused (undo t seat (name_of (Lost s m p))).reply ≡ false → is_refused (answer rules t seat (command.UndoLost s m p)) ≡ false
+pub undo_lost_taken : (rules : Rules) (t : State) (seat s m p : ℕ) → is_refused (undo t seat (name_given (Lost s m p))).reply ≡ false → is_refused (answer rules t seat (command.UndoLost s m p)) ≡ false
 unfolding outcome
 undo_lost_taken rules t seat s m p h = h
 
-pub rollback_taken : (rules : Rules) (t : State) (seat p k : ℕ) → is_refused (rollback t seat (name_of (Step p k))).reply ≡ false → is_refused (answer rules t seat (command.Rollback p k)) ≡ false
+pub rollback_taken : (rules : Rules) (t : State) (seat p k : ℕ) → is_refused (rollback t seat (name_given (Step p k))).reply ≡ false → is_refused (answer rules t seat (command.Rollback p k)) ≡ false
 unfolding outcome
 rollback_taken rules t seat p k h = h
 
-pub rollback_lost_taken : (rules : Rules) (t : State) (seat s m p : ℕ) → is_refused (rollback t seat (name_of (Lost s m p))).reply ≡ false → is_refused (answer rules t seat (command.RollbackLost s m p)) ≡ false
+pub rollback_lost_taken : (rules : Rules) (t : State) (seat s m p : ℕ) → is_refused (rollback t seat (name_given (Lost s m p))).reply ≡ false → is_refused (answer rules t seat (command.RollbackLost s m p)) ≡ false
 unfolding outcome
 rollback_lost_taken rules t seat s m p h = h
 

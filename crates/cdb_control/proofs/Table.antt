@@ -13,7 +13,7 @@ use Rattle.cdb_base.specs.declared.refusal.Refusal.TheVariants.{NoProcess, Nothi
 use Rattle.cdb_base.specs.declared.limits.TheConstants.{MAX_BREAKPOINTS}
 use Rattle.cdb_control.specs.Auto.{choice}
 use Rattle.cdb_control.specs.Commands.{Outcome, unless, granted, found, unpaused, stepped, step, lost, taken_back, undo, rollback, why, redone, show, outcome, obey}
-use Rattle.cdb_rules.specs.EventRefs.{name_of}
+use Rattle.cdb_rules.specs.EventRefs.{name_given}
 use Rattle.cdb_control.specs.State.{State, held, redo_of, last_of, AreOfRun}
 use Rattle.cdb_control.specs.Stops.{names_none_of}
 use Rattle.cdb_control.specs.declared.command.Command.{Command}
@@ -162,14 +162,14 @@ obey-adds rules t lawful seat (Auto p) from_one to_last =
     granted-adds (choice rules t.history p) t _ (λ act h. unpaused-adds t.pause t _ (step-adds rules t lawful p act))
 obey-adds rules t lawful seat (Lose s m p) from_one to_last =
     granted-adds (rules.lose t.history (message_name s m) p) t (lost t) (λ e h. lost-adds rules t lawful e (lawful.lose t.history (message_name s m) p e h))
-obey-adds rules t lawful seat (Undo p k) from_one to_last = undo-adds rules t lawful seat from_one to_last (name_of (named.Step p k))
-obey-adds rules t lawful seat (UndoLost s m p) from_one to_last = undo-adds rules t lawful seat from_one to_last (name_of (named.Lost s m p))
+obey-adds rules t lawful seat (Undo p k) from_one to_last = undo-adds rules t lawful seat from_one to_last (name_given (named.Step p k))
+obey-adds rules t lawful seat (UndoLost s m p) from_one to_last = undo-adds rules t lawful seat from_one to_last (name_given (named.Lost s m p))
 obey-adds rules t lawful seat Redo from_one to_last = redo-adds rules t lawful seat from_one to_last
 obey-adds rules t lawful seat Forget from_one to_last = forgotten-adds rules t lawful seat from_one to_last
-obey-adds rules t lawful seat (Rollback p k) from_one to_last = rollback-adds rules t lawful seat from_one to_last (name_of (named.Step p k))
-obey-adds rules t lawful seat (RollbackLost s m p) from_one to_last = rollback-adds rules t lawful seat from_one to_last (name_of (named.Lost s m p))
-obey-adds rules t lawful seat (Why p k) from_one to_last = why-adds t (name_of (named.Step p k))
-obey-adds rules t lawful seat (WhyLost s m p) from_one to_last = why-adds t (name_of (named.Lost s m p))
+obey-adds rules t lawful seat (Rollback p k) from_one to_last = rollback-adds rules t lawful seat from_one to_last (name_given (named.Step p k))
+obey-adds rules t lawful seat (RollbackLost s m p) from_one to_last = rollback-adds rules t lawful seat from_one to_last (name_given (named.Lost s m p))
+obey-adds rules t lawful seat (Why p k) from_one to_last = why-adds t (name_given (named.Step p k))
+obey-adds rules t lawful seat (WhyLost s m p) from_one to_last = why-adds t (name_given (named.Lost s m p))
 obey-adds rules t lawful seat (Break stop) from_one to_last =
     unless-adds (names_none_of t.setup.processes stop) NoProcess t _
     (unless-adds (nat_le MAX_BREAKPOINTS (length t.stops)) BreakLimit t _ (stops_only t _ refl refl refl (omega arith)))

@@ -13,7 +13,7 @@ use Rattle.cdb_base.specs.declared.refusal.Refusal.TheVariants.{NoProcess, Pause
 use Rattle.cdb_control.specs.Answer.{Answer}
 use Rattle.cdb_control.specs.Answer as reply
 use Rattle.cdb_control.specs.Auto.{choice}
-use Rattle.cdb_rules.specs.EventRefs.{name_of}
+use Rattle.cdb_rules.specs.EventRefs.{name_given}
 use Rattle.cdb_control.specs.State.{State, redo_of, with_redo, last_of}
 use Rattle.cdb_control.specs.Stops.{Stops, first_fired, names_none_of, IsLeastFired}
 use Rattle.cdb_rules.specs.Views.{seen_as, round_of, decision_of, cells_of, all_open_copies}
@@ -170,15 +170,15 @@ unfoldable pub outcome : Rules → State → ℕ → Command → Outcome
 outcome rules t seat (Step p act) = step rules t p act
 outcome rules t seat (Auto p) = granted (choice rules t.history p) t (λ act. unpaused t.pause t (step rules t p act))
 outcome rules t seat (Lose s m p) = granted (rules.lose t.history (message_name s m) p) t (lost t)
-outcome rules t seat (Undo p k) = undo t seat (name_of (named.Step p k))
-outcome rules t seat (UndoLost s m p) = undo t seat (name_of (named.Lost s m p))
+outcome rules t seat (Undo p k) = undo t seat (name_given (named.Step p k))
+outcome rules t seat (UndoLost s m p) = undo t seat (name_given (named.Lost s m p))
 outcome rules t seat Redo =
     found (last_of (redo_of t seat)) NothingToRedo t (λ e. granted (rules.again t.history e) t (redone rules t seat))
 outcome rules t seat Forget = record { reply = reply.Forgot (length (redo_of t seat)); after = with_redo t seat [] }
-outcome rules t seat (Rollback p k) = rollback t seat (name_of (named.Step p k))
-outcome rules t seat (RollbackLost s m p) = rollback t seat (name_of (named.Lost s m p))
-outcome rules t seat (Why p k) = why t (name_of (named.Step p k))
-outcome rules t seat (WhyLost s m p) = why t (name_of (named.Lost s m p))
+outcome rules t seat (Rollback p k) = rollback t seat (name_given (named.Step p k))
+outcome rules t seat (RollbackLost s m p) = rollback t seat (name_given (named.Lost s m p))
+outcome rules t seat (Why p k) = why t (name_given (named.Step p k))
+outcome rules t seat (WhyLost s m p) = why t (name_given (named.Lost s m p))
 outcome rules t seat (Break stop) =
     unless (names_none_of t.setup.processes stop) NoProcess t
     (unless (nat_le MAX_BREAKPOINTS (length t.stops)) BreakLimit t (break_set t stop))

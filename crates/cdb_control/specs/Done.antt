@@ -1,7 +1,7 @@
 -- What a contract says of a command that was carried out.
 use Rattle.std.specs.Prelude.{◌≡◌, ℕ, ◌≤◌, false, List, slice_index_or}
 use Rattle.cdb_control.specs.Answer.{told, is_refused}
-use Rattle.cdb_control.specs.Commands.{Outcome, answer, outcome}
+use Rattle.cdb_control.specs.Commands.{Outcome, outcome}
 use Rattle.cdb_control.specs.State.{State}
 use Rattle.cdb_control.specs.declared.command.Command.{Command}
 use Rattle.cdb_control.specs.declared.reply.Reply.{Reply}
@@ -12,13 +12,29 @@ use Rattle.cdb_setup.specs.Parts.{Parts}
 abbrev pub came_out : Reply → State → Outcome
 came_out reply left = record { reply = told reply; after = left }
 
--- they are what the table of the commands says of that command of that seat
-abbrev pub Does : (Parts → Rules) → State → ℕ → Command → Reply → State → Type 0
-Does rules t seat command reply left = came_out reply left ≡ outcome (rules t.setup) t seat command
+-- they are this outcome
+abbrev pub CameOutAs : Outcome → State → Reply → Type 0
+CameOutAs o left reply = came_out reply left ≡ o
 
--- the reply to that command of that seat is no refusal
+-- they are what the table of the commands says of that command of that seat
+abbrev pub IsCarriedOut : (Parts → Rules) → State → ℕ → Command → State → Reply → Type 0
+IsCarriedOut rules t seat command left reply = CameOutAs (outcome (rules t.setup) t seat command) left reply
+
+-- the same whichever seat gives the command
+abbrev pub IsCarriedOutForAny : (Parts → Rules) → State → Command → State → Reply → Type 0
+IsCarriedOutForAny rules t command left reply = (seat : ℕ) → IsCarriedOut rules t seat command left reply
+
+-- the reply is no refusal
+abbrev pub IsNoRefusal : Outcome → Type 0
+IsNoRefusal o = is_refused o.reply ≡ false
+
+-- nor is the one to that command of that seat
 abbrev pub IsTaken : (Parts → Rules) → State → ℕ → Command → Type 0
-IsTaken rules t seat command = is_refused (answer (rules t.setup) t seat command) ≡ false
+IsTaken rules t seat command = IsNoRefusal (outcome (rules t.setup) t seat command)
+
+-- whichever seat gives the command
+abbrev pub IsTakenFromAny : (Parts → Rules) → State → Command → Type 0
+IsTakenFromAny rules t command = (seat : ℕ) → IsTaken rules t seat command
 
 -- the room of no seat's list gets less
 abbrev pub NoneShrinks : List ℕ → List ℕ → Type 0

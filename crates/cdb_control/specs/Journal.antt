@@ -1,6 +1,6 @@
 -- A control as contracts see it: a setup, a number of seats, a journal, and the room of each seat. The control state
 -- is the journal's replay.
-use Rattle.std.specs.Prelude.{◌≡◌, ℕ, ◌+◌, ◌≤◌, ◌==◌, List, [], ◌∷◌, ◌++◌, length, replicate, fold, if◌then◌else◌}
+use Rattle.std.specs.Prelude.{◌≡◌, ℕ, ◌+◌, ◌<◌, ◌≤◌, ◌==◌, ◌⊎◌, true, List, [], ◌∷◌, ◌++◌, length, replicate, fold, if◌then◌else◌}
 use Rattle.std.specs.List.{AllByRecursion}
 use Rattle.cdb_base.specs.declared.limits.TheConstants.{MAX_ENTRIES, MAX_SEATS}
 use Rattle.cdb_control.specs.declared.command.Command.{Command}
@@ -9,8 +9,8 @@ use Rattle.cdb_setup.specs.Parts.{Parts, AreInRange}
 use Rattle.cdb_rules.specs.Rules.{Rules}
 use Rattle.cdb_control.specs.State.{State, first_control_state, held, AreOfRun}
 use Rattle.cdb_control.specs.Commands.{answer, obey}
-use Rattle.cdb_control.specs.Room.{lowered}
-use Rattle.cdb_control.specs.Answer.{Answer}
+use Rattle.cdb_control.specs.Room.{is_spared, lowered, room_of}
+use Rattle.cdb_control.specs.Answer.{Answer, is_refused}
 
 pub record Journaled : Type 0 where
   pub setup : Parts
@@ -38,6 +38,11 @@ control_state rules c = replay (rules c.setup) c.setup c.seats c.journal
 abbrev pub reply_in : (Parts → Rules) → Journaled → ℕ → Command → Answer
 reply_in rules c seat command = answer (rules c.setup) (control_state rules c) seat command
 
+-- the command needs no memory: its seat has room, and it is one for which that is promised, or is refused
+abbrev pub NeedsNoMemory : (Parts → Rules) → Journaled → ℕ → Command → Type 0
+NeedsNoMemory rules c seat command =
+    (0 < room_of c.rooms seat) × ((is_spared command ≡ true) ⊎ (is_refused (reply_in rules c seat command) ≡ true))
+
 -- one entry more
 abbrev pub extended : (Parts → Rules) → Journaled → ℕ → Command → Journaled
 extended rules c seat command =
@@ -57,6 +62,10 @@ replies_from rules t seat (e ∷ es) =
 
 abbrev pub replies_of : Rules → Parts → ℕ → ℕ → List Entry → List Answer
 replies_of rules setup seats seat journal = replies_from rules (first_control_state setup seats) seat journal
+
+-- the replies to a seat's commands in the journal of a control
+abbrev pub answers_to : (Parts → Rules) → ℕ → Journaled → List Answer
+answers_to rules seat c = replies_of (rules c.setup) c.setup c.seats seat c.journal
 
 -- the first journal is a beginning of the second
 abbrev pub Begins : List Entry → List Entry → Type 0

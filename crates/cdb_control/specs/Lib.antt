@@ -11,5 +11,7 @@ pub mod FaultTexts
 -- the room that a control has, and what a call leaves
 pub mod Room
 pub mod Done
+-- the words of the laws
+pub mod Laws
 -- the worked journals, as the table of the commands gives them
 pub mod WorkedJournals

@@ -2,7 +2,7 @@
 use Rattle.std.specs.Prelude.{◌≡◌, ℕ, ◌+◌, ◌-◌, ◌<◌, ◌≤◌, Bool, true, false, List, [], length, map, max, slice_index_or, slice_set}
 use Rattle.cdb_base.specs.declared.event.Event.{Event}
 use Rattle.cdb_control.specs.Answer.{Answer, RolledBack}
-use Rattle.cdb_control.specs.State.{State}
+use Rattle.cdb_control.specs.State.{State, redo_of}
 use Rattle.cdb_control.specs.declared.command.Command.{Command}
 use Rattle.cdb_control.specs.declared.command.Command.TheVariants.{Undo, UndoLost, Forget, Unbreak, Resume}
 
@@ -48,6 +48,14 @@ pub record StoredList : Type 0 where
 pub record StoredState : Type 0 where
   pub state : State
   pub capacities : List ℕ
+
+-- how many events the redo list of a seat can hold without more memory
+abbrev pub capacity_of : StoredState → ℕ → ℕ
+capacity_of stored seat = slice_index_or stored.capacities (seat - 1) 0
+
+-- it can hold one event more
+abbrev pub HasSpace : StoredState → ℕ → Type 0
+HasSpace stored seat = length (redo_of stored.state seat) < capacity_of stored seat
 
 -- memory holds what each seat was promised: space in the journal, and in its redo list
 pub record HasRoom (entries space : ℕ) (rooms : List ℕ) (stored : StoredState) : Type 0 where

@@ -13,12 +13,12 @@ use Rattle.cdb_rules.specs.Algorithms.{rules}
 use Rattle.cdb_setup.specs.Parts.{Parts}
 use Rattle.cdb_setup.specs.declared.setup.Algorithm.TheVariants.{Leader}
 
-abbrev pub one_process : Parts
-one_process = record { version = 1; algorithm = Leader; processes = 1; quorum = 1; inputs = 7 ∷ []; answers = [] }
+abbrev pub setup_of_one : Parts
+setup_of_one = record { version = 1; algorithm = Leader; processes = 1; quorum = 1; inputs = 7 ∷ []; answers = [] }
 
 -- the replies to a seat along such a journal
 abbrev pub replies : ℕ → List Entry → List Answer
-replies seat journal = replies_of (rules one_process) one_process 2 seat journal
+replies seat journal = replies_of (rules setup_of_one) setup_of_one 2 seat journal
 
 -- the first two steps of the process
 abbrev pub query : Event

@@ -1,11 +1,11 @@
 //! The control: the control state, and the journal that led to it.
-ghost use Rattle.std.specs.Prelude.{◌≡◌, ◌≢◌, ◌+◌, ◌-◌, ◌<◌, ◌≤◌, ◌↔◌, ◌⊎◌, true, max, IfOk, OnOk, OnErr, length, replicate, vec_len, vec_capacity, ◌++◌, ◌∷◌, []};
+ghost use Rattle.std.specs.Prelude.{◌≡◌, ◌≢◌, ◌+◌, ◌-◌, ◌<◌, ◌≤◌, ◌↔◌, ◌⊎◌, max, IfOk, OnOk, OnErr, length, replicate, vec_len, vec_capacity, ◌++◌, ◌∷◌, []};
 ghost use Rattle.std.specs.Result.{result_ok};
-ghost use Rattle.cdb_control.specs.Answer.{told, is_refused};
+ghost use Rattle.cdb_control.specs.Answer.{told};
 ghost use Rattle.cdb_control.specs.Auto.{choice};
 ghost use Rattle.cdb_control.specs.Headline.{Headline};
-ghost use Rattle.cdb_control.specs.Journal.{entry, opened, extended, reply_in, control_state, AreOfSeats};
-ghost use Rattle.cdb_control.specs.Room.{is_spared, cost, room_of, with_room, raised};
+ghost use Rattle.cdb_control.specs.Journal.{entry, opened, extended, reply_in, control_state, AreOfSeats, NeedsNoMemory};
+ghost use Rattle.cdb_control.specs.Room.{cost, room_of, with_room, raised};
 
 use crate::command::{Command, Stop, View};
 use crate::reply::Reply;
@@ -148,10 +148,7 @@ impl<R: Runs> Control<R> {
         ensures limit { length self.new.journal ≤ MAX_ENTRIES }
         ensures headline { Headline R.rules R.same_state
             self.new.setup self.new.seats self.new.journal }
-        ensures refusal { 0 < room_of self.old.rooms seat →
-            is_refused (reply_in R.rules self.old seat command) ≡ true →
-            result ≢ Err CallFault.NoMemory }
-        ensures spared { is_spared command ≡ true → 0 < room_of self.old.rooms seat →
+        ensures spared { NeedsNoMemory R.rules self.old seat command →
             result ≢ Err CallFault.NoMemory }
     {
         if self.journal.len() >= MAX_ENTRIES as usize {

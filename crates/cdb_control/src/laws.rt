@@ -1,5 +1,5 @@
 //! Laws of the table of the commands and of journals. Each function does nothing: its contract is the law.
-ghost use Rattle.std.specs.Prelude.{◌≡◌, ◌≢◌, ◌≤◌, ℕ, List, [], ◌∷◌, ◌++◌, None};
+ghost use Rattle.std.specs.Prelude.{◌≡◌, ◌≤◌, ℕ, List, [], ◌∷◌, ◌++◌, None};
 ghost use Rattle.cdb_base.specs.Event.{event_name};
 ghost use Rattle.cdb_base.specs.declared.refusal.Refusal.{Refusal};
 ghost use Rattle.cdb_base.specs.declared.refusal.Refusal.TheVariants.{NeededBy, NothingToRedo};
@@ -10,62 +10,56 @@ ghost use Rattle.cdb_control.specs.declared.control.Entry.{Entry};
 ghost use Rattle.cdb_control.specs.Answer.{Stepped, Undone, Redone, RolledBack, History, Decisions, Refused};
 ghost use Rattle.cdb_control.specs.Commands.{TellsPause, answer, obey};
 ghost use Rattle.cdb_control.specs.Headline.{Headline};
-ghost use Rattle.cdb_control.specs.Journal.{entry, replay, own, replies_of, AreOfSeats, Begins};
-ghost use Rattle.cdb_control.specs.State.{State, redo_of};
+ghost use Rattle.cdb_control.specs.Journal.{answers_to, extended, own, reply_in, AreOfSeats};
+ghost use Rattle.cdb_control.specs.Laws.{followed_by, AreTwoSeats, ForCommands, ForSeats, InReplayed};
+ghost use Rattle.cdb_control.specs.State.{redo_of};
 ghost use Rattle.cdb_control.specs.WorkedJournals.{replies, query, send, undone_and_redone, rolled_back_and_redone};
-ghost use Rattle.cdb_rules.specs.Rules.{Rules};
 ghost use Rattle.cdb_setup.specs.Parts.{Parts, AreInRange};
 
 use cdb_rules::Runs;
 
 /// A refused command changes nothing.
-#[tactic(auto, using(crate::proofs::Refused::refused_changes_nothing))]
+#[tactic(auto)]
 pub fn refused_changes_nothing()
-    ensures { (rules : Rules) (t : State) (seat : ℕ) (command : Command) (refusal : Refusal) →
-        answer rules t seat command ≡ Refused refusal → obey rules t seat command ≡ t }
+    ensures { ForCommands (λ rules t seat command. (refusal : Refusal) →
+        answer rules t seat command ≡ Refused refusal → obey rules t seat command ≡ t) }
 {}
 
 /// A command leaves the redo lists of the other seats alone.
-#[tactic(auto, using(crate::proofs::Refused::other_lists_stay))]
+#[tactic(auto)]
 pub fn other_lists_stay()
-    ensures { (rules : Rules) (t : State) (seat other : ℕ) (command : Command) → 1 ≤ seat →
-        1 ≤ other → other ≢ seat → redo_of (obey rules t seat command) other ≡ redo_of t other }
+    ensures { ForCommands (λ rules t seat command. (other : ℕ) → AreTwoSeats seat other →
+        redo_of (obey rules t seat command) other ≡ redo_of t other) }
 {}
 
 /// The number of the next breakpoint never falls, so that no number is used again.
-#[tactic(auto, using(crate::proofs::Refused::numbers_rise))]
+#[tactic(auto)]
 pub fn numbers_rise()
-    ensures { (rules : Rules) (t : State) (seat : ℕ) (command : Command) →
-        t.next ≤ (obey rules t seat command).next }
+    ensures { ForCommands (λ rules t seat command. t.next ≤ (obey rules t seat command).next) }
 {}
 
 /// A step sets a pause by the least breakpoint that it fires, and by none where it fires none or a pause stands.
 #[tactic(auto)]
 pub fn least_fired()
-    ensures by_step { (rules : Rules) (setup : Parts) (seats seat p : ℕ) (journal : List Entry)
-        (act : Act) → let t = replay rules setup seats journal in
-        TellsPause rules t p (answer rules t seat (Step p act)) }
-    ensures by_auto { (rules : Rules) (setup : Parts) (seats seat p : ℕ) (journal : List Entry) →
-        let t = replay rules setup seats journal in
-        TellsPause rules t p (answer rules t seat (Auto p)) }
+    ensures by_step { InReplayed (λ rules t. (seat p : ℕ) (act : Act) →
+        TellsPause rules t p (answer rules t seat (Step p act))) }
+    ensures by_auto { InReplayed (λ rules t. (seat p : ℕ) →
+        TellsPause rules t p (answer rules t seat (Auto p))) }
 {}
 
 /// One command more of a seat adds its reply to the seat's replies.
 #[tactic(auto)]
 pub fn own_command_adds_its_reply()
-    ensures { (rules : Rules) (setup : Parts) (seats seat : ℕ) (journal : List Entry)
-        (command : Command) →
-        replies_of rules setup seats seat (journal ++ entry seat command ∷ [])
-        ≡ replies_of rules setup seats seat journal
-        ++ answer rules (replay rules setup seats journal) seat command ∷ [] }
+    ensures { ForSeats (λ rules c seat. (command : Command) →
+        answers_to rules seat (extended rules c seat command)
+        ≡ answers_to rules seat c ++ reply_in rules c seat command ∷ []) }
 {}
 
 /// What others did adds no reply of a seat.
 #[tactic(auto)]
 pub fn others_add_no_reply()
-    ensures { (rules : Rules) (setup : Parts) (seats seat : ℕ) (seen journal : List Entry) →
-        Begins seen journal → own seat journal ≡ own seat seen →
-        replies_of rules setup seats seat journal ≡ replies_of rules setup seats seat seen }
+    ensures { ForSeats (λ rules c seat. (more : List Entry) → own seat more ≡ [] →
+        answers_to rules seat (followed_by c more) ≡ answers_to rules seat c) }
 {}
 
 /// The headline holds of every journal of commands of seats that there are, by the rules of any run.

@@ -3,7 +3,7 @@ ghost use Rattle.std.specs.Prelude.{◌≡◌, ◌<◌, ◌≤◌, ◌+◌, [], 
 ghost use Rattle.cdb_base.specs.Positions.{without_last};
 ghost use Rattle.cdb_base.specs.declared.limits.TheConstants.{MAX_ENTRIES};
 ghost use Rattle.cdb_control.specs.State.{last_of};
-ghost use Rattle.cdb_rules.specs.EventRefs.{name_of};
+ghost use Rattle.cdb_rules.specs.EventRefs.{name_given};
 ghost use Rattle.cdb_rules.specs.Refusals.{with_taken};
 ghost use Rattle.cdb_rules.specs.Runs.{RollsBackOnto, undo_answer, after_undo};
 
@@ -82,15 +82,15 @@ impl RedoList {
         run: &mut R,
         name: EventRef,
     ) -> Result<Result<Event, Refusal>, NoMemory>
-        ensures answer { IfOk result (λ r. r ≡ undo_answer (R.run run.old) (name_of name)) }
+        ensures answer { IfOk result (λ r. r ≡ undo_answer (R.run run.old) (name_given name)) }
         ensures after { OnOk result
-            (R.run run.new ≡ after_undo (R.run run.old) (name_of name)) }
+            (R.run run.new ≡ after_undo (R.run run.old) (name_given name)) }
         ensures list { IfOk result (λ r. self.new.events ≡ with_taken self.old.events r) }
         ensures err { OnErr result (R.run run.new ≡ R.run run.old) }
         ensures list_err { OnErr result (self.new.events ≡ self.old.events) }
         ensures capacity { self.old.capacity ≤ self.new.capacity }
         ensures spared { length self.old.events < self.old.capacity → IsOk result }
-        ensures memory { OnErr result (IsOk (undo_answer (R.run run.old) (name_of name))) }
+        ensures memory { OnErr result (IsOk (undo_answer (R.run run.old) (name_given name))) }
     {
         let _kind: Option<Kind> = None;
         let _register: Option<Reg> = None;
@@ -117,7 +117,7 @@ impl RedoList {
         name: EventRef,
     ) -> Result<Result<u32, Refusal>, NoMemory>
         requires { length (R.run run.old).history ≤ MAX_ENTRIES }
-        ensures rolled_back { RollsBackOnto (R.run run.old) (R.run run.new) (name_of name)
+        ensures rolled_back { RollsBackOnto (R.run run.old) (R.run run.new) (name_given name)
             self.old.events self.new.events result }
         ensures capacity { self.old.capacity ≤ self.new.capacity }
     {

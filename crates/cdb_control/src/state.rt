@@ -1,15 +1,14 @@
 //! The control state: a run, the breakpoints, the pause and the redo lists.
-ghost use Rattle.std.specs.Prelude.{◌≡◌, ℕ, ◌+◌, ◌-◌, ◌<◌, ◌≤◌, [], true, false, IfOk, IfErr, OnOk, OnErr, IsOk, replicate, length, map, slice_index_or};
+ghost use Rattle.std.specs.Prelude.{◌≡◌, ◌+◌, ◌≤◌, [], true, IfOk, IfErr, OnOk, OnErr, IsOk, replicate, length, map};
 ghost use Rattle.std.specs.Option.{option_or};
 ghost use Rattle.cdb_base.specs.declared.limits.TheConstants.{MAX_ENTRIES};
-ghost use Rattle.cdb_control.specs.Answer.{is_refused};
-ghost use Rattle.cdb_control.specs.Done.{came_out, Does, IsTaken, NoneShrinks};
+ghost use Rattle.cdb_control.specs.Done.{came_out, CameOutAs, IsCarriedOut, IsCarriedOutForAny, IsNoRefusal, IsTaken, IsTakenFromAny, NoneShrinks};
 ghost use Rattle.cdb_control.specs.Auto.{choice, first_act_of, first_step_of, IsFreeForAuto, IsRefusedForAuto};
 ghost use Rattle.cdb_control.specs.Commands.{step, step_told, undo, rollback, why, show, decides, newly_fired};
-ghost use Rattle.cdb_rules.specs.EventRefs.{name_of};
+ghost use Rattle.cdb_rules.specs.EventRefs.{name_given};
 ghost use Rattle.cdb_rules.specs.Runs.{with_answer};
 ghost use Rattle.cdb_rules.specs.Step.{is_among};
-ghost use Rattle.cdb_control.specs.Room.{is_spared};
+ghost use Rattle.cdb_control.specs.Room.{capacity_of, is_spared, HasSpace};
 ghost use Rattle.cdb_control.specs.State.{first_control_state, held, redo_of, AreOfRun};
 ghost use Rattle.cdb_rules.specs.Views.{round_of, decision_of};
 ghost use Rattle.cdb_setup.specs.Parts.{AreInRange};
@@ -155,8 +154,8 @@ impl<R: Runs> ControlState<R> {
     /// Ends the pause.
     #[tactic(auto, unfolding(crate::specs::Commands::outcome))]
     pub fn resume(&mut self) -> Reply
-        ensures table { (seat : ℕ) →
-            Does R.rules self.old.state seat Command.Resume result self.new.state }
+        ensures table { IsCarriedOutForAny R.rules self.old.state Command.Resume
+            self.new.state result }
         ensures kept { self.new.capacities ≡ self.old.capacities }
     {
         self.pause = None;
@@ -166,8 +165,8 @@ impl<R: Runs> ControlState<R> {
     /// Takes a breakpoint away.
     #[tactic(auto, unfolding(crate::specs::Commands::outcome))]
     pub fn unbreak(&mut self, number: u32) -> Reply
-        ensures table { (seat : ℕ) →
-            Does R.rules self.old.state seat (Command.Unbreak number) result self.new.state }
+        ensures table { IsCarriedOutForAny R.rules self.old.state (Command.Unbreak number)
+            self.new.state result }
         ensures kept { self.new.capacities ≡ self.old.capacities }
     {
         if !self.breakpoints.has(number) {
@@ -182,11 +181,10 @@ impl<R: Runs> ControlState<R> {
     pub fn set_break(&mut self, stop: Stop) -> Result<Reply, NoMemory>
         requires { self.old.state.next ≤ MAX_ENTRIES }
         ensures ok { IfOk result
-            (λ r. (seat : ℕ) →
-            Does R.rules self.old.state seat (Command.Break stop) r self.new.state) }
+            (IsCarriedOutForAny R.rules self.old.state (Command.Break stop) self.new.state) }
         ensures err { OnErr result (self.new.state ≡ self.old.state) }
         ensures memory { OnErr result
-            ((seat : ℕ) → IsTaken R.rules self.old.state seat (Command.Break stop)) }
+            (IsTakenFromAny R.rules self.old.state (Command.Break stop)) }
         ensures kept { self.new.capacities ≡ self.old.capacities }
     {
         if names_none_of(self.run.processes(), &stop) {
@@ -205,7 +203,8 @@ impl<R: Runs> ControlState<R> {
         requires from_one { 1 ≤ seat }
         requires to_last { seat ≤ length self.old.state.redo }
         requires few { held self.old.state ≤ MAX_ENTRIES }
-        ensures table { Does R.rules self.old.state seat Command.Forget result self.new.state }
+        ensures table { IsCarriedOut R.rules self.old.state seat Command.Forget
+            self.new.state result }
         ensures capacities { NoneShrinks self.old.capacities self.new.capacities }
     {
         let list = &mut self.redo[seat as usize - 1];
@@ -221,8 +220,7 @@ impl<R: Runs> ControlState<R> {
         requires to_last { seat ≤ length self.old.state.redo }
         ensures state { self.new.state ≡ self.old.state }
         ensures ok { OnOk result
-            (length (redo_of self.old.state seat) + additional
-            ≤ slice_index_or self.new.capacities (seat - 1) 0) }
+            (length (redo_of self.old.state seat) + additional ≤ capacity_of self.new seat) }
         ensures capacities { NoneShrinks self.old.capacities self.new.capacities }
     {
         self.redo[seat as usize - 1].reserve(additional)
@@ -234,13 +232,12 @@ impl<R: Runs> ControlState<R> {
         requires from_one { 1 ≤ seat }
         requires to_last { seat ≤ length self.old.state.redo }
         ensures ok { IfOk result
-            (λ reply. came_out reply self.new.state ≡ undo self.old.state seat (name_of name)) }
+            (CameOutAs (undo self.old.state seat (name_given name)) self.new.state) }
         ensures err { OnErr result (self.new.state ≡ self.old.state) }
         ensures memory { OnErr result
-            (is_refused (undo self.old.state seat (name_of name)).reply ≡ false) }
+            (IsNoRefusal (undo self.old.state seat (name_given name))) }
         ensures capacities { NoneShrinks self.old.capacities self.new.capacities }
-        ensures spared { length (redo_of self.old.state seat)
-            < slice_index_or self.old.capacities (seat - 1) 0 → IsOk result }
+        ensures spared { HasSpace self.old seat → IsOk result }
     {
         let list = &mut self.redo[seat as usize - 1];
         match list.undo(&mut self.run, name)? {
@@ -255,10 +252,10 @@ impl<R: Runs> ControlState<R> {
         requires to_last { seat ≤ length self.old.state.redo }
         requires few { held self.old.state ≤ MAX_ENTRIES }
         ensures ok { IfOk result
-            (λ r. came_out r self.new.state ≡ rollback self.old.state seat (name_of name)) }
+            (CameOutAs (rollback self.old.state seat (name_given name)) self.new.state) }
         ensures err { OnErr result (self.new.state ≡ self.old.state) }
         ensures memory { OnErr result
-            (is_refused (rollback self.old.state seat (name_of name)).reply ≡ false) }
+            (IsNoRefusal (rollback self.old.state seat (name_given name))) }
         ensures capacities { NoneShrinks self.old.capacities self.new.capacities }
     {
         let list = &mut self.redo[seat as usize - 1];
@@ -275,7 +272,7 @@ impl<R: Runs> ControlState<R> {
         requires to_last { seat ≤ length self.old.state.redo }
         requires of_run { AreOfRun self.old.state }
         ensures ok { IfOk result
-            (λ reply. Does R.rules self.old.state seat Command.Redo reply self.new.state) }
+            (IsCarriedOut R.rules self.old.state seat Command.Redo self.new.state) }
         ensures err { OnErr result (self.new.state ≡ self.old.state) }
         ensures memory { OnErr result (IsTaken R.rules self.old.state seat Command.Redo) }
         ensures capacities { NoneShrinks self.old.capacities self.new.capacities }
@@ -371,11 +368,10 @@ impl<R: Runs> ControlState<R> {
     /// Takes a step.
     pub fn step(&mut self, alloc: Global, p: u32, act: Act) -> Result<Reply, NoMemory>
         ensures ok { IfOk result
-            (λ r. came_out r self.new.state
-            ≡ step (R.rules self.old.state.setup) self.old.state p act) }
+            (CameOutAs (step (R.rules self.old.state.setup) self.old.state p act) self.new.state) }
         ensures err { OnErr result (self.new.state ≡ self.old.state) }
         ensures memory { OnErr result
-            (is_refused (step (R.rules self.old.state.setup) self.old.state p act).reply ≡ false) }
+            (IsNoRefusal (step (R.rules self.old.state.setup) self.old.state p act)) }
         ensures kept { self.new.capacities ≡ self.old.capacities }
     {
         let round_before = self.round_of(p);
@@ -389,11 +385,10 @@ impl<R: Runs> ControlState<R> {
     #[tactic(auto, unfolding(crate::specs::Commands::outcome))]
     pub fn lose(&mut self, alloc: Global, s: u32, m: u32, p: u32) -> Result<Reply, NoMemory>
         ensures ok { IfOk result
-            (λ r. (seat : ℕ) →
-            Does R.rules self.old.state seat (Command.Lose s m p) r self.new.state) }
+            (IsCarriedOutForAny R.rules self.old.state (Command.Lose s m p) self.new.state) }
         ensures err { OnErr result (self.new.state ≡ self.old.state) }
         ensures memory { OnErr result
-            ((seat : ℕ) → IsTaken R.rules self.old.state seat (Command.Lose s m p)) }
+            (IsTakenFromAny R.rules self.old.state (Command.Lose s m p)) }
         ensures kept { self.new.capacities ≡ self.old.capacities }
     {
         match self.run.lose(alloc, s, m, p)? {
@@ -446,11 +441,10 @@ impl<R: Runs> ControlState<R> {
     pub fn auto(&mut self, alloc: Global, p: u32) -> Result<Reply, NoMemory>
         requires { AreInRange self.old.state.setup }
         ensures ok { IfOk result
-            (λ r. (seat : ℕ) →
-            Does R.rules self.old.state seat (Command.Auto p) r self.new.state) }
+            (IsCarriedOutForAny R.rules self.old.state (Command.Auto p) self.new.state) }
         ensures err { OnErr result (self.new.state ≡ self.old.state) }
         ensures memory { OnErr result
-            ((seat : ℕ) → IsTaken R.rules self.old.state seat (Command.Auto p)) }
+            (IsTakenFromAny R.rules self.old.state (Command.Auto p)) }
         ensures kept { self.new.capacities ≡ self.old.capacities }
     {
         if let Some(number) = self.pause {
@@ -469,7 +463,7 @@ impl<R: Runs> ControlState<R> {
 
     /// Returns the direct causes of an event.
     pub fn why(&self, alloc: Global, name: EventRef) -> Reply
-        ensures { came_out result self.now.state ≡ why self.now.state (name_of name) }
+        ensures { CameOutAs (why self.now.state (name_given name)) self.now.state result }
     {
         match self.run.explain(alloc, name) {
             Ok((event, causes)) => Reply::Because(event, causes),
@@ -478,8 +472,8 @@ impl<R: Runs> ControlState<R> {
     }
 
     fn show_process(&self, p: u32) -> Reply
-        ensures { came_out result self.now.state
-            ≡ show (R.rules self.now.state.setup) self.now.state (View.Proc p) }
+        ensures { CameOutAs (show (R.rules self.now.state.setup) self.now.state (View.Proc p))
+            self.now.state result }
     {
         match self.run.view(p) {
             Some(process) => Reply::Proc(process),
@@ -491,10 +485,9 @@ impl<R: Runs> ControlState<R> {
     #[tactic(auto, unfolding(crate::specs::Commands::outcome))]
     pub fn show(&self, alloc: Global, view: View) -> Result<Reply, NoMemory>
         ensures ok { IfOk result
-            (λ r. (seat : ℕ) →
-            Does R.rules self.now.state seat (Command.Show view) r self.now.state) }
+            (IsCarriedOutForAny R.rules self.now.state (Command.Show view) self.now.state) }
         ensures memory { OnErr result
-            ((seat : ℕ) → IsTaken R.rules self.now.state seat (Command.Show view)) }
+            (IsTakenFromAny R.rules self.now.state (Command.Show view)) }
     {
         let reply = match view {
             View::Proc(p) => self.show_process(p),
@@ -509,10 +502,8 @@ impl<R: Runs> ControlState<R> {
     #[tactic(auto, unfolding(crate::specs::Commands::outcome))]
     pub fn decisions(&self, alloc: Global) -> Result<Reply, NoMemory>
         ensures ok { IfOk result
-            (λ r. (seat : ℕ) →
-            Does R.rules self.now.state seat Command.Decisions r self.now.state) }
-        ensures memory { OnErr result
-            ((seat : ℕ) → IsTaken R.rules self.now.state seat Command.Decisions) }
+            (IsCarriedOutForAny R.rules self.now.state Command.Decisions self.now.state) }
+        ensures memory { OnErr result (IsTakenFromAny R.rules self.now.state Command.Decisions) }
     {
         Ok(Reply::Decisions(self.run.decisions(alloc)?))
     }
@@ -527,12 +518,11 @@ impl<R: Runs> ControlState<R> {
         requires of_run { AreOfRun self.old.state }
         requires in_range { AreInRange self.old.state.setup }
         ensures ok { IfOk result
-            (λ reply. Does R.rules self.old.state seat command reply self.new.state) }
+            (IsCarriedOut R.rules self.old.state seat command self.new.state) }
         ensures err { OnErr result (self.new.state ≡ self.old.state) }
         ensures memory { OnErr result (IsTaken R.rules self.old.state seat command) }
         ensures capacities { NoneShrinks self.old.capacities self.new.capacities }
-        ensures spared { is_spared command ≡ true → length (redo_of self.old.state seat)
-            < slice_index_or self.old.capacities (seat - 1) 0 → IsOk result }
+        ensures spared { is_spared command ≡ true → HasSpace self.old seat → IsOk result }
     {
         match command {
             Command::Step(p, act) => self.step(alloc, p, act),

@@ -1,6 +1,6 @@
 -- A step that was asked for, and what was answered.
-use Rattle.std.proofs.Common.{◌≡◌, ◌∙◌, ℕ, List, Option, Some, Result, Ok, Err, ap, sym, subst, refl, is_ok, true≢false}
-use Rattle.std.specs.Prelude.{[], MatchOption, MatchResult, IfErr, IsOk}
+use Rattle.std.proofs.Common.{◌≡◌, ◌∙◌, ℕ, List, Option, Some, Result, Ok, Err, ap, sym, subst}
+use Rattle.std.specs.Prelude.{[], MatchOption, IfErr}
 use Rattle.cdb_base.specs.declared.name.StepId.{StepId}
 use Rattle.cdb_base.specs.declared.refusal.Refusal.{Refusal}
 use Rattle.cdb_explain.specs.Explanations.{because_text}
@@ -19,6 +19,7 @@ use Rattle.cdb_explain.specs.Explained.{ExplainWrites, IsFaultOfExplain}
 use Rattle.cdb_explain.specs.StepFaults.{IsFaultOfStep}
 use Rattle.cdb_setup.specs.declared.fault.SetupFault.{SetupFault}
 use Rattle.cdb_rules.specs.RunView.{RunView}
+use Rattle.cdb_rules.specs.Runs.{Tells}
 use Rattle.cdb_rules.specs.Rules.{Rules}
 use Rattle.cdb_setup.specs.Parts.{Parts}
 
@@ -81,7 +82,7 @@ module _ {A : Type 0} (answer : Option A) (P : Type 0) (Q : A → Type 0) where
   answered_some text is told = subst (λ (a : Option A). MatchOption a P Q) is told
 
 -- a refused look for causes adds nothing
-pub no_because : (answer : Result (List StepId) Refusal) {A : Type 0} (P : List StepId → Type 0) (result : Result A Refusal) (why : Refusal)
-    → MatchResult answer (λ causes. P causes × IsOk result) (λ refusal. result ≡ Err refusal) → result ≡ Err why → because_text answer ≡ []
-no_because (Ok causes) P result why stands is = absurd (true≢false (sym stands.1 ∙ ap is_ok is))
-no_because (Err refusal) P result why stands is = refl
+pub no_because : (answer : Result (List StepId) Refusal) {A : Type 0} (view : A → List StepId) (result : Result A Refusal) (why : Refusal)
+    → Tells view result answer → result ≡ Err why → because_text answer ≡ []
+no_because answer view (Ok found) why tells is = cc
+no_because answer view (Err refusal) why tells is = ap because_text tells

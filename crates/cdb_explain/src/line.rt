@@ -3,7 +3,7 @@
 ghost use Rattle.cdb_base.specs.Event.{event_name};
 ghost use Rattle.cdb_control.specs.Commands.{decides};
 ghost use Rattle.cdb_explain.specs.Explanations.{because_text, line_text, whole_text};
-ghost use Rattle.cdb_rules.specs.EventRefs.{name_of};
+ghost use Rattle.cdb_rules.specs.EventRefs.{name_given};
 ghost use Rattle.cdb_rules.specs.Runs.{causes_in};
 ghost use Rattle.cdb_text.specs.Pushes.{Pushes};
 ghost use Rattle.std.specs.Prelude.{◌≡◌};
@@ -16,7 +16,7 @@ use std::alloc::{AllocError, Global};
 
 /// The numbers under which a command names the event.
 fn reference(event: &Event) -> EventRef
-    ensures { name_of result ≡ event_name event.now }
+    ensures { name_given result ≡ event_name event.now }
 {
     match *event {
         Event::Step { p, k, .. } => EventRef::Step(u32::from(p.number()), u32::from(k)),

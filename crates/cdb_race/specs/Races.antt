@@ -3,7 +3,8 @@ use Rattle.std.specs.Prelude.{◌≡◌, ℕ, ◌+◌, ◌-◌, ◌*◌, ◌<◌
 use Rattle.std.specs.Global.{Global}
 use Rattle.cdb_base.specs.declared.limits.TheConstants.{MAX_ENTRIES}
 use Rattle.cdb_control.specs.Answer.{Answer, told}
-use Rattle.cdb_control.specs.Journal.{Journaled, own, replies_of, AreOfSeats}
+use Rattle.cdb_control.specs.Journal.{Journaled, own, AreOfSeats}
+pub use Rattle.cdb_control.specs.Journal.{answers_to}
 use Rattle.cdb_control.specs.declared.command.Command.{Command}
 use Rattle.cdb_control.specs.declared.command.Command.TheVariants.{Auto}
 use Rattle.cdb_control.specs.declared.reply.Reply.{Reply}
@@ -49,10 +50,6 @@ abbrev pub AllFinished : (Parts → Rules) → Plan → List SeatView → List S
 AllFinished rules plan before seats answers =
     (k : ℕ) (seat : SeatView) (list : List Answer) → k < length seats
     → (b : SeatView) → HasFinished rules plan (slice_index_or before k b) (slice_index_or seats k seat) (slice_index_or answers k list)
-
--- the replies to a seat's commands in the journal of a control
-abbrev pub answers_to : (Parts → Rules) → ℕ → Journaled → List Answer
-answers_to rules seat c = replies_of (rules c.setup) c.setup c.seats seat c.journal
 
 -- The final control and the replies of each seat: each process was driven by its seat, each script was served by its seat, and
 -- the journal has no other entries.

@@ -4,9 +4,9 @@ use Rattle.std.proofs.lemmas.Option.{same_Some, none-some}
 use Rattle.cdb_base.specs.Positions.{nth}
 use Rattle.cdb_base.specs.declared.event.Event.{Event}
 use Rattle.cdb_causal.specs.Rollback.{without}
-use Rattle.cdb_record.specs.Entries.{events_of, entry_of, entries_of}
-use Rattle.cdb_record.specs.declared.entry.Entry.{Entry}
-use Rattle.cdb_record.specs.declared.entry.Left.{Left}
+use Rattle.cdb_record.specs.Recorded.{events_of, recorded_of, records_of}
+use Rattle.cdb_record.specs.declared.recorded.Recorded.{Recorded}
+use Rattle.cdb_record.specs.declared.recorded.Left.{Left}
 
 pub before_nth : {A : Type 0} (xs : List A) (at : ℕ) (x : A) → 1 ≤ at → nth xs at ≡ Some x → slice_get xs (at - 1) ≡ Some x
 before_nth xs zero x from_one at = absurd (omega (arith, from_one))
@@ -16,11 +16,11 @@ before_nth xs (suc i) x from_one at = ap (slice_get xs) (less_one i) ∙ at
     less_one i = omega arith
 
 -- entries are put together from events and what they left, one for each
-pub events_push : {B : Type 0} (entries : List (Entry B)) (event : Event) (left : Left B) → events_of (entries ++ entry_of event left ∷ []) ≡ events_of entries ++ event ∷ []
+pub events_push : {B : Type 0} (entries : List (Recorded B)) (event : Event) (left : Left B) → events_of (entries ++ recorded_of event left ∷ []) ≡ events_of entries ++ event ∷ []
 events_push [] event left = refl
 events_push (x ∷ xs) event left = ap (λ l. x.event ∷ l) (events_push xs event left)
 
-pub events_without : {B : Type 0} (entries : List (Entry B)) (i : ℕ) → events_of (without entries i) ≡ without (events_of entries) i
+pub events_without : {B : Type 0} (entries : List (Recorded B)) (i : ℕ) → events_of (without entries i) ≡ without (events_of entries) i
 events_without [] i = refl
 events_without (x ∷ xs) zero = refl
 events_without (x ∷ xs) (suc i) = ap (λ l. x.event ∷ l) (events_without xs i)
@@ -38,41 +38,41 @@ same_length_without (x ∷ xs) (y ∷ ys) zero same = omega (arith, same)
 same_length_without (x ∷ xs) (y ∷ ys) (suc i) same = let rest = same_length_without xs ys i (omega (arith, same)) in omega (arith, rest)
 
 module _ {B : Type 0} where
-  events_entries : (events : List Event) (lefts : List (Left B)) → length lefts ≡ length events → events_of (entries_of events lefts) ≡ events
+  events_entries : (events : List Event) (lefts : List (Left B)) → length lefts ≡ length events → events_of (records_of events lefts) ≡ events
   events_entries [] lefts same = refl
   events_entries (event ∷ events) [] same = absurd (omega (arith, same))
   events_entries (event ∷ events) (left ∷ lefts) same = ap (λ l. event ∷ l) (events_entries events lefts (omega (arith, same)))
 
   -- the events that a contract sees
-  pub history_seen : (events : List Event) (lefts : List (Left B)) {entries : List (Entry B)} → length lefts ≡ length events → entries_of events lefts ≡ entries → events ≡ events_of entries
+  pub history_seen : (events : List Event) (lefts : List (Left B)) {entries : List (Recorded B)} → length lefts ≡ length events → records_of events lefts ≡ entries → events ≡ events_of entries
   history_seen events lefts same is = sym (events_entries events lefts same) ∙ ap events_of is
 
-  pub length_entries : (events : List Event) (lefts : List (Left B)) → length lefts ≡ length events → length (entries_of events lefts) ≡ length events
+  pub length_entries : (events : List Event) (lefts : List (Left B)) → length lefts ≡ length events → length (records_of events lefts) ≡ length events
   length_entries [] lefts same = refl
   length_entries (event ∷ events) [] same = absurd (omega (arith, same))
   length_entries (event ∷ events) (left ∷ lefts) same = let rest = length_entries events lefts (omega (arith, same)) in omega (arith, rest)
 
-  pub entries_push : (events : List Event) (lefts : List (Left B)) (event : Event) (left : Left B) → length lefts ≡ length events → entries_of (events ++ event ∷ []) (lefts ++ left ∷ []) ≡ entries_of events lefts ++ entry_of event left ∷ []
+  pub entries_push : (events : List Event) (lefts : List (Left B)) (event : Event) (left : Left B) → length lefts ≡ length events → records_of (events ++ event ∷ []) (lefts ++ left ∷ []) ≡ records_of events lefts ++ recorded_of event left ∷ []
   entries_push [] [] event left same = refl
   entries_push [] (y ∷ lefts) event left same = absurd (omega (arith, same))
   entries_push (x ∷ events) [] event left same = absurd (omega (arith, same))
-  entries_push (x ∷ events) (y ∷ lefts) event left same = ap (λ l. entry_of x y ∷ l) (entries_push events lefts event left (omega (arith, same)))
+  entries_push (x ∷ events) (y ∷ lefts) event left same = ap (λ l. recorded_of x y ∷ l) (entries_push events lefts event left (omega (arith, same)))
 
-  pub entries_without : (events : List Event) (lefts : List (Left B)) (i : ℕ) → length lefts ≡ length events → entries_of (without events i) (without lefts i) ≡ without (entries_of events lefts) i
+  pub entries_without : (events : List Event) (lefts : List (Left B)) (i : ℕ) → length lefts ≡ length events → records_of (without events i) (without lefts i) ≡ without (records_of events lefts) i
   entries_without [] lefts i same = refl
   entries_without (x ∷ events) [] i same = absurd (omega (arith, same))
   entries_without (x ∷ events) (y ∷ lefts) zero same = refl
-  entries_without (x ∷ events) (y ∷ lefts) (suc i) same = ap (λ l. entry_of x y ∷ l) (entries_without events lefts i (omega (arith, same)))
+  entries_without (x ∷ events) (y ∷ lefts) (suc i) same = ap (λ l. recorded_of x y ∷ l) (entries_without events lefts i (omega (arith, same)))
 
-  entry_at : (events : List Event) (lefts : List (Left B)) (i : ℕ) (event : Event) (left : Left B) → slice_get events i ≡ Some event → slice_get lefts i ≡ Some left → slice_get (entries_of events lefts) i ≡ Some (entry_of event left)
+  entry_at : (events : List Event) (lefts : List (Left B)) (i : ℕ) (event : Event) (left : Left B) → slice_get events i ≡ Some event → slice_get lefts i ≡ Some left → slice_get (records_of events lefts) i ≡ Some (recorded_of event left)
   entry_at [] lefts i event left at left_at = absurd (none-some event at)
   entry_at (x ∷ events) [] i event left at left_at = absurd (none-some left left_at)
   entry_at (x ∷ events) (y ∷ lefts) zero event left at left_at =
-      ap₂ (λ e l. Some (entry_of e l)) (same_Some x event at) (same_Some y left left_at)
+      ap₂ (λ e l. Some (recorded_of e l)) (same_Some x event at) (same_Some y left left_at)
   entry_at (x ∷ events) (y ∷ lefts) (suc i) event left at left_at = entry_at events lefts i event left at left_at
 
   -- the entry at a position from 1
-  pub entry_stood : (events : List Event) (lefts : List (Left B)) (at : ℕ) (event : Event) (left : Left B) → 1 ≤ at → nth events at ≡ Some event → slice_get lefts (at - 1) ≡ Some left → nth (entries_of events lefts) at ≡ Some (entry_of event left)
+  pub entry_stood : (events : List Event) (lefts : List (Left B)) (at : ℕ) (event : Event) (left : Left B) → 1 ≤ at → nth events at ≡ Some event → slice_get lefts (at - 1) ≡ Some left → nth (records_of events lefts) at ≡ Some (recorded_of event left)
   entry_stood events lefts zero event left from_one stood left_at = absurd (omega (arith, from_one))
   entry_stood events lefts (suc i) event left from_one stood left_at = entry_at events lefts i event left stood (ap (slice_get lefts) (less_one i) ∙ left_at)
     where

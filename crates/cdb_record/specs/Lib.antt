@@ -1,5 +1,5 @@
 -- what a reader of the contracts believes: what stands, what is counted of it, and what is taken back
-pub mod Entries
+pub mod Recorded
 pub mod Adding
 pub mod Counts
 pub mod Taken

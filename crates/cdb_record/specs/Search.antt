@@ -3,21 +3,21 @@ use Rattle.std.specs.Prelude.{◌≡◌, ℕ, ◌-◌, ◌≤◌, List, Option, 
 use Rattle.cdb_base.specs.declared.event.Event.{Event}
 use Rattle.cdb_causal.specs.Causality.{IsFree}
 use Rattle.cdb_causal.specs.Dependence.{depends}
-use Rattle.cdb_record.specs.Entries.{events_of}
+use Rattle.cdb_record.specs.Recorded.{events_of}
 use Rattle.cdb_record.specs.Taken.{IsTakenOut, IsStepOf, IsLastStepOf}
-use Rattle.cdb_record.specs.declared.entry.Entry.{Entry}
+use Rattle.cdb_record.specs.declared.recorded.Recorded.{Recorded}
 
 -- the event at position i is not free, and nothing has changed
-abbrev pub IsKept : {B : Type 0} → List (Entry B) → ℕ → List (Entry B) → Type 0
+abbrev pub IsKept : {B : Type 0} → List (Recorded B) → ℕ → List (Recorded B) → Type 0
 IsKept old i new = (IsFree depends (events_of old) i → ⊥) × (new ≡ old)
 
 -- it was free, and it was taken out
-abbrev pub IsTakenFree : {B : Type 0} → List (Entry B) → ℕ → Entry B → List (Entry B) → Type 0
-IsTakenFree old i entry new = IsFree depends (events_of old) i × IsTakenOut old i entry new
+abbrev pub IsTakenFree : {B : Type 0} → List (Recorded B) → ℕ → Recorded B → List (Recorded B) → Type 0
+IsTakenFree old i recorded new = IsFree depends (events_of old) i × IsTakenOut old i recorded new
 
--- the one or the other, by whether an entry is returned
-abbrev pub TakesFree : {B : Type 0} → List (Entry B) → ℕ → Option (Entry B) → List (Entry B) → Type 0
-TakesFree old i result new = MatchOption result (IsKept old i new) (λ entry. IsTakenFree old i entry new)
+-- the one or the other, by whether one is returned
+abbrev pub TakesFree : {B : Type 0} → List (Recorded B) → ℕ → Option (Recorded B) → List (Recorded B) → Type 0
+TakesFree old i result new = MatchOption result (IsKept old i new) (λ recorded. IsTakenFree old i recorded new)
 
 -- the position, which counts from 1, is that of the last step of process p; none says that no step of it stands
 abbrev pub IsLastStepOrNone : List Event → ℕ → Option ℕ → Type 0

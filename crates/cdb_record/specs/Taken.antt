@@ -1,16 +1,16 @@
--- What is taken out of a list of entries.
+-- What is taken out of a list of recorded events.
 use Rattle.std.specs.Prelude.{◌≡◌, ℕ, ◌≤◌, IsTrue, List, Option, Some, MatchOption, slice_get}
 use Rattle.cdb_base.specs.Event.{is_step_of}
 use Rattle.cdb_base.specs.declared.event.Event.{Event}
 use Rattle.cdb_causal.specs.Causality.{IsFree}
 use Rattle.cdb_causal.specs.Dependence.{depends}
 use Rattle.cdb_causal.specs.Rollback.{without}
-use Rattle.cdb_record.specs.Entries.{events_of}
-use Rattle.cdb_record.specs.declared.entry.Entry.{Entry}
+use Rattle.cdb_record.specs.Recorded.{events_of}
+use Rattle.cdb_record.specs.declared.recorded.Recorded.{Recorded}
 
--- the entry stood at position i, and the others are left
-abbrev pub IsTakenOut : {B : Type 0} → List (Entry B) → ℕ → Entry B → List (Entry B) → Type 0
-IsTakenOut entries i entry left = (slice_get entries i ≡ Some entry) × (left ≡ without entries i)
+-- the recorded event stood at position i, and the others are left
+abbrev pub IsTakenOut : {B : Type 0} → List (Recorded B) → ℕ → Recorded B → List (Recorded B) → Type 0
+IsTakenOut records i recorded left = (slice_get records i ≡ Some recorded) × (left ≡ without records i)
 
 -- a step of process p stands at position i
 abbrev pub IsStepOf : List Event → ℕ → ℕ → Type 0
@@ -21,8 +21,8 @@ abbrev pub IsLastStepOf : List Event → ℕ → ℕ → Type 0
 IsLastStepOf history p i = IsStepOf history p i × ((j : ℕ) → IsStepOf history p j → j ≤ i)
 
 -- an event of that description is taken out where one stands free; where none does, nothing has changed
-abbrev pub TakesWhereFree : {B : Type 0} → (List Event → ℕ → Type 0) → Option (Entry B) → List (Entry B) → List (Entry B) → Type 0
+abbrev pub TakesWhereFree : {B : Type 0} → (List Event → ℕ → Type 0) → Option (Recorded B) → List (Recorded B) → List (Recorded B) → Type 0
 TakesWhereFree Is result old new =
     MatchOption result
     (((i : ℕ) → Is (events_of old) i → IsFree depends (events_of old) i → ⊥) × (new ≡ old))
-    (λ entry. (i : ℕ) × Is (events_of old) i × IsFree depends (events_of old) i × IsTakenOut old i entry new)
+    (λ recorded. (i : ℕ) × Is (events_of old) i × IsFree depends (events_of old) i × IsTakenOut old i recorded new)

@@ -1,8 +1,8 @@
 //! Records of standing events, by which they are taken back.
 #![tactic(auto)]
 
-mod entry;
+mod recorded;
 mod records;
 
-pub use entry::{Entry, Left};
+pub use recorded::{Left, Recorded};
 pub use records::Records;

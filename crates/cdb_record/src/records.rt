@@ -13,11 +13,11 @@ ghost use Rattle.cdb_causal.specs.Rollback.{without};
 ghost use Rattle.cdb_causal.specs.Standing.{HasNoLostCopy};
 ghost use Rattle.cdb_record.specs.Adding.{IsAddedBy};
 ghost use Rattle.cdb_record.specs.Counts.{IsCountOf, IsZeroWhereFree};
-ghost use Rattle.cdb_record.specs.Entries.{events_of};
+ghost use Rattle.cdb_record.specs.Recorded.{events_of};
 ghost use Rattle.cdb_record.specs.Search.{TakesFree, IsLastStepOrNone};
 ghost use Rattle.cdb_record.specs.Taken.{IsLastStepOf, TakesWhereFree};
 
-use crate::entry::{Entry, Left};
+use crate::recorded::{Left, Recorded};
 use cdb_base::{CopyName, Event, NoMemory, Proc, StepId};
 use cdb_causal::{History, count_direct_dependents, first_dependent};
 use cdb_log::Log;
@@ -25,7 +25,7 @@ use std::alloc::Global;
 use std::marker::Model;
 
 /// The records of the standing events, in the order in which these were taken. A contract sees the
-/// list of their entries. Positions count from 1.
+/// list of recorded events. Positions count from 1.
 #[derive(Drop)]
 pub struct Records<B: Drop> {
     history: History,
@@ -35,13 +35,13 @@ pub struct Records<B: Drop> {
 
 impl<B: Drop> Model for Records<B> {
     ghost use Rattle.std.specs.Prelude.{◌≡◌, ◌≤◌, List, length};
-    ghost use Rattle.cdb_record.specs.declared.entry.Entry.{Entry};
+    ghost use Rattle.cdb_record.specs.declared.recorded.Recorded.{Recorded};
 
-    ghost Value = { List (Entry B) };
+    ghost Value = { List (Recorded B) };
 
-    ghost use Rattle.cdb_record.specs.Entries.{entries_of};
+    ghost use Rattle.cdb_record.specs.Recorded.{records_of};
 
-    ghost view = { λ records. entries_of records.history records.left.items };
+    ghost view = { λ records. records_of records.history records.left.items };
 
     ghost invariant = { λ records. (length records.left.items ≡ length records.history)
         × (length records.history ≤ 4294967295) };
@@ -113,18 +113,18 @@ impl<B: Drop> Records<B> {
         Ok(())
     }
 
-    /// Takes the free event at a position out, from 1 to the number of events, with its entry. It takes
-    /// no memory.
-    pub fn take_out(&mut self, at: usize) -> Entry<B>
+    /// Takes the free event at a position out, from 1 to the number of events, with what it left. It
+    /// takes no memory.
+    pub fn take_out(&mut self, at: usize) -> Recorded<B>
         requires from_one { 1 ≤ at }
         requires to_len { at ≤ length self.old }
         requires free { IsFree depends_of (events_of self.old) (at - 1) }
-        ensures entry { nth self.old at ≡ Some result }
+        ensures recorded { nth self.old at ≡ Some result }
         ensures rest { self.new ≡ without self.old (at - 1) }
     {
         let event = self.history.remove(at);
         let Left { back, overwritten } = self.left.take_out(at - 1);
-        Entry {
+        Recorded {
             event,
             back,
             overwritten,
@@ -132,7 +132,7 @@ impl<B: Drop> Records<B> {
     }
 
     /// Takes the event at a position out where it is free.
-    fn take_free(&mut self, at: usize) -> Option<Entry<B>>
+    fn take_free(&mut self, at: usize) -> Option<Recorded<B>>
         requires from_one { 1 ≤ at }
         requires to_len { at ≤ length self.old }
         ensures { TakesFree self.old (at - 1) result self.new }
@@ -145,7 +145,7 @@ impl<B: Drop> Records<B> {
 
     /// Takes the last step of a process out, where one stands and no event depends on it; else
     /// nothing changes. It takes no memory.
-    pub fn take_last_of(&mut self, p: Proc) -> Option<Entry<B>>
+    pub fn take_last_of(&mut self, p: Proc) -> Option<Recorded<B>>
         ensures { TakesWhereFree (λ history i. IsLastStepOf history p i) result self.old self.new }
     {
         let at = last_of(&self.history, p)?;
@@ -154,7 +154,7 @@ impl<B: Drop> Records<B> {
 
     /// Takes the loss of a copy out, where it stands and no event depends on it; else nothing
     /// changes. It takes no memory.
-    pub fn take_lost(&mut self, copy: CopyName) -> Option<Entry<B>>
+    pub fn take_lost(&mut self, copy: CopyName) -> Option<Recorded<B>>
         ensures { TakesWhereFree (λ history i. IsNamedAt history i (named.Lost copy)) result
             self.old self.new }
     {

@@ -14,6 +14,6 @@ CanName (Step p k) = IsWithin 1 9 p × (k ≤ MAX_STEPS)
 CanName (Lost s m p) = IsWithin 1 9 s × (m ≤ MAX_STEPS) × IsWithin 1 9 p
 
 -- a step by its process and number, a loss by the message and the process for which the copy was meant
-abbrev pub name_of : EventRef → StepId
-name_of (Step p k) = named.Step (record { p = p; k = k })
-name_of (Lost s m p) = named.Lost (copy_name (message_name s m) p)
+abbrev pub name_given : EventRef → StepId
+name_given (Step p k) = named.Step (record { p = p; k = k })
+name_given (Lost s m p) = named.Lost (copy_name (message_name s m) p)

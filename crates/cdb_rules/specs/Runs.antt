@@ -175,7 +175,7 @@ abbrev pub after_rollback_at : RunView → ℕ → RunView
 after_rollback_at run position = with_history run (remaining depends run.history position)
 
 -- the result says that, through a view of what it holds
-abbrev pub Tells : {A B : Type 0} → (A → B) → Result A Refusal → Result B Refusal → Type 0
+abbrev pub Tells : {A B E : Type 0} → (A → B) → Result A E → Result B E → Type 0
 Tells view answer told = MatchResult answer (λ a. told ≡ Ok (view a)) (λ why. told ≡ Err why)
 
 -- the result is the position, from 1, of the event of the name, or why there is none
@@ -214,6 +214,10 @@ IsJustTaken run event before = undo_in run (event_name event) ≡ Ok (event, bef
 -- the event can be undone: it stands, and no standing event depends on it
 abbrev pub CanUndo : RunView → StepId → Type 0
 CanUndo run name = IsFreeName run.history name
+
+-- what a rollback took back leads back: taken again in order, to the state of the run before
+abbrev pub RollbackLeadsBack : {L : Type 0} → Table L → RunView → StepId → RunView → Type 0
+RollbackLeadsBack table run name left = AllLeadTo table left (reverse (removed_by_rollback run name)) run
 
 -- A rollback that adds what it takes back to the end of a list, and returns how many events that are: with a refusal
 -- nothing is taken back, and out of memory run and list are as they were; a refusal needs no memory.

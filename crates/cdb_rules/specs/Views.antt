@@ -39,9 +39,13 @@ decision_of rules history p = option_and_then (λ shown. shown.decision) (rules.
 abbrev pub cells_of : RegisterStates → List Cell
 cells_of registers = map (λ register. register.cell) (registers.of_processes ++ option_to_list registers.of_decision)
 
--- the copies that a process can still receive: receiver, message and payload
+-- the copy of a message for a process, where the message was sent: receiver, message and payload
+abbrev pub shown_copy : MailState → ℕ → MsgName → List (ℕ × MsgName × Payload)
+shown_copy mail p name = map (λ payload. (p, name, payload)) (option_to_list (payload_of mail name))
+
+-- the copies that a process can still receive
 abbrev pub open_copies : MailState → ℕ → List (ℕ × MsgName × Payload)
-open_copies mail p = flat_map (λ name. map (λ payload. (p, name, payload)) (option_to_list (payload_of mail name))) (copies_for mail p)
+open_copies mail p = flat_map (shown_copy mail p) (copies_for mail p)
 
 -- those of all processes, by receiver, and then by message
 abbrev pub all_open_copies : MailState → List (ℕ × MsgName × Payload)

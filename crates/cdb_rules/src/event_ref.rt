@@ -1,6 +1,6 @@
 //! An event by the numbers that a session gives.
 ghost use Rattle.std.specs.Prelude.{◌≡◌, IfSome, IsSome};
-ghost use Rattle.cdb_rules.specs.EventRefs.{name_of, CanName};
+ghost use Rattle.cdb_rules.specs.EventRefs.{name_given, CanName};
 
 use cdb_base::{CopyName, MsgName, Proc, StepId, StepName};
 
@@ -16,7 +16,7 @@ pub enum EventRef {
 impl EventRef {
     /// The name, where its numbers fit into one.
     pub fn id(self) -> Option<StepId>
-        ensures value { IfSome result (λ id. id ≡ name_of self) }
+        ensures value { IfSome result (λ id. id ≡ name_given self) }
         ensures some { CanName self → IsSome result }
     {
         match self {

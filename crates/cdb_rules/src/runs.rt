@@ -1,6 +1,6 @@
 //! What is asked of a run.
 
-ghost use Rattle.std.specs.Prelude.{◌≡◌, ◌≤◌, List, [], None, MatchResult, IfOk, OnErr, IsOk, Err, true, length, option_map, vec_capacity};
+ghost use Rattle.std.specs.Prelude.{◌≡◌, ◌≤◌, List, [], None, IfOk, OnErr, IsOk, true, length, option_map, vec_capacity};
 ghost use Rattle.std.specs.Option.{option_copied};
 ghost use Rattle.std.specs.Result.{result_err};
 ghost use Rattle.cdb_base.specs.declared.event.Event.{Event};
@@ -9,9 +9,9 @@ ghost use Rattle.cdb_rules.specs.RunView.{RunView};
 ghost use Rattle.cdb_rules.specs.Lawful.{AreLawful, KeepHistories};
 ghost use Rattle.cdb_rules.specs.Refusals.{IsOfRun};
 ghost use Rattle.cdb_rules.specs.Rules.{Rules};
-ghost use Rattle.cdb_rules.specs.Runs.{RollsBackOnto, undo_answer, causes_in, with_answer, after_undo};
+ghost use Rattle.cdb_rules.specs.Runs.{RollsBackOnto, Tells, undo_answer, causes_in, with_answer, after_undo};
 ghost use Rattle.cdb_rules.specs.Step.{is_among};
-ghost use Rattle.cdb_rules.specs.EventRefs.{name_of};
+ghost use Rattle.cdb_rules.specs.EventRefs.{name_given};
 ghost use Rattle.cdb_rules.specs.Views.{seen_as, cells_of, all_open_copies};
 ghost use Rattle.cdb_message.specs.Mail.{next_pending, payload_of};
 ghost use Rattle.cdb_setup.specs.Parts.{Parts, AreInRange};
@@ -74,12 +74,12 @@ pub trait Runs: Sized + Drop {
     /// Takes a standing event back on which no standing event depends, or returns the first refusal
     /// that holds, and then the run is as it was.
     fn undo(&mut self, name: EventRef) -> Result<Event, Refusal>
-        ensures answer { result ≡ undo_answer (run self.old) (name_of name) }
-        ensures after { run self.new ≡ after_undo (run self.old) (name_of name) };
+        ensures answer { result ≡ undo_answer (run self.old) (name_given name) }
+        ensures after { run self.new ≡ after_undo (run self.old) (name_given name) };
 
     /// What `undo` would be refused with, if it would be.
     fn refuses_undo(&self, name: EventRef) -> Option<Refusal>
-        ensures { result ≡ result_err (undo_answer (run self.now) (name_of name)) };
+        ensures { result ≡ result_err (undo_answer (run self.now) (name_given name)) };
 
     /// Takes a standing event back with its consequences, adds them to a list, the last first, and
     /// returns how many they are. After a refusal and after `NoMemory` run and list are as they were.
@@ -90,7 +90,7 @@ pub trait Runs: Sized + Drop {
         taken: &mut Vec<Event>,
     ) -> Result<Result<u32, Refusal>, NoMemory>
         requires { length (run self.old).history ≤ 999999 }
-        ensures rolled_back { RollsBackOnto (run self.old) (run self.new) (name_of name)
+        ensures rolled_back { RollsBackOnto (run self.old) (run self.new) (name_given name)
             taken.old.items taken.new.items result }
         ensures capacity { vec_capacity taken.old ≤ vec_capacity taken.new };
 
@@ -131,10 +131,9 @@ pub trait Runs: Sized + Drop {
         alloc: Global,
         name: EventRef,
     ) -> Result<(StepId, SmallVec<StepId, 9>), Refusal>
-        ensures { MatchResult (causes_in (run self.now) (name_of name))
-            (λ causes.
-            IfOk result (λ r. (r.0 ≡ name_of name) × (r.1.items ≡ causes)) × IsOk result)
-            (λ why. result ≡ Err why) };
+        ensures name { IfOk result (λ r. r.0 ≡ name_given name) }
+        ensures causes { Tells (λ r. r.1.items) result
+            (causes_in (run self.now) (name_given name)) };
 
     /// The process of that number as it is shown, where there is one.
     fn view(&self, p: u32) -> Option<ProcView>

@@ -9,8 +9,8 @@ use Rattle.cdb_causal.specs.Standing.{IsStanding, HasNoLostCopy}
 use Rattle.cdb_causal.proofs.Lists.{push_front, push_back}
 use Rattle.cdb_causal.proofs.Reaches.{reached_push}
 use Rattle.cdb_message.specs.Mail.{MailState}
-use Rattle.cdb_record.specs.Entries.{events_of}
-use Rattle.cdb_record.specs.declared.entry.Entry.{Entry}
+use Rattle.cdb_record.specs.Recorded.{events_of}
+use Rattle.cdb_record.specs.declared.recorded.Recorded.{Recorded}
 use Rattle.cdb_register.specs.Registers.{RegisterStates}
 use Rattle.cdb_run.specs.Current.{IsCurrent}
 use Rattle.cdb_rules.specs.State.{Machine, start}
@@ -30,12 +30,12 @@ module _ (history : List Event) (event : Event) (standing : IsStanding (history 
   no_lost_copy i copy at = standing.lost_after_sent i (length history) copy event (slice_get_within history i _ at) (push_front history event _ i at) (push_back history event)
 
 -- what stands at a position, as an event
-pub nth_events : {B : Type 0} (entries : List (Entry B)) (at : ℕ) (entry : Entry B) → nth entries at ≡ Some entry → nth (events_of entries) at ≡ Some entry.event
+pub nth_events : {B : Type 0} (entries : List (Recorded B)) (at : ℕ) (entry : Recorded B) → nth entries at ≡ Some entry → nth (events_of entries) at ≡ Some entry.event
 nth_events entries zero entry at = absurd (none-some entry at)
-nth_events {B} entries (suc i) entry at = slice_get-map (λ (x : Entry B). x.event) entries i ∙ ap (option_map (λ (x : Entry B). x.event)) at
+nth_events {B} entries (suc i) entry at = slice_get-map (λ (x : Recorded B). x.event) entries i ∙ ap (option_map (λ (x : Recorded B). x.event)) at
 
 -- what an enabled event leaves stands as a history
-pub enabled_standing : {L B : Type 0} {machine : Machine L} {before : L → B → L} {processes : List (Progress L)} {mail : MailState} {registers : RegisterStates} {history : List Event} {entries : List (Entry B)} (current : IsCurrent machine before processes mail registers history entries) (event : Event)
+pub enabled_standing : {L B : Type 0} {machine : Machine L} {before : L → B → L} {processes : List (Progress L)} {mail : MailState} {registers : RegisterStates} {history : List Event} {entries : List (Recorded B)} (current : IsCurrent machine before processes mail registers history entries) (event : Event)
     → IsSome (after machine (state_of machine history) event) → length machine.firsts ≤ 9 → IsStanding (history ++ event ∷ [])
 enabled_standing {machine = machine} {history = history} current event enabled few =
     valid_standing machine (history ++ event ∷ [])

@@ -5,7 +5,7 @@ use Rattle.cdb_base.specs.Registers.{same_register}
 use Rattle.cdb_base.specs.declared.register.Reg.{Reg}
 use Rattle.cdb_base.specs.declared.register.Reg.TheVariants.{R, Dec}
 use Rattle.cdb_run.specs.declared.own_steps.WriteCounts.{WriteCounts}
-use Rattle.cdb_run.specs.WriteCounts.{count_of}
+use Rattle.cdb_run.specs.WriteCounts.{writes_counted}
 use Rattle.cdb_rules.proofs.Positions.{nth-set_nth_other}
 
 raised_at : (xs : List ℕ) (i : ℕ) → i < length xs → unwrap_or (slice_get (slice_set xs i (slice_index xs i + 1)) i) 0 ≡ unwrap_or (slice_get xs i) 0 + 1
@@ -13,7 +13,7 @@ raised_at [] i within = absurd (omega (arith, within))
 raised_at (x ∷ xs) zero within = refl
 raised_at (x ∷ xs) (suc i) within = raised_at xs i (omega (arith, within))
 
-pub counted_of_process : (counts : WriteCounts) (i p : ℕ) → i + 1 ≡ p → i < length counts.of_processes → (register : Reg) → count_of (record counts { of_processes = slice_set counts.of_processes i (slice_index counts.of_processes i + 1) }) register ≡ (if same_register (R p) register then count_of counts register + 1 else count_of counts register)
+pub counted_of_process : (counts : WriteCounts) (i p : ℕ) → i + 1 ≡ p → i < length counts.of_processes → (register : Reg) → writes_counted (record counts { of_processes = slice_set counts.of_processes i (slice_index counts.of_processes i + 1) }) register ≡ (if same_register (R p) register then writes_counted counts register + 1 else writes_counted counts register)
 counted_of_process counts i p is within Dec = refl
 counted_of_process counts i p is within (R q) =
     elim (nat_eq p q) as (λ b. nat_eq p q ≡ b → unwrap_or (nth (slice_set counts.of_processes i (slice_index counts.of_processes i + 1)) q) 0 ≡ (if b then unwrap_or (nth counts.of_processes q) 0 + 1 else unwrap_or (nth counts.of_processes q) 0)) [

@@ -16,9 +16,9 @@ use Rattle.cdb_causal.proofs.Paths.{path_push}
 use Rattle.std.specs.FinSet as set
 use Rattle.cdb_base.specs.declared.name.CopyName.{CopyName}
 use Rattle.cdb_message.specs.Mail.{MailState, is_sent, is_received, is_lost, add_loss}
-use Rattle.cdb_record.specs.Entries.{events_of, entry_of}
-use Rattle.cdb_record.specs.declared.entry.Entry.{Entry}
-use Rattle.cdb_record.specs.declared.entry.Left.{Left}
+use Rattle.cdb_record.specs.Recorded.{events_of, recorded_of}
+use Rattle.cdb_record.specs.declared.recorded.Recorded.{Recorded}
+use Rattle.cdb_record.specs.declared.recorded.Left.{Left}
 use Rattle.cdb_register.specs.Registers.{RegisterStates, register_of}
 use Rattle.cdb_register.specs.declared.RegisterState.{RegisterState}
 use Rattle.cdb_run.specs.Back.{put_back, overwritten_cell}
@@ -66,19 +66,19 @@ is_at_most : (n p : ℕ) → is_among n p ≡ true → p ≤ n
 is_at_most n p h = grind (arith, nat_tests)
 
 -- recorded events lead where the events lead
-led_reached : {L B : Type 0} (machine : Machine L) (before : L → B → L) (state to : RunState L) (entries : List (Entry B)) → IsPath (IsRecorded machine before) state entries to → reached (after machine) state (events_of entries) ≡ Some to
+led_reached : {L B : Type 0} (machine : Machine L) (before : L → B → L) (state to : RunState L) (entries : List (Recorded B)) → IsPath (IsRecorded machine before) state entries to → reached (after machine) state (events_of entries) ≡ Some to
 led_reached machine before state to [] p = ap Some p
 led_reached machine before state to (entry ∷ entries) p =
     ap (option_and_then (λ next. reached (after machine) next (events_of entries))) p.1.leads ∙ led_reached machine before p.0 to entries p.2
 
 -- a run is sound wherever recorded events lead it
-path_sound : {L B : Type 0} (machine : Machine L) (before : L → B → L) (state to : RunState L) (entries : List (Entry B)) → IsPath (IsRecorded machine before) state entries to → IsSound machine state → IsSound machine to
+path_sound : {L B : Type 0} (machine : Machine L) (before : L → B → L) (state to : RunState L) (entries : List (Recorded B)) → IsPath (IsRecorded machine before) state entries to → IsSound machine state → IsSound machine to
 path_sound machine before state to [] p sound = subst (IsSound machine) p sound
 path_sound machine before state to (entry ∷ entries) p sound =
     path_sound machine before p.0 to entries p.2 (event_sound machine state p.0 entry.event p.1.leads sound)
 
 module _ {L B : Type 0} {machine : Machine L} {before : L → B → L} where
-  module _ {processes : List (Progress L)} {mail : MailState} {registers : RegisterStates} {history : List Event} {entries : List (Entry B)} (current : IsCurrent machine before processes mail registers history entries) where
+  module _ {processes : List (Progress L)} {mail : MailState} {registers : RegisterStates} {history : List Event} {entries : List (Recorded B)} (current : IsCurrent machine before processes mail registers history entries) where
     pub valid : fold machine history ≡ Some current.state
     valid = ap (fold machine) current.history_is ∙ led_reached machine before (start machine) current.state entries current.led
 
@@ -165,7 +165,7 @@ module _ {L B : Type 0} {machine : Machine L} {before : L → B → L} where
             (writable_by machine taken.process (mail_of current.state) current.state.registers p kind a.due a.met (writes_below machine current.state sound few)))
 
         -- what is held after the step
-        pub current_stepped : (left_progress : Progress L) (kept : Left B) {left_processes : List (Progress L)} {left_mail : MailState} {left_registers : RegisterStates} {left_history : List Event} {left_entries : List (Entry B)}
+        pub current_stepped : (left_progress : Progress L) (kept : Left B) {left_processes : List (Progress L)} {left_mail : MailState} {left_registers : RegisterStates} {left_history : List Event} {left_entries : List (Recorded B)}
             → left_processes ≡ set_nth processes p left_progress
             → taken_local machine.next progress.local (input_of kind (sight mail registers p kind)) ≡ Some left_progress.local
             → left_progress ≡ progress_after progress kind left_progress.local
@@ -174,11 +174,11 @@ module _ {L B : Type 0} {machine : Machine L} {before : L → B → L} where
             → put_back before left_progress.local kept.back ≡ progress.local
             → kept.overwritten ≡ overwritten_cell registers kind
             → left_history ≡ history ++ Step p k kind ∷ []
-            → left_entries ≡ entries ++ entry_of (Step p k kind) kept ∷ []
+            → left_entries ≡ entries ++ recorded_of (Step p k kind) kept ∷ []
             → IsCurrent machine before left_processes left_mail left_registers left_history left_entries
         current_stepped left_progress kept {left_entries = left_entries} processes_left next counted mail_left_is registers_left_is back_is overwritten_is history_left entries_left =
             let event : Event = Step p k kind in
-            let entry : Entry B = entry_of event kept in
+            let entry : Recorded B = recorded_of event kept in
             let process = taken.process in
             let left = process_after machine process p k kind (sight_in current.state p kind) taken.next in
             let to = reached_to.0 in
@@ -215,7 +215,7 @@ module _ {L B : Type 0} {machine : Machine L} {before : L → B → L} where
                   ∙ ap (λ (x : RunState L). x.registers) taken.leads_to;
               history_is =
                   history_left ∙ ap (λ h. h ++ event ∷ []) current.history_is
-                  ∙ sym (ap events_of entries_left ∙ map-append (λ (e : Entry B). e.event) entries (entry ∷ []));
+                  ∙ sym (ap events_of entries_left ∙ map-append (λ (e : Recorded B). e.event) entries (entry ∷ []));
             }
 
     module _ (copy : CopyName) (enabled : IsSome (after machine (state_of machine history) (Lost copy))) where
@@ -255,12 +255,12 @@ module _ {L B : Type 0} {machine : Machine L} {before : L → B → L} where
           omega (arith, last, count)
 
       -- what is held after the loss
-      pub current_lost : {left_mail : MailState} {left_history : List Event} {left_entries : List (Entry B)}
+      pub current_lost : {left_mail : MailState} {left_history : List Event} {left_entries : List (Recorded B)}
           → left_mail ≡ add_loss mail copy → left_history ≡ history ++ Lost copy ∷ [] → left_entries ≡ entries ++ record { event = Lost copy; back = None; overwritten = None } ∷ []
           → IsCurrent machine before processes left_mail registers left_history left_entries
       current_lost {left_entries = left_entries} mail_left history_left entries_left =
           let event : Event = Lost copy in
-          let entry : Entry B = record { event = event; back = None; overwritten = None } in
+          let entry : Recorded B = record { event = event; back = None; overwritten = None } in
           let to : RunState L = record current.state { lost = set.insert current.state.lost copy } in
           let leads : after machine current.state event ≡ Some to =
           ap (λ b. if b then Some (record current.state { lost = set.insert current.state.lost copy }) else None) (ap (λ m. may_lose machine m copy) (sym current.mail_is) ∙ may_be_lost) in
@@ -272,5 +272,5 @@ module _ {L B : Type 0} {machine : Machine L} {before : L → B → L} where
             registers_are = current.registers_are;
             history_is =
                 history_left ∙ ap (λ h. h ++ event ∷ []) current.history_is
-                ∙ sym (ap events_of entries_left ∙ map-append (λ (e : Entry B). e.event) entries (entry ∷ []));
+                ∙ sym (ap events_of entries_left ∙ map-append (λ (e : Recorded B). e.event) entries (entry ∷ []));
           }

@@ -15,18 +15,18 @@ use Rattle.cdb_causal.specs.Rollback.{without}
 use Rattle.cdb_causal.proofs.Paths.{free_last}
 use Rattle.cdb_causal.proofs.Reaches.{two_parts, two_taken}
 use Rattle.cdb_causal.proofs.Symmetry.{depends-symmetric, other_process, unaffected}
-use Rattle.cdb_record.specs.Entries.{events_of}
-use Rattle.cdb_record.specs.declared.entry.Entry.{Entry}
+use Rattle.cdb_record.specs.Recorded.{events_of}
+use Rattle.cdb_record.specs.declared.recorded.Recorded.{Recorded}
 use Rattle.cdb_register.specs.declared.RegisterState.{RegisterState}
 use Rattle.cdb_run.specs.Back.{overwritten_cell}
-use Rattle.cdb_run.specs.Recorded.{IsRecorded, LeadsBack, overwritten_by}
+use Rattle.cdb_run.specs.Recorded.{IsRecorded, PutsBack, overwritten_by}
 use Rattle.cdb_rules.specs.State.{Machine, RunState}
 use Rattle.cdb_rules.specs.Step.{after}
 use Rattle.cdb_rules.proofs.Commutes.{after_commutes, lost_from}
 use Rattle.cdb_rules.proofs.Kept.{nat_eq-ne, affects_read, process_kept, register_kept}
 use Rattle.cdb_rules.proofs.Taken.{IsTaken, taken_from}
 
-abbrev pub entries_depend : {B : Type 0} → Entry B → Entry B → Bool
+abbrev pub entries_depend : {B : Type 0} → Recorded B → Recorded B → Bool
 entries_depend first second = depends first.event second.event
 
 module _ {L : Type 0} (machine : Machine L) where
@@ -53,7 +53,7 @@ module _ {L : Type 0} (machine : Machine L) where
 
   module _ {B : Type 0} (before : L → B → L) where
     module _ (state to other_state other_to : RunState L) where
-      back_kept : (event : Event) (back : Option B) → IsAlike other_state state event → IsAlike other_to to event → LeadsBack before state event back to → LeadsBack before other_state event back other_to
+      back_kept : (event : Event) (back : Option B) → IsAlike other_state state event → IsAlike other_to to event → PutsBack before state event back to → PutsBack before other_state event back other_to
       back_kept (Step p k kind) back was is h = λ process left at at_left. h process left (was.0 ∙ at) (is.0 ∙ at_left)
       back_kept (Lost copy) back was is h = h
 
@@ -61,7 +61,7 @@ module _ {L : Type 0} (machine : Machine L) where
       overwritten_kept (Step p k kind) was = was.1
       overwritten_kept (Lost copy) was = refl
 
-      recorded_kept : (entry : Entry B) → IsAlike other_state state entry.event → IsAlike other_to to entry.event → after machine other_state entry.event ≡ Some other_to → IsRecorded machine before state entry to → IsRecorded machine before other_state entry other_to
+      recorded_kept : (entry : Recorded B) → IsAlike other_state state entry.event → IsAlike other_to to entry.event → after machine other_state entry.event ≡ Some other_to → IsRecorded machine before state entry to → IsRecorded machine before other_state entry other_to
       recorded_kept entry was is leads recorded =
           record {
             leads = leads;
@@ -88,17 +88,17 @@ module _ {L : Type 0} (machine : Machine L) where
               swapped.2 one,
         )
 
-    pub get-events : (entries : List (Entry B)) (i : ℕ) (entry : Entry B) → slice_get entries i ≡ Some entry → slice_get (events_of entries) i ≡ Some entry.event
+    pub get-events : (entries : List (Recorded B)) (i : ℕ) (entry : Recorded B) → slice_get entries i ≡ Some entry → slice_get (events_of entries) i ≡ Some entry.event
     get-events [] i entry at = absurd (none-some entry at)
-    get-events (x ∷ xs) zero entry at = ap (option_map (λ (e : Entry B). e.event)) at
+    get-events (x ∷ xs) zero entry at = ap (option_map (λ (e : Recorded B). e.event)) at
     get-events (x ∷ xs) (suc i) entry at = get-events xs i entry at
 
     -- an event that is free in the history is free among the recorded events
-    free_recorded : (entries : List (Entry B)) (i : ℕ) → IsFree depends (events_of entries) i → IsFree entries_depend entries i
+    free_recorded : (entries : List (Recorded B)) (i : ℕ) → IsFree depends (events_of entries) i → IsFree entries_depend entries i
     free_recorded entries i free j l =
         free j (record { cause = l.cause.event; effect = l.effect.event; later = l.later; at_cause = get-events entries i l.cause l.at_cause; at_effect = get-events entries j l.effect l.at_effect; linked = l.linked })
 
     -- the others lead to a state from which the free one, with its record, leads to the state that was reached
-    pub free_recorded_last : (state to : RunState L) (entries : List (Entry B)) (i : ℕ) (entry : Entry B) → slice_get entries i ≡ Some entry → IsFree depends (events_of entries) i → IsPath (IsRecorded machine before) state entries to → (last : RunState L) × IsPath (IsRecorded machine before) state (without entries i) last × IsRecorded machine before last entry to
+    pub free_recorded_last : (state to : RunState L) (entries : List (Recorded B)) (i : ℕ) (entry : Recorded B) → slice_get entries i ≡ Some entry → IsFree depends (events_of entries) i → IsPath (IsRecorded machine before) state entries to → (last : RunState L) × IsPath (IsRecorded machine before) state (without entries i) last × IsRecorded machine before last entry to
     free_recorded_last state to entries i entry at free led =
         free_last (IsRecorded machine before) entries_depend recorded_exchange state to entries i entry at (free_recorded entries i free) led

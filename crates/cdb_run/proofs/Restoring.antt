@@ -21,15 +21,15 @@ use Rattle.cdb_causal.specs.Rollback.{without}
 use Rattle.cdb_message.specs.Mail.{MailState, message_name, copy_name, sent_by, is_sent, is_received, is_lost, add_send, remove_send, remove_loss}
 use Rattle.cdb_message.specs.Names.{NameSet}
 use Rattle.cdb_message.proofs.TakenBack.{remove_receive-add_receive, remove_loss-add_loss}
-use Rattle.cdb_record.specs.Entries.{events_of}
-use Rattle.cdb_record.specs.declared.entry.Entry.{Entry}
+use Rattle.cdb_record.specs.Recorded.{events_of}
+use Rattle.cdb_record.specs.declared.recorded.Recorded.{Recorded}
 use Rattle.cdb_register.proofs.Changes.{with_register-back}
 use Rattle.cdb_register.specs.Registers.{RegisterStates, register_of, with_register, written}
 use Rattle.cdb_register.specs.declared.RegisterState.{RegisterState}
 use Rattle.cdb_run.specs.Back.{put_back, overwritten_cell}
 use Rattle.cdb_run.specs.Current.{IsCurrent}
 use Rattle.cdb_rules.specs.Mail.{mail_of, mail_after}
-use Rattle.cdb_run.specs.Recorded.{IsRecorded, LeadsBack, overwritten_by}
+use Rattle.cdb_run.specs.Recorded.{IsRecorded, PutsBack, overwritten_by}
 use Rattle.cdb_run.specs.Restored.{queries_before, progress_before, mail_before, registers_before, IsCountable, IsUnpostable, IsRestorable}
 use Rattle.cdb_rules.specs.State.{Machine, ProcessState, RunState, start}
 use Rattle.cdb_rules.specs.Step.{wished_payload, wished_cell, after}
@@ -55,7 +55,7 @@ set_nth-set_nth_same [] (suc i) x y = refl
 set_nth-set_nth_same (z ∷ zs) (suc zero) x y = refl
 set_nth-set_nth_same (z ∷ zs) (suc (suc i)) x y = ap (λ l. z ∷ l) (set_nth-set_nth_same zs (suc i) x y)
 
-events-without : {B : Type 0} (entries : List (Entry B)) (i : ℕ) → without (events_of entries) i ≡ events_of (without entries i)
+events-without : {B : Type 0} (entries : List (Recorded B)) (i : ℕ) → without (events_of entries) i ≡ events_of (without entries i)
 events-without [] i = refl
 events-without (x ∷ xs) zero = refl
 events-without (x ∷ xs) (suc i) = ap (λ l. x.event ∷ l) (events-without xs i)
@@ -241,7 +241,7 @@ module _ {L : Type 0} (machine : Machine L) (last to : RunState L) (p k : ℕ) (
         ∙ ap (set_nth (map progress last.processes) p) progress_restored
         ∙ set_nth_same (map progress last.processes) p t.process.progress (nth-map progress last.processes p ∙ ap (option_map progress) t.at_process)
 
-module _ {L B : Type 0} {machine : Machine L} {before : L → B → L} {processes : List (Progress L)} {mail : MailState} {registers : RegisterStates} {history : List Event} {entries : List (Entry B)} (current : IsCurrent machine before processes mail registers history entries) (i : ℕ) (entry : Entry B) (at : slice_get entries i ≡ Some entry) (free : IsFree depends history i) where
+module _ {L B : Type 0} {machine : Machine L} {before : L → B → L} {processes : List (Progress L)} {mail : MailState} {registers : RegisterStates} {history : List Event} {entries : List (Recorded B)} (current : IsCurrent machine before processes mail registers history entries) (i : ℕ) (entry : Recorded B) (at : slice_get entries i ≡ Some entry) (free : IsFree depends history i) where
   -- the state before the free event, which the others reach
   earlier : (last : RunState L) × IsPath (IsRecorded machine before) (start machine) (without entries i) last × IsRecorded machine before last entry current.state
   earlier = free_recorded_last machine before (start machine) current.state entries i entry at (subst (λ h. IsFree depends h i) current.history_is free) current.led
@@ -250,7 +250,7 @@ module _ {L B : Type 0} {machine : Machine L} {before : L → B → L} {processe
   last = earlier.0
 
   -- what is held where that state is
-  abbrev current_left : {left_processes : List (Progress L)} {left_mail : MailState} {left_registers : RegisterStates} {left_history : List Event} {left_entries : List (Entry B)}
+  abbrev current_left : {left_processes : List (Progress L)} {left_mail : MailState} {left_registers : RegisterStates} {left_history : List Event} {left_entries : List (Recorded B)}
       → left_processes ≡ map (λ process. process.progress) last.processes → left_mail ≡ mail_of last → left_registers ≡ last.registers → left_history ≡ without history i → left_entries ≡ without entries i
       → IsCurrent machine before left_processes left_mail left_registers left_history left_entries
   current_left processes_left mail_left registers_left history_left entries_left =
@@ -282,7 +282,7 @@ module _ {L B : Type 0} {machine : Machine L} {before : L → B → L} {processe
 
     step_leads_back : put_back before stands_now.progress.local entry.back ≡ step_taken.process.progress.local
     step_leads_back =
-        subst (λ e. LeadsBack before last e entry.back current.state) is earlier.2.back
+        subst (λ e. PutsBack before last e entry.back current.state) is earlier.2.back
         step_taken.process stands_now step_taken.at_process (left_there machine last current.state p k kind step_taken)
 
     cell_is : entry.overwritten ≡ overwritten_cell last.registers kind
@@ -319,7 +319,7 @@ module _ {L B : Type 0} {machine : Machine L} {before : L → B → L} {processe
       may_count_back = subst (λ (x : Progress L). IsCountable x kind) (sym progress_is) (progress_countable machine last current.state p k kind step_taken)
 
       -- what is held once the step is taken back
-      pub current_undone : (left_progress : Progress L) (index : ℕ) {left_mail : MailState} {left_registers : RegisterStates} {left_history : List Event} {left_entries : List (Entry B)}
+      pub current_undone : (left_progress : Progress L) (index : ℕ) {left_mail : MailState} {left_registers : RegisterStates} {left_history : List Event} {left_entries : List (Recorded B)}
           → index + 1 ≡ p
           → left_progress ≡ progress_before before progress kind entry.back
           → left_mail ≡ mail_before mail p kind
@@ -349,7 +349,7 @@ module _ {L B : Type 0} {machine : Machine L} {before : L → B → L} {processe
     is_lost_now = ap (λ m. is_lost m copy) current.mail_is ∙ now_lost machine last current.state copy loss_led
 
     -- what is held once the loss is taken back
-    pub current_found : {left_mail : MailState} {left_history : List Event} {left_entries : List (Entry B)}
+    pub current_found : {left_mail : MailState} {left_history : List Event} {left_entries : List (Recorded B)}
         → left_mail ≡ remove_loss mail copy → left_history ≡ without history i → left_entries ≡ without entries i
         → IsCurrent machine before processes left_mail registers left_history left_entries
     current_found mail_left history_left entries_left =

@@ -6,8 +6,8 @@ use Rattle.cdb_base.specs.Positions.{nth}
 use Rattle.cdb_base.specs.declared.event.Event.{Event}
 use Rattle.cdb_causal.specs.Paths.{IsPath}
 use Rattle.cdb_message.specs.Mail.{MailState, first_mail}
-use Rattle.cdb_record.specs.Entries.{events_of}
-use Rattle.cdb_record.specs.declared.entry.Entry.{Entry}
+use Rattle.cdb_record.specs.Recorded.{events_of}
+use Rattle.cdb_record.specs.declared.recorded.Recorded.{Recorded}
 use Rattle.cdb_register.specs.Registers.{RegisterStates, fresh_registers}
 use Rattle.cdb_run.specs.Current.{IsCurrent}
 use Rattle.cdb_rules.specs.Machines.{first_states}
@@ -47,7 +47,7 @@ all_fresh : {L : Type 0} (firsts : List L) → map fresh_progress firsts ≡ map
 all_fresh [] = refl
 all_fresh (x ∷ xs) = ap (λ l. fresh_progress x ∷ l) (all_fresh xs)
 
-pub current_at_start : {L B : Type 0} (machine : Machine L) (before : L → B → L) (n : ℕ) (processes : List (Progress L)) (mail : MailState) (registers : RegisterStates) (history : List Event) (entries : List (Entry B))
+pub current_at_start : {L B : Type 0} (machine : Machine L) (before : L → B → L) (n : ℕ) (processes : List (Progress L)) (mail : MailState) (registers : RegisterStates) (history : List Event) (entries : List (Recorded B))
     → length machine.firsts ≡ n → processes ≡ map fresh_progress machine.firsts → mail ≡ first_mail n
     → registers ≡ fresh_registers (if machine.has_registers then n else 0) → history ≡ [] → entries ≡ []
     → IsCurrent machine before processes mail registers history entries

@@ -14,7 +14,7 @@ use Rattle.cdb_base.specs.declared.name.MsgName.{MsgName}
 use Rattle.cdb_base.specs.declared.refusal.Refusal.{Refusal}
 use Rattle.cdb_base.specs.declared.refusal.Refusal.TheVariants.{NoProcess}
 use Rattle.cdb_message.specs.Mail.{MailState, copy_name}
-use Rattle.cdb_record.specs.declared.entry.Entry.{Entry}
+use Rattle.cdb_record.specs.declared.recorded.Recorded.{Recorded}
 use Rattle.cdb_register.specs.Registers.{RegisterStates}
 use Rattle.cdb_run.specs.Current.{IsCurrent}
 use Rattle.cdb_rules.specs.Mail.{mail_of}
@@ -30,7 +30,7 @@ use Rattle.cdb_rules.proofs.Planned.{planned_enabled}
 use Rattle.cdb_setup.proofs.InRange.{answer_in_range}
 use Rattle.cdb_setup.specs.Parts.{Parts, IsWithin, AreInRange, answer_of}
 
-module _ {L B : Type 0} {machine : Machine L} {before : L → B → L} {processes : List (Progress L)} {mail : MailState} {registers : RegisterStates} {history : List Event} {entries : List (Entry B)} (current : IsCurrent machine before processes mail registers history entries) (n : ℕ) (number : length machine.firsts ≡ n) where
+module _ {L B : Type 0} {machine : Machine L} {before : L → B → L} {processes : List (Progress L)} {mail : MailState} {registers : RegisterStates} {history : List Event} {entries : List (Recorded B)} (current : IsCurrent machine before processes mail registers history entries) (n : ℕ) (number : length machine.firsts ≡ n) where
   pub index_below : (i p : ℕ) → i + 1 ≡ p → p ≤ n → i < length processes
   index_below i p position last = let count = count_is current in omega (arith, position, last, count, number)
 
@@ -100,7 +100,7 @@ within_among n (Some found) within leader answered = subst (λ l. is_among n l �
     tests : (n l : ℕ) → 1 ≤ l → l ≤ n → is_among n l ≡ true
     tests n l first last = grind (arith, nat_tests)
 
-module _ {L B : Type 0} {machine : Machine L} {before : L → B → L} {processes : List (Progress L)} {mail : MailState} {registers : RegisterStates} {history : List Event} {entries : List (Entry B)} (current : IsCurrent machine before processes mail registers history entries) where
+module _ {L B : Type 0} {machine : Machine L} {before : L → B → L} {processes : List (Progress L)} {mail : MailState} {registers : RegisterStates} {history : List Event} {entries : List (Recorded B)} (current : IsCurrent machine before processes mail registers history entries) where
   pub loss_shown : (setup : Parts) (name : MsgName) (p : ℕ) (answer : Result Event Refusal) → answer ≡ unless_refused (first_refusal (lose_checks setup mail name p)) (Some (Lost (copy_name name p))) → answer ≡ lose_answer setup (state_of machine history) name p
   loss_shown setup name p answer planned_is =
       planned_is
@@ -126,7 +126,7 @@ module _ {L B : Type 0} {machine : Machine L} {before : L → B → L} {processe
   pub receivers_shown : length mail.received ≡ length machine.firsts
   receivers_shown = ap (λ (m : MailState). length m.received) current.mail_is ∙ length-map current.state.processes (λ (x : ProcessState L). x.received) ∙ (sound current).count
 
-module _ {L B : Type 0} {machine : Machine L} {before : L → B → L} {processes : List (Progress L)} {mail : MailState} {registers : RegisterStates} {history : List Event} {entries : List (Entry B)} (current : IsCurrent machine before processes mail registers history entries) (setup : Parts) (number : length machine.firsts ≡ setup.processes) (ranges : AreInRange setup) (lawful : IsLawful machine) where
+module _ {L B : Type 0} {machine : Machine L} {before : L → B → L} {processes : List (Progress L)} {mail : MailState} {registers : RegisterStates} {history : List Event} {entries : List (Recorded B)} (current : IsCurrent machine before processes mail registers history entries) (setup : Parts) (number : length machine.firsts ≡ setup.processes) (ranges : AreInRange setup) (lawful : IsLawful machine) where
   -- a step that is not refused is enabled
   pub answer_enabled : (p : ℕ) (act : Act) (event : Event) → step_answer machine setup (state_of machine history) p act ≡ Ok event → IsSome (after machine (state_of machine history) event)
   answer_enabled p act event answered =

@@ -3,7 +3,7 @@ use Rattle.std.specs.Prelude.{◌≡◌, ℕ, ◌<◌, ◌≤◌, IsSome, Some}
 use Rattle.cdb_base.specs.Positions.{nth, set_nth}
 use Rattle.cdb_base.specs.declared.event.Kind.{Kind}
 use Rattle.cdb_process.specs.Table.{Table}
-use Rattle.cdb_record.specs.declared.entry.Left.{Left}
+use Rattle.cdb_record.specs.declared.recorded.Left.{Left}
 use Rattle.cdb_rules.specs.Mail.{mail_after, IsPostable}
 use Rattle.cdb_rules.specs.Taking.{progress_after, registers_after}
 use Rattle.cdb_rules.specs.declared.progress.Progress.{Progress}

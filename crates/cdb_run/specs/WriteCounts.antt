@@ -5,6 +5,6 @@ use Rattle.cdb_base.specs.declared.register.Reg.{Reg}
 use Rattle.cdb_base.specs.declared.register.Reg.TheVariants.{R, Dec}
 use Rattle.cdb_run.specs.declared.own_steps.WriteCounts.{WriteCounts}
 
-abbrev pub count_of : WriteCounts → Reg → ℕ
-count_of counts (R p) = unwrap_or (nth counts.of_processes p) 0
-count_of counts Dec = counts.of_decision
+abbrev pub writes_counted : WriteCounts → Reg → ℕ
+writes_counted counts (R p) = unwrap_or (nth counts.of_processes p) 0
+writes_counted counts Dec = counts.of_decision

@@ -1,15 +1,11 @@
 //! What holds of the records of a run. The function does nothing: its contract is the law.
 
-ghost use Rattle.std.specs.Prelude.{ℕ};
-ghost use Rattle.cdb_run.specs.Recorded.{OfRecorded, IsFreeEntry, MayComeLast};
+ghost use Rattle.cdb_run.specs.Recorded.{OfRecorded, OfFree, MayComeLast};
 ghost use Rattle.cdb_rules.specs.State.{Machine};
-
-use cdb_record::Entry;
 
 /// Recorded events lead to a state. Where one of them is free, the others, each with the record that
 /// it has, lead to a state from which that one, with its record, leads to the end.
 pub fn undo_with_records<L, B>()
-    ensures { OfRecorded (λ (machine : Machine L) (before : L → B → L) from entries to.
-        (i : ℕ) (entry : Entry B) → IsFreeEntry entries i entry →
-        MayComeLast machine before from entries i entry to) }
+    ensures { OfRecorded (λ (machine : Machine L) (before : L → B → L) from records to.
+        OfFree records (λ i recorded. MayComeLast machine before from records i recorded to)) }
 {}

@@ -19,10 +19,10 @@ struct WriteCounts {
 }
 
 impl WriteCounts {
-    ghost use Rattle.cdb_run.specs.WriteCounts.{count_of};
+    ghost use Rattle.cdb_run.specs.WriteCounts.{writes_counted};
 
     fn new() -> Self
-        ensures { (register : ARegister) → count_of result register ≡ 0 }
+        ensures { (register : ARegister) → writes_counted result register ≡ 0 }
     {
         WriteCounts {
             of_processes: [0; 9],
@@ -32,7 +32,7 @@ impl WriteCounts {
 
     /// How many writes of the register were counted.
     fn get(&self, register: Reg) -> usize
-        ensures { result ≡ count_of self.now register }
+        ensures { result ≡ writes_counted self.now register }
     {
         match register {
             Reg::R(p) => self.of_processes[p.index()],
@@ -42,7 +42,7 @@ impl WriteCounts {
 
     /// Of the register that the event reads or writes, how many writes were counted.
     fn met_by(&self, event: &Event) -> Option<usize>
-        ensures { result ≡ writes_met (count_of self.now) event.now }
+        ensures { result ≡ writes_met (writes_counted self.now) event.now }
     {
         match event {
             Event::Step {
@@ -59,9 +59,9 @@ impl WriteCounts {
 
     /// Counts a write of the register.
     fn add(&mut self, register: Reg)
-        requires { count_of self.old register + 1 < 2 ^ 64 }
+        requires { writes_counted self.old register + 1 < 2 ^ 64 }
         ensures { (other : ARegister) →
-            count_of self.new other ≡ with_write (count_of self.old) register other }
+            writes_counted self.new other ≡ with_write (writes_counted self.old) register other }
     {
         match register {
             Reg::R(p) => self.of_processes[p.index()] += 1,
@@ -71,9 +71,9 @@ impl WriteCounts {
 
     /// Counts the event, where it is a write.
     fn count(&mut self, event: &Event)
-        requires { (register : ARegister) → count_of self.old register + 1 < 2 ^ 64 }
-        ensures { (register : ARegister) →
-            count_of self.new register ≡ writes_with (count_of self.old) event.now register }
+        requires { (register : ARegister) → writes_counted self.old register + 1 < 2 ^ 64 }
+        ensures { (register : ARegister) → writes_counted self.new register
+            ≡ writes_with (writes_counted self.old) event.now register }
     {
         if let Event::Step {
             kind: Kind::Write(register),
@@ -97,15 +97,15 @@ impl<'a> Model for Noted<'a> {
     ghost use Rattle.std.specs.Prelude.{◌+◌, ◌<◌, ◌^◌, List, drop, length};
     ghost use Rattle.cdb_base.specs.declared.register.Reg.{Reg as ARegister};
     ghost use Rattle.cdb_rules.specs.declared.own_event.OwnEvent.{OwnEvent};
-    ghost use Rattle.cdb_run.specs.WriteCounts.{count_of};
+    ghost use Rattle.cdb_run.specs.WriteCounts.{writes_counted};
     ghost use Rattle.cdb_rules.specs.OwnSteps.{noted};
 
     ghost Value = { List OwnEvent };
 
-    ghost view = { λ x. noted (count_of x.writes) (drop x.position x.history.now) };
+    ghost view = { λ x. noted (writes_counted x.writes) (drop x.position x.history.now) };
 
     ghost invariant = { λ x. (register : ARegister) →
-        count_of x.writes register + length (drop x.position x.history.now) < 2 ^ 64 };
+        writes_counted x.writes register + length (drop x.position x.history.now) < 2 ^ 64 };
 }
 
 impl<'a> Noted<'a> {

@@ -40,7 +40,7 @@ pub struct Run<P: Process> {
 }
 
 impl<P: Process> Model for Run<P> {
-    ghost use Rattle.cdb_record.specs.Entries.{events_of};
+    ghost use Rattle.cdb_record.specs.Recorded.{events_of};
     ghost use Rattle.cdb_rules.specs.Machines.{machine_of};
     ghost use Rattle.cdb_rules.specs.RunView.{RunView};
     ghost use Rattle.cdb_run.specs.Current.{IsCurrent};

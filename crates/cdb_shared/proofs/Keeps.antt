@@ -14,7 +14,7 @@ use Rattle.cdb_shared.specs.declared.knowledge.Stage.TheVariants.{Spent, Resting
 use Rattle.cdb_shared.specs.declared.knowledge.KnownSeat.{KnownSeat}
 use Rattle.cdb_shared.specs.declared.knowledge.Story.{Story}
 use Rattle.cdb_shared.specs.declared.knowledge.Knowledge.{Knowledge}
-use Rattle.cdb_shared.specs.Turn.{story, longer, opening, spent, resting, holding, Knows, AllKnow, Turn, InQueue, HeldBy, FitsAt, queued, IsHeld, count_of, total_of, Turns, IsRuled, known_seats_from, seen_at, seen_by, Taken, Given, MayGrow, MayFollow, MayGive, seats_after, NoneStands, without_first, first_alone, joined}
+use Rattle.cdb_shared.specs.Turn.{story, longer, opening, spent, resting, holding, Knows, AllKnow, Whereabouts, InQueue, HeldBy, FitsAt, queued, IsHeld, seat_count, total_of, Turns, IsRuled, known_seats_from, seen_at, seen_by, Taken, Given, MayGrow, MayFollow, MayGive, seats_after, NoneStands, without_first, first_alone, joined}
 
 -- at the start there is one pass, and nothing in the queue
 pub begins : IsRuled [] (opening ∷ [])
@@ -35,66 +35,66 @@ each_set F views pass w mine others j u e =
     (λ (x : (j ≢ pass) × (get_elem? views j ≡ some u)). others j u x.0 x.1)
     (at_set views pass j w u e)
 
-total_set : (n : ℕ) (views : List Knowledge) (pass : ℕ) (v w : Knowledge) → get_elem? views pass ≡ some v → total_of n (set views pass w) + count_of n v.known_seats ≡ total_of n views + count_of n w.known_seats
+total_set : (n : ℕ) (views : List Knowledge) (pass : ℕ) (v w : Knowledge) → get_elem? views pass ≡ some v → total_of n (set views pass w) + seat_count n v.known_seats ≡ total_of n views + seat_count n w.known_seats
 total_set n [] pass v w e = absurd (some-ne-none v (sym e))
-total_set n (x ∷ xs) zero v w e = let same : count_of n x.known_seats ≡ count_of n v.known_seats = ap (λ (u : Knowledge). count_of n u.known_seats) (some-injective x v e) in omega arith
+total_set n (x ∷ xs) zero v w e = let same : seat_count n x.known_seats ≡ seat_count n v.known_seats = ap (λ (u : Knowledge). seat_count n u.known_seats) (some-injective x v e) in omega arith
 total_set n (x ∷ xs) (suc i) v w e = let rest = total_set n xs i v w e in omega arith
 
 -- the seats of one pass
-total_has : (n : ℕ) (views : List Knowledge) (pass : ℕ) (v : Knowledge) → get_elem? views pass ≡ some v → count_of n v.known_seats ≤ total_of n views
+total_has : (n : ℕ) (views : List Knowledge) (pass : ℕ) (v : Knowledge) → get_elem? views pass ≡ some v → seat_count n v.known_seats ≤ total_of n views
 total_has n [] pass v e = absurd (some-ne-none v (sym e))
-total_has n (x ∷ xs) zero v e = let same : count_of n x.known_seats ≡ count_of n v.known_seats = ap (λ (u : Knowledge). count_of n u.known_seats) (some-injective x v e) in omega arith
+total_has n (x ∷ xs) zero v e = let same : seat_count n x.known_seats ≡ seat_count n v.known_seats = ap (λ (u : Knowledge). seat_count n u.known_seats) (some-injective x v e) in omega arith
 total_has n (x ∷ xs) (suc i) v e = let rest = total_has n xs i v e in omega arith
 
 -- the seats of two passes
-total_two : (n : ℕ) (views : List Knowledge) (i j : ℕ) (v u : Knowledge) → i ≢ j → get_elem? views i ≡ some v → get_elem? views j ≡ some u → count_of n v.known_seats + count_of n u.known_seats ≤ total_of n views
+total_two : (n : ℕ) (views : List Knowledge) (i j : ℕ) (v u : Knowledge) → i ≢ j → get_elem? views i ≡ some v → get_elem? views j ≡ some u → seat_count n v.known_seats + seat_count n u.known_seats ≤ total_of n views
 total_two n [] i j v u apart e f = absurd (some-ne-none v (sym e))
 total_two n (x ∷ xs) zero zero v u apart e f = absurd (apart refl)
 total_two n (x ∷ xs) zero (suc j) v u apart e f =
-    let same : count_of n x.known_seats ≡ count_of n v.known_seats = ap (λ (y : Knowledge). count_of n y.known_seats) (some-injective x v e) in
+    let same : seat_count n x.known_seats ≡ seat_count n v.known_seats = ap (λ (y : Knowledge). seat_count n y.known_seats) (some-injective x v e) in
     let rest = total_has n xs j u f in omega arith
 total_two n (x ∷ xs) (suc i) zero v u apart e f =
-    let same : count_of n x.known_seats ≡ count_of n u.known_seats = ap (λ (y : Knowledge). count_of n y.known_seats) (some-injective x u f) in
+    let same : seat_count n x.known_seats ≡ seat_count n u.known_seats = ap (λ (y : Knowledge). seat_count n y.known_seats) (some-injective x u f) in
     let rest = total_has n xs i v e in omega arith
 total_two n (x ∷ xs) (suc i) (suc j) v u apart e f =
     let rest = total_two n xs i j v u (λ same. apart (ap suc same)) e f in omega arith
 
-total_push : (n : ℕ) (views : List Knowledge) (w : Knowledge) → total_of n (views ++ w ∷ []) ≡ total_of n views + count_of n w.known_seats
+total_push : (n : ℕ) (views : List Knowledge) (w : Knowledge) → total_of n (views ++ w ∷ []) ≡ total_of n views + seat_count n w.known_seats
 total_push n [] w = omega arith
 total_push n (x ∷ xs) w = let rest = total_push n xs w in omega arith
 
-count_append : (n : ℕ) (ps qs : List KnownSeat) → count_of n (ps ++ qs) ≡ count_of n ps + count_of n qs
+count_append : (n : ℕ) (ps qs : List KnownSeat) → seat_count n (ps ++ qs) ≡ seat_count n ps + seat_count n qs
 count_append n [] qs = omega arith
 count_append n (p ∷ ps) qs = let rest = count_append n ps qs in omega arith
 
-count_seen : (n : ℕ) (c : Story) (ps : List KnownSeat) → count_of n (seen_by c ps) ≡ count_of n ps
+count_seen : (n : ℕ) (c : Story) (ps : List KnownSeat) → seat_count n (seen_by c ps) ≡ seat_count n ps
 count_seen n c [] = refl
 count_seen n c (p ∷ ps) = let rest = count_seen n c ps in omega arith
 
-count_parts : (n : ℕ) (ps : List KnownSeat) → count_of n (drop 1 ps) + count_of n (take 1 ps) ≡ count_of n ps
+count_parts : (n : ℕ) (ps : List KnownSeat) → seat_count n (drop 1 ps) + seat_count n (take 1 ps) ≡ seat_count n ps
 count_parts n [] = refl
 count_parts n (p ∷ ps) = omega arith
 
-count_alone : (p : KnownSeat) → count_of p.number (p ∷ []) ≡ 1
+count_alone : (p : KnownSeat) → seat_count p.number (p ∷ []) ≡ 1
 count_alone p = ap (λ b. cond b 1 0 + 0) same ∙ refl
   where
     same : (p.number == p.number) ≡ true
     same = grind arith
 
-count_below : (n first many : ℕ) (c : Story) → n < first → count_of n (known_seats_from c first many) ≡ 0
+count_below : (n first many : ℕ) (c : Story) → n < first → seat_count n (known_seats_from c first many) ≡ 0
 count_below n first zero c low = refl
 count_below n first (suc many) c low =
     let apart : (first == n) ≡ false = grind (arith, nat_tests) in
-    ap (λ b. cond b 1 0 + count_of n (known_seats_from c (first + 1) many)) apart ∙ omega (arith, count_below n (first + 1) many c (omega arith))
+    ap (λ b. cond b 1 0 + seat_count n (known_seats_from c (first + 1) many)) apart ∙ omega (arith, count_below n (first + 1) many c (omega arith))
 
-count_next : (n first many : ℕ) (c : Story) (b : Bool) → (first == n) ≡ b → count_of n (known_seats_from c (first + 1) many) ≤ 1 → count_of n (known_seats_from c first (suc many)) ≤ 1
+count_next : (n first many : ℕ) (c : Story) (b : Bool) → (first == n) ≡ b → seat_count n (known_seats_from c (first + 1) many) ≤ 1 → seat_count n (known_seats_from c first (suc many)) ≤ 1
 count_next n first many c true e rest =
     let same : first ≡ n = grind (arith, nat_tests) in
     let none = count_below n (first + 1) many c (omega arith) in
     rw e (omega arith)
 count_next n first many c false e rest = rw e (omega arith)
 
-count_from : (n first many : ℕ) (c : Story) → count_of n (known_seats_from c first many) ≤ 1
+count_from : (n first many : ℕ) (c : Story) → seat_count n (known_seats_from c first many) ≤ 1
 count_from n first zero c = omega arith
 count_from n first (suc many) c = count_next n first many c (first == n) refl (count_from n (first + 1) many c)
 
@@ -126,10 +126,10 @@ apart_from number n rest none same = apart_by (number == n) (grind (arith, nat_t
     apart_by false e h = cc
 
 -- a command of a seat that isn't among these
-AllKnow-push : (c : Story) (ps : List KnownSeat) (seat : ℕ) (command : Command) → count_of seat ps ≡ 0 → AllKnow c ps → AllKnow (longer c seat command) ps
+AllKnow-push : (c : Story) (ps : List KnownSeat) (seat : ℕ) (command : Command) → seat_count seat ps ≡ 0 → AllKnow c ps → AllKnow (longer c seat command) ps
 AllKnow-push c [] seat command none a = tt
 AllKnow-push c (p ∷ ps) seat command none a =
-    let apart = apart_from p.number seat (count_of seat ps) none in (
+    let apart = apart_from p.number seat (seat_count seat ps) none in (
       record {
         setup = a.0.setup;
         seats = a.0.seats;
@@ -140,13 +140,13 @@ AllKnow-push c (p ∷ ps) seat command none a =
     )
 
 -- the holder holds after another pass has changed
-held_set : (turn : Turn) (views : List Knowledge) (pass : ℕ) (v w : Knowledge) → get_elem? views pass ≡ some v → v.stage ≢ Holding → IsHeld turn views → IsHeld turn (set views pass w)
+held_set : (turn : Whereabouts) (views : List Knowledge) (pass : ℕ) (v w : Knowledge) → get_elem? views pass ≡ some v → v.stage ≢ Holding → IsHeld turn views → IsHeld turn (set views pass w)
 held_set InQueue views pass v w at apart held = tt
 held_set (HeldBy h) views pass v w at apart held =
     let differs : h ≢ pass = λ same. apart (ap (λ (u : Knowledge). u.stage) (some-injective v held.0 (sym at ∙ ap (λ i. get_elem? views i) (sym same) ∙ held.1)) ∙ held.2) in
     (held.0, set_else views pass h w differs ∙ held.1, held.2)
 
-held_push : (turn : Turn) (views : List Knowledge) (w : Knowledge) → IsHeld turn views → IsHeld turn (views ++ w ∷ [])
+held_push : (turn : Whereabouts) (views : List Knowledge) (w : Knowledge) → IsHeld turn views → IsHeld turn (views ++ w ∷ [])
 held_push InQueue views w held = tt
 held_push (HeldBy h) views w held = (held.0, at_longer views (w ∷ []) h held.0 held.1, held.2)
 
@@ -156,7 +156,7 @@ here (x ∷ xs) zero v w at = refl
 here (x ∷ xs) (suc i) v w at = here xs i v w at
 
 -- a pass at a stage that is known
-fits_as : (stage : Stage) (c : Story) (turn : Turn) (pass : ℕ) (v : Knowledge) → v.stage ≡ stage → FitsAt v.stage c turn pass v → FitsAt stage c turn pass v
+fits_as : (stage : Stage) (c : Story) (turn : Whereabouts) (pass : ℕ) (v : Knowledge) → v.stage ≡ stage → FitsAt v.stage c turn pass v → FitsAt stage c turn pass v
 fits_as stage c turn pass v is fits = subst (λ (s : Stage). FitsAt s c turn pass v) is fits
 
 resting_apart : (v : Knowledge) → v.stage ≡ Resting → v ≡ opening → ⊥
@@ -165,11 +165,11 @@ resting_apart v rests is = let e : Resting ≡ Holding = sym rests ∙ ap (λ (u
 resting_holds : (v : Knowledge) → v.stage ≡ Resting → v.stage ≢ Holding
 resting_holds v rests holds = let e : Resting ≡ Holding = sym rests ∙ holds in absurd (cc)
 
-stood : (turn : Turn) (c : Story) (x : Journaled) (items : List Journaled) → map story (x ∷ items) ≡ queued turn c → (turn ≡ InQueue) × (story x ≡ c) × (map story items ≡ [])
+stood : (turn : Whereabouts) (c : Story) (x : Journaled) (items : List Journaled) → map story (x ∷ items) ≡ queued turn c → (turn ≡ InQueue) × (story x ≡ c) × (map story items ≡ [])
 stood InQueue c x items e = (refl, (cc), (cc))
 stood (HeldBy h) c x items e = absurd (cc)
 
-take_other : (stage : Stage) (c : Story) (turn : Turn) (pass j : ℕ) (u : Knowledge) → turn ≡ InQueue → FitsAt stage c turn j u → FitsAt stage c (HeldBy pass) j u
+take_other : (stage : Stage) (c : Story) (turn : Whereabouts) (pass j : ℕ) (u : Knowledge) → turn ≡ InQueue → FitsAt stage c turn j u → FitsAt stage c (HeldBy pass) j u
 take_other Spent c turn pass j u none fits = tt
 take_other Resting c turn pass j u none fits = fits
 take_other Holding c turn pass j u none fits = let e : InQueue ≡ HeldBy j = sym none ∙ fits.1 in absurd (cc)
@@ -195,7 +195,7 @@ takes pass v rests x items views (inr t) at =
       (refl, subst (λ (y : Story). AllKnow y v.known_seats) (sym was.1) fits),
     )
 
-give_other : (stage : Stage) (old new : Story) (turn : Turn) (pass j : ℕ) (u : Knowledge) → turn ≡ HeldBy pass → j ≢ pass → (AllKnow old u.known_seats → AllKnow new u.known_seats) → FitsAt stage old turn j u → FitsAt stage new InQueue j u
+give_other : (stage : Stage) (old new : Story) (turn : Whereabouts) (pass j : ℕ) (u : Knowledge) → turn ≡ HeldBy pass → j ≢ pass → (AllKnow old u.known_seats → AllKnow new u.known_seats) → FitsAt stage old turn j u → FitsAt stage new InQueue j u
 give_other Spent old new turn pass j u is apart grow fits = tt
 give_other Resting old new turn pass j u is apart grow fits = grow fits
 give_other Holding old new turn pass j u is apart grow fits = let e : HeldBy pass ≡ HeldBy j = sym is ∙ fits.1 in absurd (apart (cc))
@@ -205,7 +205,7 @@ grown : (before after : Story) (views : List Knowledge) (pass j : ℕ) (v u : Kn
 grown before after views pass j v u (inl same) once apart at other all = subst (λ (c : Story). AllKnow c u.known_seats) (sym same) all
 grown before after views pass j v u (inr (p, command, known_seats, longer)) once apart at other all =
     let two = total_two p.number views pass j v u (λ e. apart (sym e)) at other in
-    let mine : count_of p.number v.known_seats ≡ 1 = ap (count_of p.number) known_seats ∙ count_alone p in
+    let mine : seat_count p.number v.known_seats ≡ 1 = ap (seat_count p.number) known_seats ∙ count_alone p in
     let few = once p.number in
     subst (λ (c : Story). AllKnow c u.known_seats) (sym longer) (AllKnow-push before u.known_seats p.number command (omega arith) all)
 

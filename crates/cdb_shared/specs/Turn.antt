@@ -47,41 +47,41 @@ abbrev pub AllKnow : Story → List KnownSeat → Type 0
 AllKnow c known_seats = AllByRecursion (Knows c) known_seats
 
 -- where the control is: in the queue, or held by a pass
-pub data Turn : Type 0 where
-  InQueue : Turn
-  HeldBy : ℕ → Turn
+pub data Whereabouts : Type 0 where
+  InQueue : Whereabouts
+  HeldBy : ℕ → Whereabouts
 
 -- what the queue then holds
-abbrev pub queued : Turn → Story → List Story
+abbrev pub queued : Whereabouts → Story → List Story
 queued InQueue c = c ∷ []
 queued (HeldBy pass) c = []
 
 -- who holds it then
-abbrev pub IsHeld : Turn → List Knowledge → Type 0
+abbrev pub IsHeld : Whereabouts → List Knowledge → Type 0
 IsHeld InQueue views = Unit {0}
 IsHeld (HeldBy pass) views = (v : Knowledge) × (get_elem? views pass ≡ some v) × (v.stage ≡ Holding)
 
 -- what a pass knows of the control
-abbrev pub FitsAt : Stage → Story → Turn → ℕ → Knowledge → Type 0
+abbrev pub FitsAt : Stage → Story → Whereabouts → ℕ → Knowledge → Type 0
 FitsAt Spent c turn pass v = Unit {0}
 FitsAt Resting c turn pass v = AllKnow c v.known_seats
 FitsAt Holding c turn pass v = AllKnow c v.known_seats × (turn ≡ HeldBy pass) × (v.held ≡ Some c)
 
 -- how many seats of this number are among these
-abbrev pub count_of : ℕ → List KnownSeat → ℕ
-count_of number [] = 0
-count_of number (p ∷ ps) = (if p.number == number then 1 else 0) + count_of number ps
+abbrev pub seat_count : ℕ → List KnownSeat → ℕ
+seat_count number [] = 0
+seat_count number (p ∷ ps) = (if p.number == number then 1 else 0) + seat_count number ps
 
 -- the same over all passes
 abbrev pub total_of : ℕ → List Knowledge → ℕ
 total_of number [] = 0
-total_of number (v ∷ vs) = count_of number v.known_seats + total_of number vs
+total_of number (v ∷ vs) = seat_count number v.known_seats + total_of number vs
 
 -- After the opening: each pass knows the one control, which stands in the queue or is held by one pass, and no
 -- two seats have one number.
 pub record Turns (items : List Journaled) (views : List Knowledge) : Type 0 where
   pub control : Story
-  pub turn : Turn
+  pub turn : Whereabouts
   pub stands : map story items ≡ queued turn control
   pub held : IsHeld turn views
   pub each : (pass : ℕ) (v : Knowledge) → get_elem? views pass ≡ some v → FitsAt v.stage control turn pass v

@@ -14,7 +14,7 @@ use Rattle.cdb_text.specs.Commands.{CommandPart, fixed, number}
 use Rattle.cdb_text.specs.Faults.{IsFirstFaultOfWords}
 use Rattle.cdb_text.specs.Grammar.{AreWordsOf, IsInRange, part_text}
 use Rattle.cdb_text.specs.Keywords.{keyword_name}
-use Rattle.cdb_text.specs.Reading.{◌>>=◌, IsRead, keyword_of, number_at, number_of, word_at}
+use Rattle.cdb_text.specs.Reading.{◌>>=◌, IsReadAfter, keyword_of, number_at, number_of, word_at}
 use Rattle.cdb_text.specs.Verbs.{verb_name}
 use Rattle.cdb_text.proofs.Keys.{keyword_again, keyword_says}
 use Rattle.cdb_text.proofs.Numbers.{number_again, number_says}
@@ -33,8 +33,8 @@ completed parts words command ranges found = (
 )
 
 -- a state finds the command, or the first fault
-read_by : (parts : List CommandPart) (k : Reader) → State parts k → AllByRecursion IsInRange parts → (words : List (List ℕ)) (read : Result Command LineFault) → read ≡ k words → IsRead (map part_text parts) words read
-unfolding IsRead
+read_by : (parts : List CommandPart) (k : Reader) → State parts k → AllByRecursion IsInRange parts → (words : List (List ℕ)) (read : Result Command LineFault) → read ≡ k words → IsReadAfter (map part_text parts) words read
+unfolding IsReadAfter
 read_by parts k at ranges words (Ok command) e = completed parts words command ranges (at.says words command (sym e))
 read_by parts k at ranges words (Err fault) e = at.faults words fault (sym e)
 
@@ -44,7 +44,7 @@ reads_step : Reads (fixed "step" ∷ []) step_at
 unfolding command_at
 reads_step rest = rw (keyword_again key.Step) refl
 
-pub step_read : (words : List (List ℕ)) (read : Result Command LineFault) → read ≡ step_at words → IsRead (codes "step" ∷ []) words read
+pub step_read : (words : List (List ℕ)) (read : Result Command LineFault) → read ≡ step_at words → IsReadAfter (codes "step" ∷ []) words read
 step_read = read_by (fixed "step" ∷ []) step_at (step_state reads_step) (tt, tt)
 
 reads_query : (p : ℕ) → IsInRange (number p) → Reads (step_p p ++ fixed "query" ∷ []) (query_at p)
@@ -52,7 +52,7 @@ unfolding command_at step_at
 reads_query p is rest = rw (keyword_again key.Step, number_again p is.0 is.1, keyword_again key.Query) refl
 
 pub query_read : (p : ℕ) → IsInRange (number p) → (words : List (List ℕ)) (read : Result Command LineFault) → read ≡ query_at p words
-    → IsRead (codes "step" ∷ decimal p ∷ codes "query" ∷ []) words read
+    → IsReadAfter (codes "step" ∷ decimal p ∷ codes "query" ∷ []) words read
 query_read p is = read_by (step_p p ++ fixed "query" ∷ []) (query_at p) (query_state p is (reads_query p is)) (tt, (is, (tt, tt)))
 
 reads_recv : (p : ℕ) → IsInRange (number p) → Reads (step_p p ++ fixed "recv" ∷ []) (recv_at p)
@@ -60,21 +60,21 @@ unfolding command_at step_at
 reads_recv p is rest = rw (keyword_again key.Step, number_again p is.0 is.1, keyword_again key.Recv) refl
 
 pub recv_read : (p : ℕ) → IsInRange (number p) → (words : List (List ℕ)) (read : Result Command LineFault) → read ≡ recv_at p words
-    → IsRead (codes "step" ∷ decimal p ∷ codes "recv" ∷ []) words read
+    → IsReadAfter (codes "step" ∷ decimal p ∷ codes "recv" ∷ []) words read
 recv_read p is = read_by (step_p p ++ fixed "recv" ∷ []) (recv_at p) (recv_state p is (reads_recv p is)) (tt, (is, (tt, tt)))
 
 reads_break : Reads (fixed "break" ∷ []) break_at
 unfolding command_at
 reads_break rest = rw (keyword_again key.Break) refl
 
-pub break_read : (words : List (List ℕ)) (read : Result Command LineFault) → read ≡ break_at words → IsRead (codes "break" ∷ []) words read
+pub break_read : (words : List (List ℕ)) (read : Result Command LineFault) → read ≡ break_at words → IsReadAfter (codes "break" ∷ []) words read
 break_read = read_by (fixed "break" ∷ []) break_at (break_state reads_break) (tt, tt)
 
 reads_show : Reads (fixed "show" ∷ []) show_at
 unfolding command_at
 reads_show rest = rw (keyword_again key.Show) refl
 
-pub show_read : (words : List (List ℕ)) (read : Result Command LineFault) → read ≡ show_at words → IsRead (codes "show" ∷ []) words read
+pub show_read : (words : List (List ℕ)) (read : Result Command LineFault) → read ≡ show_at words → IsReadAfter (codes "show" ∷ []) words read
 show_read = read_by (fixed "show" ∷ []) show_at (show_state reads_show) (tt, tt)
 
 reads_undo : Reads (fixed "undo" ∷ []) (event_at verb.Undo)
@@ -89,18 +89,18 @@ reads_why : Reads (fixed "why" ∷ []) (event_at verb.Why)
 unfolding command_at
 reads_why rest = rw (keyword_again key.Why) refl
 
-pub event_read : (v : Verb) (words : List (List ℕ)) (read : Result Command LineFault) → read ≡ event_at v words → IsRead (verb_name v ∷ []) words read
+pub event_read : (v : Verb) (words : List (List ℕ)) (read : Result Command LineFault) → read ≡ event_at v words → IsReadAfter (verb_name v ∷ []) words read
 event_read verb.Undo = read_by (fixed "undo" ∷ []) (event_at verb.Undo) (event_state verb.Undo "undo" refl (λ p k. refl) (λ s m p. refl) reads_undo) (tt, tt)
 event_read verb.Rollback = read_by (fixed "rollback" ∷ []) (event_at verb.Rollback) (event_state verb.Rollback "rollback" refl (λ p k. refl) (λ s m p. refl) reads_rollback) (tt, tt)
 event_read verb.Why = read_by (fixed "why" ∷ []) (event_at verb.Why) (event_state verb.Why "why" refl (λ p k. refl) (λ s m p. refl) reads_why) (tt, tt)
 
-pub command_read : (words : List (List ℕ)) (read : Result Command LineFault) → read ≡ command_at words → IsRead [] words read
+pub command_read : (words : List (List ℕ)) (read : Result Command LineFault) → read ≡ command_at words → IsReadAfter [] words read
 command_read = read_by [] command_at all_words tt
 
 -- ---- a word further
 
-longer : (before words : List (List ℕ)) (word : List ℕ) (read : Result Command LineFault) → IsRead (before ++ word ∷ []) words read → IsRead before (word ∷ words) read
-unfolding IsRead
+longer : (before words : List (List ℕ)) (word : List ℕ) (read : Result Command LineFault) → IsReadAfter (before ++ word ∷ []) words read → IsReadAfter before (word ∷ words) read
+unfolding IsReadAfter
 longer before words word (Ok command) is = subst (λ (ws : List (List ℕ)). AreWordsOf command ws) (append_assoc before (word ∷ []) words) is
 longer before words word (Err fault) is = subst (λ (ws : List (List ℕ)). IsFirstFaultOfWords fault ws) (append_assoc before (word ∷ []) words) is
 
@@ -112,10 +112,10 @@ word_says (w ∷ ws) word rest e =
 
 -- behind a fixed word
 pub behind_word : (before words : List (List ℕ)) (word : List ℕ) (rest : List (List ℕ)) (k : Keyword) (read : Result Command LineFault) → word_at words ≡ Ok (word, rest) → keyword_of word ≡ Some k
-    → IsRead (before ++ keyword_name k ∷ []) rest read → IsRead before words read
+    → IsReadAfter (before ++ keyword_name k ∷ []) rest read → IsReadAfter before words read
 behind_word before words word rest k read next is then =
     let same : keyword_name k ∷ rest ≡ words = sym (word_says words word rest next ∙ ap (λ (w : List ℕ). w ∷ rest) (keyword_says word k is)) in
-    subst (λ (ws : List (List ℕ)). IsRead before ws read) same (longer before rest (keyword_name k) read then)
+    subst (λ (ws : List (List ℕ)). IsReadAfter before ws read) same (longer before rest (keyword_name k) read then)
 
 some_says : (word : List ℕ) (ws : List (List ℕ)) (found : Option ℕ) (n : ℕ) (rest : List (List ℕ)) → number_of word ≡ found
     → ◌>>=◌ {B = ℕ × List (List ℕ)} (ok_or found Number) (λ m. Ok (m, ws)) ≡ Ok (n, rest) → word ∷ ws ≡ decimal n ∷ rest
@@ -129,6 +129,6 @@ number_at_says [] n rest e = absurd cc
 number_at_says (word ∷ ws) n rest e = some_says word ws (number_of word) n rest refl e
 
 -- behind a number
-pub behind_number : (before words : List (List ℕ)) (n : ℕ) (rest : List (List ℕ)) (read : Result Command LineFault) → number_at words ≡ Ok (n, rest) → IsRead (before ++ decimal n ∷ []) rest read → IsRead before words read
+pub behind_number : (before words : List (List ℕ)) (n : ℕ) (rest : List (List ℕ)) (read : Result Command LineFault) → number_at words ≡ Ok (n, rest) → IsReadAfter (before ++ decimal n ∷ []) rest read → IsReadAfter before words read
 behind_number before words n rest read next then =
-    subst (λ (ws : List (List ℕ)). IsRead before ws read) (sym (number_at_says words n rest next)) (longer before rest (decimal n) read then)
+    subst (λ (ws : List (List ℕ)). IsReadAfter before ws read) (sym (number_at_says words n rest next)) (longer before rest (decimal n) read then)

@@ -13,7 +13,7 @@ use Rattle.cdb_text.specs.declared.keyword.Keyword.TheVariants as key
 use Rattle.cdb_text.specs.Keywords.{keyword_name, keywords}
 use Rattle.cdb_text.specs.Commands.{register}
 use Rattle.cdb_text.specs.Grammar.{part_text, IsInRange}
-use Rattle.cdb_text.specs.Reading.{keyword_of, register_of}
+use Rattle.cdb_text.specs.Reading.{keyword_of, register_named}
 
 found_is : {A : Type 0} (p : A → Bool) (xs : List A) (x : A) → find p xs ≡ Some x → p x ≡ true
 found_is p [] x e = absurd cc
@@ -107,8 +107,8 @@ pub number_is_no_keyword : (n : ℕ) → 1 ≤ n → n ≤ 999999 → keyword_of
 number_is_no_keyword n low high = no_keyword_at (decimal n) (keyword_of (decimal n)) (first_digit n low high) refl
 
 -- each register is read as itself
-pub register_again : (x : Reg) → IsInRange (register x) → register_of (part_text (register x)) ≡ Some x
-unfolding register_of
+pub register_again : (x : Reg) → IsInRange (register x) → register_named (part_text (register x)) ≡ Some x
+unfolding register_named
 register_again Dec is = refl
 register_again (R p) is =
     let low : nat_le 49 (48 + p) ≡ true = le-leb 49 (48 + p) (omega arith) in
@@ -150,8 +150,8 @@ register_says_r word x e =
     ]
 
 -- a word that is read as a register is that register
-pub register_says : (word : List ℕ) (x : Reg) → register_of word ≡ Some x → (word ≡ part_text (register x)) × IsInRange (register x)
-unfolding register_of
+pub register_says : (word : List ℕ) (x : Reg) → register_named word ≡ Some x → (word ≡ part_text (register x)) × IsInRange (register x)
+unfolding register_named
 register_says word x e =
     elim (cases_Bool (bytes_eq word (codes "dec"))) [
       | inl h ↦
@@ -165,7 +165,7 @@ starts_with_letter : (x : Reg) → IsInRange (register x) → 97 ≤ get_or (par
 starts_with_letter (R p) is = lit≤ tt
 starts_with_letter Dec is = lit≤ tt
 
-no_register : (word : List ℕ) (found : Option Reg) → get_or word 0 0 < 97 → register_of word ≡ found → register_of word ≡ None
+no_register : (word : List ℕ) (found : Option Reg) → get_or word 0 0 < 97 → register_named word ≡ found → register_named word ≡ None
 no_register word None low e = e
 no_register word (Some x) low e =
     let says = register_says word x e in
@@ -173,5 +173,5 @@ no_register word (Some x) low e =
     absurd (omega (arith, first, starts_with_letter x says.1))
 
 -- a number is no register
-pub number_is_no_register : (n : ℕ) → 1 ≤ n → n ≤ 999999 → register_of (decimal n) ≡ None
-number_is_no_register n low high = no_register (decimal n) (register_of (decimal n)) (first_digit n low high) refl
+pub number_is_no_register : (n : ℕ) → 1 ≤ n → n ≤ 999999 → register_named (decimal n) ≡ None
+number_is_no_register n low high = no_register (decimal n) (register_named (decimal n)) (first_digit n low high) refl

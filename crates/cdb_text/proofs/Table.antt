@@ -18,7 +18,7 @@ use Rattle.cdb_text.specs.Commands.{CommandPart, fixed, number, register, comman
 use Rattle.cdb_text.specs.Faults.{GoesOn}
 use Rattle.cdb_text.specs.Grammar.{IsInRange, part_text}
 use Rattle.cdb_text.specs.Keywords.{keyword_name}
-use Rattle.cdb_text.specs.Reading.{◌>>=◌, word_at, number_of, register_of, keyword_of, ended}
+use Rattle.cdb_text.specs.Reading.{◌>>=◌, word_at, number_of, register_named, keyword_of, ended}
 use Rattle.cdb_text.specs.Verbs.{on_step, on_loss}
 use Rattle.cdb_text.proofs.Reading.{command_at, step_at, act_of, query_at, break_at, stop_of, show_at, event_at, one_at, two_at, three_at}
 use Rattle.cdb_text.proofs.Keys.{keyword_says, number_is_no_keyword, number_is_no_register, register_says}
@@ -73,7 +73,7 @@ step_state reads =
 abbrev breaks : List CommandPart
 breaks = fixed "break" ∷ []
 
-register_choice : Reads (breaks ++ fixed "write" ∷ []) (stop_of (Some key.Write)) → (word : List ℕ) (found : Option Reg) → register_of word ≡ found
+register_choice : Reads (breaks ++ fixed "write" ∷ []) (stop_of (Some key.Write)) → (word : List ℕ) (found : Option Reg) → register_named word ≡ found
     → Choice (breaks ++ fixed "write" ∷ []) (stop_of (Some key.Write)) Word word
 register_choice reads word None e = inr (λ rest. rw e refl)
 register_choice reads word (Some x) e =

@@ -6,15 +6,15 @@ use Rattle.cdb_text.specs.declared.fault.LineFault.{LineFault}
 use Rattle.cdb_text.specs.declared.fault.LineFault.TheVariants.{Empty, Word, Number, Extra, Missing}
 use Rattle.cdb_text.specs.Faults.{IsFirstFaultOfWords, IsFaultOf}
 use Rattle.cdb_text.specs.Grammar.{AreWordsOf, IsLineOf, words_of}
-use Rattle.cdb_text.specs.Reading.{IsRead, keyword_of}
+use Rattle.cdb_text.specs.Reading.{IsReadAfter, keyword_of}
 use Rattle.cdb_text.proofs.Reading.{command_at}
 use Rattle.cdb_text.proofs.Again.{again}
 use Rattle.cdb_text.proofs.Unique.{one_first_fault, whole_has_no_fault}
 
 -- what is read is the command of the words, or their first fault
 module _ (words : List (List ℕ)) where
-  pub one_command : (read : Result Command LineFault) (command : Command) → IsRead [] words read → (read ≡ Ok command) ↔ AreWordsOf command words
-  unfolding IsRead
+  pub one_command : (read : Result Command LineFault) (command : Command) → IsReadAfter [] words read → (read ≡ Ok command) ↔ AreWordsOf command words
+  unfolding IsReadAfter
   one_command (Ok other) command is = (
     (λ e. let same : other ≡ command = cc in subst (λ (c : Command). AreWordsOf c words) same is),
     (λ whole.
@@ -24,8 +24,8 @@ module _ (words : List (List ℕ)) where
   )
   one_command (Err fault) command is = (λ e. absurd cc, λ whole. absurd (whole_has_no_fault command fault words whole is))
 
-  pub one_fault : (read : Result Command LineFault) (fault : LineFault) → IsRead [] words read → (read ≡ Err fault) ↔ IsFirstFaultOfWords fault words
-  unfolding IsRead
+  pub one_fault : (read : Result Command LineFault) (fault : LineFault) → IsReadAfter [] words read → (read ≡ Err fault) ↔ IsFirstFaultOfWords fault words
+  unfolding IsReadAfter
   one_fault (Ok command) fault is = (λ e. absurd cc, λ first. absurd (whole_has_no_fault command fault words is first))
   one_fault (Err other) fault is = (
     (λ e. let same : other ≡ fault = cc in subst (λ (f : LineFault). IsFirstFaultOfWords f words) same is),
@@ -47,7 +47,7 @@ first_of_line Number line some is = is.1
 first_of_line Extra line some is = is.1
 
 -- a line is refused with a fault exactly where that is its first
-pub fault_of_line : (line : List ℕ) (read : Result Command LineFault) → line ≢ [] → IsRead [] (words_of line) read → (fault : LineFault) → (read ≡ Err fault) ↔ IsFaultOf fault line
+pub fault_of_line : (line : List ℕ) (read : Result Command LineFault) → line ≢ [] → IsReadAfter [] (words_of line) read → (fault : LineFault) → (read ≡ Err fault) ↔ IsFaultOf fault line
 fault_of_line line read some is fault =
     let one = one_fault (words_of line) read fault is in
     (λ e. of_line fault line some (one.0 e), λ first. one.1 (first_of_line fault line some first))

@@ -1,5 +1,5 @@
 -- What is read in the words of a line, from the left.
-use Rattle.std.specs.Prelude.{◌≡◌, ℕ, ◌&&◌, ◌==◌, ◌-◌, ◌++◌, Bool, not, nat_lt, nat_le, List, [], ◌∷◌, length, slice_index, codes, find, Option, Some, None, ok_or, Result, Ok, Err, if◌then◌else◌}
+use Rattle.std.specs.Prelude.{ℕ, ◌&&◌, ◌==◌, ◌-◌, ◌++◌, Bool, not, nat_lt, nat_le, List, [], ◌∷◌, length, slice_index, codes, find, Option, Some, None, ok_or, Result, Ok, Err, if◌then◌else◌}
 use Rattle.std.specs.Str.{bytes_eq, all_ascii_digits}
 use Rattle.std.specs.Str.Parse.{digits_value}
 use Rattle.cdb_base.specs.declared.register.Reg.{Reg}
@@ -53,8 +53,8 @@ is_numbered word =
     && nat_le 49 (slice_index word 1) && nat_le (slice_index word 1) 57
 
 -- `dec`, or `r1` to `r9`
-unfoldable pub register_of : List ℕ → Option Reg
-register_of word =
+unfoldable pub register_named : List ℕ → Option Reg
+register_named word =
     if bytes_eq word (codes "dec")
     then Some Dec
     else (if is_numbered word then Some (R (slice_index word 1 - 48)) else None)
@@ -62,15 +62,10 @@ register_of word =
 abbrev pub register_at : List (List ℕ) → Result (Reg × List (List ℕ)) LineFault
 register_at words = do
   word ← word_at words
-  x ← ok_or (register_of word.0) Word
+  x ← ok_or (register_named word.0) Word
   Ok (x, word.1)
 
--- what a function returned, seen by view, is what reading gives
-abbrev pub Gives : {X Y : Type 0} → (X → Y) → Result X LineFault → Result Y LineFault → Type 0
-Gives view (Ok x) read = read ≡ Ok (view x)
-Gives view (Err fault) read = read ≡ Err fault
-
 -- what is read after these words: the command of all the words, or their first fault
-unfoldable pub IsRead : List (List ℕ) → List (List ℕ) → Result Command LineFault → Type 0
-IsRead before words (Ok command) = AreWordsOf command (before ++ words)
-IsRead before words (Err fault) = IsFirstFaultOfWords fault (before ++ words)
+unfoldable pub IsReadAfter : List (List ℕ) → List (List ℕ) → Result Command LineFault → Type 0
+IsReadAfter before words (Ok command) = AreWordsOf command (before ++ words)
+IsReadAfter before words (Err fault) = IsFirstFaultOfWords fault (before ++ words)

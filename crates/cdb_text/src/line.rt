@@ -6,7 +6,7 @@ ghost use Rattle.cdb_text.specs.declared.fault.LineFault.{LineFault as LineFault
 ghost use Rattle.cdb_text.specs.Grammar.{IsInRange, IsLineOf};
 ghost use Rattle.cdb_text.specs.Faults.{IsFaultOf};
 ghost use Rattle.cdb_text.specs.Commands.{number};
-ghost use Rattle.cdb_text.specs.Reading.{IsRead};
+ghost use Rattle.cdb_text.specs.Reading.{IsReadAfter};
 ghost use Rattle.cdb_text.specs.Verbs.{verb_name};
 
 use crate::fault::LineFault;
@@ -19,7 +19,7 @@ use cdb_control::{Command, Stop, View};
 /// The words after `step P query`.
 fn query(p: u32, mut words: Words<'_>) -> Result<Command, LineFault>
     requires { IsInRange (number p) }
-    ensures { IsRead (codes "step" ∷ decimal p ∷ codes "query" ∷ []) words.entry result }
+    ensures { IsReadAfter (codes "step" ∷ decimal p ∷ codes "query" ∷ []) words.entry result }
 {
     if words.is_empty() {
         return Ok(Command::Step(p, Act::Query(None)));
@@ -31,7 +31,7 @@ fn query(p: u32, mut words: Words<'_>) -> Result<Command, LineFault>
 /// The words after `step P recv`.
 fn recv(p: u32, mut words: Words<'_>) -> Result<Command, LineFault>
     requires { IsInRange (number p) }
-    ensures { IsRead (codes "step" ∷ decimal p ∷ codes "recv" ∷ []) words.entry result }
+    ensures { IsReadAfter (codes "step" ∷ decimal p ∷ codes "recv" ∷ []) words.entry result }
 {
     let sender = words.number()?;
     let number = words.number()?;
@@ -40,7 +40,7 @@ fn recv(p: u32, mut words: Words<'_>) -> Result<Command, LineFault>
 
 /// The words after `step`.
 fn step(mut words: Words<'_>) -> Result<Command, LineFault>
-    ensures { IsRead (codes "step" ∷ []) words.entry result }
+    ensures { IsReadAfter (codes "step" ∷ []) words.entry result }
 {
     let p = words.number()?;
     let word = words.word()?;
@@ -56,7 +56,7 @@ fn step(mut words: Words<'_>) -> Result<Command, LineFault>
 
 /// The words after `break`.
 fn break_at(mut words: Words<'_>) -> Result<Command, LineFault>
-    ensures { IsRead (codes "break" ∷ []) words.entry result }
+    ensures { IsReadAfter (codes "break" ∷ []) words.entry result }
 {
     let word = words.word()?;
     match Keyword::of(word) {
@@ -83,7 +83,7 @@ fn break_at(mut words: Words<'_>) -> Result<Command, LineFault>
 
 /// The words after `show`.
 fn show(mut words: Words<'_>) -> Result<Command, LineFault>
-    ensures { IsRead (codes "show" ∷ []) words.entry result }
+    ensures { IsReadAfter (codes "show" ∷ []) words.entry result }
 {
     let word = words.word()?;
     match Keyword::of(word) {
@@ -99,7 +99,7 @@ fn show(mut words: Words<'_>) -> Result<Command, LineFault>
 
 /// The words after `undo`, `rollback` or `why`.
 fn event(verb: Verb, mut words: Words<'_>) -> Result<Command, LineFault>
-    ensures { IsRead (verb_name verb ∷ []) words.entry result }
+    ensures { IsReadAfter (verb_name verb ∷ []) words.entry result }
 {
     let word = words.word()?;
     match Keyword::of(word) {
@@ -121,7 +121,7 @@ fn event(verb: Verb, mut words: Words<'_>) -> Result<Command, LineFault>
 
 /// The command of a line of words.
 fn command(mut words: Words<'_>) -> Result<Command, LineFault>
-    ensures { IsRead [] words.entry result }
+    ensures { IsReadAfter [] words.entry result }
 {
     let word = words.word()?;
     match Keyword::of(word) {

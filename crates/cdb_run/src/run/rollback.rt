@@ -5,8 +5,8 @@ ghost use Rattle.std.specs.Prelude.{◌≡◌, ℕ, ◌+◌, ◌-◌, ◌<◌, �
 ghost use Rattle.std.specs.Vec.{vec_items};
 ghost use Rattle.cdb_causal.specs.Names.{IsNamedAt};
 ghost use Rattle.cdb_causal.specs.Rollback.{without};
-ghost use Rattle.cdb_rules.specs.EventRefs.{name_of};
-ghost use Rattle.cdb_rules.specs.Runs.{step_name, loss_name, AllLeadTo, RollsBackOnto, Tells, rollback_answer, causes_in, rolled_back_at, after_rollback, after_rollback_at, removed_by_rollback, IsExactRollback, AreCausesOf, with_history};
+ghost use Rattle.cdb_rules.specs.EventRefs.{name_given};
+ghost use Rattle.cdb_rules.specs.Runs.{step_name, loss_name, AllLeadTo, RollsBackOnto, Tells, rollback_answer, causes_in, rolled_back_at, after_rollback, after_rollback_at, RollbackLeadsBack, IsExactRollback, AreCausesOf, with_history};
 ghost use Rattle.cdb_rules.specs.Undo.{IsFreeName};
 
 use crate::run::Run;
@@ -81,13 +81,13 @@ impl<P: Process> Run<P> {
         event: EventRef,
     ) -> Result<Result<Vec<Event>, Refusal>, NoMemory>
         ensures answer { IfOk result
-            (λ r. Tells vec_items r (rollback_answer self.old (name_of event))) }
-        ensures after { OnOk result (self.new ≡ after_rollback self.old (name_of event)) }
-        ensures exact { OnOk result (IsExactRollback self.old (name_of event) self.new) }
+            (λ r. Tells vec_items r (rollback_answer self.old (name_given event))) }
+        ensures after { OnOk result (self.new ≡ after_rollback self.old (name_given event)) }
+        ensures exact { OnOk result (IsExactRollback self.old (name_given event) self.new) }
         ensures again { IfOk result
             (λ r. IfOk r (λ taken. AllLeadTo P.table self.new (reverse taken.items) self.old)) }
         ensures err { OnErr result (self.new ≡ self.old) }
-        ensures memory { OnErr result (IsOk (rollback_answer self.old (name_of event))) }
+        ensures memory { OnErr result (IsOk (rollback_answer self.old (name_given event))) }
     {
         let mut taken = Vec::new(alloc);
         match self.rollback_event(alloc, event, &mut taken)? {
@@ -105,12 +105,11 @@ impl<P: Process> Run<P> {
         event: EventRef,
         taken: &mut Vec<Event>,
     ) -> Result<Result<usize, Refusal>, NoMemory>
-        ensures rolled_back { RollsBackOnto self.old self.new (name_of event)
+        ensures rolled_back { RollsBackOnto self.old self.new (name_given event)
             taken.old.items taken.new.items result }
-        ensures exact { OnOk result (IsExactRollback self.old (name_of event) self.new) }
+        ensures exact { OnOk result (IsExactRollback self.old (name_given event) self.new) }
         ensures again { OnOk result
-            (AllLeadTo P.table self.new
-            (reverse (removed_by_rollback self.old (name_of event))) self.old) }
+            (RollbackLeadsBack P.table self.old (name_given event) self.new) }
         ensures capacity { vec_capacity taken.old ≤ vec_capacity taken.new }
     {
         let _ranges = self.setup().n();
@@ -167,8 +166,9 @@ impl<P: Process> Run<P> {
     /// holds: `NoProcess` or `NoStep`. It takes no memory.
     pub fn causes_of(&self, alloc: Global, event: EventRef) -> Result<SmallVec<StepId, 9>, Refusal>
         ensures answer { Tells (λ causes. causes.items) result
-            (causes_in self.now (name_of event)) }
-        ensures direct { IfOk result (λ causes. AreCausesOf self.now (name_of event) causes.items) }
+            (causes_in self.now (name_given event)) }
+        ensures direct { IfOk result
+            (λ causes. AreCausesOf self.now (name_given event) causes.items) }
     {
         let _ranges = self.setup.n();
         let at = self.find(event)?;

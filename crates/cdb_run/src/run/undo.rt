@@ -6,7 +6,7 @@ ghost use Rattle.cdb_base.specs.Positions.{nth};
 ghost use Rattle.cdb_causal.specs.Causality.{IsFree};
 ghost use Rattle.cdb_causal.specs.Dependence.{depends as depends_of};
 ghost use Rattle.cdb_causal.specs.Rollback.{without};
-ghost use Rattle.cdb_rules.specs.EventRefs.{name_of};
+ghost use Rattle.cdb_rules.specs.EventRefs.{name_given};
 ghost use Rattle.cdb_rules.specs.Runs.{step_name, loss_name, IsPositionFound, CanUndo, LeadsTo, undo_at_position, undo_answer, after_undo, with_history, with_left};
 ghost use Rattle.cdb_rules.specs.Undo.{answered};
 
@@ -15,7 +15,7 @@ use crate::run::Run;
 use cdb_base::{CopyName, Event, MsgName, Refusal, StepId, StepName};
 use cdb_causal::first_dependent;
 use cdb_process::Process;
-use cdb_record::{Entry, Left};
+use cdb_record::{Left, Recorded};
 use cdb_rules::EventRef;
 
 impl<P: Process> Run<P> {
@@ -58,7 +58,7 @@ impl<P: Process> Run<P> {
 
     /// The position, from 1, of a standing event; or the first refusal that holds: `NoProcess` or `NoStep`.
     pub(crate) fn find(&self, event: EventRef) -> Result<usize, Refusal>
-        ensures found { IsPositionFound self.now (name_of event) result }
+        ensures found { IsPositionFound self.now (name_given event) result }
         ensures within { IfOk result (λ at. (1 ≤ at) × (at ≤ length self.now.history)) }
     {
         match event {
@@ -75,7 +75,7 @@ impl<P: Process> Run<P> {
         ensures event { nth self.old.history at ≡ Some result }
         ensures after { self.new ≡ with_history self.old (without self.old.history (at - 1)) }
     {
-        let Entry {
+        let Recorded {
             event,
             back,
             overwritten,
@@ -117,9 +117,9 @@ impl<P: Process> Run<P> {
     /// or `NeededBy` the first standing event that depends on it. After a refusal the run is as it was. It takes no
     /// memory.
     pub fn undo_event(&mut self, event: EventRef) -> Result<Event, Refusal>
-        ensures answer { result ≡ undo_answer self.old (name_of event) }
-        ensures after { self.new ≡ after_undo self.old (name_of event) }
-        ensures free { IsOk result ↔ CanUndo self.old (name_of event) }
+        ensures answer { result ≡ undo_answer self.old (name_given event) }
+        ensures after { self.new ≡ after_undo self.old (name_given event) }
+        ensures free { IsOk result ↔ CanUndo self.old (name_given event) }
         ensures back { IfOk result (λ event. LeadsTo P.table self.new event self.old) }
     {
         let _ranges = self.setup().n();
@@ -130,7 +130,7 @@ impl<P: Process> Run<P> {
 
     /// What `undo_event` would be refused with, if it would be. It takes no memory.
     pub fn refuses_undo(&self, event: EventRef) -> Option<Refusal>
-        ensures { result ≡ result_err (undo_answer self.now (name_of event)) }
+        ensures { result ≡ result_err (undo_answer self.now (name_given event)) }
     {
         match self.find(event) {
             Ok(at) => Some(Refusal::NeededBy(first_dependent(self.history(), at)?)),

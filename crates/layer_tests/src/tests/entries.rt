@@ -2,7 +2,7 @@
 
 use super::events::may_follow;
 use cdb_base::{Cell, CopyName, Event, NoMemory, Proc, StepId, Val};
-use cdb_record::{Entry, Left, Records};
+use cdb_record::{Left, Recorded, Records};
 use std::alloc::Global;
 use std::marker::Model;
 
@@ -20,8 +20,8 @@ impl Model for ExampleRecords {
     ghost view = { λ _. tt };
 }
 
-fn event_of(entry: Option<Entry<u32>>) -> Option<Event> {
-    // Names a type inside an entry, which the check finds in no other part of the function.
+fn event_of(entry: Option<Recorded<u32>>) -> Option<Event> {
+    // Names a type inside a recorded event, which the check finds in no other part of the function.
     let _value: Option<Val> = None;
     match entry {
         Some(entry) => Some(entry.event),
@@ -103,7 +103,7 @@ impl ExampleRecords {
     }
 
     /// Takes the last step of a process out with what it left, where no event needs it.
-    pub fn take_entry_of(&mut self, p: Proc) -> Option<Entry<u32>> {
+    pub fn take_recorded_of(&mut self, p: Proc) -> Option<Recorded<u32>> {
         self.records.take_last_of(p)
     }
 }

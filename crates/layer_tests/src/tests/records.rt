@@ -74,7 +74,9 @@ fn what_it_takes_to_go_back(rt: HostRuntime) -> Result<(), Fail> {
     assert!(rt; records.add_with(write, Some(12), Some(cell))?);
     assert_eq!(rt; records.len(), 5);
     assert_eq!(rt; records.count_of(name(2, 2)), 0);
-    let entry = records.take_entry_of(Proc::new(2)).expect(&rt, "the write");
+    let entry = records
+        .take_recorded_of(Proc::new(2))
+        .expect(&rt, "the write");
     assert_eq!(rt; entry.event, step(2, 2, Kind::Write(Reg::Dec)));
     assert_eq!(rt; entry.back, Some(12));
     assert_eq!(rt; entry.overwritten, Some(cell));

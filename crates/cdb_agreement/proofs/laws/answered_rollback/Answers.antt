@@ -14,5 +14,8 @@ returns-clause-no_process g c = absent_rolled_back
 pub returns-clause-exact : goal.returns-clause-exact
 returns-clause-exact g c = rolled_back_answered
 
-pub returns-clause-back : goal.returns-clause-back
-returns-clause-back g c = λ machine. rolled_back_back machine
+pub returns-clause-valid : goal.returns-clause-valid
+returns-clause-valid g c = λ machine n history name taken left answer valid. (rolled_back_back machine n history name taken left answer valid).0
+
+pub returns-clause-again : goal.returns-clause-again
+returns-clause-again g c = λ machine n history name taken left answer valid. (rolled_back_back machine n history name taken left answer valid).1

@@ -14,8 +14,11 @@ returns-clause-no_step g c = new_undone
 pub returns-clause-no_process : goal.returns-clause-no_process
 returns-clause-no_process g c = absent_undone
 
-pub returns-clause-back : goal.returns-clause-back
-returns-clause-back g c = λ machine. undone_back machine
+pub returns-clause-valid : goal.returns-clause-valid
+returns-clause-valid g c = λ machine n history name event left answer valid. (undone_back machine n history name event left answer valid).0
+
+pub returns-clause-again : goal.returns-clause-again
+returns-clause-again g c = λ machine n history name event left answer valid. (undone_back machine n history name event left answer valid).1
 
 pub returns-clause-free : goal.returns-clause-free
 returns-clause-free g c = undone_free

@@ -1,8 +1,9 @@
 use Rattle.std.proofs.Common.{◌≡◌, ◌++◌, Some, option_to_list, filter, refl, sym, ap, ◌∙◌, append-nil}
 use Rattle.std.specs.List.{flat_map}
-use Rattle.cdb_any_run.proofs.OpenCopies.{shown_copy, copies-rise, none-looked, one-looked, all-looked, fewer-left}
+use Rattle.cdb_any_run.proofs.OpenCopies.{copies-rise, none-looked, one-looked, all-looked, fewer-left}
 use Rattle.cdb_message.specs.Mail.{copies_for, stands_above}
 use Rattle.cdb_rules.specs.Algorithms.{rules}
+use Rattle.cdb_rules.specs.Views.{shown_copy}
 use Rattle.cdb_any_run.specs.Any.{run_view}
 use Rattle.cdb_any_run.proofs.run_of_setup.push_open_copies.Goals as goal
 use Rattle.cdb_any_run.proofs.run_of_setup.push_open_copies.Goals.{in-Some-copy_of+in_ok-push, in_default-copy_of}

@@ -3,8 +3,7 @@ use Rattle.std.specs.List.{flat_map}
 use Rattle.cdb_message.specs.Mail.{stands_above, copies_for}
 use Rattle.cdb_rules.specs.Algorithms.{rules}
 use Rattle.cdb_any_run.specs.Any.{run_view}
-use Rattle.cdb_rules.specs.Views.{open_copies}
-use Rattle.cdb_any_run.proofs.OpenCopies.{shown_copy}
+use Rattle.cdb_rules.specs.Views.{open_copies, shown_copy}
 use Rattle.cdb_any_run.proofs.run_of_setup.push_open_copies.Given as goal
 
 abbrev pub invariant-loop-name : goal.invariant-loop-name

@@ -1,6 +1,6 @@
 use Rattle.std.proofs.Common.{List, ℕ, ◌++◌, string_bytes, ap, sym, ◌∙◌, append-nil}
 use Rattle.cdb_explain.specs.Explanations.{because_text}
-use Rattle.cdb_rules.specs.EventRefs.{name_of}
+use Rattle.cdb_rules.specs.EventRefs.{name_given}
 use Rattle.cdb_rules.specs.Runs.{causes_in}
 use Rattle.cdb_explain.proofs.Answered.{no_because}
 use Rattle.cdb_explain.proofs.line.push_because.Goals as goal
@@ -9,6 +9,6 @@ pub returns-in-Err : goal.returns-in-Err
 returns-in-Err g c =
     let run = g.T.Runs.run c.args.run.now in
     let text : List ℕ = string_bytes c.args.text.now in
-    let refused = no_because (causes_in run (name_of c.reference.result)) _ c.explain.result _ c.explain.ensures c.in-Err.is in
+    let refused = no_because (causes_in run (name_given c.reference.result)) _ c.explain.result _ c.explain.ensures.causes c.in-Err.is in
     let none = ap (λ name. because_text (causes_in run name)) (sym c.reference.ensures) ∙ refused in
     sym (ap (λ (t : List ℕ). text ++ t) none ∙ append-nil text)

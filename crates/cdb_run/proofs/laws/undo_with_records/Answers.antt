@@ -2,4 +2,4 @@ use Rattle.cdb_run.proofs.Records.{free_recorded_last}
 use Rattle.cdb_run.proofs.laws.undo_with_records.Goals as goal
 
 pub returns : goal.returns
-returns g c = λ machine before from to entries led i entry free. free_recorded_last machine before from to entries i entry free.0 free.1 led
+returns g c = λ machine before from to entries led i entry at free. free_recorded_last machine before from to entries i entry at free led

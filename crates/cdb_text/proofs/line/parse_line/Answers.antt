@@ -1,7 +1,7 @@
 use Rattle.std.proofs.Common.{ap, sym, subst, length, ℕ, List, []}
 use Rattle.std.proofs.lemmas.Bool.{eqb-true, eqb-false}
 use Rattle.std.proofs.lemmas.List.{nil_from_length}
-use Rattle.cdb_text.specs.Reading.{IsRead}
+use Rattle.cdb_text.specs.Reading.{IsReadAfter}
 use Rattle.cdb_text.proofs.Whole.{one_command, fault_of_line, empty_is_none, empty_is_empty}
 use Rattle.cdb_text.proofs.line.parse_line.Goals as goal
 
@@ -12,9 +12,9 @@ pub returns-then-is_empty-clause-fault : goal.returns-then-is_empty-clause-fault
 returns-then-is_empty-clause-fault c = empty_is_empty c.args.line.now (nil_from_length _ (eqb-true (length c.args.line.now) 0 (sym c.if-is_empty.ensures)))
 
 pub returns-clause-command : goal.returns-clause-command
-returns-clause-command c = λ command. one_command _ c.command.result command (subst (λ (ws : List (List ℕ)). IsRead [] ws c.command.result) c.of.ensures c.command.ensures)
+returns-clause-command c = λ command. one_command _ c.command.result command (subst (λ (ws : List (List ℕ)). IsReadAfter [] ws c.command.result) c.of.ensures c.command.ensures)
 
 pub returns-clause-fault : goal.returns-clause-fault
 returns-clause-fault c =
     fault_of_line c.args.line.now c.command.result (λ empty. eqb-false (length c.args.line.now) 0 (sym c.if-is_empty.ensures) (ap length empty))
-    (subst (λ (ws : List (List ℕ)). IsRead [] ws c.command.result) c.of.ensures c.command.ensures)
+    (subst (λ (ws : List (List ℕ)). IsReadAfter [] ws c.command.result) c.of.ensures c.command.ensures)

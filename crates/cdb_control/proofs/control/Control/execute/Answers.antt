@@ -1,11 +1,11 @@
-use Rattle.std.proofs.Common.{ℕ, ◌+◌, ◌-◌, ◌<◌, ◌≤◌, arith, ap, ◌∙◌, sym, subst, List, [], ◌∷◌, ◌++◌, length, vec_len, vec_capacity, true≢false}
+use Rattle.std.proofs.Common.{ℕ, ◌+◌, ◌-◌, ◌<◌, ◌≤◌, arith, ap, ◌∙◌, sym, subst, List, [], ◌∷◌, ◌++◌, length, vec_len, vec_capacity, inl, inr, true≢false}
 use Rattle.std.proofs.lemmas.List.{length-map}
 use Rattle.cdb_control.specs.Answer.{told, is_refused}
 use Rattle.cdb_control.specs.declared.control.Entry.{Entry}
 use Rattle.cdb_control.specs.Commands.{Outcome, answer, outcome}
 use Rattle.cdb_control.specs.Headline.{Headline}
 use Rattle.cdb_control.specs.Journal.{Journaled, IsReplayed, entry, extended, reply_in}
-use Rattle.cdb_control.specs.Room.{HasRoom, cost, lowered, rooms_at}
+use Rattle.cdb_control.specs.Room.{HasRoom, cost, lowered, room_of, rooms_at}
 use Rattle.cdb_control.specs.State.{State}
 use Rattle.cdb_control.proofs.Along.{obey-setup, IsReplayed-next}
 use Rattle.cdb_control.proofs.Headline.{replayed-headline}
@@ -82,7 +82,7 @@ returns-clause-journal g c =
     ∙ ap (λ (v : Journaled). extended g.R.Runs.rules v seat c.args.command) c.self.view_is
 
 pub returns-clause-spared : goal.returns-clause-spared
-returns-clause-spared g c = λ spared some same. cc
+returns-clause-spared g c = λ needs same. cc
 
 pub invariant_of-self-in_default : goal.invariant_of-self-in_default
 invariant_of-self-in_default g c =
@@ -129,13 +129,18 @@ returns-clause-headline g c =
     let next = c.perform.new.self.state in
     replayed-headline run.rules run.same_state laws.lawful laws.histories next.setup c.self.inside.seats c.push_entry.new.journal.items next (invariant_of-self-2 g c).0
 
-pub returns-in_default-clause-refusal : goal.returns-in_default-clause-refusal
-returns-in_default-clause-refusal g c = λ some refused same.
+pub returns-in_default-clause-spared : goal.returns-in_default-clause-spared
+returns-in_default-clause-spared g c = λ needs same.
     let i = c.self.inside in
     let rules = g.R.Runs.rules in
     let seat = c.args.seat in
     let command = c.args.command in
+    let some : 0 < room_of (rooms_at (vec_len i.journal) i.marks.items) seat = subst (λ (v : Journaled). 0 < room_of v.rooms seat) (sym c.self.view_is) needs.0 in
+    let held = c.self.invariant.1.lists (seat - 1) some in
     let as_shown =
     ap (λ (t : State). is_refused (answer (rules i.state.state.setup) t seat command)) (sym c.self.invariant.0.replayed)
     ∙ ap (λ (v : Journaled). is_refused (reply_in rules v seat command)) c.self.view_is in
-    absurd (true≢false (sym refused ∙ sym as_shown ∙ c.in_default.ensures.memory))
+    elim needs.1 [
+      | inl spared ↦ absurd (let impossible = c.in_default.ensures.spared spared (omega (arith, some, held)) in cc)
+      | inr refused ↦ absurd (true≢false (sym refused ∙ sym as_shown ∙ c.in_default.ensures.memory))
+    ]

@@ -6,7 +6,7 @@ use Rattle.cdb_control.specs.Answer as reply
 use Rattle.cdb_control.specs.Commands.{rollback, taken_back}
 use Rattle.cdb_control.proofs.Steps.{unchanged, rolled_back-as, rollback_refused-as, granted_taken, answered_ok}
 use Rattle.cdb_control.proofs.Room.{swap}
-use Rattle.cdb_rules.specs.EventRefs.{name_of}
+use Rattle.cdb_rules.specs.EventRefs.{name_given}
 use Rattle.cdb_control.specs.Room.{StoredState, StoredList}
 use Rattle.cdb_control.specs.State.{State, redo_of}
 use Rattle.cdb_rules.specs.Undo.{rollback_of, answered, left_by, number_removed, with_removed}
@@ -16,7 +16,7 @@ use Rattle.cdb_control.proofs.state.ControlState.rollback.Goals.{in-Ok, in-Err}
 pub returns-clause-ok : goal.returns-clause-ok
 returns-clause-ok g c =
     let now = c.args.self.now in
-    let name = name_of c.args.name in
+    let name = name_given c.args.name in
     let w = swap now c.self.inside.redo.items c.args.seat c.index_mut-list.result.now c.rollback.new.self (ap (λ (v : StoredState). v.state.redo) c.self.view_is) (ap (λ (v : StoredState). v.capacities) c.self.view_is) c.requires.from_one c.requires.to_last c.index_mut-list.ensures.value in
     let x = rollback_of now.state.setup.processes now.state.history name in
     let x0 = rollback_of (g.R.Runs.run c.self.inside.run).setup.processes (g.R.Runs.run c.self.inside.run).history name in
@@ -60,7 +60,7 @@ returns-in_err-count-clause-capacities g c =
 pub returns-in_err-count-clause-memory : goal.returns-in_err-count-clause-memory
 returns-in_err-count-clause-memory g c =
     let now = c.args.self.now in
-    let name = name_of c.args.name in
+    let name = name_given c.args.name in
     let removed = rollback_of now.state.setup.processes now.state.history name in
     let taken : is_refused (rollback now.state c.args.seat name).reply ≡ false =
     granted_taken removed now.state (λ (done : List Event × List Event). record { reply = reply.RolledBack (length done.0); after = taken_back now.state c.args.seat done.0 done.1 })

@@ -6,7 +6,7 @@ use Rattle.cdb_control.specs.Answer as reply
 use Rattle.cdb_control.specs.Commands.{undo, taken_back}
 use Rattle.cdb_control.proofs.Steps.{unchanged, undone-as, undo_refused-as, granted_taken, answered_ok}
 use Rattle.cdb_control.proofs.Room.{swap}
-use Rattle.cdb_rules.specs.EventRefs.{name_of}
+use Rattle.cdb_rules.specs.EventRefs.{name_given}
 use Rattle.cdb_control.specs.Room.{StoredState, StoredList}
 use Rattle.cdb_control.specs.State.{State, redo_of}
 use Rattle.cdb_rules.specs.Refusals.{with_taken}
@@ -17,7 +17,7 @@ use Rattle.cdb_control.proofs.state.ControlState.undo.Goals.{in-Ok, in-Err}
 pub returns-clause-ok : goal.returns-clause-ok
 returns-clause-ok g c =
     let now = c.args.self.now in
-    let name = name_of c.args.name in
+    let name = name_given c.args.name in
     let w = swap now c.self.inside.redo.items c.args.seat c.index_mut-list.result.now c.undo.new.self (ap (λ (v : StoredState). v.state.redo) c.self.view_is) (ap (λ (v : StoredState). v.capacities) c.self.view_is) c.requires.from_one c.requires.to_last c.index_mut-list.ensures.value in
     let x = undo_of now.state.setup.processes now.state.history name in
     let r = c.in_ok-event.field-0 in
@@ -75,7 +75,7 @@ returns-in_err-event-clause-capacities g c =
 pub returns-in_err-event-clause-memory : goal.returns-in_err-event-clause-memory
 returns-in_err-event-clause-memory g c =
     let now = c.args.self.now in
-    let name = name_of c.args.name in
+    let name = name_given c.args.name in
     let undone = undo_of now.state.setup.processes now.state.history name in
     let taken : is_refused (undo now.state c.args.seat name).reply ≡ false =
     granted_taken undone now.state (λ (done : Event × List Event). record { reply = reply.Undone done.0; after = taken_back now.state c.args.seat (done.0 ∷ []) done.1 })

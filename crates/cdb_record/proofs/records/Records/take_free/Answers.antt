@@ -24,4 +24,4 @@ returns-in-Some g c =
 pub returns-in-None : goal.returns-in-None
 returns-in-None g c =
     let free = subst (λ h. IsFree depends h (c.args.at - 1)) (history_seen c.self.inside.history c.self.inside.left.items c.self.invariant.0 c.self.view_is) c.in-None.ensures in
-    (free, (before_nth c.args.self.now c.args.at c.take_out.result c.requires.from_one c.take_out.ensures.entry, c.take_out.ensures.rest))
+    (free, (before_nth c.args.self.now c.args.at c.take_out.result c.requires.from_one c.take_out.ensures.recorded, c.take_out.ensures.rest))

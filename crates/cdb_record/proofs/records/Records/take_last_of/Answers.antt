@@ -3,7 +3,7 @@ use Rattle.std.proofs.lemmas.List.{length-map}
 use Rattle.std.proofs.lemmas.Option.{slice_get_within}
 use Rattle.cdb_causal.specs.Causality.{IsFree}
 use Rattle.cdb_causal.specs.Dependence.{depends}
-use Rattle.cdb_record.specs.Entries.{events_of}
+use Rattle.cdb_record.specs.Recorded.{events_of}
 use Rattle.cdb_record.specs.Taken.{IsStepOf, IsLastStepOf, IsTakenOut}
 use Rattle.cdb_record.proofs.Seams.{history_seen, matched}
 use Rattle.cdb_record.proofs.records.Records.take_last_of.Goals as goal

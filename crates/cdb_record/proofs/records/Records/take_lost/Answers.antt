@@ -5,7 +5,7 @@ use Rattle.cdb_base.specs.declared.name.StepId.TheVariants as named
 use Rattle.cdb_causal.specs.Causality.{IsFree}
 use Rattle.cdb_causal.specs.Dependence.{depends}
 use Rattle.cdb_causal.specs.Names.{IsNamedAt, IsNewName, IsPositionOf}
-use Rattle.cdb_record.specs.Entries.{events_of}
+use Rattle.cdb_record.specs.Recorded.{events_of}
 use Rattle.cdb_record.specs.Taken.{IsTakenOut}
 use Rattle.cdb_record.proofs.Seams.{history_seen, matched}
 use Rattle.cdb_record.proofs.records.Records.take_lost.Goals as goal

@@ -2,7 +2,7 @@ use Rattle.std.proofs.Common.{◌≡◌, ◌-◌, length, Some, sym, ap, ap₂, 
 use Rattle.cdb_base.specs.Positions.{nth}
 use Rattle.cdb_causal.specs.Rollback.{without}
 use Rattle.cdb_causal.proofs.Lists.{remove-without}
-use Rattle.cdb_record.specs.Entries.{entry_of, entries_of}
+use Rattle.cdb_record.specs.Recorded.{recorded_of, records_of}
 use Rattle.cdb_record.proofs.Seams.{fewer_without, same_length_without, length_entries, entries_without, entry_stood}
 use Rattle.cdb_record.proofs.records.Records.take_out.Goals as goal
 
@@ -34,9 +34,9 @@ invariant_of-self g c =
     let few = c.self.invariant.1 in
     (left ∙ each ∙ sym rest, omega (arith, rest, fewer, few))
 
-pub returns-clause-entry : goal.returns-clause-entry
-returns-clause-entry g c =
-    subst (λ l. nth l c.args.at ≡ Some (entry_of c.remove-event.result c.take_out-back.result)) c.self.view_is
+pub returns-clause-recorded : goal.returns-clause-recorded
+returns-clause-recorded g c =
+    subst (λ l. nth l c.args.at ≡ Some (recorded_of c.remove-event.result c.take_out-back.result)) c.self.view_is
     (entry_stood c.self.inside.history c.self.inside.left.items c.args.at c.remove-event.result c.take_out-back.result c.requires.from_one c.remove-event.ensures.event c.take_out-back.ensures.stood)
 
 pub returns-clause-rest : goal.returns-clause-rest
@@ -44,6 +44,6 @@ returns-clause-rest g c =
     let events = c.self.inside.history in
     let lefts = c.self.inside.left.items in
     let i = c.args.at - 1 in
-    ap₂ entries_of c.remove-event.ensures.rest (c.take_out-back.ensures.items ∙ remove-without lefts i)
+    ap₂ records_of c.remove-event.ensures.rest (c.take_out-back.ensures.items ∙ remove-without lefts i)
     ∙ entries_without events lefts i c.self.invariant.0
     ∙ ap (λ l. without l i) c.self.view_is

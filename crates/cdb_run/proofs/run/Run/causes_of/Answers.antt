@@ -1,6 +1,6 @@
 use Rattle.std.proofs.Common.{◌-◌, ◌≤◌, length, subst, arith}
 use Rattle.cdb_causal.specs.DirectCauses.{AreDirectCauses}
-use Rattle.cdb_rules.specs.EventRefs.{name_of}
+use Rattle.cdb_rules.specs.EventRefs.{name_given}
 use Rattle.cdb_rules.specs.RunView.{RunView}
 use Rattle.cdb_rules.specs.Runs.{IsInOrder}
 use Rattle.cdb_rules.specs.Machines.{machine_of}
@@ -12,7 +12,7 @@ use Rattle.cdb_run.proofs.run.Run.causes_of.Goals as goal
 pub returns-clause-answer : goal.returns-clause-answer
 returns-clause-answer g c =
     let process = g.P.Process in
-    let name = name_of c.args.event in
+    let name = name_given c.args.event in
     let standing = c.args.self.now in
     let setup = c.self.inside.setup in
     let found = c.in_ok-at.ensures in
@@ -33,6 +33,6 @@ returns-clause-direct g c =
     let standing = c.args.self.now in
     let found = c.in_ok-at.ensures in (
       c.in_ok-at.at - 1,
-      named_answer standing.setup.processes standing.history (name_of c.args.event) c.in_ok-at.at found.found found.within,
+      named_answer standing.setup.processes standing.history (name_given c.args.event) c.in_ok-at.at found.found found.within,
       subst (λ h. AreDirectCauses h (c.in_ok-at.at - 1) c.direct_causes.result.items) c.history.ensures.events c.direct_causes.ensures,
     )

@@ -1,7 +1,7 @@
 use Rattle.std.proofs.Common.{rules, ◌≡◌, ◌<◌, ◌↔◌, length, IsOk, IfOk, IsSome, ap, ◌∙◌, sym, subst, refl, arith}
 use Rattle.std.proofs.lemmas.Grind.{common_steps}
 use Rattle.cdb_base.specs.declared.event.Event.TheVariants.{Step, Lost}
-use Rattle.cdb_record.specs.Entries.{events_of}
+use Rattle.cdb_record.specs.Recorded.{events_of}
 use Rattle.cdb_rules.specs.RunView.{RunView}
 use Rattle.cdb_rules.specs.Runs.{answer_to_again}
 use Rattle.cdb_rules.specs.Machines.{machine_of}

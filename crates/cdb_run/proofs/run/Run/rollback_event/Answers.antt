@@ -1,5 +1,5 @@
 use Rattle.std.proofs.Common.{reverse, refl, sym, ap, ◌∙◌, subst}
-use Rattle.cdb_rules.specs.EventRefs.{name_of}
+use Rattle.cdb_rules.specs.EventRefs.{name_given}
 use Rattle.cdb_rules.specs.Machines.{machine_of}
 use Rattle.cdb_rules.specs.RunView.{RunView}
 use Rattle.cdb_rules.specs.Runs.{with_history, removed_by_rollback, IsExactRollback, AllLeadTo}
@@ -11,7 +11,7 @@ use Rattle.cdb_run.proofs.run.Run.rollback_event.Goals as goal
 
 pub returns-in_ok-roll_back-in-Ok-clause-rolled_back : goal.returns-in_ok-roll_back-in-Ok-clause-rolled_back
 returns-in_ok-roll_back-in-Ok-clause-rolled_back g c =
-    let name = name_of c.args.event in
+    let name = name_given c.args.event in
     let standing = c.args.self.now in
     let found = c.in-Ok.ensures in
     let rolled = c.in_ok-roll_back-in-Ok.ensures in
@@ -28,7 +28,7 @@ returns-in_ok-roll_back-in-Ok-clause-rolled_back g c =
 
 pub returns-in_ok-roll_back-in-Ok-clause-exact : goal.returns-in_ok-roll_back-in-Ok-clause-exact
 returns-in_ok-roll_back-in-Ok-clause-exact g c =
-    let name = name_of c.args.event in
+    let name = name_given c.args.event in
     let run = c.args.self.now in
     subst (λ (v : RunView). IsExactRollback run name v) (sym (returns-in_ok-roll_back-in-Ok-clause-rolled_back g c).after) (exact_rollback run name)
 
@@ -39,13 +39,13 @@ returns-in_ok-roll_back-in-Ok-clause-again g c =
     let setup = run.setup in
     let number =
     length-first_states table.first 1 setup.processes setup.quorum setup.inputs ∙ (subst AreInRange c.setup.ensures c.n-ranges.ensures.ranges).an_input_each in
-    let name = name_of c.args.event in
+    let name = name_given c.args.event in
     subst (λ (v : RunView). AllLeadTo table v (reverse (removed_by_rollback run name)) run) (sym (returns-in_ok-roll_back-in-Ok-clause-rolled_back g c).after)
     (rollback_leads_back (machine_of table setup) setup.processes number run.history c.history-valid.ensures.valid name)
 
 pub returns-in-Err-clause-exact : goal.returns-in-Err-clause-exact
 returns-in-Err-clause-exact g c =
-    let name = name_of c.args.event in
+    let name = name_given c.args.event in
     let run = c.args.self.now in
     subst (λ (v : RunView). IsExactRollback run name v) (refused_answer run name c.in-Err.refusal c.in-Err.ensures.found) (exact_rollback run name)
 
@@ -56,6 +56,6 @@ returns-in-Err-clause-again g c =
     let setup = run.setup in
     let number =
     length-first_states table.first 1 setup.processes setup.quorum setup.inputs ∙ (subst AreInRange c.setup.ensures c.n-ranges.ensures.ranges).an_input_each in
-    let name = name_of c.args.event in
+    let name = name_given c.args.event in
     subst (λ (v : RunView). AllLeadTo table v (reverse (removed_by_rollback run name)) run) (refused_answer run name c.in-Err.refusal c.in-Err.ensures.found)
     (rollback_leads_back (machine_of table setup) setup.processes number run.history c.history-valid.ensures.valid name)

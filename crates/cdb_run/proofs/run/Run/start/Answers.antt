@@ -1,6 +1,6 @@
 use Rattle.std.proofs.Common.{◌≡◌, if◌then◌else◌, sym, ap, ◌∙◌}
 use Rattle.cdb_message.specs.Mail.{first_mail}
-use Rattle.cdb_record.specs.Entries.{events_of}
+use Rattle.cdb_record.specs.Recorded.{events_of}
 use Rattle.cdb_register.specs.Registers.{fresh_registers}
 use Rattle.cdb_rules.specs.Machines.{machine_of, uses_registers}
 use Rattle.cdb_rules.proofs.FirstStates.{length-first_states}

@@ -6,7 +6,7 @@ use Rattle.cdb_causal.specs.Causality.{IsFree}
 use Rattle.cdb_causal.specs.Dependence.{depends}
 use Rattle.cdb_causal.specs.Rollback.{without}
 use Rattle.cdb_base.specs.declared.event.Event.{Event}
-use Rattle.cdb_record.specs.Entries.{events_of}
+use Rattle.cdb_record.specs.Recorded.{events_of}
 use Rattle.cdb_record.proofs.Seams.{before_nth, events_without}
 use Rattle.cdb_rules.specs.RunView.{RunView}
 use Rattle.cdb_setup.specs.Parts.{Parts}
@@ -32,7 +32,7 @@ index_mut-progress-requires g c =
     let first = c.requires.from_one in
     let free = subst (λ h. IsFree depends h i) (sym same) c.requires.free in
     let entry = c.take_out-back.result in
-    let at = before_nth c.self.inside.records c.args.at entry first c.take_out-back.ensures.entry in
+    let at = before_nth c.self.inside.records c.args.at entry first c.take_out-back.ensures.recorded in
     let p = c.in-Step.p in
     let k = c.in-Step.k in
     let kind = c.in-Step.kind in
@@ -49,7 +49,7 @@ change_back-requires-clause-countable g c =
     let first = c.requires.from_one in
     let free = subst (λ h. IsFree depends h i) (sym same) c.requires.free in
     let entry = c.take_out-back.result in
-    let at = before_nth c.self.inside.records c.args.at entry first c.take_out-back.ensures.entry in
+    let at = before_nth c.self.inside.records c.args.at entry first c.take_out-back.ensures.recorded in
     let p = c.in-Step.p in
     let k = c.in-Step.k in
     let kind = c.in-Step.kind in
@@ -65,7 +65,7 @@ change_back-requires-clause-unpostable g c =
     let first = c.requires.from_one in
     let free = subst (λ h. IsFree depends h i) (sym same) c.requires.free in
     let entry = c.take_out-back.result in
-    let at = before_nth c.self.inside.records c.args.at entry first c.take_out-back.ensures.entry in
+    let at = before_nth c.self.inside.records c.args.at entry first c.take_out-back.ensures.recorded in
     let p = c.in-Step.p in
     let k = c.in-Step.k in
     let kind = c.in-Step.kind in
@@ -79,7 +79,7 @@ change_back-requires-clause-restorable g c =
     let first = c.requires.from_one in
     let free = subst (λ h. IsFree depends h i) (sym same) c.requires.free in
     let entry = c.take_out-back.result in
-    let at = before_nth c.self.inside.records c.args.at entry first c.take_out-back.ensures.entry in
+    let at = before_nth c.self.inside.records c.args.at entry first c.take_out-back.ensures.recorded in
     let p = c.in-Step.p in
     let k = c.in-Step.k in
     let kind = c.in-Step.kind in
@@ -93,7 +93,7 @@ invariant_of-self g c =
     let first = c.requires.from_one in
     let free = subst (λ h. IsFree depends h i) (sym same) c.requires.free in
     let entry = c.take_out-back.result in
-    let at = before_nth c.self.inside.records c.args.at entry first c.take_out-back.ensures.entry in
+    let at = before_nth c.self.inside.records c.args.at entry first c.take_out-back.ensures.recorded in
     let p = c.in-Step.p in
     let k = c.in-Step.k in
     let kind = c.in-Step.kind in
@@ -112,7 +112,7 @@ take_back_lose-requires g c =
     let first = c.requires.from_one in
     let free = subst (λ h. IsFree depends h i) (sym same) c.requires.free in
     let entry = c.take_out-back.result in
-    let at = before_nth c.self.inside.records c.args.at entry first c.take_out-back.ensures.entry in
+    let at = before_nth c.self.inside.records c.args.at entry first c.take_out-back.ensures.recorded in
     let copy = c.in-Lost.copy in
     let is = c.in-Lost.is in
     record { lost = is_lost_now c.self.invariant i entry at free copy is }
@@ -124,7 +124,7 @@ invariant_of-self-in-Lost g c =
     let first = c.requires.from_one in
     let free = subst (λ h. IsFree depends h i) (sym same) c.requires.free in
     let entry = c.take_out-back.result in
-    let at = before_nth c.self.inside.records c.args.at entry first c.take_out-back.ensures.entry in
+    let at = before_nth c.self.inside.records c.args.at entry first c.take_out-back.ensures.recorded in
     let copy = c.in-Lost.copy in
     let is = c.in-Lost.is in
     current_found c.self.invariant i entry at free copy is c.take_back_lose.ensures.after
@@ -138,7 +138,7 @@ invariant_of-self-in-Lost-2 g c =
     let first = c.requires.from_one in
     let free = subst (λ h. IsFree depends h i) (sym same) c.requires.free in
     let entry = c.take_out-back.result in
-    let at = before_nth c.self.inside.records c.args.at entry first c.take_out-back.ensures.entry in
+    let at = before_nth c.self.inside.records c.args.at entry first c.take_out-back.ensures.recorded in
     let copy = c.in-Lost.copy in
     let is = c.in-Lost.is in
     current_found c.self.invariant i entry at free copy is c.take_back_lose.ensures.after
@@ -148,7 +148,7 @@ invariant_of-self-in-Lost-2 g c =
 pub returns-in-Step-clause-event : goal.returns-in-Step-clause-event
 returns-in-Step-clause-event g c =
     let same = ap (λ (s : RunView). s.history) c.self.view_is in
-    subst (λ h. nth h c.args.at ≡ Some c.take_out-back.result.event) same (nth_events c.self.inside.records c.args.at c.take_out-back.result c.take_out-back.ensures.entry)
+    subst (λ h. nth h c.args.at ≡ Some c.take_out-back.result.event) same (nth_events c.self.inside.records c.args.at c.take_out-back.result c.take_out-back.ensures.recorded)
 
 pub returns-in-Step-clause-after : goal.returns-in-Step-clause-after
 returns-in-Step-clause-after g c =
@@ -163,7 +163,7 @@ returns-in-Step-clause-after g c =
 pub returns-in-Lost-clause-event : goal.returns-in-Lost-clause-event
 returns-in-Lost-clause-event g c =
     let same = ap (λ (s : RunView). s.history) c.self.view_is in
-    subst (λ h. nth h c.args.at ≡ Some c.take_out-back.result.event) same (nth_events c.self.inside.records c.args.at c.take_out-back.result c.take_out-back.ensures.entry)
+    subst (λ h. nth h c.args.at ≡ Some c.take_out-back.result.event) same (nth_events c.self.inside.records c.args.at c.take_out-back.result c.take_out-back.ensures.recorded)
 
 pub returns-in-Lost-clause-after : goal.returns-in-Lost-clause-after
 returns-in-Lost-clause-after g c =

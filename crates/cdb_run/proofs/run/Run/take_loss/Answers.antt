@@ -1,8 +1,8 @@
 use Rattle.std.proofs.Common.{rules, ◌≡◌, ◌≤◌, [], ◌∷◌, ◌++◌, ⊎_elim, IsTrue, false, length, None, refl, sym, ap, ◌∙◌, subst, arith}
 use Rattle.cdb_base.specs.declared.event.Event.TheVariants.{Lost}
 use Rattle.cdb_message.specs.Mail.{MailState, is_sent, is_received, is_lost, add_loss}
-use Rattle.cdb_record.specs.Entries.{events_of, entry_of}
-use Rattle.cdb_record.specs.declared.entry.Left.{Left}
+use Rattle.cdb_record.specs.Recorded.{events_of, recorded_of}
+use Rattle.cdb_record.specs.declared.recorded.Left.{Left}
 use Rattle.cdb_record.proofs.Seams.{events_push}
 use Rattle.cdb_rules.specs.RunView.{RunView}
 use Rattle.cdb_rules.specs.Runs.{IsNext}
@@ -60,5 +60,5 @@ invariant_of-self-2 g c =
     let nothing : ok.0 ≡ record { back = None; overwritten = None } = search (rules, met) in
     let left : changed.left.now ≡ add_loss changed.shown.now copy = search (rules, met) in
     let lost = sym changed.leaves ∙ left ∙ ap (λ m. add_loss m copy) changed.shows in
-    let added = subst (λ (l : Left _). c.push_with.new.self ≡ c.self.inside.records ++ entry_of (Lost copy) l ∷ []) nothing ok.2 in
+    let added = subst (λ (l : Left _). c.push_with.new.self ≡ c.self.inside.records ++ recorded_of (Lost copy) l ∷ []) nothing ok.2 in
     current_lost c.self.invariant copy enabled lost (ap events_of added ∙ events_push c.self.inside.records (Lost copy) (record { back = None; overwritten = None })) added

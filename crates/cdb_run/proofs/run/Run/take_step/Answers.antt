@@ -1,6 +1,6 @@
 use Rattle.std.proofs.Common.{rules, ◌≤◌, ⊎_elim, length, refl, sym, subst, arith}
 use Rattle.cdb_base.specs.declared.event.Event.TheVariants.{Step}
-use Rattle.cdb_record.specs.Entries.{events_of}
+use Rattle.cdb_record.specs.Recorded.{events_of}
 use Rattle.cdb_rules.specs.RunView.{RunView}
 use Rattle.cdb_rules.specs.Runs.{IsNext}
 use Rattle.cdb_rules.proofs.FirstStates.{length-first_states}

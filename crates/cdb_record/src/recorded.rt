@@ -13,7 +13,7 @@ pub struct Left<B: Drop> {
 
 /// A standing event with what it left.
 #[derive(Drop)]
-pub struct Entry<B: Drop> {
+pub struct Recorded<B: Drop> {
     pub event: Event,
     pub back: Option<B>,
     pub overwritten: Option<Cell>,
