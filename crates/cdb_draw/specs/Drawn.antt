@@ -1,12 +1,13 @@
 -- What the subcommand writes: the picture of the run that a script leaves.
-use Rattle.std.specs.Prelude.{◌≡◌, ℕ, List, Option, None, Some, Result, Ok, Err}
+use Rattle.std.specs.Prelude.{ℕ, List, Option, None, Some, Result, Ok, Err}
 use Rattle.cdb_base.specs.declared.event.Event.{Event}
 use Rattle.cdb_explain.specs.Asked.{IsStepAsked, StandsNoStep}
 use Rattle.cdb_explain.specs.declared.fault.ExplainFault.{ExplainFault}
 use Rattle.cdb_explain.specs.declared.fault.ExplainFault.TheVariants.{NoStep, Play}
+use Rattle.cdb_play.specs.Endings.{Ending, Complete, WriterFailed, CutShort, NotBegun}
 use Rattle.cdb_play.specs.Faults.{IsFaultOfPlay}
 use Rattle.cdb_play.specs.Left.{Leaves}
-use Rattle.cdb_play.specs.Written.{PlayWrites}
+use Rattle.cdb_play.specs.declared.fault.PlayFault.TheVariants as play
 use Rattle.cdb_rules.specs.RunView.{RunView}
 use Rattle.cdb_rules.specs.Rules.{Rules}
 use Rattle.cdb_setup.specs.Parts.{Parts}
@@ -40,9 +41,9 @@ IsFaultOfDraw NoStep rules json step old new =
     (run : RunView) × Leaves rules json old new run × IsMissing run.history step
 IsFaultOfDraw (Play fault) rules json step old new = IsFaultOfPlay fault json old new
 
-module _ {W : Type 0} (contents : W → Option (List ℕ)) (failures : W → ℕ) where
-  -- a step that does not stand leaves the writer as it was; else as a play writes its transcript
-  abbrev pub DrawWrites : {A : Type 0} → Result A ExplainFault → W → W → (List ℕ → Type 0) → Type 0
-  DrawWrites {A} (Ok done) old new IsText = PlayWrites contents failures {A = A} (Ok done) old new IsText
-  DrawWrites (Err NoStep) old new IsText = new ≡ old
-  DrawWrites {A} (Err (Play fault)) old new IsText = PlayWrites contents failures {A = A} (Err fault) old new IsText
+-- how the writing of a picture ended, which is written in pieces as it is drawn
+abbrev pub draw_ending : {A : Type 0} → Result A ExplainFault → Ending
+draw_ending (Ok done) = Complete
+draw_ending (Err (Play play.Write)) = WriterFailed
+draw_ending (Err (Play play.NoMemory)) = CutShort
+draw_ending (Err fault) = NotBegun

@@ -5,10 +5,11 @@ ghost use Rattle.cdb_base.specs.declared.limits.TheConstants.{MAX_ENTRIES};
 ghost use Rattle.cdb_control.specs.Headline.{Headline};
 ghost use Rattle.cdb_control.specs.Journal.{extended};
 ghost use Rattle.cdb_setup.specs.declared.fault.SetupFault.{SetupFault as SetupFaultName};
-ghost use Rattle.cdb_play.specs.Buffers.{Wrote};
+ghost use Rattle.cdb_play.specs.Endings.{whole_ending};
 ghost use Rattle.cdb_play.specs.Faults.{IsFaultOfPlay};
 ghost use Rattle.cdb_play.specs.Left.{carried_out, run_of, Leaves};
 ghost use Rattle.cdb_play.specs.Streams.{FailsWhere};
+ghost use Rattle.cdb_play.specs.Written.{IsWritten, Only};
 
 use crate::buffer::{Buffer, OutputFault};
 use crate::fault::PlayFault;
@@ -28,8 +29,7 @@ fn carry_out<T: Runs>(
 ) -> Result<(), NoMemory>
     requires seats { control.old.seats ≡ 1 }
     requires room { length control.old.journal < MAX_ENTRIES }
-    ensures { OnOk result
-        (control.new ≡ extended T.rules control.old 1 command) }
+    ensures { OnOk result (control.new ≡ extended T.rules control.old 1 command) }
 {
     match control.execute(alloc, 1, command) {
         Ok(_) => Ok(()),
@@ -88,8 +88,7 @@ pub fn left_by<T: Runs, R: Source>(
 /// Writes a text, in pieces of 65,536 bytes. After `Write` what was written is a beginning of the text, and
 /// after `NoMemory` nothing was.
 pub fn write_text<W: Sink>(alloc: Global, text: &[u8], out: &mut W) -> Result<(), OutputFault>
-    ensures wrote { Wrote W.contents W.failures result out.old out.new text.now }
-    ensures unwritten { result ≡ Err OutputFault.NoMemory → out.new ≡ out.old }
+    ensures { IsWritten W.stream (whole_ending result) out.old out.new (Only text.now) }
 {
     let mut buffer = Buffer::new(alloc)?;
     buffer.put(out, text)?;

@@ -26,10 +26,7 @@ impl<F: Files + Drop, I: Source + Drop, O: Sink + Drop, E: Sink + Drop> Model
         bytes = I.remaining outside.streams.input;
         failures = I.failures outside.streams.input;
       };
-      output = record {
-        bytes = O.contents outside.streams.output;
-        failures = O.failures outside.streams.output;
-      };
-      error = record { bytes = E.contents outside.error; failures = E.failures outside.error };
+      output = O.stream outside.streams.output;
+      error = E.stream outside.error;
     } };
 }

@@ -32,9 +32,7 @@ struct Memory {
 impl Sink for Memory {
     ghost use Rattle.std.specs.Prelude.{Some};
 
-    ghost contents = { λ out. Some out.held.items };
-
-    ghost failures = { λ out. out.failures };
+    ghost stream = { λ out. record { bytes = Some out.held.items; failures = out.failures } };
 
     fn write(&mut self, piece: &[u8]) -> Result<usize, Failed> {
         let most = if self.good_calls == 0 { 0 } else { self.most };

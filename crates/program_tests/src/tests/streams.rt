@@ -104,9 +104,7 @@ impl Writer {
 impl Sink for Writer {
     ghost use Rattle.std.specs.Prelude.{Some};
 
-    ghost contents = { λ out. Some out.held.items };
-
-    ghost failures = { λ out. out.failures };
+    ghost stream = { λ out. record { bytes = Some out.held.items; failures = out.failures } };
 
     fn write(&mut self, piece: &[u8]) -> Result<usize, Failed> {
         let count = piece.len().min(MOST);

@@ -26,7 +26,7 @@ returns-clause-does g c =
           Some c.draw-drawn.new.script.rest.now,
           c.of_explain.ensures,
           rw (← json_is, ← bytes_is)
-              (draw_seen (λ (b : Bytes). Some b.rest.now) (λ (b : Bytes). 0) g.O.Sink.contents g.O.Sink.failures c.as_slice-2.result.now c.args.step c.draw-drawn.result c.new-commands.result c.draw-drawn.new.script _ _ said.wrote said.fault said.unread said.read),
+              (draw_seen (λ (b : Bytes). Some b.rest.now) (λ (b : Bytes). 0) g.O.Sink.stream c.as_slice-2.result.now c.args.step c.draw-drawn.result c.new-commands.result c.draw-drawn.new.script _ _ said.wrote said.fault said.unread said.read),
         ),
       ),
     )

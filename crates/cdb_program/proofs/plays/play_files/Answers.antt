@@ -26,7 +26,7 @@ returns-clause-does g c =
           Some c.play-played.new.script.rest.now,
           c.of_play.ensures,
           rw (← json_is, ← bytes_is)
-              (play_seen (λ (b : Bytes). Some b.rest.now) (λ (b : Bytes). 0) g.O.Sink.contents g.O.Sink.failures c.as_slice-2.result.now c.play-played.result c.new-commands.result c.play-played.new.script _ _ said.wrote said.headline said.fault said.unread said.read),
+              (play_seen (λ (b : Bytes). Some b.rest.now) (λ (b : Bytes). 0) g.O.Sink.stream c.as_slice-2.result.now c.play-played.result c.new-commands.result c.play-played.new.script _ _ said.wrote said.headline said.fault said.unread said.read),
         ),
       ),
     )

@@ -2,7 +2,6 @@ use Rattle.std.proofs.Common.{refl, inl, inr, ◌∷◌, []}
 use Rattle.std.proofs.lemmas.Result.{err_from_is_err_and}
 use Rattle.cdb_play.specs.Races.{bytes_of}
 use Rattle.cdb_program.specs.Racing.{RacesOn}
-use Rattle.cdb_program.specs.Streaming.{stream_of}
 use Rattle.cdb_program.specs.Reading.{texts}
 use Rattle.cdb_program.proofs.Opening.{fails_before, fails_then, read_then}
 use Rattle.cdb_program.proofs.races.race_files.Goals as goal
@@ -22,6 +21,6 @@ returns-clause-does g c =
     let json = c.in_ok-json.json.items in
     let contents = bytes_of c.in_ok-contents.contents.items in
     let read = read_then _ _ _ (c.args.setup.now ∷ []) (texts c.args.scripts.now) (json ∷ []) contents c.in_ok-json.ensures.read c.in_ok-contents.ensures.read in
-    let raced : RacesOn json c.args.turns contents (stream_of g.O.Sink.contents g.O.Sink.failures c.outside.inside.streams.output) (stream_of g.O.Sink.contents g.O.Sink.failures c.race_bytes.new.output) c.race_bytes.result =
+    let raced : RacesOn json c.args.turns contents (g.O.Sink.stream c.outside.inside.streams.output) (g.O.Sink.stream c.race_bytes.new.output) c.race_bytes.result =
     rw (← c.as_slice.ensures.value, ← c.as_slice-2.ensures.value) c.race_bytes.ensures in
     rw (← c.outside.view_is) (refl, inr (json ∷ contents, read, raced))

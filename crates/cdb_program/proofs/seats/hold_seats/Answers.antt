@@ -26,5 +26,5 @@ returns-in-Ok-clause-held g c =
     rw (← c.outside.view_is) (
       c.in_ok-json.json.items,
       (opened_then _ _ _ (c.args.setup.now ∷ []) names c.in_ok-json.ensures.read.0 c.in_ok-stations.ensures.opened, c.in_ok-json.ensures.read.1.0),
-      (map (known_station known) stations, seats, rw (← c.as_slice.ensures.value) (holds_seen rules known g.O.Sink.contents g.O.Sink.failures g.E.Sink.contents g.E.Sink.failures _ stations _ _ _ _ _ c.in-Ok.ensures.held)),
+      (map (known_station known) stations, seats, rw (← c.as_slice.ensures.value) (holds_seen rules known g.O.Sink.stream g.E.Sink.stream _ stations _ _ _ _ _ c.in-Ok.ensures.held)),
     )
