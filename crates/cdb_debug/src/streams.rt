@@ -28,9 +28,9 @@ impl<R: Source + Drop, W: Sink + Drop> Talk for Streams<R, W> {
 
     ghost known = { λ streams. record {
       moves = None;
-      left = R.remaining streams.input;
+      left = (R.stream streams.input).bytes;
       held = (W.stream streams.output).bytes;
-      failed_reads = R.failures streams.input;
+      failed_reads = (R.stream streams.input).failures;
       failed_writes = (W.stream streams.output).failures;
     } };
 

@@ -8,6 +8,7 @@ use Rattle.cdb_explain.specs.declared.fault.ExplainFault.TheVariants.{NoStep, Pl
 use Rattle.cdb_play.specs.Endings.{pieces_ending}
 use Rattle.cdb_play.specs.Faults.{IsFaultOfPlay, of_output}
 use Rattle.cdb_play.specs.Left.{Leaves}
+use Rattle.cdb_play.specs.Streams.{Stream}
 use Rattle.cdb_play.specs.declared.buffer.OutputFault.{OutputFault}
 use Rattle.cdb_play.specs.declared.buffer.OutputFault.TheVariants as output
 use Rattle.cdb_play.specs.declared.fault.PlayFault.{PlayFault}
@@ -24,7 +25,7 @@ draw_ends A output.NoMemory = refl
 
 -- ---- the run that a script left
 
-pub fault_left : (rules : Parts → Rules) (json : List ℕ) (step : Option StepAsked) (old new : Option (List ℕ)) (run : RunView) → Leaves rules json old new run
+pub fault_left : (rules : Parts → Rules) (json : List ℕ) (step : Option StepAsked) (old new : Stream) (run : RunView) → Leaves rules json old new run
     → (result : Result (Unit {0}) ExplainFault) → IfErr result (IsFaultOfStep (IsMissing run.history step)) → IfErr result (λ fault. IsFaultOfDraw fault rules json step old new)
 fault_left rules json step old new run left (Ok done) none = tt
 fault_left rules json step old new run left (Err NoStep) missing = (run, left, missing)

@@ -7,6 +7,7 @@ use Rattle.cdb_explain.specs.declared.fault.ExplainFault.TheVariants.{NoStep, Pl
 use Rattle.cdb_play.specs.Endings.{Ending, Complete, WriterFailed, CutShort, NotBegun}
 use Rattle.cdb_play.specs.Faults.{IsFaultOfPlay}
 use Rattle.cdb_play.specs.Left.{Leaves}
+use Rattle.cdb_play.specs.Streams.{Stream}
 use Rattle.cdb_play.specs.declared.fault.PlayFault.TheVariants as play
 use Rattle.cdb_rules.specs.RunView.{RunView}
 use Rattle.cdb_rules.specs.Rules.{Rules}
@@ -31,12 +32,12 @@ IsPictureFor rules run step text =
     (position : Option ℕ) × IsPositionFor run.history step position × IsPicture rules run position text
 
 -- the text is the picture of the run that the script leaves
-abbrev pub Draws : (Parts → Rules) → List ℕ → Option StepAsked → Option (List ℕ) → Option (List ℕ) → List ℕ → Type 0
+abbrev pub Draws : (Parts → Rules) → List ℕ → Option StepAsked → Stream → Stream → List ℕ → Type 0
 Draws rules json step old new text =
     (run : RunView) × Leaves rules json old new run × IsPictureFor rules run step text
 
 -- the step does not stand in the run that the script leaves; else as a fault of a play
-abbrev pub IsFaultOfDraw : ExplainFault → (Parts → Rules) → List ℕ → Option StepAsked → Option (List ℕ) → Option (List ℕ) → Type 0
+abbrev pub IsFaultOfDraw : ExplainFault → (Parts → Rules) → List ℕ → Option StepAsked → Stream → Stream → Type 0
 IsFaultOfDraw NoStep rules json step old new =
     (run : RunView) × Leaves rules json old new run × IsMissing run.history step
 IsFaultOfDraw (Play fault) rules json step old new = IsFaultOfPlay fault json old new

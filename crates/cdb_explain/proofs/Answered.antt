@@ -7,6 +7,7 @@ use Rattle.cdb_explain.specs.Explanations.{because_text}
 use Rattle.cdb_control.specs.Journal.{Journaled, control_state}
 use Rattle.cdb_play.specs.Faults.{IsFaultOfPlay, IsSetup, of_output}
 use Rattle.cdb_play.specs.Left.{Leaves, run_of}
+use Rattle.cdb_play.specs.Streams.{Stream}
 use Rattle.cdb_play.specs.declared.buffer.OutputFault.{OutputFault}
 use Rattle.cdb_play.specs.declared.buffer.OutputFault.TheVariants as output
 use Rattle.cdb_play.specs.declared.fault.PlayFault.{PlayFault}
@@ -29,11 +30,11 @@ same_run rules run control setup history =
 
 -- ---- the step of the run that a script left
 
-pub output_fault : (why : OutputFault) (json : List ℕ) (old new : Option (List ℕ)) → IsSetup json → IsFaultOfPlay (of_output why) json old new
+pub output_fault : (why : OutputFault) (json : List ℕ) (old new : Stream) → IsSetup json → IsFaultOfPlay (of_output why) json old new
 output_fault output.Write json old new setup = setup
 output_fault output.NoMemory json old new setup = tt
 
-pub fault_left : (rules : Parts → Rules) (json : List ℕ) (p : ℕ) (k : Option ℕ) (old new : Option (List ℕ)) (run : RunView) → Leaves rules json old new run
+pub fault_left : (rules : Parts → Rules) (json : List ℕ) (p : ℕ) (k : Option ℕ) (old new : Stream) (run : RunView) → Leaves rules json old new run
     → (result : Result (Unit {0}) ExplainFault) → IfErr result (IsFaultOfStep (StandsNoStep run.history p k)) → IfErr result (λ fault. IsFaultOfExplain fault rules json p k old new)
 fault_left rules json p k old new run left (Ok done) none = tt
 fault_left rules json p k old new run left (Err NoStep) none = (run, left, none)

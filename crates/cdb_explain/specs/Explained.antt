@@ -3,6 +3,7 @@ use Rattle.std.specs.Prelude.{ℕ, List, Option, Result, Ok, Err}
 use Rattle.cdb_play.specs.Endings.{Ending, Complete, WriterFailed, NotBegun}
 use Rattle.cdb_play.specs.Faults.{IsFaultOfPlay}
 use Rattle.cdb_play.specs.Left.{Leaves}
+use Rattle.cdb_play.specs.Streams.{Stream}
 use Rattle.cdb_play.specs.declared.fault.PlayFault.TheVariants as play
 use Rattle.cdb_rules.specs.RunView.{RunView}
 use Rattle.cdb_rules.specs.Rules.{Rules}
@@ -13,12 +14,12 @@ use Rattle.cdb_explain.specs.declared.fault.ExplainFault.{ExplainFault}
 use Rattle.cdb_explain.specs.declared.fault.ExplainFault.TheVariants.{NoStep, Play}
 
 -- the text is the explanation of that step of the run that the script leaves
-abbrev pub Explains : (Parts → Rules) → List ℕ → ℕ → Option ℕ → Option (List ℕ) → Option (List ℕ) → List ℕ → Type 0
+abbrev pub Explains : (Parts → Rules) → List ℕ → ℕ → Option ℕ → Stream → Stream → List ℕ → Type 0
 Explains rules json p k old new text =
     (run : RunView) × Leaves rules json old new run × IsStepExplained rules run p k text
 
 -- no such step stands in the run that the script leaves; else as a fault of a play
-abbrev pub IsFaultOfExplain : ExplainFault → (Parts → Rules) → List ℕ → ℕ → Option ℕ → Option (List ℕ) → Option (List ℕ) → Type 0
+abbrev pub IsFaultOfExplain : ExplainFault → (Parts → Rules) → List ℕ → ℕ → Option ℕ → Stream → Stream → Type 0
 IsFaultOfExplain NoStep rules json p k old new =
     (run : RunView) × Leaves rules json old new run × StandsNoStep run.history p k
 IsFaultOfExplain (Play fault) rules json p k old new = IsFaultOfPlay fault json old new

@@ -56,12 +56,12 @@ pub fn explain<T: Runs, R: Source, W: Sink>(
     out: &mut W,
 ) -> Result<(), ExplainFault>
     ensures wrote { IsWritten W.stream (explain_ending result) out.old out.new
-        (Explains T.rules setup.now p k (R.remaining script.old) (R.remaining script.new)) }
+        (Explains T.rules setup.now p k (R.stream script.old) (R.stream script.new)) }
     ensures fault { IfErr result (λ fault. IsFaultOfExplain fault T.rules setup.now p k
-        (R.remaining script.old) (R.remaining script.new)) }
+        (R.stream script.old) (R.stream script.new)) }
     ensures unread { (fault : SetupFaultName) →
         result ≡ Err (of_play (play.Setup fault)) → script.new ≡ script.old }
-    ensures read { FailsWhere R.failures (result ≡ Err (of_play play.Read)) script.old script.new }
+    ensures read { FailsWhere R.stream (result ≡ Err (of_play play.Read)) script.old script.new }
 {
     let control = left_by::<T, R>(alloc, setup, script)?;
     let run = chronicle_of(control);

@@ -11,8 +11,8 @@ pub record Stream : Type 0 where
 -- ---- readers
 
 -- the bytes were all that was left
-abbrev pub IsReadToEnd : Option (List ℕ) → List ℕ → Option (List ℕ) → Type 0
-IsReadToEnd old bytes new = Consumes old new bytes × IsAtEnd new
+abbrev pub IsReadToEnd : Stream → List ℕ → Stream → Type 0
+IsReadToEnd old bytes new = Consumes old.bytes new.bytes bytes × IsAtEnd new.bytes
 
 -- ---- failures
 
@@ -30,8 +30,10 @@ abbrev pub counted : Bool → ℕ → ℕ
 counted failed failures = if failed then one_more failures else failures
 
 -- one call of a reader or a writer failed where this holds, and else none
-abbrev pub FailsWhere : {X : Type 0} → (X → ℕ) → Type 0 → X → X → Type 0
-FailsWhere failures Here old new = (Here → failures new ≡ one_more (failures old)) × ((Here → ⊥) → failures new ≡ failures old)
+abbrev pub FailsWhere : {X : Type 0} → (X → Stream) → Type 0 → X → X → Type 0
+FailsWhere stream Here old new =
+    (Here → (stream new).failures ≡ one_more (stream old).failures)
+    × ((Here → ⊥) → (stream new).failures ≡ (stream old).failures)
 
 -- ---- writers
 

@@ -67,15 +67,15 @@ pub fn left_by<T: Runs, R: Source>(
     script: &mut R,
 ) -> Result<Control<T>, PlayFault>
     ensures left { IfOk result (λ control. Leaves T.rules setup.now
-        (R.remaining script.old) (R.remaining script.new) (run_of T.rules control)) }
+        (R.stream script.old) (R.stream script.new) (run_of T.rules control)) }
     ensures headline { IfOk result (λ control.
         Headline T.rules T.same_state control.setup control.seats control.journal) }
     ensures fault { IfErr result (λ fault.
-        IsFaultOfPlay fault setup.now (R.remaining script.old) (R.remaining script.new)) }
+        IsFaultOfPlay fault setup.now (R.stream script.old) (R.stream script.new)) }
     ensures written { result ≢ Err PlayFault.Write }
     ensures unread { (fault : SetupFaultName) → result ≡ Err (PlayFault.Setup fault) →
         script.new ≡ script.old }
-    ensures read { FailsWhere R.failures (result ≡ Err PlayFault.Read) script.old script.new }
+    ensures read { FailsWhere R.stream (result ≡ Err PlayFault.Read) script.old script.new }
 {
     let setup = Setup::read(alloc, setup)?;
     let commands = read_commands(alloc, script)?;

@@ -92,12 +92,12 @@ fn play_by<T: Runs, R: Source, W: Sink>(
     out: &mut W,
 ) -> Result<(), PlayFault>
     ensures wrote { IsWritten W.stream (play_ending result) out.old out.new
-        (Plays T.rules setup.now (R.remaining script.old) (R.remaining script.new)) }
+        (Plays T.rules setup.now (R.stream script.old) (R.stream script.new)) }
     ensures fault { IfErr result (λ fault.
-        IsFaultOfPlay fault setup.now (R.remaining script.old) (R.remaining script.new)) }
+        IsFaultOfPlay fault setup.now (R.stream script.old) (R.stream script.new)) }
     ensures unread { (fault : SetupFaultName) → result ≡ Err (PlayFault.Setup fault) →
         script.new ≡ script.old }
-    ensures read { FailsWhere R.failures (result ≡ Err PlayFault.Read) script.old script.new }
+    ensures read { FailsWhere R.stream (result ≡ Err PlayFault.Read) script.old script.new }
 {
     let setup = Setup::read(alloc, setup)?;
     let commands = read_commands(alloc, script)?;
@@ -120,15 +120,15 @@ pub fn play<T: Runs, R: Source, W: Sink>(
     out: &mut W,
 ) -> Result<(), PlayFault>
     ensures wrote { IsWritten W.stream (play_ending result) out.old out.new
-        (Plays T.rules setup.now (R.remaining script.old) (R.remaining script.new)) }
+        (Plays T.rules setup.now (R.stream script.old) (R.stream script.new)) }
     ensures headline { IsWritten W.stream (play_ending result) out.old out.new
         (RestsOnHeadline T.rules T.same_state setup.now
-        (R.remaining script.old) (R.remaining script.new)) }
+        (R.stream script.old) (R.stream script.new)) }
     ensures fault { IfErr result (λ fault.
-        IsFaultOfPlay fault setup.now (R.remaining script.old) (R.remaining script.new)) }
+        IsFaultOfPlay fault setup.now (R.stream script.old) (R.stream script.new)) }
     ensures unread { (fault : SetupFaultName) → result ≡ Err (PlayFault.Setup fault) →
         script.new ≡ script.old }
-    ensures read { FailsWhere R.failures (result ≡ Err PlayFault.Read) script.old script.new }
+    ensures read { FailsWhere R.stream (result ≡ Err PlayFault.Read) script.old script.new }
 {
     // Its clause says that the headline holds of every journal.
     laws::headline::<T>();

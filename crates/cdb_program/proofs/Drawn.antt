@@ -11,15 +11,15 @@ use Rattle.cdb_play.specs.declared.fault.PlayFault.TheVariants as play
 use Rattle.cdb_rules.specs.Algorithms.{rules}
 use Rattle.cdb_setup.specs.declared.fault.SetupFault.{SetupFault}
 use Rattle.cdb_program.specs.Drawing.{IsDrawn}
-use Rattle.cdb_program.proofs.Seen.{stream_of, stream_written}
+use Rattle.cdb_program.proofs.Seen.{stream_written}
 
-pub draw_seen : {R W : Type 0} (left : R → Option (List ℕ)) (unread : R → ℕ) (stream : W → Stream) (json : List ℕ) (step : Option StepAsked) (drawn : Result (Unit {0}) ExplainFault) (script rest : R) (old new : W)
-    → IsWritten stream (draw_ending drawn) old new (Draws rules json step (left script) (left rest)) → IfErr drawn (λ fault. IsFaultOfDraw fault rules json step (left script) (left rest))
-    → ((fault : SetupFault) → drawn ≡ Err (Play (play.Setup fault)) → rest ≡ script) → FailsWhere unread (drawn ≡ Err (Play play.Read)) script rest
-    → IsDrawn json step drawn (stream_of left unread script) (stream_of left unread rest) (stream old) (stream new)
-draw_seen left unread stream json step drawn script rest old new wrote fault same read = record {
-  wrote = stream_written stream (draw_ending drawn) old new (Draws rules json step (left script) (left rest)) wrote;
+pub draw_seen : {R W : Type 0} (reader : R → Stream) (writer : W → Stream) (json : List ℕ) (step : Option StepAsked) (drawn : Result (Unit {0}) ExplainFault) (script rest : R) (old new : W)
+    → IsWritten writer (draw_ending drawn) old new (Draws rules json step (reader script) (reader rest)) → IfErr drawn (λ fault. IsFaultOfDraw fault rules json step (reader script) (reader rest))
+    → ((fault : SetupFault) → drawn ≡ Err (Play (play.Setup fault)) → rest ≡ script) → FailsWhere reader (drawn ≡ Err (Play play.Read)) script rest
+    → IsDrawn json step drawn (reader script) (reader rest) (writer old) (writer new)
+draw_seen reader writer json step drawn script rest old new wrote fault same read = record {
+  wrote = stream_written writer (draw_ending drawn) old new (Draws rules json step (reader script) (reader rest)) wrote;
   fault = fault;
-  unread = λ why is. ap (stream_of left unread) (same why is);
+  unread = λ why is. ap reader (same why is);
   read = read;
 }

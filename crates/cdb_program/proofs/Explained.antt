@@ -10,15 +10,15 @@ use Rattle.cdb_play.specs.declared.fault.PlayFault.TheVariants as play
 use Rattle.cdb_rules.specs.Algorithms.{rules}
 use Rattle.cdb_setup.specs.declared.fault.SetupFault.{SetupFault}
 use Rattle.cdb_program.specs.Explaining.{IsExplained}
-use Rattle.cdb_program.proofs.Seen.{stream_of, stream_written}
+use Rattle.cdb_program.proofs.Seen.{stream_written}
 
-pub explain_seen : {R W : Type 0} (left : R → Option (List ℕ)) (unread : R → ℕ) (stream : W → Stream) (json : List ℕ) (p : ℕ) (k : Option ℕ) (explained : Result (Unit {0}) ExplainFault) (script rest : R) (old new : W)
-    → IsWritten stream (explain_ending explained) old new (Explains rules json p k (left script) (left rest)) → IfErr explained (λ fault. IsFaultOfExplain fault rules json p k (left script) (left rest))
-    → ((fault : SetupFault) → explained ≡ Err (Play (play.Setup fault)) → rest ≡ script) → FailsWhere unread (explained ≡ Err (Play play.Read)) script rest
-    → IsExplained json p k explained (stream_of left unread script) (stream_of left unread rest) (stream old) (stream new)
-explain_seen left unread stream json p k explained script rest old new wrote fault same read = record {
-  wrote = stream_written stream (explain_ending explained) old new (Explains rules json p k (left script) (left rest)) wrote;
+pub explain_seen : {R W : Type 0} (reader : R → Stream) (writer : W → Stream) (json : List ℕ) (p : ℕ) (k : Option ℕ) (explained : Result (Unit {0}) ExplainFault) (script rest : R) (old new : W)
+    → IsWritten writer (explain_ending explained) old new (Explains rules json p k (reader script) (reader rest)) → IfErr explained (λ fault. IsFaultOfExplain fault rules json p k (reader script) (reader rest))
+    → ((fault : SetupFault) → explained ≡ Err (Play (play.Setup fault)) → rest ≡ script) → FailsWhere reader (explained ≡ Err (Play play.Read)) script rest
+    → IsExplained json p k explained (reader script) (reader rest) (writer old) (writer new)
+explain_seen reader writer json p k explained script rest old new wrote fault same read = record {
+  wrote = stream_written writer (explain_ending explained) old new (Explains rules json p k (reader script) (reader rest)) wrote;
   fault = fault;
-  unread = λ why is. ap (stream_of left unread) (same why is);
+  unread = λ why is. ap reader (same why is);
   read = read;
 }

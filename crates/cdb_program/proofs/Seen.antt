@@ -1,5 +1,5 @@
 -- What is known of readers and writers, as streams.
-use Rattle.std.proofs.Common.{◌≡◌, ℕ, List, Option, Result, Err, ap, inl, inr}
+use Rattle.std.proofs.Common.{◌≡◌, ℕ, List, Result, Err, ap, inl, inr}
 use Rattle.std.specs.Prelude.{IfErr}
 use Rattle.cdb_play.specs.Endings.{Ending, Complete, WriterFailed, CutShort, NotBegun, play_ending}
 use Rattle.cdb_play.specs.Faults.{IsFaultOfPlay}
@@ -13,10 +13,6 @@ use Rattle.cdb_rules.specs.SameState.{ReachSameState}
 use Rattle.cdb_setup.specs.declared.fault.SetupFault.{SetupFault}
 use Rattle.cdb_program.specs.Playing.{IsPlay}
 
--- a reader, by the bytes that are left and the number of its failures
-abbrev pub stream_of : {R : Type 0} → (R → Option (List ℕ)) → (R → ℕ) → R → Stream
-stream_of left unread reader = record { bytes = left reader; failures = unread reader }
-
 -- what was written of a text, by the writer's stream
 pub stream_written : {W : Type 0} (stream : W → Stream) (ending : Ending) (old new : W) (IsText : List ℕ → Type 0) → IsWritten stream ending old new IsText → IsWritten (λ (s : Stream). s) ending (stream old) (stream new) IsText
 stream_written stream Complete old new IsText wrote = wrote
@@ -26,14 +22,14 @@ stream_written stream CutShort old new IsText (inr wrote) = inr wrote
 stream_written stream NotBegun old new IsText same = ap stream same
 
 -- what a play says of its reader and its writer
-pub play_seen : {R W : Type 0} (left : R → Option (List ℕ)) (unread : R → ℕ) (stream : W → Stream) (json : List ℕ) (played : Result (Unit {0}) PlayFault) (script rest : R) (old new : W)
-    → IsWritten stream (play_ending played) old new (Plays rules json (left script) (left rest)) → IsWritten stream (play_ending played) old new (RestsOnHeadline rules ReachSameState json (left script) (left rest)) → IfErr played (λ fault. IsFaultOfPlay fault json (left script) (left rest))
-    → ((fault : SetupFault) → played ≡ Err (play.Setup fault) → rest ≡ script) → FailsWhere unread (played ≡ Err play.Read) script rest
-    → IsPlay json played (stream_of left unread script) (stream_of left unread rest) (stream old) (stream new)
-play_seen left unread stream json played script rest old new wrote headline fault same read = record {
-  wrote = stream_written stream (play_ending played) old new (Plays rules json (left script) (left rest)) wrote;
-  headline = stream_written stream (play_ending played) old new (RestsOnHeadline rules ReachSameState json (left script) (left rest)) headline;
+pub play_seen : {R W : Type 0} (reader : R → Stream) (writer : W → Stream) (json : List ℕ) (played : Result (Unit {0}) PlayFault) (script rest : R) (old new : W)
+    → IsWritten writer (play_ending played) old new (Plays rules json (reader script) (reader rest)) → IsWritten writer (play_ending played) old new (RestsOnHeadline rules ReachSameState json (reader script) (reader rest)) → IfErr played (λ fault. IsFaultOfPlay fault json (reader script) (reader rest))
+    → ((fault : SetupFault) → played ≡ Err (play.Setup fault) → rest ≡ script) → FailsWhere reader (played ≡ Err play.Read) script rest
+    → IsPlay json played (reader script) (reader rest) (writer old) (writer new)
+play_seen reader writer json played script rest old new wrote headline fault same read = record {
+  wrote = stream_written writer (play_ending played) old new (Plays rules json (reader script) (reader rest)) wrote;
+  headline = stream_written writer (play_ending played) old new (RestsOnHeadline rules ReachSameState json (reader script) (reader rest)) headline;
   fault = fault;
-  unread = λ why is. ap (stream_of left unread) (same why is);
+  unread = λ why is. ap reader (same why is);
   read = read;
 }

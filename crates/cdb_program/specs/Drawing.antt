@@ -9,17 +9,17 @@ use Rattle.cdb_play.specs.Written.{IsWritten}
 use Rattle.cdb_play.specs.declared.fault.PlayFault.TheVariants as play
 use Rattle.cdb_rules.specs.Algorithms.{rules}
 use Rattle.cdb_setup.specs.declared.fault.SetupFault.{SetupFault}
-use Rattle.cdb_program.specs.Known.{Seen, failures, in_memory}
+use Rattle.cdb_program.specs.Known.{Seen, in_memory}
 use Rattle.cdb_program.specs.Outcomes.{Outcome, IsOfExplain}
 use Rattle.cdb_program.specs.Reading.{ReadsThen}
 
 -- The picture of the run that a script leaves on the setup of this text ended so. The script's reader and the output are
 -- seen before and after.
 pub record IsDrawn (json : List ℕ) (step : Option StepAsked) (drawn : Result (Unit {0}) ExplainFault) (script left old new : Stream) : Type 0 where
-  pub wrote : IsWritten (λ stream. stream) (draw_ending drawn) old new (Draws rules json step script.bytes left.bytes)
-  pub fault : IfErr drawn (λ fault. IsFaultOfDraw fault rules json step script.bytes left.bytes)
+  pub wrote : IsWritten (λ stream. stream) (draw_ending drawn) old new (Draws rules json step script left)
+  pub fault : IfErr drawn (λ fault. IsFaultOfDraw fault rules json step script left)
   pub unread : (fault : SetupFault) → drawn ≡ Err (Play (play.Setup fault)) → left ≡ script
-  pub read : FailsWhere failures (drawn ≡ Err (Play play.Read)) script left
+  pub read : FailsWhere (λ stream. stream) (drawn ≡ Err (Play play.Read)) script left
 
 -- the bytes of a setup and of a script, and the run that the script, of this name, leaves is drawn
 abbrev pub DrawsBytes : List ℕ → Option StepAsked → Stream → Stream → Outcome → List (List ℕ) → Type 0

@@ -19,10 +19,6 @@ pub record Seen : Type 0 where
   pub output : Stream
   pub error : Stream
 
--- of a stream
-abbrev pub failures : Stream → ℕ
-failures stream = stream.failures
-
 -- bytes in memory, of which no read fails
 abbrev pub in_memory : Option (List ℕ) → Stream
 in_memory bytes = record { bytes = bytes; failures = 0 }

@@ -22,10 +22,7 @@ impl<F: Files + Drop, I: Source + Drop, O: Sink + Drop, E: Sink + Drop> Model
 
     ghost view = { λ outside. record {
       files = F.seen outside.files;
-      input = record {
-        bytes = I.remaining outside.streams.input;
-        failures = I.failures outside.streams.input;
-      };
+      input = I.stream outside.streams.input;
       output = O.stream outside.streams.output;
       error = E.stream outside.error;
     } };

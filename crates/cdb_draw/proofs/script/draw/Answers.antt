@@ -9,8 +9,8 @@ use Rattle.cdb_draw.proofs.script.draw.Goals as goal
 
 pub returns-clause-wrote : goal.returns-clause-wrote
 returns-clause-wrote g c =
-    let old = g.R.Source.remaining c.args.script.now in
-    let new = g.R.Source.remaining c.left_by.new.script in
+    let old = g.R.Source.stream c.args.script.now in
+    let new = g.R.Source.stream c.left_by.new.script in
     let run : RunView = c.chronicle_of-run.result in
     let left = subst (Leaves g.T.Runs.rules c.args.setup.now old new) (sym c.chronicle_of-run.ensures.is) c.in_ok-control.ensures.left in
     written_as g.W.Sink.stream (draw_ending c.write_drawing.result) c.args.out.now c.write_drawing.new.out (IsPictureFor g.T.Runs.rules run c.args.step) (Draws g.T.Runs.rules c.args.setup.now c.args.step old new)
@@ -18,8 +18,8 @@ returns-clause-wrote g c =
 
 pub returns-clause-fault : goal.returns-clause-fault
 returns-clause-fault g c =
-    let old = g.R.Source.remaining c.args.script.now in
-    let new = g.R.Source.remaining c.left_by.new.script in
+    let old = g.R.Source.stream c.args.script.now in
+    let new = g.R.Source.stream c.left_by.new.script in
     let left = subst (Leaves g.T.Runs.rules c.args.setup.now old new) (sym c.chronicle_of-run.ensures.is) c.in_ok-control.ensures.left in
     fault_left g.T.Runs.rules c.args.setup.now c.args.step old new c.chronicle_of-run.result left c.write_drawing.result c.write_drawing.ensures.fault
 

@@ -9,8 +9,8 @@ use Rattle.cdb_explain.proofs.explains.explain.Goals as goal
 
 pub returns-clause-wrote : goal.returns-clause-wrote
 returns-clause-wrote g c =
-    let old = g.R.Source.remaining c.args.script.now in
-    let new = g.R.Source.remaining c.left_by.new.script in
+    let old = g.R.Source.stream c.args.script.now in
+    let new = g.R.Source.stream c.left_by.new.script in
     let run : RunView = c.chronicle_of-run.result in
     let left = subst (Leaves g.T.Runs.rules c.args.setup.now old new) (sym c.chronicle_of-run.ensures.is) c.in_ok-control.ensures.left in
     written_as g.W.Sink.stream (explain_ending c.write_explanation.result) c.args.out.now c.write_explanation.new.out (IsStepExplained g.T.Runs.rules run c.args.p c.args.k) (Explains g.T.Runs.rules c.args.setup.now c.args.p c.args.k old new)
@@ -18,8 +18,8 @@ returns-clause-wrote g c =
 
 pub returns-clause-fault : goal.returns-clause-fault
 returns-clause-fault g c =
-    let old = g.R.Source.remaining c.args.script.now in
-    let new = g.R.Source.remaining c.left_by.new.script in
+    let old = g.R.Source.stream c.args.script.now in
+    let new = g.R.Source.stream c.left_by.new.script in
     let run : RunView = c.chronicle_of-run.result in
     let left = subst (Leaves g.T.Runs.rules c.args.setup.now old new) (sym c.chronicle_of-run.ensures.is) c.in_ok-control.ensures.left in
     fault_left g.T.Runs.rules c.args.setup.now c.args.p c.args.k old new run left c.write_explanation.result c.write_explanation.ensures.fault

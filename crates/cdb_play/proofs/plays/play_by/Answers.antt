@@ -11,7 +11,7 @@ returns-clause-wrote g c =
     let setup = c.in_ok-setup.setup in
     let commands = c.in_ok-commands.commands.items in
     let rules_of = g.T.Runs.rules in
-    let is : Plays rules_of c.args.setup.now (g.R.Source.remaining c.args.script.now) (g.R.Source.remaining c.read_commands.new.script) (transcript (rules_of setup) setup commands) = (
+    let is : Plays rules_of c.args.setup.now (g.R.Source.stream c.args.script.now) (g.R.Source.stream c.read_commands.new.script) (transcript (rules_of setup) setup commands) = (
       given.0,
       given.1,
       record { setup = setup; commands = commands; stands = c.in_ok-setup.ensures.found; short = given.2.0; lines = given.2.1; is = refl },
@@ -25,7 +25,7 @@ returns-in_err-write_transcript-clause-wrote g c =
     let setup = c.in_ok-setup.setup in
     let commands = c.in_ok-commands.commands.items in
     let rules_of = g.T.Runs.rules in
-    let is : Plays rules_of c.args.setup.now (g.R.Source.remaining c.args.script.now) (g.R.Source.remaining c.read_commands.new.script) (transcript (rules_of setup) setup commands) = (
+    let is : Plays rules_of c.args.setup.now (g.R.Source.stream c.args.script.now) (g.R.Source.stream c.read_commands.new.script) (transcript (rules_of setup) setup commands) = (
       given.0,
       given.1,
       record { setup = setup; commands = commands; stands = c.in_ok-setup.ensures.found; short = given.2.0; lines = given.2.1; is = refl },

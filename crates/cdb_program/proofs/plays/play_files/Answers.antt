@@ -2,6 +2,7 @@ use Rattle.std.proofs.Common.{◌≡◌, ◌∙◌, ℕ, List, Some, Bor, ap, re
 use Rattle.cdb_play.specs.declared.input.Bytes.{Bytes}
 use Rattle.std.proofs.lemmas.Result.{err_from_is_err_and}
 use Rattle.cdb_program.proofs.Seen.{play_seen}
+use Rattle.cdb_program.specs.Known.{in_memory}
 use Rattle.cdb_program.proofs.plays.play_files.Goals as goal
 
 pub returns-in_err-json-clause-does : goal.returns-in_err-json-clause-does
@@ -26,7 +27,7 @@ returns-clause-does g c =
           Some c.play-played.new.script.rest.now,
           c.of_play.ensures,
           rw (← json_is, ← bytes_is)
-              (play_seen (λ (b : Bytes). Some b.rest.now) (λ (b : Bytes). 0) g.O.Sink.stream c.as_slice-2.result.now c.play-played.result c.new-commands.result c.play-played.new.script _ _ said.wrote said.headline said.fault said.unread said.read),
+              (play_seen (λ (b : Bytes). in_memory (Some b.rest.now)) g.O.Sink.stream c.as_slice-2.result.now c.play-played.result c.new-commands.result c.play-played.new.script _ _ said.wrote said.headline said.fault said.unread said.read),
         ),
       ),
     )
