@@ -58,10 +58,6 @@ module _ (Missing : Type 0) where
 pub no_err : {A E : Type 0} (value : A) (error : E) → (let result : Result A E = Ok value in result) ≡ Err error → ⊥
 no_err value error same = cc
 
-module _ {A : Type 0} (answer : Option A) (P : Type 0) (Q : A → Type 0) where
-  pub answered_some : (text : A) → answer ≡ Some text → MatchOption answer P Q → Q text
-  answered_some text is told = subst (λ (a : Option A). MatchOption a P Q) is told
-
 -- a refused look for causes adds nothing
 pub no_because : (answer : Result (List StepId) Refusal) {A : Type 0} (P : List StepId → Type 0) (result : Result A Refusal) (why : Refusal)
     → MatchResult answer (λ causes. P causes × IsOk result) (λ refusal. result ≡ Err refusal) → result ≡ Err why → because_text answer ≡ []

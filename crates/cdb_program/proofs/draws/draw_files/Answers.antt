@@ -8,7 +8,7 @@ use Rattle.cdb_program.proofs.draws.draw_files.Goals as goal
 pub returns-in_err-json-clause-does : goal.returns-in_err-json-clause-does
 returns-in_err-json-clause-does g c =
     let p = err_from_is_err_and c.from_residual.result c.from_residual.ensures.1 in
-    rw (p.1, p.2, ← c.outside.view_is) (refl, inl (c.in_err-json.ensures.fault, refl))
+    rw (p.1, p.2, ← c.outside.view_is) (refl, inl (c.in_err-json.ensures, refl))
 
 pub returns-clause-does : goal.returns-clause-does
 returns-clause-does g c =
@@ -21,7 +21,7 @@ returns-clause-does g c =
       refl,
       inr (
         json ∷ bytes ∷ [],
-        c.in_ok-json.ensures.read,
+        c.in_ok-json.ensures,
         (
           c.draw-drawn.result,
           Some c.draw-drawn.new.script.rest.now,
