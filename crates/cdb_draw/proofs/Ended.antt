@@ -26,8 +26,8 @@ draw_ends A output.NoMemory = refl
 -- ---- the run that a script left
 
 pub fault_left : (rules : Parts → Rules) (json : List ℕ) (step : Option StepAsked) (old new : Stream) (run : RunView) → Leaves rules json old new run
-    → (result : Result (Unit {0}) ExplainFault) → IfErr result (IsFaultOfStep (IsMissing run.history step)) → IfErr result (λ fault. IsFaultOfDraw fault rules json step old new)
+    → (result : Result (Unit {0}) ExplainFault) → IfErr result (IsFaultOfStep (IsMissing run.history step)) → IfErr result (IsFaultOfDraw rules json step old new)
 fault_left rules json step old new run left (Ok done) none = tt
 fault_left rules json step old new run left (Err NoStep) missing = (run, left, missing)
 fault_left rules json step old new run left (Err (Play fault)) (why, is) =
-    subst (λ (f : PlayFault). IsFaultOfPlay f json old new) (sym is) (output_fault why json old new (left.2.setup, left.2.stands))
+    subst (IsFaultOfPlay json old new) (sym is) (output_fault why json old new (left.2.setup, left.2.stands))

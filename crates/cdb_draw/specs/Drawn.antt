@@ -37,10 +37,10 @@ Draws rules json step old new text =
     (run : RunView) × Leaves rules json old new run × IsPictureFor rules run step text
 
 -- the step does not stand in the run that the script leaves; else as a fault of a play
-abbrev pub IsFaultOfDraw : ExplainFault → (Parts → Rules) → List ℕ → Option StepAsked → Stream → Stream → Type 0
-IsFaultOfDraw NoStep rules json step old new =
+abbrev pub IsFaultOfDraw : (Parts → Rules) → List ℕ → Option StepAsked → Stream → Stream → ExplainFault → Type 0
+IsFaultOfDraw rules json step old new NoStep =
     (run : RunView) × Leaves rules json old new run × IsMissing run.history step
-IsFaultOfDraw (Play fault) rules json step old new = IsFaultOfPlay fault json old new
+IsFaultOfDraw rules json step old new (Play fault) = IsFaultOfPlay json old new fault
 
 -- how the writing of a picture ended, which is written in pieces as it is drawn
 abbrev pub draw_ending : {A : Type 0} → Result A ExplainFault → Ending

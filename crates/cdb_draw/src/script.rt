@@ -74,8 +74,8 @@ pub fn draw<T: Runs, R: Source, W: Sink>(
 ) -> Result<(), ExplainFault>
     ensures wrote { IsWritten W.stream (draw_ending result) out.old out.new
         (Draws T.rules setup.now step (R.stream script.old) (R.stream script.new)) }
-    ensures fault { IfErr result (λ fault. IsFaultOfDraw fault T.rules setup.now step
-        (R.stream script.old) (R.stream script.new)) }
+    ensures fault { IfErr result
+        (IsFaultOfDraw T.rules setup.now step (R.stream script.old) (R.stream script.new)) }
     ensures unread { (fault : SetupFaultName) →
         result ≡ Err (of_play (play.Setup fault)) → script.new ≡ script.old }
     ensures read { FailsWhere R.stream (result ≡ Err (of_play play.Read)) script.old script.new }

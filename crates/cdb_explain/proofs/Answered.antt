@@ -30,16 +30,16 @@ same_run rules run control setup history =
 
 -- ---- the step of the run that a script left
 
-pub output_fault : (why : OutputFault) (json : List ℕ) (old new : Stream) → IsSetup json → IsFaultOfPlay (of_output why) json old new
+pub output_fault : (why : OutputFault) (json : List ℕ) (old new : Stream) → IsSetup json → IsFaultOfPlay json old new (of_output why)
 output_fault output.Write json old new setup = setup
 output_fault output.NoMemory json old new setup = tt
 
 pub fault_left : (rules : Parts → Rules) (json : List ℕ) (p : ℕ) (k : Option ℕ) (old new : Stream) (run : RunView) → Leaves rules json old new run
-    → (result : Result (Unit {0}) ExplainFault) → IfErr result (IsFaultOfStep (StandsNoStep run.history p k)) → IfErr result (λ fault. IsFaultOfExplain fault rules json p k old new)
+    → (result : Result (Unit {0}) ExplainFault) → IfErr result (IsFaultOfStep (StandsNoStep run.history p k)) → IfErr result (IsFaultOfExplain rules json p k old new)
 fault_left rules json p k old new run left (Ok done) none = tt
 fault_left rules json p k old new run left (Err NoStep) none = (run, left, none)
 fault_left rules json p k old new run left (Err (Play fault)) (why, is) =
-    subst (λ (f : PlayFault). IsFaultOfPlay f json old new) (sym is) (output_fault why json old new (left.2.setup, left.2.stands))
+    subst (IsFaultOfPlay json old new) (sym is) (output_fault why json old new (left.2.setup, left.2.stands))
 
 -- what is said of a fault after the run stood: it is none of reading
 module _ (Missing : Type 0) where

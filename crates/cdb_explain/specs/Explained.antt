@@ -19,10 +19,10 @@ Explains rules json p k old new text =
     (run : RunView) × Leaves rules json old new run × IsStepExplained rules run p k text
 
 -- no such step stands in the run that the script leaves; else as a fault of a play
-abbrev pub IsFaultOfExplain : ExplainFault → (Parts → Rules) → List ℕ → ℕ → Option ℕ → Stream → Stream → Type 0
-IsFaultOfExplain NoStep rules json p k old new =
+abbrev pub IsFaultOfExplain : (Parts → Rules) → List ℕ → ℕ → Option ℕ → Stream → Stream → ExplainFault → Type 0
+IsFaultOfExplain rules json p k old new NoStep =
     (run : RunView) × Leaves rules json old new run × StandsNoStep run.history p k
-IsFaultOfExplain (Play fault) rules json p k old new = IsFaultOfPlay fault json old new
+IsFaultOfExplain rules json p k old new (Play fault) = IsFaultOfPlay json old new fault
 
 -- how the writing of an explanation ended, which is whole before any of it is written
 abbrev pub explain_ending : {A : Type 0} → Result A ExplainFault → Ending

@@ -57,8 +57,8 @@ pub fn explain<T: Runs, R: Source, W: Sink>(
 ) -> Result<(), ExplainFault>
     ensures wrote { IsWritten W.stream (explain_ending result) out.old out.new
         (Explains T.rules setup.now p k (R.stream script.old) (R.stream script.new)) }
-    ensures fault { IfErr result (λ fault. IsFaultOfExplain fault T.rules setup.now p k
-        (R.stream script.old) (R.stream script.new)) }
+    ensures fault { IfErr result
+        (IsFaultOfExplain T.rules setup.now p k (R.stream script.old) (R.stream script.new)) }
     ensures unread { (fault : SetupFaultName) →
         result ≡ Err (of_play (play.Setup fault)) → script.new ≡ script.old }
     ensures read { FailsWhere R.stream (result ≡ Err (of_play play.Read)) script.old script.new }

@@ -65,10 +65,13 @@ last_decisions rules c = (rules c.setup).decisions (control_state rules c).histo
 abbrev pub script_seats : Journaled → List ℕ
 script_seats c = range_with_len (c.setup.processes + 1) (c.seats - c.setup.processes)
 
+-- the seats of the scripts with these answers, and then the decisions of the last state
+abbrev pub text_with : (Parts → Rules) → Journaled → List (List Answer) → List ℕ
+text_with rules c answers = seats_text (c.setup.processes + 1) answers ++ end_text (last_decisions rules c)
+
 -- the text of a race with this journal
 unfoldable pub race_text : (Parts → Rules) → Journaled → List ℕ
-race_text rules c =
-    seats_text (c.setup.processes + 1) (map (λ seat. answers_to rules seat c) (script_seats c)) ++ end_text (last_decisions rules c)
+race_text rules c = text_with rules c (map (λ seat. answers_to rules seat c) (script_seats c))
 
 -- ---- the scripts
 

@@ -70,8 +70,8 @@ pub fn left_by<T: Runs, R: Source>(
         (R.stream script.old) (R.stream script.new) (run_of T.rules control)) }
     ensures headline { IfOk result (λ control.
         Headline T.rules T.same_state control.setup control.seats control.journal) }
-    ensures fault { IfErr result (λ fault.
-        IsFaultOfPlay fault setup.now (R.stream script.old) (R.stream script.new)) }
+    ensures fault { IfErr result
+        (IsFaultOfPlay setup.now (R.stream script.old) (R.stream script.new)) }
     ensures written { result ≢ Err PlayFault.Write }
     ensures unread { (fault : SetupFaultName) → result ≡ Err (PlayFault.Setup fault) →
         script.new ≡ script.old }

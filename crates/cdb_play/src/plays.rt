@@ -93,8 +93,8 @@ fn play_by<T: Runs, R: Source, W: Sink>(
 ) -> Result<(), PlayFault>
     ensures wrote { IsWritten W.stream (play_ending result) out.old out.new
         (Plays T.rules setup.now (R.stream script.old) (R.stream script.new)) }
-    ensures fault { IfErr result (λ fault.
-        IsFaultOfPlay fault setup.now (R.stream script.old) (R.stream script.new)) }
+    ensures fault { IfErr result
+        (IsFaultOfPlay setup.now (R.stream script.old) (R.stream script.new)) }
     ensures unread { (fault : SetupFaultName) → result ≡ Err (PlayFault.Setup fault) →
         script.new ≡ script.old }
     ensures read { FailsWhere R.stream (result ≡ Err PlayFault.Read) script.old script.new }
@@ -124,8 +124,8 @@ pub fn play<T: Runs, R: Source, W: Sink>(
     ensures headline { IsWritten W.stream (play_ending result) out.old out.new
         (RestsOnHeadline T.rules T.same_state setup.now
         (R.stream script.old) (R.stream script.new)) }
-    ensures fault { IfErr result (λ fault.
-        IsFaultOfPlay fault setup.now (R.stream script.old) (R.stream script.new)) }
+    ensures fault { IfErr result
+        (IsFaultOfPlay setup.now (R.stream script.old) (R.stream script.new)) }
     ensures unread { (fault : SetupFaultName) → result ≡ Err (PlayFault.Setup fault) →
         script.new ≡ script.old }
     ensures read { FailsWhere R.stream (result ≡ Err PlayFault.Read) script.old script.new }

@@ -102,8 +102,7 @@ pub(crate) fn read_commands<R: Source>(
     ensures commands { IfOk result (λ commands. GivesCommands
         (R.stream script.old) (R.stream script.new) commands.items) }
     ensures few { IfOk result (λ commands. length commands.items < MAX_ENTRIES) }
-    ensures fault { IfErr result (λ fault.
-        IsFaultOfReading fault (R.stream script.old) (R.stream script.new)) }
+    ensures fault { IfErr result (IsFaultOfReading (R.stream script.old) (R.stream script.new)) }
     ensures read { FailsWhere R.stream (result ≡ Err PlayFault.Read) script.old script.new }
 {
     let bytes = read_up_to(alloc, script, MAX_BYTES + 1)?;

@@ -13,7 +13,7 @@ use Rattle.cdb_program.specs.Explaining.{IsExplained}
 use Rattle.cdb_program.proofs.Seen.{stream_written}
 
 pub explain_seen : {R W : Type 0} (reader : R → Stream) (writer : W → Stream) (json : List ℕ) (p : ℕ) (k : Option ℕ) (explained : Result (Unit {0}) ExplainFault) (script rest : R) (old new : W)
-    → IsWritten writer (explain_ending explained) old new (Explains rules json p k (reader script) (reader rest)) → IfErr explained (λ fault. IsFaultOfExplain fault rules json p k (reader script) (reader rest))
+    → IsWritten writer (explain_ending explained) old new (Explains rules json p k (reader script) (reader rest)) → IfErr explained (IsFaultOfExplain rules json p k (reader script) (reader rest))
     → ((fault : SetupFault) → explained ≡ Err (Play (play.Setup fault)) → rest ≡ script) → FailsWhere reader (explained ≡ Err (Play play.Read)) script rest
     → IsExplained json p k explained (reader script) (reader rest) (writer old) (writer new)
 explain_seen reader writer json p k explained script rest old new wrote fault same read = record {

@@ -23,7 +23,7 @@ stream_written stream NotBegun old new IsText same = ap stream same
 
 -- what a play says of its reader and its writer
 pub play_seen : {R W : Type 0} (reader : R → Stream) (writer : W → Stream) (json : List ℕ) (played : Result (Unit {0}) PlayFault) (script rest : R) (old new : W)
-    → IsWritten writer (play_ending played) old new (Plays rules json (reader script) (reader rest)) → IsWritten writer (play_ending played) old new (RestsOnHeadline rules ReachSameState json (reader script) (reader rest)) → IfErr played (λ fault. IsFaultOfPlay fault json (reader script) (reader rest))
+    → IsWritten writer (play_ending played) old new (Plays rules json (reader script) (reader rest)) → IsWritten writer (play_ending played) old new (RestsOnHeadline rules ReachSameState json (reader script) (reader rest)) → IfErr played (IsFaultOfPlay json (reader script) (reader rest))
     → ((fault : SetupFault) → played ≡ Err (play.Setup fault) → rest ≡ script) → FailsWhere reader (played ≡ Err play.Read) script rest
     → IsPlay json played (reader script) (reader rest) (writer old) (writer new)
 play_seen reader writer json played script rest old new wrote headline fault same read = record {

@@ -17,7 +17,7 @@ use Rattle.cdb_program.specs.Reading.{ReadsThen}
 -- seen before and after.
 pub record IsDrawn (json : List ℕ) (step : Option StepAsked) (drawn : Result (Unit {0}) ExplainFault) (script left old new : Stream) : Type 0 where
   pub wrote : IsWritten (λ stream. stream) (draw_ending drawn) old new (Draws rules json step script left)
-  pub fault : IfErr drawn (λ fault. IsFaultOfDraw fault rules json step script left)
+  pub fault : IfErr drawn (IsFaultOfDraw rules json step script left)
   pub unread : (fault : SetupFault) → drawn ≡ Err (Play (play.Setup fault)) → left ≡ script
   pub read : FailsWhere (λ stream. stream) (drawn ≡ Err (Play play.Read)) script left
 

@@ -16,7 +16,7 @@ use Rattle.cdb_program.specs.Reading.{ReadsThen}
 -- the output are seen before and after.
 pub record IsExplained (json : List ℕ) (p : ℕ) (k : Option ℕ) (explained : Result (Unit {0}) ExplainFault) (script left old new : Stream) : Type 0 where
   pub wrote : IsWritten (λ stream. stream) (explain_ending explained) old new (Explains rules json p k script left)
-  pub fault : IfErr explained (λ fault. IsFaultOfExplain fault rules json p k script left)
+  pub fault : IfErr explained (IsFaultOfExplain rules json p k script left)
   pub unread : (fault : SetupFault) → explained ≡ Err (Play (play.Setup fault)) → left ≡ script
   pub read : FailsWhere (λ stream. stream) (explained ≡ Err (Play play.Read)) script left
 

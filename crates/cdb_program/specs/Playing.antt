@@ -18,7 +18,7 @@ use Rattle.cdb_rules.specs.SameState.{ReachSameState}
 pub record IsPlay (json : List ℕ) (played : Result (Unit {0}) PlayFault) (script left old new : Stream) : Type 0 where
   pub wrote : IsWritten (λ stream. stream) (play_ending played) old new (Plays rules json script left)
   pub headline : IsWritten (λ stream. stream) (play_ending played) old new (RestsOnHeadline rules ReachSameState json script left)
-  pub fault : IfErr played (λ fault. IsFaultOfPlay fault json script left)
+  pub fault : IfErr played (IsFaultOfPlay json script left)
   pub unread : (fault : SetupFault) → played ≡ Err (play.Setup fault) → left ≡ script
   pub read : FailsWhere (λ stream. stream) (played ≡ Err play.Read) script left
 

@@ -6,7 +6,7 @@ ghost use Rattle.cdb_base.specs.declared.limits.TheConstants.{MAX_SEATS};
 ghost use Rattle.cdb_control.specs.Answer.{told};
 ghost use Rattle.cdb_race.specs.Races.{all_told};
 ghost use Rattle.cdb_text.specs.Texts.{text_of};
-ghost use Rattle.cdb_play.specs.Races.{seat_line, seat_text, seats_text, end_text, verdict_text, have_one_value, last_decisions};
+ghost use Rattle.cdb_play.specs.Races.{seat_line, seat_text, seats_text, end_text, verdict_text, have_one_value, text_with};
 ghost use Rattle.cdb_play.specs.Buffers.{Puts};
 ghost use Rattle.cdb_play.specs.Endings.{pieces_ending};
 ghost use Rattle.cdb_play.specs.Written.{IsWritten, Only};
@@ -128,8 +128,7 @@ fn put_race<T: Runs, W: Sink>(
 ) -> Result<(), OutputFault>
     requires { control.now.setup.processes + length replies.now ≤ MAX_SEATS }
     ensures { Puts W.stream result out.old buffer.old out.new buffer.new
-        (seats_text (control.now.setup.processes + 1) (all_told replies.now)
-        ++ end_text (last_decisions T.rules control.now)) }
+        (text_with T.rules control.now (all_told replies.now)) }
 {
     let run = control.run();
     let mut text = String::new(alloc);
@@ -155,8 +154,7 @@ pub(super) fn write_race<T: Runs, W: Sink>(
     requires seats { control.now.setup.processes + length replies.now ≤ MAX_SEATS }
     requires empty { buffer ≡ [] }
     ensures { IsWritten W.stream (pieces_ending result) out.old out.new
-        (Only (seats_text (control.now.setup.processes + 1) (all_told replies.now)
-        ++ end_text (last_decisions T.rules control.now))) }
+        (Only (text_with T.rules control.now (all_told replies.now))) }
 {
     let mut buffer = buffer;
     put_race(alloc, control, replies, &mut buffer, out)?;
