@@ -31,3 +31,7 @@ pub record IsRunLeft (rules : Parts → Rules) (json script : List ℕ) (run : R
 -- a reader was read to its end, and the run is the one that the script leaves that it gave
 abbrev pub Leaves : (Parts → Rules) → List ℕ → Stream → Stream → RunView → Type 0
 Leaves rules json old new run = (script : List ℕ) × IsReadToEnd old script new × IsRunLeft rules json script run
+
+-- the same, where the run is that of a control
+abbrev pub LeavesControl : (Parts → Rules) → List ℕ → Stream → Stream → Journaled → Type 0
+LeavesControl rules json old new control = Leaves rules json old new (run_of rules control)

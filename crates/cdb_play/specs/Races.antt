@@ -9,6 +9,7 @@ use Rattle.cdb_race.specs.Faults as of_threads
 use Rattle.cdb_race.specs.Races.{IsRaced, MayFill, answers_to}
 use Rattle.cdb_race.specs.declared.threads.RaceFault.{RaceFault as ThreadFault}
 use Rattle.cdb_race.specs.declared.threads.RaceFault.TheVariants as threads
+use Rattle.cdb_rules.specs.Agreement.{HasMajorityIfNeeded}
 use Rattle.cdb_rules.specs.Rules.{Rules}
 use Rattle.cdb_setup.specs.Format.{Encodes}
 use Rattle.cdb_setup.specs.Order.{IsFirstFault}
@@ -48,6 +49,10 @@ have_one_value (pair ∷ pairs) = list_all (λ other. other.1 == pair.1) pairs
 -- whether they agree
 abbrev pub verdict_text : List (ℕ × ℕ) → List ℕ
 verdict_text decisions = if have_one_value decisions then codes "decisions agree\n" else codes "decisions differ\n"
+
+-- the text is that of a setup that has a majority if it needs one
+abbrev pub IsSetupWithMajority : List ℕ → Type 0
+IsSetupWithMajority json = (setup : Parts) × Encodes json setup × HasMajorityIfNeeded setup
 
 -- the last line of the text says that the decisions agree
 abbrev pub EndsInAgreement : List ℕ → Type 0

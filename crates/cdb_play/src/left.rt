@@ -7,7 +7,7 @@ ghost use Rattle.cdb_control.specs.Journal.{extended};
 ghost use Rattle.cdb_setup.specs.declared.fault.SetupFault.{SetupFault as SetupFaultName};
 ghost use Rattle.cdb_play.specs.Endings.{whole_ending};
 ghost use Rattle.cdb_play.specs.Faults.{IsFaultOfPlay};
-ghost use Rattle.cdb_play.specs.Left.{carried_out, run_of, Leaves};
+ghost use Rattle.cdb_play.specs.Left.{carried_out, LeavesControl};
 ghost use Rattle.cdb_play.specs.Streams.{FailsWhere};
 ghost use Rattle.cdb_play.specs.Written.{IsWritten, Only};
 
@@ -66,8 +66,8 @@ pub fn left_by<T: Runs, R: Source>(
     setup: &[u8],
     script: &mut R,
 ) -> Result<Control<T>, PlayFault>
-    ensures left { IfOk result (λ control. Leaves T.rules setup.now
-        (R.stream script.old) (R.stream script.new) (run_of T.rules control)) }
+    ensures left { IfOk result
+        (LeavesControl T.rules setup.now (R.stream script.old) (R.stream script.new)) }
     ensures headline { IfOk result (λ control.
         Headline T.rules T.same_state control.setup control.seats control.journal) }
     ensures fault { IfErr result

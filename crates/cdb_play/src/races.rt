@@ -8,7 +8,7 @@ ghost use Rattle.cdb_rules.specs.Agreement.{HasMajorityIfNeeded};
 ghost use Rattle.cdb_setup.specs.Format.{Encodes};
 ghost use Rattle.cdb_setup.specs.Parts.{Parts};
 ghost use Rattle.cdb_play.specs.Races.{race_fault_of_script, bytes_of, AreScripts, IsTextOnSetup, IsTextOfRace};
-ghost use Rattle.cdb_play.specs.Races.{IsNotStopped, IsFaultUngated, IsFaultOnSetup, IsFaultOfRace};
+ghost use Rattle.cdb_play.specs.Races.{IsNotStopped, IsFaultUngated, IsFaultOnSetup, IsFaultOfRace, IsSetupWithMajority};
 ghost use Rattle.cdb_play.specs.Races.{IsTextOfCommands, IsFaultOfScripts, IsFaultOfCommands};
 ghost use Rattle.cdb_play.specs.Endings.{race_ending};
 ghost use Rattle.cdb_play.specs.Written.{AgreesAtEnd, IsWritten};
@@ -240,8 +240,7 @@ pub fn race_with<T: Runs + Send, G: Gate + Drop + Send, R: Threads + Wait + Sync
         → vec_len gates ≡ parts.processes + length scripts.now }
     ensures wrote { IsWritten W.stream (race_ending result) out.old out.new
         (IsTextOfRace T.rules setup.now turns (bytes_of scripts.now)) }
-    ensures agree { (parts : Parts) → Encodes setup.now parts → HasMajorityIfNeeded parts
-        → AgreesAtEnd W.stream result out.old out.new }
+    ensures agree { IsSetupWithMajority setup.now → AgreesAtEnd W.stream result out.old out.new }
     ensures fault { IfErr result
         (IsFaultOfRace (IsFaultBehind T T.rules G.heard G.passes gates.items)
         setup.now turns (bytes_of scripts.now)) }
@@ -264,8 +263,7 @@ pub fn race<T: Runs + Send, R: Threads + Wait + Sync, W: Sink>(
         parts.processes + length scripts.now ≤ MAX_SEATS }
     ensures wrote { IsWritten W.stream (race_ending result) out.old out.new
         (IsTextOfRace T.rules setup.now turns (bytes_of scripts.now)) }
-    ensures agree { (parts : Parts) → Encodes setup.now parts → HasMajorityIfNeeded parts
-        → AgreesAtEnd W.stream result out.old out.new }
+    ensures agree { IsSetupWithMajority setup.now → AgreesAtEnd W.stream result out.old out.new }
     ensures fault { IfErr result
         (IsFaultOfRace IsFaultUngated setup.now turns (bytes_of scripts.now)) }
 {

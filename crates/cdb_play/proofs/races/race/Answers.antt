@@ -30,11 +30,11 @@ returns-in_err-parts-clause-fault g c =
     rw (p.1, p.2) (of_setup_read IsFaultUngated c.args.turns c.args.setup.now (bytes_of c.args.scripts.now) c.in_err-parts.field-0.0 c.in_err-parts.ensures.fault)
 
 pub returns-in_err-parts-clause-agree : goal.returns-in_err-parts-clause-agree
-returns-in_err-parts-clause-agree g c = λ parts stands majority.
+returns-in_err-parts-clause-agree g c = λ majority.
     let p = err_from_is_err_and c.from_residual.result c.from_residual.ensures.1 in
     rw p.1 tt
 
 pub returns-clause-agree : goal.returns-clause-agree
-returns-clause-agree g c = λ parts stands majority.
+returns-clause-agree g c = λ of_majority.
     let found = c.in_ok-parts.parts in
-    c.race_on.ensures.agree (subst HasMajorityIfNeeded (sym (same_setup (Ok found) found parts refl (c.in_ok-parts.ensures.only parts stands))) majority)
+    c.race_on.ensures.agree (subst HasMajorityIfNeeded (sym (same_setup (Ok found) found of_majority.0 refl (c.in_ok-parts.ensures.only of_majority.0 of_majority.1))) of_majority.2)
