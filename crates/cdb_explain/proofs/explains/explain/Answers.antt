@@ -1,4 +1,4 @@
-use Rattle.std.proofs.Common.{ℕ, List, sym, subst}
+use Rattle.std.proofs.Common.{sym, subst}
 use Rattle.cdb_rules.specs.RunView.{RunView}
 use Rattle.cdb_play.specs.Left.{Leaves}
 use Rattle.cdb_explain.specs.Explained.{explain_ending, Explains}
