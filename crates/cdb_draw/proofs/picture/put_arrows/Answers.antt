@@ -1,4 +1,4 @@
-use Rattle.std.proofs.Common.{ℕ, List, ◌<◌, ◌≡◌, length, ap, subst, ◌∙◌}
+use Rattle.std.proofs.Common.{ℕ, List, ◌<◌, ◌≡◌, length, subst}
 use Rattle.std.proofs.lemmas.Result.{err_from_is_err_and}
 use Rattle.cdb_base.specs.declared.event.Event.{Event}
 use Rattle.cdb_draw.specs.Arrows.{arrow_at}

@@ -1,5 +1,4 @@
-use Rattle.std.proofs.Common.{ℕ, List, ◌<◌, ◌≡◌, length, Some, slice_get, IsTrue, refl, ap, subst, ◌∙◌, arith}
-use Rattle.std.proofs.lemmas.Option.{slice_get_read}
+use Rattle.std.proofs.Common.{ℕ, List, ◌<◌, ◌≡◌, length, Some, slice_get, ap, subst, arith}
 use Rattle.std.proofs.lemmas.Result.{err_from_is_err_and}
 use Rattle.cdb_base.specs.declared.event.Event.{Event}
 use Rattle.std.specs.List.{flat_map, range_with_len}

@@ -1,4 +1,4 @@
-use Rattle.std.proofs.Common.{rules, ◌≡◌, ◌<◌, ◌+◌, arith, length}
+use Rattle.std.proofs.Common.{rules, ◌<◌, length}
 use Rattle.cdb_debug.proofs.Ending.{read_to_end}
 use Rattle.cdb_debug.proofs.streams.StreamsTalk.read.Goals as goal
 
