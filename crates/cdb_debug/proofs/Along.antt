@@ -1,7 +1,6 @@
 -- A dialogue grows by one answer after the other.
-use Rattle.std.proofs.Common.{◌≡◌, ℕ, List, [], ◌∷◌, ◌++◌, refl, sym, ap, ◌∙◌, append_assoc, append-nil}
+use Rattle.std.proofs.Common.{◌≡◌, ℕ, List, [], ◌∷◌, ◌++◌, sym, ap, ◌∙◌, append_assoc, append-nil}
 use Rattle.std.proofs.lemmas.Grind.{fold-append}
-use Rattle.cdb_setup.specs.Parts.{Parts}
 use Rattle.cdb_debug.specs.Dialogues.{Session, after, session_after, shown, shown_from, dialogue}
 use Rattle.cdb_debug.specs.declared.request.Request.{Request}
 

@@ -1,5 +1,5 @@
 -- What lines ask for.
-use Rattle.std.proofs.Common.{◌≡◌, ◌≢◌, ◌⊎◌, inl, inr, ℕ, ◌+◌, ◌-◌, ◌<◌, ◌≤◌, Bool, true, false, List, [], ◌∷◌, ◌++◌, length, take, get_or, refl, sym, ap, subst, ◌∙◌, arith}
+use Rattle.std.proofs.Common.{◌≡◌, ◌≢◌, inl, inr, ℕ, ◌+◌, ◌≤◌, Bool, true, false, List, [], ◌∷◌, ◌++◌, length, get_or, refl, sym, ap, subst, ◌∙◌, arith}
 use Rattle.std.specs.Prelude.{if◌then◌else◌}
 use Rattle.std.specs.List.{AllZip, AllByRecursion}
 use Rattle.std.specs.Str.{bytes_eq}
@@ -7,7 +7,7 @@ use Rattle.std.proofs.lemmas.List.{length-take, take_all}
 use Rattle.std.proofs.lemmas.Slice.Eq.{bytes_eq-Decides}
 use Rattle.cdb_setup.specs.Format.{longest}
 use Rattle.cdb_debug.specs.Held.{held_of}
-use Rattle.cdb_debug.specs.Requests.{Asks, Means, HaveQuit, quit_line, seat_line, up_to_quit}
+use Rattle.cdb_debug.specs.Requests.{Asks, HaveQuit, quit_line, up_to_quit}
 use Rattle.cdb_debug.specs.declared.request.Request.{Request}
 use Rattle.cdb_debug.specs.declared.request.Request.TheVariants.{Call, Seat, Help, Quit, Fault, TooLong}
 

@@ -1,5 +1,5 @@
 -- A session from its first line to its last.
-use Rattle.std.proofs.Common.{◌≡◌, ◌⊎◌, inl, inr, ℕ, ◌+◌, ◌<◌, ◌≤◌, Bool, true, false, List, [], ◌∷◌, ◌++◌, length, Option, refl, sym, ap, subst, ◌∙◌, append_assoc, append-nil, arith, length-append}
+use Rattle.std.proofs.Common.{◌≡◌, inl, inr, ℕ, ◌+◌, ◌<◌, ◌≤◌, Bool, true, false, List, [], ◌∷◌, ◌++◌, length, refl, sym, ap, subst, ◌∙◌, append-nil, arith, length-append}
 use Rattle.std.specs.Prelude.{Result, Ok, Err}
 use Rattle.cdb_play.specs.declared.buffer.OutputFault.{OutputFault}
 use Rattle.cdb_play.specs.declared.buffer.OutputFault.TheVariants as output
@@ -15,7 +15,7 @@ use Rattle.cdb_setup.specs.declared.fault.SetupFault.{SetupFault}
 use Rattle.cdb_setup.specs.declared.fault.SetupFault.TheVariants as setup
 use Rattle.cdb_debug.specs.Dialogues.{Session, begun}
 use Rattle.cdb_debug.specs.Held.{Says, IsAt, IsOver, Hears, AnswersHeld, AnswersLast, Converses, ended_well, ended_by}
-use Rattle.cdb_debug.specs.Moves.{Known, Move, Read, ReadFailed, read_in, AreWrites, Makes}
+use Rattle.cdb_debug.specs.Moves.{Known, Move, Read, ReadFailed, read_in, Makes}
 use Rattle.cdb_debug.specs.Sessions.{most_input, IsSession, HasDebugged}
 use Rattle.cdb_debug.proofs.Ordered.{Makes-nothing, Makes-more, read-append, nothing_read}
 use Rattle.cdb_debug.proofs.Stepping.{prompted, not_prompted, more_read, read_failed, out_of_memory, last_answered, last_broken, no_last_line}

@@ -1,11 +1,9 @@
 -- A session looks at the bytes that it was given.
-use Rattle.std.proofs.Common.{◌≡◌, ℕ, ◌+◌, ◌<◌, ◌≤◌, Bool, true, false, List, [], ◌∷◌, ◌++◌, length, take, drop, get_or, nat_eq, Option, refl, sym, ap, subst, ◌∙◌, append_assoc, append-nil, arith}
-use Rattle.std.specs.Prelude.{Result, Ok, Err}
-use Rattle.std.specs.List.{All}
+use Rattle.std.proofs.Common.{◌≡◌, ℕ, ◌+◌, Bool, true, false, List, [], ◌∷◌, ◌++◌, take, sym, ap, subst, ◌∙◌, append_assoc, append-nil}
+use Rattle.std.specs.Prelude.{Ok, Err}
 use Rattle.cdb_play.specs.declared.buffer.OutputFault.{OutputFault}
 use Rattle.cdb_play.specs.declared.buffer.OutputFault.TheVariants as output
 use Rattle.cdb_setup.specs.Format.{longest}
-use Rattle.cdb_setup.specs.Parts.{Parts}
 use Rattle.cdb_debug.specs.Dialogues.{Session}
 use Rattle.cdb_debug.specs.Held.{IsAt, AnswersHeld, Hears, HasNoEnd, ended_well, ended_by}
 use Rattle.cdb_debug.specs.Moves.{Known, Move, AreWrites, Makes}

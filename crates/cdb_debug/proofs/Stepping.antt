@@ -1,7 +1,7 @@
 -- A session goes from one of its states to the next.
-use Rattle.std.proofs.Common.{◌≡◌, ◌≢◌, ◌⊎◌, rules, inl, inr, ℕ, ◌+◌, ◌-◌, ◌<◌, ◌≤◌, Bool, true, false, List, [], ◌∷◌, ◌++◌, length, take, nat_eq, Option, refl, sym, ap, subst, ◌∙◌, append_assoc, append-nil, arith, length-append}
-use Rattle.std.specs.Prelude.{Result, Ok, Err, IsTrue}
-use Rattle.std.specs.List.{All, AllZip, AllByRecursion}
+use Rattle.std.proofs.Common.{◌≡◌, ◌≢◌, rules, inl, inr, ℕ, ◌+◌, ◌<◌, ◌≤◌, Bool, true, false, List, [], ◌∷◌, ◌++◌, length, take, nat_eq, refl, sym, ap, subst, ◌∙◌, append_assoc, append-nil, arith, length-append}
+use Rattle.std.specs.Prelude.{Result, Err, IsTrue}
+use Rattle.std.specs.List.{AllZip, AllByRecursion}
 use Rattle.std.proofs.lemmas.List.{length-take, take_all, nil_from_length}
 use Rattle.std.proofs.lemmas.List.Elements.{All-append, All-nil}
 use Rattle.cdb_play.specs.Lines.{lines_of}
@@ -9,12 +9,11 @@ use Rattle.cdb_play.specs.declared.buffer.OutputFault.TheVariants as output
 use Rattle.cdb_play.specs.declared.fault.PlayFault.{PlayFault}
 use Rattle.cdb_play.specs.declared.fault.PlayFault.TheVariants as fault
 use Rattle.cdb_setup.specs.Format.{longest}
-use Rattle.cdb_setup.specs.Parts.{Parts}
-use Rattle.cdb_debug.specs.Dialogues.{Session, after, session_after, shown, dialogue, IsDialogue}
-use Rattle.cdb_debug.specs.Held.{IsAt, IsOver, IsLineDone, IsLineBroken, HasNoEnd, joined, held_of, ended_well, ended_by, IsSaid}
-use Rattle.cdb_debug.specs.Moves.{Move, Read, ReadFailed, read_in, written_in, AsksForInput, AreWrites, FailsToWrite, EndsWith, FindsTheEnd}
-use Rattle.cdb_debug.specs.Requests.{Asks, AreAsked, HaveQuit, ended_lines, up_to_quit, quit_line}
-use Rattle.cdb_debug.specs.Sessions.{most_input, HasEnded, by_quit, at_end, at_most, IsAnswered, AnswersInTime, IsWhole, IsCutShort, IsBroken, IsSession}
+use Rattle.cdb_debug.specs.Dialogues.{Session, after, shown, dialogue, IsDialogue}
+use Rattle.cdb_debug.specs.Held.{IsAt, IsOver, IsLineDone, IsLineBroken, HasNoEnd, joined, held_of, ended_well, ended_by}
+use Rattle.cdb_debug.specs.Moves.{Move, Read, ReadFailed, read_in, written_in, AreWrites, FailsToWrite, EndsWith}
+use Rattle.cdb_debug.specs.Requests.{Asks, HaveQuit, ended_lines, up_to_quit, quit_line}
+use Rattle.cdb_debug.specs.Sessions.{most_input, HasEnded, by_quit, at_end, at_most, IsAnswered, AnswersInTime, IsSession}
 use Rattle.cdb_debug.specs.declared.request.Request.{Request}
 use Rattle.cdb_debug.specs.declared.request.Request.TheVariants.{Quit}
 use Rattle.cdb_debug.proofs.Along.{session_after-more, dialogue-more}

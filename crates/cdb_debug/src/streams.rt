@@ -28,10 +28,10 @@ impl<R: Source + Drop, W: Sink + Drop> Talk for Streams<R, W> {
 
     ghost known = { λ streams. record {
       moves = None;
-      left = R.remaining streams.input;
-      held = W.contents streams.output;
-      failed_reads = R.failures streams.input;
-      failed_writes = W.failures streams.output;
+      left = (R.stream streams.input).bytes;
+      held = (W.stream streams.output).bytes;
+      failed_reads = (R.stream streams.input).failures;
+      failed_writes = (W.stream streams.output).failures;
     } };
 
     fn read(&mut self, buffer: &mut [u8]) -> Result<usize, Failed> {

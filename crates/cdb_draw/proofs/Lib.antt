@@ -2,6 +2,5 @@ pub mod Pushing
 pub mod Growing
 pub mod Sending
 pub mod Parted
-pub mod Drawing
 pub mod Ended
 pub mod LastMarks

@@ -1,8 +1,9 @@
 -- Texts of positions that are put one after the other.
-use Rattle.std.proofs.Common.{◌≡◌, ℕ, zero, suc, ◌+◌, ◌<◌, ◌≤◌, List, [], ◌∷◌, ◌++◌, length, get_or, take, Option, Result, Ok, Err, refl, sym, ap, subst, ◌∙◌, arith}
+use Rattle.std.proofs.Common.{◌≡◌, ℕ, zero, suc, ◌+◌, ◌<◌, ◌≤◌, List, [], ◌∷◌, ◌++◌, length, take, Err, refl, sym, ap, subst, ◌∙◌, arith}
 use Rattle.std.specs.List.{flat_map, range_with_len}
 use Rattle.std.proofs.lemmas.List.FromFn.{get_or-range_with_len, length-range_with_len}
 use Rattle.cdb_play.specs.Buffers.{IsPut, Puts}
+use Rattle.cdb_play.specs.Streams.{Stream}
 use Rattle.cdb_play.specs.declared.buffer.OutputFault.{OutputFault}
 use Rattle.cdb_play.proofs.Putting.{cut_at_item, cut_short, put_more, put_nothing}
 use Rattle.cdb_draw.proofs.Growing.{each_more}
@@ -13,28 +14,28 @@ take_range a zero (suc n) h = refl
 take_range a (suc i) zero h = absurd (omega arith)
 take_range a (suc i) (suc n) h = ap (λ (xs : List ℕ). a ∷ xs) (take_range (a + 1) i n (omega arith))
 
-module _ {W : Type 0} (contents : W → Option (List ℕ)) (failures : W → ℕ) where
+module _ {W : Type 0} (stream : W → Stream) where
   -- the text of one position more
-  pub put_one : (texts : ℕ → List ℕ) (old now new : W) (held middle left : List ℕ) (i : ℕ) → IsPut contents failures old held now middle (flat_map texts (range_with_len 0 i)) → IsPut contents failures now middle new left (texts i)
-      → IsPut contents failures old held new left (flat_map texts (range_with_len 0 (i + 1)))
+  pub put_one : (texts : ℕ → List ℕ) (old now new : W) (held middle left : List ℕ) (i : ℕ) → IsPut stream old held now middle (flat_map texts (range_with_len 0 i)) → IsPut stream now middle new left (texts i)
+      → IsPut stream old held new left (flat_map texts (range_with_len 0 (i + 1)))
   put_one texts old now new held middle left i a b =
       let here : 0 + i ≡ i = omega arith in
-      subst (IsPut contents failures old held new left) (sym (each_more texts 0 i ∙ ap (λ (k : ℕ). flat_map texts (range_with_len 0 i) ++ texts k) here))
-      (put_more contents failures old now new held middle left (flat_map texts (range_with_len 0 i)) (texts i) a b)
+      subst (IsPut stream old held new left) (sym (each_more texts 0 i ∙ ap (λ (k : ℕ). flat_map texts (range_with_len 0 i) ++ texts k) here))
+      (put_more stream old now new held middle left (flat_map texts (range_with_len 0 i)) (texts i) a b)
 
   -- the text of one position is cut short
-  pub cut_one : (A : Type 0) (why : OutputFault) (texts : ℕ → List ℕ) (old now new : W) (held middle left : List ℕ) (n i : ℕ) → i < n → IsPut contents failures old held now middle (flat_map texts (range_with_len 0 i)) → Puts contents failures {A = A} (Err why) now middle new left (texts i)
-      → Puts contents failures {A = A} (Err why) old held new left (flat_map texts (range_with_len 0 n))
+  pub cut_one : (A : Type 0) (why : OutputFault) (texts : ℕ → List ℕ) (old now new : W) (held middle left : List ℕ) (n i : ℕ) → i < n → IsPut stream old held now middle (flat_map texts (range_with_len 0 i)) → Puts stream {A = A} (Err why) now middle new left (texts i)
+      → Puts stream {A = A} (Err why) old held new left (flat_map texts (range_with_len 0 n))
   cut_one A why texts old now new held middle left n i below a b =
       let xs = range_with_len 0 n in
       let here : 0 + i ≡ i = omega arith in
       let within : i < length xs = subst (λ (m : ℕ). i < m) (sym (length-range_with_len 0 n)) below in
       let most : i ≤ n = omega (arith, below) in
-      cut_at_item contents failures A why texts old now new held middle left xs i 0 within
-      (subst (λ (ys : List ℕ). IsPut contents failures old held now middle (flat_map texts ys)) (sym (take_range 0 i n most)) a)
-      (subst (λ (k : ℕ). Puts contents failures {A = A} (Err why) now middle new left (texts k)) (sym (get_or-range_with_len 0 n i 0 below ∙ here)) b)
+      cut_at_item stream A why texts old now new held middle left xs i 0 within
+      (subst (λ (ys : List ℕ). IsPut stream old held now middle (flat_map texts ys)) (sym (take_range 0 i n most)) a)
+      (subst (λ (k : ℕ). Puts stream {A = A} (Err why) now middle new left (texts k)) (sym (get_or-range_with_len 0 n i 0 below ∙ here)) b)
 
   -- what is cut short in a text is cut short before the next one
-  pub cut_before : (A : Type 0) (why : OutputFault) (old new : W) (held left first second : List ℕ) → Puts contents failures {A = A} (Err why) old held new left first → Puts contents failures {A = A} (Err why) old held new left (first ++ second)
+  pub cut_before : (A : Type 0) (why : OutputFault) (old new : W) (held left first second : List ℕ) → Puts stream {A = A} (Err why) old held new left first → Puts stream {A = A} (Err why) old held new left (first ++ second)
   cut_before A why old new held left first second b =
-      cut_short contents failures A why old old new held held left [] first second (first ++ second) (put_nothing contents failures old held) refl b
+      cut_short stream A why old old new held held left [] first second (first ++ second) (put_nothing stream old held) refl b

@@ -1,5 +1,5 @@
 -- The table of sends, when the history grows.
-use Rattle.std.proofs.Common.{◌≡◌, ℕ, zero, suc, ◌+◌, ◌^◌, ◌<◌, Bool, true, false, ◌&&◌, List, [], ◌∷◌, ◌++◌, length, Option, Some, None, Result, Ok, Err, OnOk, cond, nat_eq, refl, sym, ap, ◌∙◌, arith}
+use Rattle.std.proofs.Common.{◌≡◌, ℕ, suc, ◌+◌, ◌^◌, ◌<◌, Bool, true, false, ◌&&◌, List, [], ◌∷◌, ◌++◌, length, Option, Some, None, Result, Ok, Err, OnOk, cond, nat_eq, refl, sym, ap, ◌∙◌, arith}
 use Rattle.std.specs.HashMap.{HashMap, get}
 use Rattle.std.specs.List.{position_from}
 use Rattle.std.specs.Prelude.{position}

@@ -1,12 +1,14 @@
 -- What the subcommand writes: the picture of the run that a script leaves.
-use Rattle.std.specs.Prelude.{◌≡◌, ℕ, List, Option, None, Some, Result, Ok, Err}
+use Rattle.std.specs.Prelude.{ℕ, List, Option, None, Some, Result, Ok, Err}
 use Rattle.cdb_base.specs.declared.event.Event.{Event}
 use Rattle.cdb_explain.specs.Asked.{IsStepAsked, StandsNoStep}
 use Rattle.cdb_explain.specs.declared.fault.ExplainFault.{ExplainFault}
 use Rattle.cdb_explain.specs.declared.fault.ExplainFault.TheVariants.{NoStep, Play}
+use Rattle.cdb_play.specs.Endings.{Ending, Complete, WriterFailed, CutShort, NotBegun}
 use Rattle.cdb_play.specs.Faults.{IsFaultOfPlay}
 use Rattle.cdb_play.specs.Left.{Leaves}
-use Rattle.cdb_play.specs.Written.{PlayWrites}
+use Rattle.cdb_play.specs.Streams.{Stream}
+use Rattle.cdb_play.specs.declared.fault.PlayFault.TheVariants as play
 use Rattle.cdb_rules.specs.RunView.{RunView}
 use Rattle.cdb_rules.specs.Rules.{Rules}
 use Rattle.cdb_setup.specs.Parts.{Parts}
@@ -30,19 +32,19 @@ IsPictureFor rules run step text =
     (position : Option ℕ) × IsPositionFor run.history step position × IsPicture rules run position text
 
 -- the text is the picture of the run that the script leaves
-abbrev pub Draws : (Parts → Rules) → List ℕ → Option StepAsked → Option (List ℕ) → Option (List ℕ) → List ℕ → Type 0
+abbrev pub Draws : (Parts → Rules) → List ℕ → Option StepAsked → Stream → Stream → List ℕ → Type 0
 Draws rules json step old new text =
     (run : RunView) × Leaves rules json old new run × IsPictureFor rules run step text
 
 -- the step does not stand in the run that the script leaves; else as a fault of a play
-abbrev pub IsFaultOfDraw : ExplainFault → (Parts → Rules) → List ℕ → Option StepAsked → Option (List ℕ) → Option (List ℕ) → Type 0
-IsFaultOfDraw NoStep rules json step old new =
+abbrev pub IsFaultOfDraw : (Parts → Rules) → List ℕ → Option StepAsked → Stream → Stream → ExplainFault → Type 0
+IsFaultOfDraw rules json step old new NoStep =
     (run : RunView) × Leaves rules json old new run × IsMissing run.history step
-IsFaultOfDraw (Play fault) rules json step old new = IsFaultOfPlay fault json old new
+IsFaultOfDraw rules json step old new (Play fault) = IsFaultOfPlay json old new fault
 
-module _ {W : Type 0} (contents : W → Option (List ℕ)) (failures : W → ℕ) where
-  -- a step that does not stand leaves the writer as it was; else as a play writes its transcript
-  abbrev pub DrawWrites : {A : Type 0} → Result A ExplainFault → W → W → (List ℕ → Type 0) → Type 0
-  DrawWrites {A} (Ok done) old new IsText = PlayWrites contents failures {A = A} (Ok done) old new IsText
-  DrawWrites (Err NoStep) old new IsText = new ≡ old
-  DrawWrites {A} (Err (Play fault)) old new IsText = PlayWrites contents failures {A = A} (Err fault) old new IsText
+-- how the writing of a picture ended, which is written in pieces as it is drawn
+abbrev pub draw_ending : {A : Type 0} → Result A ExplainFault → Ending
+draw_ending (Ok done) = Complete
+draw_ending (Err (Play play.Write)) = WriterFailed
+draw_ending (Err (Play play.NoMemory)) = CutShort
+draw_ending (Err fault) = NotBegun

@@ -7,7 +7,6 @@ use Rattle.cdb_base.specs.declared.event.Event.{Event}
 use Rattle.cdb_base.specs.declared.register.Reg.{Reg}
 use Rattle.cdb_base.specs.declared.register.Reg.TheVariants.{R, Dec}
 use Rattle.cdb_rules.specs.RunView.{RunView}
-use Rattle.cdb_setup.specs.Parts.{Parts}
 use Rattle.cdb_setup.specs.declared.setup.Algorithm.{Algorithm}
 use Rattle.cdb_setup.specs.declared.setup.Algorithm.TheVariants.{Leader, Alpha}
 use Rattle.cdb_base.specs.NameTexts.{register_text}

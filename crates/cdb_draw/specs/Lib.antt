@@ -5,7 +5,6 @@ pub mod Lanes
 pub mod Arrows
 pub mod EventMarks
 pub mod Picture
-pub mod Written
 pub mod Drawn
 -- ---- what the code keeps for itself
 pub mod Sends

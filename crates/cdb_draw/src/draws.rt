@@ -3,7 +3,8 @@
 ghost use Rattle.std.specs.Prelude.{◌≡◌, ◌<◌, ◌≤◌, length, IfOk, IfSome};
 ghost use Rattle.cdb_draw.specs.Picture.{AreInFull, IsPicture};
 ghost use Rattle.cdb_rules.specs.ByRules.{IsInOrder};
-ghost use Rattle.cdb_draw.specs.Written.{WritesOne};
+ghost use Rattle.cdb_play.specs.Endings.{pieces_ending};
+ghost use Rattle.cdb_play.specs.Written.{IsWritten};
 
 use crate::picture::write_picture;
 use cdb_base::NoMemory;
@@ -39,7 +40,7 @@ pub fn draw_run<T: Runs, W: Sink>(
     requires valid { IsInOrder T.rules run.now }
     requires few { length run.now.history ≤ MAX_ENTRIES }
     requires stands { IfSome position (λ position. position < length run.now.history) }
-    ensures { WritesOne W.contents W.failures result out.old out.new
+    ensures { IsWritten W.stream (pieces_ending result) out.old out.new
         (IsPicture T.rules run.now position) }
 {
     let marks = marks_of(alloc, run, position)?;

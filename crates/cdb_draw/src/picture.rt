@@ -7,7 +7,9 @@ ghost use Rattle.cdb_draw.specs.Lanes.{lanes_text};
 ghost use Rattle.cdb_draw.specs.Picture.{algorithm_text, arrows_text, document_text, foot, head_text, heading_text, marks_text, namespace_text, picture_text, shapes_text, size_text, style_text};
 ghost use Rattle.cdb_draw.specs.Sends.{AreSendsOf};
 ghost use Rattle.cdb_explain.specs.Explanations.{run_after};
-ghost use Rattle.cdb_play.specs.Buffers.{Puts, Wrote};
+ghost use Rattle.cdb_play.specs.Buffers.{Puts};
+ghost use Rattle.cdb_play.specs.Endings.{pieces_ending};
+ghost use Rattle.cdb_play.specs.Written.{IsWritten, Only};
 ghost use Rattle.cdb_rules.specs.ByRules.{IsInOrder};
 ghost use Rattle.cdb_text.specs.Pushes.{Pushes};
 
@@ -186,7 +188,7 @@ fn mark_of<T: Runs>(
 
 /// Puts a text.
 fn put_text<W: Sink>(text: &String, buffer: &mut Buffer, out: &mut W) -> Result<(), OutputFault>
-    ensures { Puts W.contents W.failures result out.old buffer.old out.new buffer.new
+    ensures { Puts W.stream result out.old buffer.old out.new buffer.new
         (string_bytes text.now) }
 {
     buffer.put(out, text.as_bytes())?;
@@ -207,7 +209,7 @@ fn put_arrow<W: Sink>(
     requires a_mark_each { length marks.now ≡ length run.now.history }
     requires within { position < length run.now.history }
     requires sends { AreSendsOf sends.now run.now.history }
-    ensures { Puts W.contents W.failures result out.old buffer.old out.new buffer.new
+    ensures { Puts W.stream result out.old buffer.old out.new buffer.new
         (arrow_at run.now marks.now position) }
 {
     let text = arrow_of(alloc, run, sends, marks, position)?;
@@ -224,7 +226,7 @@ fn put_arrows<W: Sink>(
 ) -> Result<(), OutputFault>
     requires few { length run.now.history ≤ MAX_ENTRIES }
     requires a_mark_each { length marks.now ≡ length run.now.history }
-    ensures { Puts W.contents W.failures result out.old buffer.old out.new buffer.new
+    ensures { Puts W.stream result out.old buffer.old out.new buffer.new
         (arrows_text run.now marks.now) }
 {
     let history = run.history();
@@ -249,7 +251,7 @@ fn put_mark<T: Runs, W: Sink>(
     requires a_mark_each { length marks.now ≡ length run.now.history }
     requires within { position < length run.now.history }
     requires after { T.run after.now ≡ run_after run.now position }
-    ensures { Puts W.contents W.failures result out.old buffer.old out.new buffer.new
+    ensures { Puts W.stream result out.old buffer.old out.new buffer.new
         (mark_at T.rules run.now marks.now position) }
 {
     let text = mark_of(alloc, run, after, marks, position)?;
@@ -268,7 +270,7 @@ fn put_marks<T: Runs, W: Sink>(
     requires valid { IsInOrder T.rules run.now }
     requires few { length run.now.history ≤ MAX_ENTRIES }
     requires a_mark_each { length marks.now ≡ length run.now.history }
-    ensures { Puts W.contents W.failures result out.old buffer.old out.new buffer.new
+    ensures { Puts W.stream result out.old buffer.old out.new buffer.new
         (marks_text T.rules run.now marks.now) }
 {
     let mut again = fresh::<T>(alloc, run)?;
@@ -291,7 +293,7 @@ fn put_front<W: Sink>(
     out: &mut W,
 ) -> Result<(), OutputFault>
     requires { length run.now.history ≤ MAX_ENTRIES }
-    ensures { Puts W.contents W.failures result out.old buffer.old out.new buffer.new
+    ensures { Puts W.stream result out.old buffer.old out.new buffer.new
         (head_text run.now ++ lanes_text run.now) }
 {
     let text = front_of(alloc, run)?;
@@ -301,7 +303,7 @@ fn put_front<W: Sink>(
 /// Puts the end of the document.
 #[tactic(auto, unfolding(crate::specs::Picture::foot))]
 fn put_foot<W: Sink>(buffer: &mut Buffer, out: &mut W) -> Result<(), OutputFault>
-    ensures { Puts W.contents W.failures result out.old buffer.old out.new buffer.new foot }
+    ensures { Puts W.stream result out.old buffer.old out.new buffer.new foot }
 {
     buffer.put(out, b"</svg>\n")?;
     Ok(())
@@ -318,7 +320,7 @@ fn put_picture<T: Runs, W: Sink>(
     requires valid { IsInOrder T.rules run.now }
     requires few { length run.now.history ≤ MAX_ENTRIES }
     requires a_mark_each { length marks.now ≡ length run.now.history }
-    ensures { Puts W.contents W.failures result out.old buffer.old out.new buffer.new
+    ensures { Puts W.stream result out.old buffer.old out.new buffer.new
         (picture_text T.rules run.now marks.now) }
 {
     put_front(alloc, run, buffer, out)?;
@@ -338,8 +340,8 @@ pub(crate) fn write_picture<T: Runs, W: Sink>(
     requires valid { IsInOrder T.rules run.now }
     requires few { length run.now.history ≤ MAX_ENTRIES }
     requires a_mark_each { length marks.now ≡ length run.now.history }
-    ensures { Wrote W.contents W.failures result out.old out.new
-        (picture_text T.rules run.now marks.now) }
+    ensures { IsWritten W.stream (pieces_ending result) out.old out.new
+        (Only (picture_text T.rules run.now marks.now)) }
 {
     let mut buffer = Buffer::new(alloc)?;
     put_picture::<T, W>(alloc, run, marks, &mut buffer, out)?;

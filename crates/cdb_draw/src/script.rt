@@ -1,10 +1,11 @@
 //! A script is carried out without its replies, and the run that it leaves is drawn.
 
 ghost use Rattle.std.specs.Prelude.{◌≡◌, ◌<◌, ◌≤◌, length, Err, IfErr, IfOk, IfSome};
-ghost use Rattle.cdb_draw.specs.Drawn.{Draws, DrawWrites, IsFaultOfDraw, IsMissing, IsPictureFor, IsPositionFor};
+ghost use Rattle.cdb_draw.specs.Drawn.{draw_ending, Draws, IsFaultOfDraw, IsMissing, IsPictureFor, IsPositionFor};
 ghost use Rattle.cdb_explain.specs.StepFaults.{IsFaultOfStep};
 ghost use Rattle.cdb_explain.specs.declared.fault.ExplainFault.TheVariants.{NoStep as no_step, Play as of_play};
 ghost use Rattle.cdb_play.specs.Streams.{FailsWhere};
+ghost use Rattle.cdb_play.specs.Written.{IsWritten};
 ghost use Rattle.cdb_play.specs.declared.fault.PlayFault.TheVariants as play;
 ghost use Rattle.cdb_rules.specs.ByRules.{IsInOrder};
 ghost use Rattle.cdb_setup.specs.declared.fault.SetupFault.{SetupFault as SetupFaultName};
@@ -48,7 +49,7 @@ fn write_drawing<T: Runs, W: Sink>(
 ) -> Result<(), ExplainFault>
     requires valid { IsInOrder T.rules run.now }
     requires few { length run.now.history ≤ MAX_ENTRIES }
-    ensures wrote { DrawWrites W.contents W.failures result out.old out.new
+    ensures wrote { IsWritten W.stream (draw_ending result) out.old out.new
         (IsPictureFor T.rules run.now step) }
     ensures fault { IfErr result (IsFaultOfStep (IsMissing run.now.history step)) }
 {
@@ -71,13 +72,13 @@ pub fn draw<T: Runs, R: Source, W: Sink>(
     step: Option<StepAsked>,
     out: &mut W,
 ) -> Result<(), ExplainFault>
-    ensures wrote { DrawWrites W.contents W.failures result out.old out.new
-        (Draws T.rules setup.now step (R.remaining script.old) (R.remaining script.new)) }
-    ensures fault { IfErr result (λ fault. IsFaultOfDraw fault T.rules setup.now step
-        (R.remaining script.old) (R.remaining script.new)) }
+    ensures wrote { IsWritten W.stream (draw_ending result) out.old out.new
+        (Draws T.rules setup.now step (R.stream script.old) (R.stream script.new)) }
+    ensures fault { IfErr result
+        (IsFaultOfDraw T.rules setup.now step (R.stream script.old) (R.stream script.new)) }
     ensures unread { (fault : SetupFaultName) →
         result ≡ Err (of_play (play.Setup fault)) → script.new ≡ script.old }
-    ensures read { FailsWhere R.failures (result ≡ Err (of_play play.Read)) script.old script.new }
+    ensures read { FailsWhere R.stream (result ≡ Err (of_play play.Read)) script.old script.new }
 {
     let control = left_by::<T, R>(alloc, setup, script)?;
     let run = chronicle_of(control);

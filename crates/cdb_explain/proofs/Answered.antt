@@ -1,30 +1,26 @@
 -- A step that was asked for, and what was answered.
-use Rattle.std.proofs.Common.{◌≡◌, ◌∙◌, ℕ, List, Option, Some, Result, Ok, Err, ap, sym, subst}
-use Rattle.std.specs.Prelude.{[], MatchOption, IfErr}
+use Rattle.std.proofs.Common.{◌≡◌, ◌∙◌, ℕ, List, Option, Some, Result, Ok, Err, ap, sym, subst, refl, is_ok, true≢false}
+use Rattle.std.specs.Prelude.{[], MatchOption, MatchResult, IfErr, IsOk}
 use Rattle.cdb_base.specs.declared.name.StepId.{StepId}
 use Rattle.cdb_base.specs.declared.refusal.Refusal.{Refusal}
 use Rattle.cdb_explain.specs.Explanations.{because_text}
 use Rattle.cdb_control.specs.Journal.{Journaled, control_state}
 use Rattle.cdb_play.specs.Faults.{IsFaultOfPlay, IsSetup, of_output}
 use Rattle.cdb_play.specs.Left.{Leaves, run_of}
-use Rattle.cdb_play.specs.Whole.{WritesWhole}
+use Rattle.cdb_play.specs.Streams.{Stream}
 use Rattle.cdb_play.specs.declared.buffer.OutputFault.{OutputFault}
 use Rattle.cdb_play.specs.declared.buffer.OutputFault.TheVariants as output
-use Rattle.cdb_play.specs.declared.fault.PlayFault.{PlayFault}
 use Rattle.cdb_play.specs.declared.fault.PlayFault.TheVariants as play
 use Rattle.cdb_explain.specs.declared.fault.ExplainFault.{ExplainFault}
 use Rattle.cdb_explain.specs.declared.fault.ExplainFault.TheVariants.{NoStep, Play}
 use Rattle.cdb_explain.specs.Asked.{StandsNoStep}
-use Rattle.cdb_explain.specs.Explained.{ExplainWrites, IsFaultOfExplain}
+use Rattle.cdb_explain.specs.Explained.{IsFaultOfExplain}
 use Rattle.cdb_explain.specs.StepFaults.{IsFaultOfStep}
 use Rattle.cdb_setup.specs.declared.fault.SetupFault.{SetupFault}
 use Rattle.cdb_rules.specs.RunView.{RunView}
 use Rattle.cdb_rules.specs.Runs.{Tells}
 use Rattle.cdb_rules.specs.Rules.{Rules}
 use Rattle.cdb_setup.specs.Parts.{Parts}
-
-pub no_memory_as_err : {A : Type 0} (why : OutputFault) → why ≡ output.NoMemory → (let result : Result A OutputFault = Err why in result) ≡ Err output.NoMemory
-no_memory_as_err why same = ap (λ (f : OutputFault). Err f) same
 
 -- the run of a control
 pub same_run : (rules : Parts → Rules) (run : RunView) (control : Journaled) → run.setup ≡ control.setup → run.history ≡ (control_state rules control).history → run ≡ run_of rules control
@@ -34,16 +30,16 @@ same_run rules run control setup history =
 
 -- ---- the step of the run that a script left
 
-pub output_fault : (why : OutputFault) (json : List ℕ) (old new : Option (List ℕ)) → IsSetup json → IsFaultOfPlay (of_output why) json old new
+pub output_fault : (why : OutputFault) (json : List ℕ) (old new : Stream) → IsSetup json → IsFaultOfPlay json old new (of_output why)
 output_fault output.Write json old new setup = setup
 output_fault output.NoMemory json old new setup = tt
 
-pub fault_left : (rules : Parts → Rules) (json : List ℕ) (p : ℕ) (k : Option ℕ) (old new : Option (List ℕ)) (run : RunView) → Leaves rules json old new run
-    → (result : Result (Unit {0}) ExplainFault) → IfErr result (IsFaultOfStep (StandsNoStep run.history p k)) → IfErr result (λ fault. IsFaultOfExplain fault rules json p k old new)
+pub fault_left : (rules : Parts → Rules) (json : List ℕ) (p : ℕ) (k : Option ℕ) (old new : Stream) (run : RunView) → Leaves rules json old new run
+    → (result : Result (Unit {0}) ExplainFault) → IfErr result (IsFaultOfStep (StandsNoStep run.history p k)) → IfErr result (IsFaultOfExplain rules json p k old new)
 fault_left rules json p k old new run left (Ok done) none = tt
 fault_left rules json p k old new run left (Err NoStep) none = (run, left, none)
 fault_left rules json p k old new run left (Err (Play fault)) (why, is) =
-    subst (λ (f : PlayFault). IsFaultOfPlay f json old new) (sym is) (output_fault why json old new (left.2.setup, left.2.stands))
+    subst (IsFaultOfPlay json old new) (sym is) (output_fault why json old new (left.2.setup, left.2.stands))
 
 -- what is said of a fault after the run stood: it is none of reading
 module _ (Missing : Type 0) where
@@ -61,25 +57,6 @@ module _ (Missing : Type 0) where
 
 pub no_err : {A E : Type 0} (value : A) (error : E) → (let result : Result A E = Ok value in result) ≡ Err error → ⊥
 no_err value error same = cc
-
-module _ {W : Type 0} (contents : W → Option (List ℕ)) (failures : W → ℕ) (A : Type 0) (P Q : List ℕ → Type 0) (is : (text : List ℕ) → P text → Q text) where
-  -- a text of this kind is one of that
-  whole_of_kind : (fault : PlayFault) (old new : W) → WritesWhole contents failures {A = A} (Err fault) old new P → WritesWhole contents failures {A = A} (Err fault) old new Q
-  whole_of_kind play.Write old new (text, p, fails) = (text, is text p, fails)
-  whole_of_kind (play.Setup fault) old new same = same
-  whole_of_kind (play.Line number line fault) old new same = same
-  whole_of_kind (play.ScriptTooLong number) old new same = same
-  whole_of_kind play.Read old new same = same
-  whole_of_kind play.NoMemory old new same = same
-
-  pub writes_of_kind : (result : Result A ExplainFault) (old new : W) → ExplainWrites contents failures {A = A} result old new P → ExplainWrites contents failures {A = A} result old new Q
-  writes_of_kind (Ok done) old new (text, p, takes) = (text, is text p, takes)
-  writes_of_kind (Err NoStep) old new same = same
-  writes_of_kind (Err (Play fault)) old new wrote = whole_of_kind fault old new wrote
-
-module _ {A : Type 0} (answer : Option A) (P : Type 0) (Q : A → Type 0) where
-  pub answered_some : (text : A) → answer ≡ Some text → MatchOption answer P Q → Q text
-  answered_some text is told = subst (λ (a : Option A). MatchOption a P Q) is told
 
 -- a refused look for causes adds nothing
 pub no_because : (answer : Result (List StepId) Refusal) {A : Type 0} (view : A → List StepId) (result : Result A Refusal) (why : Refusal)

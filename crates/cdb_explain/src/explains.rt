@@ -2,11 +2,12 @@
 
 ghost use Rattle.std.specs.Prelude.{◌≡◌, Err, IfErr};
 ghost use Rattle.cdb_explain.specs.Asked.{StandsNoStep};
-ghost use Rattle.cdb_explain.specs.Explained.{Explains, ExplainWrites, IsFaultOfExplain};
+ghost use Rattle.cdb_explain.specs.Explained.{explain_ending, Explains, IsFaultOfExplain};
 ghost use Rattle.cdb_explain.specs.Explanations.{IsStepExplained};
 ghost use Rattle.cdb_explain.specs.StepFaults.{IsFaultOfStep};
 ghost use Rattle.cdb_explain.specs.declared.fault.ExplainFault.TheVariants.{Play as of_play};
 ghost use Rattle.cdb_play.specs.Streams.{FailsWhere};
+ghost use Rattle.cdb_play.specs.Written.{IsWritten};
 ghost use Rattle.cdb_play.specs.declared.fault.PlayFault.TheVariants as play;
 ghost use Rattle.cdb_rules.specs.ByRules.{IsInOrder};
 ghost use Rattle.cdb_setup.specs.declared.fault.SetupFault.{SetupFault as SetupFaultName};
@@ -28,7 +29,7 @@ fn write_explanation<T: Runs, W: Sink>(
     out: &mut W,
 ) -> Result<(), ExplainFault>
     requires { IsInOrder T.rules run.now }
-    ensures wrote { ExplainWrites W.contents W.failures result out.old out.new
+    ensures wrote { IsWritten W.stream (explain_ending result) out.old out.new
         (IsStepExplained T.rules run.now p k) }
     ensures fault { IfErr result (IsFaultOfStep (StandsNoStep run.now.history p k)) }
 {
@@ -54,13 +55,13 @@ pub fn explain<T: Runs, R: Source, W: Sink>(
     k: Option<u32>,
     out: &mut W,
 ) -> Result<(), ExplainFault>
-    ensures wrote { ExplainWrites W.contents W.failures result out.old out.new
-        (Explains T.rules setup.now p k (R.remaining script.old) (R.remaining script.new)) }
-    ensures fault { IfErr result (λ fault. IsFaultOfExplain fault T.rules setup.now p k
-        (R.remaining script.old) (R.remaining script.new)) }
+    ensures wrote { IsWritten W.stream (explain_ending result) out.old out.new
+        (Explains T.rules setup.now p k (R.stream script.old) (R.stream script.new)) }
+    ensures fault { IfErr result
+        (IsFaultOfExplain T.rules setup.now p k (R.stream script.old) (R.stream script.new)) }
     ensures unread { (fault : SetupFaultName) →
         result ≡ Err (of_play (play.Setup fault)) → script.new ≡ script.old }
-    ensures read { FailsWhere R.failures (result ≡ Err (of_play play.Read)) script.old script.new }
+    ensures read { FailsWhere R.stream (result ≡ Err (of_play play.Read)) script.old script.new }
 {
     let control = left_by::<T, R>(alloc, setup, script)?;
     let run = chronicle_of(control);

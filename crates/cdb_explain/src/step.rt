@@ -1,9 +1,8 @@
 //! The explanation of the step that is asked for.
 
-ghost use Rattle.cdb_explain.specs.Asked.{StandsNoStep};
-ghost use Rattle.cdb_explain.specs.Explanations.{IsStepExplained};
+ghost use Rattle.cdb_explain.specs.Explanations.{IsExplainedIfStanding};
 ghost use Rattle.cdb_rules.specs.ByRules.{IsInOrder};
-ghost use Rattle.std.specs.Prelude.{IfOk, MatchOption};
+ghost use Rattle.std.specs.Prelude.{IfOk};
 
 use crate::asked::position_of_step;
 use crate::lines::explanation;
@@ -21,8 +20,7 @@ pub fn explain_step<T: Runs>(
     k: Option<u32>,
 ) -> Result<Option<Vec<u8>>, NoMemory>
     requires { IsInOrder T.rules run.now }
-    ensures { IfOk result (λ answer. MatchOption answer (StandsNoStep run.now.history p k)
-        (λ text. IsStepExplained T.rules run.now p k text.items)) }
+    ensures { IfOk result (IsExplainedIfStanding T.rules run.now p k) }
 {
     let Some(position) = position_of_step(run.history(), p, k) else {
         return Ok(None);

@@ -1,10 +1,10 @@
 -- What is reported of sessions of several seats.
-use Rattle.std.specs.Prelude.{◌≡◌, ℕ, ◌+◌, List, [], ◌∷◌, ◌++◌, codes, decimal, map, Option, Result, Ok, Err}
+use Rattle.std.specs.Prelude.{ℕ, ◌+◌, List, [], ◌∷◌, ◌++◌, codes, decimal, map, Result, Ok, Err}
+use Rattle.cdb_play.specs.Faults.{of_output}
 use Rattle.cdb_play.specs.FaultTexts.{as_line, play_fault_text}
 use Rattle.cdb_play.specs.Statuses.{play_status}
-use Rattle.cdb_play.specs.Streams.{Takes, Fails}
+use Rattle.cdb_play.specs.declared.buffer.OutputFault.{OutputFault}
 use Rattle.cdb_play.specs.declared.fault.PlayFault.{PlayFault}
-use Rattle.cdb_play.specs.declared.fault.PlayFault.TheVariants as fault
 use Rattle.cdb_hall.specs.declared.station.Attended.{Attended}
 
 -- how the sessions ended
@@ -28,22 +28,15 @@ seats_status (Ok done ∷ outcomes) = seats_status outcomes
 seats_status (Err fault ∷ outcomes) = play_status fault
 
 -- a journal that was not written has a line too
-abbrev pub journal_line : Result (Unit {0}) PlayFault → List ℕ
+abbrev pub journal_line : Result (Unit {0}) OutputFault → List ℕ
 journal_line (Ok done) = []
-journal_line (Err fault) = as_line (play_fault_text fault (codes "the input"))
+journal_line (Err fault) = as_line (play_fault_text (of_output fault) (codes "the input"))
 
 -- what is reported of a journal that was written so, and of seats whose sessions ended so
-abbrev pub failures_text : Result (Unit {0}) PlayFault → List (Result (Unit {0}) PlayFault) → List ℕ
+abbrev pub failures_text : Result (Unit {0}) OutputFault → List (Result (Unit {0}) PlayFault) → List ℕ
 failures_text written outcomes = seat_lines 1 outcomes ++ journal_line written
 
 -- the status: that of a journal that was not written, else that of the least seat that failed
-abbrev pub status_of : Result (Unit {0}) PlayFault → List (Result (Unit {0}) PlayFault) → ℕ
+abbrev pub status_of : Result (Unit {0}) OutputFault → List (Result (Unit {0}) PlayFault) → ℕ
 status_of (Ok done) outcomes = seats_status outcomes
-status_of (Err fault) outcomes = play_status fault
-
--- The writer took the text; or it failed, and took a beginning of the text; or memory was out, and it is as it was.
-abbrev pub HallWrites : {W : Type 0} → (W → Option (List ℕ)) → (W → ℕ) → Result (Unit {0}) PlayFault → W → W → List ℕ → Type 0
-HallWrites contents failures (Ok done) old new text = Takes contents failures old new text
-HallWrites contents failures (Err fault.Write) old new text = Fails contents failures old new text
-HallWrites contents failures (Err fault.NoMemory) old new text = new ≡ old
-HallWrites contents failures (Err other) old new text = ⊥
+status_of (Err fault) outcomes = play_status (of_output fault)

@@ -44,8 +44,8 @@ pub fn hold<R: Runs + Send, T: Talk + Drop + Send, Rt: Threads + Wait + Sync, O:
 ) -> Result<u8, RaceFault>
     requires some { 1 ≤ vec_len stations }
     requires fits { vec_len stations ≤ MAX_SEATS }
-    ensures held { IfOk result (Holds R.rules T.known O.contents O.failures
-        E.contents E.failures setup.now stations.items output.old output.new error.old error.new) }
+    ensures held { IfOk result (Holds R.rules T.known O.stream E.stream
+        setup.now stations.items output.old output.new error.old error.new) }
     ensures fault { IfErr result (IsFaultOfHall setup.now) }
     ensures unwritten { OnErr result ((output.new ≡ output.old) × (error.new ≡ error.old)) }
 {

@@ -2,8 +2,10 @@
 
 ghost use Rattle.std.specs.Prelude.{◌≡◌, ◌≤◌, ◌++◌, length, string_bytes, OnOk, IfOk};
 ghost use Rattle.cdb_text.specs.Pushes.{Pushes};
+ghost use Rattle.cdb_play.specs.Endings.{whole_ending};
+ghost use Rattle.cdb_play.specs.Written.{IsWritten, Only};
 ghost use Rattle.cdb_hall.specs.Halls.{journal_text};
-ghost use Rattle.cdb_hall.specs.Reports.{HallWrites, outcomes, seat_line, seat_lines, seats_status};
+ghost use Rattle.cdb_hall.specs.Reports.{outcomes, seat_line, seat_lines, seats_status};
 ghost use Rattle.cdb_hall.specs.Reports.{journal_line, failures_text, status_of as status_is};
 
 use crate::journal::journal_text;
@@ -11,16 +13,16 @@ use crate::station::Attended;
 use cdb_base::NoMemory;
 use cdb_base::limits::MAX_SEATS;
 use cdb_control::Entry;
-use cdb_play::{PlayFault, Sink, status_of, write_all};
+use cdb_play::{OutputFault, PlayFault, Sink, status_of, write_all};
 use std::alloc::{AllocError, Global};
 
 /// Writes a text.
-fn put<W: Sink>(text: &[u8], out: &mut W) -> Result<(), PlayFault>
-    ensures { HallWrites W.contents W.failures result out.old out.new text.now }
+fn put<W: Sink>(text: &[u8], out: &mut W) -> Result<(), OutputFault>
+    ensures { IsWritten W.stream (whole_ending result) out.old out.new (Only text.now) }
 {
     match write_all(out, text) {
         Ok(()) => Ok(()),
-        Err(_) => Err(PlayFault::Write),
+        Err(_) => Err(OutputFault::Write),
     }
 }
 
@@ -33,12 +35,13 @@ pub fn write_journal<W: Sink>(
     alloc: Global,
     journal: &[Entry],
     out: &mut W,
-) -> Result<(), PlayFault>
-    ensures { HallWrites W.contents W.failures result out.old out.new (journal_text journal.now) }
+) -> Result<(), OutputFault>
+    ensures { IsWritten W.stream (whole_ending result) out.old out.new
+        (Only (journal_text journal.now)) }
 {
     match journal_text(alloc, journal) {
         Ok(text) => put(text.as_slice(), out),
-        Err(_) => Err(PlayFault::NoMemory),
+        Err(_) => Err(OutputFault::NoMemory),
     }
 }
 
@@ -53,7 +56,7 @@ fn push_seat(text: &mut String, seat: u8, outcome: &Result<(), PlayFault>) -> Re
 }
 
 /// Adds the line of a journal that was not written, if it was not.
-fn push_journal(text: &mut String, written: &Result<(), PlayFault>) -> Result<(), AllocError>
+fn push_journal(text: &mut String, written: &Result<(), OutputFault>) -> Result<(), AllocError>
     ensures { Pushes result text.old text.new (journal_line written.now) }
 {
     match written {
@@ -79,7 +82,7 @@ fn push_seats<T>(text: &mut String, attended: &[Attended<T>]) -> Result<(), Allo
 fn failures<T>(
     alloc: Global,
     attended: &[Attended<T>],
-    written: &Result<(), PlayFault>,
+    written: &Result<(), OutputFault>,
 ) -> Result<Vec<u8>, NoMemory>
     requires { length attended.now ≤ MAX_SEATS }
     ensures { IfOk result
@@ -100,16 +103,16 @@ fn failures<T>(
 pub fn write_failures<T, W: Sink>(
     alloc: Global,
     attended: &[Attended<T>],
-    written: &Result<(), PlayFault>,
+    written: &Result<(), OutputFault>,
     out: &mut W,
-) -> Result<(), PlayFault>
+) -> Result<(), OutputFault>
     requires { length attended.now ≤ MAX_SEATS }
-    ensures { HallWrites W.contents W.failures result out.old out.new
-        (failures_text written.now (outcomes attended.now)) }
+    ensures { IsWritten W.stream (whole_ending result) out.old out.new
+        (Only (failures_text written.now (outcomes attended.now))) }
 {
     match failures(alloc, attended, written) {
         Ok(text) => put(text.as_slice(), out),
-        Err(_) => Err(PlayFault::NoMemory),
+        Err(_) => Err(OutputFault::NoMemory),
     }
 }
 
@@ -127,11 +130,11 @@ fn status_of_seats<T>(attended: &[Attended<T>]) -> u8
 
 /// The status once all sessions have ended: 6 or 7 where the journal was not written, else that of the least seat whose
 /// session failed, 3, 6 or 7, and 0 where none did.
-pub fn status_after<T>(attended: &[Attended<T>], written: &Result<(), PlayFault>) -> u8
+pub fn status_after<T>(attended: &[Attended<T>], written: &Result<(), OutputFault>) -> u8
     ensures { result ≡ status_is written.now (outcomes attended.now) }
 {
     match written {
         Ok(()) => status_of_seats(attended),
-        Err(fault) => status_of(fault),
+        Err(fault) => status_of(&PlayFault::from(*fault)),
     }
 }

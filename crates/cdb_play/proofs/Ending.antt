@@ -1,72 +1,65 @@
 -- What was written, by how a play or a race ended.
-use Rattle.std.proofs.Common.{ℕ, List, Option, Result, Ok, Err, refl, inl, inr}
+use Rattle.std.proofs.Common.{◌≡◌, ℕ, List, Err, refl, sym, subst, inl, inr}
 use Rattle.cdb_setup.specs.declared.fault.SetupFault.{SetupFault}
 use Rattle.cdb_setup.specs.declared.fault.SetupFault.TheVariants as setup
-use Rattle.cdb_play.specs.Buffers.{Wrote}
-use Rattle.cdb_play.specs.Faults.{of_setup, of_output}
+use Rattle.cdb_play.specs.Endings.{Ending, Complete, WriterFailed, CutShort, NotBegun, pieces_ending, play_ending, race_ending}
+use Rattle.cdb_play.specs.Faults.{of_output}
 use Rattle.cdb_play.specs.Races.{race_fault_of_setup, race_fault_of_threads, race_fault_of_output, IsFaultOfScripts}
-use Rattle.cdb_play.specs.Written.{PlayWrites, RaceWrites}
+use Rattle.cdb_play.specs.Streams.{Stream}
+use Rattle.cdb_play.specs.Written.{IsWritten, Only}
 use Rattle.cdb_play.specs.declared.buffer.OutputFault.{OutputFault}
 use Rattle.cdb_play.specs.declared.buffer.OutputFault.TheVariants as output
-use Rattle.cdb_play.specs.declared.fault.PlayFault.{PlayFault}
-use Rattle.cdb_play.specs.declared.fault.PlayFault.TheVariants as play
 use Rattle.cdb_play.specs.declared.fault.RaceFault.{RaceFault}
-use Rattle.cdb_play.specs.declared.fault.RaceFault.TheVariants.{Setup, Line, ScriptTooLong, Write, NoMemory, JournalFull, Spawn, Stopped}
+use Rattle.cdb_play.specs.declared.fault.RaceFault.TheVariants.{Line, ScriptTooLong, NoMemory}
 use Rattle.cdb_race.specs.declared.threads.RaceFault.{RaceFault as ThreadFault}
 use Rattle.cdb_race.specs.declared.threads.RaceFault.TheVariants as threads
 
-module _ {W : Type 0} (contents : W → Option (List ℕ)) (failures : W → ℕ) (A : Type 0) (IsText : List ℕ → Type 0) where
+-- ---- a play and a race write their texts in pieces
+
+pub play_ends : (A : Type 0) (why : OutputFault) → play_ending {A = A} (Err (of_output why)) ≡ pieces_ending {A = A} (Err why)
+play_ends A output.Write = refl
+play_ends A output.NoMemory = refl
+
+pub race_ends : (A : Type 0) (why : OutputFault) → race_ending {A = A} (Err (race_fault_of_output why)) ≡ pieces_ending {A = A} (Err why)
+race_ends A output.Write = refl
+race_ends A output.NoMemory = refl
+
+module _ {W : Type 0} (stream : W → Stream) where
+  -- a text of one kind is one of another
+  pub written_as : (ending : Ending) (old new : W) (IsText Other : List ℕ → Type 0) → ((text : List ℕ) → IsText text → Other text) → IsWritten stream ending old new IsText → IsWritten stream ending old new Other
+  written_as Complete old new IsText Other is wrote = (wrote.0, is wrote.0 wrote.1, wrote.2)
+  written_as WriterFailed old new IsText Other is wrote = (wrote.0, is wrote.0 wrote.1, wrote.2)
+  written_as CutShort old new IsText Other is (inl same) = inl same
+  written_as CutShort old new IsText Other is (inr wrote) = inr (wrote.0, is wrote.0 wrote.1, wrote.2)
+  written_as NotBegun old new IsText Other is same = same
+
+  -- this text is one of that kind
+  pub only_as : (ending : Ending) (old new : W) (text : List ℕ) (Other : List ℕ → Type 0) → Other text → IsWritten stream ending old new (Only text) → IsWritten stream ending old new Other
+  only_as ending old new text Other is wrote = written_as ending old new (Only text) Other (λ other same. subst Other (sym same) is) wrote
+
+module _ {W : Type 0} (stream : W → Stream) (A : Type 0) (IsText : List ℕ → Type 0) where
   -- ---- a fault that comes before the text is known leaves the writer as it was
 
-  pub unwritten_setup : (out : W) (fault : SetupFault) → PlayWrites contents failures {A = A} (Err (of_setup fault)) out out IsText
-  unwritten_setup out setup.NoMemory = inl refl
-  unwritten_setup out fault = refl
-
-  pub race_unwritten_setup : (out : W) (fault : SetupFault) → RaceWrites contents failures {A = A} (Err (race_fault_of_setup fault)) out out IsText
+  pub race_unwritten_setup : (out : W) (fault : SetupFault) → IsWritten stream (race_ending {A = A} (Err (race_fault_of_setup fault))) out out IsText
   race_unwritten_setup out setup.NoMemory = inl refl
   race_unwritten_setup out fault = refl
 
-  pub race_unwritten_threads : (out : W) (fault : ThreadFault) → RaceWrites contents failures {A = A} (Err (race_fault_of_threads fault)) out out IsText
+  pub race_unwritten_threads : (out : W) (fault : ThreadFault) → IsWritten stream (race_ending {A = A} (Err (race_fault_of_threads fault))) out out IsText
   race_unwritten_threads out threads.NoMemory = inl refl
   race_unwritten_threads out threads.JournalFull = refl
   race_unwritten_threads out (threads.Spawn refused) = refl
   race_unwritten_threads out (threads.Stopped seat) = refl
 
-  pub race_unwritten_scripts : (out : W) (fault : RaceFault) (scripts : List (List ℕ)) → IsFaultOfScripts fault scripts → RaceWrites contents failures {A = A} (Err fault) out out IsText
+  pub race_unwritten_scripts : (out : W) (fault : RaceFault) (scripts : List (List ℕ)) → IsFaultOfScripts fault scripts → IsWritten stream (race_ending {A = A} (Err fault)) out out IsText
   race_unwritten_scripts out (Line position line fault) scripts is = refl
   race_unwritten_scripts out (ScriptTooLong position) scripts is = refl
   race_unwritten_scripts out NoMemory scripts is = inl refl
   race_unwritten_scripts out fault scripts is = absurd is
 
-  -- ---- such a text was written, by how that ended
+  -- ---- such a text was written in pieces, and that ended so
 
-  pub play_wrote : (why : OutputFault) (old new : W) (text : List ℕ) → IsText text → Wrote contents failures {A = A} (Err why) old new text → PlayWrites contents failures {A = A} (Err (of_output why)) old new IsText
-  play_wrote output.Write old new text is wrote = (text, is, wrote)
-  play_wrote output.NoMemory old new text is wrote = inr (text, is, wrote)
+  pub play_wrote : (why : OutputFault) (old new : W) (text : List ℕ) → IsText text → IsWritten stream (pieces_ending {A = A} (Err why)) old new (Only text) → IsWritten stream (play_ending {A = A} (Err (of_output why))) old new IsText
+  play_wrote why old new text is wrote = rw (play_ends A why) (only_as stream (pieces_ending {A = A} (Err why)) old new text IsText is wrote)
 
-  pub race_wrote : (why : OutputFault) (old new : W) (text : List ℕ) → IsText text → Wrote contents failures {A = A} (Err why) old new text → RaceWrites contents failures {A = A} (Err (race_fault_of_output why)) old new IsText
-  race_wrote output.Write old new text is wrote = (text, is, wrote)
-  race_wrote output.NoMemory old new text is wrote = inr (text, is, wrote)
-
-  -- a text of one kind is one of another
-  pub race_writes_weaker : (outcome : Result A RaceFault) (old new : W) (Other : List ℕ → Type 0) → ((text : List ℕ) → IsText text → Other text) → RaceWrites contents failures outcome old new IsText → RaceWrites contents failures outcome old new Other
-  race_writes_weaker (Ok done) old new Other weaker wrote = (wrote.0, weaker wrote.0 wrote.1, wrote.2)
-  race_writes_weaker (Err Write) old new Other weaker wrote = (wrote.0, weaker wrote.0 wrote.1, wrote.2)
-  race_writes_weaker (Err NoMemory) old new Other weaker (inl same) = inl same
-  race_writes_weaker (Err NoMemory) old new Other weaker (inr wrote) = inr (wrote.0, weaker wrote.0 wrote.1, wrote.2)
-  race_writes_weaker (Err (Setup fault)) old new Other weaker wrote = wrote
-  race_writes_weaker (Err (Line position line fault)) old new Other weaker wrote = wrote
-  race_writes_weaker (Err (ScriptTooLong position)) old new Other weaker wrote = wrote
-  race_writes_weaker (Err JournalFull) old new Other weaker wrote = wrote
-  race_writes_weaker (Err (Spawn refused)) old new Other weaker wrote = wrote
-  race_writes_weaker (Err (Stopped seat)) old new Other weaker wrote = wrote
-
-  pub play_writes_weaker : (outcome : Result A PlayFault) (old new : W) (Other : List ℕ → Type 0) → ((text : List ℕ) → IsText text → Other text) → PlayWrites contents failures outcome old new IsText → PlayWrites contents failures outcome old new Other
-  play_writes_weaker (Ok done) old new Other weaker wrote = (wrote.0, weaker wrote.0 wrote.1, wrote.2)
-  play_writes_weaker (Err play.Write) old new Other weaker wrote = (wrote.0, weaker wrote.0 wrote.1, wrote.2)
-  play_writes_weaker (Err play.NoMemory) old new Other weaker (inl same) = inl same
-  play_writes_weaker (Err play.NoMemory) old new Other weaker (inr wrote) = inr (wrote.0, weaker wrote.0 wrote.1, wrote.2)
-  play_writes_weaker (Err (play.Setup fault)) old new Other weaker wrote = wrote
-  play_writes_weaker (Err (play.Line script line fault)) old new Other weaker wrote = wrote
-  play_writes_weaker (Err (play.ScriptTooLong script)) old new Other weaker wrote = wrote
-  play_writes_weaker (Err play.Read) old new Other weaker wrote = wrote
+  pub race_wrote : (why : OutputFault) (old new : W) (text : List ℕ) → IsText text → IsWritten stream (pieces_ending {A = A} (Err why)) old new (Only text) → IsWritten stream (race_ending {A = A} (Err (race_fault_of_output why))) old new IsText
+  race_wrote why old new text is wrote = rw (race_ends A why) (only_as stream (pieces_ending {A = A} (Err why)) old new text IsText is wrote)

@@ -1,6 +1,6 @@
 -- A buffer between what is put and a writer.
-use Rattle.std.specs.Prelude.{◌≡◌, ℕ, ◌*◌, List, ◌++◌, length, Option, Result, Ok, Err}
-use Rattle.cdb_play.specs.Streams.{Takes, Fails}
+use Rattle.std.specs.Prelude.{◌≡◌, ℕ, ◌*◌, List, ◌++◌, length, Result, Ok, Err}
+use Rattle.cdb_play.specs.Streams.{Stream, Takes, Fails}
 use Rattle.cdb_play.specs.declared.buffer.OutputFault.{OutputFault}
 use Rattle.cdb_play.specs.declared.buffer.TheConstants.{PIECE}
 use Rattle.cdb_play.specs.declared.buffer.OutputFault.TheVariants.{Write, NoMemory}
@@ -13,17 +13,11 @@ piece = PIECE
 abbrev pub AreWholePieces : List ℕ → Type 0
 AreWholePieces bytes = (count : ℕ) × (length bytes ≡ count * piece)
 
-module _ {W : Type 0} (contents : W → Option (List ℕ)) (failures : W → ℕ) where
+module _ {W : Type 0} (stream : W → Stream) where
   -- The writer took whole pieces that are a beginning of the text, and no call failed
   abbrev pub TakesPieces : W → W → List ℕ → Type 0
   TakesPieces old new text =
-      (written rest : List ℕ) × (text ≡ written ++ rest) × AreWholePieces written × Takes contents failures old new written
-
-  -- The text was written, by how that ended; where an allocation failed, what was left in the buffer is not written
-  abbrev pub Wrote : {A : Type 0} → Result A OutputFault → W → W → List ℕ → Type 0
-  Wrote (Ok done) old new text = Takes contents failures old new text
-  Wrote (Err Write) old new text = Fails contents failures old new text
-  Wrote (Err NoMemory) old new text = TakesPieces old new text
+      (written rest : List ℕ) × (text ≡ written ++ rest) × AreWholePieces written × Takes stream old new written
 
   -- ---- what the code keeps for itself
 
@@ -32,7 +26,7 @@ module _ {W : Type 0} (contents : W → Option (List ℕ)) (failures : W → ℕ
     pub sent : List ℕ
     pub pieces : AreWholePieces sent
     pub is : held ++ text ≡ sent ++ left
-    pub taken : Takes contents failures old new sent
+    pub taken : Takes stream old new sent
 
   -- a beginning of the text was put
   pub record PutsBeginning (old : W) (held : List ℕ) (new : W) (left text : List ℕ) : Type 0 where
@@ -41,8 +35,8 @@ module _ {W : Type 0} (contents : W → Option (List ℕ)) (failures : W → ℕ
     pub whole : text ≡ before ++ rest
     pub put : IsPut old held new left before
 
-  -- the text was put, by how that ended
+  -- The text was put, by how that ended: part of it may be held still, and is not written then
   abbrev pub Puts : {A : Type 0} → Result A OutputFault → W → List ℕ → W → List ℕ → List ℕ → Type 0
   Puts (Ok done) old held new left text = IsPut old held new left text
   Puts (Err NoMemory) old held new left text = PutsBeginning old held new left text
-  Puts (Err Write) old held new left text = Fails contents failures old new (held ++ text)
+  Puts (Err Write) old held new left text = Fails stream old new (held ++ text)

@@ -1,5 +1,5 @@
 -- What the faults of a play say.
-use Rattle.std.specs.Prelude.{◌≡◌, ℕ, List, Option}
+use Rattle.std.specs.Prelude.{◌≡◌, ℕ, List}
 use Rattle.std.specs.Io.KnownBytes.{Consumes}
 use Rattle.cdb_setup.specs.Format.{Encodes}
 use Rattle.cdb_setup.specs.Order.{IsFirstFault}
@@ -7,7 +7,7 @@ use Rattle.cdb_setup.specs.Parts.{Parts}
 use Rattle.cdb_setup.specs.declared.fault.SetupFault.{SetupFault}
 use Rattle.cdb_setup.specs.declared.fault.SetupFault.TheVariants as setup
 use Rattle.cdb_play.specs.Scripts.{IsFaultOfScript}
-use Rattle.cdb_play.specs.Streams.{IsReadToEnd}
+use Rattle.cdb_play.specs.Streams.{IsReadToEnd, Stream}
 use Rattle.cdb_play.specs.declared.buffer.OutputFault.{OutputFault}
 use Rattle.cdb_play.specs.declared.buffer.OutputFault.TheVariants as output
 use Rattle.cdb_play.specs.declared.fault.PlayFault.{PlayFault}
@@ -45,25 +45,25 @@ IsSetup json = (setup : Parts) × Encodes json setup
 
 -- What a fault of a play says of the setup's text and of the script, where the reader had the first bytes left before
 -- and the second after. A fault of the setup comes before those of the script, and those before the writer's.
-abbrev pub IsFaultOfPlay : PlayFault → List ℕ → Option (List ℕ) → Option (List ℕ) → Type 0
-IsFaultOfPlay (Setup fault) json old new = IsFirstFault fault json
-IsFaultOfPlay (Line number line fault) json old new =
+abbrev pub IsFaultOfPlay : List ℕ → Stream → Stream → PlayFault → Type 0
+IsFaultOfPlay json old new (Setup fault) = IsFirstFault fault json
+IsFaultOfPlay json old new (Line number line fault) =
     IsSetup json × (number ≡ 1) × ((bytes : List ℕ) × IsReadToEnd old bytes new × IsFaultOfScript (script.Line line fault) bytes)
-IsFaultOfPlay (ScriptTooLong number) json old new =
-    IsSetup json × (number ≡ 1) × ((bytes : List ℕ) × Consumes old new bytes × IsFaultOfScript script.TooLong bytes)
-IsFaultOfPlay Read json old new = IsSetup json
-IsFaultOfPlay Write json old new = IsSetup json
-IsFaultOfPlay NoMemory json old new = Unit {0}
+IsFaultOfPlay json old new (ScriptTooLong number) =
+    IsSetup json × (number ≡ 1) × ((bytes : List ℕ) × Consumes old.bytes new.bytes bytes × IsFaultOfScript script.TooLong bytes)
+IsFaultOfPlay json old new Read = IsSetup json
+IsFaultOfPlay json old new Write = IsSetup json
+IsFaultOfPlay json old new NoMemory = Unit {0}
 
 -- ---- what the code keeps for itself
 
 -- what a fault says that comes from reading a script and its lines; the setup was read before, and nothing is written yet
-abbrev pub IsFaultOfReading : PlayFault → Option (List ℕ) → Option (List ℕ) → Type 0
-IsFaultOfReading (Setup fault) old new = ⊥
-IsFaultOfReading (Line number line fault) old new =
+abbrev pub IsFaultOfReading : Stream → Stream → PlayFault → Type 0
+IsFaultOfReading old new (Setup fault) = ⊥
+IsFaultOfReading old new (Line number line fault) =
     (number ≡ 1) × ((bytes : List ℕ) × IsReadToEnd old bytes new × IsFaultOfScript (script.Line line fault) bytes)
-IsFaultOfReading (ScriptTooLong number) old new =
-    (number ≡ 1) × ((bytes : List ℕ) × Consumes old new bytes × IsFaultOfScript script.TooLong bytes)
-IsFaultOfReading Read old new = Unit {0}
-IsFaultOfReading Write old new = ⊥
-IsFaultOfReading NoMemory old new = Unit {0}
+IsFaultOfReading old new (ScriptTooLong number) =
+    (number ≡ 1) × ((bytes : List ℕ) × Consumes old.bytes new.bytes bytes × IsFaultOfScript script.TooLong bytes)
+IsFaultOfReading old new Read = Unit {0}
+IsFaultOfReading old new Write = ⊥
+IsFaultOfReading old new NoMemory = Unit {0}

@@ -1,5 +1,5 @@
 -- The run that a script leaves.
-use Rattle.std.specs.Prelude.{◌≡◌, ℕ, ◌≤◌, List, [], ◌∷◌, length, Option}
+use Rattle.std.specs.Prelude.{◌≡◌, ℕ, ◌≤◌, List, [], ◌∷◌, length}
 use Rattle.cdb_control.specs.declared.command.Command.{Command}
 use Rattle.cdb_control.specs.Journal.{Journaled, control_state}
 use Rattle.cdb_rules.specs.RunView.{RunView}
@@ -8,7 +8,7 @@ use Rattle.cdb_setup.specs.Format.{Encodes, longest}
 use Rattle.cdb_setup.specs.Parts.{Parts}
 use Rattle.cdb_play.specs.Lines.{lines_of}
 use Rattle.cdb_play.specs.Scripts.{AreCommandsOf}
-use Rattle.cdb_play.specs.Streams.{IsReadToEnd}
+use Rattle.cdb_play.specs.Streams.{IsReadToEnd, Stream}
 use Rattle.cdb_play.specs.Transcripts.{journal_of}
 
 -- a control of one seat, without room, that has carried these commands out
@@ -29,5 +29,9 @@ pub record IsRunLeft (rules : Parts → Rules) (json script : List ℕ) (run : R
   pub is : run ≡ run_of rules (carried_out setup commands)
 
 -- a reader was read to its end, and the run is the one that the script leaves that it gave
-abbrev pub Leaves : (Parts → Rules) → List ℕ → Option (List ℕ) → Option (List ℕ) → RunView → Type 0
+abbrev pub Leaves : (Parts → Rules) → List ℕ → Stream → Stream → RunView → Type 0
 Leaves rules json old new run = (script : List ℕ) × IsReadToEnd old script new × IsRunLeft rules json script run
+
+-- the same, where the run is that of a control
+abbrev pub LeavesControl : (Parts → Rules) → List ℕ → Stream → Stream → Journaled → Type 0
+LeavesControl rules json old new control = Leaves rules json old new (run_of rules control)

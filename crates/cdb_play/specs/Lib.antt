@@ -7,9 +7,9 @@ pub mod Faults
 pub mod FaultTexts
 pub mod Statuses
 pub mod Races
+pub mod Endings
 pub mod Written
 pub mod Left
-pub mod Whole
 -- what the public ones name, and then what the code keeps for itself
 pub mod Buffers
 -- ---- what the code keeps for itself

@@ -9,6 +9,7 @@ use Rattle.cdb_race.specs.Faults as of_threads
 use Rattle.cdb_race.specs.Races.{IsRaced, MayFill, answers_to}
 use Rattle.cdb_race.specs.declared.threads.RaceFault.{RaceFault as ThreadFault}
 use Rattle.cdb_race.specs.declared.threads.RaceFault.TheVariants as threads
+use Rattle.cdb_rules.specs.Agreement.{HasMajorityIfNeeded}
 use Rattle.cdb_rules.specs.Rules.{Rules}
 use Rattle.cdb_setup.specs.Format.{Encodes}
 use Rattle.cdb_setup.specs.Order.{IsFirstFault}
@@ -49,6 +50,10 @@ have_one_value (pair ∷ pairs) = list_all (λ other. other.1 == pair.1) pairs
 abbrev pub verdict_text : List (ℕ × ℕ) → List ℕ
 verdict_text decisions = if have_one_value decisions then codes "decisions agree\n" else codes "decisions differ\n"
 
+-- the text is that of a setup that has a majority if it needs one
+abbrev pub IsSetupWithMajority : List ℕ → Type 0
+IsSetupWithMajority json = (setup : Parts) × Encodes json setup × HasMajorityIfNeeded setup
+
 -- the last line of the text says that the decisions agree
 abbrev pub EndsInAgreement : List ℕ → Type 0
 EndsInAgreement text = (before : List ℕ) × (text ≡ before ++ codes "\n" ++ codes "decisions agree\n")
@@ -65,10 +70,13 @@ last_decisions rules c = (rules c.setup).decisions (control_state rules c).histo
 abbrev pub script_seats : Journaled → List ℕ
 script_seats c = range_with_len (c.setup.processes + 1) (c.seats - c.setup.processes)
 
+-- the seats of the scripts with these answers, and then the decisions of the last state
+abbrev pub text_with : (Parts → Rules) → Journaled → List (List Answer) → List ℕ
+text_with rules c answers = seats_text (c.setup.processes + 1) answers ++ end_text (last_decisions rules c)
+
 -- the text of a race with this journal
 unfoldable pub race_text : (Parts → Rules) → Journaled → List ℕ
-race_text rules c =
-    seats_text (c.setup.processes + 1) (map (λ seat. answers_to rules seat c) (script_seats c)) ++ end_text (last_decisions rules c)
+race_text rules c = text_with rules c (map (λ seat. answers_to rules seat c) (script_seats c))
 
 -- ---- the scripts
 

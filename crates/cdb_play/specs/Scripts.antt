@@ -1,5 +1,5 @@
 -- The commands of a script, and what is wrong with one.
-use Rattle.std.specs.Prelude.{◌≡◌, ℕ, ◌+◌, ◌<◌, ◌≤◌, List, ◌∷◌, ◌++◌, length, Option}
+use Rattle.std.specs.Prelude.{◌≡◌, ℕ, ◌+◌, ◌<◌, ◌≤◌, List, ◌∷◌, ◌++◌, length}
 use Rattle.std.specs.List.{AllZip}
 use Rattle.cdb_control.specs.declared.command.Command.{Command}
 use Rattle.cdb_text.specs.declared.fault.LineFault.{LineFault}
@@ -7,7 +7,7 @@ use Rattle.cdb_text.specs.Grammar.{IsLineOf}
 use Rattle.cdb_text.specs.Faults.{IsFaultOf}
 use Rattle.cdb_setup.specs.Format.{longest}
 use Rattle.cdb_play.specs.Lines.{lines_of}
-use Rattle.cdb_play.specs.Streams.{IsReadToEnd}
+use Rattle.cdb_play.specs.Streams.{IsReadToEnd, Stream}
 use Rattle.cdb_play.specs.declared.script.ScriptFault.{ScriptFault}
 use Rattle.cdb_play.specs.declared.script.ScriptFault.TheVariants.{Line, TooLong, NoMemory}
 
@@ -26,7 +26,7 @@ abbrev pub IsScript : List Command → List ℕ → Type 0
 IsScript commands script = (length script ≤ longest) × AreCommandsOf commands (lines_of script)
 
 -- a reader was read to its end, and the commands are those of the script that it gave
-abbrev pub GivesCommands : Option (List ℕ) → Option (List ℕ) → List Command → Type 0
+abbrev pub GivesCommands : Stream → Stream → List Command → Type 0
 GivesCommands old new commands = (script : List ℕ) × IsReadToEnd old script new × IsScript commands script
 
 -- what a fault says of the script

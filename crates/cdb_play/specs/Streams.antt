@@ -2,11 +2,17 @@
 use Rattle.std.specs.Prelude.{◌≡◌, ℕ, ◌+◌, ◌%◌, ◌^◌, Bool, true, not, ◌&&◌, ◌==◌, List, ◌++◌, length, Option, Result, Ok, Err, if◌then◌else◌}
 use Rattle.std.specs.Io.KnownBytes.{Appends, Consumes, IsAtEnd}
 
+-- A stream: of a reader the bytes that are left, of a writer those that it holds, where they are known; and how many of
+-- its calls failed, in 64 bits
+pub record Stream : Type 0 where
+  pub bytes : Option (List ℕ)
+  pub failures : ℕ
+
 -- ---- readers
 
 -- the bytes were all that was left
-abbrev pub IsReadToEnd : Option (List ℕ) → List ℕ → Option (List ℕ) → Type 0
-IsReadToEnd old bytes new = Consumes old new bytes × IsAtEnd new
+abbrev pub IsReadToEnd : Stream → List ℕ → Stream → Type 0
+IsReadToEnd old bytes new = Consumes old.bytes new.bytes bytes × IsAtEnd new.bytes
 
 -- ---- failures
 
@@ -24,8 +30,10 @@ abbrev pub counted : Bool → ℕ → ℕ
 counted failed failures = if failed then one_more failures else failures
 
 -- one call of a reader or a writer failed where this holds, and else none
-abbrev pub FailsWhere : {X : Type 0} → (X → ℕ) → Type 0 → X → X → Type 0
-FailsWhere failures Here old new = (Here → failures new ≡ one_more (failures old)) × ((Here → ⊥) → failures new ≡ failures old)
+abbrev pub FailsWhere : {X : Type 0} → (X → Stream) → Type 0 → X → X → Type 0
+FailsWhere stream Here old new =
+    (Here → (stream new).failures ≡ one_more (stream old).failures)
+    × ((Here → ⊥) → (stream new).failures ≡ (stream old).failures)
 
 -- ---- writers
 
@@ -33,17 +41,19 @@ FailsWhere failures Here old new = (Here → failures new ≡ one_more (failures
 abbrev pub AddsBeginning : Option (List ℕ) → Option (List ℕ) → List ℕ → Type 0
 AddsBeginning old new text = (written rest : List ℕ) × (text ≡ written ++ rest) × Appends old new written
 
--- Of a writer before and after: the bytes that it holds, and how many of its calls failed
-module _ {W : Type 0} (contents : W → Option (List ℕ)) (failures : W → ℕ) where
+-- Of a writer before and after, each seen as a stream
+module _ {W : Type 0} (stream : W → Stream) where
   -- it took the text, and no call failed
   abbrev pub Takes : W → W → List ℕ → Type 0
-  Takes old new text = Appends (contents old) (contents new) text × (failures new ≡ failures old)
+  Takes old new text =
+      Appends (stream old).bytes (stream new).bytes text × ((stream new).failures ≡ (stream old).failures)
 
   -- it took a beginning of the text, and then one call failed
   abbrev pub Fails : W → W → List ℕ → Type 0
-  Fails old new text = AddsBeginning (contents old) (contents new) text × (failures new ≡ one_more (failures old))
+  Fails old new text =
+      AddsBeginning (stream old).bytes (stream new).bytes text × ((stream new).failures ≡ one_more (stream old).failures)
 
-  -- The text was written, or a call failed and what was written is a beginning of it
+  -- Where nothing but the writer can fail: it took the text, or it failed and took a beginning of it
   abbrev pub Writes : {A E : Type 0} → Result A E → W → W → List ℕ → Type 0
   Writes (Ok done) old new text = Takes old new text
   Writes (Err failed) old new text = Fails old new text

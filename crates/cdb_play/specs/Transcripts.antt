@@ -1,5 +1,5 @@
 -- What a play writes.
-use Rattle.std.specs.Prelude.{◌≡◌, ℕ, ◌≤◌, List, length, map, Option}
+use Rattle.std.specs.Prelude.{◌≡◌, ℕ, ◌≤◌, List, length, map}
 use Rattle.std.specs.List.{flat_map}
 use Rattle.cdb_base.specs.declared.event.Event.{Event}
 use Rattle.cdb_control.specs.declared.command.Command.{Command}
@@ -12,7 +12,7 @@ use Rattle.cdb_setup.specs.Format.{Encodes, longest}
 use Rattle.cdb_text.specs.Texts.{text_of}
 use Rattle.cdb_play.specs.Lines.{lines_of}
 use Rattle.cdb_play.specs.Scripts.{AreCommandsOf}
-use Rattle.cdb_play.specs.Streams.{IsReadToEnd}
+use Rattle.cdb_play.specs.Streams.{IsReadToEnd, Stream}
 
 -- the text of the reply to a command of the only seat
 abbrev pub reply_to : (Parts → Rules) → Journaled → Command → List ℕ
@@ -36,10 +36,10 @@ pub record IsTranscriptOf (rules : Parts → Rules) (json script text : List ℕ
   pub is : text ≡ transcript (rules setup) setup commands
 
 -- a reader was read to its end, and the text is the transcript of the script that it gave
-abbrev pub Plays : (Parts → Rules) → List ℕ → Option (List ℕ) → Option (List ℕ) → List ℕ → Type 0
+abbrev pub Plays : (Parts → Rules) → List ℕ → Stream → Stream → List ℕ → Type 0
 Plays rules json old new text = (script : List ℕ) × IsReadToEnd old script new × IsTranscriptOf rules json script text
 
 -- such a play, and the headline holds of the journal whose replies the transcript has
-pub record RestsOnHeadline (rules : Parts → Rules) (SameState : Parts → List Event → List Event → Type 0) (json : List ℕ) (old new : Option (List ℕ)) (text : List ℕ) : Type 0 where
+pub record RestsOnHeadline (rules : Parts → Rules) (SameState : Parts → List Event → List Event → Type 0) (json : List ℕ) (old new : Stream) (text : List ℕ) : Type 0 where
   pub plays : Plays rules json old new text
   pub headline : Headline rules SameState plays.2.setup 1 (journal_of plays.2.commands)

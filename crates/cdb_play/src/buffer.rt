@@ -131,7 +131,7 @@ impl Buffer {
 
     /// Writes what is held, and holds nothing then.
     pub fn flush<W: Sink>(&mut self, out: &mut W) -> Result<(), Failed>
-        ensures written { Writes W.contents W.failures result out.old out.new self.old }
+        ensures written { Writes W.stream result out.old out.new self.old }
         ensures emptied { OnOk result (self.new ≡ []) }
     {
         write_all(out, self.held.as_slice())?;
@@ -142,9 +142,9 @@ impl Buffer {
     /// Writes what is held if it is a full piece. So there is room then.
     fn make_room<W: Sink>(&mut self, out: &mut W) -> Result<(), Failed>
         ensures put { OnOk result
-            (IsPut W.contents W.failures out.old self.old out.new self.new []) }
+            (IsPut W.stream out.old self.old out.new self.new []) }
         ensures room { OnOk result (length self.new < piece) }
-        ensures err { OnErr result (Fails W.contents W.failures out.old out.new self.old) }
+        ensures err { OnErr result (Fails W.stream out.old out.new self.old) }
     {
         if self.is_full() {
             self.flush(out)?;
@@ -156,9 +156,9 @@ impl Buffer {
     #[inline(never)]
     fn put_in_pieces<W: Sink>(&mut self, out: &mut W, bytes: &[u8]) -> Result<(), Failed>
         ensures ok { OnOk result
-            (IsPut W.contents W.failures out.old self.old out.new self.new bytes.now) }
+            (IsPut W.stream out.old self.old out.new self.new bytes.now) }
         ensures err { OnErr result
-            (Fails W.contents W.failures out.old out.new (self.old ++ bytes.now)) }
+            (Fails W.stream out.old out.new (self.old ++ bytes.now)) }
     {
         let mut done = 0;
         while done < bytes.len() {
@@ -171,9 +171,9 @@ impl Buffer {
     /// Puts the bytes after those that are held. Each full piece is written before there is more to hold.
     pub fn put<W: Sink>(&mut self, out: &mut W, bytes: &[u8]) -> Result<(), Failed>
         ensures ok { OnOk result
-            (IsPut W.contents W.failures out.old self.old out.new self.new bytes.now) }
+            (IsPut W.stream out.old self.old out.new self.new bytes.now) }
         ensures err { OnErr result
-            (Fails W.contents W.failures out.old out.new (self.old ++ bytes.now)) }
+            (Fails W.stream out.old out.new (self.old ++ bytes.now)) }
     {
         if bytes.len() <= PIECE - self.held.len() {
             self.hold(bytes);

@@ -47,7 +47,7 @@ fn detail_of(
 
 /// A fault of a setup that has this number.
 fn write_numbered<W: Sink>(number: u8, fault: &SetupFault, err: &mut W) -> Result<(), Failed>
-    ensures { Writes W.contents W.failures result err.old err.new
+    ensures { Writes W.stream result err.old err.new
         (as_line (numbered_text (Some number) fault.now)) }
 {
     let number = Number(usize::from(number));
@@ -68,8 +68,7 @@ fn write_numbered<W: Sink>(number: u8, fault: &SetupFault, err: &mut W) -> Resul
 }
 
 fn write_setup_fault<W: Sink>(fault: &SetupFault, err: &mut W) -> Result<(), Failed>
-    ensures { Writes W.contents W.failures result err.old err.new
-        (as_line (setup_fault_text fault.now)) }
+    ensures { Writes W.stream result err.old err.new (as_line (setup_fault_text fault.now)) }
 {
     match fault.number() {
         Some(number) => write_numbered(number, fault, err),
@@ -83,7 +82,7 @@ fn write_line_fault<W: Sink>(
     fault: LineFault,
     err: &mut W,
 ) -> Result<(), Failed>
-    ensures { Writes W.contents W.failures result err.old err.new
+    ensures { Writes W.stream result err.old err.new
         (as_line (script_line_text script line fault)) }
 {
     let (script, line) = (Number(script), Number(line));
@@ -103,7 +102,7 @@ fn write_line_fault<W: Sink>(
 }
 
 fn write_too_long<W: Sink>(script: usize, err: &mut W) -> Result<(), Failed>
-    ensures { Writes W.contents W.failures result err.old err.new (as_line (too_long_text script)) }
+    ensures { Writes W.stream result err.old err.new (as_line (too_long_text script)) }
 {
     write_each(
         err,
@@ -114,7 +113,7 @@ fn write_too_long<W: Sink>(script: usize, err: &mut W) -> Result<(), Failed>
 /// Writes the line that reports a fault. The name is that of what could not be read. Where the writer fails, what
 /// was written is a beginning of the line.
 pub fn write_fault<W: Sink>(fault: &PlayFault, name: &str, err: &mut W) -> Result<(), Failed>
-    ensures { Writes W.contents W.failures result err.old err.new
+    ensures { Writes W.stream result err.old err.new
         (as_line (play_fault_text fault.now name.now)) }
 {
     match fault {
@@ -129,8 +128,7 @@ pub fn write_fault<W: Sink>(fault: &PlayFault, name: &str, err: &mut W) -> Resul
 
 /// Writes the line that reports a fault of a race. Where the writer fails, what was written is a beginning of it.
 pub fn write_race_fault<W: Sink>(fault: &RaceFault, err: &mut W) -> Result<(), Failed>
-    ensures { Writes W.contents W.failures result err.old err.new
-        (as_line (race_fault_text fault.now)) }
+    ensures { Writes W.stream result err.old err.new (as_line (race_fault_text fault.now)) }
 {
     match fault {
         RaceFault::Setup(fault) => write_setup_fault(fault, err),

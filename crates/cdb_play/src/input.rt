@@ -27,9 +27,10 @@ impl<R: Read + Drop> Input<R> {
 }
 
 impl<R: Read + Drop> Source for Input<R> {
-    ghost remaining = { λ input. R.remaining input.reader };
-
-    ghost failures = { λ input. input.failures };
+    ghost stream = { λ input. record {
+      bytes = R.remaining input.reader;
+      failures = input.failures;
+    } };
 
     fn read(&mut self, buffer: &mut [u8]) -> Result<usize, Failed> {
         let Ok(count) = self.reader.read(buffer) else {
@@ -58,9 +59,7 @@ impl<'a> Bytes<'a> {
 impl<'a> Source for Bytes<'a> {
     ghost use Rattle.std.specs.Prelude.{Some};
 
-    ghost remaining = { λ bytes. Some bytes.rest.now };
-
-    ghost failures = { λ _. 0 };
+    ghost stream = { λ bytes. record { bytes = Some bytes.rest.now; failures = 0 } };
 
     fn read(&mut self, buffer: &mut [u8]) -> Result<usize, Failed> {
         let count = buffer.len().min(self.rest.len());

@@ -5,10 +5,11 @@ ghost use Rattle.cdb_base.specs.declared.limits.TheConstants.{MAX_ENTRIES};
 ghost use Rattle.cdb_control.specs.Headline.{Headline};
 ghost use Rattle.cdb_control.specs.Journal.{extended};
 ghost use Rattle.cdb_setup.specs.declared.fault.SetupFault.{SetupFault as SetupFaultName};
-ghost use Rattle.cdb_play.specs.Buffers.{Wrote};
+ghost use Rattle.cdb_play.specs.Endings.{whole_ending};
 ghost use Rattle.cdb_play.specs.Faults.{IsFaultOfPlay};
-ghost use Rattle.cdb_play.specs.Left.{carried_out, run_of, Leaves};
+ghost use Rattle.cdb_play.specs.Left.{carried_out, LeavesControl};
 ghost use Rattle.cdb_play.specs.Streams.{FailsWhere};
+ghost use Rattle.cdb_play.specs.Written.{IsWritten, Only};
 
 use crate::buffer::{Buffer, OutputFault};
 use crate::fault::PlayFault;
@@ -28,8 +29,7 @@ fn carry_out<T: Runs>(
 ) -> Result<(), NoMemory>
     requires seats { control.old.seats ≡ 1 }
     requires room { length control.old.journal < MAX_ENTRIES }
-    ensures { OnOk result
-        (control.new ≡ extended T.rules control.old 1 command) }
+    ensures { OnOk result (control.new ≡ extended T.rules control.old 1 command) }
 {
     match control.execute(alloc, 1, command) {
         Ok(_) => Ok(()),
@@ -66,16 +66,16 @@ pub fn left_by<T: Runs, R: Source>(
     setup: &[u8],
     script: &mut R,
 ) -> Result<Control<T>, PlayFault>
-    ensures left { IfOk result (λ control. Leaves T.rules setup.now
-        (R.remaining script.old) (R.remaining script.new) (run_of T.rules control)) }
+    ensures left { IfOk result
+        (LeavesControl T.rules setup.now (R.stream script.old) (R.stream script.new)) }
     ensures headline { IfOk result (λ control.
         Headline T.rules T.same_state control.setup control.seats control.journal) }
-    ensures fault { IfErr result (λ fault.
-        IsFaultOfPlay fault setup.now (R.remaining script.old) (R.remaining script.new)) }
+    ensures fault { IfErr result
+        (IsFaultOfPlay setup.now (R.stream script.old) (R.stream script.new)) }
     ensures written { result ≢ Err PlayFault.Write }
     ensures unread { (fault : SetupFaultName) → result ≡ Err (PlayFault.Setup fault) →
         script.new ≡ script.old }
-    ensures read { FailsWhere R.failures (result ≡ Err PlayFault.Read) script.old script.new }
+    ensures read { FailsWhere R.stream (result ≡ Err PlayFault.Read) script.old script.new }
 {
     let setup = Setup::read(alloc, setup)?;
     let commands = read_commands(alloc, script)?;
@@ -88,8 +88,7 @@ pub fn left_by<T: Runs, R: Source>(
 /// Writes a text, in pieces of 65,536 bytes. After `Write` what was written is a beginning of the text, and
 /// after `NoMemory` nothing was.
 pub fn write_text<W: Sink>(alloc: Global, text: &[u8], out: &mut W) -> Result<(), OutputFault>
-    ensures wrote { Wrote W.contents W.failures result out.old out.new text.now }
-    ensures unwritten { result ≡ Err OutputFault.NoMemory → out.new ≡ out.old }
+    ensures { IsWritten W.stream (whole_ending result) out.old out.new (Only text.now) }
 {
     let mut buffer = Buffer::new(alloc)?;
     buffer.put(out, text)?;

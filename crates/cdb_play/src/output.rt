@@ -33,9 +33,7 @@ impl<W: Write + Drop> Output<W> {
 }
 
 impl<W: Write + Drop> Sink for Output<W> {
-    ghost contents = { λ out. W.contents out.writer };
-
-    ghost failures = { λ out. out.failures };
+    ghost stream = { λ out. record { bytes = W.contents out.writer; failures = out.failures } };
 
     fn write(&mut self, piece: &[u8]) -> Result<usize, Failed> {
         let Ok(count) = self.writer.write(piece) else {

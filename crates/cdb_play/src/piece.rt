@@ -16,7 +16,7 @@ pub enum Piece<'a> {
 
 /// Writes a piece. Where the writer fails, what was written is a beginning of it.
 pub fn write_piece<W: Sink>(out: &mut W, piece: Piece<'_>) -> Result<(), Failed>
-    ensures { Writes W.contents W.failures result out.old out.new (piece_text piece.entry) }
+    ensures { Writes W.stream result out.old out.new (piece_text piece.entry) }
 {
     match piece {
         Piece::Text(text) => write_all(out, text.as_bytes()),
@@ -30,7 +30,7 @@ pub fn write_piece<W: Sink>(out: &mut W, piece: Piece<'_>) -> Result<(), Failed>
 /// Writes the pieces, one after the other. Where the writer fails, what was written is a beginning of their
 /// text. It takes no memory.
 pub fn write_each<W: Sink>(out: &mut W, pieces: &[Piece<'_>]) -> Result<(), Failed>
-    ensures { Writes W.contents W.failures result out.old out.new (pieces_text pieces.now) }
+    ensures { Writes W.stream result out.old out.new (pieces_text pieces.now) }
 {
     for piece in pieces {
         write_piece(out, *piece)?;

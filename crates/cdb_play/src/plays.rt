@@ -4,11 +4,12 @@ ghost use Rattle.std.specs.Prelude.{◌≡◌, ◌<◌, length, Err, IfErr, OnOk
 ghost use Rattle.cdb_base.specs.declared.limits.TheConstants.{MAX_ENTRIES};
 ghost use Rattle.cdb_control.specs.Journal.{extended};
 ghost use Rattle.cdb_setup.specs.declared.fault.SetupFault.{SetupFault as SetupFaultName};
-ghost use Rattle.cdb_play.specs.Buffers.{Puts, Wrote};
+ghost use Rattle.cdb_play.specs.Buffers.{Puts};
+ghost use Rattle.cdb_play.specs.Endings.{pieces_ending, play_ending};
 ghost use Rattle.cdb_play.specs.Faults.{IsFaultOfPlay};
 ghost use Rattle.cdb_play.specs.Streams.{FailsWhere};
 ghost use Rattle.cdb_play.specs.Transcripts.{reply_to, transcript, Plays, RestsOnHeadline};
-ghost use Rattle.cdb_play.specs.Written.{PlayWrites};
+ghost use Rattle.cdb_play.specs.Written.{IsWritten, Only};
 
 use crate::buffer::{Buffer, OutputFault};
 use crate::fault::PlayFault;
@@ -31,9 +32,8 @@ fn perform<T: Runs, W: Sink>(
 ) -> Result<(), OutputFault>
     requires seats { control.old.seats ≡ 1 }
     requires room { length control.old.journal < MAX_ENTRIES }
-    ensures done { OnOk result
-        (control.new ≡ extended T.rules control.old 1 command) }
-    ensures put { Puts W.contents W.failures result out.old buffer.old out.new buffer.new
+    ensures done { OnOk result (control.new ≡ extended T.rules control.old 1 command) }
+    ensures put { Puts W.stream result out.old buffer.old out.new buffer.new
         (reply_to T.rules control.old command) }
 {
     let reply = match control.execute(alloc, 1, command) {
@@ -54,7 +54,7 @@ fn perform_all<T: Runs, W: Sink>(
     out: &mut W,
 ) -> Result<(), OutputFault>
     requires { length commands.now < MAX_ENTRIES }
-    ensures { Puts W.contents W.failures result out.old buffer.old out.new buffer.new
+    ensures { Puts W.stream result out.old buffer.old out.new buffer.new
         (transcript (T.rules setup) setup commands.now) }
 {
     let Ok(mut control) = Control::<T>::open(alloc, setup, 1) else {
@@ -75,8 +75,8 @@ fn write_transcript<T: Runs, W: Sink>(
     out: &mut W,
 ) -> Result<(), OutputFault>
     requires { length commands.now < MAX_ENTRIES }
-    ensures { Wrote W.contents W.failures result out.old out.new
-        (transcript (T.rules setup) setup commands.now) }
+    ensures { IsWritten W.stream (pieces_ending result) out.old out.new
+        (Only (transcript (T.rules setup) setup commands.now)) }
 {
     let mut buffer = Buffer::new(alloc)?;
     perform_all::<T, W>(alloc, setup, commands, &mut buffer, out)?;
@@ -91,13 +91,13 @@ fn play_by<T: Runs, R: Source, W: Sink>(
     script: &mut R,
     out: &mut W,
 ) -> Result<(), PlayFault>
-    ensures wrote { PlayWrites W.contents W.failures result out.old out.new
-        (Plays T.rules setup.now (R.remaining script.old) (R.remaining script.new)) }
-    ensures fault { IfErr result (λ fault.
-        IsFaultOfPlay fault setup.now (R.remaining script.old) (R.remaining script.new)) }
+    ensures wrote { IsWritten W.stream (play_ending result) out.old out.new
+        (Plays T.rules setup.now (R.stream script.old) (R.stream script.new)) }
+    ensures fault { IfErr result
+        (IsFaultOfPlay setup.now (R.stream script.old) (R.stream script.new)) }
     ensures unread { (fault : SetupFaultName) → result ≡ Err (PlayFault.Setup fault) →
         script.new ≡ script.old }
-    ensures read { FailsWhere R.failures (result ≡ Err PlayFault.Read) script.old script.new }
+    ensures read { FailsWhere R.stream (result ≡ Err PlayFault.Read) script.old script.new }
 {
     let setup = Setup::read(alloc, setup)?;
     let commands = read_commands(alloc, script)?;
@@ -119,16 +119,16 @@ pub fn play<T: Runs, R: Source, W: Sink>(
     script: &mut R,
     out: &mut W,
 ) -> Result<(), PlayFault>
-    ensures wrote { PlayWrites W.contents W.failures result out.old out.new
-        (Plays T.rules setup.now (R.remaining script.old) (R.remaining script.new)) }
-    ensures headline { PlayWrites W.contents W.failures result out.old out.new
+    ensures wrote { IsWritten W.stream (play_ending result) out.old out.new
+        (Plays T.rules setup.now (R.stream script.old) (R.stream script.new)) }
+    ensures headline { IsWritten W.stream (play_ending result) out.old out.new
         (RestsOnHeadline T.rules T.same_state setup.now
-        (R.remaining script.old) (R.remaining script.new)) }
-    ensures fault { IfErr result (λ fault.
-        IsFaultOfPlay fault setup.now (R.remaining script.old) (R.remaining script.new)) }
+        (R.stream script.old) (R.stream script.new)) }
+    ensures fault { IfErr result
+        (IsFaultOfPlay setup.now (R.stream script.old) (R.stream script.new)) }
     ensures unread { (fault : SetupFaultName) → result ≡ Err (PlayFault.Setup fault) →
         script.new ≡ script.old }
-    ensures read { FailsWhere R.failures (result ≡ Err PlayFault.Read) script.old script.new }
+    ensures read { FailsWhere R.stream (result ≡ Err PlayFault.Read) script.old script.new }
 {
     // Its clause says that the headline holds of every journal.
     laws::headline::<T>();

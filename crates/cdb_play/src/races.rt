@@ -8,9 +8,10 @@ ghost use Rattle.cdb_rules.specs.Agreement.{HasMajorityIfNeeded};
 ghost use Rattle.cdb_setup.specs.Format.{Encodes};
 ghost use Rattle.cdb_setup.specs.Parts.{Parts};
 ghost use Rattle.cdb_play.specs.Races.{race_fault_of_script, bytes_of, AreScripts, IsTextOnSetup, IsTextOfRace};
-ghost use Rattle.cdb_play.specs.Races.{IsNotStopped, IsFaultUngated, IsFaultOnSetup, IsFaultOfRace};
+ghost use Rattle.cdb_play.specs.Races.{IsNotStopped, IsFaultUngated, IsFaultOnSetup, IsFaultOfRace, IsSetupWithMajority};
 ghost use Rattle.cdb_play.specs.Races.{IsTextOfCommands, IsFaultOfScripts, IsFaultOfCommands};
-ghost use Rattle.cdb_play.specs.Written.{AgreesAtEnd, RaceWrites};
+ghost use Rattle.cdb_play.specs.Endings.{race_ending};
+ghost use Rattle.cdb_play.specs.Written.{AgreesAtEnd, IsWritten};
 
 mod text;
 
@@ -145,10 +146,9 @@ fn run_race<T: Runs + Send, G: Gate + Drop + Send, R: Threads + Wait + Sync, W: 
 ) -> Result<(), RaceFault>
     requires fits { setup.processes + length scripts.now ≤ MAX_SEATS }
     requires gates { vec_len gates ≡ setup.processes + length scripts.now }
-    ensures wrote { RaceWrites W.contents W.failures result out.old out.new
+    ensures wrote { IsWritten W.stream (race_ending result) out.old out.new
         (IsTextOfCommands T.rules setup turns scripts.now) }
-    ensures agree { HasMajorityIfNeeded setup
-        → AgreesAtEnd W.contents W.failures result out.old out.new }
+    ensures agree { HasMajorityIfNeeded setup → AgreesAtEnd W.stream result out.old out.new }
     ensures fault { IfErr result
         (IsFaultOfCommands (IsFaultBehind T T.rules G.heard G.passes gates.items)
         setup turns scripts.now) }
@@ -190,10 +190,9 @@ pub fn race_on_with<T: Runs + Send, G: Gate + Drop + Send, R: Threads + Wait + S
 ) -> Result<(), RaceFault>
     requires fits { setup.processes + length scripts.now ≤ MAX_SEATS }
     requires gates { vec_len gates ≡ setup.processes + length scripts.now }
-    ensures wrote { RaceWrites W.contents W.failures result out.old out.new
+    ensures wrote { IsWritten W.stream (race_ending result) out.old out.new
         (IsTextOnSetup T.rules setup turns (bytes_of scripts.now)) }
-    ensures agree { HasMajorityIfNeeded setup
-        → AgreesAtEnd W.contents W.failures result out.old out.new }
+    ensures agree { HasMajorityIfNeeded setup → AgreesAtEnd W.stream result out.old out.new }
     ensures fault { IfErr result
         (IsFaultOnSetup (IsFaultBehind T T.rules G.heard G.passes gates.items)
         setup turns (bytes_of scripts.now)) }
@@ -213,10 +212,9 @@ pub fn race_on<T: Runs + Send, R: Threads + Wait + Sync, W: Sink>(
     out: &mut W,
 ) -> Result<(), RaceFault>
     requires fits { setup.processes + length scripts.now ≤ MAX_SEATS }
-    ensures wrote { RaceWrites W.contents W.failures result out.old out.new
+    ensures wrote { IsWritten W.stream (race_ending result) out.old out.new
         (IsTextOnSetup T.rules setup turns (bytes_of scripts.now)) }
-    ensures agree { HasMajorityIfNeeded setup
-        → AgreesAtEnd W.contents W.failures result out.old out.new }
+    ensures agree { HasMajorityIfNeeded setup → AgreesAtEnd W.stream result out.old out.new }
     ensures fault { IfErr result
         (IsFaultOnSetup IsFaultUngated setup turns (bytes_of scripts.now)) }
 {
@@ -240,10 +238,9 @@ pub fn race_with<T: Runs + Send, G: Gate + Drop + Send, R: Threads + Wait + Sync
         parts.processes + length scripts.now ≤ MAX_SEATS }
     requires gates { (parts : Parts) → Encodes setup.now parts
         → vec_len gates ≡ parts.processes + length scripts.now }
-    ensures wrote { RaceWrites W.contents W.failures result out.old out.new
+    ensures wrote { IsWritten W.stream (race_ending result) out.old out.new
         (IsTextOfRace T.rules setup.now turns (bytes_of scripts.now)) }
-    ensures agree { (parts : Parts) → Encodes setup.now parts → HasMajorityIfNeeded parts
-        → AgreesAtEnd W.contents W.failures result out.old out.new }
+    ensures agree { IsSetupWithMajority setup.now → AgreesAtEnd W.stream result out.old out.new }
     ensures fault { IfErr result
         (IsFaultOfRace (IsFaultBehind T T.rules G.heard G.passes gates.items)
         setup.now turns (bytes_of scripts.now)) }
@@ -264,10 +261,9 @@ pub fn race<T: Runs + Send, R: Threads + Wait + Sync, W: Sink>(
 ) -> Result<(), RaceFault>
     requires fits { (parts : Parts) → Encodes setup.now parts →
         parts.processes + length scripts.now ≤ MAX_SEATS }
-    ensures wrote { RaceWrites W.contents W.failures result out.old out.new
+    ensures wrote { IsWritten W.stream (race_ending result) out.old out.new
         (IsTextOfRace T.rules setup.now turns (bytes_of scripts.now)) }
-    ensures agree { (parts : Parts) → Encodes setup.now parts → HasMajorityIfNeeded parts
-        → AgreesAtEnd W.contents W.failures result out.old out.new }
+    ensures agree { IsSetupWithMajority setup.now → AgreesAtEnd W.stream result out.old out.new }
     ensures fault { IfErr result
         (IsFaultOfRace IsFaultUngated setup.now turns (bytes_of scripts.now)) }
 {

@@ -16,7 +16,7 @@ pub(crate) fn put_reply<W: Sink>(
     buffer: &mut Buffer,
     out: &mut W,
 ) -> Result<(), OutputFault>
-    ensures { Puts W.contents W.failures result out.old buffer.old out.new buffer.new
+    ensures { Puts W.stream result out.old buffer.old out.new buffer.new
         (text_of (told reply.now)) }
 {
     text.clear();

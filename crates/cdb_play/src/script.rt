@@ -100,11 +100,10 @@ pub(crate) fn read_commands<R: Source>(
     script: &mut R,
 ) -> Result<Vec<Command>, PlayFault>
     ensures commands { IfOk result (λ commands. GivesCommands
-        (R.remaining script.old) (R.remaining script.new) commands.items) }
+        (R.stream script.old) (R.stream script.new) commands.items) }
     ensures few { IfOk result (λ commands. length commands.items < MAX_ENTRIES) }
-    ensures fault { IfErr result (λ fault.
-        IsFaultOfReading fault (R.remaining script.old) (R.remaining script.new)) }
-    ensures read { FailsWhere R.failures (result ≡ Err PlayFault.Read) script.old script.new }
+    ensures fault { IfErr result (IsFaultOfReading (R.stream script.old) (R.stream script.new)) }
+    ensures read { FailsWhere R.stream (result ≡ Err PlayFault.Read) script.old script.new }
 {
     let bytes = read_up_to(alloc, script, MAX_BYTES + 1)?;
     let commands = commands_of(alloc, bytes.as_slice())?;

@@ -1,9 +1,9 @@
 //! Readers.
 
-ghost use Rattle.std.specs.Prelude.{◌≡◌, ℕ, ◌<◌, ◌≤◌, List, length, Option, Err, IfOk, is_err};
+ghost use Rattle.std.specs.Prelude.{◌≡◌, ◌<◌, ◌≤◌, length, Err, IfOk, is_err};
 ghost use Rattle.std.specs.Io.{ReadsAtMost};
 ghost use Rattle.std.specs.Io.KnownBytes.{Consumes, IsAtEnd, ReadConsumes};
-ghost use Rattle.cdb_play.specs.Streams.{counted, FailsWhere};
+ghost use Rattle.cdb_play.specs.Streams.{Stream, counted, FailsWhere};
 
 use crate::fault::PlayFault;
 use crate::sink::Failed;
@@ -13,18 +13,17 @@ use std::fmt;
 
 /// What gives bytes.
 pub trait Source {
-    /// The bytes that are left, where they are known.
-    ghost remaining: { Self → Option (List ℕ) };
-
-    /// How many of its calls have failed, in 64 bits.
-    ghost failures: { Self → ℕ };
+    /// The bytes that are left, where they are known, and how many of its calls have failed, in 64 bits.
+    ghost stream: { Self → Stream };
 
     /// Puts the next bytes at the front of the buffer, and returns how many: 0 at the end, and where the buffer
     /// is empty. After an error as many are left as before.
     fn read(&mut self, buffer: &mut [u8]) -> Result<usize, Failed>
         ensures within { ReadsAtMost result buffer.new }
-        ensures bytes { ReadConsumes (remaining self.old) (remaining self.new) result buffer.new }
-        ensures failures { failures self.new ≡ counted (is_err result) (failures self.old) };
+        ensures bytes { ReadConsumes (stream self.old).bytes (stream self.new).bytes
+            result buffer.new }
+        ensures failures { (stream self.new).failures
+            ≡ counted (is_err result) (stream self.old).failures };
 }
 
 /// Why a reader was not read.
@@ -84,11 +83,11 @@ pub fn read_up_to<R: Source>(
     most: usize,
 ) -> Result<Vec<u8>, ReadFault>
     ensures taken { IfOk result
-        (λ bytes. Consumes (R.remaining source.old) (R.remaining source.new) bytes.items) }
+        (λ bytes. Consumes (R.stream source.old).bytes (R.stream source.new).bytes bytes.items) }
     ensures most { IfOk result (λ bytes. length bytes.items ≤ most) }
     ensures end { IfOk result
-        (λ bytes. length bytes.items < most → IsAtEnd (R.remaining source.new)) }
-    ensures failed { FailsWhere R.failures (result ≡ Err ReadFault.Failed) source.old source.new }
+        (λ bytes. length bytes.items < most → IsAtEnd (R.stream source.new).bytes) }
+    ensures failed { FailsWhere R.stream (result ≡ Err ReadFault.Failed) source.old source.new }
 {
     let mut bytes = Vec::new(alloc);
     let mut buffer = [0u8; PIECE];

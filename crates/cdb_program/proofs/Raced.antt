@@ -2,10 +2,12 @@
 use Rattle.std.proofs.Common.{◌≡◌, ◌≢◌, ◌⊎◌, inl, inr, ℕ, ◌+◌, ◌≤◌, List, length, Option, Result, Ok, Err, sym, ap, subst}
 use Rattle.std.specs.Prelude.{IfErr}
 use Rattle.std.proofs.lemmas.Result.{IfErr-weaker}
-use Rattle.cdb_play.proofs.Ending.{race_unwritten_setup, race_writes_weaker}
+use Rattle.cdb_play.proofs.Ending.{race_unwritten_setup, written_as}
 use Rattle.cdb_play.proofs.RunningFaults.{of_race, of_setup_read}
+use Rattle.cdb_play.specs.Endings.{race_ending}
 use Rattle.cdb_play.specs.Races.{race_fault_of_setup, IsFaultOnSetup, IsFaultUngated, IsTextOfRace, IsTextOnSetup}
-use Rattle.cdb_play.specs.Written.{AgreesAtEnd, RaceWrites}
+use Rattle.cdb_play.specs.Streams.{Stream}
+use Rattle.cdb_play.specs.Written.{AgreesAtEnd, IsWritten}
 use Rattle.cdb_play.specs.declared.fault.RaceFault.{RaceFault}
 use Rattle.cdb_rules.specs.Agreement.{HasMajorityIfNeeded}
 use Rattle.cdb_setup.specs.Format.{Encodes}
@@ -13,22 +15,20 @@ use Rattle.cdb_setup.specs.Order.{IsFirstFault}
 use Rattle.cdb_setup.specs.Parts.{Parts}
 use Rattle.cdb_setup.specs.declared.fault.SetupFault.{SetupFault}
 use Rattle.cdb_setup.specs.declared.fault.SetupFault.TheVariants as setup
-use Rattle.cdb_program.specs.Known.{Stream, contents, failures}
 use Rattle.cdb_program.specs.Racing.{IsRace}
-use Rattle.cdb_program.specs.Streaming.{stream_of}
-use Rattle.cdb_program.proofs.Seen.{race_wrote}
+use Rattle.cdb_program.proofs.Seen.{stream_written}
 use Rattle.cdb_rules.specs.Algorithms.{rules}
 
 -- the race ran on the setup that the text encodes
-pub race_seen : {W : Type 0} (held : W → Option (List ℕ)) (failed : W → ℕ) (json : List ℕ) (turns : ℕ) (parts : Parts) (scripts : List (List ℕ)) (raced : Result (Unit {0}) RaceFault) (old new : W) → Encodes json parts
-    → ((other : Parts) → Encodes json other → parts ≡ other) → parts.processes + length scripts ≤ 64 → RaceWrites held failed raced old new (IsTextOnSetup rules parts turns scripts)
-    → (HasMajorityIfNeeded parts → AgreesAtEnd held failed raced old new) → IfErr raced (IsFaultOnSetup IsFaultUngated parts turns scripts)
-    → IsRace json turns scripts raced (stream_of held failed old) (stream_of held failed new)
-race_seen held failed json turns parts scripts raced old new stands only few wrote agree fault = record {
+pub race_seen : {W : Type 0} (stream : W → Stream) (json : List ℕ) (turns : ℕ) (parts : Parts) (scripts : List (List ℕ)) (raced : Result (Unit {0}) RaceFault) (old new : W) → Encodes json parts
+    → ((other : Parts) → Encodes json other → parts ≡ other) → parts.processes + length scripts ≤ 64 → IsWritten stream (race_ending raced) old new (IsTextOnSetup rules parts turns scripts)
+    → (HasMajorityIfNeeded parts → AgreesAtEnd stream raced old new) → IfErr raced (IsFaultOnSetup IsFaultUngated parts turns scripts)
+    → IsRace json turns scripts raced (stream old) (stream new)
+race_seen stream json turns parts scripts raced old new stands only few wrote agree fault = record {
   fits = λ ended other its. subst (λ (p : Parts). p.processes + length scripts ≤ 64) (only other its) few;
   wrote =
-      race_wrote held failed (IsTextOfRace rules json turns scripts) raced old new
-      (race_writes_weaker held failed (Unit {0}) (IsTextOnSetup rules parts turns scripts) raced old new (IsTextOfRace rules json turns scripts) (λ text is. (parts, stands, is)) wrote);
+      stream_written stream (race_ending raced) old new (IsTextOfRace rules json turns scripts)
+      (written_as stream (race_ending raced) old new (IsTextOnSetup rules parts turns scripts) (IsTextOfRace rules json turns scripts) (λ text is. (parts, stands, is)) wrote);
   agree = λ other its majority. agree (subst HasMajorityIfNeeded (sym (only other its)) majority);
   fault = IfErr-weaker raced _ _ (of_race IsFaultUngated turns json parts scripts stands) fault;
 }
@@ -38,7 +38,7 @@ pub race_unread : (json : List ℕ) (turns : ℕ) (scripts : List (List ℕ)) (f
     → IsRace json turns scripts (Err (race_fault_of_setup fault)) out out
 race_unread json turns scripts fault out said only = record {
   fits = λ ended other its. absurd (ended (ap (λ (f : SetupFault). Err (race_fault_of_setup f)) (only other its)));
-  wrote = race_unwritten_setup contents failures (Unit {0}) (IsTextOfRace rules json turns scripts) out fault;
+  wrote = race_unwritten_setup (λ (s : Stream). s) (Unit {0}) (IsTextOfRace rules json turns scripts) out fault;
   agree = λ other its majority. tt;
   fault = of_setup_read IsFaultUngated turns json scripts fault said;
 }

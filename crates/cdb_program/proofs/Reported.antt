@@ -1,6 +1,7 @@
 -- What is done with a request leaves standard error out.
 use Rattle.std.proofs.Common.{◌≡◌, ℕ, List, Bor, refl}
-use Rattle.cdb_program.specs.Known.{Seen, Stream}
+use Rattle.cdb_play.specs.Streams.{Stream}
+use Rattle.cdb_program.specs.Known.{Seen}
 use Rattle.cdb_program.specs.Outcomes.{Outcome}
 use Rattle.cdb_program.specs.Requests.{Does, IsNoHall, Performs, PerformsAlone}
 use Rattle.cdb_program.specs.declared.request.Request.{Request}

@@ -5,22 +5,25 @@ use Rattle.std.proofs.lemmas.List.{length-map, get_or-map}
 use Rattle.cdb_debug.specs.Moves.{Known}
 use Rattle.cdb_hall.specs.Halls.{IsAttended}
 use Rattle.cdb_hall.specs.Holding.{Holds}
-use Rattle.cdb_hall.specs.Reports.{HallWrites, outcomes, failures_text, status_of}
+use Rattle.cdb_hall.specs.Reports.{outcomes, failures_text, status_of}
 use Rattle.cdb_hall.specs.declared.station.Station.{Station}
 use Rattle.cdb_hall.specs.declared.station.Attended.{Attended}
 use Rattle.cdb_rules.specs.Rules.{Rules}
 use Rattle.cdb_setup.specs.Parts.{Parts}
 use Rattle.cdb_play.specs.declared.fault.PlayFault.{PlayFault}
 use Rattle.cdb_play.specs.declared.fault.PlayFault.TheVariants as play
-use Rattle.cdb_program.specs.Known.{FilesSeen, contents, failures, after_opening, after_failing}
+use Rattle.cdb_program.specs.Known.{FilesSeen, after_opening, after_failing}
 use Rattle.cdb_program.specs.Reading.{FailsToRead, texts}
-use Rattle.cdb_program.specs.Streaming.{stream_of}
 use Rattle.cdb_program.specs.declared.fault.Fault.{Fault}
 use Rattle.cdb_program.specs.declared.fault.Fault.TheVariants.{Play, Race, NoStep, TooManySeats, Refused}
 use Rattle.cdb_play.specs.Faults.{of_reading}
 use Rattle.cdb_play.specs.declared.source.ReadFault.{ReadFault}
 use Rattle.cdb_play.specs.declared.source.ReadFault.TheVariants as reading
 use Rattle.cdb_program.specs.Seating.{AreSeatsOf, IsFaultOfSeats, IsSeatOf, OpensSeat}
+use Rattle.cdb_play.specs.Endings.{whole_ending}
+use Rattle.cdb_play.specs.Streams.{Stream}
+use Rattle.cdb_play.specs.Written.{IsWritten, Only}
+use Rattle.cdb_program.proofs.Seen.{stream_written}
 use Rattle.cdb_program.proofs.Opening.{read_none, opened_then, failed_then, fails_before, one_more_name, taken_and_left}
 
 -- ---- seats that are opened
@@ -119,21 +122,11 @@ module _ {T : Type 0} (known : T → Known) where
   same_outcomes [] = refl
   same_outcomes (its ∷ attended) = ap (λ (l : List (Result (Unit {0}) PlayFault)). its.outcome ∷ l) (same_outcomes attended)
 
-module _ {W : Type 0} (held : W → Option (List ℕ)) (failed : W → ℕ) where
-  put_seen : (put : Result (Unit {0}) PlayFault) (old new : W) (text : List ℕ) → HallWrites held failed put old new text → HallWrites contents failures put (stream_of held failed old) (stream_of held failed new) text
-  put_seen (Ok done) old new text is = is
-  put_seen (Err play.Write) old new text is = is
-  put_seen (Err play.NoMemory) old new text is = ap (stream_of held failed) is
-  put_seen (Err play.Read) old new text is = is
-  put_seen (Err (play.Setup fault)) old new text is = is
-  put_seen (Err (play.Line script line fault)) old new text is = is
-  put_seen (Err (play.ScriptTooLong script)) old new text is = is
-
 -- sessions that were held, by what is known of whom they talked with and of the streams
-pub holds_seen : {T O E : Type 0} (rules : Parts → Rules) (known : T → Known) (held : O → Option (List ℕ)) (failed : O → ℕ) (told : E → Option (List ℕ)) (untold : E → ℕ) (json : List ℕ) (stations : List (Station T)) (output output_after : O) (error error_after : E) (status : ℕ)
-    → Holds rules known held failed told untold json stations output output_after error error_after status
-    → Holds rules (λ (k : Known). k) contents failures contents failures json (map (known_station known) stations) (stream_of held failed output) (stream_of held failed output_after) (stream_of told untold error) (stream_of told untold error_after) status
-holds_seen rules known held failed told untold json stations output output_after error error_after status h =
+pub holds_seen : {T O E : Type 0} (rules : Parts → Rules) (known : T → Known) (output_stream : O → Stream) (error_stream : E → Stream) (json : List ℕ) (stations : List (Station T)) (output output_after : O) (error error_after : E) (status : ℕ)
+    → Holds rules known output_stream error_stream json stations output output_after error error_after status
+    → Holds rules (λ (k : Known). k) (λ (s : Stream). s) (λ (s : Stream). s) json (map (known_station known) stations) (output_stream output) (output_stream output_after) (error_stream error) (error_stream error_after) status
+holds_seen rules known output_stream error_stream json stations output output_after error error_after status h =
     let same = same_outcomes known h.attended in
     record {
       setup = h.setup;
@@ -156,8 +149,10 @@ holds_seen rules known held failed told untold json stations output output_after
             (record { made = its.made; makes = its.makes; session = its.session });
       };
       written = h.written;
-      journal = put_seen held failed h.written output output_after _ h.journal;
+      journal = stream_written output_stream (whole_ending h.written) output output_after _ h.journal;
       told = h.told;
-      lines = subst (λ (o : List (Result (Unit {0}) PlayFault)). HallWrites contents failures h.told (stream_of told untold error) (stream_of told untold error_after) (failures_text h.written o)) (sym same) (put_seen told untold h.told error error_after _ h.lines);
+      lines =
+          subst (λ (o : List (Result (Unit {0}) PlayFault)). IsWritten (λ (s : Stream). s) (whole_ending h.told) (error_stream error) (error_stream error_after) (Only (failures_text h.written o))) (sym same)
+          (stream_written error_stream (whole_ending h.told) error error_after _ h.lines);
       status_is = h.status_is ∙ ap (status_of h.written) (sym same);
     }

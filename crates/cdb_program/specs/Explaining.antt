@@ -1,23 +1,24 @@
 -- What explanations do.
 use Rattle.std.specs.Prelude.{◌≡◌, ℕ, List, [], ◌∷◌, Option, Some, Result, Err, IfErr}
-use Rattle.cdb_explain.specs.Explained.{Explains, ExplainWrites, IsFaultOfExplain}
+use Rattle.cdb_explain.specs.Explained.{explain_ending, Explains, IsFaultOfExplain}
 use Rattle.cdb_explain.specs.declared.fault.ExplainFault.{ExplainFault}
 use Rattle.cdb_explain.specs.declared.fault.ExplainFault.TheVariants.{Play}
-use Rattle.cdb_play.specs.Streams.{FailsWhere}
+use Rattle.cdb_play.specs.Streams.{FailsWhere, Stream}
+use Rattle.cdb_play.specs.Written.{IsWritten}
 use Rattle.cdb_play.specs.declared.fault.PlayFault.TheVariants as play
 use Rattle.cdb_rules.specs.Algorithms.{rules}
 use Rattle.cdb_setup.specs.declared.fault.SetupFault.{SetupFault}
-use Rattle.cdb_program.specs.Known.{Stream, Seen, contents, failures, in_memory}
+use Rattle.cdb_program.specs.Known.{Seen, in_memory}
 use Rattle.cdb_program.specs.Outcomes.{Outcome, IsOfExplain}
 use Rattle.cdb_program.specs.Reading.{ReadsThen}
 
 -- The explanation of a step of the run that a script leaves on the setup of this text ended so. The script's reader and
 -- the output are seen before and after.
 pub record IsExplained (json : List ℕ) (p : ℕ) (k : Option ℕ) (explained : Result (Unit {0}) ExplainFault) (script left old new : Stream) : Type 0 where
-  pub wrote : ExplainWrites contents failures explained old new (Explains rules json p k script.bytes left.bytes)
-  pub fault : IfErr explained (λ fault. IsFaultOfExplain fault rules json p k script.bytes left.bytes)
+  pub wrote : IsWritten (λ stream. stream) (explain_ending explained) old new (Explains rules json p k script left)
+  pub fault : IfErr explained (IsFaultOfExplain rules json p k script left)
   pub unread : (fault : SetupFault) → explained ≡ Err (Play (play.Setup fault)) → left ≡ script
-  pub read : FailsWhere failures (explained ≡ Err (Play play.Read)) script left
+  pub read : FailsWhere (λ stream. stream) (explained ≡ Err (Play play.Read)) script left
 
 -- the bytes of a setup and of a script, and a step of the run that the script, of this name, leaves is explained
 abbrev pub ExplainsBytes : List ℕ → ℕ → Option ℕ → Stream → Stream → Outcome → List (List ℕ) → Type 0

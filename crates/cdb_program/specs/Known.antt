@@ -2,13 +2,7 @@
 use Rattle.std.specs.Prelude.{ℕ, List, ◌++◌, Option, option_map, bytes_eq}
 use Rattle.std.specs.List.{find}
 use Rattle.cdb_debug.specs.Moves.{Known}
-use Rattle.cdb_play.specs.Streams.{one_more}
-
--- A stream: of standard input the bytes that are left, of an output those that it holds, where they are known; and how many
--- of its calls failed, in 64 bits
-pub record Stream : Type 0 where
-  pub bytes : Option (List ℕ)
-  pub failures : ℕ
+use Rattle.cdb_play.specs.Streams.{Stream, one_more}
 
 -- Files: those that are known, each a name and its bytes; the names of those that were opened, in order, where these are known;
 -- how many could not be read, in 64 bits; and the seats that are known, each a name and whom its session talks with
@@ -24,13 +18,6 @@ pub record Seen : Type 0 where
   pub input : Stream
   pub output : Stream
   pub error : Stream
-
--- a stream's parts
-abbrev pub contents : Stream → Option (List ℕ)
-contents stream = stream.bytes
-
-abbrev pub failures : Stream → ℕ
-failures stream = stream.failures
 
 -- bytes in memory, of which no read fails
 abbrev pub in_memory : Option (List ℕ) → Stream

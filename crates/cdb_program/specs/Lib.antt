@@ -11,5 +11,3 @@ pub mod Drawing
 pub mod Debugging
 pub mod Seating
 pub mod Requests
--- what the code keeps for itself
-pub mod Streaming

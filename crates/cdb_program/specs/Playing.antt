@@ -1,25 +1,26 @@
 -- What plays do.
 use Rattle.std.specs.Prelude.{◌≡◌, ℕ, List, [], ◌∷◌, codes, Option, Some, Result, Err, IfErr}
+use Rattle.cdb_play.specs.Endings.{play_ending}
 use Rattle.cdb_play.specs.Faults.{IsFaultOfPlay}
-use Rattle.cdb_play.specs.Streams.{FailsWhere}
+use Rattle.cdb_play.specs.Streams.{FailsWhere, Stream}
 use Rattle.cdb_play.specs.Transcripts.{Plays, RestsOnHeadline}
-use Rattle.cdb_play.specs.Written.{PlayWrites}
+use Rattle.cdb_play.specs.Written.{IsWritten}
 use Rattle.cdb_play.specs.declared.fault.PlayFault.{PlayFault}
 use Rattle.cdb_play.specs.declared.fault.PlayFault.TheVariants as play
 use Rattle.cdb_rules.specs.Algorithms.{rules}
 use Rattle.cdb_setup.specs.declared.fault.SetupFault.{SetupFault}
-use Rattle.cdb_program.specs.Known.{Stream, Seen, contents, failures, in_memory}
+use Rattle.cdb_program.specs.Known.{Seen, in_memory}
 use Rattle.cdb_program.specs.Outcomes.{Outcome, IsOfPlay}
 use Rattle.cdb_program.specs.Reading.{ReadsThen}
 use Rattle.cdb_rules.specs.SameState.{ReachSameState}
 
 -- A play of a script on the setup of this text ended so. The script's reader and the output are seen before and after.
 pub record IsPlay (json : List ℕ) (played : Result (Unit {0}) PlayFault) (script left old new : Stream) : Type 0 where
-  pub wrote : PlayWrites contents failures played old new (Plays rules json script.bytes left.bytes)
-  pub headline : PlayWrites contents failures played old new (RestsOnHeadline rules ReachSameState json script.bytes left.bytes)
-  pub fault : IfErr played (λ fault. IsFaultOfPlay fault json script.bytes left.bytes)
+  pub wrote : IsWritten (λ stream. stream) (play_ending played) old new (Plays rules json script left)
+  pub headline : IsWritten (λ stream. stream) (play_ending played) old new (RestsOnHeadline rules ReachSameState json script left)
+  pub fault : IfErr played (IsFaultOfPlay json script left)
   pub unread : (fault : SetupFault) → played ≡ Err (play.Setup fault) → left ≡ script
-  pub read : FailsWhere failures (played ≡ Err play.Read) script left
+  pub read : FailsWhere (λ stream. stream) (played ≡ Err play.Read) script left
 
 -- the setup that a script from standard input is played on: one process that proposes 7, and its oracle names it
 abbrev pub one_process : List ℕ

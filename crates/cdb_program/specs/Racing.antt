@@ -1,14 +1,16 @@
 -- What races do.
 use Rattle.std.specs.Prelude.{◌≡◌, ◌≢◌, ◌⊎◌, ℕ, ◌+◌, ◌<◌, ◌≤◌, List, [], ◌∷◌, length, Result, Err, IfErr}
 use Rattle.cdb_base.specs.declared.limits.TheConstants.{MAX_SEATS}
+use Rattle.cdb_play.specs.Endings.{race_ending}
 use Rattle.cdb_play.specs.Races.{IsTextOfRace, IsFaultOfRace, IsFaultUngated}
-use Rattle.cdb_play.specs.Written.{AgreesAtEnd, RaceWrites}
+use Rattle.cdb_play.specs.Streams.{Stream}
+use Rattle.cdb_play.specs.Written.{AgreesAtEnd, IsWritten}
 use Rattle.cdb_play.specs.declared.fault.RaceFault.{RaceFault}
 use Rattle.cdb_play.specs.declared.fault.RaceFault.TheVariants.{NoMemory}
 use Rattle.cdb_rules.specs.Agreement.{HasMajorityIfNeeded}
 use Rattle.cdb_setup.specs.Format.{Encodes}
 use Rattle.cdb_setup.specs.Parts.{Parts}
-use Rattle.cdb_program.specs.Known.{Stream, Seen, contents, failures}
+use Rattle.cdb_program.specs.Known.{Seen}
 use Rattle.cdb_program.specs.Outcomes.{Outcome, IsOfRace}
 use Rattle.cdb_program.specs.Reading.{ReadsThen}
 use Rattle.cdb_program.specs.declared.fault.Fault.TheVariants.{TooManySeats}
@@ -21,8 +23,8 @@ NeedsTooManySeats json scripts = (setup : Parts) × Encodes json setup × (MAX_S
 -- A race of scripts on the setup of this text ended so. The output is seen before and after.
 pub record IsRace (json : List ℕ) (turns : ℕ) (scripts : List (List ℕ)) (raced : Result (Unit {0}) RaceFault) (old new : Stream) : Type 0 where
   pub fits : raced ≢ Err NoMemory → (setup : Parts) → Encodes json setup → setup.processes + length scripts ≤ MAX_SEATS
-  pub wrote : RaceWrites contents failures raced old new (IsTextOfRace rules json turns scripts)
-  pub agree : (setup : Parts) → Encodes json setup → HasMajorityIfNeeded setup → AgreesAtEnd contents failures raced old new
+  pub wrote : IsWritten (λ stream. stream) (race_ending raced) old new (IsTextOfRace rules json turns scripts)
+  pub agree : (setup : Parts) → Encodes json setup → HasMajorityIfNeeded setup → AgreesAtEnd (λ stream. stream) raced old new
   pub fault : IfErr raced (IsFaultOfRace IsFaultUngated json turns scripts)
 
 -- a race of the scripts on the setup, or too many seats for it, and then nothing is written

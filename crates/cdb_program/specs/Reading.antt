@@ -3,6 +3,7 @@ use Rattle.std.specs.Prelude.{◌≡◌, ◌⊎◌, ℕ, ◌≤◌, List, [], �
 use Rattle.std.specs.Borrow.{Bor}
 use Rattle.std.specs.Global.{Global}
 use Rattle.std.specs.List.{AllZip}
+use Rattle.cdb_play.specs.Races.{bytes_of}
 use Rattle.cdb_play.specs.declared.fault.PlayFault.TheVariants.{Read, NoMemory}
 use Rattle.cdb_play.specs.declared.source.ReadFault.{ReadFault}
 use Rattle.cdb_play.specs.declared.source.ReadFault.TheVariants as reading
@@ -42,6 +43,21 @@ FailsToRead old new names (Play Read name) =
 FailsToRead old new names (Play NoMemory name) =
     (good rest : List (List ℕ)) × (names ≡ good ++ rest) × (new ≡ after_opening old good)
 FailsToRead old new names other = ⊥
+
+-- the bytes of one file, of two, and of many
+abbrev pub single : Vec ℕ Global → List (List ℕ)
+single bytes = bytes.items ∷ []
+
+abbrev pub both : Vec ℕ Global × Vec ℕ Global → List (List ℕ)
+both two = two.0.items ∷ two.1.items ∷ []
+
+abbrev pub many : Vec (Vec ℕ Global) Global → List (List ℕ)
+many contents = bytes_of contents.items
+
+-- files of these names were read and gave these bytes, or one could not be
+abbrev pub Reads : {A : Type 0} → (A → List (List ℕ)) → FilesSeen → FilesSeen → List (List ℕ) → Result A Fault → Type 0
+Reads given old new names (Ok read) = HasRead old new names (given read)
+Reads given old new names (Err fault) = FailsToRead old new names fault
 
 -- files of these names could not all be read, and so nothing was written
 abbrev pub StopsAtFiles : List (List ℕ) → Seen → Seen → Outcome → Type 0

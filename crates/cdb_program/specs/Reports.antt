@@ -1,9 +1,9 @@
 -- How the program reports that a request ended.
-use Rattle.std.specs.Prelude.{◌≡◌, ◌⊎◌, ℕ, List, codes, Result, Ok, Err}
+use Rattle.std.specs.Prelude.{◌≡◌, ℕ, List, codes, Result, Ok, Err}
 use Rattle.cdb_play.specs.FaultTexts.{as_line, play_fault_text, race_fault_text}
 use Rattle.cdb_play.specs.Statuses.{play_status, race_status}
-use Rattle.cdb_play.specs.Streams.{Takes, Fails}
-use Rattle.cdb_program.specs.Known.{Stream, contents, failures}
+use Rattle.cdb_play.specs.Streams.{Stream, Writes}
+use Rattle.cdb_play.specs.declared.sink.Failed.{Failed}
 use Rattle.cdb_program.specs.declared.fault.Fault.{Fault}
 use Rattle.cdb_program.specs.declared.fault.Fault.TheVariants.{Play, Race, NoStep, TooManySeats, Refused}
 
@@ -23,11 +23,8 @@ fault_status NoStep = 1
 fault_status TooManySeats = 2
 fault_status (Refused reason) = 2
 
--- the writer took the text, or a call on it failed and it took a beginning of the text
-abbrev pub IsWritten : Stream → Stream → List ℕ → Type 0
-IsWritten old new text = Takes contents failures old new text ⊎ Fails contents failures old new text
-
--- Nothing and 0 where all went well, else the fault's text and status
+-- Nothing and 0 where all went well, else the fault's text, as far as the writer took it, and status
 abbrev pub IsReported : Result (Unit {0}) Fault → Stream → Stream → ℕ → Type 0
 IsReported (Ok done) old new status = (new ≡ old) × (status ≡ 0)
-IsReported (Err fault) old new status = IsWritten old new (fault_text fault) × (status ≡ fault_status fault)
+IsReported (Err fault) old new status =
+    ((told : Result (Unit {0}) Failed) × Writes (λ stream. stream) told old new (fault_text fault)) × (status ≡ fault_status fault)

@@ -1,11 +1,11 @@
 -- What the program does with a request.
 use Rattle.std.specs.Prelude.{◌≡◌, ℕ, ◌≤◌, List, length, Ok, Err}
-use Rattle.cdb_play.specs.Streams.{Takes, Fails}
+use Rattle.cdb_play.specs.Streams.{Stream, Takes, Fails}
 use Rattle.cdb_play.specs.declared.fault.PlayFault.TheVariants.{Write}
 use Rattle.cdb_program.specs.Debugging.{DebugsFile}
 use Rattle.cdb_program.specs.Drawing.{DrawsFiles}
 use Rattle.cdb_program.specs.Explaining.{ExplainsFiles}
-use Rattle.cdb_program.specs.Known.{Seen, Stream, contents, failures}
+use Rattle.cdb_program.specs.Known.{Seen}
 use Rattle.cdb_program.specs.Outcomes.{Outcome}
 use Rattle.cdb_program.specs.Playing.{PlaysInput, PlaysFiles}
 use Rattle.cdb_program.specs.Racing.{RacesFiles}
@@ -23,8 +23,8 @@ ReadsNothing old new = (new.files ≡ old.files) × (new.input ≡ old.input)
 
 -- the text is written, or the outcome is that output failed
 abbrev pub Prints : List ℕ → Stream → Stream → Outcome → Type 0
-Prints text old new (Ok done) = Takes contents failures old new text
-Prints text old new (Err (Play Write name)) = Fails contents failures old new text
+Prints text old new (Ok done) = Takes (λ stream. stream) old new text
+Prints text old new (Err (Play Write name)) = Fails (λ stream. stream) old new text
 Prints text old new (Err other) = ⊥
 
 -- a race has turns that its threads can count, and sessions of seats have one seat at least

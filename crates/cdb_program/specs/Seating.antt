@@ -8,7 +8,7 @@ use Rattle.cdb_hall.specs.declared.station.Station.{Station}
 use Rattle.cdb_play.specs.declared.source.ReadFault.{ReadFault}
 use Rattle.cdb_play.specs.declared.source.ReadFault.TheVariants as reading
 use Rattle.cdb_rules.specs.Algorithms.{rules}
-use Rattle.cdb_program.specs.Known.{FilesSeen, Seen, contents, failures, seat_of, after_opening, after_failing}
+use Rattle.cdb_program.specs.Known.{FilesSeen, Seen, seat_of, after_opening, after_failing}
 use Rattle.cdb_program.specs.Reading.{AreFirstBytes, FailsToRead, most_read}
 use Rattle.cdb_program.specs.Reports.{IsReported}
 use Rattle.cdb_program.specs.declared.fault.Fault.{Fault}
@@ -50,7 +50,7 @@ abbrev pub HoldsSeats : List ℕ → List (List ℕ) → Seen → Seen → ℕ �
 HoldsSeats setup seats old new status =
     (json : List ℕ) × HasSeated old.files new.files setup seats json
     × ((stations : List (Station Known)) × AreSeatsOf (λ known. known) old.files seats stations
-    × Holds rules (λ known. known) contents failures contents failures json stations old.output new.output old.error new.error status)
+    × Holds rules (λ known. known) (λ stream. stream) (λ stream. stream) json stations old.output new.output old.error new.error status)
 
 -- sessions of these seats were held, or not; standard input is left as it is
 abbrev pub PerformsHall : List ℕ → List (List ℕ) → Seen → Seen → ℕ → Type 0

@@ -1,9 +1,8 @@
 //! Files, which are read by their names.
 
-ghost use Rattle.std.specs.Prelude.{[], ◌∷◌, IfOk, IfErr};
-ghost use Rattle.cdb_play.specs.Races.{bytes_of};
+ghost use Rattle.std.specs.Prelude.{[], ◌∷◌};
 ghost use Rattle.cdb_program.specs.Known.{FilesSeen};
-ghost use Rattle.cdb_program.specs.Reading.{texts, ReadsFile, HasRead, FailsToRead};
+ghost use Rattle.cdb_program.specs.Reading.{both, many, single, texts, Reads, ReadsFile};
 ghost use Rattle.cdb_program.specs.Seating.{OpensSeat};
 
 use crate::fault::Fault;
@@ -50,10 +49,7 @@ pub fn read_file<'a, F: Files>(
     files: &mut F,
     name: &'a str,
 ) -> Result<Vec<u8>, Fault<'a>>
-    ensures read { IfOk result (λ bytes.
-        HasRead (F.seen files.old) (F.seen files.new) (name.entry.now ∷ []) (bytes.items ∷ [])) }
-    ensures fault { IfErr result
-        (FailsToRead (F.seen files.old) (F.seen files.new) (name.entry.now ∷ [])) }
+    ensures { Reads single (F.seen files.old) (F.seen files.new) (name.entry.now ∷ []) result }
 {
     match files.read(alloc, name, MOST_READ) {
         Ok(bytes) => Ok(bytes),
@@ -71,11 +67,8 @@ pub fn read_two<'a, F: Files>(
     setup: &'a str,
     script: &'a str,
 ) -> Result<(Vec<u8>, Vec<u8>), Fault<'a>>
-    ensures read { IfOk result (λ two.
-        HasRead (F.seen files.old) (F.seen files.new) (setup.entry.now ∷ script.entry.now ∷ [])
-        (two.0.items ∷ two.1.items ∷ [])) }
-    ensures fault { IfErr result (FailsToRead (F.seen files.old) (F.seen files.new)
-        (setup.entry.now ∷ script.entry.now ∷ [])) }
+    ensures { Reads both (F.seen files.old) (F.seen files.new)
+        (setup.entry.now ∷ script.entry.now ∷ []) result }
 {
     let json = read_file(alloc, files, setup)?;
     let bytes = read_file(alloc, files, script)?;
@@ -92,10 +85,7 @@ pub fn read_each<'a, F: Files>(
     files: &mut F,
     names: &[&'a str],
 ) -> Result<Vec<Vec<u8>>, Fault<'a>>
-    ensures read { IfOk result (λ contents.
-        HasRead (F.seen files.old) (F.seen files.new) (texts names.now) (bytes_of contents.items)) }
-    ensures fault { IfErr result
-        (FailsToRead (F.seen files.old) (F.seen files.new) (texts names.now)) }
+    ensures { Reads many (F.seen files.old) (F.seen files.new) (texts names.now) result }
 {
     let mut contents = Vec::new(alloc);
     for name in names {

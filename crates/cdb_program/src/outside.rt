@@ -22,14 +22,8 @@ impl<F: Files + Drop, I: Source + Drop, O: Sink + Drop, E: Sink + Drop> Model
 
     ghost view = { λ outside. record {
       files = F.seen outside.files;
-      input = record {
-        bytes = I.remaining outside.streams.input;
-        failures = I.failures outside.streams.input;
-      };
-      output = record {
-        bytes = O.contents outside.streams.output;
-        failures = O.failures outside.streams.output;
-      };
-      error = record { bytes = E.contents outside.error; failures = E.failures outside.error };
+      input = I.stream outside.streams.input;
+      output = O.stream outside.streams.output;
+      error = E.stream outside.error;
     } };
 }

@@ -4,7 +4,6 @@ ghost use Rattle.std.specs.Prelude.{◌≡◌, ◌≤◌};
 ghost use Rattle.cdb_play.specs.Races.{bytes_of};
 ghost use Rattle.cdb_program.specs.Racing.{RacesOn, RacesFiles};
 ghost use Rattle.cdb_program.specs.Reading.{texts};
-ghost use Rattle.cdb_program.specs.Streaming.{stream_of};
 
 use crate::fault::{Fault, of_race};
 use crate::files::{Files, read_each, read_file};
@@ -28,8 +27,7 @@ fn race_bytes<R: Threads + Wait + Sync, O: Sink>(
 ) -> Result<(), Fault<'static>>
     requires { turns ≤ MAX_TURNS }
     ensures { RacesOn setup.now turns (bytes_of scripts.now)
-        (stream_of O.contents O.failures output.old)
-        (stream_of O.contents O.failures output.new) result }
+        (O.stream output.old) (O.stream output.new) result }
 {
     let parts = match Setup::read(alloc, setup) {
         Ok(parts) => parts,

@@ -2,7 +2,6 @@
 
 ghost use Rattle.std.specs.Prelude.{◌≡◌};
 ghost use Rattle.cdb_program.specs.Reports.{fault_text, fault_status, IsReported};
-ghost use Rattle.cdb_program.specs.Streaming.{stream_of};
 ghost use Rattle.cdb_play.specs.Streams.{Writes};
 
 use crate::fault::Fault;
@@ -28,7 +27,7 @@ fn status_after(fault: &Fault<'_>) -> u8
 
 /// Writes the text of a fault. Where the writer fails, what was written is a beginning of it.
 fn write_text<E: Sink>(fault: &Fault<'_>, error: &mut E) -> Result<(), Failed>
-    ensures { Writes E.contents E.failures result error.old error.new (fault_text fault.now) }
+    ensures { Writes E.stream result error.old error.new (fault_text fault.now) }
 {
     match fault {
         Fault::Play(fault, name) => write_fault(fault, name, error),
@@ -41,9 +40,7 @@ fn write_text<E: Sink>(fault: &Fault<'_>, error: &mut E) -> Result<(), Failed>
 
 /// Reports how a request ended, and returns the status.
 pub fn report<E: Sink>(outcome: Result<(), Fault<'_>>, error: &mut E) -> u8
-    ensures { IsReported outcome.entry
-        (stream_of E.contents E.failures error.old)
-        (stream_of E.contents E.failures error.new) result }
+    ensures { IsReported outcome.entry (E.stream error.old) (E.stream error.new) result }
 {
     match outcome {
         Ok(()) => 0,

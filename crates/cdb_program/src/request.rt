@@ -2,7 +2,6 @@
 
 ghost use Rattle.std.specs.Prelude.{◌≡◌, ◌≤◌};
 ghost use Rattle.cdb_program.specs.Requests.{Does, IsNoHall, Performs, PerformsAlone, Prints, HasTurns};
-ghost use Rattle.cdb_program.specs.Streaming.{stream_of};
 
 use crate::debugs::debug_file;
 use crate::draws::draw_files;
@@ -73,8 +72,7 @@ pub enum Request<'a> {
 
 /// Writes a text to standard output.
 fn print<O: Sink>(text: &str, output: &mut O) -> Result<(), Fault<'static>>
-    ensures { Prints text.now (stream_of O.contents O.failures output.old)
-        (stream_of O.contents O.failures output.new) result }
+    ensures { Prints text.now (O.stream output.old) (O.stream output.new) result }
 {
     write_all(output, text.as_bytes()).map_err(|_| Fault::Play(PlayFault::Write, ""))
 }

@@ -32,9 +32,7 @@ struct Memory {
 impl Sink for Memory {
     ghost use Rattle.std.specs.Prelude.{Some};
 
-    ghost contents = { λ out. Some out.held.items };
-
-    ghost failures = { λ out. out.failures };
+    ghost stream = { λ out. record { bytes = Some out.held.items; failures = out.failures } };
 
     fn write(&mut self, piece: &[u8]) -> Result<usize, Failed> {
         let most = if self.good_calls == 0 { 0 } else { self.most };
@@ -63,9 +61,10 @@ struct Halting<'a> {
 impl<'a> Source for Halting<'a> {
     ghost use Rattle.std.specs.Prelude.{Some};
 
-    ghost remaining = { λ source. Some source.rest.now };
-
-    ghost failures = { λ source. source.failures };
+    ghost stream = { λ source. record {
+      bytes = Some source.rest.now;
+      failures = source.failures;
+    } };
 
     fn read(&mut self, buffer: &mut [u8]) -> Result<usize, Failed> {
         if self.good_calls == 0 {

@@ -6,8 +6,10 @@ ghost use Rattle.cdb_base.specs.declared.limits.TheConstants.{MAX_SEATS};
 ghost use Rattle.cdb_control.specs.Answer.{told};
 ghost use Rattle.cdb_race.specs.Races.{all_told};
 ghost use Rattle.cdb_text.specs.Texts.{text_of};
-ghost use Rattle.cdb_play.specs.Races.{seat_line, seat_text, seats_text, end_text, verdict_text, have_one_value, last_decisions};
-ghost use Rattle.cdb_play.specs.Buffers.{Puts, Wrote};
+ghost use Rattle.cdb_play.specs.Races.{seat_line, seat_text, seats_text, end_text, verdict_text, have_one_value, text_with};
+ghost use Rattle.cdb_play.specs.Buffers.{Puts};
+ghost use Rattle.cdb_play.specs.Endings.{pieces_ending};
+ghost use Rattle.cdb_play.specs.Written.{IsWritten, Only};
 
 use crate::buffer::{Buffer, OutputFault};
 use crate::reply::put_reply;
@@ -24,7 +26,7 @@ fn put_replies<W: Sink>(
     buffer: &mut Buffer,
     out: &mut W,
 ) -> Result<(), OutputFault>
-    ensures { Puts W.contents W.failures result out.old buffer.old out.new buffer.new
+    ensures { Puts W.stream result out.old buffer.old out.new buffer.new
         (flat_map text_of (map told replies.now)) }
 {
     for reply in replies {
@@ -35,8 +37,7 @@ fn put_replies<W: Sink>(
 
 /// Puts the line with the number of a seat.
 fn put_line<W: Sink>(seat: usize, buffer: &mut Buffer, out: &mut W) -> Result<(), OutputFault>
-    ensures { Puts W.contents W.failures result out.old buffer.old out.new buffer.new
-        (seat_line seat) }
+    ensures { Puts W.stream result out.old buffer.old out.new buffer.new (seat_line seat) }
 {
     let mut digits = Digits::new();
     buffer.put(out, b"seat ")?;
@@ -53,7 +54,7 @@ fn put_seat<W: Sink>(
     buffer: &mut Buffer,
     out: &mut W,
 ) -> Result<(), OutputFault>
-    ensures { Puts W.contents W.failures result out.old buffer.old out.new buffer.new
+    ensures { Puts W.stream result out.old buffer.old out.new buffer.new
         (seat_text seat (map told replies.now)) }
 {
     put_line(seat, buffer, out)?;
@@ -69,7 +70,7 @@ fn put_seats<W: Sink>(
     out: &mut W,
 ) -> Result<(), OutputFault>
     requires { first + length seats.now ≤ 65 }
-    ensures { Puts W.contents W.failures result out.old buffer.old out.new buffer.new
+    ensures { Puts W.stream result out.old buffer.old out.new buffer.new
         (seats_text first (all_told seats.now)) }
 {
     let mut seat = first;
@@ -108,7 +109,7 @@ fn put_end<W: Sink>(
     buffer: &mut Buffer,
     out: &mut W,
 ) -> Result<(), OutputFault>
-    ensures { Puts W.contents W.failures result out.old buffer.old out.new buffer.new
+    ensures { Puts W.stream result out.old buffer.old out.new buffer.new
         (end_text decisions.items) }
 {
     let verdict = verdict(decisions.as_slice());
@@ -126,9 +127,8 @@ fn put_race<T: Runs, W: Sink>(
     out: &mut W,
 ) -> Result<(), OutputFault>
     requires { control.now.setup.processes + length replies.now ≤ MAX_SEATS }
-    ensures { Puts W.contents W.failures result out.old buffer.old out.new buffer.new
-        (seats_text (control.now.setup.processes + 1) (all_told replies.now)
-        ++ end_text (last_decisions T.rules control.now)) }
+    ensures { Puts W.stream result out.old buffer.old out.new buffer.new
+        (text_with T.rules control.now (all_told replies.now)) }
 {
     let run = control.run();
     let mut text = String::new(alloc);
@@ -153,9 +153,8 @@ pub(super) fn write_race<T: Runs, W: Sink>(
 ) -> Result<(), OutputFault>
     requires seats { control.now.setup.processes + length replies.now ≤ MAX_SEATS }
     requires empty { buffer ≡ [] }
-    ensures { Wrote W.contents W.failures result out.old out.new
-        (seats_text (control.now.setup.processes + 1) (all_told replies.now)
-        ++ end_text (last_decisions T.rules control.now)) }
+    ensures { IsWritten W.stream (pieces_ending result) out.old out.new
+        (Only (text_with T.rules control.now (all_told replies.now))) }
 {
     let mut buffer = buffer;
     put_race(alloc, control, replies, &mut buffer, out)?;

@@ -29,9 +29,10 @@ impl<'a> Reader<'a> {
 impl<'a> Source for Reader<'a> {
     ghost use Rattle.std.specs.Prelude.{Some};
 
-    ghost remaining = { λ source. Some source.rest.now };
-
-    ghost failures = { λ source. source.failures };
+    ghost stream = { λ source. record {
+      bytes = Some source.rest.now;
+      failures = source.failures;
+    } };
 
     fn read(&mut self, buffer: &mut [u8]) -> Result<usize, Failed> {
         if self.good_calls == 0 {
@@ -104,9 +105,7 @@ impl Writer {
 impl Sink for Writer {
     ghost use Rattle.std.specs.Prelude.{Some};
 
-    ghost contents = { λ out. Some out.held.items };
-
-    ghost failures = { λ out. out.failures };
+    ghost stream = { λ out. record { bytes = Some out.held.items; failures = out.failures } };
 
     fn write(&mut self, piece: &[u8]) -> Result<usize, Failed> {
         let count = piece.len().min(MOST);

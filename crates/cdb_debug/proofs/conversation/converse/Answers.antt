@@ -1,8 +1,6 @@
-use Rattle.std.proofs.Common.{◌≡◌, ◌+◌, ◌≤◌, List, ℕ, [], true, refl, sym, ap, subst, ◌∙◌, arith, length, take}
-use Rattle.std.specs.Prelude.{Ok}
-use Rattle.std.proofs.lemmas.List.{length-take, length-take-le}
+use Rattle.std.proofs.Common.{◌≡◌, ◌+◌, List, ℕ, [], sym, ap, subst, arith, length, take}
+use Rattle.std.proofs.lemmas.List.{length-take}
 use Rattle.std.proofs.lemmas.Result.{err_from_is_err_and}
-use Rattle.cdb_debug.specs.Held.{Hears}
 use Rattle.cdb_debug.specs.Dialogues.{session_by}
 use Rattle.cdb_debug.proofs.Conversing.{Stands, started, not_started, not_read, over_at_most, over_at_end, goes_on, quits, breaks}
 use Rattle.cdb_debug.proofs.conversation.converse.Goals as goal

@@ -1,9 +1,9 @@
-use Rattle.std.proofs.Common.{◌≡◌, ◌+◌, ◌∷◌, ◌++◌, [], List, ℕ, sym, ap, ◌∙◌, append-nil, arith, length, length-append}
+use Rattle.std.proofs.Common.{◌+◌, ◌∷◌, ◌++◌, [], List, ℕ, sym, ap, append-nil, arith, length, length-append}
 use Rattle.std.proofs.lemmas.List.{length-take}
 use Rattle.std.proofs.lemmas.Result.{err_from_is_err_and}
 use Rattle.cdb_setup.specs.Format.{longest}
 use Rattle.cdb_debug.specs.Dialogues.{Session, session_by}
-use Rattle.cdb_debug.proofs.Looking.{Goes, starts, no_memory, holds, answers, quits, fails}
+use Rattle.cdb_debug.proofs.Looking.{starts, no_memory, holds, answers, quits, fails}
 use Rattle.cdb_debug.proofs.hearing.hear.Goals as goal
 
 pub loop-line-init : goal.loop-line-init

@@ -1,4 +1,4 @@
-use Rattle.std.specs.Prelude.{List, codes, string_bytes, ℕ, ◌++◌}
+use Rattle.std.specs.Prelude.{List, codes, string_bytes, ℕ}
 use Rattle.cdb_draw.specs.Arrows.{straight_text, spot_text}
 use Rattle.cdb_draw.proofs.Pushing.{last}
 use Rattle.cdb_draw.proofs.arrow.push_straight.Goals as goal

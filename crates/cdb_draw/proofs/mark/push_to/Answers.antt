@@ -1,4 +1,4 @@
-use Rattle.std.specs.Prelude.{List, codes, decimal, string_bytes, ℕ, ◌++◌}
+use Rattle.std.specs.Prelude.{List, codes, decimal, string_bytes, ℕ}
 use Rattle.cdb_draw.specs.EventMarks.{to_text}
 use Rattle.cdb_draw.proofs.Pushing.{last}
 use Rattle.cdb_draw.proofs.mark.push_to.Goals as goal

@@ -23,9 +23,9 @@ returns-in_err-put_front g c =
     let held = c.args.buffer.now in
     let left = c.put_front.new.buffer in
     rw (p.1, p.2)
-    (cut_before _ _ (Unit {0}) why old new held left ((first ++ arrows) ++ marks) foot
-    (cut_before _ _ (Unit {0}) why old new held left (first ++ arrows) marks
-    (cut_before _ _ (Unit {0}) why old new held left first arrows c.in_err-put_front.ensures)))
+    (cut_before g.W.Sink.stream (Unit {0}) why old new held left ((first ++ arrows) ++ marks) foot
+    (cut_before g.W.Sink.stream (Unit {0}) why old new held left (first ++ arrows) marks
+    (cut_before g.W.Sink.stream (Unit {0}) why old new held left first arrows c.in_err-put_front.ensures)))
 
 pub returns-in_err-put_arrows : goal.returns-in_err-put_arrows
 returns-in_err-put_arrows g c =
@@ -40,9 +40,9 @@ returns-in_err-put_arrows g c =
     let held = c.args.buffer.now in
     let left = c.put_arrows.new.buffer in
     rw (p.1, p.2)
-    (cut_before _ _ (Unit {0}) why old new held left ((first ++ arrows) ++ marks) foot
-    (cut_before _ _ (Unit {0}) why old new held left (first ++ arrows) marks
-    (put_last _ _ {A = Unit {0}} (Err why) old c.put_front.new.out new held c.put_front.new.buffer left first arrows (first ++ arrows) c.in_ok-put_front.ensures refl c.in_err-put_arrows.ensures)))
+    (cut_before g.W.Sink.stream (Unit {0}) why old new held left ((first ++ arrows) ++ marks) foot
+    (cut_before g.W.Sink.stream (Unit {0}) why old new held left (first ++ arrows) marks
+    (put_last g.W.Sink.stream {A = Unit {0}} (Err why) old c.put_front.new.out new held c.put_front.new.buffer left first arrows (first ++ arrows) c.in_ok-put_front.ensures refl c.in_err-put_arrows.ensures)))
 
 pub returns-in_err-put_marks : goal.returns-in_err-put_marks
 returns-in_err-put_marks g c =
@@ -57,9 +57,9 @@ returns-in_err-put_marks g c =
     let held = c.args.buffer.now in
     let left = c.put_marks.new.buffer in
     rw (p.1, p.2)
-    (cut_before _ _ (Unit {0}) why old new held left ((first ++ arrows) ++ marks) foot
-    (put_last _ _ {A = Unit {0}} (Err why) old c.put_arrows.new.out new held c.put_arrows.new.buffer left (first ++ arrows) marks ((first ++ arrows) ++ marks)
-    (put_more _ _ old c.put_front.new.out c.put_arrows.new.out held c.put_front.new.buffer c.put_arrows.new.buffer first arrows c.in_ok-put_front.ensures c.in_ok-put_arrows.ensures)
+    (cut_before g.W.Sink.stream (Unit {0}) why old new held left ((first ++ arrows) ++ marks) foot
+    (put_last g.W.Sink.stream {A = Unit {0}} (Err why) old c.put_arrows.new.out new held c.put_arrows.new.buffer left (first ++ arrows) marks ((first ++ arrows) ++ marks)
+    (put_more g.W.Sink.stream old c.put_front.new.out c.put_arrows.new.out held c.put_front.new.buffer c.put_arrows.new.buffer first arrows c.in_ok-put_front.ensures c.in_ok-put_arrows.ensures)
     refl c.in_err-put_marks.ensures))
 
 pub returns : goal.returns
@@ -70,8 +70,8 @@ returns g c =
     let marks = flat_map (mark_at g.T.Runs.rules run c.args.marks.now) (positions run.history) in
     let old = c.args.out.now in
     let held = c.args.buffer.now in
-    put_last _ _ c.put_foot.result old c.put_marks.new.out c.put_foot.new.out held c.put_marks.new.buffer c.put_foot.new.buffer ((first ++ arrows) ++ marks) foot (((first ++ arrows) ++ marks) ++ foot)
-    (put_more _ _ old c.put_arrows.new.out c.put_marks.new.out held c.put_arrows.new.buffer c.put_marks.new.buffer (first ++ arrows) marks
-    (put_more _ _ old c.put_front.new.out c.put_arrows.new.out held c.put_front.new.buffer c.put_arrows.new.buffer first arrows c.in_ok-put_front.ensures c.in_ok-put_arrows.ensures)
+    put_last g.W.Sink.stream c.put_foot.result old c.put_marks.new.out c.put_foot.new.out held c.put_marks.new.buffer c.put_foot.new.buffer ((first ++ arrows) ++ marks) foot (((first ++ arrows) ++ marks) ++ foot)
+    (put_more g.W.Sink.stream old c.put_arrows.new.out c.put_marks.new.out held c.put_arrows.new.buffer c.put_marks.new.buffer (first ++ arrows) marks
+    (put_more g.W.Sink.stream old c.put_front.new.out c.put_arrows.new.out held c.put_front.new.buffer c.put_arrows.new.buffer first arrows c.in_ok-put_front.ensures c.in_ok-put_arrows.ensures)
     c.in_ok-put_marks.ensures)
     refl c.put_foot.ensures

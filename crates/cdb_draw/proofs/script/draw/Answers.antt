@@ -1,24 +1,25 @@
 use Rattle.std.proofs.Common.{sym, subst}
 use Rattle.cdb_play.specs.Left.{Leaves}
 use Rattle.cdb_rules.specs.RunView.{RunView}
+use Rattle.cdb_play.proofs.Ending.{written_as}
 use Rattle.cdb_explain.proofs.Answered.{is_no_setup, reads_none, no_err}
-use Rattle.cdb_draw.specs.Drawn.{Draws, IsPictureFor}
-use Rattle.cdb_draw.proofs.Ended.{fault_left, writes_of_kind}
+use Rattle.cdb_draw.specs.Drawn.{draw_ending, Draws, IsPictureFor}
+use Rattle.cdb_draw.proofs.Ended.{fault_left}
 use Rattle.cdb_draw.proofs.script.draw.Goals as goal
 
 pub returns-clause-wrote : goal.returns-clause-wrote
 returns-clause-wrote g c =
-    let old = g.R.Source.remaining c.args.script.now in
-    let new = g.R.Source.remaining c.left_by.new.script in
+    let old = g.R.Source.stream c.args.script.now in
+    let new = g.R.Source.stream c.left_by.new.script in
     let run : RunView = c.chronicle_of-run.result in
     let left = subst (Leaves g.T.Runs.rules c.args.setup.now old new) (sym c.chronicle_of-run.ensures.is) c.in_ok-control.ensures.left in
-    writes_of_kind g.W.Sink.contents g.W.Sink.failures (Unit {0}) (IsPictureFor g.T.Runs.rules run c.args.step) (Draws g.T.Runs.rules c.args.setup.now c.args.step old new) (λ text is. (run, left, is))
-    c.write_drawing.result c.args.out.now c.write_drawing.new.out c.write_drawing.ensures.wrote
+    written_as g.W.Sink.stream (draw_ending c.write_drawing.result) c.args.out.now c.write_drawing.new.out (IsPictureFor g.T.Runs.rules run c.args.step) (Draws g.T.Runs.rules c.args.setup.now c.args.step old new)
+    (λ text is. (run, left, is)) c.write_drawing.ensures.wrote
 
 pub returns-clause-fault : goal.returns-clause-fault
 returns-clause-fault g c =
-    let old = g.R.Source.remaining c.args.script.now in
-    let new = g.R.Source.remaining c.left_by.new.script in
+    let old = g.R.Source.stream c.args.script.now in
+    let new = g.R.Source.stream c.left_by.new.script in
     let left = subst (Leaves g.T.Runs.rules c.args.setup.now old new) (sym c.chronicle_of-run.ensures.is) c.in_ok-control.ensures.left in
     fault_left g.T.Runs.rules c.args.setup.now c.args.step old new c.chronicle_of-run.result left c.write_drawing.result c.write_drawing.ensures.fault
 

@@ -1,24 +1,25 @@
-use Rattle.std.proofs.Common.{ℕ, List, sym, subst}
+use Rattle.std.proofs.Common.{sym, subst}
 use Rattle.cdb_rules.specs.RunView.{RunView}
 use Rattle.cdb_play.specs.Left.{Leaves}
-use Rattle.cdb_explain.specs.Explained.{Explains}
+use Rattle.cdb_explain.specs.Explained.{explain_ending, Explains}
 use Rattle.cdb_explain.specs.Explanations.{IsStepExplained}
-use Rattle.cdb_explain.proofs.Answered.{fault_left, writes_of_kind, is_no_setup, reads_none, no_err}
+use Rattle.cdb_play.proofs.Ending.{written_as}
+use Rattle.cdb_explain.proofs.Answered.{fault_left, is_no_setup, reads_none, no_err}
 use Rattle.cdb_explain.proofs.explains.explain.Goals as goal
 
 pub returns-clause-wrote : goal.returns-clause-wrote
 returns-clause-wrote g c =
-    let old = g.R.Source.remaining c.args.script.now in
-    let new = g.R.Source.remaining c.left_by.new.script in
+    let old = g.R.Source.stream c.args.script.now in
+    let new = g.R.Source.stream c.left_by.new.script in
     let run : RunView = c.chronicle_of-run.result in
     let left = subst (Leaves g.T.Runs.rules c.args.setup.now old new) (sym c.chronicle_of-run.ensures.is) c.in_ok-control.ensures.left in
-    writes_of_kind g.W.Sink.contents g.W.Sink.failures (Unit {0}) (IsStepExplained g.T.Runs.rules run c.args.p c.args.k) (Explains g.T.Runs.rules c.args.setup.now c.args.p c.args.k old new) (λ text is. (run, left, is))
-    c.write_explanation.result c.args.out.now c.write_explanation.new.out c.write_explanation.ensures.wrote
+    written_as g.W.Sink.stream (explain_ending c.write_explanation.result) c.args.out.now c.write_explanation.new.out (IsStepExplained g.T.Runs.rules run c.args.p c.args.k) (Explains g.T.Runs.rules c.args.setup.now c.args.p c.args.k old new)
+    (λ text is. (run, left, is)) c.write_explanation.ensures.wrote
 
 pub returns-clause-fault : goal.returns-clause-fault
 returns-clause-fault g c =
-    let old = g.R.Source.remaining c.args.script.now in
-    let new = g.R.Source.remaining c.left_by.new.script in
+    let old = g.R.Source.stream c.args.script.now in
+    let new = g.R.Source.stream c.left_by.new.script in
     let run : RunView = c.chronicle_of-run.result in
     let left = subst (Leaves g.T.Runs.rules c.args.setup.now old new) (sym c.chronicle_of-run.ensures.is) c.in_ok-control.ensures.left in
     fault_left g.T.Runs.rules c.args.setup.now c.args.p c.args.k old new run left c.write_explanation.result c.write_explanation.ensures.fault

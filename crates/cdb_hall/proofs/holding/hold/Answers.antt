@@ -1,8 +1,10 @@
 use Rattle.std.proofs.Common.{sym, ap, subst, ◌∙◌, arith, length, List}
 use Rattle.cdb_control.specs.declared.control.Entry.{Entry}
+use Rattle.cdb_play.specs.Endings.{whole_ending}
+use Rattle.cdb_play.specs.Written.{IsWritten, Only}
 use Rattle.cdb_hall.specs.Halls.{journal_text}
 use Rattle.cdb_hall.specs.Holding.{IsFaultOfHall}
-use Rattle.cdb_hall.specs.Reports.{HallWrites, outcomes, failures_text, status_of}
+use Rattle.cdb_hall.specs.Reports.{outcomes, failures_text, status_of}
 use Rattle.cdb_hall.specs.declared.station.Attended.{Attended}
 use Rattle.cdb_hall.proofs.NotHeld.{setup_failed, threads_failed}
 use Rattle.cdb_hall.proofs.holding.hold.Goals as goal
@@ -26,8 +28,8 @@ returns-clause-held g c =
       attended = c.in-Ok-debug_seats.held.1.items;
       hall = c.in-Ok-debug_seats.ensures.hall;
       written = written;
-      journal = subst (λ (es : List Entry). HallWrites g.O.Sink.contents g.O.Sink.failures written c.args.output.now c.write_journal-written.new.out (journal_text es)) c.journal.ensures.entries c.write_journal-written.ensures;
+      journal = subst (λ (es : List Entry). IsWritten g.O.Sink.stream (whole_ending written) c.args.output.now c.write_journal-written.new.out (Only (journal_text es))) c.journal.ensures.entries c.write_journal-written.ensures;
       told = c.write_failures.result;
-      lines = subst (λ (l : List (Attended g.row.T.Denot)). HallWrites g.E.Sink.contents g.E.Sink.failures c.write_failures.result c.args.error.now c.write_failures.new.out (failures_text written (outcomes l))) c.as_slice.ensures.value c.write_failures.ensures;
+      lines = subst (λ (l : List (Attended g.row.T.Denot)). IsWritten g.E.Sink.stream (whole_ending c.write_failures.result) c.args.error.now c.write_failures.new.out (Only (failures_text written (outcomes l)))) c.as_slice.ensures.value c.write_failures.ensures;
       status_is = c.status_after.ensures ∙ ap (λ (l : List (Attended g.row.T.Denot)). status_of written (outcomes l)) c.as_slice-2.ensures.value;
     }

@@ -9,7 +9,7 @@ use Rattle.cdb_play.proofs.Transcribing.{so_far, no_texts, one_command, one_repl
 use Rattle.cdb_play.proofs.plays.perform_all.Goals as goal
 
 pub returns-in_default : goal.returns-in_default
-returns-in_default g c = puts_nothing _ _ _ _ _
+returns-in_default g c = puts_nothing g.W.Sink.stream _ _ _
 
 pub loop-command-init : goal.loop-command-init
 loop-command-init g c =
@@ -17,7 +17,7 @@ loop-command-init g c =
     let held = c.args.buffer.now in
     record {
       control = c.in-Ok.ensures.opened;
-      put = subst (IsPut g.W.Sink.contents g.W.Sink.failures out held out held) (sym (no_texts (g.T.Runs.rules c.args.setup) c.args.setup)) (put_nothing _ _ out held);
+      put = subst (IsPut g.W.Sink.stream out held out held) (sym (no_texts (g.T.Runs.rules c.args.setup) c.args.setup)) (put_nothing g.W.Sink.stream out held);
     }
 
 pub returns-in_err-perform : goal.returns-in_err-perform
@@ -32,7 +32,7 @@ returns-in_err-perform g c =
     let whole : commands ≡ take i commands ++ command ∷ drop (i + 1) commands =
     parted commands i command c.loop-command-test.true ∙ ap (λ other. take i commands ++ other ∷ drop (i + 1) commands) (sym c.command-item.is) in
     rw (p.1, p.2, whole)
-    (cut_short _ _ (Unit {0}) c.in_err-perform.field-0.0 _ _ _ _ _ _ (transcript (rules_of setup) setup (take i commands)) (reply_to rules_of c.loop-command.control command) (texts_behind (rules_of setup) setup (take i commands) command (drop (i + 1) commands)) _
+    (cut_short g.W.Sink.stream (Unit {0}) c.in_err-perform.field-0.0 _ _ _ _ _ _ (transcript (rules_of setup) setup (take i commands)) (reply_to rules_of c.loop-command.control command) (texts_behind (rules_of setup) setup (take i commands) command (drop (i + 1) commands)) _
     so.put (parted_transcript rules_of setup (take i commands) command c.loop-command.control so.control (drop (i + 1) commands)) c.in_err-perform.ensures.put)
 
 pub loop-command-preserved : goal.loop-command-preserved
@@ -54,6 +54,6 @@ loop-command-preserved g c =
     record {
       control = one_command rules_of setup done command control so.control c.perform.new.control c.in_ok-perform.ensures.done ∙ ap (so_far setup) more;
       put =
-          subst (IsPut g.W.Sink.contents g.W.Sink.failures old held new left) (sym (one_reply rules_of setup done command control so.control) ∙ ap (transcript (rules_of setup) setup) more)
-          (put_more _ _ old c.loop-command.out new held c.loop-command.buffer left (transcript (rules_of setup) setup done) (reply_to rules_of control command) so.put c.in_ok-perform.ensures.put);
+          subst (IsPut g.W.Sink.stream old held new left) (sym (one_reply rules_of setup done command control so.control) ∙ ap (transcript (rules_of setup) setup) more)
+          (put_more g.W.Sink.stream old c.loop-command.out new held c.loop-command.buffer left (transcript (rules_of setup) setup done) (reply_to rules_of control command) so.put c.in_ok-perform.ensures.put);
     }

@@ -7,5 +7,5 @@ use Rattle.cdb_play.proofs.plays.perform_all.Given as goal
 abbrev pub invariant-loop-command : goal.invariant-loop-command
 invariant-loop-command g l = record {
   control : l.control ≡ so_far l.fn.setup (take l.command-index l.commands);
-  put : IsPut g.W.Sink.contents g.W.Sink.failures l.initial.out l.initial.buffer l.out l.buffer (transcript (g.T.Runs.rules l.fn.setup) l.fn.setup (take l.command-index l.commands));
+  put : IsPut g.W.Sink.stream l.initial.out l.initial.buffer l.out l.buffer (transcript (g.T.Runs.rules l.fn.setup) l.fn.setup (take l.command-index l.commands));
 }

@@ -2,8 +2,9 @@ use Rattle.std.proofs.Common.{true, None, refl}
 use Rattle.std.proofs.lemmas.Result.{err_from_is_err_and}
 use Rattle.cdb_race.specs.Faults.{IsFaultBehind}
 use Rattle.cdb_play.specs.declared.races.Open.{Open}
+use Rattle.cdb_play.specs.Endings.{race_ending}
 use Rattle.cdb_play.specs.Races.{IsFaultUngated, bytes_of, IsTextOnSetup, IsTextOfCommands}
-use Rattle.cdb_play.proofs.Ending.{race_unwritten_scripts, race_writes_weaker}
+use Rattle.cdb_play.proofs.Ending.{race_unwritten_scripts, written_as}
 use Rattle.cdb_play.proofs.RaceTexts.{of_scripts}
 use Rattle.cdb_play.proofs.RunningFaults.{both, of_reading, ungated}
 use Rattle.cdb_play.proofs.races.race_on.Goals as goal
@@ -11,7 +12,7 @@ use Rattle.cdb_play.proofs.races.race_on.Goals as goal
 pub returns-in_err-commands-clause-wrote : goal.returns-in_err-commands-clause-wrote
 returns-in_err-commands-clause-wrote g c =
     let p = err_from_is_err_and c.from_residual.result c.from_residual.ensures.1 in
-    rw (p.1, p.2) (race_unwritten_scripts _ _ (Unit {0}) _ _ c.in_err-commands.field-0.0 (bytes_of c.args.scripts.now) c.in_err-commands.ensures.fault)
+    rw (p.1, p.2) (race_unwritten_scripts g.W.Sink.stream (Unit {0}) _ _ c.in_err-commands.field-0.0 (bytes_of c.args.scripts.now) c.in_err-commands.ensures.fault)
 
 pub returns-in_err-commands-clause-fault : goal.returns-in_err-commands-clause-fault
 returns-in_err-commands-clause-fault g c =
@@ -22,7 +23,7 @@ pub returns-clause-wrote : goal.returns-clause-wrote
 returns-clause-wrote g c =
     let commands = c.in_ok-commands.commands.items in
     let scripts = bytes_of c.args.scripts.now in
-    race_writes_weaker g.W.Sink.contents g.W.Sink.failures _ (IsTextOfCommands g.T.Runs.rules c.args.setup c.args.turns commands) c.run_race.result c.args.out.now c.run_race.new.out (IsTextOnSetup g.T.Runs.rules c.args.setup c.args.turns scripts)
+    written_as g.W.Sink.stream (race_ending c.run_race.result) c.args.out.now c.run_race.new.out (IsTextOfCommands g.T.Runs.rules c.args.setup c.args.turns commands) (IsTextOnSetup g.T.Runs.rules c.args.setup c.args.turns scripts)
     (of_scripts g.T.Runs.rules c.args.setup c.args.turns scripts commands c.in_ok-commands.ensures.read) (rw c.as_slice.ensures.value at c.run_race.ensures.wrote)
 
 pub returns-clause-fault : goal.returns-clause-fault

@@ -2,8 +2,9 @@ use Rattle.std.proofs.Common.{Ok, refl, sym, subst}
 use Rattle.std.proofs.lemmas.Result.{err_from_is_err_and, IfErr-weaker}
 use Rattle.cdb_rules.specs.Agreement.{HasMajorityIfNeeded}
 use Rattle.cdb_race.specs.Faults.{IsFaultBehind}
+use Rattle.cdb_play.specs.Endings.{race_ending}
 use Rattle.cdb_play.specs.Races.{bytes_of, IsTextOnSetup, IsTextOfRace}
-use Rattle.cdb_play.proofs.Ending.{race_unwritten_setup, race_writes_weaker}
+use Rattle.cdb_play.proofs.Ending.{race_unwritten_setup, written_as}
 use Rattle.cdb_play.proofs.RunningFaults.{of_race, of_setup_read, not_of_setup}
 use Rattle.cdb_play.proofs.SeatsFit.{same_setup}
 use Rattle.cdb_play.proofs.races.race_with.Goals as goal
@@ -11,13 +12,13 @@ use Rattle.cdb_play.proofs.races.race_with.Goals as goal
 pub returns-in_err-parts-clause-wrote : goal.returns-in_err-parts-clause-wrote
 returns-in_err-parts-clause-wrote g c =
     let p = err_from_is_err_and c.from_residual.result c.from_residual.ensures.1 in
-    rw (p.1, p.2) (race_unwritten_setup _ _ (Unit {0}) _ _ c.in_err-parts.field-0.0)
+    rw (p.1, p.2) (race_unwritten_setup g.W.Sink.stream (Unit {0}) _ _ c.in_err-parts.field-0.0)
 
 pub returns-clause-wrote : goal.returns-clause-wrote
 returns-clause-wrote g c =
     let parts = c.in_ok-parts.parts in
     let scripts = bytes_of c.args.scripts.now in
-    race_writes_weaker g.W.Sink.contents g.W.Sink.failures _ (IsTextOnSetup g.T.Runs.rules parts c.args.turns scripts) c.race_on_with.result c.args.out.now c.race_on_with.new.out (IsTextOfRace g.T.Runs.rules c.args.setup.now c.args.turns scripts)
+    written_as g.W.Sink.stream (race_ending c.race_on_with.result) c.args.out.now c.race_on_with.new.out (IsTextOnSetup g.T.Runs.rules parts c.args.turns scripts) (IsTextOfRace g.T.Runs.rules c.args.setup.now c.args.turns scripts)
     (λ text is. (parts, c.in_ok-parts.ensures.found, is)) c.race_on_with.ensures.wrote
 
 pub returns-clause-fault : goal.returns-clause-fault
@@ -30,14 +31,14 @@ returns-in_err-parts-clause-fault g c =
     rw (p.1, p.2) (of_setup_read (IsFaultBehind g.row.T.Denot g.T.Runs.rules g.G.Gate.heard g.G.Gate.passes c.args.gates.items) c.args.turns c.args.setup.now (bytes_of c.args.scripts.now) c.in_err-parts.field-0.0 c.in_err-parts.ensures.fault)
 
 pub returns-in_err-parts-clause-agree : goal.returns-in_err-parts-clause-agree
-returns-in_err-parts-clause-agree g c = λ parts stands majority.
+returns-in_err-parts-clause-agree g c = λ majority.
     let p = err_from_is_err_and c.from_residual.result c.from_residual.ensures.1 in
     rw p.1 tt
 
 pub returns-clause-agree : goal.returns-clause-agree
-returns-clause-agree g c = λ parts stands majority.
+returns-clause-agree g c = λ of_majority.
     let found = c.in_ok-parts.parts in
-    c.race_on_with.ensures.agree (subst HasMajorityIfNeeded (sym (same_setup (Ok found) found parts refl (c.in_ok-parts.ensures.only parts stands))) majority)
+    c.race_on_with.ensures.agree (subst HasMajorityIfNeeded (sym (same_setup (Ok found) found of_majority.0 refl (c.in_ok-parts.ensures.only of_majority.0 of_majority.1))) of_majority.2)
 
 pub returns-in_err-parts-clause-passes : goal.returns-in_err-parts-clause-passes
 returns-in_err-parts-clause-passes g c = λ all.

@@ -3,8 +3,9 @@ use Rattle.std.proofs.lemmas.Result.{err_from_is_err_and}
 use Rattle.cdb_race.specs.Faults.{IsFaultBehind}
 use Rattle.cdb_race.specs.Races.{all_told}
 use Rattle.cdb_race.specs.declared.threads.RaceFault.{RaceFault as ThreadFault}
-use Rattle.cdb_play.specs.Races.{last_decisions, IsTextOfCommands}
-use Rattle.cdb_play.proofs.Ending.{race_unwritten_threads, race_wrote}
+use Rattle.cdb_play.specs.Endings.{Complete}
+use Rattle.cdb_play.specs.Races.{last_decisions, EndsInAgreement, IsTextOfCommands}
+use Rattle.cdb_play.proofs.Ending.{only_as, race_unwritten_threads, race_wrote}
 use Rattle.cdb_play.proofs.RaceTexts.{text_of_replies}
 use Rattle.cdb_play.proofs.RunningFaults.{of_threads, of_writing, not_of_threads, not_of_writing}
 use Rattle.cdb_play.proofs.Agreeing.{agrees, ends_in_agreement}
@@ -13,7 +14,7 @@ use Rattle.cdb_play.proofs.races.run_race.Goals as goal
 pub returns-in_err-raced-clause-wrote : goal.returns-in_err-raced-clause-wrote
 returns-in_err-raced-clause-wrote g c =
     let p = err_from_is_err_and c.from_residual-in_err-raced.result c.from_residual-in_err-raced.ensures.1 in
-    rw (p.1, p.2) (race_unwritten_threads _ _ (Unit {0}) _ _ c.in_err-raced.field-0.0)
+    rw (p.1, p.2) (race_unwritten_threads g.W.Sink.stream (Unit {0}) _ _ c.in_err-raced.field-0.0)
 
 pub returns-in_err-raced-clause-fault : goal.returns-in_err-raced-clause-fault
 returns-in_err-raced-clause-fault g c =
@@ -29,7 +30,7 @@ returns-in_err-write_race-clause-wrote g c =
     let same =
     text_of_replies g.T.Runs.rules c.args.setup c.args.turns c.args.scripts.now raced.control raced.replies.items c.deref.result.now c.from-processes.result c.deref.ensures.value (c.from-processes.ensures ∙ c.n.ensures.value) c.in_ok-raced.ensures.raced in
     rw (p.1, p.2)
-    (race_wrote g.W.Sink.contents g.W.Sink.failures (Unit {0}) (IsTextOfCommands g.T.Runs.rules c.args.setup c.args.turns c.args.scripts.now) c.in_err-write_race.field-0.0 c.args.out.now c.write_race.new.out _ (raced.control, all_told raced.replies.items, c.in_ok-raced.ensures.raced, same) c.in_err-write_race.ensures)
+    (race_wrote g.W.Sink.stream (Unit {0}) (IsTextOfCommands g.T.Runs.rules c.args.setup c.args.turns c.args.scripts.now) c.in_err-write_race.field-0.0 c.args.out.now c.write_race.new.out _ (raced.control, all_told raced.replies.items, c.in_ok-raced.ensures.raced, same) c.in_err-write_race.ensures)
 
 pub returns-in_err-write_race-clause-fault : goal.returns-in_err-write_race-clause-fault
 returns-in_err-write_race-clause-fault g c =
@@ -41,13 +42,14 @@ returns-clause-wrote g c =
     let raced = c.in_ok-raced.raced in
     let same =
     text_of_replies g.T.Runs.rules c.args.setup c.args.turns c.args.scripts.now raced.control raced.replies.items c.deref.result.now c.from-processes.result c.deref.ensures.value (c.from-processes.ensures ∙ c.n.ensures.value) c.in_ok-raced.ensures.raced in
-    (_, (raced.control, all_told raced.replies.items, c.in_ok-raced.ensures.raced, same), c.in_ok-write_race.ensures)
+    only_as g.W.Sink.stream Complete c.args.out.now c.write_race.new.out _ (IsTextOfCommands g.T.Runs.rules c.args.setup c.args.turns c.args.scripts.now) (raced.control, all_told raced.replies.items, c.in_ok-raced.ensures.raced, same) c.in_ok-write_race.ensures
 
 pub returns-clause-agree : goal.returns-clause-agree
 returns-clause-agree g c = λ majority.
     let raced = c.in_ok-raced.raced in
     let said = c.in_ok-raced.ensures in
-    (_, ends_in_agreement _ (last_decisions g.T.Runs.rules raced.control) (agrees g.T.Runs.rules g.T.Runs.same_state raced.control c.args.setup said.raced.setup_is said.headline majority), c.in_ok-write_race.ensures)
+    only_as g.W.Sink.stream Complete c.args.out.now c.write_race.new.out _ EndsInAgreement
+    (ends_in_agreement _ (last_decisions g.T.Runs.rules raced.control) (agrees g.T.Runs.rules g.T.Runs.same_state raced.control c.args.setup said.raced.setup_is said.headline majority)) c.in_ok-write_race.ensures
 
 pub returns-in_err-raced-clause-agree : goal.returns-in_err-raced-clause-agree
 returns-in_err-raced-clause-agree g c = λ majority.

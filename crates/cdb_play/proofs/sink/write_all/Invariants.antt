@@ -5,7 +5,7 @@ use Rattle.cdb_play.proofs.sink.write_all.Given as goal
 abbrev pub invariant-loop-done : goal.invariant-loop-done
 invariant-loop-done g l = record {
   within : l.done ≤ length l.bytes;
-  written : Takes g.W.Sink.contents g.W.Sink.failures l.initial.out l.out (take l.done l.bytes);
+  written : Takes g.W.Sink.stream l.initial.out l.out (take l.done l.bytes);
 }
 
 abbrev pub decreases-loop-done : goal.decreases-loop-done

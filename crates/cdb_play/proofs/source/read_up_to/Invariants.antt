@@ -5,8 +5,8 @@ use Rattle.cdb_play.proofs.source.read_up_to.Given as goal
 abbrev pub invariant-loop-buffer : goal.invariant-loop-buffer
 invariant-loop-buffer g l = record {
   within : length l.bytes.items ≤ l.most;
-  taken : Consumes (g.R.Source.remaining l.initial.source) (g.R.Source.remaining l.source) l.bytes.items;
-  failures : g.R.Source.failures l.source ≡ g.R.Source.failures l.initial.source;
+  taken : Consumes (g.R.Source.stream l.initial.source).bytes (g.R.Source.stream l.source).bytes l.bytes.items;
+  failures : (g.R.Source.stream l.source).failures ≡ (g.R.Source.stream l.initial.source).failures;
 }
 
 abbrev pub decreases-loop-buffer : goal.decreases-loop-buffer

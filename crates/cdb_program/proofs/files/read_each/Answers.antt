@@ -8,16 +8,16 @@ use Rattle.cdb_program.proofs.files.read_each.Goals as goal
 pub loop-name-init : goal.loop-name-init
 loop-name-init g c = rw c.new-contents.ensures.items (read_none _)
 
-pub returns-in_err-bytes-clause-fault : goal.returns-in_err-bytes-clause-fault
-returns-in_err-bytes-clause-fault g c =
+pub returns-in_err-bytes : goal.returns-in_err-bytes
+returns-in_err-bytes g c =
     let p = err_from_is_err_and c.from_residual.result c.from_residual.ensures.1 in
-    rw (p.1, p.2) (fails_at _ _ _ c.args.names.now c.loop-name.name-index _ _ c.in_err-bytes.field-0.0 c.loop-name-test.true c.loop-name.invariant c.in_err-bytes.ensures.fault)
+    rw (p.1, p.2) (fails_at _ _ _ c.args.names.now c.loop-name.name-index _ _ c.in_err-bytes.field-0.0 c.loop-name-test.true c.loop-name.invariant c.in_err-bytes.ensures)
 
-pub returns-then-is_err-clause-fault : goal.returns-then-is_err-clause-fault
-returns-then-is_err-clause-fault g c =
+pub returns-then-is_err : goal.returns-then-is_err
+returns-then-is_err g c =
     let names = c.args.names.now in
     let i = c.loop-name.name-index in
-    let read = read_then _ _ _ _ _ _ (c.in_ok-bytes.bytes.items ∷ []) c.loop-name.invariant c.in_ok-bytes.ensures.read in
+    let read = read_then _ _ _ _ _ _ (c.in_ok-bytes.bytes.items ∷ []) c.loop-name.invariant c.in_ok-bytes.ensures in
     (texts (take (i + 1) names), texts (drop (i + 1) names), taken_and_left names (i + 1), read.0 ∙ ap (after_opening _) (sym (one_more_name names i _ c.loop-name-test.true)))
 
 pub loop-name-preserved : goal.loop-name-preserved
@@ -26,4 +26,4 @@ loop-name-preserved g c =
     let i = c.loop-name.name-index in
     let items : c.push.new.self.items ≡ c.loop-name.contents.items ++ c.in_ok-bytes.bytes ∷ [] = search rules in
     rw (one_more_name names i (record { ref_ptr = (0, 0); now = [] }) c.loop-name-test.true, items, bytes_more c.loop-name.contents.items c.in_ok-bytes.bytes)
-    (read_then _ _ _ _ _ _ (c.in_ok-bytes.bytes.items ∷ []) c.loop-name.invariant c.in_ok-bytes.ensures.read)
+    (read_then _ _ _ _ _ _ (c.in_ok-bytes.bytes.items ∷ []) c.loop-name.invariant c.in_ok-bytes.ensures)

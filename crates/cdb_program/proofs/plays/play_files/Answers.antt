@@ -2,12 +2,13 @@ use Rattle.std.proofs.Common.{◌≡◌, ◌∙◌, ℕ, List, Some, Bor, ap, re
 use Rattle.cdb_play.specs.declared.input.Bytes.{Bytes}
 use Rattle.std.proofs.lemmas.Result.{err_from_is_err_and}
 use Rattle.cdb_program.proofs.Seen.{play_seen}
+use Rattle.cdb_program.specs.Known.{in_memory}
 use Rattle.cdb_program.proofs.plays.play_files.Goals as goal
 
 pub returns-in_err-json-clause-does : goal.returns-in_err-json-clause-does
 returns-in_err-json-clause-does g c =
     let p = err_from_is_err_and c.from_residual.result c.from_residual.ensures.1 in
-    rw (p.1, p.2, ← c.outside.view_is) (refl, inl (c.in_err-json.ensures.fault, refl))
+    rw (p.1, p.2, ← c.outside.view_is) (refl, inl (c.in_err-json.ensures, refl))
 
 pub returns-clause-does : goal.returns-clause-does
 returns-clause-does g c =
@@ -20,13 +21,13 @@ returns-clause-does g c =
       refl,
       inr (
         json ∷ bytes ∷ [],
-        c.in_ok-json.ensures.read,
+        c.in_ok-json.ensures,
         (
           c.play-played.result,
           Some c.play-played.new.script.rest.now,
           c.of_play.ensures,
           rw (← json_is, ← bytes_is)
-              (play_seen (λ (b : Bytes). Some b.rest.now) (λ (b : Bytes). 0) g.O.Sink.contents g.O.Sink.failures c.as_slice-2.result.now c.play-played.result c.new-commands.result c.play-played.new.script _ _ said.wrote said.headline said.fault said.unread said.read),
+              (play_seen (λ (b : Bytes). in_memory (Some b.rest.now)) g.O.Sink.stream c.as_slice-2.result.now c.play-played.result c.new-commands.result c.play-played.new.script _ _ said.wrote said.headline said.fault said.unread said.read),
         ),
       ),
     )

@@ -10,6 +10,6 @@ returns-clause-does g c =
       (
         c.play-played.result,
         c.of_play.ensures,
-        play_seen g.I.Source.remaining g.I.Source.failures g.O.Sink.contents g.O.Sink.failures _ c.play-played.result _ _ _ _ said.wrote said.headline said.fault said.unread said.read,
+        play_seen g.I.Source.stream g.O.Sink.stream _ c.play-played.result _ _ _ _ said.wrote said.headline said.fault said.unread said.read,
       ),
     )

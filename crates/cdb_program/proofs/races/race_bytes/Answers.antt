@@ -24,6 +24,6 @@ returns g c =
     inl (
       c.race_on-raced.result,
       c.of_race-2.ensures,
-      race_seen g.O.Sink.contents g.O.Sink.failures c.args.setup.now c.args.turns found scripts c.race_on-raced.result _ _ c.in-Ok.ensures.found (λ other its. same_setup c.read.result found other c.in-Ok.is (c.read.ensures.only other its)) few said.wrote
+      race_seen g.O.Sink.stream c.args.setup.now c.args.turns found scripts c.race_on-raced.result _ _ c.in-Ok.ensures.found (λ other its. same_setup c.read.result found other c.in-Ok.is (c.read.ensures.only other its)) few said.wrote
           said.agree said.fault,
     )

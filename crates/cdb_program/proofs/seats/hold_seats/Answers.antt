@@ -9,22 +9,22 @@ use Rattle.cdb_program.proofs.seats.hold_seats.Goals as goal
 pub returns-in_err-json-clause-fault : goal.returns-in_err-json-clause-fault
 returns-in_err-json-clause-fault g c =
     let p = err_from_is_err_and c.from_residual.result c.from_residual.ensures.1 in
-    rw (p.1, p.2, ← c.outside.view_is) (as_fault _ _ _ _ c.in_err-json.field-0.0 (fails_before _ _ (c.args.setup.now ∷ []) (texts c.args.seats.now) c.in_err-json.field-0.0 c.in_err-json.ensures.fault))
+    rw (p.1, p.2, ← c.outside.view_is) (as_fault _ _ _ _ c.in_err-json.field-0.0 (fails_before _ _ (c.args.setup.now ∷ []) (texts c.args.seats.now) c.in_err-json.field-0.0 c.in_err-json.ensures))
 
 pub returns-in_err-stations-clause-fault : goal.returns-in_err-stations-clause-fault
 returns-in_err-stations-clause-fault g c =
     let p = err_from_is_err_and c.from_residual-in_err-stations.result c.from_residual-in_err-stations.ensures.1 in
     rw (p.1, p.2, ← c.outside.view_is)
-    (as_fault _ _ _ _ c.in_err-stations.field-0.0 (fails_later _ _ _ (c.args.setup.now ∷ []) (texts c.args.seats.now) c.in_err-stations.field-0.0 c.in_ok-json.ensures.read.0 c.in_err-stations.ensures.fault))
+    (as_fault _ _ _ _ c.in_err-stations.field-0.0 (fails_later _ _ _ (c.args.setup.now ∷ []) (texts c.args.seats.now) c.in_err-stations.field-0.0 c.in_ok-json.ensures.0 c.in_err-stations.ensures.fault))
 
 pub returns-in-Ok-clause-held : goal.returns-in-Ok-clause-held
 returns-in-Ok-clause-held g c =
     let known = g.F.Seat.Talk.known in
     let stations = c.in_ok-stations.stations.items in
     let names = texts c.args.seats.now in
-    let seats = seats_known known _ _ (c.args.setup.now ∷ []) names stations c.in_ok-json.ensures.read.0 c.in_ok-stations.ensures.seats in
+    let seats = seats_known known _ _ (c.args.setup.now ∷ []) names stations c.in_ok-json.ensures.0 c.in_ok-stations.ensures.seats in
     rw (← c.outside.view_is) (
       c.in_ok-json.json.items,
-      (opened_then _ _ _ (c.args.setup.now ∷ []) names c.in_ok-json.ensures.read.0 c.in_ok-stations.ensures.opened, c.in_ok-json.ensures.read.1.0),
-      (map (known_station known) stations, seats, rw (← c.as_slice.ensures.value) (holds_seen rules known g.O.Sink.contents g.O.Sink.failures g.E.Sink.contents g.E.Sink.failures _ stations _ _ _ _ _ c.in-Ok.ensures.held)),
+      (opened_then _ _ _ (c.args.setup.now ∷ []) names c.in_ok-json.ensures.0 c.in_ok-stations.ensures.opened, c.in_ok-json.ensures.1.0),
+      (map (known_station known) stations, seats, rw (← c.as_slice.ensures.value) (holds_seen rules known g.O.Sink.stream g.E.Sink.stream _ stations _ _ _ _ _ c.in-Ok.ensures.held)),
     )

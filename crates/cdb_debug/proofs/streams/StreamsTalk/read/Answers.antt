@@ -1,4 +1,4 @@
-use Rattle.std.proofs.Common.{rules, ◌≡◌, ◌<◌, ◌+◌, arith, length}
+use Rattle.std.proofs.Common.{rules, ◌<◌, length}
 use Rattle.cdb_debug.proofs.Ending.{read_to_end}
 use Rattle.cdb_debug.proofs.streams.StreamsTalk.read.Goals as goal
 
@@ -8,7 +8,7 @@ returns-clause-moves g c =
     record {
       moves = tt;
       left = search rules;
-      all = read_to_end _ (g.R.Source.remaining c.args.self.now.input) (g.R.Source.remaining c.read.new.self) c.read.result c.read.new.buffer some c.read.ensures.within c.read.ensures.bytes;
+      all = read_to_end _ (g.R.Source.stream c.args.self.now.input).bytes (g.R.Source.stream c.read.new.self).bytes c.read.result c.read.new.buffer some c.read.ensures.within c.read.ensures.bytes;
       held = search rules;
       failed_reads = search rules;
       failed_writes = search rules;

@@ -13,7 +13,7 @@ returns-in_err-make_room-clause-err g c =
     let done = c.loop-done.done in
     let middle = c.loop-done.self in
     rw p.1
-    (fails_after g.W.Sink.contents g.W.Sink.failures c.args.out.now c.loop-done.out c.make_room.new.out c.args.self.now middle (take done bytes) middle (drop done bytes) (drop done bytes) bytes
+    (fails_after g.W.Sink.stream c.args.out.now c.loop-done.out c.make_room.new.out c.args.self.now middle (take done bytes) middle (drop done bytes) (drop done bytes) bytes
     c.loop-done.invariant.put refl (sym (take-append-drop done bytes)) c.in_err-make_room.ensures.err)
 
 pub loop-done-preserved : goal.loop-done-preserved
@@ -21,8 +21,7 @@ loop-done-preserved g c =
     let bytes = c.args.bytes.now in
     let done = c.loop-done.done in
     let count = c.fill-done.result in
-    let contents = g.W.Sink.contents in
-    let failures = g.W.Sink.failures in
+    let stream = g.W.Sink.stream in
     let old = c.args.out.now in
     let now = c.loop-done.out in
     let new = c.make_room.new.out in
@@ -31,10 +30,10 @@ loop-done-preserved g c =
     let room = c.make_room.new.self in
     let left = c.fill-done.new.self in
     let taken = take count (take (length bytes - done) (drop done bytes)) in
-    let more = put_more contents failures now new new middle room left [] taken c.in_ok-make_room.ensures.put (stays contents failures new room left taken c.fill-done.ensures.held) in
-    let all = put_more contents failures old now new held middle left (take done bytes) taken c.loop-done.invariant.put more in
+    let more = put_more stream now new new middle room left [] taken c.in_ok-make_room.ensures.put (stays stream new room left taken c.fill-done.ensures.held) in
+    let all = put_more stream old now new held middle left (take done bytes) taken c.loop-done.invariant.put more in
     let same = ap (λ (t : List ℕ). take done bytes ++ take count t) (take_rest bytes done) ∙ sym (take-add done count bytes) in
     record {
       within = omega (arith, c.fill-done.ensures.within, length-take (length bytes - done) (drop done bytes), length-drop done bytes);
-      put = subst (IsPut contents failures old held new left) same all;
+      put = subst (IsPut stream old held new left) same all;
     }

@@ -13,13 +13,12 @@ returns-in_err-put_reply g c =
     let p = err_from_is_err_and c.from_residual.result c.from_residual.ensures.1 in
     let decisions = c.args.decisions.items in
     rw (p.1, p.2)
-    (cut_short _ _ (Unit {0}) c.in_err-put_reply.field-0.0 _ _ _ _ _ _ _ (decisions_text decisions) (verdict_text decisions) _ (put_nothing _ _ _ _) refl c.in_err-put_reply.ensures)
+    (cut_short g.W.Sink.stream (Unit {0}) c.in_err-put_reply.field-0.0 _ _ _ _ _ _ _ (decisions_text decisions) (verdict_text decisions) _ (put_nothing g.W.Sink.stream _ _) refl c.in_err-put_reply.ensures)
 
 pub returns-in_err-put : goal.returns-in_err-put
 returns-in_err-put g c =
     let p = err_from_is_err_and c.from_residual-in_err-put.result c.from_residual-in_err-put.ensures.1 in
-    let contents = g.W.Sink.contents in
-    let failures = g.W.Sink.failures in
+    let stream = g.W.Sink.stream in
     let out = c.args.out.now in
     let held = c.args.buffer.now in
     let decisions = c.args.decisions.items in
@@ -27,20 +26,19 @@ returns-in_err-put g c =
     let middle = c.put_reply.new.buffer in
     let new = c.put.new.out in
     let same : c.as_bytes.result.now ≡ verdict_text decisions = c.as_bytes.ensures.value ∙ c.verdict-verdict.ensures ∙ ap verdict_text c.as_slice.ensures.value in
-    let fails = subst (λ (t : List ℕ). Fails contents failures now new (middle ++ t)) same c.in_err-put.ensures.err in
+    let fails = subst (λ (t : List ℕ). Fails stream now new (middle ++ t)) same c.in_err-put.ensures.err in
     rw (p.1, p.2)
-    (cut_short contents failures (Unit {0}) Write out now new held middle c.put.new.self (decisions_text decisions) (verdict_text decisions) [] (end_text decisions) c.in_ok-put_reply.ensures
+    (cut_short stream (Unit {0}) Write out now new held middle c.put.new.self (decisions_text decisions) (verdict_text decisions) [] (end_text decisions) c.in_ok-put_reply.ensures
     (ap (λ (t : List ℕ). decisions_text decisions ++ t) (sym (append-nil (verdict_text decisions)))) fails)
 
 pub returns : goal.returns
 returns g c =
-    let contents = g.W.Sink.contents in
-    let failures = g.W.Sink.failures in
+    let stream = g.W.Sink.stream in
     let out = c.args.out.now in
     let held = c.args.buffer.now in
     let decisions = c.args.decisions.items in
     let now = c.put_reply.new.out in
     let middle = c.put_reply.new.buffer in
     let same : c.as_bytes.result.now ≡ verdict_text decisions = c.as_bytes.ensures.value ∙ c.verdict-verdict.ensures ∙ ap verdict_text c.as_slice.ensures.value in
-    put_more contents failures out now c.put.new.out held middle c.put.new.self (decisions_text decisions) (verdict_text decisions) c.in_ok-put_reply.ensures
-    (subst (IsPut contents failures now middle c.put.new.out c.put.new.self) same c.in_ok-put.ensures.ok)
+    put_more stream out now c.put.new.out held middle c.put.new.self (decisions_text decisions) (verdict_text decisions) c.in_ok-put_reply.ensures
+    (subst (IsPut stream now middle c.put.new.out c.put.new.self) same c.in_ok-put.ensures.ok)

@@ -8,7 +8,7 @@ use Rattle.cdb_play.proofs.RaceGrowth.{texts, one_reply, parted_replies}
 use Rattle.cdb_play.proofs.races.text.put_replies.Goals as goal
 
 pub loop-reply-init : goal.loop-reply-init
-loop-reply-init g c = put_nothing _ _ _ _
+loop-reply-init g c = put_nothing g.W.Sink.stream _ _
 
 pub returns-in_err-put_reply : goal.returns-in_err-put_reply
 returns-in_err-put_reply g c =
@@ -17,12 +17,12 @@ returns-in_err-put_reply g c =
     let i = c.loop-reply.reply-index in
     let reply = c.reply-item.result in
     rw (p.1, p.2)
-    (cut_short _ _ (Unit {0}) c.in_err-put_reply.field-0.0 _ _ _ _ _ _ (texts (take i replies)) (text_of (told reply)) (texts (drop (i + 1) replies)) (texts replies) c.loop-reply.invariant (parted_replies replies i reply c.reply-item.is c.loop-reply-test.true) c.in_err-put_reply.ensures)
+    (cut_short g.W.Sink.stream (Unit {0}) c.in_err-put_reply.field-0.0 _ _ _ _ _ _ (texts (take i replies)) (text_of (told reply)) (texts (drop (i + 1) replies)) (texts replies) c.loop-reply.invariant (parted_replies replies i reply c.reply-item.is c.loop-reply-test.true) c.in_err-put_reply.ensures)
 
 pub loop-reply-preserved : goal.loop-reply-preserved
 loop-reply-preserved g c =
     let replies = c.args.replies.now in
     let i = c.loop-reply.reply-index in
     let reply = c.reply-item.result in
-    subst (IsPut g.W.Sink.contents g.W.Sink.failures c.args.out.now c.args.buffer.now c.put_reply.new.out c.put_reply.new.buffer) (sym (one_reply replies i reply c.reply-item.is c.loop-reply-test.true))
-    (put_more _ _ _ _ _ _ _ _ (texts (take i replies)) (text_of (told reply)) c.loop-reply.invariant c.in_ok-put_reply.ensures)
+    subst (IsPut g.W.Sink.stream c.args.out.now c.args.buffer.now c.put_reply.new.out c.put_reply.new.buffer) (sym (one_reply replies i reply c.reply-item.is c.loop-reply-test.true))
+    (put_more g.W.Sink.stream _ _ _ _ _ _ (texts (take i replies)) (text_of (told reply)) c.loop-reply.invariant c.in_ok-put_reply.ensures)

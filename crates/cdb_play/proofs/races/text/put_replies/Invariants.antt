@@ -4,4 +4,4 @@ use Rattle.cdb_play.proofs.RaceGrowth.{texts}
 use Rattle.cdb_play.proofs.races.text.put_replies.Given as goal
 
 abbrev pub invariant-loop-reply : goal.invariant-loop-reply
-invariant-loop-reply g l = IsPut g.W.Sink.contents g.W.Sink.failures l.initial.out l.initial.buffer l.out l.buffer (texts (take l.reply-index l.replies))
+invariant-loop-reply g l = IsPut g.W.Sink.stream l.initial.out l.initial.buffer l.out l.buffer (texts (take l.reply-index l.replies))

@@ -9,7 +9,7 @@ use Rattle.cdb_play.proofs.RaceGrowth.{one_seat, parted_seats}
 use Rattle.cdb_play.proofs.races.text.put_seats.Goals as goal
 
 pub loop-replies-init : goal.loop-replies-init
-loop-replies-init g c = record { seat = omega arith; put = put_nothing _ _ _ _ }
+loop-replies-init g c = record { seat = omega arith; put = put_nothing g.W.Sink.stream _ _ }
 
 pub returns-in_err-put_seat : goal.returns-in_err-put_seat
 returns-in_err-put_seat g c =
@@ -20,7 +20,7 @@ returns-in_err-put_seat g c =
     let replies = c.replies-item.result in
     let so = c.loop-replies.invariant in
     rw (p.1, p.2)
-    (cut_short _ _ (Unit {0}) c.in_err-put_seat.field-0.0 _ _ _ _ _ _ (seats_text first (all_told (take i seats))) (seat_text (first + i) (map told replies.items)) (seats_text (first + i + 1) (all_told (drop (i + 1) seats))) _
+    (cut_short g.W.Sink.stream (Unit {0}) c.in_err-put_seat.field-0.0 _ _ _ _ _ _ (seats_text first (all_told (take i seats))) (seat_text (first + i) (map told replies.items)) (seats_text (first + i + 1) (all_told (drop (i + 1) seats))) _
     so.put (parted_seats first seats i replies c.replies-item.is c.loop-replies-test.true) (rw (c.as_slice.ensures.value, so.seat) at c.in_err-put_seat.ensures))
 
 pub loop-replies-preserved : goal.loop-replies-preserved
@@ -33,6 +33,6 @@ loop-replies-preserved g c =
     record {
       seat = omega (arith, so.seat);
       put =
-          subst (IsPut g.W.Sink.contents g.W.Sink.failures c.args.out.now c.args.buffer.now c.put_seat.new.out c.put_seat.new.buffer) (sym (one_seat first seats i replies c.replies-item.is c.loop-replies-test.true))
-          (put_more _ _ _ _ _ _ _ _ (seats_text first (all_told (take i seats))) (seat_text (first + i) (map told replies.items)) so.put (rw (c.as_slice.ensures.value, so.seat) at c.in_ok-put_seat.ensures));
+          subst (IsPut g.W.Sink.stream c.args.out.now c.args.buffer.now c.put_seat.new.out c.put_seat.new.buffer) (sym (one_seat first seats i replies c.replies-item.is c.loop-replies-test.true))
+          (put_more g.W.Sink.stream _ _ _ _ _ _ (seats_text first (all_told (take i seats))) (seat_text (first + i) (map told replies.items)) so.put (rw (c.as_slice.ensures.value, so.seat) at c.in_ok-put_seat.ensures));
     }

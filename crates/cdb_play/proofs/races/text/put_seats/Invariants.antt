@@ -7,5 +7,5 @@ use Rattle.cdb_play.proofs.races.text.put_seats.Given as goal
 abbrev pub invariant-loop-replies : goal.invariant-loop-replies
 invariant-loop-replies g l = record {
   seat : l.seat ≡ l.first + l.replies-index;
-  put : IsPut g.W.Sink.contents g.W.Sink.failures l.initial.out l.initial.buffer l.out l.buffer (seats_text l.first (all_told (take l.replies-index l.seats)));
+  put : IsPut g.W.Sink.stream l.initial.out l.initial.buffer l.out l.buffer (seats_text l.first (all_told (take l.replies-index l.seats)));
 }
