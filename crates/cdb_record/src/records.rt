@@ -14,7 +14,7 @@ ghost use Rattle.cdb_causal.specs.Rollback.{without};
 ghost use Rattle.cdb_causal.specs.Standing.{HasNoLostCopy};
 ghost use Rattle.cdb_record.specs.Counts.{dependents_at};
 ghost use Rattle.cdb_record.specs.Recorded.{events_of, recorded_of};
-ghost use Rattle.cdb_record.specs.Taken.{IsKept, IsTakenFree, IsTakenOut, IsStepOf, IsLastStepOf, TakesWhereFree};
+ghost use Rattle.cdb_record.specs.Taken.{IsKept, IsTakenFree, IsStepOf, IsLastStepOf, TakesWhereFree};
 ghost use Rattle.cdb_record.specs.declared.recorded.Left.{Left as WhatIsLeft};
 
 use crate::recorded::{Left, Recorded};
