@@ -1,7 +1,6 @@
 //! A run of either algorithm, as one that keeps to the rules of its setup.
 
-ghost use Rattle.std.specs.Prelude.{◌≡◌, ◌≤◌, ◌++◌, OnOk, option_to_list, vec_capacity};
-ghost use Rattle.cdb_rules.specs.EventRefs.{name_given};
+ghost use Rattle.std.specs.Prelude.{◌≡◌, ◌≤◌, ◌++◌, OnOk, option_to_list};
 ghost use Rattle.cdb_rules.specs.Views.{open_copies, shown_copy};
 ghost use Rattle.cdb_agreement.proofs.KeptHistories.{rules_keep_histories};
 ghost use Rattle.cdb_agreement.proofs.Lawful.{rules_are_lawful};
@@ -9,7 +8,6 @@ ghost use Rattle.cdb_rules.specs.Algorithms.{rules as rules_of_setup};
 ghost use Rattle.cdb_any_run.specs.Any.{run_view, IsTrueToSetup};
 ghost use Rattle.cdb_rules.specs.ByRules.{mail_in};
 ghost use Rattle.cdb_rules.specs.RunView.{RunView};
-ghost use Rattle.cdb_rules.specs.Runs.{RollsBackOnto, Tells, causes_in};
 ghost use Rattle.cdb_rules.specs.SameState.{ReachSameState};
 
 use crate::any::AnyRun;

@@ -1,6 +1,5 @@
 //! The texts of refusals.
 
-ghost use Rattle.std.specs.Prelude.{◌≡◌};
 ghost use Rattle.cdb_text.specs.Pushes.{Pushes};
 ghost use Rattle.cdb_base.specs.Refusal.{refusal_detail, refusal_text};
 
