@@ -1,6 +1,6 @@
 -- Seats are opened one after the other, and what is known of their sessions.
-use Rattle.std.proofs.Common.{◌≡◌, ℕ, ◌+◌, ◌<◌, List, [], ◌∷◌, ◌++◌, length, get_or, take, drop, map, Option, Bor, refl, sym, ap, subst, ◌∙◌, append_assoc, arith}
-use Rattle.std.specs.Prelude.{Result, Ok, Err}
+use Rattle.std.proofs.Common.{◌≡◌, ℕ, ◌+◌, ◌<◌, List, [], ◌∷◌, ◌++◌, length, get_or, take, drop, map, Bor, refl, sym, ap, subst, ◌∙◌, append_assoc, arith}
+use Rattle.std.specs.Prelude.{Result, Err}
 use Rattle.std.proofs.lemmas.List.{length-map, get_or-map}
 use Rattle.cdb_debug.specs.Moves.{Known}
 use Rattle.cdb_hall.specs.Halls.{IsAttended}

@@ -1,9 +1,9 @@
 -- What is known of readers and writers, as streams.
-use Rattle.std.proofs.Common.{◌≡◌, ℕ, List, Result, Err, ap, inl, inr}
+use Rattle.std.proofs.Common.{◌≡◌, ℕ, List, Result, Ok, Err, ap, inl, inr}
 use Rattle.std.specs.Prelude.{IfErr}
 use Rattle.cdb_play.specs.Endings.{Ending, Complete, WriterFailed, CutShort, NotBegun, play_ending}
 use Rattle.cdb_play.specs.Faults.{IsFaultOfPlay}
-use Rattle.cdb_play.specs.Streams.{FailsWhere, Stream}
+use Rattle.cdb_play.specs.Streams.{FailsWhere, Stream, Writes}
 use Rattle.cdb_play.specs.Transcripts.{Plays, RestsOnHeadline}
 use Rattle.cdb_play.specs.Written.{IsWritten}
 use Rattle.cdb_play.specs.declared.fault.PlayFault.{PlayFault}
@@ -20,6 +20,11 @@ stream_written stream WriterFailed old new IsText wrote = wrote
 stream_written stream CutShort old new IsText (inl same) = inl (ap stream same)
 stream_written stream CutShort old new IsText (inr wrote) = inr wrote
 stream_written stream NotBegun old new IsText same = ap stream same
+
+-- the same where nothing but the writer can fail
+pub stream_writes : {W : Type 0} (stream : W → Stream) (A E : Type 0) (result : Result A E) (old new : W) (text : List ℕ) → Writes stream result old new text → Writes (λ (s : Stream). s) result (stream old) (stream new) text
+stream_writes stream A E (Ok done) old new text wrote = wrote
+stream_writes stream A E (Err failed) old new text wrote = wrote
 
 -- what a play says of its reader and its writer
 pub play_seen : {R W : Type 0} (reader : R → Stream) (writer : W → Stream) (json : List ℕ) (played : Result (Unit {0}) PlayFault) (script rest : R) (old new : W)
