@@ -14,7 +14,7 @@ use Rattle.cdb_causal.specs.Names.{IsNamedAt, IsNewName}
 use Rattle.cdb_causal.specs.Rollback.{without, remaining, rolled_back}
 use Rattle.cdb_rules.specs.State.{Machine, RunState}
 use Rattle.cdb_rules.specs.Step.{after, fold, IsValid, state_of}
-use Rattle.cdb_rules.specs.Undo.{IsEventNamed, has_name, names_processes, undo_of, rollback_of}
+use Rattle.cdb_rules.specs.Undo.{IsEventNamed, is_named, names_processes, undo_of, rollback_of}
 use Rattle.cdb_setup.specs.Parts.{Parts, AreInRange}
 
 -- ---- of what
@@ -84,14 +84,14 @@ AllLeadBack machine left events history = fold machine (left ++ events) ≡ fold
 -- the event has the name and is free, and all others are left
 abbrev pub IsUndone : List Event → StepId → Event → List Event → Type 0
 IsUndone history name event left =
-    (i : ℕ) × (has_name name event ≡ true) × (slice_get history i ≡ Some event) × IsFree depends history i × (left ≡ without history i)
+    (i : ℕ) × (is_named name event ≡ true) × (slice_get history i ≡ Some event) × IsFree depends history i × (left ≡ without history i)
 
 -- an event has the name, and it is taken with its consequences, the last first; all others are left
 abbrev pub IsRolledBackTo : List Event → StepId → List Event → List Event → Type 0
 IsRolledBackTo history name taken left =
     (i : ℕ)
     × (event : Event)
-    × (has_name name event ≡ true)
+    × (is_named name event ≡ true)
     × (slice_get history i ≡ Some event)
     × (taken ≡ reverse (rolled_back depends history i))
     × (left ≡ remaining depends history i)

@@ -14,7 +14,7 @@ use Rattle.cdb_control.specs.Commands.{Outcome, unless, granted, found, unpaused
 use Rattle.cdb_control.specs.Done.{NoneShrinks}
 use Rattle.cdb_rules.specs.EventRefs.{name_given}
 use Rattle.cdb_rules.proofs.Removed.{removed-one}
-use Rattle.cdb_control.specs.Room.{StoredList, StoredState, HasRoom, cost, room_of, lowered, raised, rooms_at}
+use Rattle.cdb_control.specs.Room.{StoredList, StoredState, HoldsRooms, cost, room_of, lowered, raised, rooms_at}
 use Rattle.cdb_control.specs.State.{State, redo_of, last_of}
 use Rattle.cdb_control.specs.Stops.{names_none_of}
 use Rattle.cdb_control.specs.declared.command.Command.{Command}
@@ -212,11 +212,11 @@ less-at (r ∷ rs) zero = refl
 less-at (r ∷ rs) (suc i) = less-at rs i
 
 -- after a command there is as much less room as it can have taken
-pub HasRoom-next : (n space space' : ℕ) (rooms : List ℕ) (seat : ℕ) (was next : StoredState) (o : Outcome)
-    → HasRoom n space rooms was → seat - 1 < length was.state.redo → Spends seat was.state o → o.after ≡ next.state → length next.state.redo ≡ length was.state.redo
+pub HoldsRooms-next : (n space space' : ℕ) (rooms : List ℕ) (seat : ℕ) (was next : StoredState) (o : Outcome)
+    → HoldsRooms n space rooms was → seat - 1 < length was.state.redo → Spends seat was.state o → o.after ≡ next.state → length next.state.redo ≡ length was.state.redo
     → ((i : ℕ) → get_or was.capacities i 0 ≤ get_or next.capacities i 0) → space ≤ space'
-    → HasRoom (n + 1) space' (lowered rooms seat o.reply) next
-HasRoom-next n space space' rooms seat was next o room low spends after long grown more =
+    → HoldsRooms (n + 1) space' (lowered rooms seat o.reply) next
+HoldsRooms-next n space space' rooms seat was next o room low spends after long grown more =
     let seats = room.seats in
     let many = length-map rooms (λ r. r - 1) in
     let one = spends.one in
@@ -253,12 +253,12 @@ zero_or_some zero G none some = none refl
 zero_or_some (suc r) G none some = some (omega arith)
 
 -- memory was made for more
-pub HasRoom-raised : (n space space' : ℕ) (rooms : List ℕ) (seat count : ℕ) (was next : StoredState)
-    → HasRoom n space rooms was → seat - 1 < length was.state.redo → next.state ≡ was.state
+pub HoldsRooms-raised : (n space space' : ℕ) (rooms : List ℕ) (seat count : ℕ) (was next : StoredState)
+    → HoldsRooms n space rooms was → seat - 1 < length was.state.redo → next.state ≡ was.state
     → n + count ≤ space' → space ≤ space' → length (redo_of was.state seat) + count ≤ get_or next.capacities (seat - 1) 0
     → ((i : ℕ) → get_or was.capacities i 0 ≤ get_or next.capacities i 0)
-    → HasRoom n space' (raised rooms seat count) next
-HasRoom-raised n space space' rooms seat count was next room low same journal more list grown =
+    → HoldsRooms n space' (raised rooms seat count) next
+HoldsRooms-raised n space space' rooms seat count was next room low same journal more list grown =
     let seats = room.seats in
     let long = ap (λ (t : State). length t.redo) same in
     let raised-there = get_or-set_same rooms (seat - 1) (max count (room_of rooms seat)) 0 (omega (arith, seats, low)) in
@@ -290,8 +290,8 @@ HasRoom-raised n space space' rooms seat count was next room low same journal mo
     }
 
 -- nobody was promised anything
-pub HasRoom-first : (space seats : ℕ) (stored : StoredState) → length stored.state.redo ≡ seats → HasRoom 0 space (rooms_at 0 (replicate seats 0)) stored
-HasRoom-first space seats stored long =
+pub HoldsRooms-first : (space seats : ℕ) (stored : StoredState) → length stored.state.redo ≡ seats → HoldsRooms 0 space (rooms_at 0 (replicate seats 0)) stored
+HoldsRooms-first space seats stored long =
     record {
       seats = length-map (replicate seats 0) (λ mark. mark - 0) ∙ length-replicate seats 0 ∙ sym long;
       journal = λ i some. absurd (let none = no-rooms seats i in omega (arith, none, some));
@@ -299,8 +299,8 @@ HasRoom-first space seats stored long =
     }
 
 -- where the state is as it was, and no memory was given back, the room is as it was
-pub HasRoom-kept : (n space space' : ℕ) (rooms : List ℕ) (was next : StoredState) → HasRoom n space rooms was → space ≤ space' → next.state ≡ was.state → NoneShrinks was.capacities next.capacities → HasRoom n space' rooms next
-HasRoom-kept n space space' rooms was next room more same grown =
+pub HoldsRooms-kept : (n space space' : ℕ) (rooms : List ℕ) (was next : StoredState) → HoldsRooms n space rooms was → space ≤ space' → next.state ≡ was.state → NoneShrinks was.capacities next.capacities → HoldsRooms n space' rooms next
+HoldsRooms-kept n space space' rooms was next room more same grown =
     record {
       seats = room.seats ∙ ap (λ (t : State). length t.redo) (sym same);
       journal = λ i some. let fits = room.journal i some in omega (arith, fits, more);

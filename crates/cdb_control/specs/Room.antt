@@ -58,7 +58,7 @@ abbrev pub HasSpace : StoredState → ℕ → Type 0
 HasSpace stored seat = length (redo_of stored.state seat) < capacity_of stored seat
 
 -- memory holds what each seat was promised: space in the journal, and in its redo list
-pub record HasRoom (entries space : ℕ) (rooms : List ℕ) (stored : StoredState) : Type 0 where
+pub record HoldsRooms (entries space : ℕ) (rooms : List ℕ) (stored : StoredState) : Type 0 where
   pub seats : length rooms ≡ length stored.state.redo
   pub journal : (i : ℕ) → 0 < slice_index_or rooms i 0 → entries + slice_index_or rooms i 0 ≤ space
   pub lists : (i : ℕ) → 0 < slice_index_or rooms i 0

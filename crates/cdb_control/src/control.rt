@@ -88,7 +88,7 @@ pub struct Control<R: Runs> {
 impl<R: Runs> Model for Control<R> {
     ghost use Rattle.std.specs.Prelude.{vec_len, vec_capacity};
     ghost use Rattle.cdb_control.specs.Journal.{Journaled, IsReplayed};
-    ghost use Rattle.cdb_control.specs.Room.{HasRoom, rooms_at};
+    ghost use Rattle.cdb_control.specs.Room.{HoldsRooms, rooms_at};
 
     ghost Value = { Journaled };
 
@@ -101,7 +101,7 @@ impl<R: Runs> Model for Control<R> {
 
     ghost invariant = { λ c. IsReplayed (R.rules c.state.state.setup)
         c.state.state.setup c.seats c.journal.items c.state.state
-        × HasRoom (vec_len c.journal) (vec_capacity c.journal)
+        × HoldsRooms (vec_len c.journal) (vec_capacity c.journal)
         (rooms_at (vec_len c.journal) c.marks.items) c.state };
 }
 

@@ -14,7 +14,7 @@ use Rattle.cdb_causal.specs.Causality.{IsFree}
 use Rattle.cdb_causal.specs.Dependence.{depends}
 use Rattle.cdb_causal.specs.Names.{IsNamedAt}
 use Rattle.cdb_causal.specs.Rollback.{without, remaining, rolled_back}
-use Rattle.cdb_rules.specs.Undo.{Found, found_at, event_named, for_standing, undo_found, undo_of, rollback_of, names_processes, has_name}
+use Rattle.cdb_rules.specs.Undo.{Found, found_at, event_named, for_standing, undo_found, undo_of, rollback_of, names_processes, is_named}
 use Rattle.cdb_rules.specs.State.{Machine}
 use Rattle.cdb_rules.specs.Step.{IsValid, after, fold, state_of}
 use Rattle.cdb_rules.proofs.Answering.{get-drop, found_is}
@@ -44,25 +44,25 @@ same_Ok one other h = cc
 -- what is answered Ok is the answer for an event of that name that stands
 module _ {A : Type 0} (history : List Event) (name : StepId) (answer : Found → Result A Refusal) (done : A) where
   abbrev StandsAnswered : Type 0
-  StandsAnswered = (i : ℕ) × (event : Event) × (has_name name event ≡ true) × (slice_get history i ≡ Some event) × (answer (found history i event) ≡ Ok done)
+  StandsAnswered = (i : ℕ) × (event : Event) × (is_named name event ≡ true) × (slice_get history i ≡ Some event) × (answer (found history i event) ≡ Ok done)
 
-  by_slice : (i : ℕ) → position (has_name name) history ≡ Some i → (o : Option Event) → slice_get history i ≡ o → for_standing (option_map_or (λ event. Ok (found history i event)) o (Err refusal.NoStep)) answer ≡ Ok done → StandsAnswered
+  by_slice : (i : ℕ) → position (is_named name) history ≡ Some i → (o : Option Event) → slice_get history i ≡ o → for_standing (option_map_or (λ event. Ok (found history i event)) o (Err refusal.NoStep)) answer ≡ Ok done → StandsAnswered
   by_slice i there None e h = not_ok refusal.NoStep done h
   by_slice i there (Some event) e h = (
     i,
     event,
-    sym (ap (has_name name) (get_or_from_slice_get history i event event e)) ∙ (position-Some (has_name name) history i event there).1,
+    sym (ap (is_named name) (get_or_from_slice_get history i event event e)) ∙ (position-Some (is_named name) history i event there).1,
     e,
     h,
   )
 
-  by_position : (o : Option ℕ) → position (has_name name) history ≡ o → for_standing (option_map_or (found_at history) o (Err refusal.NoStep)) answer ≡ Ok done → StandsAnswered
+  by_position : (o : Option ℕ) → position (is_named name) history ≡ o → for_standing (option_map_or (found_at history) o (Err refusal.NoStep)) answer ≡ Ok done → StandsAnswered
   by_position None there h = not_ok refusal.NoStep done h
   by_position (Some i) there h = by_slice i there (slice_get history i) refl h
 
-  by_names : (b : Bool) → for_standing (if b then option_map_or (found_at history) (position (has_name name) history) (Err refusal.NoStep) else Err refusal.NoProcess) answer ≡ Ok done → StandsAnswered
+  by_names : (b : Bool) → for_standing (if b then option_map_or (found_at history) (position (is_named name) history) (Err refusal.NoStep) else Err refusal.NoProcess) answer ≡ Ok done → StandsAnswered
   by_names false h = not_ok refusal.NoProcess done h
-  by_names true h = by_position (position (has_name name) history) refl h
+  by_names true h = by_position (position (is_named name) history) refl h
 
   stands_answered : (n : ℕ) → for_standing (event_named n history name) answer ≡ Ok done → StandsAnswered
   stands_answered n h = by_names (names_processes n name) h
@@ -91,13 +91,13 @@ module _ (history : List Event) (i : ℕ) (event : Event) (at : slice_get histor
       let same : ◌≡◌ {A = Event × List Event} (event, without history i) done = same_Ok (event, without history i) done h in
       (at ∙ ap (λ d. Some d.0) same, free_if e, sym (ap (λ d. d.1) same))
 
-pub undone_free : (n : ℕ) (history : List Event) (name : StepId) (event : Event) (left : List Event) → undo_of n history name ≡ Ok (event, left) → (i : ℕ) × (has_name name event ≡ true) × (slice_get history i ≡ Some event) × IsFree depends history i × (left ≡ without history i)
+pub undone_free : (n : ℕ) (history : List Event) (name : StepId) (event : Event) (left : List Event) → undo_of n history name ≡ Ok (event, left) → (i : ℕ) × (is_named name event ≡ true) × (slice_get history i ≡ Some event) × IsFree depends history i × (left ≡ without history i)
 undone_free n history name event left answer =
     let done : Event × List Event = (event, left) in
     let s = stands_answered history name (undo_found history) done n answer in
     let u = by_find history s.0 s.1 s.3 done (find (depends s.1) (drop (suc s.0) history)) refl s.4 in
     let same = same_Some s.1 event (sym s.3 ∙ u.0) in
-    (s.0, subst (λ e. has_name name e ≡ true) same s.2, u.0, u.1, u.2)
+    (s.0, subst (λ e. is_named name e ≡ true) same s.2, u.0, u.1, u.2)
 
 pub undone_back : {L : Type 0} (machine : Machine L) (n : ℕ) (history : List Event) (name : StepId) (event : Event) (left : List Event) → undo_of n history name ≡ Ok (event, left) → IsValid machine history
     → IsValid machine left × (after machine (state_of machine left) event ≡ Some (state_of machine history))
@@ -107,7 +107,7 @@ undone_back machine n history name event left answer valid =
     (undo_valid machine history u.0 event u.2 u.3 valid, undo_again machine history u.0 event u.2 u.3 valid)
 
 pub rolled_back_answered : (n : ℕ) (history : List Event) (name : StepId) (taken left : List Event) → rollback_of n history name ≡ Ok (taken, left)
-    → (i : ℕ) × (event : Event) × (has_name name event ≡ true) × (slice_get history i ≡ Some event) × (taken ≡ reverse (rolled_back depends history i)) × (left ≡ remaining depends history i)
+    → (i : ℕ) × (event : Event) × (is_named name event ≡ true) × (slice_get history i ≡ Some event) × (taken ≡ reverse (rolled_back depends history i)) × (left ≡ remaining depends history i)
 rolled_back_answered n history name taken left answer =
     let done : List Event × List Event = (taken, left) in
     let s = stands_answered history name (λ standing. Ok (reverse (rolled_back depends history standing.position), remaining depends history standing.position)) done n answer in

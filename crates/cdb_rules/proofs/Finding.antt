@@ -15,7 +15,7 @@ use Rattle.cdb_base.specs.declared.refusal.Refusal.TheVariants as refusal
 use Rattle.cdb_causal.specs.Names.{IsNewName, IsPositionOf}
 use Rattle.cdb_rules.specs.State.{Machine}
 use Rattle.cdb_rules.specs.Step.{IsValid, is_among}
-use Rattle.cdb_rules.specs.Undo.{has_name, names_processes, found_at, event_named}
+use Rattle.cdb_rules.specs.Undo.{is_named, names_processes, found_at, event_named}
 use Rattle.cdb_rules.proofs.Kept.{is_false}
 use Rattle.cdb_rules.proofs.Limits.{step_within, loss_within}
 use Rattle.cdb_rules.proofs.Naming.{in_position}
@@ -64,7 +64,7 @@ is_same a b h = grind (arith, nat_tests)
 itself : (a : ℕ) → (a == a) ≡ true
 itself a = grind (arith, nat_tests)
 
-pub has_name_is : (name : StepId) (event : Event) → has_name name event ≡ true → event_name event ≡ name
+pub has_name_is : (name : StepId) (event : Event) → is_named name event ≡ true → event_name event ≡ name
 has_name_is (named.Step name) (Step p k kind) h =
     let parts = both (p == name.p) (k == name.k) h in
     ap₂ (λ q l. named.Step (record { p = q; k = l })) (is_same p name.p parts.0) (is_same k name.k parts.1)
@@ -79,24 +79,24 @@ has_name_is (named.Lost copy) (Lost other) h =
       to = is_same other.to copy.to parts.1 i;
     })
 
-has_own_name : (event : Event) → has_name (event_name event) event ≡ true
+has_own_name : (event : Event) → is_named (event_name event) event ≡ true
 has_own_name (Step p k kind) = ap₂ (λ a b. a && b) (itself p) (itself k)
 has_own_name (Lost copy) = ap₂ (λ a b. a && b) (ap₂ (λ a b. a && b) (itself copy.msg.s) (itself copy.msg.m)) (itself copy.to)
 
-named_has : (name : StepId) (event : Event) → event_name event ≡ name → has_name name event ≡ true
-named_has name event is = subst (λ n. has_name n event ≡ true) is (has_own_name event)
+named_has : (name : StepId) (event : Event) → event_name event ≡ name → is_named name event ≡ true
+named_has name event is = subst (λ n. is_named n event ≡ true) is (has_own_name event)
 
 module _ (history : List Event) (name : StepId) where
-  stands_at : (at : ℕ) → IsPositionOf history name at → position (has_name name) history ≡ Some (at - 1)
+  stands_at : (at : ℕ) → IsPositionOf history name at → position (is_named name) history ≡ Some (at - 1)
   stands_at at position =
-      position_is (has_name name) history (at - 1) position.named.0 position.named.1 (named_has name position.named.0 position.named.2)
-      (λ k y less at_k. is_false (has_name name y) (λ h. let same = position.only k (y, at_k, has_name_is name y h) in omega (arith, less, same)))
+      position_is (is_named name) history (at - 1) position.named.0 position.named.1 (named_has name position.named.0 position.named.2)
+      (λ k y less at_k. is_false (is_named name y) (λ h. let same = position.only k (y, at_k, has_name_is name y h) in omega (arith, less, same)))
 
-  new_is : IsNewName history name → position (has_name name) history ≡ None
-  new_is new = position_none (has_name name) history (λ k y at_k. is_false (has_name name y) (λ h. new k (y, at_k, has_name_is name y h)))
+  new_is : IsNewName history name → position (is_named name) history ≡ None
+  new_is new = position_none (is_named name) history (λ k y at_k. is_false (is_named name y) (λ h. new k (y, at_k, has_name_is name y h)))
 
   module _ (n : ℕ) where
-    found_by : (o : Option ℕ) → names_processes n name ≡ true → position (has_name name) history ≡ o → event_named n history name ≡ option_map_or (found_at history) o (Err refusal.NoStep)
+    found_by : (o : Option ℕ) → names_processes n name ≡ true → position (is_named name) history ≡ o → event_named n history name ≡ option_map_or (found_at history) o (Err refusal.NoStep)
     found_by o there is = ap₂ (λ b p. if b then option_map_or (found_at history) p (Err refusal.NoStep) else Err refusal.NoProcess) there is
 
     pub stands_named : (at : ℕ) → names_processes n name ≡ true → IsPositionOf history name at → event_named n history name ≡ found_at history (at - 1)
@@ -106,7 +106,7 @@ module _ (history : List Event) (name : StepId) where
     none_named there new = found_by None there (new_is new)
 
     pub no_process_named : names_processes n name ≡ false → event_named n history name ≡ Err refusal.NoProcess
-    no_process_named absent = ap (λ b. if b then option_map_or (found_at history) (position (has_name name) history) (Err refusal.NoStep) else Err refusal.NoProcess) absent
+    no_process_named absent = ap (λ b. if b then option_map_or (found_at history) (position (is_named name) history) (Err refusal.NoStep) else Err refusal.NoProcess) absent
 
 pub position_within : (history : List Event) (name : StepId) (at : ℕ) → IsPositionOf history name at → at ≤ length history
 position_within history name at position = let below = slice_get_within history (at - 1) position.named.0 position.named.1 in let first = position.from_one in omega (arith, below, first)

@@ -9,7 +9,7 @@ use Rattle.cdb_base.specs.declared.refusal.Refusal.{Refusal}
 use Rattle.cdb_causal.specs.Dependence.{depends}
 use Rattle.cdb_causal.specs.Rollback.{without, depends_on_one, caught, spared, rolled_back, remaining}
 use Rattle.cdb_rules.proofs.Alls.{all-append}
-use Rattle.cdb_rules.specs.Undo.{Found, has_name, names_processes, found_at, event_named, undo_of, rollback_of, answered, number_removed}
+use Rattle.cdb_rules.specs.Undo.{Found, is_named, names_processes, found_at, event_named, undo_of, rollback_of, answered, number_removed}
 
 option_cases : {A : Type 0} (G : Type 0) (o : Option A) → (o ≡ None → G) → ((a : A) → o ≡ Some a → G) → G
 option_cases G None none some = none refl
@@ -39,7 +39,7 @@ at-position history position found h =
 standing-at : (n : ℕ) (history : List Event) (name : StepId) (found : Found) → event_named n history name ≡ Ok found → IsAt history found
 standing-at n history name found h =
     bool_cases (IsAt history found) (names_processes n name)
-    (λ named. option_cases (IsAt history found) (position (has_name name) history)
+    (λ named. option_cases (IsAt history found) (position (is_named name) history)
     (λ none. let f : event_named n history name ≡ Ok found → IsAt history found = rw (named, none) (λ k. absurd (cc)) in f h)
     (λ position some. let f : event_named n history name ≡ Ok found → IsAt history found = rw (named, some) (λ k. at-position history position found k) in f h))
     (λ unnamed. let f : event_named n history name ≡ Ok found → IsAt history found = rw unnamed (λ k. absurd (cc)) in f h)

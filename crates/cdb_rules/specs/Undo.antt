@@ -18,10 +18,10 @@ use Rattle.cdb_causal.specs.Rollback.{without, rolled_back, remaining}
 use Rattle.cdb_rules.specs.Step.{is_among}
 
 -- whether the event has the name
-abbrev pub has_name : StepId → Event → Bool
-has_name (named.Step name) (Step p k kind) = (p == name.p) && (k == name.k)
-has_name (named.Lost copy) (Lost other) = (other.msg.s == copy.msg.s) && (other.msg.m == copy.msg.m) && (other.to == copy.to)
-has_name name event = false
+abbrev pub is_named : StepId → Event → Bool
+is_named (named.Step name) (Step p k kind) = (p == name.p) && (k == name.k)
+is_named (named.Lost copy) (Lost other) = (other.msg.s == copy.msg.s) && (other.msg.m == copy.msg.m) && (other.to == copy.to)
+is_named name event = false
 
 -- the processes that the name names are among 1 to n
 abbrev pub names_processes : ℕ → StepId → Bool
@@ -50,7 +50,7 @@ found_at history position =
 -- the standing event of that name; the checks are that its processes are there, and that it stands
 abbrev pub event_named : ℕ → List Event → StepId → Result Found Refusal
 event_named n history name =
-    if names_processes n name then option_map_or (found_at history) (position (has_name name) history) (Err refusal.NoStep) else Err refusal.NoProcess
+    if names_processes n name then option_map_or (found_at history) (position (is_named name) history) (Err refusal.NoStep) else Err refusal.NoProcess
 
 -- the result for a standing event, or the refusal
 abbrev pub for_standing : {A : Type 0} → Result Found Refusal → (Found → Result A Refusal) → Result A Refusal

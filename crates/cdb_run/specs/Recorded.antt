@@ -37,8 +37,8 @@ OfRecorded {L} {B} Holds =
     → Holds machine before from records to
 
 -- of each of these that is free, with its position
-abbrev pub OfFree : {B : Type 0} → List (Recorded B) → (ℕ → Recorded B → Type 0) → Type 0
-OfFree {B} records Holds =
+abbrev pub OfFreeRecorded : {B : Type 0} → List (Recorded B) → (ℕ → Recorded B → Type 0) → Type 0
+OfFreeRecorded {B} records Holds =
     (i : ℕ) (recorded : Recorded B) → slice_get records i ≡ Some recorded → IsFree depends (events_of records) i → Holds i recorded
 
 -- the others lead to a state from which that one leads on

@@ -20,8 +20,8 @@ use Rattle.cdb_shared.specs.declared.knowledge.Stage.TheVariants.{Spent, Resting
 use Rattle.cdb_shared.specs.declared.knowledge.KnownSeat.{KnownSeat}
 use Rattle.cdb_shared.specs.declared.knowledge.Story.{Story}
 use Rattle.cdb_shared.specs.declared.knowledge.Knowledge.{Knowledge}
-use Rattle.cdb_shared.specs.Turn.{story, longer, MayFollow, seats_after, resting, Knows, AllKnow, seen_at, seen_by, Taken, Given, MayGive, known_seat_at, known_seats_from, first_alone, without_first, joined}
-use Rattle.cdb_shared.specs.Passes.{is_resting, IsOfOneSeat, only_of, known_seat_of, seat_of, HasNumber}
+use Rattle.cdb_shared.specs.Turn.{story, longer, MayFollow, seats_after, resting, Knows, AllKnow, seen_at, seen_by, TurnTaken, TurnGiven, MayGive, known_seat_at, known_seats_from, first_alone, without_first, joined_pass}
+use Rattle.cdb_shared.specs.Passes.{is_resting, IsOfOneSeat, only_of, known_seat_of, seat_of_pass, HasNumber}
 use Rattle.cdb_shared.specs.Seats.{SeatView, IsLater, IsCall, SameCalls, RestsAt, IsKnownBy, SeesHeadline, HasHeadline, fresh_seat, fresh_seats}
 
 -- the only seat of a pass, by what its list is
@@ -39,19 +39,19 @@ pub knows_one : (v : Knowledge) (c : Story) (one : IsOfOneSeat v) → AllKnow c 
 knows_one v c one all = (subst (λ (ps : List KnownSeat). AllKnow c ps) (only_is v.known_seats one) all).0
 
 -- a pass that has had the turn is of the one seat that it was of, which has seen the journal
-given_one : (v w x : Knowledge) (c after : Journaled) (one : IsOfOneSeat v) → Taken v c w → Given w after x → x ≡ resting (seen_at (story after) (known_seat_of v one) ∷ [])
+given_one : (v w x : Knowledge) (c after : Journaled) (one : IsOfOneSeat v) → TurnTaken v c w → TurnGiven w after x → x ≡ resting (seen_at (story after) (known_seat_of v one) ∷ [])
 given_one v w x c after one taken given =
     given ∙ ap (λ (u : Knowledge). resting (seats_after u.held u.known_seats (story after))) taken.0 ∙ ap (λ ps. resting (seen_by (story after) ps)) (only_is v.known_seats one)
 
-pub still_one : (v w x : Knowledge) (c after : Journaled) → IsOfOneSeat v → Taken v c w → Given w after x → IsOfOneSeat x
+pub still_one : (v w x : Knowledge) (c after : Journaled) → IsOfOneSeat v → TurnTaken v c w → TurnGiven w after x → IsOfOneSeat x
 still_one v w x c after one taken given =
     ap (λ (u : Knowledge). length u.known_seats) (given_one v w x c after one taken given)
 
-seen_one : (v w x : Knowledge) (c after : Journaled) (one : IsOfOneSeat v) (other : IsOfOneSeat x) → Taken v c w → Given w after x → known_seat_of x other ≡ seen_at (story after) (known_seat_of v one)
+seen_one : (v w x : Knowledge) (c after : Journaled) (one : IsOfOneSeat v) (other : IsOfOneSeat x) → TurnTaken v c w → TurnGiven w after x → known_seat_of x other ≡ seen_at (story after) (known_seat_of v one)
 seen_one v w x c after one other taken given = only_at x.known_seats other _ (ap (λ (u : Knowledge). u.known_seats) (given_one v w x c after one taken given))
 
 -- an executed command, or a refused one, may be given back
-pub may_give : (rules : Parts → Rules) (number : ℕ) (v w : Knowledge) (c after : Journaled) (command : Command) (r : Result Reply CallFault) (one : IsOfOneSeat v) → HasNumber number (known_seat_of v one) → Taken v c w → IfOk r (λ _. after ≡ extended rules c number command) → OnErr r (after ≡ c) → MayGive w after
+pub may_give : (rules : Parts → Rules) (number : ℕ) (v w : Knowledge) (c after : Journaled) (command : Command) (r : Result Reply CallFault) (one : IsOfOneSeat v) → HasNumber number (known_seat_of v one) → TurnTaken v c w → IfOk r (λ _. after ≡ extended rules c number command) → OnErr r (after ≡ c) → MayGive w after
 may_give rules number v w c after command (Ok reply) one its taken ok err =
     let is = taken.0 in (
       ap (λ (u : Knowledge). u.stage) is,
@@ -65,7 +65,7 @@ pub begins_after : (rules : Parts → Rules) (c after : Journaled) (number : ℕ
 begins_after rules c after number command (Ok reply) seen ok err begins = subst (λ (y : Journaled). Begins seen y.journal) (sym ok) (Begins-push seen c.journal (entry number command) begins)
 begins_after rules c after number command (Err fault) seen ok err begins = subst (λ (y : Journaled). Begins seen y.journal) (sym err) begins
 
-later_of : (home home' : TableId) (v w x : Knowledge) (c after : Journaled) (one : IsOfOneSeat v) (other : IsOfOneSeat x) → home' ≡ home → Taken v c w → Given w after x → Begins (known_seat_of v one).seen after.journal → IsLater (seat_of home v one) (seat_of home' x other)
+later_of : (home home' : TableId) (v w x : Knowledge) (c after : Journaled) (one : IsOfOneSeat v) (other : IsOfOneSeat x) → home' ≡ home → TurnTaken v c w → TurnGiven w after x → Begins (known_seat_of v one).seen after.journal → IsLater (seat_of_pass home v one) (seat_of_pass home' x other)
 later_of home home' v w x c after one other same taken given begins =
     let mine = seen_one v w x c after one other taken given in
     record {
@@ -78,11 +78,11 @@ later_of home home' v w x c after one other same taken given begins =
     }
 
 -- the seat, after the turn was given back
-pub later : (home home' : TableId) (v w x : Knowledge) (c after : Journaled) (old : SeatView) (one : IsOfOneSeat v) (other : IsOfOneSeat x) → seat_of home v one ≡ old → home' ≡ home → Taken v c w → Given w after x → Begins (known_seat_of v one).seen after.journal → IsLater old (seat_of home' x other)
-later home home' v w x c after old one other is same taken given begins = subst (λ (s : SeatView). IsLater s (seat_of home' x other)) is (later_of home home' v w x c after one other same taken given begins)
+pub later : (home home' : TableId) (v w x : Knowledge) (c after : Journaled) (old : SeatView) (one : IsOfOneSeat v) (other : IsOfOneSeat x) → seat_of_pass home v one ≡ old → home' ≡ home → TurnTaken v c w → TurnGiven w after x → Begins (known_seat_of v one).seen after.journal → IsLater old (seat_of_pass home' x other)
+later home home' v w x c after old one other is same taken given begins = subst (λ (s : SeatView). IsLater s (seat_of_pass home' x other)) is (later_of home home' v w x c after one other same taken given begins)
 
 -- and has its number
-pub still_numbered : (number : ℕ) (v w x : Knowledge) (c after : Journaled) (one : IsOfOneSeat v) (other : IsOfOneSeat x) → HasNumber number (known_seat_of v one) → Taken v c w → Given w after x → HasNumber number (known_seat_of x other)
+pub still_numbered : (number : ℕ) (v w x : Knowledge) (c after : Journaled) (one : IsOfOneSeat v) (other : IsOfOneSeat x) → HasNumber number (known_seat_of v one) → TurnTaken v c w → TurnGiven w after x → HasNumber number (known_seat_of x other)
 still_numbered number v w x c after one other its taken given =
     let mine = seen_one v w x c after one other taken given in
     record {
@@ -97,7 +97,7 @@ rests_stage Resting e = refl
 rests_stage Holding e = absurd (cc)
 
 -- the pass of a seat at rest
-pub rests_of : (home : TableId) (v : Knowledge) (one : IsOfOneSeat v) (seat : SeatView) → seat_of home v one ≡ seat → seat.rests ≡ true → v.stage ≡ Resting
+pub rests_of : (home : TableId) (v : Knowledge) (one : IsOfOneSeat v) (seat : SeatView) → seat_of_pass home v one ≡ seat → seat.rests ≡ true → v.stage ≡ Resting
 rests_of home v one seat is rests = rests_stage v.stage (ap (λ (s : SeatView). s.rests) is ∙ rests)
 
 -- the next seat to be dealt
@@ -124,7 +124,7 @@ pub dealt_rest : (c : Journaled) (dealt count : ℕ) (v left : Knowledge) → de
 dealt_rest c dealt count v left low is cut = cut ∙ ap without_first (is ∙ ap resting (known_seats_from-next c dealt count low))
 
 -- the seat of the pass that was dealt
-pub dealt_seat : (home home' : TableId) (c : Journaled) (dealt count : ℕ) (v alone : Knowledge) (one : IsOfOneSeat alone) → dealt < count → v ≡ resting (known_seats_from (story c) (dealt + 1) (count - dealt)) → alone ≡ first_alone v → home ≡ home' → seat_of home alone one ≡ fresh_seat home' c (1 + dealt)
+pub dealt_seat : (home home' : TableId) (c : Journaled) (dealt count : ℕ) (v alone : Knowledge) (one : IsOfOneSeat alone) → dealt < count → v ≡ resting (known_seats_from (story c) (dealt + 1) (count - dealt)) → alone ≡ first_alone v → home ≡ home' → seat_of_pass home alone one ≡ fresh_seat home' c (1 + dealt)
 dealt_seat home home' c dealt count v alone one low is cut same =
     let its = dealt_known c dealt count v alone one low is cut in
     let rests : is_resting alone.stage ≡ true = ap (λ (u : Knowledge). is_resting u.stage) (dealt_next c dealt count v alone low is cut) in
@@ -139,14 +139,14 @@ AllKnow-parts c [] qs all = (tt, all)
 AllKnow-parts c (p ∷ ps) qs all = let rest = AllKnow-parts c ps qs all.1 in ((all.0, rest.0), rest.1)
 
 -- a seat knows what its pass knows
-pub known_by : (home : TableId) (u : Knowledge) (one : IsOfOneSeat u) (seat : SeatView) (c : Journaled) → seat_of home u one ≡ seat → AllKnow (story c) u.known_seats → IsKnownBy c seat
+pub known_by : (home : TableId) (u : Knowledge) (one : IsOfOneSeat u) (seat : SeatView) (c : Journaled) → seat_of_pass home u one ≡ seat → AllKnow (story c) u.known_seats → IsKnownBy c seat
 known_by home u one seat c is all =
     let knows = knows_one u (story c) one all in
-    let known : IsKnownBy c (seat_of home u one) = record { setup = knows.setup; seats = knows.seats; begins = knows.begins; calls = knows.calls } in
+    let known : IsKnownBy c (seat_of_pass home u one) = record { setup = knows.setup; seats = knows.seats; begins = knows.begins; calls = knows.calls } in
     subst (IsKnownBy c) is known
 
 -- a seat whose pass was taken in knows what the joined pass knows
-pub known_joined : (home : TableId) (v u w : Knowledge) (one : IsOfOneSeat u) (seat : SeatView) (c : Journaled) → seat_of home u one ≡ seat → w ≡ joined v u → AllKnow (story c) w.known_seats → AllKnow (story c) v.known_seats × IsKnownBy c seat
+pub known_joined : (home : TableId) (v u w : Knowledge) (one : IsOfOneSeat u) (seat : SeatView) (c : Journaled) → seat_of_pass home u one ≡ seat → w ≡ joined_pass v u → AllKnow (story c) w.known_seats → AllKnow (story c) v.known_seats × IsKnownBy c seat
 known_joined home v u w one seat c is both all =
     let parts = AllKnow-parts (story c) u.known_seats v.known_seats (subst (λ (x : Knowledge). AllKnow (story c) x.known_seats) both all) in
     (parts.1, known_by home u one seat c is parts.0)
@@ -181,12 +181,12 @@ pub rest_dealt : (shared : TableId) (c : Journaled) (n : ℕ) (seats : List Seat
 rest_dealt shared c n seats is = subst (λ (l : List SeatView). All (λ seat. RestsAt shared seat) l) (sym is) (rest_fresh shared c 1 n)
 
 -- the pass that took another in, after it had the turn
-pub met_pass : (u v j w x : Knowledge) (c : Journaled) (one : IsOfOneSeat u) (two : IsOfOneSeat v) → j ≡ joined v u → Taken j c w → Given w c x → x ≡ resting (seen_at (story c) (known_seat_of u one) ∷ seen_at (story c) (known_seat_of v two) ∷ [])
+pub met_pass : (u v j w x : Knowledge) (c : Journaled) (one : IsOfOneSeat u) (two : IsOfOneSeat v) → j ≡ joined_pass v u → TurnTaken j c w → TurnGiven w c x → x ≡ resting (seen_at (story c) (known_seat_of u one) ∷ seen_at (story c) (known_seat_of v two) ∷ [])
 met_pass u v j w x c one two is taken given =
     given ∙ ap (λ (k : Knowledge). resting (seats_after k.held k.known_seats (story c))) taken.0 ∙ ap (λ (k : Knowledge). resting (seen_by (story c) k.known_seats)) is
     ∙ (λ i. resting (seen_by (story c) (only_is u.known_seats one i ++ only_is v.known_seats two i)))
 
-pub met_known : (u v j w : Knowledge) (c : Journaled) (one : IsOfOneSeat u) (two : IsOfOneSeat v) → j ≡ joined v u → Taken j c w → Knows (story c) (known_seat_of u one) × Knows (story c) (known_seat_of v two)
+pub met_known : (u v j w : Knowledge) (c : Journaled) (one : IsOfOneSeat u) (two : IsOfOneSeat v) → j ≡ joined_pass v u → TurnTaken j c w → Knows (story c) (known_seat_of u one) × Knows (story c) (known_seat_of v two)
 met_known u v j w c one two is taken =
     let all = subst (λ (k : Knowledge). AllKnow (story c) k.known_seats) is taken.1 in
     let both = subst (λ (ps : List KnownSeat). AllKnow (story c) ps) (λ i. only_is u.known_seats one i ++ only_is v.known_seats two i) all in
@@ -202,11 +202,11 @@ met_numbered number c p y one its is =
     subst (HasNumber number) (sym mine) (record { same = its.same; from_one = its.from_one; to_last = its.to_last })
 
 -- a seat of the pass that met
-pub met_later : (home home' : TableId) (v y : Knowledge) (c : Journaled) (b : SeatView) (one : IsOfOneSeat v) (other : IsOfOneSeat y) → seat_of home v one ≡ b → home' ≡ home → Knows (story c) (known_seat_of v one) → y ≡ resting (seen_at (story c) (known_seat_of v one) ∷ [])
-    → IsLater b (seat_of home' y other) × SameCalls b (seat_of home' y other).seen
+pub met_later : (home home' : TableId) (v y : Knowledge) (c : Journaled) (b : SeatView) (one : IsOfOneSeat v) (other : IsOfOneSeat y) → seat_of_pass home v one ≡ b → home' ≡ home → Knows (story c) (known_seat_of v one) → y ≡ resting (seen_at (story c) (known_seat_of v one) ∷ [])
+    → IsLater b (seat_of_pass home' y other) × SameCalls b (seat_of_pass home' y other).seen
 met_later home home' v y c b one other is same known after =
     let mine = only_at y.known_seats other _ (ap (λ (u : Knowledge). u.known_seats) after) in
-    subst (λ (s : SeatView). IsLater s (seat_of home' y other) × SameCalls s (seat_of home' y other).seen) is (
+    subst (λ (s : SeatView). IsLater s (seat_of_pass home' y other) × SameCalls s (seat_of_pass home' y other).seen) is (
       record {
         home = same;
         setup = ap (λ (p : KnownSeat). p.setup) mine;
@@ -215,11 +215,11 @@ met_later home home' v y c b one other is same known after =
         rests = ap (λ (u : Knowledge). is_resting u.stage) after;
         begins = subst (λ (l : List Entry). Begins (known_seat_of v one).seen l) (sym (ap (λ (p : KnownSeat). p.seen) mine)) known.begins;
       },
-      subst (λ (l : List Entry). SameCalls (seat_of home v one) l) (sym (ap (λ (p : KnownSeat). p.seen) mine)) known.calls,
+      subst (λ (l : List Entry). SameCalls (seat_of_pass home v one) l) (sym (ap (λ (p : KnownSeat). p.seen) mine)) known.calls,
     )
 
 -- what the one has seen is a beginning of what the other has
-pub met_begins : (home : TableId) (u v y z : Knowledge) (c : Journaled) (a : SeatView) (one : IsOfOneSeat u) (two : IsOfOneSeat v) (other_one : IsOfOneSeat y) (other_two : IsOfOneSeat z) → seat_of home u one ≡ a → Knows (story c) (known_seat_of u one) → y ≡ resting (seen_at (story c) (known_seat_of u one) ∷ []) → z ≡ resting (seen_at (story c) (known_seat_of v two) ∷ [])
+pub met_begins : (home : TableId) (u v y z : Knowledge) (c : Journaled) (a : SeatView) (one : IsOfOneSeat u) (two : IsOfOneSeat v) (other_one : IsOfOneSeat y) (other_two : IsOfOneSeat z) → seat_of_pass home u one ≡ a → Knows (story c) (known_seat_of u one) → y ≡ resting (seen_at (story c) (known_seat_of u one) ∷ []) → z ≡ resting (seen_at (story c) (known_seat_of v two) ∷ [])
     → Begins (known_seat_of y other_one).seen (known_seat_of z other_two).seen × SameCalls a (known_seat_of z other_two).seen
 met_begins home u v y z c a one two other_one other_two is known first second =
     let mine : (known_seat_of y other_one).seen ≡ c.journal = ap (λ (p : KnownSeat). p.seen) (only_at y.known_seats other_one _ (ap (λ (k : Knowledge). k.known_seats) first)) in
@@ -228,8 +228,8 @@ met_begins home u v y z c a one two other_one other_two is known first second =
       subst (λ (s : SeatView × List Entry). SameCalls s.0 s.1) (λ i. (is i, sym its i)) known.calls,
     )
 
-call_at : (rules : Parts → Rules) (number : ℕ) (home home' : TableId) (v w x : Knowledge) (c after : Journaled) (command : Command) (reply : Answer) (one : IsOfOneSeat v) (other : IsOfOneSeat x) → HasNumber number (known_seat_of v one) → Taken v c w → Given w after x
-    → reply ≡ reply_in rules c number command → after ≡ extended rules c number command → IsCall rules (seat_of home v one) command reply (seat_of home' x other)
+call_at : (rules : Parts → Rules) (number : ℕ) (home home' : TableId) (v w x : Knowledge) (c after : Journaled) (command : Command) (reply : Answer) (one : IsOfOneSeat v) (other : IsOfOneSeat x) → HasNumber number (known_seat_of v one) → TurnTaken v c w → TurnGiven w after x
+    → reply ≡ reply_in rules c number command → after ≡ extended rules c number command → IsCall rules (seat_of_pass home v one) command reply (seat_of_pass home' x other)
 call_at rules number home home' v w x c after command reply one other its taken given answered extends =
     let p = known_seat_of v one in
     let known = knows_one v (story c) one taken.1 in
@@ -243,10 +243,10 @@ call_at rules number home home' v w x c after command reply one other its taken 
     }
 
 -- a call that was answered
-pub is_call : (rules : Parts → Rules) (number : ℕ) (home home' : TableId) (v w x : Knowledge) (c after : Journaled) (command : Command) (r : Result Reply CallFault) (old : SeatView) (one : IsOfOneSeat v) (other : IsOfOneSeat x) → seat_of home v one ≡ old → HasNumber number (known_seat_of v one) → Taken v c w → Given w after x
-    → IfOk r (λ reply. told reply ≡ reply_in rules c number command) → IfOk r (λ _. after ≡ extended rules c number command) → IfOk r (λ reply. IsCall rules old command (told reply) (seat_of home' x other))
+pub is_call : (rules : Parts → Rules) (number : ℕ) (home home' : TableId) (v w x : Knowledge) (c after : Journaled) (command : Command) (r : Result Reply CallFault) (old : SeatView) (one : IsOfOneSeat v) (other : IsOfOneSeat x) → seat_of_pass home v one ≡ old → HasNumber number (known_seat_of v one) → TurnTaken v c w → TurnGiven w after x
+    → IfOk r (λ reply. told reply ≡ reply_in rules c number command) → IfOk r (λ _. after ≡ extended rules c number command) → IfOk r (λ reply. IsCall rules old command (told reply) (seat_of_pass home' x other))
 is_call rules number home home' v w x c after command (Ok reply) old one other is its taken given answered extends =
-    subst (λ (s : SeatView). IsCall rules s command (told reply) (seat_of home' x other)) is (call_at rules number home home' v w x c after command (told reply) one other its taken given answered extends)
+    subst (λ (s : SeatView). IsCall rules s command (told reply) (seat_of_pass home' x other)) is (call_at rules number home home' v w x c after command (told reply) one other its taken given answered extends)
 is_call rules number home home' v w x c after command (Err fault) old one other is its taken given answered extends = tt
 
 -- a call leaves the setup and the number of seats
@@ -255,8 +255,8 @@ same_parts rules c after number command (Ok reply) ok err = (ap (λ (y : Journal
 same_parts rules c after number command (Err fault) ok err = (ap (λ (y : Journaled). y.setup) err, ap (λ (y : Journaled). y.seats) err)
 
 -- the headline of the control that is given back is that of the seat
-pub sees_headline : (rules : Parts → Rules) (SameState : Parts → List Event → List Event → Type 0) (number : ℕ) (home' : TableId) (v w x : Knowledge) (c after : Journaled) (command : Command) (r : Result Reply CallFault) (one : IsOfOneSeat v) (other : IsOfOneSeat x) → Taken v c w → Given w after x
-    → IfOk r (λ _. after ≡ extended rules c number command) → OnErr r (after ≡ c) → HasHeadline rules SameState after → SeesHeadline rules SameState (seat_of home' x other)
+pub sees_headline : (rules : Parts → Rules) (SameState : Parts → List Event → List Event → Type 0) (number : ℕ) (home' : TableId) (v w x : Knowledge) (c after : Journaled) (command : Command) (r : Result Reply CallFault) (one : IsOfOneSeat v) (other : IsOfOneSeat x) → TurnTaken v c w → TurnGiven w after x
+    → IfOk r (λ _. after ≡ extended rules c number command) → OnErr r (after ≡ c) → HasHeadline rules SameState after → SeesHeadline rules SameState (seat_of_pass home' x other)
 sees_headline rules SameState number home' v w x c after command r one other taken given ok err headline =
     let known = knows_one v (story c) one taken.1 in
     let mine = seen_one v w x c after one other taken given in

@@ -14,7 +14,7 @@ use Rattle.cdb_shared.specs.declared.knowledge.Stage.TheVariants.{Spent, Resting
 use Rattle.cdb_shared.specs.declared.knowledge.KnownSeat.{KnownSeat}
 use Rattle.cdb_shared.specs.declared.knowledge.Story.{Story}
 use Rattle.cdb_shared.specs.declared.knowledge.Knowledge.{Knowledge}
-use Rattle.cdb_shared.specs.Turn.{story, longer, opening, spent, resting, holding, Knows, AllKnow, Whereabouts, InQueue, HeldBy, FitsAt, queued, IsHeld, seat_count, total_of, Turns, IsRuled, known_seats_from, seen_at, seen_by, Taken, Given, MayGrow, MayFollow, MayGive, seats_after, NoneStands, without_first, first_alone, joined}
+use Rattle.cdb_shared.specs.Turn.{story, longer, opening, spent, resting, holding, Knows, AllKnow, Whereabouts, InQueue, HeldBy, FitsAt, queued, IsHeld, seat_count, total_of, Turns, IsRuled, known_seats_from, seen_at, seen_by, TurnTaken, TurnGiven, MayGrow, MayFollow, MayGive, seats_after, NoneStands, without_first, first_alone, joined_pass}
 
 -- at the start there is one pass, and nothing in the queue
 pub begins : IsRuled [] (opening ∷ [])
@@ -175,7 +175,7 @@ take_other Resting c turn pass j u none fits = fits
 take_other Holding c turn pass j u none fits = let e : InQueue ≡ HeldBy j = sym none ∙ fits.1 in absurd (cc)
 
 -- the turn is taken
-pub takes : (pass : ℕ) (v : Knowledge) → v.stage ≡ Resting → Pops IsRuled pass v (λ x w. Taken v x w)
+pub takes : (pass : ℕ) (v : Knowledge) → v.stage ≡ Resting → Pops IsRuled pass v (λ x w. TurnTaken v x w)
 takes pass v rests x items views (inl start) at = let e = start.0 in absurd (cc)
 takes pass v rests x items views (inr t) at =
     let was = stood t.turn t.control x items t.stands in
@@ -259,7 +259,7 @@ gives_next pass v c items views t at mine known grow =
     }
 
 -- the turn is given back
-pub gives : (n pass : ℕ) (v : Knowledge) (c : Journaled) → MayGive v c → Pushes IsRuled n pass v c (λ w. Given v c w)
+pub gives : (n pass : ℕ) (v : Knowledge) (c : Journaled) → MayGive v c → Pushes IsRuled n pass v c (λ w. TurnGiven v c w)
 gives n pass v c may items views room (inl start) at =
     let is = (only_view views pass v start.1 at).1 in (
       resting (known_seats_from (story c) 1 c.seats),
@@ -309,11 +309,11 @@ forks pass v rests items views (inr t) at =
     })
 
 -- a pass takes in the seats of another
-pub merges : (pass : ℕ) (v : Knowledge) (other : ℕ) (u : Knowledge) → v.stage ≡ Resting → u.stage ≡ Resting → Merges IsRuled pass v other u (joined v u) spent
+pub merges : (pass : ℕ) (v : Knowledge) (other : ℕ) (u : Knowledge) → v.stage ≡ Resting → u.stage ≡ Resting → Merges IsRuled pass v other u (joined_pass v u) spent
 merges pass v other u rests rests' items views (inl start) at apart at' = absurd (resting_apart v rests (only_view views pass v start.1 at).1)
 merges pass v other u rests rests' items views (inr t) at apart at' =
     let c = t.control in
-    let both = joined v u in
+    let both = joined_pass v u in
     let there : get_elem? views other ≡ some u = sym (set_else views pass other both apart) ∙ at' in
     let fits = fits_as Resting c t.turn pass v rests (t.each pass v at) in
     let fits' = fits_as Resting c t.turn other u rests' (t.each other u there) in

@@ -27,8 +27,8 @@ abbrev pub known_seat_of : (v : Knowledge) → IsOfOneSeat v → KnownSeat
 known_seat_of v one = only_of v.known_seats one
 
 -- the seat whose pass knows this
-abbrev pub seat_of : TableId → (v : Knowledge) → IsOfOneSeat v → SeatView
-seat_of home v one =
+abbrev pub seat_of_pass : TableId → (v : Knowledge) → IsOfOneSeat v → SeatView
+seat_of_pass home v one =
     let p = known_seat_of v one in
     record { home = home; setup = p.setup; seats = p.seats; number = p.number; seen = p.seen; rests = is_resting v.stage }
 

@@ -108,8 +108,8 @@ abbrev pub seen_by : Story → List KnownSeat → List KnownSeat
 seen_by c known_seats = map (seen_at c) known_seats
 
 -- the turn is taken: the pass holds the control, which its seats know
-abbrev pub Taken : Knowledge → Journaled → Knowledge → Type 0
-Taken v c w = (w ≡ holding v.known_seats (story c)) × AllKnow (story c) v.known_seats
+abbrev pub TurnTaken : Knowledge → Journaled → Knowledge → Type 0
+TurnTaken v c w = (w ≡ holding v.known_seats (story c)) × AllKnow (story c) v.known_seats
 
 -- the control is as it was, or has one command more, of the pass's only seat
 abbrev pub MayGrow : List KnownSeat → Story → Story → Type 0
@@ -131,8 +131,8 @@ seats_after None known_seats c = known_seats_from c 1 c.seats
 seats_after (Some before) known_seats c = seen_by c known_seats
 
 -- the turn is given back: the pass rests
-abbrev pub Given : Knowledge → Journaled → Knowledge → Type 0
-Given v c w = w ≡ resting (seats_after v.held v.known_seats (story c))
+abbrev pub TurnGiven : Knowledge → Journaled → Knowledge → Type 0
+TurnGiven v c w = w ≡ resting (seats_after v.held v.known_seats (story c))
 
 -- while a pass holds the control, none stands in the queue
 abbrev pub NoneStands : Knowledge → List Journaled → Type 0
@@ -144,5 +144,5 @@ without_first v = resting (drop 1 v.known_seats)
 abbrev pub first_alone : Knowledge → Knowledge
 first_alone v = resting (take 1 v.known_seats)
 
-abbrev pub joined : Knowledge → Knowledge → Knowledge
-joined v u = resting (u.known_seats ++ v.known_seats)
+abbrev pub joined_pass : Knowledge → Knowledge → Knowledge
+joined_pass v u = resting (u.known_seats ++ v.known_seats)

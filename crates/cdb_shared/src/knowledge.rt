@@ -50,18 +50,18 @@ impl<T: Runs> Protocol<Control<T>, Knowledge> for OneControl {
 pub struct Takes;
 
 impl<T: Runs> Outcome<Control<T>, Knowledge> for Takes {
-    ghost use Rattle.cdb_shared.specs.Turn.{Taken};
+    ghost use Rattle.cdb_shared.specs.Turn.{TurnTaken};
 
-    ghost then = { Taken };
+    ghost then = { TurnTaken };
 }
 
 /// The turn is given back, at first with the control that is handed in.
 pub struct Gives;
 
 impl<T: Runs> Outcome<Control<T>, Knowledge> for Gives {
-    ghost use Rattle.cdb_shared.specs.Turn.{Given};
+    ghost use Rattle.cdb_shared.specs.Turn.{TurnGiven};
 
-    ghost then = { Given };
+    ghost then = { TurnGiven };
 }
 
 impl<T: Runs> Lesson<Control<T>, Knowledge> for Gives {
@@ -85,9 +85,9 @@ impl Split<Knowledge> for FirstSeat {
 pub struct AllSeats;
 
 impl Join<Knowledge> for AllSeats {
-    ghost use Rattle.cdb_shared.specs.Turn.{joined, spent};
+    ghost use Rattle.cdb_shared.specs.Turn.{joined_pass, spent};
 
-    ghost both = { joined };
+    ghost both = { joined_pass };
 
     ghost spent = { spent };
 }

@@ -20,12 +20,12 @@ pub struct Seat<T: Runs> {
 impl<T: Runs> Model for Seat<T> {
     ghost use Rattle.std.specs.Prelude.{◌≡◌, []};
     ghost use Rattle.crossbeam_queue.specs.Passes.{view as view_of};
-    ghost use Rattle.cdb_shared.specs.Passes.{seat_of, known_seat_of, HasNumber};
+    ghost use Rattle.cdb_shared.specs.Passes.{seat_of_pass, known_seat_of, HasNumber};
     ghost use Rattle.cdb_shared.specs.Seats.{SeatView};
 
     ghost Value = { SeatView };
 
-    ghost view = { λ s. seat_of s.pass.table_id (view_of s.pass) s.one };
+    ghost view = { λ s. seat_of_pass s.pass.table_id (view_of s.pass) s.one };
 
     ghost invariant = { λ s. (s.pass.me.1 ≡ [])
         × HasNumber s.number (known_seat_of (view_of s.pass) s.one) };

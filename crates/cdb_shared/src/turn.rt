@@ -1,7 +1,7 @@
 //! The two steps on the turn.
 ghost use Rattle.std.specs.Prelude.{◌≡◌};
 ghost use Rattle.crossbeam_queue.specs.Passes.{view, IsPassOf, IsSamePass, ruled_capacity};
-ghost use Rattle.cdb_shared.specs.Turn.{Taken, Given, MayGive};
+ghost use Rattle.cdb_shared.specs.Turn.{TurnTaken, TurnGiven, MayGive};
 
 use crate::knowledge::{Gives, Knowledge, OneControl, Stage, Takes};
 use cdb_control::Control;
@@ -21,7 +21,7 @@ pub fn take<T: Runs, R: Wait>(rt: &R, turn: &Turn<T>, pass: &mut TurnPass<T>) ->
     requires queue { IsPassOf turn.now pass.old }
     requires rests { (view pass.old).stage ≡ Stage.Resting }
     ensures queue { IsSamePass pass.old pass.new }
-    ensures taken { Taken (view pass.old) result (view pass.new) }
+    ensures taken { TurnTaken (view pass.old) result (view pass.new) }
 {
     for _ in rt.forever() {
         if let Some(control) = turn.try_pop_as::<Takes>(pass) {
@@ -37,7 +37,7 @@ pub fn give<T: Runs, R: Wait>(rt: &R, turn: &Turn<T>, pass: &mut TurnPass<T>, co
     requires queue { IsPassOf turn.now pass.old × (ruled_capacity turn.now ≡ 1) }
     requires control { MayGive (view pass.old) control }
     ensures queue { IsSamePass pass.old pass.new }
-    ensures given { Given (view pass.old) control (view pass.new) }
+    ensures given { TurnGiven (view pass.old) control (view pass.new) }
 {
     let _ = turn.push_as::<Gives, R>(rt, pass, control);
 }

@@ -5,11 +5,11 @@ use Rattle.cdb_control.specs.declared.control.Entry.{Entry}
 use Rattle.cdb_control.specs.Commands.{Outcome, answer, outcome}
 use Rattle.cdb_control.specs.Headline.{Headline}
 use Rattle.cdb_control.specs.Journal.{Journaled, IsReplayed, entry, extended, reply_in}
-use Rattle.cdb_control.specs.Room.{HasRoom, cost, lowered, room_of, rooms_at}
+use Rattle.cdb_control.specs.Room.{HoldsRooms, cost, lowered, room_of, rooms_at}
 use Rattle.cdb_control.specs.State.{State}
 use Rattle.cdb_control.proofs.Along.{obey-setup, IsReplayed-next}
 use Rattle.cdb_control.proofs.Headline.{replayed-headline}
-use Rattle.cdb_control.proofs.Room.{HasRoom-kept, HasRoom-next, rooms-lowered, spends}
+use Rattle.cdb_control.proofs.Room.{HoldsRooms-kept, HoldsRooms-next, rooms-lowered, spends}
 use Rattle.cdb_control.proofs.control.Control.execute.Goals as goal
 
 pub invariant_of-self-2 : goal.invariant_of-self-2
@@ -42,13 +42,13 @@ invariant_of-self-2 g c =
     ∙ ap (λ (o : Outcome). lowered (rooms_at n marks) seat o.reply) c.in-Ok.ensures.ok in
     let more = c.reserve.ensures.capacity in
     let room =
-    HasRoom-next n (vec_capacity i.journal) (vec_capacity c.reserve.new.self) (rooms_at n marks) seat i.state next done was.1 low
+    HoldsRooms-next n (vec_capacity i.journal) (vec_capacity c.reserve.new.self) (rooms_at n marks) seat i.state next done was.1 low
     spent (sym after) (replayed.lists ∙ sym lists) c.perform.ensures.capacities more in
     let long = c.push_entry.ensures.len ∙ ap (λ (m : ℕ). m + 1) c.reserve.ensures.len in (
       replayed,
-      subst (λ (m : ℕ). HasRoom m (vec_capacity c.push_entry.new.journal) (rooms_at m c.lower.new.marks.items) next) (sym long)
-          (subst (λ (space : ℕ). HasRoom (n + 1) space (rooms_at (n + 1) c.lower.new.marks.items) next) (sym c.push_entry.ensures.capacity)
-          (subst (λ (l : List ℕ). HasRoom (n + 1) (vec_capacity c.reserve.new.self) l next) (sym rooms) room)),
+      subst (λ (m : ℕ). HoldsRooms m (vec_capacity c.push_entry.new.journal) (rooms_at m c.lower.new.marks.items) next) (sym long)
+          (subst (λ (space : ℕ). HoldsRooms (n + 1) space (rooms_at (n + 1) c.lower.new.marks.items) next) (sym c.push_entry.ensures.capacity)
+          (subst (λ (l : List ℕ). HoldsRooms (n + 1) (vec_capacity c.reserve.new.self) l next) (sym rooms) room)),
     )
 
 pub returns-clause-journal : goal.returns-clause-journal
@@ -93,10 +93,10 @@ invariant_of-self-in_default g c =
     let marks = i.marks.items in
     let n = vec_len i.journal in
     let same = c.in_default.ensures.err in
-    let room = HasRoom-kept n (vec_capacity i.journal) (vec_capacity c.reserve.new.self) (rooms_at n marks) i.state next was.1 c.reserve.ensures.capacity same c.perform.ensures.capacities in (
+    let room = HoldsRooms-kept n (vec_capacity i.journal) (vec_capacity c.reserve.new.self) (rooms_at n marks) i.state next was.1 c.reserve.ensures.capacity same c.perform.ensures.capacities in (
       subst (λ (t : State). IsReplayed (rules t.setup) t.setup i.seats c.reserve.new.self.items t) (sym same)
           (subst (λ (l : List Entry). IsReplayed (rules i.state.state.setup) i.state.state.setup i.seats l i.state.state) (sym c.reserve.ensures.items) was.0),
-      subst (λ (m : ℕ). HasRoom m (vec_capacity c.reserve.new.self) (rooms_at m marks) next) (sym c.reserve.ensures.len) room,
+      subst (λ (m : ℕ). HoldsRooms m (vec_capacity c.reserve.new.self) (rooms_at m marks) next) (sym c.reserve.ensures.len) room,
     )
 
 pub returns-then-len-clause-headline : goal.returns-then-len-clause-headline

@@ -3,7 +3,7 @@ use Rattle.std.proofs.lemmas.List.{length-replicate}
 use Rattle.cdb_base.specs.declared.event.Event.{Event}
 use Rattle.cdb_control.proofs.Along.{IsReplayed-first}
 use Rattle.cdb_control.proofs.Headline.{replayed-headline}
-use Rattle.cdb_control.proofs.Room.{HasRoom-first, rooms-none}
+use Rattle.cdb_control.proofs.Room.{HoldsRooms-first, rooms-none}
 use Rattle.cdb_control.specs.Journal.{Journaled}
 use Rattle.cdb_control.specs.Room.{rooms_at}
 use Rattle.cdb_control.specs.State.{State}
@@ -13,7 +13,7 @@ pub invariant_of-result : goal.invariant_of-result
 invariant_of-result g c =
     let long = ap (λ (t : State). length t.redo) c.in-Ok.ensures ∙ length-replicate c.args.seats (let none : List Event = [] in none) in (
       rw (c.new.ensures.items, c.in-Ok.ensures) (IsReplayed-first (g.R.Runs.rules c.args.setup) c.args.setup c.args.seats c.n-processes.ensures.ranges (omega arith) (omega arith)),
-      rw (c.new.ensures.len, c.in-Ok-no_marks.ensures) (HasRoom-first _ c.args.seats c.in-Ok.state long),
+      rw (c.new.ensures.len, c.in-Ok-no_marks.ensures) (HoldsRooms-first _ c.args.seats c.in-Ok.state long),
     )
 
 pub returns-clause-opened : goal.returns-clause-opened

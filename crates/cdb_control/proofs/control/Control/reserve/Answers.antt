@@ -1,8 +1,8 @@
 use Rattle.std.proofs.Common.{ℕ, ◌+◌, ◌-◌, ◌<◌, arith, ap, ◌∙◌, sym, subst, max, length, List, vec_len, vec_capacity}
 use Rattle.std.proofs.lemmas.List.{length-map}
-use Rattle.cdb_control.proofs.Room.{HasRoom-raised, rooms-raised}
+use Rattle.cdb_control.proofs.Room.{HoldsRooms-raised, rooms-raised}
 use Rattle.cdb_control.specs.Journal.{Journaled, IsReplayed}
-use Rattle.cdb_control.specs.Room.{HasRoom, raised, room_of, rooms_at, with_room}
+use Rattle.cdb_control.specs.Room.{HoldsRooms, raised, room_of, rooms_at, with_room}
 use Rattle.cdb_control.specs.State.{State}
 use Rattle.cdb_control.specs.declared.control.Entry.{Entry}
 use Rattle.cdb_control.proofs.control.Control.reserve.Goals as goal
@@ -31,12 +31,12 @@ invariant_of-self-2 g c =
     ∙ ap (λ (m : ℕ). rooms_at n (with_room marks seat (max (m + count) (room_of marks seat)))) len
     ∙ rooms-raised marks (seat - 1) n count (omega (arith, many, seats, low)) in
     let room =
-    HasRoom-raised n (vec_capacity i.journal) (vec_capacity c.reserve.new.self) (rooms_at n marks) seat count i.state next was.1 low
+    HoldsRooms-raised n (vec_capacity i.journal) (vec_capacity c.reserve.new.self) (rooms_at n marks) seat count i.state next was.1 low
     c.in_ok-reserve-2.ensures.state (omega (arith, enough, same_len)) c.reserve.ensures.capacity c.in_ok-reserve-2.ensures.ok c.reserve-2.ensures.capacities in (
       subst (λ (t : State). IsReplayed (g.R.Runs.rules t.setup) t.setup i.seats c.reserve.new.self.items t) (sym c.in_ok-reserve-2.ensures.state)
           (subst (λ (l : List Entry). IsReplayed (g.R.Runs.rules i.state.state.setup) i.state.state.setup i.seats l i.state.state) (sym c.reserve.ensures.items) was.0),
-      subst (λ (m : ℕ). HasRoom m (vec_capacity c.reserve.new.self) (rooms_at m c.raise.new.marks.items) next) (sym same_len)
-          (subst (λ (l : List ℕ). HasRoom n (vec_capacity c.reserve.new.self) l next) (sym rooms) room),
+      subst (λ (m : ℕ). HoldsRooms m (vec_capacity c.reserve.new.self) (rooms_at m c.raise.new.marks.items) next) (sym same_len)
+          (subst (λ (l : List ℕ). HoldsRooms n (vec_capacity c.reserve.new.self) l next) (sym rooms) room),
     )
 
 pub returns-clause-ok : goal.returns-clause-ok
