@@ -1,11 +1,13 @@
 //! The control state: a run, the breakpoints, the pause and the redo lists.
-ghost use Rattle.std.specs.Prelude.{◌≡◌, ◌+◌, ◌≤◌, [], true, IfOk, OnOk, OnErr, IsOk, replicate, length, map};
+ghost use Rattle.std.specs.Prelude.{◌≡◌, ◌+◌, ◌≤◌, [], true, IfOk, IfErr, OnOk, OnErr, IsOk, replicate, length, map};
 ghost use Rattle.std.specs.Option.{option_or};
 ghost use Rattle.cdb_base.specs.declared.limits.TheConstants.{MAX_ENTRIES};
-ghost use Rattle.cdb_control.specs.Done.{CameOutAs, IsCarriedOut, IsCarriedOutForAny, IsNoRefusal, IsTaken, IsTakenFromAny, NoneShrinks};
-ghost use Rattle.cdb_control.specs.Auto.{choice};
-ghost use Rattle.cdb_control.specs.Commands.{step, undo, rollback, why, show, decides, newly_fired};
+ghost use Rattle.cdb_control.specs.Done.{came_out, CameOutAs, IsCarriedOut, IsCarriedOutForAny, IsNoRefusal, IsTaken, IsTakenFromAny, NoneShrinks};
+ghost use Rattle.cdb_control.specs.Auto.{choice, first_act_of, first_step_of, IsFreeForAuto, IsRefusedForAuto};
+ghost use Rattle.cdb_control.specs.Commands.{step, step_told, undo, rollback, why, show, decides, newly_fired};
 ghost use Rattle.cdb_rules.specs.EventRefs.{name_given};
+ghost use Rattle.cdb_rules.specs.Runs.{with_answer};
+ghost use Rattle.cdb_rules.specs.Step.{is_among};
 ghost use Rattle.cdb_control.specs.Room.{capacity_of, is_spared, HasSpace};
 ghost use Rattle.cdb_control.specs.State.{first_control_state, held, redo_of, AreOfRun};
 ghost use Rattle.cdb_rules.specs.Views.{round_of, decision_of};
@@ -60,6 +62,61 @@ fn empty_lists(alloc: Global, seats: u8) -> Result<Vec<RedoList>, NoMemory>
         lists.push(RedoList::new(alloc))?;
     }
     Ok(lists)
+}
+
+/// The first act of those that `auto` tries which the run does not refuse.
+fn first_act<R: Runs>(run: &R, p: u32) -> Result<Act, Refusal>
+    requires { is_among (R.run run.now).setup.processes p ≡ true }
+    ensures { result ≡ first_act_of (R.rules (R.run run.now).setup) (R.run run.now).history p }
+{
+    if run.refuses(p, Act::Learn).is_none() {
+        return Ok(Act::Learn);
+    }
+    if let Some(name) = run.pending(p) {
+        let act = Act::Recv(u32::from(name.s.number()), u32::from(name.m));
+        if run.refuses(p, act).is_none() {
+            return Ok(act);
+        }
+    }
+    if run.refuses(p, Act::Go).is_none() {
+        return Ok(Act::Go);
+    }
+    if run.refuses(p, Act::Query(None)).is_none() {
+        return Ok(Act::Query(None));
+    }
+    Err(Refusal::Idle)
+}
+
+/// Takes the first act of those that `auto` tries which the run does not refuse.
+fn take_first<R: Runs>(
+    alloc: Global,
+    run: &mut R,
+    p: u32,
+) -> Result<Result<Event, Refusal>, NoMemory>
+    requires { is_among (R.run run.old).setup.processes p ≡ true }
+    ensures answer { IfOk result (λ r.
+        r ≡ first_step_of (R.rules (R.run run.old).setup) (R.run run.old).history p) }
+    ensures after { IfOk result (λ r. R.run run.new ≡ with_answer (R.run run.old) r) }
+    ensures err { OnErr result (R.run run.new ≡ R.run run.old) }
+    ensures memory { OnErr result (IsOk
+        (first_step_of (R.rules (R.run run.old).setup) (R.run run.old).history p)) }
+{
+    if let Ok(event) = run.step(alloc, p, Act::Learn)? {
+        return Ok(Ok(event));
+    }
+    if let Some(name) = run.pending(p) {
+        let act = Act::Recv(u32::from(name.s.number()), u32::from(name.m));
+        if let Ok(event) = run.step(alloc, p, act)? {
+            return Ok(Ok(event));
+        }
+    }
+    if let Ok(event) = run.step(alloc, p, Act::Go)? {
+        return Ok(Ok(event));
+    }
+    if let Ok(event) = run.step(alloc, p, Act::Query(None))? {
+        return Ok(Ok(event));
+    }
+    Ok(Err(Refusal::Idle))
 }
 
 impl<R: Runs> ControlState<R> {
@@ -286,6 +343,28 @@ impl<R: Runs> ControlState<R> {
         self.pause
     }
 
+    /// The reply to a step of process `p` that stands last, taken in that round. Sets the pause, where a
+    /// breakpoint fires.
+    fn tell_step(&mut self, event: Event, p: u32, round_before: u32) -> Reply
+        ensures told { came_out result self.new.state
+            ≡ step_told (R.rules self.old.state.setup) self.old.state p event round_before }
+        ensures kept { self.new.capacities ≡ self.old.capacities }
+    {
+        let (decides, round_after) = self.decision_and_round_of(p);
+        let taken = TakenStep {
+            event,
+            decides,
+            round_before,
+            round_after,
+        };
+        let paused = self.fire(&taken);
+        Reply::Stepped {
+            event: taken.event,
+            decides: taken.decides,
+            paused,
+        }
+    }
+
     /// Takes a step.
     pub fn step(&mut self, alloc: Global, p: u32, act: Act) -> Result<Reply, NoMemory>
         ensures ok { IfOk result
@@ -297,21 +376,7 @@ impl<R: Runs> ControlState<R> {
     {
         let round_before = self.round_of(p);
         match self.run.step(alloc, p, act)? {
-            Ok(event) => {
-                let (decides, round_after) = self.decision_and_round_of(p);
-                let taken = TakenStep {
-                    event,
-                    decides,
-                    round_before,
-                    round_after,
-                };
-                let paused = self.fire(&taken);
-                Ok(Reply::Stepped {
-                    event: taken.event,
-                    decides: taken.decides,
-                    paused,
-                })
-            }
+            Ok(event) => Ok(self.tell_step(event, p, round_before)),
             Err(refusal) => Ok(Reply::Refused(refusal)),
         }
     }
@@ -336,10 +401,16 @@ impl<R: Runs> ControlState<R> {
         }
     }
 
-    /// What `auto` would do for a process.
-    pub fn choose(&self, p: u32) -> Result<Act, Refusal>
+    /// The round of a process that `auto` may take a step of, or why it may take none.
+    fn round_for_auto(&self, p: u32) -> Result<u32, Refusal>
         requires { AreInRange self.now.state.setup }
-        ensures { result ≡ choice (R.rules self.now.state.setup) self.now.state.history p }
+        ensures among { OnOk result (is_among self.now.state.setup.processes p ≡ true) }
+        ensures refused { IfErr result (λ why.
+            IsRefusedForAuto (R.rules self.now.state.setup) self.now.state.history p why) }
+        ensures free { OnOk result
+            (IsFreeForAuto (R.rules self.now.state.setup) self.now.state.history p) }
+        ensures round { IfOk result (λ round.
+            round ≡ round_of (R.rules self.now.state.setup) self.now.state.history p) }
     {
         let Some(process) = self.run.view(p) else {
             return Err(Refusal::NoProcess);
@@ -353,22 +424,16 @@ impl<R: Runs> ControlState<R> {
         if process.steps >= u32::from(MAX_STEPS) {
             return Err(Refusal::StepLimit);
         }
-        if self.run.refuses(p, Act::Learn).is_none() {
-            return Ok(Act::Learn);
-        }
-        if let Some(name) = self.run.pending(p) {
-            let act = Act::Recv(u32::from(name.s.number()), u32::from(name.m));
-            if self.run.refuses(p, act).is_none() {
-                return Ok(act);
-            }
-        }
-        if self.run.refuses(p, Act::Go).is_none() {
-            return Ok(Act::Go);
-        }
-        if self.run.refuses(p, Act::Query(None)).is_none() {
-            return Ok(Act::Query(None));
-        }
-        Err(Refusal::Idle)
+        Ok(process.round)
+    }
+
+    /// What `auto` would do for a process.
+    pub fn choose(&self, p: u32) -> Result<Act, Refusal>
+        requires { AreInRange self.now.state.setup }
+        ensures { result ≡ choice (R.rules self.now.state.setup) self.now.state.history p }
+    {
+        self.round_for_auto(p)?;
+        first_act(&self.run, p)
     }
 
     /// Takes the first step that is possible for a process.
@@ -382,12 +447,17 @@ impl<R: Runs> ControlState<R> {
             (IsTakenFromAny R.rules self.old.state (Command.Auto p)) }
         ensures kept { self.new.capacities ≡ self.old.capacities }
     {
-        match self.choose(p) {
+        if let Some(number) = self.pause {
+            let refusal = self.choose(p).err().unwrap_or(Refusal::Paused(number));
+            return Ok(Reply::Refused(refusal));
+        }
+        let round_before = match self.round_for_auto(p) {
+            Ok(round) => round,
+            Err(refusal) => return Ok(Reply::Refused(refusal)),
+        };
+        match take_first(alloc, &mut self.run, p)? {
+            Ok(event) => Ok(self.tell_step(event, p, round_before)),
             Err(refusal) => Ok(Reply::Refused(refusal)),
-            Ok(act) => match self.pause {
-                Some(number) => Ok(Reply::Refused(Refusal::Paused(number))),
-                None => self.step(alloc, p, act),
-            },
         }
     }
 
