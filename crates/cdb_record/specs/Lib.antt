@@ -2,3 +2,5 @@
 pub mod Recorded
 pub mod Counts
 pub mod Taken
+-- what the code keeps for itself: where what the steps left lies
+pub mod Stacks
