@@ -1,4 +1,4 @@
--- What a call says of lists, carried over to lists that are equal to them.
+-- What a call says of contents, carried over to contents that are equal to them.
 use Rattle.std.proofs.Common.{◌≡◌, ℕ, zero, suc, ◌-◌, ◌≤◌, List, [], ◌∷◌, ◌++◌, length, Option, None, Some, MatchOption, Result, Ok, Err, OnErr, slice_get, refl, sym, ap, ◌∙◌, arith}
 use Rattle.cdb_base.specs.Positions.{nth}
 use Rattle.cdb_base.specs.declared.event.Event.{Event}

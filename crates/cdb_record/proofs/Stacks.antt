@@ -13,17 +13,17 @@ use Rattle.cdb_causal.proofs.Dependents.{behind_free}
 use Rattle.cdb_causal.proofs.Effects.{by_effect}
 use Rattle.cdb_causal.proofs.Lists.{push_back}
 use Rattle.cdb_record.specs.Recorded.{nothing, recorded_of}
-use Rattle.cdb_record.specs.Stacks.{lists, stack_of, steps_of, AreAsHigh, left_by, recorded_after, IsPut, HasLeft}
+use Rattle.cdb_record.specs.Stacks.{contents, stack_of, steps_of, AreAsHigh, left_of, recorded_after, LeavesOnTop, HasLeft}
 use Rattle.cdb_record.specs.declared.recorded.Left.{Left}
 
 -- the stack of a process, where one is another
 module _ {T Z : Type 0} where
-  stack_set : (stacks : List (Vec T Z)) (i : ℕ) (v : Vec T Z) → i < length stacks → stack_of (lists (set stacks i v)) (suc i) ≡ v.items
+  stack_set : (stacks : List (Vec T Z)) (i : ℕ) (v : Vec T Z) → i < length stacks → stack_of (contents (set stacks i v)) (suc i) ≡ v.items
   stack_set [] i v less = absurd (omega (arith, less))
   stack_set (x ∷ xs) zero v less = refl
   stack_set (x ∷ xs) (suc i) v less = stack_set xs i v (omega (arith, less))
 
-  stack_set_other : (stacks : List (Vec T Z)) (i : ℕ) (v : Vec T Z) (q : ℕ) → q ≢ suc i → stack_of (lists (set stacks i v)) q ≡ stack_of (lists stacks) q
+  stack_set_other : (stacks : List (Vec T Z)) (i : ℕ) (v : Vec T Z) (q : ℕ) → q ≢ suc i → stack_of (contents (set stacks i v)) q ≡ stack_of (contents stacks) q
   stack_set_other stacks i v zero other = refl
   stack_set_other [] i v (suc q) other = refl
   stack_set_other (x ∷ xs) zero v (suc zero) other = absurd (other refl)
@@ -31,34 +31,34 @@ module _ {T Z : Type 0} where
   stack_set_other (x ∷ xs) (suc i) v (suc zero) other = refl
   stack_set_other (x ∷ xs) (suc i) v (suc (suc q)) other = stack_set_other xs i v (suc q) (λ e. other (ap suc e))
 
-  stack_at : (stacks : List (Vec T Z)) (i : ℕ) (v : Vec T Z) → i < length stacks → v ≡ slice_index_or stacks i v → stack_of (lists stacks) (suc i) ≡ v.items
+  stack_at : (stacks : List (Vec T Z)) (i : ℕ) (v : Vec T Z) → i < length stacks → v ≡ slice_index_or stacks i v → stack_of (contents stacks) (suc i) ≡ v.items
   stack_at [] i v less is = absurd (omega (arith, less))
   stack_at (x ∷ xs) zero v less is = ap (λ (u : Vec T Z). u.items) (sym is)
   stack_at (x ∷ xs) (suc i) v less is = stack_at xs i v (omega (arith, less)) is
 
-  pub within_stacks : (stacks : List (Vec T Z)) (i : ℕ) → 0 < length (stack_of (lists stacks) (suc i)) → i < length stacks
+  pub within_stacks : (stacks : List (Vec T Z)) (i : ℕ) → 0 < length (stack_of (contents stacks) (suc i)) → i < length stacks
   within_stacks [] i more = absurd (omega (arith, more))
   within_stacks (x ∷ xs) zero more = omega arith
   within_stacks (x ∷ xs) (suc i) more = let less = within_stacks xs i more in omega (arith, less)
 
 -- a stack with more room holds what it held
-pub lists_same : {T Z : Type 0} (stacks : List (Vec T Z)) (i : ℕ) (v w : Vec T Z) → v ≡ slice_index_or stacks i v → w.items ≡ v.items → lists (set stacks i w) ≡ lists stacks
-lists_same [] i v w at same = refl
-lists_same (x ∷ xs) zero v w at same = ap (λ l. l ∷ lists xs) (same ∙ ap (λ (u : Vec _ _). u.items) at)
-lists_same (x ∷ xs) (suc i) v w at same = ap (λ l. x.items ∷ l) (lists_same xs i v w at same)
+pub contents_same : {T Z : Type 0} (stacks : List (Vec T Z)) (i : ℕ) (v w : Vec T Z) → v ≡ slice_index_or stacks i v → w.items ≡ v.items → contents (set stacks i w) ≡ contents stacks
+contents_same [] i v w at same = refl
+contents_same (x ∷ xs) zero v w at same = ap (λ l. l ∷ contents xs) (same ∙ ap (λ (u : Vec _ _). u.items) at)
+contents_same (x ∷ xs) (suc i) v w at same = ap (λ l. x.items ∷ l) (contents_same xs i v w at same)
 
 -- a step puts what it left on the stack at its process's position, and takes it from there
 module _ {B Z : Type 0} (stacks : List (Vec (Left B) Z)) (p k i : ℕ) (kind : Kind) (is_p : p ≡ suc i) (v w : Vec (Left B) Z) (within : i < length stacks) (at : v ≡ slice_index_or stacks i v) (left : Left B) where
-  pub is_put : w.items ≡ v.items ++ left ∷ [] → IsPut (lists stacks) (Step p k kind) left (lists (set stacks i w))
+  pub is_put : w.items ≡ v.items ++ left ∷ [] → LeavesOnTop (contents stacks) (Step p k kind) left (contents (set stacks i w))
   is_put more =
-      subst (λ n. IsPut (lists stacks) (Step n k kind) left (lists (set stacks i w))) (sym is_p) (
+      subst (λ n. LeavesOnTop (contents stacks) (Step n k kind) left (contents (set stacks i w))) (sym is_p) (
         stack_set stacks i w within ∙ more ∙ ap (λ l. l ++ left ∷ []) (sym (stack_at stacks i v within at)),
         (λ q other. stack_set_other stacks i w q other),
       )
 
-  pub is_taken : v.items ≡ w.items ++ left ∷ [] → IsPut (lists (set stacks i w)) (Step p k kind) left (lists stacks)
+  pub is_taken : v.items ≡ w.items ++ left ∷ [] → LeavesOnTop (contents (set stacks i w)) (Step p k kind) left (contents stacks)
   is_taken more =
-      subst (λ n. IsPut (lists (set stacks i w)) (Step n k kind) left (lists stacks)) (sym is_p) (
+      subst (λ n. LeavesOnTop (contents (set stacks i w)) (Step n k kind) left (contents stacks)) (sym is_p) (
         stack_at stacks i v within at ∙ more ∙ ap (λ l. l ++ left ∷ []) (sym (stack_set stacks i w within)),
         (λ q other. sym (stack_set_other stacks i w q other)),
       )
@@ -114,22 +114,22 @@ below_top (y ∷ ys) x (suc n) less = below_top ys x n (omega (arith, less))
 
 module _ {B : Type 0} where
   -- the stacks before and after an event
-  same_stack : (low high : List (List (Left B))) (event : Event) (left : Left B) → IsPut low event left high → (q : ℕ) → is_step_of q event ≡ false → stack_of high q ≡ stack_of low q
+  same_stack : (low high : List (List (Left B))) (event : Event) (left : Left B) → LeavesOnTop low event left high → (q : ℕ) → is_step_of q event ≡ false → stack_of high q ≡ stack_of low q
   same_stack low high (Step p k kind) left put q other = put.1 q (λ e. true≢false (sym (eq-eqb p q (sym e)) ∙ other))
   same_stack low high (Lost copy) left put q other = ap (λ s. stack_of s q) put.1
 
-  top_stack : (low high : List (List (Left B))) (event : Event) (left : Left B) → IsPut low event left high → (q : ℕ) → is_step_of q event ≡ true → stack_of high q ≡ stack_of low q ++ left ∷ []
+  top_stack : (low high : List (List (Left B))) (event : Event) (left : Left B) → LeavesOnTop low event left high → (q : ℕ) → is_step_of q event ≡ true → stack_of high q ≡ stack_of low q ++ left ∷ []
   top_stack low high (Step p k kind) left put q own = subst (λ n. stack_of high n ≡ stack_of low n ++ left ∷ []) (eqb-true p q own) put.0
   top_stack low high (Lost copy) left put q own = absurd (true≢false (sym own))
 
   -- what the event left is what lies above those earlier steps
-  left_top : (low high : List (List (Left B))) (event : Event) (left : Left B) → IsPut low event left high → (earlier : List Event) → ((q : ℕ) → is_step_of q event ≡ true → steps_of q earlier ≡ length (stack_of low q)) → left_by high earlier event ≡ left
+  left_top : (low high : List (List (Left B))) (event : Event) (left : Left B) → LeavesOnTop low event left high → (earlier : List Event) → ((q : ℕ) → is_step_of q event ≡ true → steps_of q earlier ≡ length (stack_of low q)) → left_of high earlier event ≡ left
   left_top low high (Step p k kind) left put earlier below =
       ap₂ (λ s n. unwrap_or (slice_get s n) nothing) put.0 (below p (eq-eqb p p refl)) ∙ ap (λ o. unwrap_or o nothing) (push_back (stack_of low p) left)
   left_top low high (Lost copy) left put earlier below = sym put.0
 
-  -- two lists of stacks that have the same there
-  left_same : (low high : List (List (Left B))) (before after : List Event) (other : Event) → ((q : ℕ) → is_step_of q other ≡ true → slice_get (stack_of high q) (steps_of q after) ≡ slice_get (stack_of low q) (steps_of q before)) → left_by high after other ≡ left_by low before other
+  -- two contents of stacks that have the same there
+  left_same : (low high : List (List (Left B))) (before after : List Event) (other : Event) → ((q : ℕ) → is_step_of q other ≡ true → slice_get (stack_of high q) (steps_of q after) ≡ slice_get (stack_of low q) (steps_of q before)) → left_of high after other ≡ left_of low before other
   left_same low high before after (Step p k kind) same = ap (λ o. unwrap_or o nothing) (same p (eq-eqb p p refl))
   left_same low high before after (Lost copy) same = refl
 
@@ -140,7 +140,7 @@ module _ {B : Type 0} where
       (left_same low high before after x (λ q own. let s = same 0 q x refl own in ap₂ slice_get s.0 s.1))
       (rest_same low high (x ∷ before) (x ∷ after) xs (λ j q later at own. let s = same (suc j) q later at own in (s.0, ap (λ n. cond (is_step_of q x) (suc n) n) s.1)))
 
-  module _ (low high : List (List (Left B))) (event : Event) (left : Left B) (put : IsPut low event left high) where
+  module _ (low high : List (List (Left B))) (event : Event) (left : Left B) (put : LeavesOnTop low event left high) where
     height_put : (q : ℕ) → length (stack_of high q) ≡ cond (is_step_of q event) (suc (length (stack_of low q))) (length (stack_of low q))
     height_put q = by (is_step_of q event) (same_stack low high event left put q) (top_stack low high event left put q)
       where
@@ -186,7 +186,7 @@ module _ {B : Type 0} where
     recorded_at earlier [] i at h last = absurd (none-some event at)
     recorded_at earlier (x ∷ xs) zero at h last =
         let is = same_Some x event at in (
-          ap (λ e. Some (recorded_of e (left_by high earlier e))) is
+          ap (λ e. Some (recorded_of e (left_of high earlier e))) is
               ∙ ap (λ l. Some (recorded_of event l))
               (left_top low high event left put earlier (λ q own.
               lowest _ _ _ _ (is_step_of q x) (is_step_of q event) (ap (is_step_of q) is) own (h q) (height_put q) (no_steps q xs (λ j later at_later. last (suc j) q later (omega arith) at_later own)))),

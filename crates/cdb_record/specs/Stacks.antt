@@ -9,8 +9,8 @@ use Rattle.cdb_record.specs.declared.recorded.Left.{Left}
 use Rattle.cdb_record.specs.declared.recorded.Recorded.{Recorded}
 
 -- what lies in each stack
-abbrev pub lists : {T Z : Type 0} → List (Vec T Z) → List (List T)
-lists stacks = map (λ stack. stack.items) stacks
+abbrev pub contents : {T Z : Type 0} → List (Vec T Z) → List (List T)
+contents stacks = map (λ stack. stack.items) stacks
 
 -- the stack of process p
 abbrev pub stack_of : {T : Type 0} → List (List T) → ℕ → List T
@@ -26,15 +26,15 @@ abbrev pub AreAsHigh : {T : Type 0} → List (List T) → List Event → Type 0
 AreAsHigh stacks events = (p : ℕ) → length (stack_of stacks p) ≡ steps_of p events
 
 -- what the event left, where those events come before it
-abbrev pub left_by : {B : Type 0} → List (List (Left B)) → List Event → Event → Left B
-left_by stacks earlier (Step p k kind) = unwrap_or (slice_get (stack_of stacks p) (steps_of p earlier)) nothing
-left_by stacks earlier (Lost copy) = nothing
+abbrev pub left_of : {B : Type 0} → List (List (Left B)) → List Event → Event → Left B
+left_of stacks earlier (Step p k kind) = unwrap_or (slice_get (stack_of stacks p) (steps_of p earlier)) nothing
+left_of stacks earlier (Lost copy) = nothing
 
 -- the events, each with what it left, where those events come before them
 abbrev pub recorded_after : {B : Type 0} → List (List (Left B)) → List Event → List Event → List (Recorded B)
 recorded_after stacks earlier [] = []
 recorded_after stacks earlier (event ∷ events) =
-    recorded_of event (left_by stacks earlier event) ∷ recorded_after stacks (event ∷ earlier) events
+    recorded_of event (left_of stacks earlier event) ∷ recorded_after stacks (event ∷ earlier) events
 
 -- something lies in the stack of the event's process, where it has one
 abbrev pub HasLeft : {T : Type 0} → List (List T) → Event → Type 0
@@ -42,7 +42,7 @@ HasLeft stacks (Step p k kind) = 0 < length (stack_of stacks p)
 HasLeft stacks (Lost copy) = ⊤
 
 -- a step has put what it left on the stack of its process; a loss leaves nothing
-abbrev pub IsPut : {B : Type 0} → List (List (Left B)) → Event → Left B → List (List (Left B)) → Type 0
-IsPut low (Step p k kind) left high =
+abbrev pub LeavesOnTop : {B : Type 0} → List (List (Left B)) → Event → Left B → List (List (Left B)) → Type 0
+LeavesOnTop low (Step p k kind) left high =
     (stack_of high p ≡ stack_of low p ++ left ∷ []) × ((q : ℕ) → q ≢ p → stack_of high q ≡ stack_of low q)
-IsPut low (Lost copy) left high = (left ≡ nothing) × (high ≡ low)
+LeavesOnTop low (Lost copy) left high = (left ≡ nothing) × (high ≡ low)

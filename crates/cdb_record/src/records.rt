@@ -15,7 +15,7 @@ ghost use Rattle.cdb_causal.specs.Rollback.{without};
 ghost use Rattle.cdb_causal.specs.Standing.{HasNoLostCopy};
 ghost use Rattle.cdb_record.specs.Counts.{dependents_at};
 ghost use Rattle.cdb_record.specs.Recorded.{events_of, nothing, recorded_of};
-ghost use Rattle.cdb_record.specs.Stacks.{lists, HasLeft, IsPut};
+ghost use Rattle.cdb_record.specs.Stacks.{contents, HasLeft, LeavesOnTop};
 ghost use Rattle.cdb_record.specs.Taken.{IsKept, IsTakenFree, IsTakenOut, IsStepOf, IsLastStepOf, TakesWhereFree};
 ghost use Rattle.cdb_record.specs.declared.recorded.Left.{Left as WhatIsLeft};
 
@@ -41,18 +41,18 @@ impl<B: Drop> Model for Records<B> {
 
     ghost Value = { List (Recorded B) };
 
-    ghost use Rattle.cdb_record.specs.Stacks.{lists, recorded_after, AreAsHigh};
+    ghost use Rattle.cdb_record.specs.Stacks.{contents, recorded_after, AreAsHigh};
 
-    ghost view = { λ records. recorded_after (lists records.left) [] records.history };
+    ghost view = { λ records. recorded_after (contents records.left) [] records.history };
 
-    ghost invariant = { λ records. AreAsHigh (lists records.left) records.history
+    ghost invariant = { λ records. AreAsHigh (contents records.left) records.history
         × (length records.history ≤ 4294967295) };
 }
 
 /// Takes what an event left from the top of its process's stack. A loss left nothing.
 fn take_left<B: Drop>(stacks: &mut [Vec<Left<B>>; 9], event: &Event) -> Left<B>
-    requires { HasLeft (lists stacks.old) event.now }
-    ensures { IsPut (lists stacks.new) event.now result (lists stacks.old) }
+    requires { HasLeft (contents stacks.old) event.now }
+    ensures { LeavesOnTop (contents stacks.new) event.now result (contents stacks.old) }
 {
     match event {
         Event::Step { p, .. } => {

@@ -1,5 +1,5 @@
 use Rattle.std.proofs.Common.{leb-false, arith}
-use Rattle.cdb_record.specs.Stacks.{lists}
+use Rattle.cdb_record.specs.Stacks.{contents}
 use Rattle.cdb_record.proofs.Seams.{length_seen}
 use Rattle.cdb_record.proofs.records.Records.is_full.Goals as goal
 
@@ -7,5 +7,5 @@ pub returns : goal.returns
 returns g c = λ less.
     let few = leb-false 4294967295 c.len.result less in
     let count = c.len.ensures.count in
-    let seen = length_seen (lists c.self.inside.left) c.self.inside.history c.self.view_is in
+    let seen = length_seen (contents c.self.inside.left) c.self.inside.history c.self.view_is in
     omega (arith, few, count, seen)
