@@ -1,5 +1,5 @@
 -- What `auto` does, by the rules of a run.
-use Rattle.std.specs.Prelude.{◌≡◌, ℕ, not, nat_le, if◌then◌else◌, is_some, List, [], ◌∷◌, Option, Some, None, Result, Ok, Err, is_none, find, ok_or}
+use Rattle.std.specs.Prelude.{ℕ, not, nat_le, if◌then◌else◌, is_some, List, [], ◌∷◌, Option, Some, None, Result, Err, is_none, find, ok_or}
 use Rattle.std.specs.Result.{result_err}
 use Rattle.cdb_base.specs.declared.act.Act.{Act}
 use Rattle.cdb_base.specs.declared.act.Act.TheVariants as act
@@ -47,21 +47,3 @@ first_act_of rules history p =
 
 abbrev pub choice : Rules → List Event → ℕ → Result Act Refusal
 choice rules history p = chosen (rules.process history p) (first_act_of rules history p)
-
--- ---- what the code keeps for itself
-
--- what the run returns for the act that is chosen
-abbrev pub answer_to_chosen : Rules → List Event → ℕ → Result Act Refusal → Result Event Refusal
-answer_to_chosen rules history p (Ok a) = rules.step history p a
-answer_to_chosen rules history p (Err why) = Err why
-
-abbrev pub first_step_of : Rules → List Event → ℕ → Result Event Refusal
-first_step_of rules history p = answer_to_chosen rules history p (first_act_of rules history p)
-
--- `auto` is refused with it, whatever act is possible
-abbrev pub IsRefusedForAuto : Rules → List Event → ℕ → Refusal → Type 0
-IsRefusedForAuto rules history p why = (possible : Result Act Refusal) → chosen (rules.process history p) possible ≡ Err why
-
--- none of the refusals of `auto` itself holds
-abbrev pub IsFreeForAuto : Rules → List Event → ℕ → Type 0
-IsFreeForAuto rules history p = (possible : Result Act Refusal) → chosen (rules.process history p) possible ≡ possible

@@ -86,16 +86,6 @@ stepped rules t p e =
       after = record t { history = t.history ++ e ∷ []; pause = option_or t.pause paused };
     }
 
--- what is told of a step that stands last, and the pause that it sets; the code keeps this word for itself
-abbrev pub step_told : Rules → State → ℕ → Event → ℕ → Outcome
-step_told rules t p e round_before =
-    let taken : TakenStep = record { event = e; decides = decision_of rules t.history p; round_before = round_before; round_after = round_of rules t.history p } in
-    let paused = newly_fired t.pause taken t.stops in
-    record {
-      reply = reply.Stepped e taken.decides paused;
-      after = record t { pause = option_or t.pause paused };
-    }
-
 abbrev pub step : Rules → State → ℕ → Act → Outcome
 step rules t p act = granted (rules.step t.history p act) t (stepped rules t p)
 

@@ -3,11 +3,12 @@ ghost use Rattle.std.specs.Prelude.{◌≡◌, ◌+◌, ◌≤◌, [], true, IfO
 ghost use Rattle.std.specs.Option.{option_or};
 ghost use Rattle.cdb_base.specs.declared.limits.TheConstants.{MAX_ENTRIES};
 ghost use Rattle.cdb_control.specs.Done.{came_out, CameOutAs, IsCarriedOut, IsCarriedOutForAny, IsNoRefusal, IsTaken, IsTakenFromAny, NoneShrinks};
-ghost use Rattle.cdb_control.specs.Auto.{choice, first_act_of, first_step_of, IsFreeForAuto, IsRefusedForAuto};
-ghost use Rattle.cdb_control.specs.Commands.{step, step_told, undo, rollback, why, show, decides, newly_fired};
+ghost use Rattle.cdb_control.specs.Auto.{choice, first_act_of};
+ghost use Rattle.cdb_control.specs.Commands.{step, undo, rollback, why, show, decides, newly_fired};
 ghost use Rattle.cdb_rules.specs.EventRefs.{name_given};
 ghost use Rattle.cdb_rules.specs.Runs.{with_answer};
 ghost use Rattle.cdb_rules.specs.Step.{is_among};
+ghost use Rattle.cdb_control.specs.Trying.{first_step_of, step_told, IsFreeForAuto, IsRefusedForAuto};
 ghost use Rattle.cdb_control.specs.Room.{capacity_of, is_spared, HasSpace};
 ghost use Rattle.cdb_control.specs.State.{first_control_state, held, redo_of, AreOfRun};
 ghost use Rattle.cdb_rules.specs.Views.{round_of, decision_of};
