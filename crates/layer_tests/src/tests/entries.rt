@@ -1,6 +1,6 @@
 //! The records of an example. Their calls are those of the records that it holds.
 
-use super::events::may_follow;
+use super::events::{may_lose, may_take};
 use cdb_base::{Cell, CopyName, Event, Kind, NoMemory, Proc, StepId, Val};
 use cdb_record::{Left, Recorded, Records};
 use std::alloc::Global;
@@ -67,8 +67,7 @@ impl ExampleRecords {
         back: Option<u32>,
         overwritten: Option<Cell>,
     ) -> Result<bool, NoMemory> {
-        let event = Event::Step { p, k, kind };
-        if !may_follow(self.records.history(), &event) {
+        if !may_take(self.records.history(), &p, k, &kind) {
             return Ok(false);
         }
         let mut calls = 0;
@@ -80,8 +79,7 @@ impl ExampleRecords {
 
     /// The same of the loss of a copy.
     fn add_loss(&mut self, copy: CopyName) -> Result<bool, NoMemory> {
-        let event = Event::Lost(copy);
-        if !may_follow(self.records.history(), &event) {
+        if !may_lose(self.records.history(), &copy) {
             return Ok(false);
         }
         let mut calls = 0;
@@ -100,8 +98,7 @@ impl ExampleRecords {
 
     /// Refuses memory to the change of a step, and says whether the change was asked for.
     pub fn add_step_without_memory(&mut self, p: Proc, k: u16, kind: Kind) -> bool {
-        let event = Event::Step { p, k, kind };
-        if !may_follow(self.records.history(), &event) {
+        if !may_take(self.records.history(), &p, k, &kind) {
             return false;
         }
         let mut calls = 0;
@@ -113,8 +110,7 @@ impl ExampleRecords {
 
     /// The same of the loss of a copy.
     pub fn add_loss_without_memory(&mut self, copy: CopyName) -> bool {
-        let event = Event::Lost(copy);
-        if !may_follow(self.records.history(), &event) {
+        if !may_lose(self.records.history(), &copy) {
             return false;
         }
         let mut calls = 0;
