@@ -4,7 +4,7 @@ ghost use Rattle.std.specs.Prelude.{◌≡◌, ℕ, ◌-◌, ◌<◌, ◌≤◌,
 ghost use Rattle.cdb_log.specs.Ends.{start, AreEnds, AreLastTwoEmpty, AreLoweredFrom, IsInPiece, IsSpot};
 
 /// How many items a piece has at most.
-pub(crate) const PIECE: usize = 256;
+pub(crate) const PIECE: usize = 128;
 
 /// Where piece `k` starts.
 pub(crate) fn start_of(ends: &[usize], k: usize) -> usize

@@ -11,7 +11,7 @@ use std::alloc::Global;
 use std::marker::Model;
 
 /// How many pieces a log has at most, so that each mark is below `ABOVE_ALL`.
-const PIECES: usize = 16_777_215;
+const PIECES: usize = 33_554_431;
 
 /// The mark of an item.
 pub type Mark = u32;

@@ -3,6 +3,5 @@ pub mod Recorded
 pub mod Adding
 pub mod Counts
 pub mod Taken
--- what the code keeps for itself: how an event is looked for and taken out, and where what the steps left lies
+-- what the code keeps for itself: how an event is looked for, and taken out
 pub mod Search
-pub mod Stacks

@@ -1,10 +1,9 @@
 //! The records of all standing events.
 
-ghost use Rattle.std.specs.Prelude.{◌≡◌, ◌-◌, ◌<◌, ◌≤◌, [], ◌∷◌, ◌++◌, false, Some, Ok, length, IfErr, IfOk, OnOk, OnErr};
-ghost use Rattle.std.specs.Fn.{FnOnceReturnsAtMut, FnOnceTakesAtMut};
+ghost use Rattle.std.specs.Prelude.{◌≡◌, ◌-◌, ◌≤◌, [], Some, length, IfErr, OnOk, OnErr};
+ghost use Rattle.std.specs.Fn.{FnOnceTakesAtMut};
 ghost use Rattle.cdb_base.specs.Event.{event_name};
 ghost use Rattle.cdb_base.specs.Positions.{nth};
-ghost use Rattle.cdb_base.specs.declared.event.Event.TheVariants.{Step, Lost};
 ghost use Rattle.cdb_base.specs.declared.name.StepId.TheVariants as named;
 ghost use Rattle.cdb_causal.specs.Causality.{IsFree};
 ghost use Rattle.cdb_causal.specs.Changing.{HasFailed};
@@ -14,14 +13,14 @@ ghost use Rattle.cdb_causal.specs.Rollback.{without};
 ghost use Rattle.cdb_causal.specs.Standing.{HasNoLostCopy};
 ghost use Rattle.cdb_record.specs.Adding.{IsAddedBy};
 ghost use Rattle.cdb_record.specs.Counts.{IsCountOf, IsZeroWhereFree};
-ghost use Rattle.cdb_record.specs.Recorded.{events_of, nothing, recorded_of};
+ghost use Rattle.cdb_record.specs.Recorded.{events_of};
 ghost use Rattle.cdb_record.specs.Search.{TakesFree, IsLastStepOrNone};
-ghost use Rattle.cdb_record.specs.Stacks.{contents, HasLeft, LeavesOnTop};
 ghost use Rattle.cdb_record.specs.Taken.{IsLastStepOf, TakesWhereFree};
 
 use crate::recorded::{Left, Recorded};
-use cdb_base::{CopyName, Event, Kind, NoMemory, Proc, StepId};
+use cdb_base::{CopyName, Event, NoMemory, Proc, StepId};
 use cdb_causal::{History, count_direct_dependents, first_dependent};
+use cdb_log::Log;
 use std::alloc::Global;
 use std::marker::Model;
 
@@ -30,40 +29,22 @@ use std::marker::Model;
 #[derive(Drop)]
 pub struct Records<B: Drop> {
     history: History,
-    /// What the standing steps of each process left, the last on top: no step is taken out before a
-    /// later one of its process.
-    left: [Vec<Left<B>>; 9],
+    /// What each event left.
+    left: Log<Left<B>>,
 }
 
 impl<B: Drop> Model for Records<B> {
-    ghost use Rattle.std.specs.Prelude.{◌≤◌, List, [], length};
+    ghost use Rattle.std.specs.Prelude.{◌≡◌, ◌≤◌, List, length};
     ghost use Rattle.cdb_record.specs.declared.recorded.Recorded.{Recorded};
 
     ghost Value = { List (Recorded B) };
 
-    ghost use Rattle.cdb_record.specs.Stacks.{contents, recorded_after, AreAsHigh};
+    ghost use Rattle.cdb_record.specs.Recorded.{records_of};
 
-    ghost view = { λ records. recorded_after (contents records.left) [] records.history };
+    ghost view = { λ records. records_of records.history records.left.items };
 
-    ghost invariant = { λ records. AreAsHigh (contents records.left) records.history
+    ghost invariant = { λ records. (length records.left.items ≡ length records.history)
         × (length records.history ≤ 4294967295) };
-}
-
-/// Takes what an event left from the top of its process's stack. A loss left nothing.
-fn take_left<B: Drop>(stacks: &mut [Vec<Left<B>>; 9], event: &Event) -> Left<B>
-    requires { HasLeft (contents stacks.old) event.now }
-    ensures { LeavesOnTop (contents stacks.new) event.now result (contents stacks.old) }
-{
-    match event {
-        Event::Step { p, .. } => {
-            let stack = &mut stacks[p.index()];
-            stack.take_last()
-        }
-        Event::Lost(_) => Left {
-            back: None,
-            overwritten: None,
-        },
-    }
 }
 
 impl<B: Drop> Records<B> {
@@ -73,17 +54,7 @@ impl<B: Drop> Records<B> {
     {
         Records {
             history: History::new(alloc),
-            left: [
-                Vec::new(alloc),
-                Vec::new(alloc),
-                Vec::new(alloc),
-                Vec::new(alloc),
-                Vec::new(alloc),
-                Vec::new(alloc),
-                Vec::new(alloc),
-                Vec::new(alloc),
-                Vec::new(alloc),
-            ],
+            left: Log::new(alloc),
         }
     }
 
@@ -115,65 +86,30 @@ impl<B: Drop> Records<B> {
         }
     }
 
-    /// Whether no event more may stand.
-    fn is_full(&self) -> bool
-        ensures { result ≡ false → length self.now < 4294967295 }
-    {
-        self.history.len() >= u32::MAX as usize
-    }
-
-    /// Changes a state as a step does, and adds the step at the end, with what `change` returns for taking
-    /// it back: makes room for both, then calls `change`, then adds them, which takes no memory. No event of
-    /// its name stands, and of a send no copy is lost. Where there is no room, where `change` fails, and
-    /// where 4,294,967,295 events stand, nothing is added.
+    /// Changes a state as an event does, and adds the event at the end, with what `change` returns for
+    /// taking it back: makes room for both, then calls `change`, then adds them, which takes no memory.
+    /// No event of its name stands, and of a send no copy is lost. Where there is no room, where `change`
+    /// fails, and where 4,294,967,295 events stand, nothing is added.
     pub fn push_with<S, F: FnOnce(&mut S) -> Result<Left<B>, NoMemory>>(
         &mut self,
-        p: Proc,
-        k: u16,
-        kind: Kind,
+        event: Event,
         state: &mut S,
         change: F,
     ) -> Result<(), NoMemory>
-        requires new_name { IsNewName (events_of self.old) (event_name (Step p k kind)) }
-        requires not_lost { HasNoLostCopy (events_of self.old) (Step p k kind) }
+        requires new_name { IsNewName (events_of self.old) (event_name event) }
+        requires not_lost { HasNoLostCopy (events_of self.old) event }
         requires callable { FnOnceTakesAtMut F.FnOnce change state.old }
         ensures ok { OnOk result
-            (IsAddedBy F.FnOnce change state.old state.new (Step p k kind) self.old self.new) }
+            (IsAddedBy F.FnOnce change state.old state.new event self.old self.new) }
         ensures failed { IfErr result (λ e. HasFailed F.FnOnce change state.old e state.new) }
         ensures err { OnErr result (self.new ≡ self.old) }
     {
-        if self.is_full() {
+        if self.left.len() >= u32::MAX as usize {
             return Err(NoMemory);
         }
-        let stack = &mut self.left[p.index()];
-        stack.reserve(1)?;
-        let event = Event::Step { p, k, kind };
+        self.left.reserve()?;
         let left = self.history.push_with(event, state, change)?;
-        stack.push_reserved(left);
-        Ok(())
-    }
-
-    /// Changes a state as the loss of a copy does, and adds the loss at the end: makes room for it, then
-    /// calls `change`, then adds it, which takes no memory. No loss of that copy stands. Where there is no
-    /// room, where `change` fails, and where 4,294,967,295 events stand, nothing is added.
-    pub fn push_loss_with<S, F: FnOnce(&mut S) -> Result<(), NoMemory>>(
-        &mut self,
-        copy: CopyName,
-        state: &mut S,
-        change: F,
-    ) -> Result<(), NoMemory>
-        requires new_name { IsNewName (events_of self.old) (named.Lost copy) }
-        requires callable { FnOnceTakesAtMut F.FnOnce change state.old }
-        ensures changed { IfOk result
-            (λ done. FnOnceReturnsAtMut F.FnOnce change state.old (Ok done) state.new) }
-        ensures added { OnOk result (self.new ≡ self.old ++ recorded_of (Lost copy) nothing ∷ []) }
-        ensures failed { IfErr result (λ e. HasFailed F.FnOnce change state.old e state.new) }
-        ensures err { OnErr result (self.new ≡ self.old) }
-    {
-        if self.is_full() {
-            return Err(NoMemory);
-        }
-        self.history.push_with(Event::Lost(copy), state, change)?;
+        self.left.push_reserved(left);
         Ok(())
     }
 
@@ -187,7 +123,7 @@ impl<B: Drop> Records<B> {
         ensures rest { self.new ≡ without self.old (at - 1) }
     {
         let event = self.history.remove(at);
-        let Left { back, overwritten } = take_left(&mut self.left, &event);
+        let Left { back, overwritten } = self.left.take_out(at - 1);
         Recorded {
             event,
             back,

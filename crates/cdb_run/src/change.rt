@@ -1,6 +1,7 @@
 //! What one step changes: its process, the mail and the registers.
 
 ghost use Rattle.std.specs.Prelude.{◌≡◌, ◌<◌, ◌≤◌, false, length, None, Some, IsTrue, IsSome, IfOk, OnOk, OnErr};
+ghost use Rattle.cdb_message.specs.Mail.{is_sent, is_received, is_lost, add_loss};
 ghost use Rattle.cdb_run.specs.Back.{put_back, overwritten_cell};
 ghost use Rattle.cdb_rules.specs.Mail.{mail_after, IsPostable};
 ghost use Rattle.cdb_rules.specs.Step.{wished_payload, wished_cell};
@@ -9,7 +10,7 @@ ghost use Rattle.cdb_run.specs.Plans.{local_after, payload_due, cell_due};
 ghost use Rattle.cdb_run.specs.Registers.{IsWritable};
 
 use crate::progress::{count, give_back, take_input};
-use cdb_base::{Cell, Kind, MsgName, NoMemory, Payload, Proc};
+use cdb_base::{Cell, CopyName, Kind, MsgName, NoMemory, Payload, Proc};
 use cdb_message::mail::Mail;
 use cdb_process::{Input, Process, Wish};
 use cdb_record::Left;
@@ -137,4 +138,25 @@ pub(crate) fn change<P: Process>(
     count(progress, kind);
     let overwritten = write(registers, kind, &wish);
     Ok(Left { back, overwritten })
+}
+
+/// Loses a copy, which leaves nothing for taking the loss back. A refused growth changes nothing.
+pub(crate) fn lose<B: Drop>(
+    alloc: Global,
+    mail: &mut Mail,
+    copy: &CopyName,
+) -> Result<Left<B>, NoMemory>
+    requires among { copy.now.to ≤ length mail.old.received }
+    requires sent { IsTrue (is_sent mail.old copy.now.msg) }
+    requires not_received { is_received mail.old copy.now.to copy.now.msg ≡ false }
+    requires not_lost { is_lost mail.old copy.now ≡ false }
+    ensures nothing { IfOk result (λ left. left ≡ record { back = None; overwritten = None }) }
+    ensures ok { OnOk result (mail.new ≡ add_loss mail.old copy.now) }
+    ensures err { OnErr result (mail.new ≡ mail.old) }
+{
+    mail.lose(alloc, copy.to, copy.msg)?;
+    Ok(Left {
+        back: None,
+        overwritten: None,
+    })
 }

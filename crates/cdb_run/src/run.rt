@@ -8,6 +8,7 @@ ghost use Rattle.cdb_rules.specs.Refusals.{IsOfRun};
 ghost use Rattle.cdb_rules.specs.Runs.{IsNumberAmong, IsNext, IsInOrder, process_in, progress_in, alive_in, steps_in, queries_in, local_in, mail_in, registers_in, register_in, cell_in, writes_in, decisions_in, answer_to_step, answer_to_again, answer_to_loss, with_event, with_answer, IsJustTaken};
 
 use crate::among::process_among;
+use crate::change::lose;
 use crate::first::first_processes;
 use crate::plan::{plan, plan_again, plan_loss, plan_loss_again};
 use crate::progress::decided;
@@ -84,10 +85,9 @@ impl<P: Process> Run<P> {
         ensures err { OnErr result (self.new ≡ self.old) }
     {
         let _ranges = self.setup.n();
+        let event = Event::Step { p, k, kind: *kind };
         self.records
-            .push_with(p, k, *kind, &mut self.state, |state| {
-                state.step(alloc, p, kind)
-            })?;
+            .push_with(event, &mut self.state, |state| state.step(alloc, p, kind))?;
         Ok(())
     }
 
@@ -98,9 +98,10 @@ impl<P: Process> Run<P> {
         ensures err { OnErr result (self.new ≡ self.old) }
     {
         let _ranges = self.setup.n();
+        let event = Event::Lost(*copy);
         let mail = &mut self.state.mail;
         self.records
-            .push_loss_with(*copy, mail, |mail| mail.lose(alloc, copy.to, copy.msg))?;
+            .push_with(event, mail, |mail| lose(alloc, mail, copy))?;
         Ok(())
     }
 

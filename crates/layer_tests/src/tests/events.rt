@@ -2,7 +2,7 @@
 
 ghost use Rattle.std.specs.Prelude.{◌≡◌, ◌≤◌, IsTrue, false};
 ghost use Rattle.cdb_base.specs.Event.{event_name};
-ghost use Rattle.cdb_base.specs.declared.event.Event.TheVariants.{Lost, Step};
+ghost use Rattle.cdb_base.specs.declared.event.Event.TheVariants.{Lost};
 ghost use Rattle.cdb_base.specs.declared.name.CopyName.{CopyName as ACopy};
 ghost use Rattle.cdb_causal.specs.Dependence.{send_and_loss};
 ghost use Rattle.cdb_causal.specs.Names.{IsNewName};
@@ -108,26 +108,4 @@ pub fn may_follow(history: &History, event: &Event) -> bool
     ensures not_lost { IsTrue result → HasNoLostCopy history.now event.now }
 {
     has_new_name(history, event) && has_no_lost_copy(history, event)
-}
-
-/// Whether a history may have the step next.
-pub fn may_take(history: &History, p: &Proc, k: u16, kind: &Kind) -> bool
-    ensures new_name { IsTrue result →
-        IsNewName history.now (event_name (Step p.now k kind.now)) }
-    ensures not_lost { IsTrue result → HasNoLostCopy history.now (Step p.now k kind.now) }
-{
-    let event = Event::Step {
-        p: *p,
-        k,
-        kind: *kind,
-    };
-    may_follow(history, &event)
-}
-
-/// Whether a history may have the loss of the copy next.
-pub fn may_lose(history: &History, copy: &CopyName) -> bool
-    ensures { IsTrue result → IsNewName history.now (event_name (Lost copy.now)) }
-{
-    let event = Event::Lost(*copy);
-    may_follow(history, &event)
 }

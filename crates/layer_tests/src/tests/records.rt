@@ -70,8 +70,8 @@ fn what_it_takes_to_go_back(rt: HostRuntime) -> Result<(), Fail> {
         lrww: 0,
         val: Some(Val::new(7)),
     };
-    let write = Kind::Write(Reg::Dec);
-    assert!(rt; records.add_step(Proc::new(2), 2, write, Some(12), Some(cell))?);
+    let write = step(2, 2, Kind::Write(Reg::Dec));
+    assert!(rt; records.add_with(write, Some(12), Some(cell))?);
     assert_eq!(rt; records.len(), 5);
     assert_eq!(rt; records.count_of(name(2, 2)), 0);
     let entry = records
@@ -84,36 +84,11 @@ fn what_it_takes_to_go_back(rt: HostRuntime) -> Result<(), Fail> {
     Ok(())
 }
 
-/// What the steps of two processes left is found again in any order, beside a loss.
-#[test]
-fn each_process_has_its_own_stack(rt: HostRuntime) -> Result<(), Fail> {
-    let mut records = ExampleRecords::new(rt.alloc());
-    let first = Proc::new(1);
-    let second = Proc::new(2);
-    assert!(rt; records.add_step(first, 1, Kind::Send(1), Some(11), None)?);
-    assert!(rt; records.add_step(second, 1, Kind::Local, Some(21), None)?);
-    assert!(rt; records.add(Event::Lost(copy(1, 1, 2)))?);
-    assert!(rt; records.add_step(first, 2, Kind::Local, Some(12), None)?);
-    assert!(rt; records.add_step(second, 2, Kind::Local, Some(22), None)?);
-    assert_eq!(rt; records.take_back_of(first), Some(12));
-    assert_eq!(rt; records.take_back_of(second), Some(22));
-    assert_eq!(rt; records.take_back_of(second), Some(21));
-    assert_eq!(rt; records.take_back_of(first), None);
-    assert_eq!(rt;
-        records.take_lost(copy(1, 1, 2)),
-        Some(Event::Lost(copy(1, 1, 2)))
-    );
-    assert_eq!(rt; records.take_back_of(first), Some(11));
-    assert_eq!(rt; records.len(), 0);
-    Ok(())
-}
-
 /// Where the change of an event fails, the event is not added.
 #[test]
 fn a_failed_change_is_not_recorded(rt: HostRuntime) -> Result<(), Fail> {
     let mut records = example(rt.alloc())?;
-    assert!(rt; records.add_step_without_memory(Proc::new(2), 2, Kind::Local));
-    assert!(rt; records.add_loss_without_memory(copy(1, 1, 1)));
+    assert!(rt; records.add_without_memory(step(2, 2, Kind::Local)));
     assert_eq!(rt; records.len(), 4);
     assert_eq!(rt; records.count_of(name(2, 1)), 0);
     Ok(())

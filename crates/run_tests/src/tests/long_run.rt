@@ -59,7 +59,7 @@ fn a_long_run_taken_back(rt: HostRuntime) {
     let mut dice = Dice { state: 1 };
     let mut run = Example::start(&rt, NINE_LEADERS);
     make_moves(&rt, &mut run, &mut dice, 300);
-    // The events of the run fill a piece of 256, and begin a second.
+    // The events of the run fill two pieces of 128, and begin a third.
     assert!(rt; standing(&run) > 256);
     undo_some(&rt, &mut run, &mut dice, 20);
     roll_back_one(&rt, &mut run, &mut dice, 200);

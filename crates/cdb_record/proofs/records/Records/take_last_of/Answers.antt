@@ -5,28 +5,27 @@ use Rattle.cdb_causal.specs.Causality.{IsFree}
 use Rattle.cdb_causal.specs.Dependence.{depends}
 use Rattle.cdb_record.specs.Recorded.{events_of}
 use Rattle.cdb_record.specs.Taken.{IsStepOf, IsLastStepOf, IsTakenOut}
-use Rattle.cdb_record.specs.Stacks.{contents}
 use Rattle.cdb_record.proofs.Seams.{history_seen, matched}
 use Rattle.cdb_record.proofs.records.Records.take_last_of.Goals as goal
 
 pub returns-in_err-at : goal.returns-in_err-at
 returns-in_err-at g c =
-    let seen = history_seen (contents c.self.inside.left) c.self.inside.history c.self.view_is in
+    let seen = history_seen c.self.inside.history c.self.inside.left.items c.self.invariant.0 c.self.view_is in
     subst (λ o. MatchOption o (((i : ℕ) → IsLastStepOf (events_of c.args.self.now) c.args.p i → IsFree depends (events_of c.args.self.now) i → ⊥) × (c.args.self.now ≡ c.args.self.now)) (λ entry. (i : ℕ) × IsLastStepOf (events_of c.args.self.now) c.args.p i × IsFree depends (events_of c.args.self.now) i × IsTakenOut c.args.self.now i entry c.args.self.now))
     (sym c.from_residual.ensures)
     ((λ i last free. subst (λ h. (i : ℕ) → IsStepOf h c.args.p i → ⊥) seen c.in_err-at.ensures i last.0), refl)
 
-pub take_free-requires : goal.take_free-requires
-take_free-requires g c =
-    let seen = history_seen (contents c.self.inside.left) c.self.inside.history c.self.view_is in
+pub take_free-requires-clause-to_len : goal.take_free-requires-clause-to_len
+take_free-requires-clause-to_len g c =
+    let seen = history_seen c.self.inside.history c.self.inside.left.items c.self.invariant.0 c.self.view_is in
     let within = slice_get_within c.self.inside.history (c.in_ok-at.at - 1) c.in_ok-at.ensures.1.0.0 c.in_ok-at.ensures.1.0.1 in
     let same = ap length seen in
     let mapped = length-map c.args.self.now (λ entry. entry.event) in
-    (omega arith, (c.in_ok-at.ensures.0, omega (arith, within, same, mapped)))
+    omega (arith, within, same, mapped)
 
 pub returns : goal.returns
 returns g c =
-    let seen = history_seen (contents c.self.inside.left) c.self.inside.history c.self.view_is in
+    let seen = history_seen c.self.inside.history c.self.inside.left.items c.self.invariant.0 c.self.view_is in
     let last = subst (λ h. IsLastStepOf h c.args.p (c.in_ok-at.at - 1)) seen c.in_ok-at.ensures.1 in
     matched
     (λ h. (

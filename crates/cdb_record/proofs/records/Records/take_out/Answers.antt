@@ -1,64 +1,49 @@
-use Rattle.std.proofs.Common.{◌≡◌, [], ◌-◌, length, Some, slice_get, sym, ap, ◌∙◌, subst, arith}
-use Rattle.cdb_causal.specs.Causality.{IsFree}
-use Rattle.cdb_causal.specs.Dependence.{depends}
+use Rattle.std.proofs.Common.{◌≡◌, ◌-◌, length, Some, sym, ap, ap₂, ◌∙◌, subst, arith}
+use Rattle.cdb_base.specs.Positions.{nth}
 use Rattle.cdb_causal.specs.Rollback.{without}
-use Rattle.cdb_causal.proofs.Lists.{nth_before}
-use Rattle.cdb_record.specs.Recorded.{recorded_of}
-use Rattle.cdb_record.specs.Stacks.{contents, recorded_after, AreAsHigh}
-use Rattle.cdb_record.proofs.Seams.{before_nth, fewer_without, history_seen, length_seen}
-use Rattle.cdb_record.proofs.Stacks.{has_left, high_without, taken}
+use Rattle.cdb_causal.proofs.Lists.{remove-without}
+use Rattle.cdb_record.specs.Recorded.{recorded_of, records_of}
+use Rattle.cdb_record.proofs.Seams.{fewer_without, same_length_without, length_entries, entries_without, entry_stood}
 use Rattle.cdb_record.proofs.records.Records.take_out.Goals as goal
 
 pub remove-event-requires-clause-to_len : goal.remove-event-requires-clause-to_len
 remove-event-requires-clause-to_len g c =
-    let seen = length_seen (contents c.self.inside.left) c.self.inside.history c.self.view_is in
+    let all = length_entries c.self.inside.history c.self.inside.left.items c.self.invariant.0 in
+    let seen = ap length c.self.view_is in
     let within = c.requires.to_len in
-    omega (arith, seen, within)
+    omega (arith, all, seen, within)
 
-pub take_left-back-requires : goal.take_left-back-requires
-take_left-back-requires g c =
-    let events = c.self.inside.history in
-    let i = c.args.at - 1 in
-    let event = c.remove-event.result in
-    let at = before_nth events c.args.at event c.requires.from_one c.remove-event.ensures.event in
-    (omega arith, has_left (contents c.self.inside.left) events i event at c.self.invariant.0)
+pub take_out-back-requires : goal.take_out-back-requires
+take_out-back-requires g c =
+    let all = length_entries c.self.inside.history c.self.inside.left.items c.self.invariant.0 in
+    let seen = ap length c.self.view_is in
+    let each = c.self.invariant.0 in
+    let first = c.requires.from_one in
+    let within = c.requires.to_len in
+    omega (arith, all, seen, each, first, within)
 
 pub invariant_of-self : goal.invariant_of-self
 invariant_of-self g c =
     let events = c.self.inside.history in
+    let lefts = c.self.inside.left.items in
     let i = c.args.at - 1 in
-    let event = c.remove-event.result in
-    let at = before_nth events c.args.at event c.requires.from_one c.remove-event.ensures.event in
-    let high = contents c.self.inside.left in
-    let low = contents c.take_left-back.new.stacks in
-    let left = c.take_left-back.result in
+    let left = ap length (c.take_out-back.ensures.items ∙ remove-without lefts i) in
     let rest = ap length c.remove-event.ensures.rest in
+    let each = same_length_without events lefts i c.self.invariant.0 in
     let fewer = fewer_without events i in
     let few = c.self.invariant.1 in
-    (subst (AreAsHigh low) (sym c.remove-event.ensures.rest) (high_without low high event left c.take_left-back.ensures events i at c.self.invariant.0), omega (arith, rest, fewer, few))
+    (left ∙ each ∙ sym rest, omega (arith, rest, fewer, few))
 
 pub returns-clause-recorded : goal.returns-clause-recorded
 returns-clause-recorded g c =
-    let events = c.self.inside.history in
-    let i = c.args.at - 1 in
-    let event = c.remove-event.result in
-    let at = before_nth events c.args.at event c.requires.from_one c.remove-event.ensures.event in
-    let high = contents c.self.inside.left in
-    let low = contents c.take_left-back.new.stacks in
-    let left = c.take_left-back.result in
-    let free = subst (λ h. IsFree depends h i) (sym (history_seen high events c.self.view_is)) c.requires.free in
-    let both = taken low high event left c.take_left-back.ensures events i at free c.self.invariant.0 in
-    nth_before c.args.self.now c.args.at (recorded_of event left) c.requires.from_one (subst (λ l. slice_get l i ≡ Some (recorded_of event left)) c.self.view_is both.0)
+    subst (λ l. nth l c.args.at ≡ Some (recorded_of c.remove-event.result c.take_out-back.result)) c.self.view_is
+    (entry_stood c.self.inside.history c.self.inside.left.items c.args.at c.remove-event.result c.take_out-back.result c.requires.from_one c.remove-event.ensures.event c.take_out-back.ensures.stood)
 
 pub returns-clause-rest : goal.returns-clause-rest
 returns-clause-rest g c =
     let events = c.self.inside.history in
+    let lefts = c.self.inside.left.items in
     let i = c.args.at - 1 in
-    let event = c.remove-event.result in
-    let at = before_nth events c.args.at event c.requires.from_one c.remove-event.ensures.event in
-    let high = contents c.self.inside.left in
-    let low = contents c.take_left-back.new.stacks in
-    let left = c.take_left-back.result in
-    let free = subst (λ h. IsFree depends h i) (sym (history_seen high events c.self.view_is)) c.requires.free in
-    let both = taken low high event left c.take_left-back.ensures events i at free c.self.invariant.0 in
-    ap (recorded_after low []) c.remove-event.ensures.rest ∙ both.1 ∙ ap (λ l. without l i) c.self.view_is
+    ap₂ records_of c.remove-event.ensures.rest (c.take_out-back.ensures.items ∙ remove-without lefts i)
+    ∙ entries_without events lefts i c.self.invariant.0
+    ∙ ap (λ l. without l i) c.self.view_is

@@ -36,7 +36,7 @@ pub take_back_named-event-requires : goal.take_back_named-event-requires
 take_back_named-event-requires g c =
     let left = subst (λ (names : List StepId). IsLeft c.args.self.now.history (c.args.at - 1) c.args.taken.now.items c.loop-name.self.history names c.loop-name.taken.items) c.in-Some.ensures.items c.loop-name.invariant.left in
     let next = next_free c.args.self.now.history (c.args.at - 1) c.args.taken.now.items c.pop.new.self.items c.in-Some.name left in
-    (omega arith, (next.0, next.1, next.2))
+    (next.0, next.1, next.2)
 
 pub loop-name-preserved : goal.loop-name-preserved
 loop-name-preserved g c =
@@ -63,12 +63,16 @@ loop-name-preserved g c =
       room = omega (arith, longer, same_room, fewer, room, length-append names (c.in-Some.name ∷ []));
     }
 
-pub take_back-event-requires : goal.take_back-event-requires
-take_back-event-requires g c =
+pub take_back-event-requires-clause-to_len : goal.take_back-event-requires-clause-to_len
+take_back-event-requires-clause-to_len g c =
     let one = alone_left c.args.self.now.history (c.args.at - 1) c.args.taken.now.items c.loop-name.names.items (c.loop-name.names.ok.0) c.in_default.ensures.cases.0 c.loop-name.invariant.left in
     let below = slice_get_within c.loop-name.self.history (c.args.at - 1) one.event one.at in
     let first = c.requires.from_one in
-    (omega arith, (first, (omega (arith, below, first), one.free)))
+    omega (arith, below, first)
+
+pub take_back-event-requires-clause-free : goal.take_back-event-requires-clause-free
+take_back-event-requires-clause-free g c =
+    (alone_left c.args.self.now.history (c.args.at - 1) c.args.taken.now.items c.loop-name.names.items (c.loop-name.names.ok.0) c.in_default.ensures.cases.0 c.loop-name.invariant.left).free
 
 pub returns-clause-number : goal.returns-clause-number
 returns-clause-number g c =

@@ -15,12 +15,15 @@ use Rattle.cdb_run.proofs.Restoring.{stepped_within, stepped_there, may_unpost, 
 use Rattle.cdb_run.proofs.run.Run.take_back.Goals as goal
 use Rattle.cdb_run.proofs.run.Run.take_back.Goals.{in-Some-1, in-None-1}
 
-pub take_out-back-requires : goal.take_out-back-requires
-take_out-back-requires g c =
+pub take_out-back-requires-clause-to_len : goal.take_out-back-requires-clause-to_len
+take_out-back-requires-clause-to_len g c =
     let same = ap (λ (s : RunView). s.history) c.self.view_is in
     let to_len = subst (λ h. c.args.at ≤ length h) (sym same) c.requires.to_len in
     let mapped = length-map c.self.inside.records (λ entry. entry.event) in
-    (omega arith, (c.requires.from_one, (omega (arith, to_len, mapped), subst (λ (s : RunView). IsFree depends s.history (c.args.at - 1)) (sym c.self.view_is) c.requires.free)))
+    omega (arith, to_len, mapped)
+
+pub take_out-back-requires-clause-free : goal.take_out-back-requires-clause-free
+take_out-back-requires-clause-free g c = subst (λ (s : RunView). IsFree depends s.history (c.args.at - 1)) (sym c.self.view_is) c.requires.free
 
 pub index_mut-progress-requires : goal.index_mut-progress-requires
 index_mut-progress-requires g c =

@@ -1,5 +1,4 @@
-use Rattle.std.proofs.Common.{◌-◌, slice_get, ap, sym, ◌∙◌, subst, arith}
-use Rattle.std.proofs.lemmas.Option.{slice_get_within}
+use Rattle.std.proofs.Common.{slice_get, ap, sym, ◌∙◌, subst}
 use Rattle.cdb_causal.specs.Causality.{IsFree}
 use Rattle.cdb_causal.specs.Dependence.{depends}
 use Rattle.cdb_causal.specs.Names.{IsNewName, IsPositionOf}
@@ -8,14 +7,11 @@ use Rattle.cdb_rules.specs.RunView.{RunView}
 use Rattle.cdb_rules.proofs.Finding.{position_before}
 use Rattle.cdb_run.proofs.run.Run.take_back_named.Goals as goal
 
-pub take_back-requires : goal.take_back-requires
-take_back-requires g c =
-    let history = c.args.self.now.history in
+pub take_back-requires-clause-free : goal.take_back-requires-clause-free
+take_back-requires-clause-free g c =
     let position = subst (λ h. IsPositionOf h c.args.name c.in-Some.at) c.history.ensures.events c.in-Some.ensures in
     let stands = c.requires in
-    let first = position.from_one in
-    let within = slice_get_within history (c.in-Some.at - 1) position.named.0 position.named.1 in
-    (omega arith, (first, (omega (arith, first, within), subst (IsFree depends history) (position.only stands.0 stands.1) stands.2)))
+    subst (IsFree depends c.args.self.now.history) (position.only stands.0 stands.1) stands.2
 
 pub unreachable-requires : goal.unreachable-requires
 unreachable-requires g c =

@@ -11,31 +11,44 @@ use Rattle.cdb_run.proofs.Held.{within}
 use Rattle.cdb_run.proofs.Stepping.{may_step, current_after, current_same}
 use Rattle.cdb_run.proofs.run.Run.take_step.Goals as goal
 
-pub push_with-requires : goal.push_with-requires
-push_with-requires g c =
+pub push_with-requires-clause-new_name : goal.push_with-requires-clause-new_name
+push_with-requires-clause-new_name g c =
     let process = g.P.Process in
-    let p = c.args.p in
-    let k = c.args.k in
-    let kind = c.args.kind.now in
-    let event = Step p k kind in
+    let event = Step c.args.p c.args.k c.args.kind.now in
     let enabled = subst (λ (s : RunView). IsNext process.table s event) (sym c.self.view_is) c.requires in
     let setup = c.self.inside.setup in
     let ranges = c.n-ranges.ensures.ranges in
     let number = length-first_states process.table.first 1 setup.processes setup.quorum setup.inputs in
     let inputs = ranges.an_input_each in
     let few = ranges.processes.1 in
-    let standing = enabled_standing c.self.invariant event enabled (omega (arith, number, inputs, few)) in (
-      omega arith,
-      (
-        new_name (events_of c.self.inside.records) event standing,
-        (
-          no_lost_copy (events_of c.self.inside.records) event standing,
-          λ state is a1 a2 a3 a4 a5 a6 a7 a8 a9 a10.
-              subst (λ (s : State _). (p ≤ length s.processes.items) × MayStep process.table s p kind) (sym is)
-              (within c.self.invariant p k kind enabled, may_step setup c.self.invariant p k kind enabled (omega (arith, number, inputs, few))),
-        ),
-      ),
-    )
+    new_name (events_of c.self.inside.records) event (enabled_standing c.self.invariant event enabled (omega (arith, number, inputs, few)))
+
+pub push_with-requires-clause-not_lost : goal.push_with-requires-clause-not_lost
+push_with-requires-clause-not_lost g c =
+    let process = g.P.Process in
+    let event = Step c.args.p c.args.k c.args.kind.now in
+    let enabled = subst (λ (s : RunView). IsNext process.table s event) (sym c.self.view_is) c.requires in
+    let setup = c.self.inside.setup in
+    let ranges = c.n-ranges.ensures.ranges in
+    let number = length-first_states process.table.first 1 setup.processes setup.quorum setup.inputs in
+    let inputs = ranges.an_input_each in
+    let few = ranges.processes.1 in
+    no_lost_copy (events_of c.self.inside.records) event (enabled_standing c.self.invariant event enabled (omega (arith, number, inputs, few)))
+
+pub push_with-requires-clause-callable : goal.push_with-requires-clause-callable
+push_with-requires-clause-callable g c = λ state is a1 a2 a3 a4 a5 a6 a7 a8 a9 a10.
+    let process = g.P.Process in
+    let p = c.args.p in
+    let k = c.args.k in
+    let kind = c.args.kind.now in
+    let enabled = subst (λ (s : RunView). IsNext process.table s (Step p k kind)) (sym c.self.view_is) c.requires in
+    let setup = c.self.inside.setup in
+    let ranges = c.n-ranges.ensures.ranges in
+    let number = length-first_states process.table.first 1 setup.processes setup.quorum setup.inputs in
+    let inputs = ranges.an_input_each in
+    let few = ranges.processes.1 in
+    subst (λ (s : State _). (p ≤ length s.processes.items) × MayStep process.table s p kind) (sym is)
+    (within c.self.invariant p k kind enabled, may_step setup c.self.invariant p k kind enabled (omega (arith, number, inputs, few)))
 
 pub invariant_of-self : goal.invariant_of-self
 invariant_of-self g c =

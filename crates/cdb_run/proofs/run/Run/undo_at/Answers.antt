@@ -1,4 +1,4 @@
-use Rattle.std.proofs.Common.{◌-◌, List, ap, sym, subst, ◌∙◌, arith}
+use Rattle.std.proofs.Common.{◌-◌, List, ap, sym, subst, ◌∙◌}
 use Rattle.cdb_base.specs.declared.event.Event.{Event}
 use Rattle.cdb_causal.specs.Causality.{IsFree}
 use Rattle.cdb_causal.specs.Dependence.{depends}
@@ -12,9 +12,9 @@ use Rattle.cdb_run.proofs.run.Run.undo_at.Goals as goal
 abbrev with_history : RunView → List Event → RunView
 with_history standing history = record standing { history = history }
 
-pub take_back-requires : goal.take_back-requires
-take_back-requires g c =
-    (omega arith, (c.requires.from_one, (c.requires.to_len, subst (λ h. IsFree depends h (c.args.at - 1)) c.history.ensures.events c.in-None.ensures)))
+pub take_back-requires-clause-free : goal.take_back-requires-clause-free
+take_back-requires-clause-free g c =
+    subst (λ h. IsFree depends h (c.args.at - 1)) c.history.ensures.events c.in-None.ensures
 
 pub returns-in-Some-clause-answer : goal.returns-in-Some-clause-answer
 returns-in-Some-clause-answer g c =
