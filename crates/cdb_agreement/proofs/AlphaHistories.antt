@@ -14,16 +14,14 @@ use Rattle.cdb_base.specs.declared.register.Reg.{Reg}
 use Rattle.cdb_base.specs.declared.register.Reg.TheVariants.{R, Dec}
 use Rattle.cdb_process.specs.declared.Input.{Input}
 use Rattle.cdb_process.specs.declared.Input.TheVariants as input
-use Rattle.cdb_process.specs.declared.Wish.{Wish}
-use Rattle.cdb_process.specs.declared.Wish.TheVariants as wished
+use Rattle.cdb_process.specs.Wishes.{wished_cell}
 use Rattle.cdb_message.specs.Mail.{message_name}
 use Rattle.cdb_register.specs.Registers.{RegisterStates, register_of, fresh_register, fresh_registers, written}
 use Rattle.cdb_register.specs.declared.RegisterState.{RegisterState}
 use Rattle.cdb_alpha.specs.LocalState.{LocalState, first_state}
 use Rattle.cdb_alpha.specs.Place.{place_number}
 use Rattle.cdb_alpha.specs.Table as table
-use Rattle.cdb_alpha.specs.Steps.{Traced, Step, stay, traced_of, Holds, Taken}
-use Rattle.cdb_alpha.specs.Steps as steps
+use Rattle.cdb_alpha.specs.Steps.{Traced, Step, stay, traced_of, ReadsRegisters, Taken}
 use Rattle.cdb_alpha.proofs.Promised.{each_input_is_a_step}
 use Rattle.cdb_setup.specs.Parts.{Parts, AreInRange}
 use Rattle.cdb_rules.specs.Agreement.{AllAgree}
@@ -31,7 +29,7 @@ use Rattle.cdb_rules.specs.Algorithms.{alpha_machine}
 use Rattle.cdb_rules.specs.Decisions.{decisions_of}
 use Rattle.cdb_rules.specs.Mail.{mail_of}
 use Rattle.cdb_rules.specs.State.{ProcessState, RunState, start, fresh_process}
-use Rattle.cdb_rules.specs.Step.{wished_cell, may_lose, after, fold}
+use Rattle.cdb_rules.specs.Step.{may_lose, after, fold}
 use Rattle.cdb_rules.specs.Taking.{arriving, taken_local, input_of, registers_after}
 use Rattle.cdb_rules.proofs.Stages.{sight_in, meets, process_after, state_after}
 use Rattle.cdb_agreement.proofs.AlphaRuns.{Run, first_run, own_of, RunStep, RunLaws, first_run_laws, cells_rise, run_step_keeps, laws_agree}
@@ -113,14 +111,6 @@ put_other traced p k s other = go (s == p) refl
     go true same = absurd (other (eqb-true s p same))
     go false same = refl
 
--- the cell that a run writes is the one that the machine wishes to write
-same_cell : (wish : Option Wish) → wished_cell wish ≡ steps.wished_cell wish
-same_cell None = refl
-same_cell (Some (wished.Send payload)) = refl
-same_cell (Some (wished.Read register)) = refl
-same_cell (Some (wished.Write register cell)) = refl
-same_cell (Some wished.Local) = refl
-
 -- what a step of the process x to the local state s leaves
 pub record Kinded (n : ℕ) (t : RunState LocalState) (run : Run) (x : ProcessState LocalState) (s : LocalState) (left : RegisterStates) : Type 0 where
   pub written_after : List (ℕ × ℕ)
@@ -161,7 +151,7 @@ module _ (n : ℕ) (setup : Parts) (t : RunState LocalState) (lawful : Lawful n 
         let all = (lawful.laws.each local.me low (omega arith)).seen_all (place ∙ here) in
         omega arith
 
-    takes : (i : Input) → Holds (own_of lawful.run) lawful.run.dec i → table.next_state local i ≡ Some s → IsTaken i
+    takes : (i : Input) → ReadsRegisters (own_of lawful.run) lawful.run.dec i → table.next_state local i ≡ Some s → IsTaken i
     takes i holds is = each_input_is_a_step (own_of lawful.run) lawful.run.dec local s mine.written mine.carried i passed holds is
 
     stepped : (i : Input) → (it : IsTaken i) → Step n (own_of lawful.run) lawful.run.dec mine (traced_of s it.written_after it.carried_after) it.published
@@ -193,7 +183,7 @@ module _ (n : ℕ) (setup : Parts) (t : RunState LocalState) (lawful : Lawful n 
     -- the own register is written
     writes_own : (j : ℕ) (it : IsTaken (input.Write (R j))) → Leaving (left_by (R j) (wished_cell (table.wish_of local)))
     writes_own j it =
-        subst (λ cell. Leaving (left_by (R j) cell)) (sym (same_cell (table.wish_of local) ∙ it.leaves.1)) (record {
+        subst (λ cell. Leaving (left_by (R j) cell)) (sym it.leaves.1) (record {
           written_after = it.written_after;
           carried_after = it.carried_after;
           published = it.published;
@@ -212,7 +202,7 @@ module _ (n : ℕ) (setup : Parts) (t : RunState LocalState) (lawful : Lawful n 
     -- the register of the decision is written
     writes_dec : (it : IsTaken (input.Write Dec)) → Leaving (left_by Dec (wished_cell (table.wish_of local)))
     writes_dec it =
-        subst (λ cell. Leaving (left_by Dec cell)) (sym (same_cell (table.wish_of local) ∙ it.leaves.2)) (record {
+        subst (λ cell. Leaving (left_by Dec cell)) (sym it.leaves.2) (record {
           written_after = it.written_after;
           carried_after = it.carried_after;
           published = it.published;
@@ -238,7 +228,7 @@ module _ (n : ℕ) (setup : Parts) (t : RunState LocalState) (lawful : Lawful n 
         go (Some y) there it = let taken = takes (input.Recv o y) tt it in keeps_cells (input.Recv o y) taken taken.leaves
     kind_step p (Read register) met is = go register (register_of t.registers register) refl met is
       where
-        holds : (r : Reg) (stands : RegisterState) → register_of t.registers r ≡ Some stands → Holds (own_of lawful.run) lawful.run.dec (input.Read r stands.cell)
+        holds : (r : Reg) (stands : RegisterState) → register_of t.registers r ≡ Some stands → ReadsRegisters (own_of lawful.run) lawful.run.dec (input.Read r stands.cell)
         holds (R j) stands here = lawful.holds j stands here
         holds Dec stands here = lawful.dec stands here
 

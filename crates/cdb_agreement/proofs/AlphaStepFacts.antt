@@ -5,7 +5,7 @@ use Rattle.std.proofs.lemmas.Bool.{cases_eq}
 use Rattle.cdb_base.specs.declared.register.Cell.{Cell}
 use Rattle.cdb_process.proofs.Members.{IsIn, Grows, same_grows, push_grows, in_push, in_push_old, in_push_new, in_contained}
 use Rattle.cdb_agreement.proofs.AlphaSteps.{TracedLaws}
-use Rattle.cdb_alpha.specs.Steps.{Traced, ValueBasis, PassPlace, Row, after_row, published_by, Step, stay, decide, look, lead, follow, enter, read, give_up, settle, write, read_again, fail, carry, publish}
+use Rattle.cdb_alpha.specs.Steps.{Traced, ValueBasis, PassPlace, FoundedRow, after_row, published_by, Step, stay, decide, look, lead, follow, enter, read, give_up, settle, write, read_again, fail, carry, publish}
 
 -- of a process that is in its second pass of round r: a cell that it has seen, or will read, was entered in a later round
 abbrev pub Doomed : ℕ → (ℕ → Cell) → Traced → ℕ → Type 0
@@ -53,7 +53,7 @@ module _ (n j : ℕ) (some_process : 1 ≤ n) (somebody : ℕ → ℕ → Type 0
   along : (P : Traced → Type 0) (k : Traced) {h : Traced} → k ≡ h → P h → P k
   along P k {h} is it = subst P (sym is) it
 
-  rows_round_up : (row : Row n own dec l) → l.round ≤ (after_row n own dec l row).round
+  rows_round_up : (row : FoundedRow n own dec l) → l.round ≤ (after_row n own dec l row).round
   rows_round_up stay = omega arith
   rows_round_up _ = omega arith
 
@@ -62,7 +62,7 @@ module _ (n j : ℕ) (some_process : 1 ≤ n) (somebody : ℕ → ℕ → Type 0
 
   -- what a process writes to its register never falls
 
-  rows_lre_up : (row : Row n own dec l) → l.own.lre ≤ (after_row n own dec l row).own.lre
+  rows_lre_up : (row : FoundedRow n own dec l) → l.own.lre ≤ (after_row n own dec l row).own.lre
   rows_lre_up (enter here) = let order = laws.order in omega arith
   rows_lre_up (write here) = let order = laws.order in omega arith
   rows_lre_up _ = omega arith
@@ -70,7 +70,7 @@ module _ (n j : ℕ) (some_process : 1 ≤ n) (somebody : ℕ → ℕ → Type 0
   pub lre_up : (k : Traced) (published : Option ℕ) → Step n own dec l k published → l.own.lre ≤ k.own.lre
   lre_up k published step = along (λ x. l.own.lre ≤ x.own.lre) k step.is (rows_lre_up step.row)
 
-  rows_lrww_up : (row : Row n own dec l) → l.own.lrww ≤ (after_row n own dec l row).own.lrww
+  rows_lrww_up : (row : FoundedRow n own dec l) → l.own.lrww ≤ (after_row n own dec l row).own.lrww
   rows_lrww_up (write here) = let order = laws.order in omega arith
   rows_lrww_up _ = omega arith
 
@@ -79,14 +79,14 @@ module _ (n j : ℕ) (some_process : 1 ≤ n) (somebody : ℕ → ℕ → Type 0
 
   -- the trace only grows
 
-  rows_written : (row : Row n own dec l) → Grows l.written (after_row n own dec l row).written
+  rows_written : (row : FoundedRow n own dec l) → Grows l.written (after_row n own dec l row).written
   rows_written (write here) = push_grows (l.round, l.value) l.written
   rows_written _ = same_grows l.written
 
   pub written_grows : (k : Traced) (published : Option ℕ) → Step n own dec l k published → Grows l.written k.written
   written_grows k published step = along (λ x. Grows l.written x.written) k step.is (rows_written step.row)
 
-  rows_carried : (row : Row n own dec l) → Grows l.carried (after_row n own dec l row).carried
+  rows_carried : (row : FoundedRow n own dec l) → Grows l.carried (after_row n own dec l row).carried
   rows_carried (carry here low) = push_grows l.round l.carried
   rows_carried _ = same_grows l.carried
 
@@ -95,7 +95,7 @@ module _ (n j : ℕ) (some_process : 1 ≤ n) (somebody : ℕ → ℕ → Type 0
 
   -- a round carried through after the step was before, or is the round of the step
 
-  rows_carried_from : (row : Row n own dec l) → (r : ℕ) → IsIn r (after_row n own dec l row).carried → IsIn r l.carried ⊎ (r ≡ l.round)
+  rows_carried_from : (row : FoundedRow n own dec l) → (r : ℕ) → IsIn r (after_row n own dec l row).carried → IsIn r l.carried ⊎ (r ≡ l.round)
   rows_carried_from (carry here low) r it = in_push r l.round l.carried it
   rows_carried_from _ r it = inl it
 
@@ -105,7 +105,7 @@ module _ (n j : ℕ) (some_process : 1 ≤ n) (somebody : ℕ → ℕ → Type 0
 
   -- what is written after the step was before, or the step writes it
 
-  rows_written_from : (row : Row n own dec l) → (r v : ℕ) → IsIn (r, v) (after_row n own dec l row).written
+  rows_written_from : (row : FoundedRow n own dec l) → (r v : ℕ) → IsIn (r, v) (after_row n own dec l row).written
       → IsIn (r, v) l.written ⊎ Wrote l (after_row n own dec l row) r v
   rows_written_from (write here) r v it = new (in_push (r, v) (l.round, l.value) l.written it)
     where
@@ -128,7 +128,7 @@ module _ (n j : ℕ) (some_process : 1 ≤ n) (somebody : ℕ → ℕ → Type 0
 
   -- what is published after the step was before, or was carried through
 
-  rows_published : (row : Row n own dec l) → (v : ℕ) → published_by n own dec l row ≡ Some v
+  rows_published : (row : FoundedRow n own dec l) → (v : ℕ) → published_by n own dec l row ≡ Some v
       → (dec ≡ Some v) ⊎ ((r : ℕ) × IsIn r l.carried × IsIn (r, v) l.written)
   rows_published (publish here) v it =
       let same : l.value ≡ v = cc in
@@ -142,7 +142,7 @@ module _ (n j : ℕ) (some_process : 1 ≤ n) (somebody : ℕ → ℕ → Type 0
 
   -- in a first pass after the step nothing is seen yet, or the pass stood before
 
-  rows_pass : (row : Row n own dec l) → 3 ≤ (after_row n own dec l row).place → (after_row n own dec l row).place ≤ 4
+  rows_pass : (row : FoundedRow n own dec l) → 3 ≤ (after_row n own dec l row).place → (after_row n own dec l row).place ≤ 4
       → ((after_row n own dec l row).seen ≡ []) ⊎ PassFrom own l (after_row n own dec l row)
   rows_pass stay from to = inr (record { from = from; to = to; stays = refl; seen = inl refl })
   rows_pass (enter here) from to = inl refl
@@ -157,7 +157,7 @@ module _ (n j : ℕ) (some_process : 1 ≤ n) (somebody : ℕ → ℕ → Type 0
 
   -- a value to be written after the step was before, or rests on what was seen
 
-  rows_value : (row : Row n own dec l) → (after_row n own dec l row).place ≡ 5 → ValueFrom l (after_row n own dec l row)
+  rows_value : (row : FoundedRow n own dec l) → (after_row n own dec l row).place ≡ 5 → ValueFrom l (after_row n own dec l row)
   rows_value stay at = record { stays = refl; value = inl (at, refl) }
   rows_value (settle v here basis) at = record { stays = refl; value = inr (here, basis) }
   rows_value (read p here (inl on)) at = absurd (omega arith)
@@ -228,7 +228,7 @@ module _ (n j : ℕ) (some_process : 1 ≤ n) (somebody : ℕ → ℕ → Type 0
       refuse here low at (inl seen) = let bound = low seen.2 (in_contained l.seen seen.2 seen.3) in let above = seen.4 in omega arith
       refuse here low at (inr ahead) = let six = ahead.0 in omega arith
 
-      by_row : l.round ≡ r → Doomed n own l r → (row : Row n own dec l) → DeadAt n own (after_row n own dec l row) r
+      by_row : l.round ≡ r → Doomed n own l r → (row : FoundedRow n own dec l) → DeadAt n own (after_row n own dec l row) r
       by_row at it stay = inr (at, it)
       by_row at it (read_again p here pass) = inr (at, reads p here pass it)
       by_row at it (fail here) = inl (omega arith, never_carried here at)

@@ -4,7 +4,7 @@ use Rattle.std.proofs.Common.{inl, inr, arith, sym, ◌∙◌, ap, subst, length
 use Rattle.cdb_base.specs.declared.register.Cell.{Cell}
 use Rattle.cdb_alpha.specs.LocalState.{first_cell}
 use Rattle.cdb_process.proofs.Members.{IsIn, in_push, in_push_new}
-use Rattle.cdb_alpha.specs.Steps.{Traced, PassPlace, Row, after_row, Step, stay, decide, look, lead, follow, enter, read, give_up, settle, write, read_again, fail, carry, publish}
+use Rattle.cdb_alpha.specs.Steps.{Traced, PassPlace, FoundedRow, after_row, Step, stay, decide, look, lead, follow, enter, read, give_up, settle, write, read_again, fail, carry, publish}
 
 -- before its first step
 abbrev pub first_traced : ℕ → ℕ → Traced
@@ -336,7 +336,7 @@ step_keeps n j low high S D own dec l k published known known_dec laws step =
     within reading p (inl on) = omega arith
     within reading p (inr over) = omega arith
 
-    by_row : (row : Row n own dec l) → TracedLaws n j S D (after_row n own dec l row)
+    by_row : (row : FoundedRow n own dec l) → TracedLaws n j S D (after_row n own dec l row)
     by_row stay = laws
     by_row (decide v here found) = keeps_decide n j low high S D l laws v here (known_dec v found)
     by_row (look here) = keeps_quiet n j low high S D l laws 1 (omega arith) (omega arith)

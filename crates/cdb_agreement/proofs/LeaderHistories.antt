@@ -14,6 +14,7 @@ use Rattle.cdb_process.specs.declared.Input.{Input}
 use Rattle.cdb_process.specs.declared.Input.TheVariants as input
 use Rattle.cdb_process.specs.declared.Wish.TheVariants as wished
 use Rattle.cdb_process.proofs.Members.{IsIn, in_contained}
+use Rattle.cdb_process.specs.Wishes.{wished_payload}
 use Rattle.cdb_base.specs.declared.name.MsgName.{MsgName}
 use Rattle.cdb_message.specs.Mail.{MailState, message_name, copy_name, payload_of, is_lost}
 use Rattle.cdb_register.specs.Registers.{register_of}
@@ -27,7 +28,7 @@ use Rattle.cdb_rules.specs.Algorithms.{leader_machine}
 use Rattle.cdb_rules.specs.Decisions.{decisions_of}
 use Rattle.cdb_rules.specs.Mail.{mail_of}
 use Rattle.cdb_rules.specs.State.{ProcessState, RunState, start, fresh_process}
-use Rattle.cdb_rules.specs.Step.{wished_payload, may_lose, after, fold}
+use Rattle.cdb_rules.specs.Step.{may_lose, after, fold}
 use Rattle.cdb_rules.specs.Taking.{arriving, taken_local, input_of}
 use Rattle.cdb_rules.proofs.Stages.{sight_in, meets, sent_after, process_after, state_after}
 use Rattle.cdb_agreement.proofs.Firsts.{length-firsts, first_at}
@@ -143,8 +144,8 @@ module _ (n : ℕ) (setup : Parts) (t : RunState LocalState) (lawful : Lawful n 
   kind_step x s p (Query leader) met is = takes_quietly x s (input.Query leader) refl (λ o y same. absurd (cc)) is
   kind_step x s p (Send m) met is = subst (λ o. IsStep x s (x.sent ++ option_to_list o)) (sym same) (takes x s input.Send (λ o y same. absurd (cc)) is)
     where
-      same : wished_payload (table.wish_of x.progress.local) ≡ table.sent_at x.progress.local.place x.progress.local
-      same = wish_sends (table.sent_at x.progress.local.place x.progress.local) (is_some (table.local_at x.progress.local.place x.progress.local))
+      same : wished_payload (table.wish_of x.progress.local) ≡ table.payload_at x.progress.local.place x.progress.local
+      same = wish_sends (table.payload_at x.progress.local.place x.progress.local) (is_some (table.local_at x.progress.local.place x.progress.local))
   kind_step x s p (Recv o m) met is = go (arriving (mail_of t) p (message_name o m)) refl met is
     where
       go : (y : Option Payload) → arriving (mail_of t) p (message_name o m) ≡ y → is_some y ≡ true

@@ -15,7 +15,8 @@ use Rattle.cdb_base.specs.declared.name.StepId.TheVariants as named
 use Rattle.cdb_causal.specs.Exchange.{IsIn, here, there}
 use Rattle.cdb_rules.specs.Runs.{step_name}
 use Rattle.cdb_rules.specs.State.{Machine, ProcessState, RunState, start}
-use Rattle.cdb_rules.specs.Step.{after, fold, IsValid, wished_payload}
+use Rattle.cdb_process.specs.Wishes.{wished_payload}
+use Rattle.cdb_rules.specs.Step.{after, fold, IsValid}
 use Rattle.cdb_rules.proofs.Commutes.{lost_from}
 use Rattle.cdb_rules.proofs.Kept.{nat_eq-ne, nat_eq-is, left, at_left, process_kept, other_sent_kept}
 use Rattle.cdb_rules.proofs.Mails.{sent_is}

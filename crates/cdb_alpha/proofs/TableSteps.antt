@@ -22,7 +22,8 @@ use Rattle.cdb_alpha.specs.Table.{row_at, wish_by, wish_of, next_round, next_reg
 use Rattle.cdb_alpha.proofs.Leads.{Leads, leads}
 use Rattle.cdb_alpha.proofs.Choice.{chooses_the_latest_write}
 use Rattle.cdb_process.proofs.Members.{IsIn, contained_in, in_contained}
-use Rattle.cdb_alpha.specs.Steps.{Traced, ValueBasis, PassPlace, Step, traced_of, Holds, wished_cell, Taken, EachInputIsAStep, decide, look, lead, follow, enter, read, give_up, settle, write, read_again, fail, carry, publish}
+use Rattle.cdb_process.specs.Wishes.{wished_cell}
+use Rattle.cdb_alpha.specs.Steps.{Traced, ValueBasis, PassPlace, Step, traced_of, ReadsRegisters, Taken, EachInputIsAStep, decide, look, lead, follow, enter, read, give_up, settle, write, read_again, fail, carry, publish}
 
 -- ---- the value of a pass
 
@@ -122,7 +123,7 @@ module _ (own : ℕ → Cell) (dec : Option ℕ) (s : LocalState) (written : Lis
       go true e k = (sym (same_Some _ x k), ltb-true (length s.seen) s.processes e)
       go false e k = absurd (cc)
 
-  sees : (reading over : Place) (x : Reg) (c : Cell) (t : LocalState) → next_register s ≡ Some x → Holds own dec (input.Read x c)
+  sees : (reading over : Place) (x : Reg) (c : Cell) (t : LocalState) → next_register s ≡ Some x → ReadsRegisters own dec (input.Read x c)
       → place_number over ≡ suc (place_number reading)
       → ((p : ℕ) → PassPlace s.processes (length s.seen) (place_number reading) p
       → (u : Traced) → u ≡ record (traced_of s written carried) { place = p; seen = s.seen ++ own (suc (length s.seen)) ∷ [] }
@@ -135,7 +136,7 @@ module _ (own : ℕ → Cell) (dec : Option ℕ) (s : LocalState) (written : Lis
       at = next_is x due
 
       is_cell : c ≡ own (suc (length s.seen))
-      is_cell = subst (λ y. Holds own dec (input.Read y c)) at.0 holds ∙ ap own (add-one (length s.seen))
+      is_cell = subst (λ y. ReadsRegisters own dec (input.Read y c)) at.0 holds ∙ ap own (add-one (length s.seen))
 
       stands_at : (p : Place) → PassPlace s.processes (length s.seen) (place_number reading) (place_number p) → Is (input.Read x c) (record s { seen = s.seen ++ c ∷ []; place = p })
       stands_at p pass = record {
@@ -157,17 +158,17 @@ module _ (own : ℕ → Cell) (dec : Option ℕ) (s : LocalState) (written : Lis
           let within = at.1 in
           subst (λ u. Is (input.Read x c) u) k (stands_at reading (inl (refl, omega arith)))
 
-  row_taken : (p : Place) (i : Input) (t : LocalState) → s.place ≡ p → (place_number s.place ≡ 4 → 1 ≤ length s.seen) → Holds own dec i → Leads (row_at p s) i t → Is i t
+  row_taken : (p : Place) (i : Input) (t : LocalState) → s.place ≡ p → (place_number s.place ≡ 4 → 1 ≤ length s.seen) → ReadsRegisters own dec i → Leads (row_at p s) i t → Is i t
   row_taken A0 i t here passed holds h =
       let is : i ≡ input.Read Dec h.1 = h.3 ∙ ap (λ y. input.Read y h.1) (sym (same_Some Dec h.0 h.2)) in
-      by_row_of i (input.Read Dec h.1) t t is refl (looks h.1 t h.1.val here (subst (Holds own dec) is holds) refl h.4)
+      by_row_of i (input.Read Dec h.1) t t is refl (looks h.1 t h.1.val here (subst (ReadsRegisters own dec) is holds) refl h.4)
   row_taken A1 i t here passed holds h = by_row_of i (input.Query h.0) t t h.1 refl (asks_who h.0 t (h.0 == s.me) here h.2)
   row_taken A2 i t here passed holds h =
       by_row_of i (input.Write (R s.me)) t (begin_pass A3 s (entered s)) h.0 (same_Some _ t h.1)
       (record { written_after = written; carried_after = carried; published = dec; same_me = refl; same_processes = refl; step = record { row = enter (ap place_number here); is = refl; same = refl }; leaves = (refl, ap (λ p. wished_cell (wish_by (row_at p s))) here, refl) })
   row_taken A3 i t here passed holds h =
       by_row_of i (input.Read h.0 h.1) t t h.3 refl
-      (sees A3 A4 h.0 h.1 t h.2 (subst (Holds own dec) h.3 holds) refl (λ p pass u is. record { row = read p (ap place_number here) pass; is = is; same = refl }) h.4)
+      (sees A3 A4 h.0 h.1 t h.2 (subst (ReadsRegisters own dec) h.3 holds) refl (λ p pass u is. record { row = read p (ap place_number here) pass; is = is; same = refl }) h.4)
   row_taken A4 i t here passed holds h = by_row_of i input.Local t t h.0 refl (go (is_overtaken s.round s.seen) h.1)
     where
       go : (b : Bool) → (if b then next_round s else Some (record s { value = chosen_value s.input s.seen; place = A5 })) ≡ Some t → Is input.Local t
@@ -188,7 +189,7 @@ module _ (own : ℕ → Cell) (dec : Option ℕ) (s : LocalState) (written : Lis
       (record { written_after = written ++ (s.round, s.value) ∷ []; carried_after = carried; published = dec; same_me = refl; same_processes = refl; step = record { row = write (ap place_number here); is = refl; same = refl }; leaves = (refl, ap (λ p. wished_cell (wish_by (row_at p s))) here, refl) })
   row_taken A6 i t here passed holds h =
       by_row_of i (input.Read h.0 h.1) t t h.3 refl
-      (sees A6 A7 h.0 h.1 t h.2 (subst (Holds own dec) h.3 holds) refl (λ p pass u is. record { row = read_again p (ap place_number here) pass; is = is; same = refl }) h.4)
+      (sees A6 A7 h.0 h.1 t h.2 (subst (ReadsRegisters own dec) h.3 holds) refl (λ p pass u is. record { row = read_again p (ap place_number here) pass; is = is; same = refl }) h.4)
   row_taken A7 i t here passed holds h = by_row_of i input.Local t t h.0 refl (go (is_overtaken s.round s.seen) refl h.1)
     where
       go : (b : Bool) → is_overtaken s.round s.seen ≡ b → (if b then next_round s else Some (record s { place = A8 })) ≡ Some t → Is input.Local t

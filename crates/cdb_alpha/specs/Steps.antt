@@ -2,13 +2,12 @@
 --
 -- Beside its local state a process has a trace, which the code does not keep: the rounds and values that it wrote, and the rounds
 -- that it carried through, whose second pass let it go on to the write of the decision.
-use Rattle.std.specs.Prelude.{◌≡◌, ℕ, suc, ◌+◌, ◌<◌, ◌≤◌, List, [], ◌∷◌, ◌++◌, length, Contains, Option, Some, None, ◌⊎◌}
+use Rattle.std.specs.Prelude.{◌≡◌, ℕ, suc, ◌+◌, ◌<◌, ◌≤◌, List, [], ◌∷◌, ◌++◌, length, Contains, Option, Some, ◌⊎◌}
 use Rattle.cdb_base.specs.declared.register.Cell.{Cell}
 use Rattle.cdb_base.specs.declared.register.Reg.TheVariants.{R, Dec}
+use Rattle.cdb_process.specs.Wishes.{wished_cell}
 use Rattle.cdb_process.specs.declared.Input.{Input}
 use Rattle.cdb_process.specs.declared.Input.TheVariants as input
-use Rattle.cdb_process.specs.declared.Wish.{Wish}
-use Rattle.cdb_process.specs.declared.Wish.TheVariants as wished
 use Rattle.cdb_alpha.specs.LocalState.{LocalState}
 use Rattle.cdb_alpha.specs.Place.{place_number}
 use Rattle.cdb_alpha.specs.Table.{wish_of, next_state}
@@ -37,24 +36,24 @@ PassPlace n seen reading place = ((place ≡ reading) × (suc seen < n)) ⊎ ((p
 
 -- one row of the table, with what it rests on. `own m` is the cell that register m holds, `dec` the value that the register of the
 -- decision holds
-pub data Row (n : ℕ) (own : ℕ → Cell) (dec : Option ℕ) (l : Traced) : Type 0 where
-  stay : Row n own dec l
-  decide : (v : ℕ) → l.place ≡ 0 → dec ≡ Some v → Row n own dec l
-  look : l.place ≡ 0 → Row n own dec l
-  lead : l.place ≡ 1 → Row n own dec l
-  follow : l.place ≡ 1 → Row n own dec l
-  enter : l.place ≡ 2 → Row n own dec l
-  read : (p : ℕ) → l.place ≡ 3 → PassPlace n (length l.seen) 3 p → Row n own dec l
-  give_up : l.place ≡ 4 → Row n own dec l
-  settle : (v : ℕ) → l.place ≡ 4 → ValueBasis l.seen v → Row n own dec l
-  write : l.place ≡ 5 → Row n own dec l
-  read_again : (p : ℕ) → l.place ≡ 6 → PassPlace n (length l.seen) 6 p → Row n own dec l
-  fail : l.place ≡ 7 → Row n own dec l
-  carry : l.place ≡ 7 → ((c : Cell) → Contains l.seen c → c.lre ≤ l.round) → Row n own dec l
-  publish : l.place ≡ 8 → Row n own dec l
+pub data FoundedRow (n : ℕ) (own : ℕ → Cell) (dec : Option ℕ) (l : Traced) : Type 0 where
+  stay : FoundedRow n own dec l
+  decide : (v : ℕ) → l.place ≡ 0 → dec ≡ Some v → FoundedRow n own dec l
+  look : l.place ≡ 0 → FoundedRow n own dec l
+  lead : l.place ≡ 1 → FoundedRow n own dec l
+  follow : l.place ≡ 1 → FoundedRow n own dec l
+  enter : l.place ≡ 2 → FoundedRow n own dec l
+  read : (p : ℕ) → l.place ≡ 3 → PassPlace n (length l.seen) 3 p → FoundedRow n own dec l
+  give_up : l.place ≡ 4 → FoundedRow n own dec l
+  settle : (v : ℕ) → l.place ≡ 4 → ValueBasis l.seen v → FoundedRow n own dec l
+  write : l.place ≡ 5 → FoundedRow n own dec l
+  read_again : (p : ℕ) → l.place ≡ 6 → PassPlace n (length l.seen) 6 p → FoundedRow n own dec l
+  fail : l.place ≡ 7 → FoundedRow n own dec l
+  carry : l.place ≡ 7 → ((c : Cell) → Contains l.seen c → c.lre ≤ l.round) → FoundedRow n own dec l
+  publish : l.place ≡ 8 → FoundedRow n own dec l
 
 -- the state that a row leaves
-abbrev pub after_row : (n : ℕ) (own : ℕ → Cell) (dec : Option ℕ) (l : Traced) → Row n own dec l → Traced
+abbrev pub after_row : (n : ℕ) (own : ℕ → Cell) (dec : Option ℕ) (l : Traced) → FoundedRow n own dec l → Traced
 after_row n own dec l stay = l
 after_row n own dec l (decide v here found) = record l { place = 9; decision = Some v }
 after_row n own dec l (look here) = record l { place = 1 }
@@ -72,13 +71,13 @@ after_row n own dec l (carry here low) = record l { place = 8; carried = l.carri
 after_row n own dec l (publish here) = record l { place = 0; round = l.round + n }
 
 -- what the register of the decision holds after a row
-abbrev pub published_by : (n : ℕ) (own : ℕ → Cell) (dec : Option ℕ) (l : Traced) → Row n own dec l → Option ℕ
+abbrev pub published_by : (n : ℕ) (own : ℕ → Cell) (dec : Option ℕ) (l : Traced) → FoundedRow n own dec l → Option ℕ
 published_by n own dec l (publish here) = Some l.value
 published_by n own dec l _ = dec
 
 -- one step of a process, from l to k
 pub record Step (n : ℕ) (own : ℕ → Cell) (dec : Option ℕ) (l : Traced) (k : Traced) (published : Option ℕ) : Type 0 where
-  pub row : Row n own dec l
+  pub row : FoundedRow n own dec l
   pub is : k ≡ after_row n own dec l row
   pub same : published ≡ published_by n own dec l row
 
@@ -98,21 +97,16 @@ traced_of s written carried = record {
 }
 
 -- what a read gives is what the register holds
-abbrev pub Holds : (ℕ → Cell) → Option ℕ → Input → Type 0
-Holds own dec (input.Read (R j) c) = c ≡ own j
-Holds own dec (input.Read Dec c) = c.val ≡ dec
-Holds own dec i = Unit {0}
-
--- the cell that a process would write
-abbrev pub wished_cell : Option Wish → Option Cell
-wished_cell (Some (wished.Write r c)) = Some c
-wished_cell w = None
+abbrev pub ReadsRegisters : (ℕ → Cell) → Option ℕ → Input → Type 0
+ReadsRegisters own dec (input.Read (R j) c) = c ≡ own j
+ReadsRegisters own dec (input.Read Dec c) = c.val ≡ dec
+ReadsRegisters own dec i = Unit {0}
 
 -- what an input leaves in the registers
-abbrev pub Leaves : Option ℕ → LocalState → LocalState → Option ℕ → Input → Type 0
-Leaves dec s t published (input.Write (R j)) = (j ≡ s.me) × (wished_cell (wish_of s) ≡ Some t.own) × (published ≡ dec)
-Leaves dec s t published (input.Write Dec) = (t.own ≡ s.own) × (c : Cell) × (wished_cell (wish_of s) ≡ Some c) × (published ≡ c.val)
-Leaves dec s t published i = (t.own ≡ s.own) × (published ≡ dec)
+abbrev pub LeavesRegisters : Option ℕ → LocalState → LocalState → Option ℕ → Input → Type 0
+LeavesRegisters dec s t published (input.Write (R j)) = (j ≡ s.me) × (wished_cell (wish_of s) ≡ Some t.own) × (published ≡ dec)
+LeavesRegisters dec s t published (input.Write Dec) = (t.own ≡ s.own) × (c : Cell) × (wished_cell (wish_of s) ≡ Some c) × (published ≡ c.val)
+LeavesRegisters dec s t published i = (t.own ≡ s.own) × (published ≡ dec)
 
 -- the step that an input is, with the trace and the register of the decision that it leaves
 pub record Taken (own : ℕ → Cell) (dec : Option ℕ) (s t : LocalState) (written : List (ℕ × ℕ)) (carried : List ℕ) (i : Input) : Type 0 where
@@ -120,7 +114,7 @@ pub record Taken (own : ℕ → Cell) (dec : Option ℕ) (s t : LocalState) (wri
   pub carried_after : List ℕ
   pub published : Option ℕ
   pub step : Step s.processes own dec (traced_of s written carried) (traced_of t written_after carried_after) published
-  pub leaves : Leaves dec s t published i
+  pub leaves : LeavesRegisters dec s t published i
   pub same_me : t.me ≡ s.me
   pub same_processes : t.processes ≡ s.processes
 
@@ -128,4 +122,4 @@ pub record Taken (own : ℕ → Cell) (dec : Option ℕ) (s t : LocalState) (wri
 abbrev pub EachInputIsAStep : Type 0
 EachInputIsAStep =
     (own : ℕ → Cell) (dec : Option ℕ) (s t : LocalState) (written : List (ℕ × ℕ)) (carried : List ℕ) (i : Input)
-    → (place_number s.place ≡ 4 → 1 ≤ length s.seen) → Holds own dec i → next_state s i ≡ Some t → Taken own dec s t written carried i
+    → (place_number s.place ≡ 4 → 1 ≤ length s.seen) → ReadsRegisters own dec i → next_state s i ≡ Some t → Taken own dec s t written carried i

@@ -13,7 +13,7 @@ use Rattle.std.proofs.lemmas.Result.{IfOk-weaker}
 use Rattle.clap.specs.Words.{Row, Text, first_of, subcommand_of, takes}
 use Rattle.clap.specs.declared.builder.value_parser.ValueParser.TheVariants as vp
 use Rattle.clap.proofs.ValueTestLemmas.{Accepts-accepts}
-use Rattle.cdb_arguments.specs.Asking.{Asks, IsAnswer, IsPlayOf, IsRaceOf, IsExplainOf, IsDrawOf, IsDebugOf, IsTurns, IsNumber, IsNumberOf, text_at, texts_at}
+use Rattle.cdb_arguments.specs.Asking.{NamesAsked, IsAnswer, IsPlayOf, IsRaceOf, IsExplainOf, IsDrawOf, IsDebugOf, IsTurns, IsNumber, IsNumberOf, text_at, texts_at}
 use Rattle.cdb_arguments.specs.CommandLine.{program}
 use Rattle.cdb_arguments.specs.Plain.{IsNameAlone, IsNumberOfTurns, IsPlain, IsPlayLine, IsRaceLine, IsExplainLine, IsDrawLine, IsDebugLine}
 use Rattle.cdb_arguments.specs.declared.request.AskFault.{AskFault}
@@ -26,7 +26,7 @@ use Rattle.cdb_arguments.proofs.Lines.{nothing_asked, nothing_taken, play_asked,
 
 -- ---- what is asked for where clap has these matches
 
-script_is : (found : Option (Text × List Row)) (asked : Asked) → found ≡ None → Asks found asked → asked ≡ Script
+script_is : (found : Option (Text × List Row)) (asked : Asked) → found ≡ None → NamesAsked found asked → asked ≡ Script
 script_is found Script none asks = refl
 script_is found (Play a b) none asks = absurd (none-some _ (sym none ∙ asks.1))
 script_is found (Race a n b) none asks = absurd (none-some _ (sym none ∙ asks.1))
@@ -50,7 +50,7 @@ other_name found name other rows more a b differ same =
     false≢true (sym differ ∙ ap (λ text. bytes_eq text name) (same_names found name other rows more a b) ∙ same)
 
 play_is : (found : Option (Text × List Row)) (rows : List Row) (setup script : Text) (asked : Asked) → found ≡ Some (codes "play", rows)
-    → PlayRows setup script rows → Asks found asked → IsPlayOf setup script asked
+    → PlayRows setup script rows → NamesAsked found asked → IsPlayOf setup script asked
 play_is found rows setup script Script is have asks = absurd (none-some _ (sym asks ∙ is))
 play_is found rows setup script (Play a b) is have asks =
     let same = same_rows found (codes "play") (codes "play") rows asks.0 is asks.1 in (
@@ -63,7 +63,7 @@ play_is found rows setup script (Draw a b p k) is have asks = absurd (other_name
 play_is found rows setup script (Debug a b) is have asks = absurd (other_name found _ (codes "debug") rows asks.0 is asks.1 refl refl)
 
 race_is : (found : Option (Text × List Row)) (rows : List Row) (setup text : Text) (turns : ℕ) (scripts : List Text) (asked : Asked)
-    → found ≡ Some (codes "race", rows) → RaceRows setup text scripts rows → IsNumberOfTurns text turns → Asks found asked → IsRaceOf setup turns scripts asked
+    → found ≡ Some (codes "race", rows) → RaceRows setup text scripts rows → IsNumberOfTurns text turns → NamesAsked found asked → IsRaceOf setup turns scripts asked
 race_is found rows setup text turns scripts Script is have number asks = absurd (none-some _ (sym asks ∙ is))
 race_is found rows setup text turns scripts (Play a b) is have number asks = absurd (other_name found _ (codes "play") rows asks.0 is asks.1 refl refl)
 race_is found rows setup text turns scripts (Explain a b p k) is have number asks = absurd (other_name found _ (codes "explain") rows asks.0 is asks.1 refl refl)
@@ -89,7 +89,7 @@ own_number None p its writes is = absurd writes
 own_number (Some text) p its writes is = is.2 p writes
 
 explain_is : (setup script : Text) (p : ℕ) (k : Option ℕ) (words : List Text) (asked : Asked) → StepLine (codes "explain") setup script (Some p) k words
-    → Asks (subcommand_of program words) asked → IsExplainOf setup script p k asked
+    → NamesAsked (subcommand_of program words) asked → IsExplainOf setup script p k asked
 explain_is setup script p k words Script line asks = absurd (none-some _ (sym asks ∙ line.asked))
 explain_is setup script p k words (Play a b) line asks = absurd (other_name _ _ (codes "play") line.rows asks.0 line.asked asks.1 refl refl)
 explain_is setup script p k words (Race a n b) line asks = absurd (other_name _ _ (codes "race") line.rows asks.0 line.asked asks.1 refl refl)
@@ -105,7 +105,7 @@ explain_is setup script p k words (Explain a b q l) line asks =
     )
 
 draw_is : (setup script : Text) (p k : Option ℕ) (words : List Text) (asked : Asked) → StepLine (codes "draw") setup script p k words
-    → Asks (subcommand_of program words) asked → IsDrawOf setup script p k asked
+    → NamesAsked (subcommand_of program words) asked → IsDrawOf setup script p k asked
 draw_is setup script p k words Script line asks = absurd (none-some _ (sym asks ∙ line.asked))
 draw_is setup script p k words (Play a b) line asks = absurd (other_name _ _ (codes "play") line.rows asks.0 line.asked asks.1 refl refl)
 draw_is setup script p k words (Race a n b) line asks = absurd (other_name _ _ (codes "race") line.rows asks.0 line.asked asks.1 refl refl)
@@ -119,7 +119,7 @@ draw_is setup script p k words (Draw a b q l) line asks =
       number_is line.k_text k l line.k_written (subst (λ t. IsNumberOf t l) (ap (first_of (codes "K")) same ∙ line.k_at) asks.5),
     )
 
-debug_is : (setup : Text) (seats words : List Text) (asked : Asked) → SeatLine setup seats words → Asks (subcommand_of program words) asked → IsDebugOf setup seats asked
+debug_is : (setup : Text) (seats words : List Text) (asked : Asked) → SeatLine setup seats words → NamesAsked (subcommand_of program words) asked → IsDebugOf setup seats asked
 debug_is setup seats words Script line asks = absurd (none-some _ (sym asks ∙ line.asked))
 debug_is setup seats words (Play a b) line asks = absurd (other_name _ _ (codes "play") line.rows asks.0 line.asked asks.1 refl refl)
 debug_is setup seats words (Race a n b) line asks = absurd (other_name _ _ (codes "race") line.rows asks.0 line.asked asks.1 refl refl)
@@ -133,7 +133,7 @@ debug_is setup seats words (Debug a b) line asks =
 
 -- ---- the answers
 
-pub script_answered : (words : List Text) (result : Result Asked AskFault) → IfOk result (Asks (subcommand_of program words))
+pub script_answered : (words : List Text) (result : Result Asked AskFault) → IfOk result (NamesAsked (subcommand_of program words))
     → (takes program words ≡ true → IfErr result (λ fault. fault ≡ NoMemory)) → IsNameAlone words → IsAnswer result (λ asked. asked ≡ Script)
 script_answered words result ok taken alone =
     let (name, is) = alone in (
@@ -141,7 +141,7 @@ script_answered words result ok taken alone =
       taken (ap (takes program) is ∙ nothing_taken name),
     )
 
-pub play_answered : (words : List Text) (result : Result Asked AskFault) → IfOk result (Asks (subcommand_of program words))
+pub play_answered : (words : List Text) (result : Result Asked AskFault) → IfOk result (NamesAsked (subcommand_of program words))
     → (takes program words ≡ true → IfErr result (λ fault. fault ≡ NoMemory)) → (setup script : Text) → IsPlayLine words setup script
     → IsAnswer result (IsPlayOf setup script)
 play_answered words result ok taken setup script line =
@@ -160,7 +160,7 @@ is_signed text turns plain number =
 accepts_turns : (text : Text) (turns : ℕ) → IsPlain text → IsNumberOfTurns text turns → AcceptsTurns text
 accepts_turns text turns plain number = Accepts-accepts false (vp.Signed (pos 0) (pos 99999)) text (is_signed text turns plain number)
 
-pub race_answered : (words : List Text) (result : Result Asked AskFault) → IfOk result (Asks (subcommand_of program words))
+pub race_answered : (words : List Text) (result : Result Asked AskFault) → IfOk result (NamesAsked (subcommand_of program words))
     → (takes program words ≡ true → IfErr result (λ fault. fault ≡ NoMemory)) → (setup : Text) (turns : ℕ) (script : Text) (more : List Text)
     → IsRaceLine words setup turns script more → IsAnswer result (IsRaceOf setup turns (script ∷ more))
 race_answered words result ok taken setup turns script more line =
@@ -174,7 +174,7 @@ race_answered words result ok taken setup turns script more line =
       taken (ap (takes program) is ∙ race_taken name setup text script more plain (accepts_turns text turns plain.1.0 number) line.1),
     )
 
-pub explain_answered : (words : List Text) (result : Result Asked AskFault) → IfOk result (Asks (subcommand_of program words))
+pub explain_answered : (words : List Text) (result : Result Asked AskFault) → IfOk result (NamesAsked (subcommand_of program words))
     → (takes program words ≡ true → IfErr result (λ fault. fault ≡ NoMemory)) → (setup script : Text) (p : ℕ) (k : Option ℕ) → IsExplainLine words setup script p k
     → IsAnswer result (IsExplainOf setup script p k)
 explain_answered words result ok taken setup script p k line =
@@ -184,7 +184,7 @@ explain_answered words result ok taken setup script p k line =
       taken its_words.taken,
     )
 
-pub draw_answered : (words : List Text) (result : Result Asked AskFault) → IfOk result (Asks (subcommand_of program words))
+pub draw_answered : (words : List Text) (result : Result Asked AskFault) → IfOk result (NamesAsked (subcommand_of program words))
     → (takes program words ≡ true → IfErr result (λ fault. fault ≡ NoMemory)) → (setup script : Text) (p k : Option ℕ) → IsDrawLine words setup script p k
     → IsAnswer result (IsDrawOf setup script p k)
 draw_answered words result ok taken setup script p k line =
@@ -194,7 +194,7 @@ draw_answered words result ok taken setup script p k line =
       taken its_words.taken,
     )
 
-pub debug_answered : (words : List Text) (result : Result Asked AskFault) → IfOk result (Asks (subcommand_of program words))
+pub debug_answered : (words : List Text) (result : Result Asked AskFault) → IfOk result (NamesAsked (subcommand_of program words))
     → (takes program words ≡ true → IfErr result (λ fault. fault ≡ NoMemory)) → (setup : Text) (seats : List Text) → IsDebugLine words setup seats
     → IsAnswer result (IsDebugOf setup seats)
 debug_answered words result ok taken setup seats line =

@@ -49,19 +49,19 @@ abbrev pub IsNumberAt : Text → List Row → Option ℕ → Type 0
 IsNumberAt id rows = IsNumberOf (first_of id rows)
 
 -- the subcommand that the matches name, with its texts in their order
-abbrev pub Asks : Option (Text × List Row) → Asked → Type 0
-Asks found Script = found ≡ None
-Asks found (Play setup script) = (rows : List Row) × (found ≡ Some (codes "play", rows)) × (setup.now ≡ text_at (codes "SETUP") rows) × (script.now ≡ text_at (codes "SCRIPT") rows)
-Asks found (Race setup turns scripts) =
+abbrev pub NamesAsked : Option (Text × List Row) → Asked → Type 0
+NamesAsked found Script = found ≡ None
+NamesAsked found (Play setup script) = (rows : List Row) × (found ≡ Some (codes "play", rows)) × (setup.now ≡ text_at (codes "SETUP") rows) × (script.now ≡ text_at (codes "SCRIPT") rows)
+NamesAsked found (Race setup turns scripts) =
     (rows : List Row) × (found ≡ Some (codes "race", rows)) × (setup.now ≡ text_at (codes "SETUP") rows) × IsTurns (text_at (codes "TURNS") rows) turns
     × (map (λ script. script.now) scripts.items ≡ texts_at (codes "SCRIPT") rows)
-Asks found (Explain setup script p k) =
+NamesAsked found (Explain setup script p k) =
     (rows : List Row) × (found ≡ Some (codes "explain", rows)) × (setup.now ≡ text_at (codes "SETUP") rows) × (script.now ≡ text_at (codes "SCRIPT") rows)
     × IsNumber (text_at (codes "P") rows) p × IsNumberAt (codes "K") rows k
-Asks found (Draw setup script p k) =
+NamesAsked found (Draw setup script p k) =
     (rows : List Row) × (found ≡ Some (codes "draw", rows)) × (setup.now ≡ text_at (codes "SETUP") rows) × (script.now ≡ text_at (codes "SCRIPT") rows)
     × IsNumberAt (codes "P") rows p × IsNumberAt (codes "K") rows k
-Asks found (Debug setup seats) =
+NamesAsked found (Debug setup seats) =
     (rows : List Row) × (found ≡ Some (codes "debug", rows)) × (setup.now ≡ text_at (codes "SETUP") rows)
     × (map (λ seat. seat.now) seats.items ≡ texts_at (codes "SEAT") rows)
 

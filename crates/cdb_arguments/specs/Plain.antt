@@ -41,12 +41,12 @@ abbrev pub IsNameAlone : List Text → Type 0
 IsNameAlone words = (name : Text) × (words ≡ name ∷ [])
 
 -- the program's name, a subcommand, and these texts, none of which is an option
-abbrev pub IsLineOf : Text → List Text → List Text → Type 0
-IsLineOf command arguments words = ((name : Text) × (words ≡ name ∷ command ∷ arguments)) × ArePlain arguments
+abbrev pub IsSubcommandLine : Text → List Text → List Text → Type 0
+IsSubcommandLine command arguments words = ((name : Text) × (words ≡ name ∷ command ∷ arguments)) × ArePlain arguments
 
 -- `play SETUP SCRIPT`
 abbrev pub IsPlayLine : List Text → Text → Text → Type 0
-IsPlayLine words setup script = IsLineOf (codes "play") (setup ∷ script ∷ []) words
+IsPlayLine words setup script = IsSubcommandLine (codes "play") (setup ∷ script ∷ []) words
 
 -- `race SETUP TURNS SCRIPT..`, with one script or more, as many as a machine's word counts
 abbrev pub IsRaceLine : List Text → Text → ℕ → Text → List Text → Type 0
@@ -57,13 +57,13 @@ IsRaceLine words setup turns script more =
 -- `explain SETUP SCRIPT P [K]`
 abbrev pub IsExplainLine : List Text → Text → Text → ℕ → Option ℕ → Type 0
 IsExplainLine words setup script p k =
-    (texts : List Text) × WritesStep texts (Some p) k × IsLineOf (codes "explain") (setup ∷ script ∷ texts) words
+    (texts : List Text) × WritesStep texts (Some p) k × IsSubcommandLine (codes "explain") (setup ∷ script ∷ texts) words
 
 -- `draw SETUP SCRIPT [P [K]]`
 abbrev pub IsDrawLine : List Text → Text → Text → Option ℕ → Option ℕ → Type 0
 IsDrawLine words setup script p k =
-    (texts : List Text) × WritesStep texts p k × IsLineOf (codes "draw") (setup ∷ script ∷ texts) words
+    (texts : List Text) × WritesStep texts p k × IsSubcommandLine (codes "draw") (setup ∷ script ∷ texts) words
 
 -- `debug SETUP [SEAT..]`, with as many seats as a machine's word counts
 abbrev pub IsDebugLine : List Text → Text → List Text → Type 0
-IsDebugLine words setup seats = IsLineOf (codes "debug") (setup ∷ seats) words × (length seats ≤ usize_max)
+IsDebugLine words setup seats = IsSubcommandLine (codes "debug") (setup ∷ seats) words × (length seats ≤ usize_max)

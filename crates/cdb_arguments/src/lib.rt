@@ -8,6 +8,3 @@ mod request;
 pub use limits::{MAX_NUMBER, MAX_TURNS};
 pub use reading::{ask_status, asked};
 pub use request::{AskFault, Asked};
-
-#[cfg(test)]
-mod tests;

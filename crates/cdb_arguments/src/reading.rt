@@ -4,7 +4,7 @@ ghost use Rattle.std.specs.Prelude.{◌≡◌, IfOk, OnOk, IfErr, [], false, tru
 ghost use Rattle.clap.specs.Words.{Kinds, Text, HasKind, app_of, new_rule, rule_of, fault_of, found_of, kind_of, rows_of, subcommand_of, subcommand_rows_of, takes};
 ghost use Rattle.clap.specs.declared.builder.command.Command.TheViews.{out-Command};
 ghost use Rattle.cdb_arguments.specs.CommandLine.{required_rule, turns_rule, numbered, several, on_files, play_app, race_app, explain_app, draw_app, debug_app, playing, program};
-ghost use Rattle.cdb_arguments.specs.Asking.{NamesOne, IsTurns, IsNumber, IsNumberAt, text_at, texts, texts_at, Asks, IsOfKinds, IsAnswer, AnswersPlay, AnswersRace, AnswersExplain, AnswersDraw, AnswersDebug, ask_status_of, words_status};
+ghost use Rattle.cdb_arguments.specs.Asking.{NamesOne, IsTurns, IsNumber, IsNumberAt, text_at, texts, texts_at, NamesAsked, IsOfKinds, IsAnswer, AnswersPlay, AnswersRace, AnswersExplain, AnswersDraw, AnswersDebug, ask_status_of, words_status};
 ghost use Rattle.cdb_arguments.specs.Plain.{IsNameAlone};
 
 use crate::limits::{MAX_NUMBER, MAX_TURNS};
@@ -331,7 +331,7 @@ fn texts_of<'a>(
 /// What the matches ask for.
 fn asked_by<'a>(alloc: Global, matches: &ArgMatches<'a>) -> Result<Asked<'a>, AllocError>
     requires { NamesOne (subcommand_rows_of matches.now) }
-    ensures { IfOk result (λ asked. Asks (subcommand_rows_of matches.now) asked) }
+    ensures { IfOk result (λ asked. NamesAsked (subcommand_rows_of matches.now) asked) }
 {
     let Some((name, found)) = matches.subcommand() else {
         return Ok(Asked::Script);
@@ -397,7 +397,7 @@ fn status_of_words(error: &Error) -> u8
 /// What `clap` makes of the arguments, as a request.
 fn read<'a>(alloc: Global, words: &'a [&'a str]) -> Result<Asked<'a>, AskFault>
     ensures ok { IfOk result
-        (λ asked. Asks (subcommand_of program (texts words.entry.now)) asked) }
+        (λ asked. NamesAsked (subcommand_of program (texts words.entry.now)) asked) }
     ensures taken { takes program (texts words.entry.now) ≡ true →
         IfErr result (λ fault. fault ≡ AskFault.NoMemory) }
     ensures right { OnOk result (fault_of program (texts words.entry.now) ≡ []) }
@@ -418,7 +418,7 @@ fn read<'a>(alloc: Global, words: &'a [&'a str]) -> Result<Asked<'a>, AskFault>
 /// help or the version where these were asked for. `NoMemory` where an allocation fails.
 pub fn asked<'a>(alloc: Global, words: &'a [&'a str]) -> Result<Asked<'a>, AskFault>
     ensures ok { IfOk result
-        (λ asked. Asks (subcommand_of program (texts words.entry.now)) asked) }
+        (λ asked. NamesAsked (subcommand_of program (texts words.entry.now)) asked) }
     ensures taken { takes program (texts words.entry.now) ≡ true →
         IfErr result (λ fault. fault ≡ AskFault.NoMemory) }
     ensures right { OnOk result (fault_of program (texts words.entry.now) ≡ []) }

@@ -7,7 +7,7 @@ use Rattle.cdb_base.specs.declared.event.Kind.{Kind}
 use Rattle.cdb_base.specs.declared.event.Kind.TheVariants.{Send, Read, Write}
 use Rattle.cdb_base.specs.declared.register.Reg.{Reg}
 use Rattle.cdb_causal.specs.Between.{IsBetween, IsAboveWrites, IsAboveAccesses, IsAboveAccessesBy}
-use Rattle.cdb_causal.specs.Bounds.{IsWithin}
+use Rattle.cdb_causal.specs.Bounds.{IsEventWithin}
 use Rattle.cdb_causal.specs.Dependence.{accesses}
 use Rattle.cdb_causal.specs.Effects.{kind_affects}
 use Rattle.cdb_causal.specs.declared.bounds.Bounds.{Bounds}
@@ -56,7 +56,7 @@ pub record IsStepBetween (bounds : Bounds) (q : ℕ) (first : Kind) (p : ℕ) (s
   pub slot : ℕ
   pub at : slot + 1 ≡ x
   pub low : slot ≤ 8
-  pub within : IsWithin bounds i (Step x n kind)
+  pub within : IsEventWithin bounds i (Step x n kind)
   pub of_another : nat_eq q x ≡ false
   pub from_first : (kind_affects q first kind || kind_affects x kind first) ≡ true
   pub to_second : (nat_eq x p || (kind_affects x kind second || kind_affects p second kind)) ≡ true
@@ -109,11 +109,11 @@ module _ (bounds : Bounds) (register : Reg) (q k : ℕ) (first : Kind) (p l i : 
       s : IsStepBetween bounds q first p (Read register) i
       s = step_between (Read register) (same_register-itself register) event b
 
-      go : (kind : Kind) → IsWithin bounds i (Step s.x s.n kind) → accesses register kind ≡ true → (nat_eq s.x p || (kind_affects s.x kind (Read register) || kind_affects p (Read register) kind)) ≡ true → (i < written) ⊎ (i < accessed)
-      go (Write c) within kind_met to = inl (writes i s.x s.n s.slot (subst (λ z. IsWithin bounds i (Step s.x s.n (Write z))) (sym (same_register-true register c kind_met)) within) s.at s.low)
+      go : (kind : Kind) → IsEventWithin bounds i (Step s.x s.n kind) → accesses register kind ≡ true → (nat_eq s.x p || (kind_affects s.x kind (Read register) || kind_affects p (Read register) kind)) ≡ true → (i < written) ⊎ (i < accessed)
+      go (Write c) within kind_met to = inl (writes i s.x s.n s.slot (subst (λ z. IsEventWithin bounds i (Step s.x s.n (Write z))) (sym (same_register-true register c kind_met)) within) s.at s.low)
       go (Read c) within kind_met to =
           ⊎_elim
-          (λ same. inr (own i s.n (Read c) kind_met (subst (λ y. IsWithin bounds i (Step y s.n (Read c))) (eqb-true s.x p same) within)))
+          (λ same. inr (own i s.n (Read c) kind_met (subst (λ y. IsEventWithin bounds i (Step y s.n (Read c))) (eqb-true s.x p same) within)))
           (λ apart. absurd (true≢false (sym (other_true (nat_eq s.x p) _ apart to))))
           (true_or_false (nat_eq s.x p))
       go _ within kind_met to = absurd (true≢false (sym kind_met))
@@ -126,8 +126,8 @@ module _ (bounds : Bounds) (register : Reg) (q k : ℕ) (first : Kind) (p l i : 
       s : IsStepBetween bounds q first p (Write register) i
       s = step_between (Write register) (same_register-itself register) event b
 
-      go : (kind : Kind) → IsWithin bounds i (Step s.x s.n kind) → accesses register kind ≡ true → (kind_affects q (Read a) kind || kind_affects s.x kind (Read a)) ≡ true → i < written
-      go (Write c) within kind_met from = writes i s.x s.n s.slot (subst (λ z. IsWithin bounds i (Step s.x s.n (Write z))) (sym (same_register-true register c kind_met)) within) s.at s.low
+      go : (kind : Kind) → IsEventWithin bounds i (Step s.x s.n kind) → accesses register kind ≡ true → (kind_affects q (Read a) kind || kind_affects s.x kind (Read a)) ≡ true → i < written
+      go (Write c) within kind_met from = writes i s.x s.n s.slot (subst (λ z. IsEventWithin bounds i (Step s.x s.n (Write z))) (sym (same_register-true register c kind_met)) within) s.at s.low
       go (Read c) within kind_met from = absurd (true≢false (sym from))
       go _ within kind_met from = absurd (true≢false (sym kind_met))
 

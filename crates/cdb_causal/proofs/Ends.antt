@@ -7,7 +7,7 @@ use Rattle.cdb_base.specs.declared.event.Kind.{Kind}
 use Rattle.cdb_causal.specs.AboveCauses.{IsNoLossOfSent, IsAboveStepsFor, IsAboveLossesFor, IsAboveCauses}
 use Rattle.cdb_causal.specs.Alone.{AreAlone}
 use Rattle.cdb_causal.specs.Between.{IsBetween}
-use Rattle.cdb_causal.specs.Bounds.{IsWithin, AreWithin}
+use Rattle.cdb_causal.specs.Bounds.{IsEventWithin, AreWithin}
 use Rattle.cdb_causal.specs.Causality.{IsLink}
 use Rattle.cdb_causal.specs.Standing.{IsStanding}
 use Rattle.cdb_causal.specs.declared.bounds.Bounds.{Bounds}
@@ -28,13 +28,13 @@ same_step_process event p k kind q l other one two = ap process_or_none (sym one
 
 module _ (bounds : Bounds) (slot result : ℕ) where
   pub above_losses : (event : Event) (p k : ℕ) (kind : Kind) → event ≡ Step p k kind → slot ≡ 9 → IsAboveLossesFor bounds p kind result
-      → (i : ℕ) (cause : Event) → IsWithin bounds i cause → IsSlot cause slot → IsNoLossOfSent event cause → depends cause event ≡ true → i < result
+      → (i : ℕ) (cause : Event) → IsEventWithin bounds i cause → IsSlot cause slot → IsNoLossOfSent event cause → depends cause event ≡ true → i < result
   above_losses event p k kind is last above i (Step q l other) within in_slot unsent h = absurd (let s = in_slot.1 in omega (arith, last))
   above_losses event p k kind is last above i (Lost copy) within in_slot unsent h =
       above i k copy within (ap (λ e. send_and_loss e (Lost copy)) (sym is) ∙ unsent copy refl) (ap (λ e. depends (Lost copy) e) (sym is) ∙ h)
 
   pub above_steps : (event : Event) (p k : ℕ) (kind : Kind) → event ≡ Step p k kind → slot ≢ 9 → slot + 1 ≢ p → IsAboveStepsFor bounds p kind slot result
-      → (i : ℕ) (cause : Event) → IsWithin bounds i cause → IsSlot cause slot → depends cause event ≡ true → i < result
+      → (i : ℕ) (cause : Event) → IsEventWithin bounds i cause → IsSlot cause slot → depends cause event ≡ true → i < result
   above_steps event p k kind is not_last other_process above i (Step q l other) within in_slot h =
       let apart = is_false (nat_eq q p) (λ same. other_process (in_slot.0 ∙ eqb-true q p same)) in
       above i q l other within in_slot.0

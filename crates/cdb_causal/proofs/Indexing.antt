@@ -4,7 +4,7 @@ use Rattle.std.proofs.lemmas.Option.{slice_get_within}
 use Rattle.cdb_base.specs.declared.event.Event.{Event}
 use Rattle.cdb_base.specs.declared.event.Event.TheVariants.{Step}
 use Rattle.cdb_causal.specs.Alone.{AreAlone, KeepsReceives}
-use Rattle.cdb_causal.specs.Bounds.{IsWithin, AreRaised}
+use Rattle.cdb_causal.specs.Bounds.{IsEventWithin, AreRaised}
 use Rattle.cdb_causal.specs.Indexed.{IsIndexed}
 use Rattle.cdb_causal.specs.Named.{AreRanged}
 use Rattle.cdb_causal.specs.Own.{own_bound, bound_before}
@@ -27,7 +27,7 @@ module _ (old new : Marked Event) (same : IsSameLog old new) where
   indexed_same bounds indexed =
       record {
         standing = subst IsStanding (sym same.items) indexed.standing;
-        within = λ i event at. subst (λ m. IsWithin bounds m event) (mark_is i event at) (indexed.within i event (stood i event at));
+        within = λ i event at. subst (λ m. IsEventWithin bounds m event) (mark_is i event at) (indexed.within i event (stood i event at));
         alone = subst (AreAlone bounds) (sym same.items) indexed.alone;
         own =
             record {

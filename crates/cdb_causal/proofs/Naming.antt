@@ -6,8 +6,8 @@ use Rattle.cdb_base.specs.declared.event.Kind.{Kind}
 use Rattle.cdb_base.specs.declared.event.Kind.TheVariants.{Send, Recv, Read, Write}
 use Rattle.cdb_base.specs.declared.name.CopyName.{CopyName}
 use Rattle.cdb_base.specs.declared.name.StepId.TheVariants as named
-use Rattle.cdb_causal.specs.Bounds.{IsKindWithin, IsWithin, AreWithin}
-use Rattle.cdb_causal.specs.Cells.{register_cell, named_cell, copy_cell}
+use Rattle.cdb_causal.specs.Bounds.{IsKindWithin, IsEventWithin, AreWithin}
+use Rattle.cdb_causal.specs.Cells.{register_cell, named_cell, named_copy_cell}
 use Rattle.cdb_causal.specs.Named.{IsRanged, AreRanged, IsStepIn, IsLossIn, IsNameForgotten}
 use Rattle.cdb_causal.specs.Rollback.{without, position_before}
 use Rattle.cdb_causal.specs.Standing.{IsStanding}
@@ -73,7 +73,7 @@ module _ (history : List Event) (standing : IsStanding history) (ranged : AreRan
 
 kind_kept : (old new : Bounds) (event : Event) → IsNameForgotten old new event → (m p : ℕ) (kind : Kind) → IsKindWithin old m p kind → IsKindWithin new m p kind
 kind_kept old new event forgotten m p (Send r) within = subst (λ t. m < slice_index t.items (named_cell p r)) (sym forgotten.sends) within
-kind_kept old new event forgotten m p (Recv s r) within = subst (λ t. m < slice_index t.items (copy_cell s r (p - 1))) (sym forgotten.receives) within
+kind_kept old new event forgotten m p (Recv s r) within = subst (λ t. m < slice_index t.items (named_copy_cell s r (p - 1))) (sym forgotten.receives) within
 kind_kept old new event forgotten m p (Read register) within = subst (λ t. m < slice_index t (register_cell register (p - 1))) (sym forgotten.accesses) within
 kind_kept old new event forgotten m p (Write register) within = (
   subst (λ t. m < slice_index t (register_cell register (p - 1))) (sym forgotten.accesses) within.0,
@@ -85,11 +85,11 @@ pub within_named : (old new : Bounds) (marks : ℕ → ℕ) (history : List Even
 within_named old new marks history standing ranged gone event at_gone forgotten within i one at =
     go one (sym (slice_get-without history gone i) ∙ at) (within i one at)
   where
-    go : (one : Event) → slice_get history (position_before gone i) ≡ Some one → IsWithin old (marks i) one → IsWithin new (marks i) one
+    go : (one : Event) → slice_get history (position_before gone i) ≡ Some one → IsEventWithin old (marks i) one → IsEventWithin new (marks i) one
     go (Step p k kind) stood inside = (
       subst (λ b. marks i < b) (sym (forgotten.steps (named_cell p k) (λ is. other_step history standing ranged gone (position_before gone i) event (Step p k kind) at_gone stood (position_not_gone gone i) (named_cell p k) refl is))) inside.0,
       kind_kept old new event forgotten (marks i) p kind inside.1,
     )
     go (Lost copy) stood inside =
-        let cell : ℕ = copy_cell copy.msg.s copy.msg.m (copy.to - 1) in
+        let cell : ℕ = named_copy_cell copy.msg.s copy.msg.m (copy.to - 1) in
         subst (λ b. marks i < b) (sym (forgotten.losses cell (λ is. other_loss history standing ranged gone (position_before gone i) event (Lost copy) at_gone stood (position_not_gone gone i) cell refl is))) inside

@@ -5,7 +5,7 @@ use Rattle.cdb_base.specs.Event.{is_step_of}
 use Rattle.cdb_base.specs.declared.event.Event.{Event}
 use Rattle.cdb_base.specs.declared.event.Event.TheVariants.{Step, Lost}
 use Rattle.cdb_base.specs.declared.event.Kind.{Kind}
-use Rattle.cdb_causal.specs.Alone.{Leaves}
+use Rattle.cdb_causal.specs.Alone.{LeavesCell}
 use Rattle.cdb_causal.specs.Bounds.{AreRaised}
 use Rattle.cdb_causal.specs.Cells.{named_cell}
 use Rattle.cdb_causal.specs.LastCauses.{IsSlot}
@@ -99,7 +99,7 @@ module _ (old new : Bounds) (old_marks marks : ℕ → ℕ) (history : List Even
       }
 
 -- the receives, and all but the steps' bounds, are left as by what comes after
-pub leaves_then : (old middle new : Bounds) (last : Bool) (event : Event) → IsOwnForgotten old middle last event → Leaves middle new event → Leaves old new event
+pub leaves_then : (old middle new : Bounds) (last : Bool) (event : Event) → IsOwnForgotten old middle last event → LeavesCell middle new event → LeavesCell old new event
 leaves_then old middle new last event forgotten leaves =
     record {
       steps = leaves.steps ∙ forgotten.steps;

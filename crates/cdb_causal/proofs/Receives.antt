@@ -4,9 +4,9 @@ use Rattle.cdb_base.specs.declared.event.Event.{Event}
 use Rattle.cdb_base.specs.declared.event.Event.TheVariants.{Step, Lost}
 use Rattle.cdb_base.specs.declared.event.Kind.{Kind}
 use Rattle.cdb_base.specs.declared.event.Kind.TheVariants.{Send, Recv, Read, Write}
-use Rattle.cdb_causal.specs.Alone.{receive_bound, IsReceiveIn, AreAlone, KeepsReceives, Joins, Leaves}
-use Rattle.cdb_causal.specs.Bounds.{IsKindWithin, IsWithin, AreWithin}
-use Rattle.cdb_causal.specs.Cells.{register_cell, named_cell, copy_cell}
+use Rattle.cdb_causal.specs.Alone.{receive_bound, IsReceiveIn, AreAlone, KeepsReceives, JoinsCell, LeavesCell}
+use Rattle.cdb_causal.specs.Bounds.{IsKindWithin, IsEventWithin, AreWithin}
+use Rattle.cdb_causal.specs.Cells.{register_cell, named_cell, named_copy_cell}
 use Rattle.cdb_causal.specs.Dependence.{depends}
 use Rattle.cdb_causal.specs.Effects.{kind_affects}
 use Rattle.cdb_causal.specs.LastCauses.{IsSlot}
@@ -30,14 +30,14 @@ right_true : (a b : Bool) → (a && b) ≡ true → b ≡ true
 right_true true b h = h
 right_true false b h = absurd (true≢false (sym h))
 
-receive_below : (bounds : Bounds) (i n : ℕ) (event : Event) → IsWithin bounds i event → IsReceiveIn event n → i < receive_bound bounds n
+receive_below : (bounds : Bounds) (i n : ℕ) (event : Event) → IsEventWithin bounds i event → IsReceiveIn event n → i < receive_bound bounds n
 receive_below bounds i n (Step p k (Recv s m)) within is = subst (λ c. i < receive_bound bounds c) is within.1
 receive_below bounds i n _ within is = absurd is
 
 pub alone_kept : (old new : Bounds) (history : List Event) → KeepsReceives old new → AreAlone old history → AreAlone new history
 alone_kept old new history kept alone n i j event other one = alone n i j event other (λ e. one (kept n ∙ e))
 
-pub alone_push : (old mid new : Bounds) (marks : ℕ → ℕ) (history : List Event) (event : Event) → KeepsReceives old mid → Joins mid new event → AreWithin old marks history → AreAlone old history → AreAlone new (history ++ event ∷ [])
+pub alone_push : (old mid new : Bounds) (marks : ℕ → ℕ) (history : List Event) (event : Event) → KeepsReceives old mid → JoinsCell mid new event → AreWithin old marks history → AreAlone old history → AreAlone new (history ++ event ∷ [])
 alone_push old mid new marks history event kept joins within alone n i j one two single at_i at_j in_i in_j =
     ⊎_elim
     (λ old_i. ⊎_elim
@@ -61,7 +61,7 @@ alone_push old mid new marks history event kept joins within alone n i j one two
 is_several : (n : ℕ) → (n ≡ SEVERAL) ⊎ (n ≢ SEVERAL)
 is_several n = grind arith
 
-module _ (old new : Bounds) (history : List Event) (gone : ℕ) (event : Event) (at_gone : slice_get history gone ≡ Some event) (leaves : Leaves old new event) (alone : AreAlone old history) where
+module _ (old new : Bounds) (history : List Event) (gone : ℕ) (event : Event) (at_gone : slice_get history gone ≡ Some event) (leaves : LeavesCell old new event) (alone : AreAlone old history) where
   pub alone_without : AreAlone new (without history gone)
   alone_without n i j one two single at_i at_j in_i in_j =
       same_position_before gone i j
@@ -71,9 +71,9 @@ module _ (old new : Bounds) (history : List Event) (gone : ℕ) (event : Event) 
   -- what is left stands below the bounds that are left
   kind_left : (m i p k : ℕ) (kind : Kind) → slice_get history i ≡ Some (Step p k kind) → (i ≡ gone → ⊥) → IsKindWithin old m p kind → IsKindWithin new m p kind
   kind_left m i p k (Recv s r) at other within =
-      subst (λ b. m < b) (sym (leaves.others (copy_cell s r (p - 1)) (λ in_cell.
-      ⊎_elim (λ several. several) (λ single. absurd (other (alone (copy_cell s r (p - 1)) i gone (Step p k (Recv s r)) event single at at_gone refl in_cell)))
-      (is_several (receive_bound old (copy_cell s r (p - 1))))))) within
+      subst (λ b. m < b) (sym (leaves.others (named_copy_cell s r (p - 1)) (λ in_cell.
+      ⊎_elim (λ several. several) (λ single. absurd (other (alone (named_copy_cell s r (p - 1)) i gone (Step p k (Recv s r)) event single at at_gone refl in_cell)))
+      (is_several (receive_bound old (named_copy_cell s r (p - 1))))))) within
   kind_left m i p k (Send r) at other within = subst (λ t. m < slice_index t.items (named_cell p r)) (sym leaves.sends) within
   kind_left m i p k (Read register) at other within = subst (λ t. m < slice_index t (register_cell register (p - 1))) (sym leaves.accesses) within
   kind_left m i p k (Write register) at other within = (
@@ -82,23 +82,23 @@ module _ (old new : Bounds) (history : List Event) (gone : ℕ) (event : Event) 
   )
   kind_left m i p k _ at other within = within
 
-  pub within_left : (m i : ℕ) (one : Event) → slice_get history i ≡ Some one → (i ≡ gone → ⊥) → IsWithin old m one → IsWithin new m one
+  pub within_left : (m i : ℕ) (one : Event) → slice_get history i ≡ Some one → (i ≡ gone → ⊥) → IsEventWithin old m one → IsEventWithin new m one
   within_left m i (Step p k kind) at other within = (subst (λ t. m < slice_index t.items (named_cell p k)) (sym leaves.steps) within.0, kind_left m i p k kind at other within.1)
-  within_left m i (Lost copy) at other within = subst (λ t. m < slice_index t.items (copy_cell copy.msg.s copy.msg.m (copy.to - 1))) (sym leaves.losses) within
+  within_left m i (Lost copy) at other within = subst (λ t. m < slice_index t.items (named_copy_cell copy.msg.s copy.msg.m (copy.to - 1))) (sym leaves.losses) within
 
 -- before a send, a step of another process on which it depends receives its message
-pub receives_sent : (p k m : ℕ) (slot : ℕ) (cause : Event) → IsSlot cause slot → slot < 9 → slot + 1 ≢ p → depends cause (Step p k (Send m)) ≡ true → IsReceiveIn cause (copy_cell p m slot)
+pub receives_sent : (p k m : ℕ) (slot : ℕ) (cause : Event) → IsSlot cause slot → slot < 9 → slot + 1 ≢ p → depends cause (Step p k (Send m)) ≡ true → IsReceiveIn cause (named_copy_cell p m slot)
 receives_sent p k m slot (Step q l kind) in_slot low other h = go kind (other_true (nat_eq q p) _ apart (sym (by_effect (Step q l kind) (Step p k (Send m))) ∙ h))
   where
     apart : nat_eq q p ≡ false
     apart = is_false (nat_eq q p) (λ same. other (in_slot.0 ∙ eqb-true q p same))
 
-    go : (kind : Kind) → (kind_affects q kind (Send m) || kind_affects p (Send m) kind) ≡ true → IsReceiveIn (Step q l kind) (copy_cell p m slot)
+    go : (kind : Kind) → (kind_affects q kind (Send m) || kind_affects p (Send m) kind) ≡ true → IsReceiveIn (Step q l kind) (named_copy_cell p m slot)
     go (Recv s r) h =
         let one = eqb-true p s (left_true (nat_eq p s) (nat_eq m r) h) in
         let two = eqb-true m r (right_true (nat_eq p s) (nat_eq m r) h) in
         let position : q - 1 ≡ slot = (let e = in_slot.0 in omega arith) in
-        ap (λ n. copy_cell s r n) position ∙ ap (λ x. copy_cell x r slot) (sym one) ∙ ap (λ x. copy_cell p x slot) (sym two)
+        ap (λ n. named_copy_cell s r n) position ∙ ap (λ x. named_copy_cell x r slot) (sym one) ∙ ap (λ x. named_copy_cell p x slot) (sym two)
     go (Send r) h = absurd (true≢false (sym h))
     go (Write register) h = absurd (true≢false (sym h))
     go _ h = absurd (true≢false (sym h))

@@ -5,8 +5,8 @@ use Rattle.cdb_base.specs.declared.event.Kind.{Kind}
 use Rattle.cdb_base.specs.declared.event.Kind.TheVariants.{Send, Recv, Write}
 use Rattle.cdb_causal.specs.Alone.{ShareCell}
 use Rattle.cdb_causal.specs.Between.{IsAboveOtherReceives, IsAboveWaiting}
-use Rattle.cdb_causal.specs.Bounds.{IsWithin}
-use Rattle.cdb_causal.specs.Cells.{named_cell, copy_cell}
+use Rattle.cdb_causal.specs.Bounds.{IsEventWithin}
+use Rattle.cdb_causal.specs.Cells.{named_cell, named_copy_cell}
 use Rattle.cdb_causal.specs.Dependence.{receives}
 use Rattle.cdb_causal.specs.Effects.{kind_affects}
 use Rattle.cdb_causal.specs.declared.bounds.Bounds.{Bounds}
@@ -29,12 +29,12 @@ not_both : (q p x : ℕ) → nat_eq q p ≡ false → nat_eq q x ≡ true → na
 not_both q p x differ same = ap (λ y. nat_eq y p) (sym (eqb-true q x same)) ∙ differ
 
 module _ (bounds : Bounds) (q m p s r result : ℕ) (differ : nat_eq q p ≡ false) where
-  pub above_waiting : (sent : slice_index bounds.sends.items (named_cell s r) ≤ result) (lost : slice_index bounds.losses.items (copy_cell s r (p - 1)) ≤ result)
+  pub above_waiting : (sent : slice_index bounds.sends.items (named_cell s r) ≤ result) (lost : slice_index bounds.losses.items (named_copy_cell s r (p - 1)) ≤ result)
       → (received : IsAboveOtherReceives bounds q m p s r result)
       → IsAboveWaiting bounds q m p s r result
   above_waiting sent lost received i k l (Step x n kind) within unshared h g = go kind within unshared (sym (by_effect (Step q k (Send m)) (Step x n kind)) ∙ h) (sym (by_effect (Step x n kind) (Step p l (Recv s r))) ∙ g)
     where
-      go : (kind : Kind) → IsWithin bounds i (Step x n kind) → (ShareCell bounds (Step x n kind) (Step p l (Recv s r)) → ⊥)
+      go : (kind : Kind) → IsEventWithin bounds i (Step x n kind) → (ShareCell bounds (Step x n kind) (Step p l (Recv s r)) → ⊥)
           → (nat_eq q x || (kind_affects q (Send m) kind || kind_affects x kind (Send m))) ≡ true → (nat_eq x p || (kind_affects x kind (Recv s r) || false)) ≡ true → i < result
       go (Recv sender number) within unshared h g =
           let same = eqb-true x p (first_true (nat_eq x p) g) in
@@ -42,7 +42,7 @@ module _ (bounds : Bounds) (q m p s r result : ℕ) (differ : nat_eq q p ≡ fal
           let parts = both_true (nat_eq q sender) (nat_eq m number) (first_true (receives q m (Recv sender number)) (other_true (nat_eq q x) _ apart h)) in
           let is : Step x n (Recv sender number) ≡ Step p n (Recv q m) =
           ap (λ y. Step y n (Recv sender number)) same ∙ ap (λ y. Step p n (Recv y number)) (sym (eqb-true q sender parts.0)) ∙ ap (λ y. Step p n (Recv q y)) (sym (eqb-true m number parts.1)) in
-          received i n l (subst (λ e. IsWithin bounds i e) is within) (subst (λ e. ShareCell bounds e (Step p l (Recv s r)) → ⊥) is unshared)
+          received i n l (subst (λ e. IsEventWithin bounds i e) is within) (subst (λ e. ShareCell bounds e (Step p l (Recv s r)) → ⊥) is unshared)
       go (Send number) within unshared h g =
           let same = first_true (nat_eq q x) h in
           let parts = both_true (nat_eq x s) (nat_eq number r) (first_true _ (other_true (nat_eq x p) _ (not_both q p x differ same) g)) in
@@ -55,8 +55,8 @@ module _ (bounds : Bounds) (q m p s r result : ℕ) (differ : nat_eq q p ≡ fal
   above_waiting sent lost received i k l (Lost copy) within unshared h g =
       let parts = both_true (nat_eq p copy.to) (receives copy.msg.s copy.msg.m (Recv s r)) (first_true _ (sym (by_effect (Lost copy) (Step p l (Recv s r))) ∙ g)) in
       let of = both_true (nat_eq copy.msg.s s) (nat_eq copy.msg.m r) parts.1 in
-      let below : i < slice_index bounds.losses.items (copy_cell s r (p - 1)) =
-      subst (λ y. i < slice_index bounds.losses.items (copy_cell y r (p - 1))) (eqb-true copy.msg.s s of.0)
-      (subst (λ y. i < slice_index bounds.losses.items (copy_cell copy.msg.s y (p - 1))) (eqb-true copy.msg.m r of.1)
-      (subst (λ y. i < slice_index bounds.losses.items (copy_cell copy.msg.s copy.msg.m (y - 1))) (sym (eqb-true p copy.to parts.0)) within)) in
+      let below : i < slice_index bounds.losses.items (named_copy_cell s r (p - 1)) =
+      subst (λ y. i < slice_index bounds.losses.items (named_copy_cell y r (p - 1))) (eqb-true copy.msg.s s of.0)
+      (subst (λ y. i < slice_index bounds.losses.items (named_copy_cell copy.msg.s y (p - 1))) (eqb-true copy.msg.m r of.1)
+      (subst (λ y. i < slice_index bounds.losses.items (named_copy_cell copy.msg.s copy.msg.m (y - 1))) (sym (eqb-true p copy.to parts.0)) within)) in
       omega arith

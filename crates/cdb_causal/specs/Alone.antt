@@ -3,7 +3,7 @@ use Rattle.std.specs.Prelude.{◌≡◌, ◌≢◌, ℕ, ◌-◌, ◌<◌, List,
 use Rattle.cdb_base.specs.declared.event.Event.{Event}
 use Rattle.cdb_base.specs.declared.event.Event.TheVariants.{Step}
 use Rattle.cdb_base.specs.declared.event.Kind.TheVariants.{Recv}
-use Rattle.cdb_causal.specs.Cells.{copy_cell}
+use Rattle.cdb_causal.specs.Cells.{named_copy_cell}
 use Rattle.cdb_causal.specs.declared.bounds.Bounds.{Bounds}
 use Rattle.cdb_causal.specs.declared.bounds.TheConstants.{SEVERAL}
 
@@ -13,7 +13,7 @@ receive_bound bounds n = slice_index bounds.receives.items n
 
 -- the event receives a copy that has that cell
 abbrev pub IsReceiveIn : Event → ℕ → Type 0
-IsReceiveIn (Step p k (Recv s m)) n = copy_cell s m (p - 1) ≡ n
+IsReceiveIn (Step p k (Recv s m)) n = named_copy_cell s m (p - 1) ≡ n
 IsReceiveIn _ n = ⊥
 
 -- no event before position j receives the copy that has that cell
@@ -36,12 +36,12 @@ abbrev pub KeepsReceives : Bounds → Bounds → Type 0
 KeepsReceives old new = (n : ℕ) → receive_bound new n ≡ receive_bound old n
 
 -- the event has joined its cell, which had no bound or now says that several may stand there; the other cells are as they were
-pub record Joins (old new : Bounds) (event : Event) : Type 0 where
+pub record JoinsCell (old new : Bounds) (event : Event) : Type 0 where
   pub alone : (n : ℕ) → IsReceiveIn event n → receive_bound new n ≢ SEVERAL → receive_bound old n ≡ 0
   pub others : (n : ℕ) → (IsReceiveIn event n → ⊥) → receive_bound new n ≡ receive_bound old n
 
 -- the event has left its cell, unless several may stand there; all else is as it was
-pub record Leaves (old new : Bounds) (event : Event) : Type 0 where
+pub record LeavesCell (old new : Bounds) (event : Event) : Type 0 where
   pub steps : new.steps ≡ old.steps
   pub sends : new.sends ≡ old.sends
   pub losses : new.losses ≡ old.losses

@@ -6,14 +6,14 @@ use Rattle.cdb_base.specs.declared.event.Kind.{Kind}
 use Rattle.cdb_base.specs.declared.event.Kind.TheVariants.{Send, Recv, Write}
 use Rattle.cdb_base.specs.declared.register.Reg.{Reg}
 use Rattle.cdb_causal.specs.Alone.{ShareCell}
-use Rattle.cdb_causal.specs.Bounds.{IsWithin}
+use Rattle.cdb_causal.specs.Bounds.{IsEventWithin}
 use Rattle.cdb_causal.specs.Dependence.{accesses, same_process, depends}
 use Rattle.cdb_causal.specs.LastCauses.{IsSlot}
 use Rattle.cdb_causal.specs.declared.bounds.Bounds.{Bounds}
 
 -- the event, under mark i, depends on the first and the second on it; it is no step of the first one's process
 pub record IsBetween (bounds : Bounds) (first second : Event) (i : ℕ) (event : Event) : Type 0 where
-  pub within : IsWithin bounds i event
+  pub within : IsEventWithin bounds i event
   pub slot : ℕ
   pub has_slot : IsSlot event slot
   pub unshared : ShareCell bounds event second → ⊥
@@ -34,28 +34,28 @@ IsAboveBetweenKinds bounds first second end =
 -- above all receives by process p of the m-th message of process q, but for that of the r-th message of process s
 abbrev pub IsAboveOtherReceives : Bounds → ℕ → ℕ → ℕ → ℕ → ℕ → ℕ → Type 0
 IsAboveOtherReceives bounds q m p s r end =
-    (i k l : ℕ) → IsWithin bounds i (Step p k (Recv q m))
+    (i k l : ℕ) → IsEventWithin bounds i (Step p k (Recv q m))
     → (ShareCell bounds (Step p k (Recv q m)) (Step p l (Recv s r)) → ⊥) → i < end
 
 -- above all that depends on the m-th send of process q and on which the receive, by process p, of the r-th message of process s
 -- depends, but for that receive
 abbrev pub IsAboveWaiting : Bounds → ℕ → ℕ → ℕ → ℕ → ℕ → ℕ → Type 0
 IsAboveWaiting bounds q m p s r end =
-    (i k l : ℕ) (between : Event) → IsWithin bounds i between → (ShareCell bounds between (Step p l (Recv s r)) → ⊥)
+    (i k l : ℕ) (between : Event) → IsEventWithin bounds i between → (ShareCell bounds between (Step p l (Recv s r)) → ⊥)
     → depends (Step q k (Send m)) between ≡ true → depends between (Step p l (Recv s r)) ≡ true → i < end
 
 -- above all writes of the register, by processes 1 to 9
 abbrev pub IsAboveWrites : Bounds → Reg → ℕ → Type 0
 IsAboveWrites bounds register end =
-    (i x n slot : ℕ) → IsWithin bounds i (Step x n (Write register)) → slot + 1 ≡ x → slot ≤ 8 → i < end
+    (i x n slot : ℕ) → IsEventWithin bounds i (Step x n (Write register)) → slot + 1 ≡ x → slot ≤ 8 → i < end
 
 -- above all accesses of the register, by processes 1 to 9
 abbrev pub IsAboveAccesses : Bounds → Reg → ℕ → Type 0
 IsAboveAccesses bounds register end =
     (i x n slot : ℕ) (kind : Kind) → accesses register kind ≡ true
-    → IsWithin bounds i (Step x n kind) → slot + 1 ≡ x → slot ≤ 8 → i < end
+    → IsEventWithin bounds i (Step x n kind) → slot + 1 ≡ x → slot ≤ 8 → i < end
 
 -- above those by process p
 abbrev pub IsAboveAccessesBy : Bounds → Reg → ℕ → ℕ → Type 0
 IsAboveAccessesBy bounds register p end =
-    (i n : ℕ) (kind : Kind) → accesses register kind ≡ true → IsWithin bounds i (Step p n kind) → i < end
+    (i n : ℕ) (kind : Kind) → accesses register kind ≡ true → IsEventWithin bounds i (Step p n kind) → i < end

@@ -16,5 +16,5 @@ abbrev pub named_cell : ℕ → ℕ → ℕ
 named_cell p k = k * 9 + (p - 1)
 
 -- and so have the copies of one message
-abbrev pub copy_cell : ℕ → ℕ → ℕ → ℕ
-copy_cell s m slot = named_cell s m * 9 + slot
+abbrev pub named_copy_cell : ℕ → ℕ → ℕ → ℕ
+named_copy_cell s m slot = named_cell s m * 9 + slot

@@ -3,7 +3,7 @@ use Rattle.std.specs.Prelude.{◌≡◌, ℕ, ◌-◌, ◌≤◌, List, Some, sl
 use Rattle.cdb_base.specs.declared.event.Event.{Event}
 use Rattle.cdb_base.specs.declared.event.Event.TheVariants.{Step, Lost}
 use Rattle.cdb_base.specs.declared.name.CopyName.{CopyName}
-use Rattle.cdb_causal.specs.Cells.{named_cell, copy_cell}
+use Rattle.cdb_causal.specs.Cells.{named_cell, named_copy_cell}
 use Rattle.cdb_causal.specs.declared.bounds.Bounds.{Bounds}
 
 -- the copy is of a message of a process from 1 to 9, for such a process
@@ -19,7 +19,7 @@ IsStepIn (Lost copy) n = ⊥
 
 abbrev pub IsLossIn : Event → ℕ → Type 0
 IsLossIn (Step p k kind) n = ⊥
-IsLossIn (Lost copy) n = copy_cell copy.msg.s copy.msg.m (copy.to - 1) ≡ n
+IsLossIn (Lost copy) n = named_copy_cell copy.msg.s copy.msg.m (copy.to - 1) ≡ n
 
 -- the bounds are as they were, but for the cell of the event's name
 pub record IsNameForgotten (old new : Bounds) (event : Event) : Type 0 where

@@ -10,10 +10,10 @@ ghost use Rattle.cdb_base.specs.declared.event.Event.TheVariants.{Step, Lost};
 ghost use Rattle.cdb_base.specs.declared.event.Kind.{Kind as AKind};
 ghost use Rattle.cdb_base.specs.declared.event.Kind.TheVariants.{Recv, Read, Write};
 ghost use Rattle.cdb_base.specs.declared.name.CopyName.{CopyName as ACopy};
-ghost use Rattle.cdb_causal.specs.Cells.{row, register_cell as register_cell_of, named_cell as named_cell_of, copy_cell as copy_cell_of};
+ghost use Rattle.cdb_causal.specs.Cells.{row, register_cell as register_cell_of, named_cell as named_cell_of, named_copy_cell};
 ghost use Rattle.cdb_causal.specs.Dependence.{accesses as accesses_of, same_process};
 ghost use Rattle.cdb_causal.specs.LastCauses.{IsSlot};
-ghost use Rattle.cdb_causal.specs.Raised.{IsRaised, ChangesCell, joined, left};
+ghost use Rattle.cdb_causal.specs.Raised.{IsRaised, ChangesCell, after_joining, after_leaving};
 
 use crate::dependence::accesses;
 use cdb_base::{CopyName, Event, Kind, NoMemory, Proc, Reg, StepId};
@@ -78,7 +78,7 @@ fn named_cell(p: Proc, k: u16) -> usize
 /// The cell of a copy, for the process of a slot, of the m-th message of process s.
 fn copy_cell(s: Proc, m: u16, slot: usize) -> usize
     requires { slot < 9 }
-    ensures value { result ≡ copy_cell_of s m slot }
+    ensures value { result ≡ named_copy_cell s m slot }
     ensures small { result < 9437184 }
 {
     named_cell(s, m) * 9 + slot
@@ -109,7 +109,7 @@ fn raise(table: &mut [Mark], cell: usize, bound: Mark)
 fn join(table: &mut [Mark], cell: usize, bound: Mark)
     requires cell { cell < length table.old }
     requires bound { bound ≤ SEVERAL }
-    ensures joined { ChangesCell (λ old. joined old bound) table.old table.new cell }
+    ensures joined { ChangesCell (λ old. after_joining old bound) table.old table.new cell }
     ensures raised { IsRaised bound table.old table.new }
 {
     table[cell] = if table[cell] == 0 { bound } else { SEVERAL };
@@ -117,7 +117,7 @@ fn join(table: &mut [Mark], cell: usize, bound: Mark)
 
 /// Takes the bound from a cell in which one event stands.
 fn leave(table: &mut [Mark], cell: usize)
-    ensures { ChangesCell left table.old table.new cell }
+    ensures { ChangesCell after_leaving table.old table.new cell }
 {
     if cell < table.len() && table[cell] != SEVERAL {
         table[cell] = 0;
@@ -172,10 +172,10 @@ impl Bounds {
     ghost use Rattle.cdb_causal.specs.Between.{IsBetween, IsAboveBetween, IsAboveBetweenKinds};
     ghost use Rattle.cdb_causal.specs.Between.{IsAboveOtherReceives, IsAboveWaiting};
     ghost use Rattle.cdb_causal.specs.Between.{IsAboveWrites, IsAboveAccesses, IsAboveAccessesBy};
-    ghost use Rattle.cdb_causal.specs.Bounds.{IsWithin, IsKindWithin, AreRaised, HasRoom, HasRoomFor};
+    ghost use Rattle.cdb_causal.specs.Bounds.{IsEventWithin, IsKindWithin, AreRaised, HasCellsFor, HasCellsForKind};
     ghost use Rattle.cdb_causal.specs.Named.{IsRanged, IsNameForgotten};
     ghost use Rattle.cdb_causal.specs.Own.{own_bound, bound_of_slot, IsOwnNoted, IsOwnForgotten};
-    ghost use Rattle.cdb_causal.specs.Alone.{receive_bound, Joins, Leaves, KeepsReceives};
+    ghost use Rattle.cdb_causal.specs.Alone.{receive_bound, JoinsCell, LeavesCell, KeepsReceives};
 
     /// The bounds of a history without events.
     pub fn new(alloc: Global) -> Self
@@ -206,7 +206,7 @@ impl Bounds {
         ensures steps { self.new.steps ≡ self.old.steps }
         ensures before { self.new.before ≡ self.old.before }
         ensures receives { KeepsReceives self.old self.new }
-        ensures room { OnOk result (HasRoomFor self.new p kind) }
+        ensures room { OnOk result (HasCellsForKind self.new p kind) }
     {
         match kind {
             Kind::Send(m) => grow(&mut self.sends, named_cell(p, m)),
@@ -219,7 +219,7 @@ impl Bounds {
     pub fn reserve(&mut self, event: &Event) -> Result<(), NoMemory>
         ensures others { (top : ℕ) → AreRaised top self.old self.new }
         ensures receives { KeepsReceives self.old self.new }
-        ensures room { OnOk result (HasRoom self.new event.now) }
+        ensures room { OnOk result (HasCellsFor self.new event.now) }
     {
         match event {
             Event::Step { p, k, kind } => {
@@ -239,12 +239,12 @@ impl Bounds {
     /// Raises the bounds for what a step of that kind does.
     fn note_kind(&mut self, mark: Mark, p: Proc, kind: Kind)
         requires mark { mark < ABOVE_ALL }
-        requires room { HasRoomFor self.old p kind }
+        requires room { HasCellsForKind self.old p kind }
         ensures others { AreRaised (mark + 1) self.old self.new }
         ensures steps { self.new.steps ≡ self.old.steps }
         ensures own { self.new.own ≡ self.old.own }
         ensures before { self.new.before ≡ self.old.before }
-        ensures receives { (k : ℕ) → Joins self.old self.new (Step p k kind) }
+        ensures receives { (k : ℕ) → JoinsCell self.old self.new (Step p k kind) }
         ensures room { vec_len self.new.before ≡ vec_len self.old.before }
         ensures within { IsKindWithin self.new mark p kind }
     {
@@ -286,10 +286,10 @@ impl Bounds {
     /// Raises the bounds, for which there is room, so that the event under that mark is within them.
     pub fn note(&mut self, mark: Mark, event: &Event)
         requires mark { mark < ABOVE_ALL }
-        requires room { HasRoom self.old event.now }
+        requires room { HasCellsFor self.old event.now }
         ensures others { AreRaised (mark + 1) self.old self.new }
-        ensures receives { Joins self.old self.new event.now }
-        ensures within { IsWithin self.new mark event.now }
+        ensures receives { JoinsCell self.old self.new event.now }
+        ensures within { IsEventWithin self.new mark event.now }
         ensures own { IsOwnNoted self.old self.new mark event.now }
         ensures copy { (copy : ACopy) → event.now ≡ Lost copy → IsRanged copy }
         ensures process { (p k : ℕ) (kind : AKind) → event.now ≡ Step p k kind →
@@ -355,7 +355,7 @@ impl Bounds {
 
     /// Takes away the bound of a receive that is taken out of the history.
     pub fn forget(&mut self, event: &Event)
-        ensures leaves { Leaves self.old self.new event.now }
+        ensures leaves { LeavesCell self.old self.new event.now }
         ensures own { self.new.own ≡ self.old.own }
     {
         if let Event::Step {
@@ -385,7 +385,7 @@ impl Bounds {
     /// The bound of the receives of a copy for the slot's process.
     pub fn end_of_receives(&self, s: Proc, m: u16, slot: usize) -> Mark
         requires { slot < 9 }
-        ensures { result ≡ slice_index self.now.receives.items (copy_cell_of s m slot) }
+        ensures { result ≡ slice_index self.now.receives.items (named_copy_cell s m slot) }
     {
         bound_in(&self.receives, copy_cell(s, m, slot))
     }
@@ -393,7 +393,7 @@ impl Bounds {
     /// Whether by the bounds at most one standing event receives the copy for the slot's process.
     pub fn is_received_once(&self, s: Proc, m: u16, slot: usize) -> bool
         requires { slot < 9 }
-        ensures { IsTrue result → receive_bound self.now (copy_cell_of s m slot) ≢ SEVERAL }
+        ensures { IsTrue result → receive_bound self.now (named_copy_cell s m slot) ≢ SEVERAL }
     {
         self.end_of_receives(s, m, slot) != SEVERAL
     }
@@ -401,21 +401,21 @@ impl Bounds {
     /// The bound of the losses of a copy for the slot's process.
     fn end_of_losses(&self, s: Proc, m: u16, slot: usize) -> Mark
         requires { slot < 9 }
-        ensures { result ≡ slice_index self.now.losses.items (copy_cell_of s m slot) }
+        ensures { result ≡ slice_index self.now.losses.items (named_copy_cell s m slot) }
     {
         bound_in(&self.losses, copy_cell(s, m, slot))
     }
 
     /// The bound of the loss of a copy.
     fn end_of_lost(&self, copy: &CopyName) -> Mark
-        ensures { (i : ℕ) → IsWithin self.now i (Lost copy.now) → i < result }
+        ensures { (i : ℕ) → IsEventWithin self.now i (Lost copy.now) → i < result }
     {
         self.end_of_losses(copy.msg.s, copy.msg.m, copy.to.index())
     }
 
     /// Above the event of a name.
     pub fn end_of_name(&self, name: &StepId) -> Mark
-        ensures { (i : ℕ) (event : AnEvent) → IsWithin self.now i event →
+        ensures { (i : ℕ) (event : AnEvent) → IsEventWithin self.now i event →
             event_name event ≡ name.now → i < result }
     {
         match name {
@@ -518,7 +518,7 @@ impl Bounds {
     /// Above all losses of copies of the m-th message of process `p`.
     fn end_of_copies(&self, p: Proc, m: u16) -> Mark
         ensures { (slot : ℕ) → slot < 9 →
-            slice_index self.now.losses.items (copy_cell_of p m slot) ≤ result }
+            slice_index self.now.losses.items (named_copy_cell p m slot) ≤ result }
     {
         let mut end = 0;
         for slot in 0..9 {

@@ -8,8 +8,8 @@ ghost use Rattle.cdb_base.specs.Positions.{nth};
 ghost use Rattle.cdb_causal.specs.Causality.{IsLink};
 ghost use Rattle.cdb_causal.specs.Dependence.{depends as depends_of};
 ghost use Rattle.cdb_causal.specs.Alone.{IsReceiveIn, HasNoReceiveBefore};
-ghost use Rattle.cdb_causal.specs.Bounds.{HasRoom as HasBoundsFor};
-ghost use Rattle.cdb_causal.specs.Cells.{copy_cell};
+ghost use Rattle.cdb_causal.specs.Bounds.{HasCellsFor};
+ghost use Rattle.cdb_causal.specs.Cells.{named_copy_cell};
 ghost use Rattle.cdb_causal.specs.Changing.{HasFailed};
 ghost use Rattle.cdb_causal.specs.Indexed.{IsIndexed};
 ghost use Rattle.cdb_causal.specs.LastCauses.{IsNoCause, HasNoCauseAsStep, IsEndOfCauses, IsEndBetween};
@@ -75,7 +75,7 @@ fn make_room(events: &mut Log<Event>, bounds: &mut Bounds, event: &Event) -> Res
     ensures same { events.new.items ≡ events.old.items }
     ensures indexed { IsIndexed events.new bounds.new }
     ensures room { OnOk result (HasRoom events.new) }
-    ensures bounds { OnOk result (HasBoundsFor bounds.new event.now) }
+    ensures bounds { OnOk result (HasCellsFor bounds.new event.now) }
 {
     events.reserve()?;
     bounds.reserve(event)
@@ -86,7 +86,7 @@ fn make_room(events: &mut Log<Event>, bounds: &mut Bounds, event: &Event) -> Res
 fn add(events: &mut Log<Event>, bounds: &mut Bounds, event: Event)
     requires indexed { IsIndexed events.old bounds.old }
     requires room { HasRoom events.old }
-    requires bounds { HasBoundsFor bounds.old event }
+    requires bounds { HasCellsFor bounds.old event }
     requires new_name { IsNewName events.old.items (event_name event) }
     requires not_lost { HasNoLostCopy events.old.items event }
     ensures added { events.new.items ≡ events.old.items ++ event ∷ [] }
@@ -100,7 +100,7 @@ fn add(events: &mut Log<Event>, bounds: &mut Bounds, event: Event)
 /// Whether the event is the receive of the m-th message of process s by the slot's process.
 fn is_receive_of(event: &Event, s: Proc, m: u16, slot: usize) -> bool
     requires { slot < 9 }
-    ensures { IsTrue result → IsReceiveIn event.now (copy_cell s m slot) }
+    ensures { IsTrue result → IsReceiveIn event.now (named_copy_cell s m slot) }
 {
     match event {
         Event::Step {
@@ -184,7 +184,7 @@ impl History {
     /// Whether the slot's process receives the message at position `j`, from 0, or later, and at most once.
     fn receives_later(&self, s: Proc, m: u16, j: usize, slot: usize) -> bool
         requires { slot < 9 }
-        ensures { IsTrue result → HasNoReceiveBefore self.now j (copy_cell s m slot) }
+        ensures { IsTrue result → HasNoReceiveBefore self.now j (named_copy_cell s m slot) }
     {
         if !self.bounds.is_received_once(s, m, slot) {
             return false;

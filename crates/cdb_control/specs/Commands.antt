@@ -62,29 +62,28 @@ unpaused None t go = go
 
 -- ---- steps and losses
 
--- what breakpoints look at in a step that a process took
+-- what breakpoints look at in a step of a process that stands last and was taken in that round
+abbrev pub last_step : Rules → List Event → ℕ → Event → ℕ → TakenStep
+last_step rules history p e round_before =
+    record { event = e; decides = decision_of rules history p; round_before = round_before; round_after = round_of rules history p }
+
+-- the same of a step that is taken now
 abbrev pub taken_step : Rules → List Event → ℕ → Event → TakenStep
-taken_step rules history p e =
-    record {
-      event = e;
-      decides = decision_of rules (history ++ e ∷ []) p;
-      round_before = round_of rules history p;
-      round_after = round_of rules (history ++ e ∷ []) p;
-    }
+taken_step rules history p e = last_step rules (history ++ e ∷ []) p e (round_of rules history p)
 
 -- the pause that a step sets: none where one stands
 abbrev pub newly_fired : Option ℕ → TakenStep → Stops → Option ℕ
 newly_fired (Some b) taken stops = None
 newly_fired None taken stops = first_fired taken stops
 
-abbrev pub stepped : Rules → State → ℕ → Event → Outcome
-stepped rules t p e =
-    let taken = taken_step rules t.history p e in
+-- what is told of a step that stands last, and the pause that it sets
+abbrev pub step_told : State → TakenStep → Outcome
+step_told t taken =
     let paused = newly_fired t.pause taken t.stops in
-    record {
-      reply = reply.Stepped e taken.decides paused;
-      after = record t { history = t.history ++ e ∷ []; pause = option_or t.pause paused };
-    }
+    record { reply = reply.Stepped taken.event taken.decides paused; after = record t { pause = option_or t.pause paused } }
+
+abbrev pub stepped : Rules → State → ℕ → Event → Outcome
+stepped rules t p e = step_told (record t { history = t.history ++ e ∷ [] }) (taken_step rules t.history p e)
 
 abbrev pub step : Rules → State → ℕ → Act → Outcome
 step rules t p act = granted (rules.step t.history p act) t (stepped rules t p)

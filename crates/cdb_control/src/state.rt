@@ -4,11 +4,11 @@ ghost use Rattle.std.specs.Option.{option_or};
 ghost use Rattle.cdb_base.specs.declared.limits.TheConstants.{MAX_ENTRIES};
 ghost use Rattle.cdb_control.specs.Done.{came_out, CameOutAs, IsCarriedOut, IsCarriedOutForAny, IsNoRefusal, IsTaken, IsTakenFromAny, NoneShrinks};
 ghost use Rattle.cdb_control.specs.Auto.{choice, first_act_of};
-ghost use Rattle.cdb_control.specs.Commands.{step, undo, rollback, why, show, decides, newly_fired};
+ghost use Rattle.cdb_control.specs.Commands.{step, undo, rollback, why, show, decides, newly_fired, last_step, step_told};
 ghost use Rattle.cdb_rules.specs.EventRefs.{name_given};
 ghost use Rattle.cdb_rules.specs.Runs.{with_answer};
 ghost use Rattle.cdb_rules.specs.Step.{is_among};
-ghost use Rattle.cdb_control.specs.Trying.{first_step_of, step_told, IsFreeForAuto, IsRefusedForAuto};
+ghost use Rattle.cdb_control.specs.Trying.{first_step_of, IsFreeForAuto, IsRefusedForAuto};
 ghost use Rattle.cdb_control.specs.Room.{capacity_of, is_spared, HasSpace};
 ghost use Rattle.cdb_control.specs.State.{first_control_state, held, redo_of, AreOfRun};
 ghost use Rattle.cdb_rules.specs.Views.{round_of, decision_of};
@@ -344,20 +344,25 @@ impl<R: Runs> ControlState<R> {
         self.pause
     }
 
-    /// The reply to a step of process `p` that stands last, taken in that round. Sets the pause, where a
-    /// breakpoint fires.
-    fn tell_step(&mut self, event: Event, p: u32, round_before: u32) -> Reply
-        ensures told { came_out result self.new.state
-            ≡ step_told (R.rules self.old.state.setup) self.old.state p event round_before }
-        ensures kept { self.new.capacities ≡ self.old.capacities }
+    /// What breakpoints look at in a step of process `p` that stands last and was taken in that round.
+    fn last_step(&self, event: Event, p: u32, round_before: u32) -> TakenStep
+        ensures { result
+            ≡ last_step (R.rules self.now.state.setup) self.now.state.history p event round_before }
     {
         let (decides, round_after) = self.decision_and_round_of(p);
-        let taken = TakenStep {
+        TakenStep {
             event,
             decides,
             round_before,
             round_after,
-        };
+        }
+    }
+
+    /// The reply to a step that stands last. Sets the pause, where a breakpoint fires.
+    fn tell_step(&mut self, taken: TakenStep) -> Reply
+        ensures told { came_out result self.new.state ≡ step_told self.old.state taken }
+        ensures kept { self.new.capacities ≡ self.old.capacities }
+    {
         let paused = self.fire(&taken);
         Reply::Stepped {
             event: taken.event,
@@ -377,7 +382,10 @@ impl<R: Runs> ControlState<R> {
     {
         let round_before = self.round_of(p);
         match self.run.step(alloc, p, act)? {
-            Ok(event) => Ok(self.tell_step(event, p, round_before)),
+            Ok(event) => {
+                let taken = self.last_step(event, p, round_before);
+                Ok(self.tell_step(taken))
+            }
             Err(refusal) => Ok(Reply::Refused(refusal)),
         }
     }
@@ -457,7 +465,10 @@ impl<R: Runs> ControlState<R> {
             Err(refusal) => return Ok(Reply::Refused(refusal)),
         };
         match take_first(alloc, &mut self.run, p)? {
-            Ok(event) => Ok(self.tell_step(event, p, round_before)),
+            Ok(event) => {
+                let taken = self.last_step(event, p, round_before);
+                Ok(self.tell_step(taken))
+            }
             Err(refusal) => Ok(Reply::Refused(refusal)),
         }
     }

@@ -14,7 +14,7 @@ use Rattle.cdb_setup.specs.Parts.{Parts}
 use Rattle.cdb_setup.specs.declared.fault.SetupFault.{SetupFault}
 use Rattle.cdb_setup.specs.declared.fault.SetupFault.TheVariants as setup
 use Rattle.cdb_debug.specs.Dialogues.{Session, begun}
-use Rattle.cdb_debug.specs.Held.{Says, IsAt, IsOver, Hears, AnswersHeld, AnswersLast, Converses, ended_well, ended_by}
+use Rattle.cdb_debug.specs.Held.{Says, IsAt, IsOver, HearsBytes, AnswersHeld, AnswersLast, Converses, ended_well, ended_by}
 use Rattle.cdb_debug.specs.Moves.{Known, Move, Read, ReadFailed, read_in, Makes}
 use Rattle.cdb_debug.specs.Sessions.{most_input, IsSession, HasDebugged}
 use Rattle.cdb_debug.proofs.Ordered.{Makes-nothing, Makes-more, read-append, nothing_read}
@@ -83,20 +83,20 @@ module _ (prompt : List ℕ) (before : Known) (first : Session) (now : Known) (s
           omega (arith, long, s.3, ap length (append-nil bytes)),
         )
 
-    pub goes_on : (new : Session) (kept : List ℕ) → Hears (Ok false) next behind prompt session new held kept bytes → Stands prompt before first behind new kept (read + length bytes)
+    pub goes_on : (new : Session) (kept : List ℕ) → HearsBytes (Ok false) next behind prompt session new held kept bytes → Stands prompt before first behind new kept (read + length bytes)
     goes_on new kept hears is =
         let s = given is in
         let h = hears first s.0 s.2 in
         let same = ap length (read-append s.0 h.0 ∙ ap (λ more. read_in s.0 ++ more) (nothing_read h.0 h.2) ∙ append-nil (read_in s.0)) in
         (s.0 ++ h.0, Makes-more before next behind s.0 h.0 s.1 h.1, h.3, same ∙ s.3)
 
-    pub quits : (new : Session) (kept : List ℕ) → Hears (Ok true) next behind prompt session new held kept bytes → Converses ended_well before behind prompt first
+    pub quits : (new : Session) (kept : List ℕ) → HearsBytes (Ok true) next behind prompt session new held kept bytes → Converses ended_well before behind prompt first
     quits new kept hears is =
         let s = given is in
         let h = hears first s.0 s.2 in
         (s.0 ++ h.0, Makes-more before next behind s.0 h.0 s.1 h.1, h.3)
 
-    pub breaks : (new : Session) (kept : List ℕ) (why : OutputFault) → Hears (Err why) next behind prompt session new held kept bytes → Converses (ended_by why) before behind prompt first
+    pub breaks : (new : Session) (kept : List ℕ) (why : OutputFault) → HearsBytes (Err why) next behind prompt session new held kept bytes → Converses (ended_by why) before behind prompt first
     breaks new kept why hears is =
         let s = given is in
         let h = hears first s.0 s.2 in

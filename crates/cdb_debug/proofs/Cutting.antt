@@ -5,18 +5,18 @@ use Rattle.std.proofs.lemmas.List.Splits.{slice_split_none, slice_split_at, leng
 use Rattle.std.proofs.Math.Seq.{take-append_seam, take-append-add}
 use Rattle.cdb_base.specs.Positions.{without_last}
 use Rattle.cdb_play.specs.Lines.{without_empty_end, lines_of}
-use Rattle.cdb_debug.specs.Held.{HasNoEnd, joined}
+use Rattle.cdb_debug.specs.Held.{HasNoEnd, with_ends}
 use Rattle.cdb_debug.specs.Requests.{ended_lines}
 
 abbrev pub ends_line : ℕ → Bool
 ends_line byte = nat_eq byte 10
 
 -- the lines are cut off one after the other
-pub cut_joined : (lines : List (List ℕ)) (rest : List ℕ) → AllByRecursion HasNoEnd lines → slice_split ends_line (joined lines ++ rest) ≡ lines ++ slice_split ends_line rest
+pub cut_joined : (lines : List (List ℕ)) (rest : List ℕ) → AllByRecursion HasNoEnd lines → slice_split ends_line (with_ends lines ++ rest) ≡ lines ++ slice_split ends_line rest
 cut_joined [] rest none = refl
 cut_joined (line ∷ lines) rest none =
-    ap (slice_split ends_line) (append_assoc (line ++ 10 ∷ []) (joined lines) rest ∙ append_assoc line (10 ∷ []) (joined lines ++ rest))
-    ∙ slice_split_at ends_line line 10 (joined lines ++ rest) none.0 refl
+    ap (slice_split ends_line) (append_assoc (line ++ 10 ∷ []) (with_ends lines) rest ∙ append_assoc line (10 ∷ []) (with_ends lines ++ rest))
+    ∙ slice_split_at ends_line line 10 (with_ends lines ++ rest) none.0 refl
     ∙ ap (λ parts. line ∷ parts) (cut_joined lines rest none.1)
 
 -- all but the last of these parts
@@ -26,13 +26,13 @@ without_last-append lines line =
     ap (λ n. take n (lines ++ line ∷ [])) long ∙ take-append_seam lines (line ∷ [])
 
 -- the lines that have ended are these, where what follows has no end
-pub ended_of_joined : (lines : List (List ℕ)) (line : List ℕ) → AllByRecursion HasNoEnd lines → HasNoEnd line → ended_lines (joined lines ++ line) ≡ lines
+pub ended_of_joined : (lines : List (List ℕ)) (line : List ℕ) → AllByRecursion HasNoEnd lines → HasNoEnd line → ended_lines (with_ends lines ++ line) ≡ lines
 unfolding ended_lines
 ended_of_joined lines line ended unended =
     ap without_last (cut_joined lines line ended ∙ ap (λ parts. lines ++ parts) (slice_split_none ends_line line unended)) ∙ without_last-append lines line
 
 -- what follows may end further lines
-pub ended_and_more : (lines : List (List ℕ)) (rest : List ℕ) → AllByRecursion HasNoEnd lines → ended_lines (joined lines ++ rest) ≡ lines ++ ended_lines rest
+pub ended_and_more : (lines : List (List ℕ)) (rest : List ℕ) → AllByRecursion HasNoEnd lines → ended_lines (with_ends lines ++ rest) ≡ lines ++ ended_lines rest
 unfolding ended_lines
 ended_and_more lines rest ended =
     let parts = slice_split ends_line rest in
@@ -47,7 +47,7 @@ before_parts ([] ∷ []) (part ∷ parts) some = refl
 before_parts ([] ∷ (line ∷ lines)) parts some = ap (λ others. [] ∷ others) (before_parts (line ∷ lines) parts some)
 
 -- the lines begin with those that have ended
-pub lines_of_joined : (lines : List (List ℕ)) (rest : List ℕ) → AllByRecursion HasNoEnd lines → lines_of (joined lines ++ rest) ≡ lines ++ lines_of rest
+pub lines_of_joined : (lines : List (List ℕ)) (rest : List ℕ) → AllByRecursion HasNoEnd lines → lines_of (with_ends lines ++ rest) ≡ lines ++ lines_of rest
 unfolding lines_of
 lines_of_joined lines rest ended =
     ap without_empty_end (cut_joined lines rest ended) ∙ before_parts lines (slice_split ends_line rest) (omega (arith, length-slice_split ends_line rest))
@@ -58,9 +58,9 @@ unfolding lines_of
 one_unended [] some none = absurd (omega arith)
 one_unended (byte ∷ line) some none = ap without_empty_end (slice_split_none ends_line (byte ∷ line) none)
 
-pub joined-append : (lines : List (List ℕ)) (line : List ℕ) → joined (lines ++ line ∷ []) ≡ joined lines ++ (line ++ 10 ∷ [])
-joined-append [] line = append-nil (line ++ 10 ∷ [])
-joined-append (first ∷ lines) line = ap (λ bytes. (first ++ 10 ∷ []) ++ bytes) (joined-append lines line) ∙ sym (append_assoc (first ++ 10 ∷ []) (joined lines) (line ++ 10 ∷ []))
+pub with_ends-append : (lines : List (List ℕ)) (line : List ℕ) → with_ends (lines ++ line ∷ []) ≡ with_ends lines ++ (line ++ 10 ∷ [])
+with_ends-append [] line = append-nil (line ++ 10 ∷ [])
+with_ends-append (first ∷ lines) line = ap (λ bytes. (first ++ 10 ∷ []) ++ bytes) (with_ends-append lines line) ∙ sym (append_assoc (first ++ 10 ∷ []) (with_ends lines) (line ++ 10 ∷ []))
 
 pub lines_of_none : lines_of [] ≡ []
 unfolding lines_of

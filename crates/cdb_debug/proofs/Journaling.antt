@@ -6,7 +6,7 @@ use Rattle.std.proofs.lemmas.List.{take_all, take-append-le}
 use Rattle.cdb_base.specs.declared.limits.TheConstants.{MAX_ENTRIES}
 use Rattle.cdb_control.specs.Journal.{Journaled, entry, extended}
 use Rattle.cdb_control.specs.declared.control.Entry.{Entry}
-use Rattle.cdb_debug.specs.Dialogues.{Session, begun, after, session_after}
+use Rattle.cdb_debug.specs.Dialogues.{Session, begun, after_request, session_after}
 use Rattle.cdb_debug.specs.Laws.{commands_of, JournalHasTheCommands}
 use Rattle.cdb_debug.specs.declared.request.Request.{Request}
 use Rattle.cdb_debug.specs.declared.request.Request.TheVariants.{Call, Seat, Help, Quit, Fault, TooLong}
@@ -34,13 +34,13 @@ grown s (Call command ∷ requests) few =
     let full = length c.journal == MAX_ENTRIES in
     let is_full : full ≡ true → MAX_ENTRIES ≤ length c.journal = λ yes. let e = (Decides-eqb (length c.journal) MAX_ENTRIES).0 yes in omega (arith, e) in
     let has_room : full ≡ false → length c.journal < MAX_ENTRIES = λ no. not_full (length c.journal) MAX_ENTRIES few no in
-    grown (after s (Call command)) requests (fits MAX_ENTRIES full c d (entry s.seat command) has_room few refl)
+    grown (after_request s (Call command)) requests (fits MAX_ENTRIES full c d (entry s.seat command) has_room few refl)
     ∙ pick MAX_ENTRIES full c d (entry s.seat command) (commands_of s.seat requests) is_full refl
-grown s (Seat chosen ∷ requests) few = grown (after s (Seat chosen)) requests few
-grown s (Help ∷ requests) few = grown (after s Help) requests few
-grown s (Quit ∷ requests) few = grown (after s Quit) requests few
-grown s (Fault fault ∷ requests) few = grown (after s (Fault fault)) requests few
-grown s (TooLong ∷ requests) few = grown (after s TooLong) requests few
+grown s (Seat chosen ∷ requests) few = grown (after_request s (Seat chosen)) requests few
+grown s (Help ∷ requests) few = grown (after_request s Help) requests few
+grown s (Quit ∷ requests) few = grown (after_request s Quit) requests few
+grown s (Fault fault ∷ requests) few = grown (after_request s (Fault fault)) requests few
+grown s (TooLong ∷ requests) few = grown (after_request s TooLong) requests few
 
 pub journal_has_the_commands : JournalHasTheCommands
 journal_has_the_commands rules setup requests = grown (begun rules setup) requests (omega arith)

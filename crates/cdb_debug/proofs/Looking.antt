@@ -5,7 +5,7 @@ use Rattle.cdb_play.specs.declared.buffer.OutputFault.{OutputFault}
 use Rattle.cdb_play.specs.declared.buffer.OutputFault.TheVariants as output
 use Rattle.cdb_setup.specs.Format.{longest}
 use Rattle.cdb_debug.specs.Dialogues.{Session}
-use Rattle.cdb_debug.specs.Held.{IsAt, AnswersHeld, Hears, HasNoEnd, ended_well, ended_by}
+use Rattle.cdb_debug.specs.Held.{IsAt, AnswersHeld, HearsBytes, HasNoEnd, ended_well, ended_by}
 use Rattle.cdb_debug.specs.Moves.{Known, Move, AreWrites, Makes}
 use Rattle.cdb_debug.specs.Sessions.{IsSession}
 use Rattle.cdb_debug.proofs.Ordered.{Makes-nothing, Makes-more}
@@ -23,7 +23,7 @@ starts prompt before old held bytes start moves at = ([], Makes-nothing before, 
 
 module _ (prompt : List ℕ) (before : Known) (old : Session) (held bytes : List ℕ) (now : Known) (session : Session) (kept left : List ℕ) (so : Goes prompt before old held bytes now session kept left) where
   -- memory is out
-  pub no_memory : (new : Session) (all : List ℕ) → Hears (Err output.NoMemory) before now prompt old new held all bytes
+  pub no_memory : (new : Session) (all : List ℕ) → HearsBytes (Err output.NoMemory) before now prompt old new held all bytes
   no_memory new all start moves at =
       let s = so start moves at in
       (s.0, s.1, s.2, out_of_memory prompt start (moves ++ s.0) session kept left s.3)
@@ -45,7 +45,7 @@ module _ (prompt : List ℕ) (before : Known) (old : Session) (held bytes : List
         subst (λ made. IsAt prompt start made new all left) (append_assoc moves s.0 a.0) (line_answered prompt start (moves ++ s.0) session kept left s.3 new all stops a.0 a.2 goes_on),
       )
 
-  pub quits : (stops : Bool) → AnswersHeld (Ok stops) now behind prompt session new kept all → stops ≡ true → Hears (Ok true) before behind prompt old new held all bytes
+  pub quits : (stops : Bool) → AnswersHeld (Ok stops) now behind prompt session new kept all → stops ≡ true → HearsBytes (Ok true) before behind prompt old new held all bytes
   quits stops a stopped start moves at =
       let s = so start moves at in (
         s.0 ++ a.0,
@@ -54,7 +54,7 @@ module _ (prompt : List ℕ) (before : Known) (old : Session) (held bytes : List
         subst (λ made. IsSession prompt start ended_well made) (append_assoc moves s.0 a.0) (line_quit prompt start (moves ++ s.0) session kept left s.3 new all stops a.0 a.2 stopped),
       )
 
-  pub fails : (fault : OutputFault) → AnswersHeld (Err fault) now behind prompt session new kept all → Hears (Err fault) before behind prompt old new held all bytes
+  pub fails : (fault : OutputFault) → AnswersHeld (Err fault) now behind prompt session new kept all → HearsBytes (Err fault) before behind prompt old new held all bytes
   fails output.Write a start moves at =
       let s = so start moves at in (
         s.0 ++ a.0,

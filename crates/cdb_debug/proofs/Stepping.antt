@@ -9,8 +9,8 @@ use Rattle.cdb_play.specs.declared.buffer.OutputFault.TheVariants as output
 use Rattle.cdb_play.specs.declared.fault.PlayFault.{PlayFault}
 use Rattle.cdb_play.specs.declared.fault.PlayFault.TheVariants as fault
 use Rattle.cdb_setup.specs.Format.{longest}
-use Rattle.cdb_debug.specs.Dialogues.{Session, after, shown, dialogue, IsDialogue}
-use Rattle.cdb_debug.specs.Held.{IsAt, IsOver, IsLineDone, IsLineBroken, HasNoEnd, joined, held_of, ended_well, ended_by}
+use Rattle.cdb_debug.specs.Dialogues.{Session, after_request, shown, dialogue, IsDialogue}
+use Rattle.cdb_debug.specs.Held.{IsAt, IsOver, IsLineDone, IsLineBroken, HasNoEnd, with_ends, held_of, ended_well, ended_by}
 use Rattle.cdb_debug.specs.Moves.{Move, Read, ReadFailed, read_in, written_in, AreWrites, FailsToWrite, EndsWith}
 use Rattle.cdb_debug.specs.Requests.{Asks, HaveQuit, ended_lines, up_to_quit, quit_line}
 use Rattle.cdb_debug.specs.Sessions.{most_input, HasEnded, by_quit, at_end, at_most, IsAnswered, AnswersInTime, IsSession}
@@ -18,7 +18,7 @@ use Rattle.cdb_debug.specs.declared.request.Request.{Request}
 use Rattle.cdb_debug.specs.declared.request.Request.TheVariants.{Quit}
 use Rattle.cdb_debug.proofs.Along.{session_after-more, dialogue-more}
 use Rattle.cdb_debug.proofs.Asking.{asks_whole, is_not_quit, AreOthers, AllZip-more, AreOthers-more, up_to_quit-append, up_to_quit-one, up_to_quit-quit, have_none}
-use Rattle.cdb_debug.proofs.Cutting.{ended_of_joined, ended_and_more, lines_of_joined, one_unended, joined-append, lines_of_none}
+use Rattle.cdb_debug.proofs.Cutting.{ended_of_joined, ended_and_more, lines_of_joined, one_unended, with_ends-append, lines_of_none}
 use Rattle.cdb_debug.proofs.Holding.{take-take_append}
 use Rattle.cdb_debug.proofs.Saying.{AreWrites-append}
 use Rattle.cdb_debug.proofs.Ordered.{nothing_asked, one_move, writes_more, read-append, written-append, nothing_read, EndsWith-more}
@@ -61,7 +61,7 @@ module _ (prompt : List ℕ) (start : Session) where
           lines = at.lines;
           line = at.line ++ more;
           requests = at.requests;
-          read = at.read ∙ ap (λ bytes. joined at.lines ++ bytes) (ap (λ bytes. at.line ++ bytes) cut ∙ sym (append_assoc at.line more behind));
+          read = at.read ∙ ap (λ bytes. with_ends at.lines ++ bytes) (ap (λ bytes. at.line ++ bytes) cut ∙ sym (append_assoc at.line more behind));
           ended = at.ended;
           unended = All-append (λ byte. nat_eq byte 10 ≡ false) at.line more at.unended none;
           held_is = is ∙ ap (λ front. take (longest + 1) (front ++ more)) at.held_is ∙ take-take_append (longest + 1) at.line more;
@@ -76,7 +76,7 @@ module _ (prompt : List ℕ) (start : Session) where
     -- the lines that have ended
     lines_so_far : left ≡ [] → ended_lines (read_in moves) ≡ at.lines
     lines_so_far none =
-        ap ended_lines (at.read ∙ ap (λ bytes. joined at.lines ++ bytes) (ap (λ bytes. at.line ++ bytes) none ∙ append-nil at.line)) ∙ ended_of_joined at.lines at.line at.ended at.unended
+        ap ended_lines (at.read ∙ ap (λ bytes. with_ends at.lines ++ bytes) (ap (λ bytes. at.line ++ bytes) none ∙ append-nil at.line)) ∙ ended_of_joined at.lines at.line at.ended at.unended
 
     answered_so_far : left ≡ [] → IsAnswered prompt start moves
     answered_so_far none =
@@ -111,9 +111,9 @@ module _ (prompt : List ℕ) (start : Session) where
           line = at.line;
           requests = at.requests;
           read =
-              read-append moves (Read bytes ∷ []) ∙ ap (λ front. front ++ (bytes ++ [])) (at.read ∙ ap (λ last. joined at.lines ++ (at.line ++ last)) none)
-              ∙ ap (λ last. (joined at.lines ++ (at.line ++ [])) ++ last) (append-nil bytes)
-              ∙ ap (λ front. (joined at.lines ++ front) ++ bytes) (append-nil at.line) ∙ append_assoc (joined at.lines) at.line bytes;
+              read-append moves (Read bytes ∷ []) ∙ ap (λ front. front ++ (bytes ++ [])) (at.read ∙ ap (λ last. with_ends at.lines ++ (at.line ++ last)) none)
+              ∙ ap (λ last. (with_ends at.lines ++ (at.line ++ [])) ++ last) (append-nil bytes)
+              ∙ ap (λ front. (with_ends at.lines ++ front) ++ bytes) (append-nil at.line) ∙ append_assoc (with_ends at.lines) at.line bytes;
           ended = at.ended;
           unended = at.unended;
           held_is = at.held_is;
@@ -191,10 +191,10 @@ module _ (prompt : List ℕ) (start : Session) where
 
   -- a line has ended
   module _ (moves : List Move) (session : Session) (held left : List ℕ) (at : IsAt prompt start moves session held (10 ∷ left)) where
-    now_read : read_in moves ≡ joined (at.lines ++ at.line ∷ []) ++ left
+    now_read : read_in moves ≡ with_ends (at.lines ++ at.line ∷ []) ++ left
     now_read =
         at.read
-        ∙ sym (ap (λ front. front ++ left) (joined-append at.lines at.line) ∙ append_assoc (joined at.lines) (at.line ++ 10 ∷ []) left ∙ ap (λ last. joined at.lines ++ last) (append_assoc at.line (10 ∷ []) left))
+        ∙ sym (ap (λ front. front ++ left) (with_ends-append at.lines at.line) ∙ append_assoc (with_ends at.lines) (at.line ++ 10 ∷ []) left ∙ ap (λ last. with_ends at.lines ++ last) (append_assoc at.line (10 ∷ []) left))
 
     now_ended : AllByRecursion HasNoEnd (at.lines ++ at.line ∷ [])
     now_ended = ended-more at.lines at.line at.ended at.unended
@@ -222,7 +222,7 @@ module _ (prompt : List ℕ) (start : Session) where
           asked = AllZip-more at.requests at.lines d.request at.line at.asked asked;
           goes_on = AreOthers-more at.lines at.line at.goes_on (is_not_quit d.request at.line asked other);
           written = text_now moves session held (10 ∷ left) at d.request d.asks made d.writes d.said;
-          session_is = d.session ∙ ap (λ s. after s d.request) at.session_is ∙ sym (session_after-more start at.requests d.request);
+          session_is = d.session ∙ ap (λ s. after_request s d.request) at.session_is ∙ sym (session_after-more start at.requests d.request);
           few = omega (arith, at.few, ap length read, ap (λ (s : Session). s.lines) d.session);
           in_time = still_in_time moves session held (10 ∷ left) at d.request d.asks made d.writes;
         }
@@ -264,7 +264,7 @@ module _ (prompt : List ℕ) (start : Session) where
     last_lines : 0 < length held → lines_of (read_in moves) ≡ at.lines ++ at.line ∷ []
     last_lines some =
         let some_line : 0 < length at.line = omega (arith, some, ap length at.held_is, length-take (longest + 1) at.line) in
-        ap lines_of (at.read ∙ ap (λ last. joined at.lines ++ last) (append-nil at.line)) ∙ lines_of_joined at.lines at.line at.ended ∙ ap (λ last. at.lines ++ last) (one_unended at.line some_line at.unended)
+        ap lines_of (at.read ∙ ap (λ last. with_ends at.lines ++ last) (append-nil at.line)) ∙ lines_of_joined at.lines at.line at.ended ∙ ap (λ last. at.lines ++ last) (one_unended at.line some_line at.unended)
 
     -- a last line without its end
     pub last_broken : 0 < length held → (made : List Move) → IsLineBroken prompt session held made → IsSession prompt start (ended_by output.Write) (moves ++ made)
@@ -291,7 +291,7 @@ module _ (prompt : List ℕ) (start : Session) where
     no_last_line none =
         let no_line : at.line ≡ [] = nil_from_length at.line (omega (arith, none, ap length at.held_is, length-take (longest + 1) at.line)) in
         let lines : lines_of (read_in moves) ≡ at.lines =
-        ap lines_of (at.read ∙ ap (λ last. joined at.lines ++ (last ++ [])) no_line) ∙ lines_of_joined at.lines [] at.ended ∙ ap (λ last. at.lines ++ last) lines_of_none ∙ append-nil at.lines in
+        ap lines_of (at.read ∙ ap (λ last. with_ends at.lines ++ (last ++ [])) no_line) ∙ lines_of_joined at.lines [] at.ended ∙ ap (λ last. at.lines ++ last) lines_of_none ∙ append-nil at.lines in
         record {
           in_time = at.in_time;
           ends = record {

@@ -42,12 +42,12 @@ abbrev pub full_text : List ℕ
 full_text = as_line (call_fault_text JournalFull)
 
 -- `line L fault N Name`
-abbrev pub fault_text : ℕ → LineFault → List ℕ
-fault_text line fault = as_line (codes "line " ++ decimal line ++ codes " " ++ line_fault_text fault)
+abbrev pub faulty_line_text : ℕ → LineFault → List ℕ
+faulty_line_text line fault = as_line (codes "line " ++ decimal line ++ codes " " ++ line_fault_text fault)
 
 -- `line L too long`
-abbrev pub too_long_text : ℕ → List ℕ
-too_long_text line = as_line (codes "line " ++ decimal line ++ codes " too long")
+abbrev pub long_line_text : ℕ → List ℕ
+long_line_text line = as_line (codes "line " ++ decimal line ++ codes " too long")
 
 -- ---- one line
 
@@ -58,8 +58,8 @@ answer_to s (Call command) =
 answer_to s (Seat seat) = seat_line seat ++ codes "\n"
 answer_to s Help = HELP.now
 answer_to s Quit = []
-answer_to s (Fault fault) = fault_text (s.lines + 1) fault
-answer_to s TooLong = too_long_text (s.lines + 1)
+answer_to s (Fault fault) = faulty_line_text (s.lines + 1) fault
+answer_to s TooLong = long_line_text (s.lines + 1)
 
 -- the control after it: a command has an entry, unless the journal is full
 abbrev pub control_after : Session → Request → Journaled
@@ -82,8 +82,8 @@ seat_after s (Fault fault) = s.seat
 seat_after s TooLong = s.seat
 
 -- the session after a line that asks for this
-abbrev pub after : Session → Request → Session
-after s request =
+abbrev pub after_request : Session → Request → Session
+after_request s request =
     record {
       rules = s.rules;
       control = control_after s request;
@@ -101,7 +101,7 @@ module _ (prompt : List ℕ) where
 
   abbrev pub shown_from : Session → List Request → List ℕ
   shown_from s [] = []
-  shown_from s (request ∷ requests) = shown s request ++ shown_from (after s request) requests
+  shown_from s (request ∷ requests) = shown s request ++ shown_from (after_request s request) requests
 
   -- all that is shown in a session from this start whose lines ask for this
   abbrev pub dialogue : Session → List Request → List ℕ
@@ -114,4 +114,4 @@ module _ (prompt : List ℕ) where
 
 -- the session after these requests
 abbrev pub session_after : Session → List Request → Session
-session_after s requests = fold after s requests
+session_after s requests = fold after_request s requests

@@ -8,7 +8,7 @@ use Rattle.cdb_play.specs.Faults.{of_output}
 use Rattle.cdb_setup.specs.Format.{longest}
 use Rattle.cdb_rules.specs.Rules.{Rules}
 use Rattle.cdb_setup.specs.Parts.{Parts}
-use Rattle.cdb_debug.specs.Dialogues.{Session, SessionView, session_by, after, session_after, shown, dialogue}
+use Rattle.cdb_debug.specs.Dialogues.{Session, SessionView, session_by, after_request, session_after, shown, dialogue}
 use Rattle.cdb_debug.specs.Moves.{Known, Move, read_in, written_in, AreWrites, FailsToWrite, EndsWith, FindsTheEnd, Makes}
 use Rattle.cdb_debug.specs.Requests.{Asks, quit_line}
 use Rattle.cdb_debug.specs.Sessions.{most_input, AnswersInTime, IsSession}
@@ -29,8 +29,8 @@ abbrev pub HasNoEnd : List ℕ → Type 0
 HasNoEnd bytes = All (λ byte. nat_eq byte 10 ≡ false) bytes
 
 -- the lines, each with its end
-abbrev pub joined : List (List ℕ) → List ℕ
-joined lines = flat_map (λ line. line ++ 10 ∷ []) lines
+abbrev pub with_ends : List (List ℕ) → List ℕ
+with_ends lines = flat_map (λ line. line ++ 10 ∷ []) lines
 
 -- what is held of the beginning of a line: enough to see that it is too long
 abbrev pub held_of : List ℕ → List ℕ
@@ -42,7 +42,7 @@ pub record IsAt (prompt : List ℕ) (start : Session) (moves : List Move) (sessi
   pub lines : List (List ℕ)
   pub line : List ℕ
   pub requests : List Request
-  pub read : read_in moves ≡ joined lines ++ (line ++ left)
+  pub read : read_in moves ≡ with_ends lines ++ (line ++ left)
   pub ended : AllByRecursion HasNoEnd lines
   pub unended : HasNoEnd line
   pub held_is : held ≡ held_of line
@@ -59,7 +59,7 @@ pub record IsLineDone (prompt : List ℕ) (old new : Session) (held left : List 
   pub asks : Asks request held
   pub writes : AreWrites made
   pub said : written_in made ≡ shown prompt old request
-  pub session : new ≡ after old request
+  pub session : new ≡ after_request old request
   pub emptied : left ≡ []
   pub stopped : IsTrue stops ↔ (request ≡ Quit)
 
@@ -100,14 +100,14 @@ StandsAs (Ok true) prompt start moves session held = IsSession prompt start ende
 StandsAs (Err fault) prompt start moves session held = IsSession prompt start (ended_by fault) moves
 
 -- the bytes were looked at
-abbrev pub Hears : Result Bool OutputFault → Known → Known → List ℕ → Session → Session → List ℕ → List ℕ → List ℕ → Type 0
-Hears result before behind prompt old new held left bytes =
+abbrev pub HearsBytes : Result Bool OutputFault → Known → Known → List ℕ → Session → Session → List ℕ → List ℕ → List ℕ → Type 0
+HearsBytes result before behind prompt old new held left bytes =
     (start : Session) (moves : List Move) → IsAt prompt start moves old held bytes
     → (made : List Move) × Makes before behind made × AreWrites made × StandsAs result prompt start (moves ++ made) new left
 
 -- the same of a session by these rules
-abbrev pub HearsBy : (Parts → Rules) → Result Bool OutputFault → Known → Known → List ℕ → SessionView → SessionView → List ℕ → List ℕ → List ℕ → Type 0
-HearsBy rules result before behind prompt old new = Hears result before behind prompt (session_by rules old) (session_by rules new)
+abbrev pub HearsBytesBy : (Parts → Rules) → Result Bool OutputFault → Known → Known → List ℕ → SessionView → SessionView → List ℕ → List ℕ → List ℕ → Type 0
+HearsBytesBy rules result before behind prompt old new = HearsBytes result before behind prompt (session_by rules old) (session_by rules new)
 
 -- the input was at its end, or as much was read as may be
 abbrev pub IsOver : List Move → Type 0

@@ -2,7 +2,7 @@
 
 ghost use Rattle.std.specs.Prelude.{◌++◌, codes};
 ghost use Rattle.cdb_text.specs.Pushes.{Pushes};
-ghost use Rattle.cdb_debug.specs.Dialogues.{fault_text, too_long_text};
+ghost use Rattle.cdb_debug.specs.Dialogues.{faulty_line_text, long_line_text};
 ghost use Rattle.cdb_debug.specs.Requests.{seat_line};
 
 use cdb_text::LineFault;
@@ -17,7 +17,7 @@ pub(crate) fn push_seat(text: &mut String, seat: u8) -> Result<(), AllocError>
 
 /// Adds `line L fault N Name` at the end of a text, as a line. Only out of memory is an error.
 pub fn push_fault(text: &mut String, line: u64, fault: LineFault) -> Result<(), AllocError>
-    ensures { Pushes result text.old text.new (fault_text line fault) }
+    ensures { Pushes result text.old text.new (faulty_line_text line fault) }
 {
     let (number, name) = (fault.number(), fault.name());
     writeln!(text, "line {line} fault {number} {name}")
@@ -25,7 +25,7 @@ pub fn push_fault(text: &mut String, line: u64, fault: LineFault) -> Result<(), 
 
 /// Adds `line L too long` at the end of a text, as a line. Only out of memory is an error.
 pub fn push_too_long(text: &mut String, line: u64) -> Result<(), AllocError>
-    ensures { Pushes result text.old text.new (too_long_text line) }
+    ensures { Pushes result text.old text.new (long_line_text line) }
 {
     writeln!(text, "line {line} too long")
 }

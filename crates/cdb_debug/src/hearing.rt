@@ -2,7 +2,7 @@
 
 ghost use Rattle.std.specs.Prelude.{◌≡◌, ◌+◌, ◌-◌, ◌<◌, ◌≤◌, ◌^◌, length, OnOk};
 ghost use Rattle.cdb_setup.specs.Format.{longest};
-ghost use Rattle.cdb_debug.specs.Held.{AnswersHeldBy, HearsBy};
+ghost use Rattle.cdb_debug.specs.Held.{AnswersHeldBy, HearsBytesBy};
 
 use crate::held::{cut, hold};
 use crate::request::{Request, request_of};
@@ -43,7 +43,7 @@ pub(crate) fn hear<R: Runs, T: Talk>(
 ) -> Result<bool, OutputFault>
     requires lines { session.old.lines + length bytes.now < 2 ^ 64 }
     requires held { length held.old.items ≤ longest + 1 }
-    ensures heard { HearsBy R.rules result (T.known talk.old) (T.known talk.new)
+    ensures heard { HearsBytesBy R.rules result (T.known talk.old) (T.known talk.new)
         prompt.now session.old session.new held.old.items held.new.items bytes.now }
     ensures held { OnOk result (length held.new.items ≤ longest + 1) }
     ensures lines { OnOk result (session.new.lines ≤ session.old.lines + length bytes.now) }

@@ -1,7 +1,7 @@
 //! A session: what its lines have led to.
 
 ghost use Rattle.std.specs.Prelude.{◌≡◌, ◌-◌, ◌<◌, ◌^◌, ◌++◌, IfOk, OnOk};
-ghost use Rattle.cdb_debug.specs.Dialogues.{session_by, begun, after, answer_to, shown};
+ghost use Rattle.cdb_debug.specs.Dialogues.{session_by, begun, after_request, answer_to, shown};
 ghost use Rattle.cdb_debug.specs.Requests.{Asks};
 
 use crate::answer::{push_fault, push_seat, push_too_long};
@@ -59,7 +59,7 @@ impl<R: Runs> Session<R> {
         ensures text { IfOk result
             (λ text. text.items ≡ answer_to (session_by R.rules self.old) (Request.Call command)) }
         ensures after { OnOk result (session_by R.rules self.new
-            ≡ after (session_by R.rules self.old) (Request.Call command)) }
+            ≡ after_request (session_by R.rules self.old) (Request.Call command)) }
     {
         let text = match self.control.execute(alloc, self.seat, command) {
             Ok(reply) => reply_text(alloc, &reply)?,
@@ -77,7 +77,7 @@ impl<R: Runs> Session<R> {
         ensures text { IfOk result
             (λ text. text.items ≡ answer_to (session_by R.rules self.old) request) }
         ensures after { OnOk result
-            (session_by R.rules self.new ≡ after (session_by R.rules self.old) request) }
+            (session_by R.rules self.new ≡ after_request (session_by R.rules self.old) request) }
     {
         let mut text = String::new(alloc);
         match request {
@@ -109,7 +109,7 @@ impl<R: Runs> Session<R> {
         ensures text { IfOk result
             (λ text. text.items ≡ shown prompt.now (session_by R.rules self.old) request) }
         ensures after { OnOk result
-            (session_by R.rules self.new ≡ after (session_by R.rules self.old) request) }
+            (session_by R.rules self.new ≡ after_request (session_by R.rules self.old) request) }
     {
         let mut text = self.answer(alloc, line, request)?;
         if request != Request::Quit {

@@ -65,12 +65,12 @@ body_text (Lost copy) =
     ++ rows_text (codes "lost") (message_text (copy.msg).s (copy.msg).m) (to_text copy.to)
 
 -- a decision is a ring round the mark, and its value above it
-unfoldable pub decision_text : ℕ → List ℕ
-decision_text v = shape_text (codes "decided") ++ codes "<text class='decision' y='-46'>decides " ++ decimal v ++ row_close
+unfoldable pub decision_mark : ℕ → List ℕ
+decision_mark v = shape_text (codes "decided") ++ codes "<text class='decision' y='-46'>decides " ++ decimal v ++ row_close
 
 abbrev pub decided_text : Option ℕ → List ℕ
 decided_text None = []
-decided_text (Some v) = decision_text v
+decided_text (Some v) = decision_mark v
 
 -- the process on whose lane an event stands: a loss on that of the receiver
 abbrev pub lane_of : Event → ℕ

@@ -14,8 +14,8 @@ use Rattle.cdb_draw.specs.Layout.{x_of, end_x, lane_y, register_y}
 use Rattle.cdb_draw.specs.Positions.{crashed_at}
 
 -- the line of a lane: to its crash, or else to the edge
-unfoldable pub line_text : ℕ → List ℕ
-line_text end = codes "<path d='M64,0H" ++ decimal end ++ codes "'/></g>\n"
+unfoldable pub lane_path : ℕ → List ℕ
+lane_path end = codes "<path d='M64,0H" ++ decimal end ++ codes "'/></g>\n"
 
 abbrev pub lane_end : List Event → ℕ → ℕ
 lane_end history p = option_map_or x_of (crashed_at history p) (end_x (length history))
@@ -25,27 +25,27 @@ unfoldable pub lane_open : List ℕ → ℕ → List ℕ
 lane_open class y = codes "<g class='" ++ class ++ codes "' transform='translate(0," ++ decimal y ++ codes ")'>"
 
 -- a process p and its input, and the line of its lane
-unfoldable pub process_text : ℕ → ℕ → ℕ → ℕ → List ℕ
-process_text y p input end =
+unfoldable pub process_lane_text : ℕ → ℕ → ℕ → ℕ → List ℕ
+process_lane_text y p input end =
     lane_open (codes "lane") y
     ++ codes "<text x='8'>p" ++ decimal p ++ codes "</text>"
     ++ codes "<text class='input' x='8' y='12'>input " ++ decimal input ++ codes "</text>"
-    ++ line_text end
+    ++ lane_path end
 
 -- a register, and the line of its lane
-unfoldable pub register_line : ℕ → Reg → ℕ → List ℕ
-register_line y register end =
+unfoldable pub register_lane_text : ℕ → Reg → ℕ → List ℕ
+register_lane_text y register end =
     lane_open (codes "register") y
     ++ codes "<text x='8' y='4'>" ++ register_text register ++ codes "</text>"
-    ++ line_text end
+    ++ lane_path end
 
 abbrev pub process_lane : RunView → ℕ → List ℕ
 process_lane run p =
-    process_text (lane_y run.setup p) p (unwrap_or (nth run.setup.inputs p) 0) (lane_end run.history p)
+    process_lane_text (lane_y run.setup p) p (unwrap_or (nth run.setup.inputs p) 0) (lane_end run.history p)
 
 abbrev pub register_lane : RunView → Reg → List ℕ
 register_lane run register =
-    register_line (register_y run.setup register) register (end_x (length run.history))
+    register_lane_text (register_y run.setup register) register (end_x (length run.history))
 
 -- that of process p
 abbrev pub own_register_lane : RunView → ℕ → List ℕ

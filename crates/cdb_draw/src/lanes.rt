@@ -1,7 +1,7 @@
 //! The lanes of a picture.
 
 ghost use Rattle.std.specs.Prelude.{◌≡◌, ◌≤◌, length};
-ghost use Rattle.cdb_draw.specs.Lanes.{lane_end, lane_open, lanes_text, line_text, own_register_lanes, process_lane, process_lanes, process_text, register_lane, register_lanes_by, register_line};
+ghost use Rattle.cdb_draw.specs.Lanes.{lane_end, lane_open, lanes_text, lane_path, own_register_lanes, process_lane, process_lanes, process_lane_text, register_lane, register_lanes_by, register_lane_text};
 ghost use Rattle.cdb_text.specs.Pushes.{Pushes};
 
 use crate::layout::{end_x, lane_y, register_y, x_of};
@@ -16,7 +16,7 @@ use std::alloc::AllocError;
 
 /// Adds the line of a lane, to where it ends.
 fn push_line(text: &mut String, end: usize) -> Result<(), AllocError>
-    ensures { Pushes result text.old text.new (line_text end) }
+    ensures { Pushes result text.old text.new (lane_path end) }
 {
     push(text, "<path d='M64,0H")?;
     push_number(text, end)?;
@@ -53,7 +53,7 @@ fn push_process_text(
     input: Val,
     end: usize,
 ) -> Result<(), AllocError>
-    ensures { Pushes result text.old text.new (process_text y p input end) }
+    ensures { Pushes result text.old text.new (process_lane_text y p input end) }
 {
     push_open(text, "lane", y)?;
     push(text, "<text x='8'>p")?;
@@ -72,7 +72,7 @@ fn push_register_text(
     register: Reg,
     end: usize,
 ) -> Result<(), AllocError>
-    ensures { Pushes result text.old text.new (register_line y register end) }
+    ensures { Pushes result text.old text.new (register_lane_text y register end) }
 {
     push_open(text, "register", y)?;
     push(text, "<text x='8' y='4'>")?;

@@ -3,7 +3,7 @@
 ghost use Rattle.std.specs.Prelude.{◌≡◌, ◌≤◌};
 ghost use Rattle.cdb_control.specs.Commands.{decides};
 ghost use Rattle.cdb_draw.specs.Arrows.{spot_text};
-ghost use Rattle.cdb_draw.specs.EventMarks.{body_text, decided_text, decision_text, kind_with, kind_word, lane_of, mark_close, mark_text, open_text, row_close, row_open, row_text, shape_text, title_text, to_text};
+ghost use Rattle.cdb_draw.specs.EventMarks.{body_text, decided_text, decision_mark, kind_with, kind_word, lane_of, mark_close, mark_text, open_text, row_close, row_open, row_text, shape_text, title_text, to_text};
 ghost use Rattle.cdb_explain.specs.Explanations.{whole_text};
 ghost use Rattle.cdb_base.specs.NameTexts.{message_text, step_text};
 ghost use Rattle.cdb_text.specs.Pushes.{Pushes};
@@ -188,7 +188,7 @@ fn push_body(text: &mut String, event: &Event) -> Result<(), AllocError>
 
 /// Adds the ring and the value of a decision.
 fn push_decision(text: &mut String, value: Val) -> Result<(), AllocError>
-    ensures { Pushes result text.old text.new (decision_text value) }
+    ensures { Pushes result text.old text.new (decision_mark value) }
 {
     push_shape(text, "decided")?;
     push(text, "<text class='decision' y='-46'>decides ")?;

@@ -12,7 +12,7 @@ use Rattle.cdb_shared.specs.Seats.{SeatView, IsLater, IsCall, SameCalls, SeesFul
 use Rattle.cdb_shared.specs.Sessions.{calls_of, replies_to}
 use Rattle.cdb_shared.proofs.Steps.{calls_of-call, calls_of-fault, replies_to-call, replies_to-fault}
 use Rattle.cdb_hall.specs.Dialogues.{Along, seat_answer, next_along, seat_shown}
-use Rattle.cdb_hall.specs.Held.{MayFollow}
+use Rattle.cdb_hall.specs.Held.{MoreMayFollow}
 use Rattle.cdb_hall.specs.Lines.{HasGot, FindsFull, HasDone, MayHaveDone}
 use Rattle.cdb_hall.specs.Parts.{part_seen, command_in, commands_in, HasCommands}
 use Rattle.cdb_rules.specs.Rules.{Rules}
@@ -67,7 +67,7 @@ module _ (rules : Parts → Rules) where
   -- ---- from the replies that follow a line to those that follow the line before
 
   -- the replies that follow
-  follow_got : (old : SeatView) (request : Request) (got : List Answer) (new : SeatView) → HasGot rules old request got new → (more : List Answer) → MayFollow more new → MayFollow (got ++ more) old
+  follow_got : (old : SeatView) (request : Request) (got : List Answer) (new : SeatView) → HasGot rules old request got new → (more : List Answer) → MoreMayFollow more new → MoreMayFollow (got ++ more) old
   follow_got old request [] new is more may full = may (is.1 full)
   follow_got old request (reply ∷ []) new is more may full = absurd (room_before old new is.0 reply is.2 is.3 full)
   follow_got old request (reply ∷ other ∷ others) new is more may full = absurd is
@@ -78,7 +78,7 @@ module _ (rules : Parts → Rules) where
   replies_got old request (reply ∷ other ∷ others) new later is = absurd is
 
   module _ (old : SeatView) (request : Request) (got : List Answer) (new : SeatView) (later : IsLater old new) (is : HasGot rules old request got new) (more : List Answer) where
-    pub may_follow : MayFollow more new → MayFollow (got ++ more) old
+    pub may_follow : MoreMayFollow more new → MoreMayFollow (got ++ more) old
     may_follow may = follow_got old request got new is more may
 
     pub same_replies : replies_to rules old ++ (got ++ more) ≡ replies_to rules new ++ more
@@ -100,7 +100,7 @@ module _ (rules : Parts → Rules) where
   no_reply request (reply ∷ second ∷ others) old new other is = absurd is
 
   -- what is shown and what is left does not depend on what follows
-  pub same_line : (prompt : List ℕ) (old : SeatView) (request : Request) (got : List Answer) (new : SeatView) → HasDone rules old request got new → (more : List Answer) → MayFollow more new → (lines : ℕ)
+  pub same_line : (prompt : List ℕ) (old : SeatView) (request : Request) (got : List Answer) (new : SeatView) → HasDone rules old request got new → (more : List Answer) → MoreMayFollow more new → (lines : ℕ)
       → SameLine prompt request got more lines
   same_line prompt old (Call command) got new done more may lines =
       let it = call_text command got more lines (λ none. may (done.full command refl none)) old new done.calls in

@@ -2,7 +2,7 @@
 use Rattle.std.proofs.Common.{◌≡◌, ap, ◌∙◌, subst}
 use Rattle.std.specs.declared.thread.PromisedHandle.{PromisedHandle}
 use Rattle.cdb_debug.specs.Moves.{Known}
-use Rattle.cdb_hall.specs.Promises.{IsPromise, HasAttended}
+use Rattle.cdb_hall.specs.Promises.{IsStationPromise, HasAttended}
 use Rattle.cdb_hall.specs.declared.station.Station.{Station}
 use Rattle.cdb_hall.specs.declared.worker.Left.{Left}
 use Rattle.cdb_hall.specs.declared.worker.SeatPromise.{SeatPromise}
@@ -10,7 +10,7 @@ use Rattle.cdb_rules.specs.Rules.{Rules}
 use Rattle.cdb_setup.specs.Parts.{Parts}
 use Rattle.cdb_shared.specs.Seats.{SeatView}
 
-module _ {R T : Type 0} (seat : SeatView) (station : Station T) (handle its : PromisedHandle (Left R T) (SeatPromise R T)) (is : handle ≡ its) (promise : IsPromise seat station its.promise) where
+module _ {R T : Type 0} (seat : SeatView) (station : Station T) (handle its : PromisedHandle (Left R T) (SeatPromise R T)) (is : handle ≡ its) (promise : IsStationPromise seat station its.promise) where
   seat_is : handle.promise.seat.value ≡ seat
   seat_is = ap (λ (h : PromisedHandle (Left R T) (SeatPromise R T)). h.promise.seat.value) is ∙ promise.seat_is
 

@@ -15,7 +15,7 @@ use Rattle.cdb_debug.proofs.Saying.{AreWrites-append}
 use Rattle.cdb_shared.specs.Seats.{SeatView, IsLater}
 use Rattle.cdb_shared.specs.Sessions.{replies_to}
 use Rattle.cdb_hall.specs.Dialogues.{Along}
-use Rattle.cdb_hall.specs.Held.{IsSeatAt, MayFollow, StandsAt, IsSeatLineDone, IsSeatLineBroken, IsLineLost, SeatAnswersHeld, HasEndedAs, SeatHears}
+use Rattle.cdb_hall.specs.Held.{IsSeatAt, MoreMayFollow, StandsAt, IsSeatLineDone, IsSeatLineBroken, IsLineLost, SeatAnswersHeld, HasEndedAs, SeatHears}
 use Rattle.cdb_hall.specs.Lines.{SeatSession, HasGot, at_line}
 use Rattle.cdb_hall.specs.Sessions.{IsSeatSession}
 use Rattle.cdb_hall.proofs.Going.{may_follow, same_replies, same_line, commands_done, commands_lost}
@@ -29,7 +29,7 @@ false_is_not_true b is holds = search rules
 true_is_true : (b : Bool) → b ≡ true → IsTrue b
 true_is_true b is = search rules
 
-no_more : (seat : SeatView) → MayFollow [] seat
+no_more : (seat : SeatView) → MoreMayFollow [] seat
 no_more seat full = refl
 
 module _ (rules : Parts → Rules) where
@@ -46,7 +46,7 @@ module _ (rules : Parts → Rules) where
     out_of_memory = lost_before rules prompt (replies_to rules old.seat) moves old.seat (at_line old []) held left as_seen old.seat as_seen.commands
 
     -- the replies that a line gets come first
-    before_line : (new : SeatView) (request : Request) (got : List Answer) → IsLater old.seat new → HasGot rules old.seat request got new → (more : List Answer) → MayFollow more new → IsSeatAt rules prompt (replies_to rules new ++ more) moves old.seat (at_line old (got ++ more)) held left
+    before_line : (new : SeatView) (request : Request) (got : List Answer) → IsLater old.seat new → HasGot rules old.seat request got new → (more : List Answer) → MoreMayFollow more new → IsSeatAt rules prompt (replies_to rules new ++ more) moves old.seat (at_line old (got ++ more)) held left
     before_line new request got later calls more may =
         subst (λ (r : List Answer). IsSeatAt rules prompt r moves old.seat (at_line old (got ++ more)) held left) (same_replies rules old.seat request got new later calls more)
         (at (got ++ more) (may_follow rules old.seat request got new later calls more may))

@@ -11,7 +11,7 @@ use Rattle.cdb_setup.specs.Parts.{Parts}
 use Rattle.cdb_shared.specs.Seats.{SeatView, RestsAt, IsKnownBy, fresh_seat, fresh_seats}
 use Rattle.cdb_hall.specs.Halls.{IsAttended, IsHall}
 use Rattle.cdb_hall.specs.Parts.{part_seen}
-use Rattle.cdb_hall.specs.Promises.{IsReady, HasAttended, AllAttended, AreOfLefts}
+use Rattle.cdb_hall.specs.Promises.{IsUnused, HasAttended, AllAttended, AreOfLefts}
 use Rattle.cdb_hall.specs.Sessions.{IsSeatSession}
 use Rattle.cdb_hall.specs.declared.station.Station.{Station}
 use Rattle.cdb_hall.specs.declared.station.Attended.{Attended}
@@ -27,10 +27,10 @@ fresh shared setup many count c seats is whole dealt =
       each = λ k d low. ap (λ l. get_or l k d) all ∙ get_or-map-range_with_len seat 1 many k (1 + k) d low refl;
     }
 
-pub all_ready : (shared : TableId) (setup : Parts) (count : ℕ) (seats : List SeatView) → AreFresh shared setup count seats → All (λ seat. IsReady shared seat) seats
+pub all_ready : (shared : TableId) (setup : Parts) (count : ℕ) (seats : List SeatView) → AreFresh shared setup count seats → All (λ seat. IsUnused shared seat) seats
 all_ready shared setup count seats new k d low =
     let below : k < count = omega (arith, new.many) in
-    subst (λ (s : SeatView). IsReady shared s) (sym (new.each k d below)) (record { rests = (refl, refl); new = refl })
+    subst (λ (s : SeatView). IsUnused shared s) (sym (new.each k d below)) (record { rests = (refl, refl); new = refl })
 
 some_of : {A : Type 0} (xs : List A) → 0 < length xs → A
 some_of [] low = absurd (omega arith)

@@ -6,26 +6,26 @@ use Rattle.std.proofs.lemmas.List.{length-map, map-append}
 use Rattle.cdb_play.specs.Statuses.{play_status}
 use Rattle.cdb_play.specs.declared.fault.PlayFault.{PlayFault}
 use Rattle.cdb_shared.proofs.Steps.{take_one_more}
-use Rattle.cdb_hall.specs.Reports.{outcomes, seat_line, seat_lines, seats_status}
+use Rattle.cdb_hall.specs.Reports.{outcomes, failed_seat_line, failed_seat_lines, seats_status}
 use Rattle.cdb_hall.specs.declared.station.Attended.{Attended}
 
-seat_lines-more : (first : ℕ) (before : List (Result (Unit {0}) PlayFault)) (outcome : Result (Unit {0}) PlayFault) → seat_lines first (before ++ outcome ∷ []) ≡ seat_lines first before ++ seat_line (first + length before) outcome
-seat_lines-more first [] outcome = let same : first ≡ first + 0 = omega arith in append-nil (seat_line first outcome) ∙ ap (λ n. seat_line n outcome) same
-seat_lines-more first (other ∷ before) outcome =
+failed_seat_lines-more : (first : ℕ) (before : List (Result (Unit {0}) PlayFault)) (outcome : Result (Unit {0}) PlayFault) → failed_seat_lines first (before ++ outcome ∷ []) ≡ failed_seat_lines first before ++ failed_seat_line (first + length before) outcome
+failed_seat_lines-more first [] outcome = let same : first ≡ first + 0 = omega arith in append-nil (failed_seat_line first outcome) ∙ ap (λ n. failed_seat_line n outcome) same
+failed_seat_lines-more first (other ∷ before) outcome =
     let same : first + 1 + length before ≡ first + suc (length before) = omega arith in
-    ap (λ more. seat_line first other ++ more) (seat_lines-more (first + 1) before outcome ∙ ap (λ n. seat_lines (first + 1) before ++ seat_line n outcome) same)
-    ∙ sym (append_assoc (seat_line first other) (seat_lines (first + 1) before) (seat_line (first + suc (length before)) outcome))
+    ap (λ more. failed_seat_line first other ++ more) (failed_seat_lines-more (first + 1) before outcome ∙ ap (λ n. failed_seat_lines (first + 1) before ++ failed_seat_line n outcome) same)
+    ∙ sym (append_assoc (failed_seat_line first other) (failed_seat_lines (first + 1) before) (failed_seat_line (first + suc (length before)) outcome))
 
 module _ {T : Type 0} (attended : List (Attended T)) (i : ℕ) (its : Attended T) (low : i < length attended) (is : its ≡ get_or attended i its) where
   -- one seat more
-  pub one_line_more : (seat : ℕ) → seat ≡ i + 1 → seat_lines 1 (outcomes (take (i + 1) attended)) ≡ seat_lines 1 (outcomes (take i attended)) ++ seat_line seat its.outcome
+  pub one_line_more : (seat : ℕ) → seat ≡ i + 1 → failed_seat_lines 1 (outcomes (take (i + 1) attended)) ≡ failed_seat_lines 1 (outcomes (take i attended)) ++ failed_seat_line seat its.outcome
   one_line_more seat station =
       let before = outcomes (take i attended) in
       let number : 1 + length before ≡ seat = omega (arith, length-map (take i attended) (λ (a : Attended T). a.outcome), length-take i attended) in
-      ap (λ (l : List (Attended T)). seat_lines 1 (outcomes l)) (take_one_more attended i its low is)
-      ∙ ap (seat_lines 1) (map-append (λ (a : Attended T). a.outcome) (take i attended) (its ∷ []))
-      ∙ seat_lines-more 1 before its.outcome
-      ∙ ap (λ n. seat_lines 1 before ++ seat_line n its.outcome) number
+      ap (λ (l : List (Attended T)). failed_seat_lines 1 (outcomes l)) (take_one_more attended i its low is)
+      ∙ ap (failed_seat_lines 1) (map-append (λ (a : Attended T). a.outcome) (take i attended) (its ∷ []))
+      ∙ failed_seat_lines-more 1 before its.outcome
+      ∙ ap (λ n. failed_seat_lines 1 before ++ failed_seat_line n its.outcome) number
 
   left_is : drop i attended ≡ its ∷ drop (i + 1) attended
   left_is =

@@ -10,14 +10,14 @@ use Rattle.cdb_play.specs.declared.buffer.OutputFault.TheVariants as output
 use Rattle.cdb_play.specs.declared.fault.PlayFault.{PlayFault}
 use Rattle.cdb_play.specs.declared.fault.PlayFault.TheVariants as fault
 use Rattle.cdb_setup.specs.Format.{longest}
-use Rattle.cdb_debug.specs.Held.{IsOver, HasNoEnd, joined, held_of, ended_well, ended_by}
+use Rattle.cdb_debug.specs.Held.{IsOver, HasNoEnd, with_ends, held_of, ended_well, ended_by}
 use Rattle.cdb_debug.specs.Moves.{Move, Read, ReadFailed, read_in, written_in, AreWrites, FailsToWrite, EndsWith}
 use Rattle.cdb_debug.specs.Requests.{Asks, AreAsked, HaveQuit, ended_lines, up_to_quit, quit_line}
 use Rattle.cdb_debug.specs.Sessions.{most_input, HasEnded, by_quit, at_end, at_most}
 use Rattle.cdb_debug.specs.declared.request.Request.{Request}
 use Rattle.cdb_debug.specs.declared.request.Request.TheVariants.{Quit}
 use Rattle.cdb_debug.proofs.Asking.{asks_whole, is_not_quit, AreOthers, AllZip-more, AreOthers-more, up_to_quit-append, up_to_quit-one, up_to_quit-quit, have_none}
-use Rattle.cdb_debug.proofs.Cutting.{ended_of_joined, ended_and_more, lines_of_joined, one_unended, joined-append, lines_of_none}
+use Rattle.cdb_debug.proofs.Cutting.{ended_of_joined, ended_and_more, lines_of_joined, one_unended, with_ends-append, lines_of_none}
 use Rattle.cdb_debug.proofs.Holding.{take-take_append}
 use Rattle.cdb_debug.proofs.Saying.{AreWrites-append}
 use Rattle.cdb_debug.proofs.Ordered.{nothing_asked, one_move, writes_more, read-append, written-append, nothing_read, EndsWith-more}
@@ -84,7 +84,7 @@ module _ (rules : Parts → Rules) (prompt : List ℕ) (replies : List Answer) w
           lines = at.lines;
           line = at.line ++ more;
           requests = at.requests;
-          read = at.read ∙ ap (λ bytes. joined at.lines ++ bytes) (ap (λ bytes. at.line ++ bytes) cut ∙ sym (append_assoc at.line more behind));
+          read = at.read ∙ ap (λ bytes. with_ends at.lines ++ bytes) (ap (λ bytes. at.line ++ bytes) cut ∙ sym (append_assoc at.line more behind));
           ended = at.ended;
           unended = All-append (λ byte. nat_eq byte 10 ≡ false) at.line more at.unended none;
           held_is = is ∙ ap (λ front. take (longest + 1) (front ++ more)) at.held_is ∙ take-take_append (longest + 1) at.line more;
@@ -100,7 +100,7 @@ module _ (rules : Parts → Rules) (prompt : List ℕ) (replies : List Answer) w
     -- the lines that have ended
     lines_so_far : left ≡ [] → ended_lines (read_in moves) ≡ at.lines
     lines_so_far none =
-        ap ended_lines (at.read ∙ ap (λ bytes. joined at.lines ++ bytes) (ap (λ bytes. at.line ++ bytes) none ∙ append-nil at.line)) ∙ ended_of_joined at.lines at.line at.ended at.unended
+        ap ended_lines (at.read ∙ ap (λ bytes. with_ends at.lines ++ bytes) (ap (λ bytes. at.line ++ bytes) none ∙ append-nil at.line)) ∙ ended_of_joined at.lines at.line at.ended at.unended
 
     asked_so_far : AreAsked at.requests at.lines
     asked_so_far = asked_all at.requests at.lines at.asked at.goes_on
@@ -157,9 +157,9 @@ module _ (rules : Parts → Rules) (prompt : List ℕ) (replies : List Answer) w
           line = at.line;
           requests = at.requests;
           read =
-              read-append moves (Read bytes ∷ []) ∙ ap (λ front. front ++ (bytes ++ [])) (at.read ∙ ap (λ last. joined at.lines ++ (at.line ++ last)) none)
-              ∙ ap (λ last. (joined at.lines ++ (at.line ++ [])) ++ last) (append-nil bytes)
-              ∙ ap (λ front. (joined at.lines ++ front) ++ bytes) (append-nil at.line) ∙ append_assoc (joined at.lines) at.line bytes;
+              read-append moves (Read bytes ∷ []) ∙ ap (λ front. front ++ (bytes ++ [])) (at.read ∙ ap (λ last. with_ends at.lines ++ (at.line ++ last)) none)
+              ∙ ap (λ last. (with_ends at.lines ++ (at.line ++ [])) ++ last) (append-nil bytes)
+              ∙ ap (λ front. (with_ends at.lines ++ front) ++ bytes) (append-nil at.line) ∙ append_assoc (with_ends at.lines) at.line bytes;
           ended = at.ended;
           unended = at.unended;
           held_is = at.held_is;
@@ -232,10 +232,10 @@ module _ (rules : Parts → Rules) (prompt : List ℕ) (replies : List Answer) w
 
   -- a line has ended
   module _ (moves : List Move) (seat : SeatView) (along : Along) (held left : List ℕ) (at : IsSeatAt rules prompt replies moves seat along held (10 ∷ left)) (request : Request) (asks : Asks request held) (new : SeatView) where
-    now_read : read_in moves ≡ joined (at.lines ++ at.line ∷ []) ++ left
+    now_read : read_in moves ≡ with_ends (at.lines ++ at.line ∷ []) ++ left
     now_read =
         at.read
-        ∙ sym (ap (λ front. front ++ left) (joined-append at.lines at.line) ∙ append_assoc (joined at.lines) (at.line ++ 10 ∷ []) left ∙ ap (λ last. joined at.lines ++ last) (append_assoc at.line (10 ∷ []) left))
+        ∙ sym (ap (λ front. front ++ left) (with_ends-append at.lines at.line) ∙ append_assoc (with_ends at.lines) (at.line ++ 10 ∷ []) left ∙ ap (λ last. with_ends at.lines ++ last) (append_assoc at.line (10 ∷ []) left))
 
     now_ended : AllByRecursion HasNoEnd (at.lines ++ at.line ∷ [])
     now_ended = ended-more at.lines at.line at.ended at.unended
@@ -300,7 +300,7 @@ module _ (rules : Parts → Rules) (prompt : List ℕ) (replies : List Answer) w
     last_lines : 0 < length held → lines_of (read_in moves) ≡ at.lines ++ at.line ∷ []
     last_lines some =
         let some_line : 0 < length at.line = omega (arith, some, ap length at.held_is, length-take (longest + 1) at.line) in
-        ap lines_of (at.read ∙ ap (λ last. joined at.lines ++ last) (append-nil at.line)) ∙ lines_of_joined at.lines at.line at.ended ∙ ap (λ last. at.lines ++ last) (one_unended at.line some_line at.unended)
+        ap lines_of (at.read ∙ ap (λ last. with_ends at.lines ++ last) (append-nil at.line)) ∙ lines_of_joined at.lines at.line at.ended ∙ ap (λ last. at.lines ++ last) (one_unended at.line some_line at.unended)
 
     -- a last line without its end
     module _ (some : 0 < length held) (request : Request) (asks : Asks request held) (new : SeatView) where
@@ -332,7 +332,7 @@ module _ (rules : Parts → Rules) (prompt : List ℕ) (replies : List Answer) w
     no_last_line none =
         let no_line : at.line ≡ [] = nil_from_length at.line (omega (arith, none, ap length at.held_is, length-take (longest + 1) at.line)) in
         let lines : lines_of (read_in moves) ≡ at.lines =
-        ap lines_of (at.read ∙ ap (λ last. joined at.lines ++ (last ++ [])) no_line) ∙ lines_of_joined at.lines [] at.ended ∙ ap (λ last. at.lines ++ last) lines_of_none ∙ append-nil at.lines in
+        ap lines_of (at.read ∙ ap (λ last. with_ends at.lines ++ (last ++ [])) no_line) ∙ lines_of_joined at.lines [] at.ended ∙ ap (λ last. at.lines ++ last) lines_of_none ∙ append-nil at.lines in
         record {
           in_time = at.in_time;
           ends = record {

@@ -1,7 +1,7 @@
 -- The answers of a seat's session, along its lines.
 use Rattle.std.specs.Prelude.{◌≡◌, ℕ, ◌+◌, List, [], ◌∷◌, ◌++◌, fold}
 use Rattle.cdb_control.specs.Answer.{Answer}
-use Rattle.cdb_debug.specs.Dialogues.{full_text, fault_text, too_long_text}
+use Rattle.cdb_debug.specs.Dialogues.{full_text, faulty_line_text, long_line_text}
 use Rattle.cdb_debug.specs.Requests.{AreAsked}
 use Rattle.cdb_debug.specs.declared.request.Request.{Request}
 use Rattle.cdb_debug.specs.declared.request.Request.TheVariants.{Call, Seat, Help, Quit, Fault, TooLong}
@@ -31,11 +31,11 @@ next_replies (reply ∷ replies) = replies
 -- The answer to what a line asks for. Each seat has its own lines, so one that chooses a seat has a wrong word.
 abbrev pub seat_answer : Along → Request → List ℕ
 seat_answer s (Call command) = reply_text s.replies
-seat_answer s (Seat seat) = fault_text (s.lines + 1) Word
+seat_answer s (Seat seat) = faulty_line_text (s.lines + 1) Word
 seat_answer s Help = HELP.now
 seat_answer s Quit = []
-seat_answer s (Fault fault) = fault_text (s.lines + 1) fault
-seat_answer s TooLong = too_long_text (s.lines + 1)
+seat_answer s (Fault fault) = faulty_line_text (s.lines + 1) fault
+seat_answer s TooLong = long_line_text (s.lines + 1)
 
 -- the replies that are left then
 abbrev pub replies_after : Along → Request → List Answer

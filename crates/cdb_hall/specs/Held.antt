@@ -2,7 +2,7 @@
 use Rattle.std.specs.Prelude.{◌≡◌, ℕ, ◌+◌, ◌≤◌, Bool, true, false, List, [], ◌++◌, length, Result, Ok, Err, IsTrue, ◌↔◌}
 use Rattle.std.specs.List.{AllZip, AllByRecursion}
 use Rattle.cdb_control.specs.Answer.{Answer}
-use Rattle.cdb_debug.specs.Held.{HasNoEnd, joined, held_of, ended_well, ended_by, IsOver}
+use Rattle.cdb_debug.specs.Held.{HasNoEnd, with_ends, held_of, ended_well, ended_by, IsOver}
 use Rattle.cdb_debug.specs.Moves.{Known, Move, read_in, written_in, AreWrites, FailsToWrite, EndsWith, Makes}
 use Rattle.cdb_debug.specs.Requests.{Asks, quit_line}
 use Rattle.cdb_debug.specs.declared.request.Request.{Request}
@@ -20,8 +20,8 @@ use Rattle.cdb_rules.specs.Rules.{Rules}
 use Rattle.cdb_setup.specs.Parts.{Parts}
 
 -- more replies may follow, unless the journal is full
-abbrev pub MayFollow : List Answer → SeatView → Type 0
-MayFollow more seat = SeesFull seat → more ≡ []
+abbrev pub MoreMayFollow : List Answer → SeatView → Type 0
+MoreMayFollow more seat = SeesFull seat → more ≡ []
 
 module _ (rules : Parts → Rules) where
   -- After these moves the lines that have ended are answered, with these of the seat's replies. Of the next line this much is
@@ -30,7 +30,7 @@ module _ (rules : Parts → Rules) where
     pub lines : List (List ℕ)
     pub line : List ℕ
     pub requests : List Request
-    pub read : read_in moves ≡ joined lines ++ (line ++ left)
+    pub read : read_in moves ≡ with_ends lines ++ (line ++ left)
     pub ended : AllByRecursion HasNoEnd lines
     pub unended : HasNoEnd line
     pub held_is : held ≡ held_of line
@@ -45,7 +45,7 @@ module _ (rules : Parts → Rules) where
   -- so it is whatever replies will follow
   abbrev pub StandsAt : List ℕ → List Move → SeatSession → List ℕ → List ℕ → Type 0
   StandsAt prompt moves session held left =
-      (more : List Answer) → MayFollow more session.seat
+      (more : List Answer) → MoreMayFollow more session.seat
       → IsSeatAt prompt (replies_to rules session.seat ++ more) moves session.seat (at_line session more) held left
 
   -- what a held line asks for was done and answered; it was `quit` where this is true

@@ -18,7 +18,7 @@ use Rattle.cdb_hall.specs.declared.station.Station.{Station}
 use Rattle.cdb_hall.specs.declared.station.Attended.{Attended}
 
 -- the sessions were held, the journal was written and what failed was reported, as far as that went, and this is the status
-pub record Holds {T O E : Type 0} (rules : Parts → Rules) (known : T → Known) (output_stream : O → Stream) (error_stream : E → Stream)
+pub record HoldsSessions {T O E : Type 0} (rules : Parts → Rules) (known : T → Known) (output_stream : O → Stream) (error_stream : E → Stream)
     (json : List ℕ) (stations : List (Station T)) (output output_after : O) (error error_after : E) (status : ℕ) : Type 0 where
   pub setup : Parts
   pub stands : Encodes json setup
@@ -32,12 +32,12 @@ pub record Holds {T O E : Type 0} (rules : Parts → Rules) (known : T → Known
   pub status_is : status ≡ status_of written (outcomes attended)
 
 -- the faults of memory and threads
-abbrev pub IsFaultOfThreads : RaceFault → Type 0
-IsFaultOfThreads fault.NoMemory = Unit {0}
-IsFaultOfThreads (fault.Spawn refused) = Unit {0}
-IsFaultOfThreads other = ⊥
+abbrev pub IsRaceFaultOfThreads : RaceFault → Type 0
+IsRaceFaultOfThreads fault.NoMemory = Unit {0}
+IsRaceFaultOfThreads (fault.Spawn refused) = Unit {0}
+IsRaceFaultOfThreads other = ⊥
 
 -- those, and the setup's first fault
 abbrev pub IsFaultOfHall : List ℕ → RaceFault → Type 0
 IsFaultOfHall json (fault.Setup why) = IsFirstFault why json
-IsFaultOfHall json other = IsFaultOfThreads other
+IsFaultOfHall json other = IsRaceFaultOfThreads other

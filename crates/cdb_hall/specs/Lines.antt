@@ -5,7 +5,7 @@ use Rattle.cdb_base.specs.declared.limits.TheConstants.{MAX_ENTRIES}
 use Rattle.cdb_control.specs.Answer.{Answer}
 use Rattle.cdb_control.specs.declared.command.Command.{Command}
 use Rattle.cdb_debug.specs.declared.request.Request.{Request}
-use Rattle.cdb_debug.specs.Dialogues.{fault_text, too_long_text}
+use Rattle.cdb_debug.specs.Dialogues.{faulty_line_text, long_line_text}
 use Rattle.cdb_debug.specs.declared.request.Request.TheVariants.{Call, Seat, Help, Quit, Fault, TooLong}
 use Rattle.cdb_text.specs.declared.fault.LineFault.TheVariants.{Word}
 use Rattle.cdb_hall.specs.declared.help.TheConstants.{HELP}
@@ -26,11 +26,11 @@ at_line session got = record { replies = got; lines = session.lines }
 -- the answer to a line that asks for no command, after this many lines
 abbrev pub own_answer : ℕ → Request → List ℕ
 own_answer lines (Call command) = []
-own_answer lines (Seat seat) = fault_text (lines + 1) Word
+own_answer lines (Seat seat) = faulty_line_text (lines + 1) Word
 own_answer lines Help = HELP.now
 own_answer lines Quit = []
-own_answer lines (Fault fault) = fault_text (lines + 1) fault
-own_answer lines TooLong = too_long_text (lines + 1)
+own_answer lines (Fault fault) = faulty_line_text (lines + 1) fault
+own_answer lines TooLong = long_line_text (lines + 1)
 
 -- a command without a reply found the journal full
 abbrev pub FindsFull : Request → List Answer → SeatView → Type 0

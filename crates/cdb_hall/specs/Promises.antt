@@ -15,7 +15,7 @@ use Rattle.cdb_hall.specs.declared.worker.Left.{Left}
 use Rattle.cdb_hall.specs.declared.worker.SeatPromise.{SeatPromise}
 
 -- a seat that has seen nothing yet
-pub record IsReady (shared : TableId) (seat : SeatView) : Type 0 where
+pub record IsUnused (shared : TableId) (seat : SeatView) : Type 0 where
   pub rests : RestsAt shared seat
   pub new : seat.seen ≡ []
 
@@ -27,15 +27,15 @@ pub record HasAttended {R T : Type 0} (rules : Parts → Rules) (known : T → K
   pub session : IsSeatSession station.prompt.now (part_seen rules left.seat) left.attended.outcome made
 
 -- a promise of this seat at this station
-pub record IsPromise {R T : Type 0} (seat : SeatView) (station : Station T) (promise : SeatPromise R T) : Type 0 where
+pub record IsStationPromise {R T : Type 0} (seat : SeatView) (station : Station T) (promise : SeatPromise R T) : Type 0 where
   pub seat_is : promise.seat.value ≡ seat
   pub station_is : promise.station.value ≡ station
 
 -- each handle promises that of a seat and its station, the last seat's first
-abbrev pub ArePromises : {R T : Type 0} → Vec SeatView Global → Vec (Station T) Global → Vec (PromisedHandle (Left R T) (SeatPromise R T)) Global → Type 0
-ArePromises {R} {T} seats stations handles =
+abbrev pub AreStationPromises : {R T : Type 0} → Vec SeatView Global → Vec (Station T) Global → Vec (PromisedHandle (Left R T) (SeatPromise R T)) Global → Type 0
+AreStationPromises {R} {T} seats stations handles =
     (k : ℕ) (before : SeatView) (station : Station T) (handle : PromisedHandle (Left R T) (SeatPromise R T)) → k < vec_len seats
-    → IsPromise (slice_index_or seats.items (vec_len seats - 1 - k) before) (slice_index_or stations.items (vec_len stations - 1 - k) station) (slice_index_or handles.items k handle).promise
+    → IsStationPromise (slice_index_or seats.items (vec_len seats - 1 - k) before) (slice_index_or stations.items (vec_len stations - 1 - k) station) (slice_index_or handles.items k handle).promise
 
 -- what the threads hand back, the last seat's first
 abbrev pub AllAttended : {R T : Type 0} → (Parts → Rules) → (T → Known) → List SeatView → List (Station T) → List (Left R T) → Type 0

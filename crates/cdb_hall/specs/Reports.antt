@@ -12,14 +12,14 @@ abbrev pub outcomes : {T : Type 0} → List (Attended T) → List (Result (Unit 
 outcomes attended = map (λ its. its.outcome) attended
 
 -- `seat S: FAULT` where the session of the seat failed
-abbrev pub seat_line : ℕ → Result (Unit {0}) PlayFault → List ℕ
-seat_line seat (Ok done) = []
-seat_line seat (Err fault) = codes "seat " ++ decimal seat ++ codes ": " ++ play_fault_text fault (codes "the input") ++ codes "\n"
+abbrev pub failed_seat_line : ℕ → Result (Unit {0}) PlayFault → List ℕ
+failed_seat_line seat (Ok done) = []
+failed_seat_line seat (Err fault) = codes "seat " ++ decimal seat ++ codes ": " ++ play_fault_text fault (codes "the input") ++ codes "\n"
 
 -- of seats that are numbered from this one on
-abbrev pub seat_lines : ℕ → List (Result (Unit {0}) PlayFault) → List ℕ
-seat_lines seat [] = []
-seat_lines seat (outcome ∷ outcomes) = seat_line seat outcome ++ seat_lines (seat + 1) outcomes
+abbrev pub failed_seat_lines : ℕ → List (Result (Unit {0}) PlayFault) → List ℕ
+failed_seat_lines seat [] = []
+failed_seat_lines seat (outcome ∷ outcomes) = failed_seat_line seat outcome ++ failed_seat_lines (seat + 1) outcomes
 
 -- the status of the least seat that failed, and 0 where none did
 abbrev pub seats_status : List (Result (Unit {0}) PlayFault) → ℕ
@@ -34,7 +34,7 @@ journal_line (Err fault) = as_line (play_fault_text (of_output fault) (codes "th
 
 -- what is reported of a journal that was written so, and of seats whose sessions ended so
 abbrev pub failures_text : Result (Unit {0}) OutputFault → List (Result (Unit {0}) PlayFault) → List ℕ
-failures_text written outcomes = seat_lines 1 outcomes ++ journal_line written
+failures_text written outcomes = failed_seat_lines 1 outcomes ++ journal_line written
 
 -- the status: that of a journal that was not written, else that of the least seat that failed
 abbrev pub status_of : Result (Unit {0}) OutputFault → List (Result (Unit {0}) PlayFault) → ℕ

@@ -35,7 +35,7 @@ module _ (prompt : List ℕ) where
       pub ended : HasEnded moves
 
     -- each line that has ended is answered, and none of them is `quit`
-    pub record IsUnread (moves : List Move) : Type 0 where
+    pub record IsSeatUnread (moves : List Move) : Type 0 where
       pub served : IsServed (ended_lines (read_in moves)) (written_in moves)
       pub goes_on : ¬ HaveQuit (ended_lines (read_in moves))
 
@@ -63,7 +63,7 @@ module _ (prompt : List ℕ) where
     -- the moves by what the session returned
     abbrev pub SeatEndsAs : {A : Type 0} → Result A PlayFault → List Move → Type 0
     SeatEndsAs (Ok done) moves = IsSeatWhole moves
-    SeatEndsAs (Err fault.Read) moves = IsUnread moves × EndsWith (λ last. last ≡ ReadFailed) moves
+    SeatEndsAs (Err fault.Read) moves = IsSeatUnread moves × EndsWith (λ last. last ≡ ReadFailed) moves
     SeatEndsAs (Err fault.Write) moves = IsSeatBroken moves × EndsWith FailsToWrite moves
     SeatEndsAs (Err fault.NoMemory) moves = IsSeatCutShort moves
     SeatEndsAs (Err (fault.Setup why)) moves = ⊥

@@ -2,7 +2,7 @@
 
 ghost use Rattle.std.specs.Prelude.{◌≡◌, ◌≤◌, vec_len, IfOk, IfErr, OnErr};
 ghost use Rattle.cdb_hall.specs.Faults.{of_hall};
-ghost use Rattle.cdb_hall.specs.Holding.{Holds, IsFaultOfHall};
+ghost use Rattle.cdb_hall.specs.Holding.{HoldsSessions, IsFaultOfHall};
 
 use crate::reports::{status_after, write_failures, write_journal};
 use crate::station::Station;
@@ -44,7 +44,7 @@ pub fn hold<R: Runs + Send, T: Talk + Drop + Send, Rt: Threads + Wait + Sync, O:
 ) -> Result<u8, RaceFault>
     requires some { 1 ≤ vec_len stations }
     requires fits { vec_len stations ≤ MAX_SEATS }
-    ensures held { IfOk result (Holds R.rules T.known O.stream E.stream
+    ensures held { IfOk result (HoldsSessions R.rules T.known O.stream E.stream
         setup.now stations.items output.old output.new error.old error.new) }
     ensures fault { IfErr result (IsFaultOfHall setup.now) }
     ensures unwritten { OnErr result ((output.new ≡ output.old) × (error.new ≡ error.old)) }

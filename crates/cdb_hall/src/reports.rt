@@ -5,7 +5,7 @@ ghost use Rattle.cdb_text.specs.Pushes.{Pushes};
 ghost use Rattle.cdb_play.specs.Endings.{whole_ending};
 ghost use Rattle.cdb_play.specs.Written.{IsWritten, Only};
 ghost use Rattle.cdb_hall.specs.Halls.{journal_text};
-ghost use Rattle.cdb_hall.specs.Reports.{outcomes, seat_line, seat_lines, seats_status};
+ghost use Rattle.cdb_hall.specs.Reports.{outcomes, failed_seat_line, failed_seat_lines, seats_status};
 ghost use Rattle.cdb_hall.specs.Reports.{journal_line, failures_text, status_of as status_is};
 
 use crate::journal::journal_text;
@@ -47,7 +47,7 @@ pub fn write_journal<W: Sink>(
 
 /// Adds the line of a seat whose session ended so, if that was with a fault.
 fn push_seat(text: &mut String, seat: u8, outcome: &Result<(), PlayFault>) -> Result<(), AllocError>
-    ensures { Pushes result text.old text.new (seat_line seat outcome.now) }
+    ensures { Pushes result text.old text.new (failed_seat_line seat outcome.now) }
 {
     match outcome {
         Ok(()) => Ok(()),
@@ -68,7 +68,7 @@ fn push_journal(text: &mut String, written: &Result<(), OutputFault>) -> Result<
 /// Adds a line for each seat whose session failed, with its number and the fault.
 fn push_seats<T>(text: &mut String, attended: &[Attended<T>]) -> Result<(), AllocError>
     requires { length attended.now ≤ MAX_SEATS }
-    ensures { Pushes result text.old text.new (seat_lines 1 (outcomes attended.now)) }
+    ensures { Pushes result text.old text.new (failed_seat_lines 1 (outcomes attended.now)) }
 {
     let mut seat = 0u8;
     for its in attended {

@@ -2,7 +2,7 @@
 
 ghost use Rattle.std.specs.Prelude.{◌≡◌, ◌≤◌, length, vec_len, All, IfOk, IfErr, OnErr};
 ghost use Rattle.cdb_hall.specs.Halls.{IsHall};
-ghost use Rattle.cdb_hall.specs.Promises.{IsReady, IsPromise, ArePromises, AllAttended, AreOfLefts, HasAttended};
+ghost use Rattle.cdb_hall.specs.Promises.{IsUnused, IsStationPromise, AreStationPromises, AllAttended, AreOfLefts, HasAttended};
 ghost use Rattle.cdb_shared.specs.Seats.{HasHeadline};
 
 use crate::station::{Attended, Station};
@@ -55,8 +55,8 @@ fn start_one<'s, E, R: Runs + Send + 's, T: Talk + Drop + Send + 's, Rt: Threads
     seat: Seat<R>,
     station: Station<T>,
 ) -> Result<PromisedHandle<Left<R, T>, SeatPromise<R, T>>, HallFault>
-    requires { IsReady shared.now seat }
-    ensures { IfOk result (λ handle. IsPromise seat station handle.promise) }
+    requires { IsUnused shared.now seat }
+    ensures { IfOk result (λ handle. IsStationPromise seat station handle.promise) }
 {
     let promise = SeatPromise {
         seat: Snapshot::of(&seat),
@@ -66,7 +66,7 @@ fn start_one<'s, E, R: Runs + Send + 's, T: Talk + Drop + Send + 's, Rt: Threads
         scope,
         promise,
         move || -> Left<R, T>
-            requires { IsReady shared.now seat }
+            requires { IsUnused shared.now seat }
             ensures { HasAttended R.rules T.known seat station result }
         { attend(shared, rt, alloc, seat, station) },
     );
@@ -82,10 +82,10 @@ fn start_all<'s, E, R: Runs + Send + 's, T: Talk + Drop + Send + 's, Rt: Threads
     mut seats: Vec<Seat<R>>,
     mut stations: Vec<Station<T>>,
 ) -> Result<Vec<PromisedHandle<Left<R, T>, SeatPromise<R, T>>>, HallFault>
-    requires ready { All (λ seat. IsReady shared.now seat) seats.items }
+    requires ready { All (λ seat. IsUnused shared.now seat) seats.items }
     requires stations { vec_len stations ≡ vec_len seats }
     ensures count { IfOk result (λ handles. vec_len handles ≡ vec_len seats) }
-    ensures each { IfOk result (λ handles. ArePromises seats stations handles) }
+    ensures each { IfOk result (λ handles. AreStationPromises seats stations handles) }
 {
     let Ok(mut handles) = Vec::with_capacity(alloc, seats.len()) else {
         return Err(HallFault::NoMemory);
@@ -109,7 +109,7 @@ fn join_all<'s, E, R: Runs + Send + 's, T: Talk + Drop + Send + 's, Rt: Threads 
     seats: Vec<Seat<R>>,
     stations: Vec<Station<T>>,
 ) -> Result<Vec<Left<R, T>>, HallFault>
-    requires ready { All (λ seat. IsReady shared.now seat) seats.items }
+    requires ready { All (λ seat. IsUnused shared.now seat) seats.items }
     requires stations { vec_len stations ≡ vec_len seats }
     ensures count { IfOk result (λ lefts. vec_len lefts ≡ vec_len seats) }
     ensures each { IfOk result
@@ -130,7 +130,7 @@ fn attend_all<R: Runs + Send, T: Talk + Drop + Send, Rt: Threads + Wait + Sync>(
     seats: Vec<Seat<R>>,
     stations: Vec<Station<T>>,
 ) -> Result<Vec<Left<R, T>>, HallFault>
-    requires ready { All (λ seat. IsReady shared.now seat) seats.items }
+    requires ready { All (λ seat. IsUnused shared.now seat) seats.items }
     requires stations { vec_len stations ≡ vec_len seats }
     ensures count { IfOk result (λ lefts. vec_len lefts ≡ vec_len seats) }
     ensures each { IfOk result
@@ -140,7 +140,7 @@ fn attend_all<R: Runs + Send, T: Talk + Drop + Send, Rt: Threads + Wait + Sync>(
         thread::scope_env(),
         rt,
         |scope| -> Result<Vec<Left<R, T>>, HallFault>
-            requires ready { All (λ seat. IsReady shared.now seat) seats.items }
+            requires ready { All (λ seat. IsUnused shared.now seat) seats.items }
             requires stations { vec_len stations ≡ vec_len seats }
         { join_all(scope, rt, alloc, shared, seats, stations) },
     )

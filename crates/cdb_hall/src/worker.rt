@@ -1,6 +1,6 @@
 //! What one thread does with its seat.
 
-ghost use Rattle.cdb_hall.specs.Promises.{IsReady, HasAttended};
+ghost use Rattle.cdb_hall.specs.Promises.{IsUnused, HasAttended};
 
 use crate::conversation::converse;
 use crate::session::Session;
@@ -41,7 +41,7 @@ pub(crate) fn attend<R: Runs, T: Talk + Drop, Rt: Wait>(
     seat: Seat<R>,
     station: Station<T>,
 ) -> Left<R, T>
-    requires { IsReady shared.now seat }
+    requires { IsUnused shared.now seat }
     ensures { HasAttended R.rules T.known seat station result }
 {
     let Station { mut talk, prompt } = station;

@@ -11,8 +11,8 @@ use Rattle.cdb_leader.specs.declared.inbox.FirstPhase.{FirstPhase}
 use Rattle.cdb_leader.specs.declared.firsts.Firsts.{Firsts}
 use Rattle.cdb_leader.specs.declared.row.Row.{Row}
 use Rattle.cdb_leader.specs.declared.index.Index.{Index}
-use Rattle.cdb_leader.specs.Inbox.{first_given, first_phase, second_phase, decision_in}
-use Rattle.cdb_leader.specs.Index.{round_of, first_position, noted, forgotten, position_from, ChangesFrom, reads_from, AreFirsts, answer_in, are_different, IsRowOf, IsEmptyRow, IsRoundOf, IsIndexOf}
+use Rattle.cdb_leader.specs.Inbox.{first_given, first_phase, second_phase, as_decision}
+use Rattle.cdb_leader.specs.Index.{message_round, first_position, noted, forgotten, position_from, ChangesFrom, reads_from, AreFirsts, answer_in, are_different, IsRowOf, IsEmptyRow, IsRoundOf, IsIndexOf}
 
 -- ---- the first that passes
 
@@ -268,39 +268,39 @@ module _ (r : ℕ) (inbox : List Received) (y : Received) where
 
 -- ---- messages and their rounds
 
-pub first_of : (x : Payload) (r round est lead : ℕ) → x ≡ P1 round est lead → round_of x ≡ Some r
+pub first_of : (x : Payload) (r round est lead : ℕ) → x ≡ P1 round est lead → message_round x ≡ Some r
     → first_phase r x ≡ Some (record { estimate = est; lead = lead })
 first_of x r round est lead is at =
-    let both : Path (Option ℕ) (Some round) (Some r) = sym (ap round_of is) ∙ at in
+    let both : Path (Option ℕ) (Some round) (Some r) = sym (ap message_round is) ∙ at in
     let same : round ≡ r = cc in
     ap (first_phase r) is ∙ ap (λ b. if b then Some (record { estimate = est; lead = lead }) else None) (eq-eqb round r same)
 
-pub second_of : (x : Payload) (r round : ℕ) (aux : Option ℕ) → x ≡ P2 round aux → round_of x ≡ Some r → second_phase r x ≡ Some aux
+pub second_of : (x : Payload) (r round : ℕ) (aux : Option ℕ) → x ≡ P2 round aux → message_round x ≡ Some r → second_phase r x ≡ Some aux
 second_of x r round aux is at =
-    let both : Path (Option ℕ) (Some round) (Some r) = sym (ap round_of is) ∙ at in
+    let both : Path (Option ℕ) (Some round) (Some r) = sym (ap message_round is) ∙ at in
     let same : round ≡ r = cc in
     ap (second_phase r) is ∙ ap (λ b. if b then Some aux else None) (eq-eqb round r same)
 
-not_first : (x : Payload) (r q : ℕ) → round_of x ≡ Some r → (r == q) ≡ false → first_phase q x ≡ None
+not_first : (x : Payload) (r q : ℕ) → message_round x ≡ Some r → (r == q) ≡ false → first_phase q x ≡ None
 not_first (P1 round est lead) r q at other =
     let same : round ≡ r = cc in
     ap (λ n. if n == q then Some (record { estimate = est; lead = lead }) else None) same ∙ ap (λ b. if b then Some (record { estimate = est; lead = lead }) else None) other
 not_first (P2 round aux) r q at other = refl
 not_first (D est) r q at other = refl
 
-not_second : (x : Payload) (r q : ℕ) → round_of x ≡ Some r → (r == q) ≡ false → second_phase q x ≡ None
+not_second : (x : Payload) (r q : ℕ) → message_round x ≡ Some r → (r == q) ≡ false → second_phase q x ≡ None
 not_second (P1 round est lead) r q at other = refl
 not_second (P2 round aux) r q at other =
     let same : round ≡ r = cc in
     ap (λ n. if n == q then Some aux else None) same ∙ ap (λ b. if b then Some aux else None) other
 not_second (D est) r q at other = refl
 
-not_decision : (x : Payload) (r : ℕ) → round_of x ≡ Some r → decision_in x ≡ None
+not_decision : (x : Payload) (r : ℕ) → message_round x ≡ Some r → as_decision x ≡ None
 not_decision (P1 round est lead) r at = refl
 not_decision (P2 round aux) r at = refl
 not_decision (D est) r at = absurd (cc)
 
-a_decision : (x : Payload) → round_of x ≡ None → (v : ℕ) × (decision_in x ≡ Some v) × ((q : ℕ) → first_phase q x ≡ None) × ((q : ℕ) → second_phase q x ≡ None)
+a_decision : (x : Payload) → message_round x ≡ None → (v : ℕ) × (as_decision x ≡ Some v) × ((q : ℕ) → first_phase q x ≡ None) × ((q : ℕ) → second_phase q x ≡ None)
 a_decision (P1 round est lead) none = absurd (cc)
 a_decision (P2 round aux) none = absurd (cc)
 a_decision (D est) none = (est, refl, λ q. refl, λ q. refl)
@@ -332,7 +332,7 @@ empty_changes s n kept empty = λ t. by_sender t (s == t) where
   by_sender t true = empty t ∙ sym (ap (forgotten n) (empty t))
   by_sender t false = refl
 
-empty_back : (r : ℕ) (inbox : List Received) (y : Received) (x : Payload) → y.payload ≡ x → round_of y.payload ≡ Some r → (row : Row) → IsEmptyRow row
+empty_back : (r : ℕ) (inbox : List Received) (y : Received) (x : Payload) → y.payload ≡ x → message_round y.payload ≡ Some r → (row : Row) → IsEmptyRow row
     → IsRowOf r row (inbox ++ y ∷ []) → IsRowOf r row inbox
 empty_back r inbox y (P1 round est lead) is at row e h =
     IsRowOf-forget_first r inbox y _ row row (first_of y.payload r round est lead is at) (ap (second_phase r) is) h
@@ -341,17 +341,17 @@ empty_back r inbox y (P2 round aux) is at row e h =
     IsRowOf-forget_answer r inbox y aux row row (ap (first_phase r) is) (second_of y.payload r round aux is at) h refl
     (empty_changes y.from (length inbox) row.second_phases e.second_phases)
     (e.answer ∙ sym (ap (forgotten (length inbox)) e.answer)) (e.other_answer ∙ sym (ap (forgotten (length inbox)) e.other_answer))
-empty_back r inbox y (D est) is at row e h = let nowhere : Path (Option ℕ) None (Some r) = sym (ap round_of is) ∙ at in absurd (cc)
+empty_back r inbox y (D est) is at row e h = let nowhere : Path (Option ℕ) None (Some r) = sym (ap message_round is) ∙ at in absurd (cc)
 
 -- ---- the whole index
 
 module _ (old new : Index) (inbox : List Received) (y : Received) where
-  module _ (r : ℕ) (row : Row) (at : round_of y.payload ≡ Some r) (decisions : new.decisions ≡ old.decisions)
+  module _ (r : ℕ) (row : Row) (at : message_round y.payload ≡ Some r) (decisions : new.decisions ≡ old.decisions)
       (updates : (q : ℕ) → get nat_eq new.rows q ≡ cond (nat_eq r q) (Some row) (get nat_eq old.rows q)) where
     pub IsIndexOf-push_row : IsIndexOf old inbox → IsRowOf r row (inbox ++ y ∷ []) → IsIndexOf new (inbox ++ y ∷ [])
     IsIndexOf-push_row h row_is = record {
       rounds = λ q. subst (λ o. IsRoundOf q o (inbox ++ y ∷ [])) (sym (updates q)) (by_round q (nat_eq r q) refl);
-      decisions = subst (λ f. AreFirsts decision_in f (inbox ++ y ∷ [])) (sym decisions) (AreFirsts-longer decision_in inbox y old.decisions (not_decision y.payload r at) h.decisions);
+      decisions = subst (λ f. AreFirsts as_decision f (inbox ++ y ∷ [])) (sym decisions) (AreFirsts-longer as_decision inbox y old.decisions (not_decision y.payload r at) h.decisions);
     } where
       by_round : (q : ℕ) (b : Bool) → nat_eq r q ≡ b → IsRoundOf q (cond b (Some row) (get nat_eq old.rows q)) (inbox ++ y ∷ [])
       by_round q true e = subst (λ n. IsRowOf n row (inbox ++ y ∷ [])) (eqb-true r q e) row_is
@@ -360,19 +360,19 @@ module _ (old new : Index) (inbox : List Received) (y : Received) where
     pub IsIndexOf-forget_row : IsIndexOf old (inbox ++ y ∷ []) → IsRowOf r row inbox → IsIndexOf new inbox
     IsIndexOf-forget_row h row_is = record {
       rounds = λ q. subst (λ o. IsRoundOf q o inbox) (sym (updates q)) (by_round q (nat_eq r q) refl);
-      decisions = subst (λ f. AreFirsts decision_in f inbox) (sym decisions) (AreFirsts-shorter decision_in inbox y old.decisions (not_decision y.payload r at) h.decisions);
+      decisions = subst (λ f. AreFirsts as_decision f inbox) (sym decisions) (AreFirsts-shorter as_decision inbox y old.decisions (not_decision y.payload r at) h.decisions);
     } where
       by_round : (q : ℕ) (b : Bool) → nat_eq r q ≡ b → IsRoundOf q (cond b (Some row) (get nat_eq old.rows q)) inbox
       by_round q true e = subst (λ n. IsRowOf n row inbox) (eqb-true r q e) row_is
       by_round q false e = IsRoundOf-shorter q inbox y (not_first y.payload r q at e) (not_second y.payload r q at e) (get nat_eq old.rows q) (h.rounds q)
 
-  module _ (none : round_of y.payload ≡ None) (rows : new.rows ≡ old.rows) where
+  module _ (none : message_round y.payload ≡ None) (rows : new.rows ≡ old.rows) where
     pub IsIndexOf-push_decision : IsIndexOf old inbox → ChangesFrom y.from (noted (length inbox)) old.decisions new.decisions → IsIndexOf new (inbox ++ y ∷ [])
     IsIndexOf-push_decision h changes =
         let d = a_decision y.payload none in
         record {
           rounds = λ q. subst (λ m. IsRoundOf q (get nat_eq m q) (inbox ++ y ∷ [])) (sym rows) (IsRoundOf-longer q inbox y (d.2 q) (d.3 q) (get nat_eq old.rows q) (h.rounds q));
-          decisions = AreFirsts-push decision_in inbox y d.0 old.decisions new.decisions d.1 h.decisions changes;
+          decisions = AreFirsts-push as_decision inbox y d.0 old.decisions new.decisions d.1 h.decisions changes;
         }
 
     pub IsIndexOf-forget_decision : IsIndexOf old (inbox ++ y ∷ []) → ChangesFrom y.from (forgotten (length inbox)) old.decisions new.decisions → IsIndexOf new inbox
@@ -380,15 +380,15 @@ module _ (old new : Index) (inbox : List Received) (y : Received) where
         let d = a_decision y.payload none in
         record {
           rounds = λ q. subst (λ m. IsRoundOf q (get nat_eq m q) inbox) (sym rows) (IsRoundOf-shorter q inbox y (d.2 q) (d.3 q) (get nat_eq old.rows q) (h.rounds q));
-          decisions = AreFirsts-forget decision_in inbox y d.0 old.decisions new.decisions d.1 h.decisions changes;
+          decisions = AreFirsts-forget as_decision inbox y d.0 old.decisions new.decisions d.1 h.decisions changes;
         }
 
 -- the row of its round is not there
-pub IsIndexOf-forget_none : (index : Index) (inbox : List Received) (y : Received) (r : ℕ) → round_of y.payload ≡ Some r → get nat_eq index.rows r ≡ None
+pub IsIndexOf-forget_none : (index : Index) (inbox : List Received) (y : Received) (r : ℕ) → message_round y.payload ≡ Some r → get nat_eq index.rows r ≡ None
     → IsIndexOf index (inbox ++ y ∷ []) → IsIndexOf index inbox
 IsIndexOf-forget_none index inbox y r at none h = record {
   rounds = λ q. by_round q (nat_eq r q) refl;
-  decisions = AreFirsts-shorter decision_in inbox y index.decisions (not_decision y.payload r at) h.decisions;
+  decisions = AreFirsts-shorter as_decision inbox y index.decisions (not_decision y.payload r at) h.decisions;
 } where
   there : IsRoundOf r (get nat_eq index.rows r) inbox
   there = subst (λ o. IsRoundOf r o inbox) (sym none)

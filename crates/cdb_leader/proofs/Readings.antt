@@ -8,7 +8,7 @@ use Rattle.cdb_base.specs.declared.payload.Payload.{Payload}
 use Rattle.cdb_base.specs.declared.payload.Payload.TheVariants.{P1, P2, D}
 use Rattle.cdb_leader.specs.declared.inbox.Received.{Received}
 use Rattle.cdb_leader.specs.declared.inbox.FirstPhase.{FirstPhase}
-use Rattle.cdb_leader.specs.Inbox.{first_given, first_phase, second_phase, decision_in, if_from, first_from, first_phase_from, second_phase_from, decision_from, names, backers, is_agreed, agreed_leader, agreed_estimate, second_phase_senders, proposal, carries, is_only_proposal, learnt}
+use Rattle.cdb_leader.specs.Inbox.{first_given, first_phase, second_phase, as_decision, if_from, first_from, first_phase_from, second_phase_from, decision_from, names, backers, is_agreed, agreed_leader, agreed_estimate, second_phase_senders, proposal, carries, is_only_proposal, learnt}
 use Rattle.cdb_leader.specs.Quorum.{count_processes, IsQuorum}
 use Rattle.cdb_process.proofs.Members.{IsIn}
 use Rattle.cdb_leader.specs.Bases.{AuxBasis, Carried, Answered, AnsweredAlike}
@@ -103,7 +103,7 @@ second_phase_is r (P2 round aux) a is = go (round == r) refl is
     go false same it = absurd (cc)
 second_phase_is r (D est) a is = absurd (cc)
 
-decision_is : (x : Payload) (v : ℕ) → decision_in x ≡ Some v → x ≡ D v
+decision_is : (x : Payload) (v : ℕ) → as_decision x ≡ Some v → x ≡ D v
 decision_is (P1 round est lead) v is = absurd (cc)
 decision_is (P2 round aux) v is = absurd (cc)
 decision_is (D est) v is = cc
@@ -122,7 +122,7 @@ second_phase_heard r s inbox a is =
 
 decision_heard : (s : ℕ) (inbox : Inbox) (v : ℕ) → decision_from s inbox ≡ Some v → Heard inbox s (D v)
 decision_heard s inbox v is =
-    let found = first_from_heard s decision_in inbox v is in
+    let found = first_from_heard s as_decision inbox v is in
     subst (Heard inbox s) (decision_is found.0 v found.2) found.1
 
 -- a decision that the process learns was heard

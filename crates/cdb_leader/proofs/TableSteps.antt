@@ -11,7 +11,7 @@ use Rattle.cdb_leader.specs.declared.place.Place.TheVariants.{L0, L1, L2, L3, L4
 use Rattle.cdb_leader.specs.Place.{place_number}
 use Rattle.cdb_leader.specs.Inbox.{agreed_estimate, proposal, is_only_proposal, learnt}
 use Rattle.cdb_leader.specs.LocalState.{LocalState}
-use Rattle.cdb_leader.specs.Table.{heard_first_phase, heard_second_phase, heard_lead, is_lead, set_aux, end_round, query_at, sent_at, after_sending_at, send_at, local_at, adopt, learn_at, hear, recv_at, next_state}
+use Rattle.cdb_leader.specs.Table.{heard_first_phase, heard_second_phase, heard_lead, is_lead, set_aux, end_round, query_at, payload_at, after_sending_at, send_at, local_at, adopt, learn_at, hear, recv_at, next_state}
 use Rattle.cdb_process.proofs.Members.{IsIn}
 use Rattle.cdb_leader.proofs.Readings.{learnt_heard, agreed_rests, proposal_carried, answered_none, answered_some, answered_alike}
 use Rattle.cdb_leader.proofs.Steps.{Local, entry, Row, after_row, sent_by, Step, enter, propose, stay, settle, answer, decide, leave, learn, announce, receive}
@@ -29,7 +29,7 @@ local_of s = record {
 
 -- what a process has sent after an input
 abbrev pub posted_by : LocalState → Input → List Payload → List Payload
-posted_by s input.Send sent = sent ++ option_to_list (sent_at s.place s)
+posted_by s input.Send sent = sent ++ option_to_list (payload_at s.place s)
 posted_by s (input.Query l) sent = sent
 posted_by s (input.Recv p x) sent = sent
 posted_by s (input.Read r c) sent = sent
@@ -81,7 +81,7 @@ module _ (mail : ℕ → List Payload) (s t : LocalState) (sent : List Payload) 
   query_step L5 l at is = absurd (cc)
   query_step L6 l at is = absurd (cc)
 
-  send_step : (p : Place) → s.place ≡ p → send_at p s ≡ Some t → Taken (sent ++ option_to_list (sent_at p s))
+  send_step : (p : Place) → s.place ≡ p → send_at p s ≡ Some t → Taken (sent ++ option_to_list (payload_at p s))
   send_step L0 at is = absurd (cc)
   send_step L1 at is = go s.lead is
     where

@@ -12,13 +12,13 @@ use Rattle.cdb_leader.specs.declared.first_phases.FirstPhases.{FirstPhases}
 use Rattle.cdb_leader.specs.declared.firsts.Firsts.{Firsts}
 use Rattle.cdb_leader.specs.declared.row.Row.{Row}
 use Rattle.cdb_leader.specs.declared.index.Index.{Index}
-use Rattle.cdb_leader.specs.Inbox.{first_given, if_from, names, first_phase, second_phase, decision_in}
+use Rattle.cdb_leader.specs.Inbox.{first_given, if_from, names, first_phase, second_phase, as_decision}
 
 -- the round of a first-phase or second-phase message
-abbrev pub round_of : Payload → Option ℕ
-round_of (P1 round est lead) = Some round
-round_of (P2 round aux) = Some round
-round_of (D est) = None
+abbrev pub message_round : Payload → Option ℕ
+message_round (P1 round est lead) = Some round
+message_round (P2 round aux) = Some round
+message_round (D est) = None
 
 -- ---- positions
 
@@ -112,4 +112,4 @@ IsRoundOf r None inbox = (row : Row) → IsEmptyRow row → IsRowOf r row inbox
 
 pub record IsIndexOf (index : Index) (inbox : List Received) : Type 0 where
   pub rounds : (r : ℕ) → IsRoundOf r (get nat_eq index.rows r) inbox
-  pub decisions : AreFirsts decision_in index.decisions inbox
+  pub decisions : AreFirsts as_decision index.decisions inbox

@@ -11,12 +11,12 @@ abbrev pub IsQuorum : ℕ → (ℕ → Type 0) → Type 0
 IsQuorum q P = (test : ℕ → Bool) × (q ≤ count_processes 9 test) × ((s : ℕ) → 1 ≤ s → s ≤ 9 → test s ≡ true → P s)
 
 -- only processes of 1 to n pass the test
-abbrev pub IsWithin : ℕ → (ℕ → Bool) → Type 0
-IsWithin n test = (s : ℕ) → 1 ≤ s → s ≤ 9 → test s ≡ true → s ≤ n
+abbrev pub IsPickOf : ℕ → (ℕ → Bool) → Type 0
+IsPickOf n test = (s : ℕ) → 1 ≤ s → s ≤ 9 → test s ≡ true → s ≤ n
 
 -- of n processes two picks of at least q share one, where n is less than twice q
 abbrev pub MajoritiesMeet : Type 0
 MajoritiesMeet =
-    (n q : ℕ) (one other : ℕ → Bool) → n ≤ 9 → n < 2 * q → IsWithin n one → IsWithin n other
+    (n q : ℕ) (one other : ℕ → Bool) → n ≤ 9 → n < 2 * q → IsPickOf n one → IsPickOf n other
     → q ≤ count_processes 9 one → q ≤ count_processes 9 other
     → (s : ℕ) × (1 ≤ s) × (s ≤ n) × (one s ≡ true) × (other s ≡ true)

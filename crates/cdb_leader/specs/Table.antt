@@ -56,11 +56,11 @@ accepts_query_at L2 s = true
 accepts_query_at p s = false
 
 -- the payload that the process would send
-abbrev pub sent_at : Place → LocalState → Option Payload
-sent_at L1 s = option_map (λ l. P1 s.round s.estimate l) s.lead
-sent_at L3 s = Some (P2 s.round s.aux)
-sent_at L5 s = Some (D s.estimate)
-sent_at p s = None
+abbrev pub payload_at : Place → LocalState → Option Payload
+payload_at L1 s = option_map (λ l. P1 s.round s.estimate l) s.lead
+payload_at L3 s = Some (P2 s.round s.aux)
+payload_at L5 s = Some (D s.estimate)
+payload_at p s = None
 
 -- the process has sent that
 abbrev pub after_sending_at : Place → LocalState → LocalState
@@ -70,7 +70,7 @@ after_sending_at L5 s = record s { decision = Some s.estimate; place = L6 }
 after_sending_at p s = s
 
 abbrev pub send_at : Place → LocalState → Option LocalState
-send_at p s = option_map (λ _. after_sending_at p s) (sent_at p s)
+send_at p s = option_map (λ _. after_sending_at p s) (payload_at p s)
 
 -- the process goes on by itself
 abbrev pub local_at : Place → LocalState → Option LocalState
@@ -114,4 +114,4 @@ next_state s input.Learn = learn_at s.place s
 -- what the process would do of itself: send, where a send is due, or go on
 abbrev pub wish_of : LocalState → Option Wish
 wish_of s =
-    option_or (option_map wished.Send (sent_at s.place s)) (if is_some (local_at s.place s) then Some wished.Local else None)
+    option_or (option_map wished.Send (payload_at s.place s)) (if is_some (local_at s.place s) then Some wished.Local else None)

@@ -10,11 +10,11 @@ use Rattle.cdb_process.specs.Walk.{state_along, along}
 use Rattle.cdb_leader.specs.declared.inbox.Received.{Received}
 use Rattle.cdb_leader.specs.Bases.{AuxBasis, LeaveBasis, DecisionBasis}
 use Rattle.cdb_leader.specs.LocalState.{LocalState, first_state}
-use Rattle.cdb_leader.specs.Table.{sent_at, next_state}
+use Rattle.cdb_leader.specs.Table.{payload_at, next_state}
 
 -- the payload that is sent by an input, if one is
 abbrev pub sent_of : LocalState → Input → List Payload
-sent_of s Send = option_to_list (sent_at s.place s)
+sent_of s Send = option_to_list (payload_at s.place s)
 sent_of s i = []
 
 -- the payloads that are sent

@@ -30,12 +30,12 @@ pub struct FirstPhase {
 }
 
 impl Received {
-    ghost use Rattle.cdb_leader.specs.Inbox.{first_phase, second_phase, decision_in, if_from};
-    ghost use Rattle.cdb_leader.specs.Index.{round_of};
+    ghost use Rattle.cdb_leader.specs.Inbox.{first_phase, second_phase, as_decision, if_from};
+    ghost use Rattle.cdb_leader.specs.Index.{message_round};
 
     /// The round of a first-phase or second-phase message.
     pub(crate) fn round(&self) -> Option<u32>
-        ensures { result ≡ round_of self.now.payload }
+        ensures { result ≡ message_round self.now.payload }
     {
         match self.payload {
             Payload::P1 { round, .. } | Payload::P2 { round, .. } => Some(round),
@@ -80,7 +80,7 @@ impl Received {
 
     /// The entry as a decision of that sender.
     fn decision(&self, sender: Proc) -> Option<Val>
-        ensures { result ≡ if_from sender decision_in self.now }
+        ensures { result ≡ if_from sender as_decision self.now }
     {
         match self.payload {
             Payload::D { est } if self.from == sender => Some(est),

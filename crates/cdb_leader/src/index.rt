@@ -2,7 +2,7 @@
 
 ghost use Rattle.std.specs.Prelude.{◌≡◌, List, [], ◌∷◌, ◌++◌, OnOk, OnErr};
 ghost use Rattle.cdb_leader.specs.declared.inbox.Received.{Received};
-ghost use Rattle.cdb_leader.specs.Inbox.{first_phase, second_phase, decision_in};
+ghost use Rattle.cdb_leader.specs.Inbox.{first_phase, second_phase, as_decision};
 ghost use Rattle.cdb_leader.specs.Index.{position_from, AreFirsts, IsRowOf, IsIndexOf};
 
 use crate::firsts::{Firsts, Position};

@@ -47,7 +47,7 @@ impl Model for Leader {
 
 impl Leader {
     ghost use Rattle.cdb_leader.specs.LocalState.{LocalState};
-    ghost use Rattle.cdb_leader.specs.Table.{heard_first_phase, heard_second_phase, heard_lead, set_aux, end_round, query_at, sent_at, send_at, local_at, learn_at, recv_at};
+    ghost use Rattle.cdb_leader.specs.Table.{heard_first_phase, heard_second_phase, heard_lead, set_aux, end_round, query_at, payload_at, send_at, local_at, learn_at, recv_at};
     ghost use Rattle.cdb_leader.specs.Inbox.{proposal};
     ghost use Rattle.cdb_base.specs.Positions.{without_last};
     ghost use Rattle.cdb_leader.specs.Back.{state_before};
@@ -76,7 +76,7 @@ impl Leader {
 
     /// The payload that the process would send.
     fn payload(&self) -> Option<Payload>
-        ensures { result ≡ sent_at self.now.place self.now }
+        ensures { result ≡ payload_at self.now.place self.now }
     {
         match self.place {
             Place::L1 => {

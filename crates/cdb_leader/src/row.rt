@@ -1,7 +1,7 @@
 //! What an index holds of one round.
 
 ghost use Rattle.std.specs.Prelude.{◌≡◌, ◌≤◌, ℕ, Some, ◌++◌, ◌∷◌, [], length, is_some, if◌then◌else◌};
-ghost use Rattle.cdb_leader.specs.Index.{round_of, noted, forgotten, ChangesFrom, answer_in, are_different, IsRowOf, IsEmptyRow};
+ghost use Rattle.cdb_leader.specs.Index.{message_round, noted, forgotten, ChangesFrom, answer_in, are_different, IsRowOf, IsEmptyRow};
 
 use crate::firsts::{Firsts, Position, forgotten, noted};
 use crate::inbox::{Received, entry_at};
@@ -83,7 +83,7 @@ impl Row {
     /// Notes an entry of the round, which comes after those.
     pub(crate) fn note(&mut self, round: u32, entries: &[Received], entry: &Received)
         requires { length entries.now ≤ u32.MAX }
-        ensures { round_of entry.now.payload ≡ Some round → IsRowOf round self.old entries.now
+        ensures { message_round entry.now.payload ≡ Some round → IsRowOf round self.old entries.now
             → IsRowOf round self.new (entries.now ++ entry.now ∷ []) }
     {
         let position = entries.len() as Position;
@@ -99,7 +99,7 @@ impl Row {
 
     /// Forgets an entry of the round, which came after those.
     pub(crate) fn forget(&mut self, round: u32, entries: &[Received], entry: &Received)
-        ensures { round_of entry.now.payload ≡ Some round
+        ensures { message_round entry.now.payload ≡ Some round
             → IsRowOf round self.old (entries.now ++ entry.now ∷ [])
             → IsRowOf round self.new entries.now }
     {

@@ -2,7 +2,7 @@
 use Rattle.std.proofs.Common.{◌≡◌, ℕ, zero, suc, ◌+◌, ◌<◌, ◌≤◌, ⊎_elim, List, [], ◌∷◌, ◌++◌, Option, Some, None, Vec, vec_capacity, length, get_or, set, slice_get, slice_index, refl, sym, ap, ◌∙◌, subst, arith}
 use Rattle.std.proofs.lemmas.List.{map-append, map-set, length-set, nil_from_length, get_or_append_left, get_or_at, get_or-set_same, get_or-set_other, length_push}
 use Rattle.std.specs.Option.{option_to_list, MatchOption}
-use Rattle.cdb_log.specs.Ends.{start, AreRoomy, HasEnds}
+use Rattle.cdb_log.specs.Ends.{piece_start, AreRoomy, HasEnds}
 use Rattle.cdb_log.specs.Pieces.{before, lists}
 use Rattle.cdb_log.specs.declared.ends.TheConstants.{PIECE}
 use Rattle.cdb_log.specs.declared.log.TheConstants.{PIECES}
@@ -111,16 +111,16 @@ module _ {T Z : Type 0} where
     pub lists_more : lists (pieces ++ v ∷ []) ≡ lists pieces ++ [] ∷ []
     lists_more = lists_push pieces v ∙ ap (λ l. lists pieces ++ l ∷ []) none
 
-    pub ends_added : length pieces < PIECES → PIECE ≤ vec_capacity v → HasEnds (pieces ++ v ∷ []) (ends ++ start ends (length ends) ∷ [])
+    pub ends_added : length pieces < PIECES → PIECE ≤ vec_capacity v → HasEnds (pieces ++ v ∷ []) (ends ++ piece_start ends (length ends) ∷ [])
     ends_added few room =
         record {
-          same_length = let a = length_push ends (start ends (length ends)) in let b = length_push pieces v in let c = h.same_length in omega arith;
+          same_length = let a = length_push ends (piece_start ends (length ends)) in let b = length_push pieces v in let c = h.same_length in omega arith;
           each = λ k less.
               let long = length_push pieces v in
               let same = h.same_length in
               ⊎_elim
-              (λ before_end. get_or_append_left ends (start ends (length ends) ∷ []) 0 k (omega arith) ∙ h.each k before_end)
-              (λ at_end. get_or_at ends (start ends (length ends)) [] 0 k (omega arith) ∙ start_is pieces ends h (length ends) (omega arith)
+              (λ before_end. get_or_append_left ends (piece_start ends (length ends) ∷ []) 0 k (omega arith) ∙ h.each k before_end)
+              (λ at_end. get_or_at ends (piece_start ends (length ends)) [] 0 k (omega arith) ∙ start_is pieces ends h (length ends) (omega arith)
               ∙ (let a = before_all (lists pieces) (length ends) (omega (arith, lists_long pieces)) in let b = before_all (lists pieces) (suc k) (omega (arith, lists_long pieces)) in omega arith))
               (below_or_above k (length pieces))
               ∙ sym (before-push_empty (lists pieces) (suc k)) ∙ ap (λ l. before l (suc k)) (sym lists_more);
@@ -133,7 +133,7 @@ module _ {T Z : Type 0} where
 
   -- and one is dropped
   module _ (pieces : List (Vec T Z)) (ends : List ℕ) (v : Vec T Z) (end : ℕ) (h : HasEnds (pieces ++ v ∷ []) (ends ++ end ∷ [])) (k : ℕ) (last : suc (suc k) ≡ length (ends ++ end ∷ []))
-      (spare : slice_index (ends ++ end ∷ []) (suc k) ≡ start (ends ++ end ∷ []) k) where
+      (spare : slice_index (ends ++ end ∷ []) (suc k) ≡ piece_start (ends ++ end ∷ []) k) where
     none_left : v.items ≡ []
     none_left =
         nil_from_length v.items
@@ -179,11 +179,11 @@ module _ {T Z : Type 0} where
   -- the last of both is popped
   pub popped : (pieces left : List (Vec T Z)) (r : Option (Vec T Z)) (ends left_ends : List ℕ) (e : Option ℕ) → pieces ≡ left ++ option_to_list r → ends ≡ left_ends ++ option_to_list e → (n m i j : ℕ) → n ≡ length pieces → i ≡ length ends
       → MatchOption r ((n ≡ 0) × (m ≡ 0)) (λ v. m + 1 ≡ n) → MatchOption e ((i ≡ 0) × (j ≡ 0)) (λ v. j + 1 ≡ i)
-      → HasEnds pieces ends → (k : ℕ) → suc (suc k) ≡ length ends → slice_index ends (suc k) ≡ start ends k → HasEnds left left_ends × (lists pieces ≡ lists left ++ [] ∷ [])
+      → HasEnds pieces ends → (k : ℕ) → suc (suc k) ≡ length ends → slice_index ends (suc k) ≡ piece_start ends k → HasEnds left left_ends × (lists pieces ≡ lists left ++ [] ∷ [])
   popped pieces left None ends left_ends e is is_ends n m i j long long_ends cases cases_ends h k last spare = absurd (let a = cases.0 in let b = h.same_length in omega arith)
   popped pieces left (Some v) ends left_ends None is is_ends n m i j long long_ends cases cases_ends h k last spare = absurd (let a = cases_ends.0 in omega arith)
   popped pieces left (Some v) ends left_ends (Some end) is is_ends n m i j long long_ends cases cases_ends h k last spare =
       let g = subst (λ l. HasEnds (left ++ v ∷ []) l) is_ends (subst (λ p. HasEnds p ends) is h) in
       let last_is = last ∙ ap length is_ends in
-      let spare_is = subst (λ l. slice_index l (suc k) ≡ start l k) is_ends spare in
+      let spare_is = subst (λ l. slice_index l (suc k) ≡ piece_start l k) is_ends spare in
       (ends_dropped left left_ends v end g k last_is spare_is, ap lists is ∙ lists_less left left_ends v end g k last_is spare_is)

@@ -1,12 +1,12 @@
 -- What the ends of pieces say of them.
 use Rattle.std.proofs.Common.{◌≡◌, ℕ, zero, suc, ◌+◌, ◌-◌, ◌*◌, ◌<◌, ◌≤◌, ⊎_elim, List, [], ◌∷◌, Some, Vec, vec_capacity, length, get_or, slice_get, slice_index, refl, sym, ap, ◌∙◌, subst, arith}
 use Rattle.std.proofs.lemmas.List.{length-map}
-use Rattle.cdb_log.specs.Ends.{start, AreEnds, IsSpot, AreRoomy, HasEnds}
+use Rattle.cdb_log.specs.Ends.{piece_start, AreEnds, IsSpot, AreRoomy, HasEnds}
 use Rattle.cdb_log.specs.Pieces.{joined, before, lists}
 use Rattle.cdb_log.specs.declared.ends.TheConstants.{PIECE}
 use Rattle.cdb_log.proofs.Counting.{below_or_above, before_rises, before_step, before_all}
 
-pub same_start : (ends : List ℕ) (n : ℕ) → 0 < n → start ends n ≡ slice_index ends (n - 1)
+pub same_start : (ends : List ℕ) (n : ℕ) → 0 < n → piece_start ends n ≡ slice_index ends (n - 1)
 same_start ends zero some = absurd (omega arith)
 same_start ends (suc n) some = let e : n ≡ suc n - 1 = omega arith in ap (slice_index ends) e
 
@@ -25,7 +25,7 @@ module _ {T Z : Type 0} where
   lists_long vs = length-map vs (λ (v : Vec T Z). v.items)
 
   module _ (pieces : List (Vec T Z)) (ends : List ℕ) (h : HasEnds pieces ends) where
-    pub start_is : (k : ℕ) → k ≤ length ends → start ends k ≡ before (lists pieces) k
+    pub start_is : (k : ℕ) → k ≤ length ends → piece_start ends k ≡ before (lists pieces) k
     start_is zero le = refl
     start_is (suc k) le = let same = h.same_length in h.each k (omega arith)
 
@@ -37,7 +37,7 @@ module _ {T Z : Type 0} where
         let rises = before_rises (lists pieces) (suc i) (suc j) (omega arith) in
         omega arith
 
-    pub total : start ends (length ends) ≡ length (joined (lists pieces))
+    pub total : piece_start ends (length ends) ≡ length (joined (lists pieces))
     total =
         let same = h.same_length in
         let long = lists_long pieces in
@@ -47,7 +47,7 @@ module _ {T Z : Type 0} where
     last_above position less =
         ⊎_elim
         (λ some. let e = same_start ends (length ends) some in let t = total in omega arith)
-        (λ none. let e : length ends ≡ 0 = omega arith in let t = total in let z = ap (start ends) e in absurd (omega arith))
+        (λ none. let e : length ends ≡ 0 = omega arith in let t = total in let z = ap (piece_start ends) e in absurd (omega arith))
         (below_or_above 0 (length ends))
 
     pub record IsFound (position k i : ℕ) (v : Vec T Z) : Type 0 where

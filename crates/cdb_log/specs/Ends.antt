@@ -5,9 +5,9 @@ use Rattle.cdb_log.specs.declared.ends.TheConstants.{PIECE}
 use Rattle.cdb_log.specs.declared.log.TheConstants.{PIECES}
 
 -- where piece k starts
-abbrev pub start : List ℕ → ℕ → ℕ
-start ends zero = 0
-start ends (suc k) = slice_index ends k
+abbrev pub piece_start : List ℕ → ℕ → ℕ
+piece_start ends zero = 0
+piece_start ends (suc k) = slice_index ends k
 
 -- no piece ends before it starts
 abbrev pub AreEnds : List ℕ → Type 0
@@ -16,7 +16,7 @@ AreEnds ends = (i j : ℕ) → i ≤ j → j < length ends → slice_index ends 
 -- the last two pieces are empty
 abbrev pub AreLastTwoEmpty : List ℕ → Type 0
 AreLastTwoEmpty ends =
-    (k : ℕ) × (suc (suc k) ≡ length ends) × (slice_index ends (suc k) ≡ start ends k)
+    (k : ℕ) × (suc (suc k) ≡ length ends) × (slice_index ends (suc k) ≡ piece_start ends k)
 
 -- each piece from piece k on ends one item earlier
 abbrev pub AreLoweredFrom : ℕ → List ℕ → List ℕ → Type 0
@@ -26,13 +26,13 @@ AreLoweredFrom k old new =
 -- the item at that position stands in piece k
 pub record IsInPiece (ends : List ℕ) (position k : ℕ) : Type 0 where
   pub within : k < length ends
-  pub low : start ends k ≤ position
+  pub low : piece_start ends k ≤ position
   pub high : position < slice_index ends k
 
 -- the item at that position is item i of piece k
 pub record IsSpot (ends : List ℕ) (position k i : ℕ) : Type 0 where
   pub within : k < length ends
-  pub is_position : position ≡ start ends k + i
+  pub is_position : position ≡ piece_start ends k + i
   pub high : position < slice_index ends k
 
 -- each piece has memory for PIECE items

@@ -1,7 +1,7 @@
 //! Where the pieces of a list end.
 
 ghost use Rattle.std.specs.Prelude.{◌≡◌, ℕ, ◌-◌, ◌<◌, ◌≤◌, ◌↔◌, IsTrue, length, slice_index};
-ghost use Rattle.cdb_log.specs.Ends.{start, AreEnds, AreLastTwoEmpty, AreLoweredFrom, IsInPiece, IsSpot};
+ghost use Rattle.cdb_log.specs.Ends.{piece_start, AreEnds, AreLastTwoEmpty, AreLoweredFrom, IsInPiece, IsSpot};
 
 /// How many items a piece has at most.
 pub(crate) const PIECE: usize = 128;
@@ -9,7 +9,7 @@ pub(crate) const PIECE: usize = 128;
 /// Where piece `k` starts.
 pub(crate) fn start_of(ends: &[usize], k: usize) -> usize
     requires { k ≤ length ends.now }
-    ensures { result ≡ start ends.now k }
+    ensures { result ≡ piece_start ends.now k }
 {
     if k == 0 { 0 } else { ends[k - 1] }
 }

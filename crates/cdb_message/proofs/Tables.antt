@@ -12,7 +12,7 @@ use Rattle.std.specs.FinSet as set
 use Rattle.cdb_base.specs.Processes.{all_processes}
 use Rattle.cdb_base.specs.declared.name.MsgName.{MsgName}
 use Rattle.cdb_base.specs.declared.name.CopyName.{CopyName}
-use Rattle.cdb_message.specs.Flags.{flag_in, SetsFlag, Table, has_key, keys_in, is_process, is_name, names_of_number, count_numbers, all_names, name_table, is_copy, copies_of_name, all_copies, copy_table}
+use Rattle.cdb_message.specs.Flags.{flag_in, SetsFlag, KeyTable, has_key, keys_in, is_process, is_name, names_of_number, count_numbers, all_names, name_table, is_copy, copies_of_name, all_copies, copy_table}
 use Rattle.cdb_message.specs.Mail.{message_name, copy_name}
 use Rattle.cdb_message.specs.Names.{name_cmp, copy_cmp}
 use Rattle.cdb_message.proofs.Sets.{name_cmp_total, name_cmp-IsAntisymmetric, copy_cmp_total, copy_cmp-IsAntisymmetric}
@@ -76,7 +76,7 @@ and-false false = refl
 -- ---- tables
 
 -- in a table of all keys those that tie are one, each stands in the list, and no two have one cell
-pub record IsTable {K : Type 0} {R : K → K → Ordering} (table : Table R) : Type 0 where
+pub record IsTable {K : Type 0} {R : K → K → Ordering} (table : KeyTable R) : Type 0 where
   pub total : IsTotalOrder R
   pub antisymmetric : set.IsAntisymmetric R
   pub is_listed : (k : K) → table.is_key k ≡ true → list_any (eq_by_cmp R k) table.all ≡ true
@@ -85,7 +85,7 @@ pub record IsTable {K : Type 0} {R : K → K → Ordering} (table : Table R) : T
 cell_itself : (n : ℕ) → (n == n) ≡ true
 cell_itself n = grind (arith, nat_tests)
 
-module _ {K : Type 0} {R : K → K → Ordering} {table : Table R} (is_table : IsTable table) where
+module _ {K : Type 0} {R : K → K → Ordering} {table : KeyTable R} (is_table : IsTable table) where
   differ : (j k : K) → table.is_key j ≡ true → table.is_key k ≡ true → eq_by_cmp R j k ≡ false → (table.cell j == table.cell k) ≡ false
   differ j k is_j is_k ne = go (table.cell j == table.cell k) refl
     where

@@ -18,17 +18,17 @@ abbrev pub SetsFlag : List Bool → List Bool → ℕ → Bool → Type 0
 SetsFlag old new cell flag = (n : ℕ) → flag_in new n ≡ (if n == cell then flag else flag_in old n)
 
 -- a table of the keys in that order: which have a cell, where, and all of these in a list
-pub record Table {K : Type 0} (R : K → K → Ordering) : Type 0 where
+pub record KeyTable {K : Type 0} (R : K → K → Ordering) : Type 0 where
   pub is_key : K → Bool
   pub cell : K → ℕ
   pub all : List K
 
 -- whether the flag in the cell of the key is set
-abbrev pub has_key : {K : Type 0} → {R : K → K → Ordering} → Table R → List Bool → K → Bool
+abbrev pub has_key : {K : Type 0} → {R : K → K → Ordering} → KeyTable R → List Bool → K → Bool
 has_key table flags key = table.is_key key && flag_in flags (table.cell key)
 
 -- the keys whose flags are set
-abbrev pub keys_in : {K : Type 0} → {R : K → K → Ordering} → Table R → List Bool → set.FinSet R
+abbrev pub keys_in : {K : Type 0} → {R : K → K → Ordering} → KeyTable R → List Bool → set.FinSet R
 keys_in table flags = set.from_list (filter (has_key table flags) table.all)
 
 -- a process can have the number
@@ -55,7 +55,7 @@ count_numbers = 65536
 abbrev pub all_names : List MsgName
 all_names = flat_map names_of_number (range_with_len 0 count_numbers)
 
-abbrev pub name_table : Table name_cmp
+abbrev pub name_table : KeyTable name_cmp
 name_table = record { is_key = is_name; cell = name_cell; all = all_names }
 
 abbrev pub names_in : List Bool → NameSet
@@ -75,7 +75,7 @@ copies_of_name name = map (copy_name name) all_processes
 abbrev pub all_copies : List CopyName
 all_copies = flat_map copies_of_name all_names
 
-abbrev pub copy_table : Table copy_cmp
+abbrev pub copy_table : KeyTable copy_cmp
 copy_table = record { is_key = is_copy; cell = copy_cell; all = all_copies }
 
 abbrev pub copies_in : List Bool → CopySet

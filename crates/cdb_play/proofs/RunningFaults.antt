@@ -14,7 +14,7 @@ use Rattle.cdb_setup.specs.Parts.{Parts}
 use Rattle.cdb_setup.specs.declared.fault.SetupFault.{SetupFault}
 use Rattle.cdb_setup.specs.declared.fault.SetupFault.TheVariants as setup
 use Rattle.cdb_shared.specs.Gates.{Heard}
-use Rattle.cdb_play.specs.Races.{race_fault_of_setup, race_fault_of_threads, race_fault_of_output, AreScripts, IsFaultUngated, IsFaultOfCommands, IsFaultOfScripts, IsFaultOnSetup, IsFaultOfRace, IsNotStopped}
+use Rattle.cdb_play.specs.Races.{race_fault_of_setup, race_fault_of_threads, race_fault_of_output, AreScripts, IsFaultUngated, IsFaultOfCommands, IsFaultOfScripts, IsFaultOnSetup, IsFaultOfRace, StopsNoSeat}
 use Rattle.cdb_play.specs.declared.buffer.OutputFault.{OutputFault}
 use Rattle.cdb_play.specs.declared.buffer.OutputFault.TheVariants as output
 use Rattle.cdb_play.specs.declared.fault.RaceFault.{RaceFault}
@@ -84,7 +84,7 @@ module _ (IsFaultOfSessions : Parts → ℕ → List (List Command) → ThreadFa
   of_setup_read json scripts fault said = said (λ same. absurd cc)
 
   -- a fault by which no gate stopped a session is one of gates that always pass
-  pub ungated : (setup : Parts) (commands : List (List Command)) (scripts : List (List ℕ)) → AreScripts commands scripts → (fault : RaceFault) → IsFaultOfCommands IsFaultOfSessions setup turns commands fault → IsNotStopped fault → IsFaultOnSetup IsFaultUngated setup turns scripts fault
+  pub ungated : (setup : Parts) (commands : List (List Command)) (scripts : List (List ℕ)) → AreScripts commands scripts → (fault : RaceFault) → IsFaultOfCommands IsFaultOfSessions setup turns commands fault → StopsNoSeat fault → IsFaultOnSetup IsFaultUngated setup turns scripts fault
   ungated setup commands scripts read JournalFull is none = (commands, read, is.0, tt)
   ungated setup commands scripts read (Stopped seat) is none = absurd none
   ungated setup commands scripts read (Setup fault) is none = is
@@ -96,22 +96,22 @@ module _ (IsFaultOfSessions : Parts → ℕ → List (List Command) → ThreadFa
 
 -- ---- a gate stopped no session
 
-pub not_of_threads : (fault : ThreadFault) → of_race_threads.IsNotStopped fault → IsNotStopped (race_fault_of_threads fault)
+pub not_of_threads : (fault : ThreadFault) → of_race_threads.IsNotStopped fault → StopsNoSeat (race_fault_of_threads fault)
 not_of_threads threads.NoMemory is = tt
 not_of_threads threads.JournalFull is = tt
 not_of_threads (threads.Spawn refused) is = tt
 not_of_threads (threads.Stopped seat) is = is
 
-pub not_of_writing : (fault : OutputFault) → IsNotStopped (race_fault_of_output fault)
+pub not_of_writing : (fault : OutputFault) → StopsNoSeat (race_fault_of_output fault)
 not_of_writing output.Write = tt
 not_of_writing output.NoMemory = tt
 
-pub not_of_reading : (scripts : List (List ℕ)) (fault : RaceFault) → IsFaultOfScripts fault scripts → IsNotStopped fault
+pub not_of_reading : (scripts : List (List ℕ)) (fault : RaceFault) → IsFaultOfScripts fault scripts → StopsNoSeat fault
 not_of_reading scripts (Line position line fault) is = tt
 not_of_reading scripts (ScriptTooLong position) is = tt
 not_of_reading scripts NoMemory is = tt
 not_of_reading scripts fault is = absurd is
 
-pub not_of_setup : (fault : SetupFault) → IsNotStopped (race_fault_of_setup fault)
+pub not_of_setup : (fault : SetupFault) → StopsNoSeat (race_fault_of_setup fault)
 not_of_setup setup.NoMemory = tt
 not_of_setup fault = tt

@@ -14,14 +14,14 @@ abbrev pub script_line_text : ℕ → ℕ → LineFault → List ℕ
 script_line_text script line fault =
     codes "script " ++ decimal script ++ codes " line " ++ decimal line ++ codes " " ++ line_fault_text fault
 
-abbrev pub too_long_text : ℕ → List ℕ
-too_long_text script = codes "script " ++ decimal script ++ codes " too long"
+abbrev pub long_script_text : ℕ → List ℕ
+long_script_text script = codes "script " ++ decimal script ++ codes " too long"
 
 -- the name is that of what could not be read
 abbrev pub play_fault_text : PlayFault → List ℕ → List ℕ
 play_fault_text (play.Setup fault) name = setup_fault_text fault
 play_fault_text (play.Line script line fault) name = script_line_text script line fault
-play_fault_text (play.ScriptTooLong script) name = too_long_text script
+play_fault_text (play.ScriptTooLong script) name = long_script_text script
 play_fault_text play.Read name = codes "cannot read " ++ name
 play_fault_text play.Write name = codes "output failed"
 play_fault_text play.NoMemory name = codes "no memory"
@@ -29,7 +29,7 @@ play_fault_text play.NoMemory name = codes "no memory"
 abbrev pub race_fault_text : RaceFault → List ℕ
 race_fault_text (race.Setup fault) = setup_fault_text fault
 race_fault_text (race.Line script line fault) = script_line_text script line fault
-race_fault_text (race.ScriptTooLong script) = too_long_text script
+race_fault_text (race.ScriptTooLong script) = long_script_text script
 race_fault_text race.Write = codes "output failed"
 race_fault_text race.NoMemory = codes "no memory"
 race_fault_text race.JournalFull = codes "journal full"

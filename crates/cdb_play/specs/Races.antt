@@ -29,12 +29,12 @@ use Rattle.cdb_play.specs.declared.script.ScriptFault.TheVariants as script
 -- ---- the text
 
 -- the line with the number of a seat
-abbrev pub seat_line : ℕ → List ℕ
-seat_line seat = codes "seat " ++ decimal seat ++ codes "\n"
+abbrev pub seat_heading : ℕ → List ℕ
+seat_heading seat = codes "seat " ++ decimal seat ++ codes "\n"
 
 -- that line, and then the texts of the seat's replies
 abbrev pub seat_text : ℕ → List Answer → List ℕ
-seat_text seat answers = seat_line seat ++ flat_map text_of answers
+seat_text seat answers = seat_heading seat ++ flat_map text_of answers
 
 -- seats from this number on, each with its replies
 abbrev pub seats_text : ℕ → List (List Answer) → List ℕ
@@ -136,9 +136,9 @@ race_fault_of_output output.NoMemory = NoMemory
 -- ---- what they say
 
 -- no gate stopped a session
-abbrev pub IsNotStopped : RaceFault → Type 0
-IsNotStopped (Stopped seat) = ⊥
-IsNotStopped other = Unit {0}
+abbrev pub StopsNoSeat : RaceFault → Type 0
+StopsNoSeat (Stopped seat) = ⊥
+StopsNoSeat other = Unit {0}
 
 -- What a fault of the sessions says of the setup, the turns and the commands of a race whose gates always pass: none was stopped.
 abbrev pub IsFaultUngated : Parts → ℕ → List (List Command) → ThreadFault → Type 0

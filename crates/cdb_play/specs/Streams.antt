@@ -8,6 +8,10 @@ pub record Stream : Type 0 where
   pub bytes : Option (List ℕ)
   pub failures : ℕ
 
+-- a program sees its streams themselves; other readers and writers have a member for what is known of them
+abbrev pub itself : Stream → Stream
+itself stream = stream
+
 -- ---- readers
 
 -- the bytes were all that was left

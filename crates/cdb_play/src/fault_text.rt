@@ -2,7 +2,7 @@
 
 ghost use Rattle.std.specs.Prelude.{◌≡◌, ◌∷◌, [], Some};
 ghost use Rattle.cdb_setup.specs.Numbers.{numbered_text, setup_detail, setup_fault_text};
-ghost use Rattle.cdb_play.specs.FaultTexts.{as_line, play_fault_text, race_fault_text, script_line_text, too_long_text};
+ghost use Rattle.cdb_play.specs.FaultTexts.{as_line, play_fault_text, race_fault_text, script_line_text, long_script_text};
 ghost use Rattle.cdb_play.specs.Pieces.{pieces_text};
 ghost use Rattle.cdb_play.specs.Streams.{Writes};
 
@@ -102,7 +102,7 @@ fn write_line_fault<W: Sink>(
 }
 
 fn write_too_long<W: Sink>(script: usize, err: &mut W) -> Result<(), Failed>
-    ensures { Writes W.stream result err.old err.new (as_line (too_long_text script)) }
+    ensures { Writes W.stream result err.old err.new (as_line (long_script_text script)) }
 {
     write_each(
         err,

@@ -8,7 +8,7 @@ ghost use Rattle.cdb_rules.specs.Agreement.{HasMajorityIfNeeded};
 ghost use Rattle.cdb_setup.specs.Format.{Encodes};
 ghost use Rattle.cdb_setup.specs.Parts.{Parts};
 ghost use Rattle.cdb_play.specs.Races.{race_fault_of_script, bytes_of, AreScripts, IsTextOnSetup, IsTextOfRace};
-ghost use Rattle.cdb_play.specs.Races.{IsNotStopped, IsFaultUngated, IsFaultOnSetup, IsFaultOfRace, IsSetupWithMajority};
+ghost use Rattle.cdb_play.specs.Races.{StopsNoSeat, IsFaultUngated, IsFaultOnSetup, IsFaultOfRace, IsSetupWithMajority};
 ghost use Rattle.cdb_play.specs.Races.{IsTextOfCommands, IsFaultOfScripts, IsFaultOfCommands};
 ghost use Rattle.cdb_play.specs.Endings.{race_ending};
 ghost use Rattle.cdb_play.specs.Written.{AgreesAtEnd, IsWritten};
@@ -152,7 +152,7 @@ fn run_race<T: Runs + Send, G: Gate + Drop + Send, R: Threads + Wait + Sync, W: 
     ensures fault { IfErr result
         (IsFaultOfCommands (IsFaultBehind T T.rules G.heard G.passes gates.items)
         setup turns scripts.now) }
-    ensures passes { AllPass G.passes gates.items → IfErr result IsNotStopped }
+    ensures passes { AllPass G.passes gates.items → IfErr result StopsNoSeat }
 {
     let buffer = Buffer::new(alloc)?;
     let processes = usize::from(setup.n());
@@ -196,7 +196,7 @@ pub fn race_on_with<T: Runs + Send, G: Gate + Drop + Send, R: Threads + Wait + S
     ensures fault { IfErr result
         (IsFaultOnSetup (IsFaultBehind T T.rules G.heard G.passes gates.items)
         setup turns (bytes_of scripts.now)) }
-    ensures passes { AllPass G.passes gates.items → IfErr result IsNotStopped }
+    ensures passes { AllPass G.passes gates.items → IfErr result StopsNoSeat }
 {
     let commands = scripts_of(alloc, scripts)?;
     run_race::<T, G, R, W>(rt, alloc, setup, turns, commands.as_slice(), gates, out)
@@ -244,7 +244,7 @@ pub fn race_with<T: Runs + Send, G: Gate + Drop + Send, R: Threads + Wait + Sync
     ensures fault { IfErr result
         (IsFaultOfRace (IsFaultBehind T T.rules G.heard G.passes gates.items)
         setup.now turns (bytes_of scripts.now)) }
-    ensures passes { AllPass G.passes gates.items → IfErr result IsNotStopped }
+    ensures passes { AllPass G.passes gates.items → IfErr result StopsNoSeat }
 {
     let parts = Setup::read(alloc, setup)?;
     race_on_with::<T, G, R, W>(rt, alloc, parts, turns, scripts, gates, out)

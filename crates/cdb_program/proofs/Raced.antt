@@ -29,7 +29,7 @@ race_seen stream json turns parts scripts raced old new stands only few wrote ag
   wrote =
       stream_written stream (race_ending raced) old new (IsTextOfRace rules json turns scripts)
       (written_as stream (race_ending raced) old new (IsTextOnSetup rules parts turns scripts) (IsTextOfRace rules json turns scripts) (λ text is. (parts, stands, is)) wrote);
-  agree = λ other its majority. agree (subst HasMajorityIfNeeded (sym (only other its)) majority);
+  agree = λ of_majority. agree (subst HasMajorityIfNeeded (sym (only of_majority.0 of_majority.1)) of_majority.2);
   fault = IfErr-weaker raced _ _ (of_race IsFaultUngated turns json parts scripts stands) fault;
 }
 
@@ -39,7 +39,7 @@ pub race_unread : (json : List ℕ) (turns : ℕ) (scripts : List (List ℕ)) (f
 race_unread json turns scripts fault out said only = record {
   fits = λ ended other its. absurd (ended (ap (λ (f : SetupFault). Err (race_fault_of_setup f)) (only other its)));
   wrote = race_unwritten_setup (λ (s : Stream). s) (Unit {0}) (IsTextOfRace rules json turns scripts) out fault;
-  agree = λ other its majority. tt;
+  agree = λ of_majority. tt;
   fault = of_setup_read IsFaultUngated turns json scripts fault said;
 }
 

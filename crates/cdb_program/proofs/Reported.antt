@@ -2,12 +2,12 @@
 use Rattle.std.proofs.Common.{◌≡◌, ℕ, List, Bor, refl}
 use Rattle.cdb_play.specs.Streams.{Stream}
 use Rattle.cdb_program.specs.Known.{Seen}
-use Rattle.cdb_program.specs.Outcomes.{Outcome}
+use Rattle.cdb_program.specs.Outcomes.{RequestEnd}
 use Rattle.cdb_program.specs.Requests.{Does, IsNoHall, Performs, PerformsAlone}
 use Rattle.cdb_program.specs.declared.request.Request.{Request}
 use Rattle.cdb_program.specs.declared.request.Request.TheVariants.{Script, Play, Race, Explain, Draw, Debug, Hall, Print, Refuse}
 
-pub does_but_error : (request : Request) (old new : Seen) (error : Stream) (outcome : Outcome) → Does request old new outcome → Does request old (record new { error = error }) outcome
+pub does_but_error : (request : Request) (old new : Seen) (error : Stream) (outcome : RequestEnd) → Does request old new outcome → Does request old (record new { error = error }) outcome
 does_but_error Script old new error outcome does = does
 does_but_error (Play setup script) old new error outcome does = does
 does_but_error (Race setup turns scripts) old new error outcome does = does

@@ -4,7 +4,7 @@ use Rattle.std.specs.Prelude.{Result, Err}
 use Rattle.std.proofs.lemmas.List.{length-map, get_or-map}
 use Rattle.cdb_debug.specs.Moves.{Known}
 use Rattle.cdb_hall.specs.Halls.{IsAttended}
-use Rattle.cdb_hall.specs.Holding.{Holds}
+use Rattle.cdb_hall.specs.Holding.{HoldsSessions}
 use Rattle.cdb_hall.specs.Reports.{outcomes, failures_text, status_of}
 use Rattle.cdb_hall.specs.declared.station.Station.{Station}
 use Rattle.cdb_hall.specs.declared.station.Attended.{Attended}
@@ -13,13 +13,13 @@ use Rattle.cdb_setup.specs.Parts.{Parts}
 use Rattle.cdb_play.specs.declared.fault.PlayFault.{PlayFault}
 use Rattle.cdb_play.specs.declared.fault.PlayFault.TheVariants as play
 use Rattle.cdb_program.specs.Known.{FilesSeen, after_opening, after_failing}
-use Rattle.cdb_program.specs.Reading.{FailsToRead, texts}
+use Rattle.cdb_program.specs.Reading.{FailsToRead, file_names}
 use Rattle.cdb_program.specs.declared.fault.Fault.{Fault}
 use Rattle.cdb_program.specs.declared.fault.Fault.TheVariants.{Play, Race, NoStep, TooManySeats, Refused}
 use Rattle.cdb_play.specs.Faults.{of_reading}
 use Rattle.cdb_play.specs.declared.source.ReadFault.{ReadFault}
 use Rattle.cdb_play.specs.declared.source.ReadFault.TheVariants as reading
-use Rattle.cdb_program.specs.Seating.{AreSeatsOf, IsFaultOfSeats, IsSeatOf, OpensSeat}
+use Rattle.cdb_program.specs.Seating.{AreStationsOf, IsFaultOfSeats, IsStationOf, OpensSeat}
 use Rattle.cdb_play.specs.Endings.{whole_ending}
 use Rattle.cdb_play.specs.Streams.{Stream}
 use Rattle.cdb_play.specs.Written.{IsWritten, Only}
@@ -65,34 +65,34 @@ fails_later old mid new first second TooManySeats before fails = absurd fails
 fails_later old mid new first second (Refused reason) before fails = absurd fails
 
 -- the seat at this position of a list can't be opened
-pub seat_fails : (old mid new : FilesSeen) (names : List (Bor (List ℕ))) (i : ℕ) (d : Bor (List ℕ)) (fault : Fault) → i < length names → mid ≡ after_opening old (texts (take i names))
-    → FailsToRead mid new ((get_or names i d).now ∷ []) fault → FailsToRead old new (texts names) fault
+pub seat_fails : (old mid new : FilesSeen) (names : List (Bor (List ℕ))) (i : ℕ) (d : Bor (List ℕ)) (fault : Fault) → i < length names → mid ≡ after_opening old (file_names (take i names))
+    → FailsToRead mid new ((get_or names i d).now ∷ []) fault → FailsToRead old new (file_names names) fault
 seat_fails old mid new names i d fault below before fails =
     subst (λ (l : List (List ℕ)). FailsToRead old new l fault) (sym (taken_and_left names (i + 1)))
-    (fails_before old new (texts (take (i + 1) names)) (texts (drop (i + 1) names)) fault
-    (subst (λ (l : List (List ℕ)). FailsToRead old new l fault) (sym (one_more_name names i d below)) (fails_later old mid new (texts (take i names)) ((get_or names i d).now ∷ []) fault before fails)))
+    (fails_before old new (file_names (take (i + 1) names)) (file_names (drop (i + 1) names)) fault
+    (subst (λ (l : List (List ℕ)). FailsToRead old new l fault) (sym (one_more_name names i d below)) (fails_later old mid new (file_names (take i names)) ((get_or names i d).now ∷ []) fault before fails)))
 
 -- one seat more is opened
-pub seat_opened : (old mid new : FilesSeen) (names : List (Bor (List ℕ))) (i : ℕ) (d : Bor (List ℕ)) → i < length names → mid ≡ after_opening old (texts (take i names)) → new ≡ after_opening mid ((get_or names i d).now ∷ [])
-    → new ≡ after_opening old (texts (take (i + 1) names))
+pub seat_opened : (old mid new : FilesSeen) (names : List (Bor (List ℕ))) (i : ℕ) (d : Bor (List ℕ)) → i < length names → mid ≡ after_opening old (file_names (take i names)) → new ≡ after_opening mid ((get_or names i d).now ∷ [])
+    → new ≡ after_opening old (file_names (take (i + 1) names))
 seat_opened old mid new names i d below before after =
-    opened_then old mid new (texts (take i names)) ((get_or names i d).now ∷ []) before after ∙ ap (after_opening old) (sym (one_more_name names i d below))
+    opened_then old mid new (file_names (take i names)) ((get_or names i d).now ∷ []) before after ∙ ap (after_opening old) (sym (one_more_name names i d below))
 
 module _ {T : Type 0} (known : T → Known) where
   one_more_seat : (files : FilesSeen) (names : List (List ℕ)) (stations : List (Station T)) (name : List ℕ) (station : Station T)
-      → AreSeatsOf known files names stations → IsSeatOf known files name station → AreSeatsOf known files (names ++ name ∷ []) (stations ++ station ∷ [])
+      → AreStationsOf known files names stations → IsStationOf known files name station → AreStationsOf known files (names ++ name ∷ []) (stations ++ station ∷ [])
   one_more_seat files [] [] name station before its = (its, tt)
   one_more_seat files [] (p ∷ stations) name station before its = absurd before
   one_more_seat files (n ∷ names) [] name station before its = absurd before
   one_more_seat files (n ∷ names) (p ∷ stations) name station before its = (before.0, one_more_seat files names stations name station before.1 its)
 
   -- and its station is that of its name
-  pub seat_stationd : (old mid : FilesSeen) (names : List (Bor (List ℕ))) (i : ℕ) (d : Bor (List ℕ)) (stations : List (Station T)) (station : Station T) → i < length names → mid ≡ after_opening old (texts (take i names))
-      → AreSeatsOf known old (texts (take i names)) stations → IsSeatOf known mid (get_or names i d).now station → AreSeatsOf known old (texts (take (i + 1) names)) (stations ++ station ∷ [])
+  pub seat_stationd : (old mid : FilesSeen) (names : List (Bor (List ℕ))) (i : ℕ) (d : Bor (List ℕ)) (stations : List (Station T)) (station : Station T) → i < length names → mid ≡ after_opening old (file_names (take i names))
+      → AreStationsOf known old (file_names (take i names)) stations → IsStationOf known mid (get_or names i d).now station → AreStationsOf known old (file_names (take (i + 1) names)) (stations ++ station ∷ [])
   seat_stationd old mid names i d stations station below before seats its =
       let name = (get_or names i d).now in
-      subst (λ (l : List (List ℕ)). AreSeatsOf known old l (stations ++ station ∷ [])) (sym (one_more_name names i d below))
-      (one_more_seat old (texts (take i names)) stations name station seats (subst (λ (f : FilesSeen). IsSeatOf known f name station) before its))
+      subst (λ (l : List (List ℕ)). AreStationsOf known old l (stations ++ station ∷ [])) (sym (one_more_name names i d below))
+      (one_more_seat old (file_names (take i names)) stations name station seats (subst (λ (f : FilesSeen). IsStationOf known f name station) before its))
 
 -- ---- what is known of their sessions
 
@@ -104,7 +104,7 @@ module _ {T : Type 0} (known : T → Known) where
   abbrev pub known_station : Station T → Station Known
   known_station station = record { talk = known station.talk; prompt = station.prompt }
 
-  same_seats : (files : FilesSeen) (names : List (List ℕ)) (stations : List (Station T)) → AreSeatsOf known files names stations → AreSeatsOf (λ (k : Known). k) files names (map known_station stations)
+  same_seats : (files : FilesSeen) (names : List (List ℕ)) (stations : List (Station T)) → AreStationsOf known files names stations → AreStationsOf (λ (k : Known). k) files names (map known_station stations)
   same_seats files [] [] are = are
   same_seats files [] (station ∷ stations) are = absurd are
   same_seats files (name ∷ names) [] are = absurd are
@@ -112,8 +112,8 @@ module _ {T : Type 0} (known : T → Known) where
 
   -- the stations are those of the names, whatever was opened before, and by what is known of whom they talk with
   pub seats_known : (old mid : FilesSeen) (first names : List (List ℕ)) (stations : List (Station T)) → mid ≡ after_opening old first
-      → AreSeatsOf known mid names stations → AreSeatsOf (λ (k : Known). k) old names (map known_station stations)
-  seats_known old mid first names stations before are = same_seats old names stations (subst (λ (f : FilesSeen). AreSeatsOf known f names stations) before are)
+      → AreStationsOf known mid names stations → AreStationsOf (λ (k : Known). k) old names (map known_station stations)
+  seats_known old mid first names stations before are = same_seats old names stations (subst (λ (f : FilesSeen). AreStationsOf known f names stations) before are)
 
   abbrev known_attended : Attended T → Attended Known
   known_attended attended = record { talk = known attended.talk; outcome = attended.outcome }
@@ -124,8 +124,8 @@ module _ {T : Type 0} (known : T → Known) where
 
 -- sessions that were held, by what is known of whom they talked with and of the streams
 pub holds_seen : {T O E : Type 0} (rules : Parts → Rules) (known : T → Known) (output_stream : O → Stream) (error_stream : E → Stream) (json : List ℕ) (stations : List (Station T)) (output output_after : O) (error error_after : E) (status : ℕ)
-    → Holds rules known output_stream error_stream json stations output output_after error error_after status
-    → Holds rules (λ (k : Known). k) (λ (s : Stream). s) (λ (s : Stream). s) json (map (known_station known) stations) (output_stream output) (output_stream output_after) (error_stream error) (error_stream error_after) status
+    → HoldsSessions rules known output_stream error_stream json stations output output_after error error_after status
+    → HoldsSessions rules (λ (k : Known). k) (λ (s : Stream). s) (λ (s : Stream). s) json (map (known_station known) stations) (output_stream output) (output_stream output_after) (error_stream error) (error_stream error_after) status
 holds_seen rules known output_stream error_stream json stations output output_after error error_after status h =
     let same = same_outcomes known h.attended in
     record {

@@ -8,23 +8,23 @@ use Rattle.cdb_program.specs.declared.fault.Fault.{Fault}
 use Rattle.cdb_program.specs.declared.fault.Fault.TheVariants.{Play, Race, NoStep}
 
 -- how a request ended
-abbrev pub Outcome : Type 0
-Outcome = Result (Unit {0}) Fault
+abbrev pub RequestEnd : Type 0
+RequestEnd = Result (Unit {0}) Fault
 
 -- it ended as the play did, whose fault has the name of the script
-abbrev pub IsOfPlay : List ℕ → Result (Unit {0}) PlayFault → Outcome → Type 0
+abbrev pub IsOfPlay : List ℕ → Result (Unit {0}) PlayFault → RequestEnd → Type 0
 IsOfPlay name (Ok done) (Ok its_done) = Unit {0}
 IsOfPlay name (Err fault) (Err (Play its_fault its_name)) = (its_fault ≡ fault) × (its_name.now ≡ name)
 IsOfPlay name played outcome = ⊥
 
 -- it ended as the race did
-abbrev pub IsOfRace : Result (Unit {0}) RaceFault → Outcome → Type 0
+abbrev pub IsOfRace : Result (Unit {0}) RaceFault → RequestEnd → Type 0
 IsOfRace (Ok done) (Ok its_done) = Unit {0}
 IsOfRace (Err fault) (Err (Race its_fault)) = its_fault ≡ fault
 IsOfRace raced outcome = ⊥
 
 -- it ended as the explanation or the picture did, whose fault of a play has the name of the script
-abbrev pub IsOfExplain : List ℕ → Result (Unit {0}) ExplainFault → Outcome → Type 0
+abbrev pub IsOfExplain : List ℕ → Result (Unit {0}) ExplainFault → RequestEnd → Type 0
 IsOfExplain name (Ok done) (Ok its_done) = Unit {0}
 IsOfExplain name (Err explain.NoStep) (Err NoStep) = Unit {0}
 IsOfExplain name (Err (explain.Play fault)) (Err (Play its_fault its_name)) = (its_fault ≡ fault) × (its_name.now ≡ name)

@@ -2,16 +2,15 @@
 use Rattle.std.specs.Prelude.{◌≡◌, ◌≢◌, ◌⊎◌, ℕ, ◌+◌, ◌<◌, ◌≤◌, List, [], ◌∷◌, length, Result, Err, IfErr}
 use Rattle.cdb_base.specs.declared.limits.TheConstants.{MAX_SEATS}
 use Rattle.cdb_play.specs.Endings.{race_ending}
-use Rattle.cdb_play.specs.Races.{IsTextOfRace, IsFaultOfRace, IsFaultUngated}
-use Rattle.cdb_play.specs.Streams.{Stream}
+use Rattle.cdb_play.specs.Races.{IsTextOfRace, IsFaultOfRace, IsFaultUngated, IsSetupWithMajority}
+use Rattle.cdb_play.specs.Streams.{Stream, itself}
 use Rattle.cdb_play.specs.Written.{AgreesAtEnd, IsWritten}
 use Rattle.cdb_play.specs.declared.fault.RaceFault.{RaceFault}
 use Rattle.cdb_play.specs.declared.fault.RaceFault.TheVariants.{NoMemory}
-use Rattle.cdb_rules.specs.Agreement.{HasMajorityIfNeeded}
 use Rattle.cdb_setup.specs.Format.{Encodes}
 use Rattle.cdb_setup.specs.Parts.{Parts}
 use Rattle.cdb_program.specs.Known.{Seen}
-use Rattle.cdb_program.specs.Outcomes.{Outcome, IsOfRace}
+use Rattle.cdb_program.specs.Outcomes.{RequestEnd, IsOfRace}
 use Rattle.cdb_program.specs.Reading.{ReadsThen}
 use Rattle.cdb_program.specs.declared.fault.Fault.TheVariants.{TooManySeats}
 use Rattle.cdb_rules.specs.Algorithms.{rules}
@@ -23,22 +22,22 @@ NeedsTooManySeats json scripts = (setup : Parts) × Encodes json setup × (MAX_S
 -- A race of scripts on the setup of this text ended so. The output is seen before and after.
 pub record IsRace (json : List ℕ) (turns : ℕ) (scripts : List (List ℕ)) (raced : Result (Unit {0}) RaceFault) (old new : Stream) : Type 0 where
   pub fits : raced ≢ Err NoMemory → (setup : Parts) → Encodes json setup → setup.processes + length scripts ≤ MAX_SEATS
-  pub wrote : IsWritten (λ stream. stream) (race_ending raced) old new (IsTextOfRace rules json turns scripts)
-  pub agree : (setup : Parts) → Encodes json setup → HasMajorityIfNeeded setup → AgreesAtEnd (λ stream. stream) raced old new
+  pub wrote : IsWritten itself (race_ending raced) old new (IsTextOfRace rules json turns scripts)
+  pub agree : IsSetupWithMajority json → AgreesAtEnd itself raced old new
   pub fault : IfErr raced (IsFaultOfRace IsFaultUngated json turns scripts)
 
 -- a race of the scripts on the setup, or too many seats for it, and then nothing is written
-abbrev pub RacesOn : List ℕ → ℕ → List (List ℕ) → Stream → Stream → Outcome → Type 0
+abbrev pub RacesOn : List ℕ → ℕ → List (List ℕ) → Stream → Stream → RequestEnd → Type 0
 RacesOn json turns scripts old new outcome =
     ((raced : Result (Unit {0}) RaceFault) × IsOfRace raced outcome × IsRace json turns scripts raced old new)
     ⊎ ((outcome ≡ Err TooManySeats) × NeedsTooManySeats json (length scripts) × (new ≡ old))
 
 -- the bytes of a setup and of scripts, and the scripts race on the setup
-abbrev pub RacesBytes : ℕ → Stream → Stream → Outcome → List (List ℕ) → Type 0
+abbrev pub RacesBytes : ℕ → Stream → Stream → RequestEnd → List (List ℕ) → Type 0
 RacesBytes turns old new outcome (json ∷ scripts) = RacesOn json turns scripts old new outcome
 RacesBytes turns old new outcome [] = ⊥
 
 -- the file of the setup and then those of the scripts are read, in order, and the scripts race on the setup
-abbrev pub RacesFiles : List ℕ → ℕ → List (List ℕ) → Seen → Seen → Outcome → Type 0
+abbrev pub RacesFiles : List ℕ → ℕ → List (List ℕ) → Seen → Seen → RequestEnd → Type 0
 RacesFiles setup turns scripts old new outcome =
     ReadsThen (setup ∷ scripts) old new outcome (RacesBytes turns old.output new.output outcome)

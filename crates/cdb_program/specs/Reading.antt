@@ -8,13 +8,13 @@ use Rattle.cdb_play.specs.declared.fault.PlayFault.TheVariants.{Read, NoMemory}
 use Rattle.cdb_play.specs.declared.source.ReadFault.{ReadFault}
 use Rattle.cdb_play.specs.declared.source.ReadFault.TheVariants as reading
 use Rattle.cdb_program.specs.Known.{FilesSeen, Seen, content_of, after_opening, after_failing}
-use Rattle.cdb_program.specs.Outcomes.{Outcome}
+use Rattle.cdb_program.specs.Outcomes.{RequestEnd}
 use Rattle.cdb_program.specs.declared.fault.Fault.{Fault}
 use Rattle.cdb_program.specs.declared.fault.Fault.TheVariants.{Play}
 
--- the bytes of texts
-abbrev pub texts : List (Bor (List ℕ)) → List (List ℕ)
-texts names = map (λ name. name.now) names
+-- the names of files
+abbrev pub file_names : List (Bor (List ℕ)) → List (List ℕ)
+file_names names = map (λ name. name.now) names
 
 -- how many bytes of a file are read: one more than a setup or a script may have
 abbrev pub most_read : ℕ
@@ -60,13 +60,13 @@ Reads given old new names (Ok read) = HasRead old new names (given read)
 Reads given old new names (Err fault) = FailsToRead old new names fault
 
 -- files of these names could not all be read, and so nothing was written
-abbrev pub StopsAtFiles : List (List ℕ) → Seen → Seen → Outcome → Type 0
+abbrev pub StopsAtFiles : List (List ℕ) → Seen → Seen → RequestEnd → Type 0
 StopsAtFiles names old new (Ok done) = ⊥
 StopsAtFiles names old new (Err fault) = FailsToRead old.files new.files names fault × (new.output ≡ old.output)
 
 -- Files of these names are read, in order, and then this is done with their bytes. Where one can't be read it is not done.
 -- Standard input is left as it is.
-abbrev pub ReadsThen : List (List ℕ) → Seen → Seen → Outcome → (List (List ℕ) → Type 0) → Type 0
+abbrev pub ReadsThen : List (List ℕ) → Seen → Seen → RequestEnd → (List (List ℕ) → Type 0) → Type 0
 ReadsThen names old new outcome IsDone =
     (new.input ≡ old.input)
     × (StopsAtFiles names old new outcome

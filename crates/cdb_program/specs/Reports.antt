@@ -2,7 +2,7 @@
 use Rattle.std.specs.Prelude.{◌≡◌, ℕ, List, codes, Result, Ok, Err}
 use Rattle.cdb_play.specs.FaultTexts.{as_line, play_fault_text, race_fault_text}
 use Rattle.cdb_play.specs.Statuses.{play_status, race_status}
-use Rattle.cdb_play.specs.Streams.{Stream, Writes}
+use Rattle.cdb_play.specs.Streams.{Stream, Writes, itself}
 use Rattle.cdb_play.specs.declared.sink.Failed.{Failed}
 use Rattle.cdb_program.specs.declared.fault.Fault.{Fault}
 use Rattle.cdb_program.specs.declared.fault.Fault.TheVariants.{Play, Race, NoStep, TooManySeats, Refused}
@@ -27,4 +27,4 @@ fault_status (Refused reason) = 2
 abbrev pub IsReported : Result (Unit {0}) Fault → Stream → Stream → ℕ → Type 0
 IsReported (Ok done) old new status = (new ≡ old) × (status ≡ 0)
 IsReported (Err fault) old new status =
-    ((told : Result (Unit {0}) Failed) × Writes (λ stream. stream) told old new (fault_text fault)) × (status ≡ fault_status fault)
+    ((told : Result (Unit {0}) Failed) × Writes itself told old new (fault_text fault)) × (status ≡ fault_status fault)

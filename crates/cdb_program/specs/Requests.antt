@@ -1,15 +1,15 @@
 -- What the program does with a request.
 use Rattle.std.specs.Prelude.{◌≡◌, ℕ, ◌≤◌, List, length, Ok, Err}
-use Rattle.cdb_play.specs.Streams.{Stream, Takes, Fails}
+use Rattle.cdb_play.specs.Streams.{Stream, Takes, Fails, itself}
 use Rattle.cdb_play.specs.declared.fault.PlayFault.TheVariants.{Write}
 use Rattle.cdb_program.specs.Debugging.{DebugsFile}
 use Rattle.cdb_program.specs.Drawing.{DrawsFiles}
 use Rattle.cdb_program.specs.Explaining.{ExplainsFiles}
 use Rattle.cdb_program.specs.Known.{Seen}
-use Rattle.cdb_program.specs.Outcomes.{Outcome}
+use Rattle.cdb_program.specs.Outcomes.{RequestEnd}
 use Rattle.cdb_program.specs.Playing.{PlaysInput, PlaysFiles}
 use Rattle.cdb_program.specs.Racing.{RacesFiles}
-use Rattle.cdb_program.specs.Reading.{texts}
+use Rattle.cdb_program.specs.Reading.{file_names}
 use Rattle.cdb_program.specs.Reports.{IsReported}
 use Rattle.cdb_program.specs.Seating.{PerformsHall}
 use Rattle.cdb_program.specs.declared.fault.Fault.TheVariants.{Play}
@@ -22,9 +22,9 @@ abbrev pub ReadsNothing : Seen → Seen → Type 0
 ReadsNothing old new = (new.files ≡ old.files) × (new.input ≡ old.input)
 
 -- the text is written, or the outcome is that output failed
-abbrev pub Prints : List ℕ → Stream → Stream → Outcome → Type 0
-Prints text old new (Ok done) = Takes (λ stream. stream) old new text
-Prints text old new (Err (Play Write name)) = Fails (λ stream. stream) old new text
+abbrev pub Prints : List ℕ → Stream → Stream → RequestEnd → Type 0
+Prints text old new (Ok done) = Takes itself old new text
+Prints text old new (Err (Play Write name)) = Fails itself old new text
 Prints text old new (Err other) = ⊥
 
 -- a race has turns that its threads can count, and sessions of seats have one seat at least
@@ -39,10 +39,10 @@ IsNoHall (request.Hall setup seats) = ⊥
 IsNoHall other = Unit {0}
 
 -- what is done with a request that has no seats, but for what is reported of a fault
-abbrev pub Does : Request → Seen → Seen → Outcome → Type 0
+abbrev pub Does : Request → Seen → Seen → RequestEnd → Type 0
 Does request.Script old new outcome = PlaysInput old new outcome
 Does (request.Play setup script) old new outcome = PlaysFiles setup.now script.now old new outcome
-Does (request.Race setup turns scripts) old new outcome = RacesFiles setup.now turns (texts scripts.now) old new outcome
+Does (request.Race setup turns scripts) old new outcome = RacesFiles setup.now turns (file_names scripts.now) old new outcome
 Does (request.Explain setup script p k) old new outcome = ExplainsFiles setup.now script.now p k old new outcome
 Does (request.Draw setup script step) old new outcome = DrawsFiles setup.now script.now step old new outcome
 Does (request.Debug setup prompt) old new outcome = DebugsFile setup.now prompt.now old new outcome
@@ -53,9 +53,9 @@ Does (request.Refuse fault) old new outcome = ReadsNothing old new × (new.outpu
 -- a request without seats was carried out, and how it ended was reported
 abbrev pub PerformsAlone : Request → Seen → Seen → ℕ → Type 0
 PerformsAlone request old new status =
-    (outcome : Outcome) × Does request old new outcome × IsReported outcome old.error new.error status
+    (outcome : RequestEnd) × Does request old new outcome × IsReported outcome old.error new.error status
 
 -- the request was carried out, and how it ended was reported
 abbrev pub Performs : Request → Seen → Seen → ℕ → Type 0
-Performs (request.Hall setup seats) old new status = PerformsHall setup.now (texts seats.now) old new status
+Performs (request.Hall setup seats) old new status = PerformsHall setup.now (file_names seats.now) old new status
 Performs request old new status = PerformsAlone request old new status

@@ -3,8 +3,9 @@ use Rattle.std.specs.Prelude.{◌≡◌, ◌⊎◌, ℕ, ◌<◌, List, [], ◌�
 use Rattle.std.specs.List.{AllZip}
 use Rattle.cdb_base.specs.declared.limits.TheConstants.{MAX_SEATS}
 use Rattle.cdb_debug.specs.Moves.{Known}
-use Rattle.cdb_hall.specs.Holding.{Holds, IsFaultOfHall}
+use Rattle.cdb_hall.specs.Holding.{HoldsSessions, IsFaultOfHall}
 use Rattle.cdb_hall.specs.declared.station.Station.{Station}
+use Rattle.cdb_play.specs.Streams.{itself}
 use Rattle.cdb_play.specs.declared.source.ReadFault.{ReadFault}
 use Rattle.cdb_play.specs.declared.source.ReadFault.TheVariants as reading
 use Rattle.cdb_rules.specs.Algorithms.{rules}
@@ -15,16 +16,16 @@ use Rattle.cdb_program.specs.declared.fault.Fault.{Fault}
 use Rattle.cdb_program.specs.declared.fault.Fault.TheVariants.{Race, TooManySeats}
 
 -- the station is that of the seat of this name: its session talks with whom the seat's does, where that is known
-abbrev pub IsSeatOf : {T : Type 0} → (T → Known) → FilesSeen → List ℕ → Station T → Type 0
-IsSeatOf known files name station = IfSome (seat_of files name) (λ its. known station.talk ≡ its)
+abbrev pub IsStationOf : {T : Type 0} → (T → Known) → FilesSeen → List ℕ → Station T → Type 0
+IsStationOf known files name station = IfSome (seat_of files name) (λ its. known station.talk ≡ its)
 
 -- the k-th station is that of the k-th name, and there are as many
-abbrev pub AreSeatsOf : {T : Type 0} → (T → Known) → FilesSeen → List (List ℕ) → List (Station T) → Type 0
-AreSeatsOf known files names stations = AllZip (IsSeatOf known files) names stations
+abbrev pub AreStationsOf : {T : Type 0} → (T → Known) → FilesSeen → List (List ℕ) → List (Station T) → Type 0
+AreStationsOf known files names stations = AllZip (IsStationOf known files) names stations
 
 -- One seat is opened, by how that ended. Where an allocation failed it counts as not opened.
 abbrev pub OpensSeat : {T : Type 0} → (T → Known) → FilesSeen → FilesSeen → List ℕ → Result (Station T) ReadFault → Type 0
-OpensSeat known old new name (Ok station) = (new ≡ after_opening old (name ∷ [])) × IsSeatOf known old name station
+OpensSeat known old new name (Ok station) = (new ≡ after_opening old (name ∷ [])) × IsStationOf known old name station
 OpensSeat known old new name (Err reading.Failed) = new ≡ after_failing old (name ∷ [])
 OpensSeat known old new name (Err reading.NoMemory) = new ≡ old
 
@@ -49,8 +50,8 @@ RefusesSeats setup seats old new status =
 abbrev pub HoldsSeats : List ℕ → List (List ℕ) → Seen → Seen → ℕ → Type 0
 HoldsSeats setup seats old new status =
     (json : List ℕ) × HasSeated old.files new.files setup seats json
-    × ((stations : List (Station Known)) × AreSeatsOf (λ known. known) old.files seats stations
-    × Holds rules (λ known. known) (λ stream. stream) (λ stream. stream) json stations old.output new.output old.error new.error status)
+    × ((stations : List (Station Known)) × AreStationsOf (λ known. known) old.files seats stations
+    × HoldsSessions rules (λ known. known) itself itself json stations old.output new.output old.error new.error status)
 
 -- sessions of these seats were held, or not; standard input is left as it is
 abbrev pub PerformsHall : List ℕ → List (List ℕ) → Seen → Seen → ℕ → Type 0

@@ -2,7 +2,7 @@
 
 ghost use Rattle.std.specs.Prelude.{[], ◌∷◌};
 ghost use Rattle.cdb_program.specs.Known.{FilesSeen};
-ghost use Rattle.cdb_program.specs.Reading.{both, many, single, texts, Reads, ReadsFile};
+ghost use Rattle.cdb_program.specs.Reading.{both, many, single, file_names, Reads, ReadsFile};
 ghost use Rattle.cdb_program.specs.Seating.{OpensSeat};
 
 use crate::fault::Fault;
@@ -85,7 +85,7 @@ pub fn read_each<'a, F: Files>(
     files: &mut F,
     names: &[&'a str],
 ) -> Result<Vec<Vec<u8>>, Fault<'a>>
-    ensures { Reads many (F.seen files.old) (F.seen files.new) (texts names.now) result }
+    ensures { Reads many (F.seen files.old) (F.seen files.new) (file_names names.now) result }
 {
     let mut contents = Vec::new(alloc);
     for name in names {

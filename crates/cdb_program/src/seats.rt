@@ -2,8 +2,8 @@
 
 ghost use Rattle.std.specs.Prelude.{◌≡◌, ◌≤◌, ◌∷◌, [], length, vec_len, IfOk, IfErr};
 ghost use Rattle.cdb_program.specs.Known.{after_opening};
-ghost use Rattle.cdb_program.specs.Reading.{texts, FailsToRead};
-ghost use Rattle.cdb_program.specs.Seating.{AreSeatsOf, HoldsSeats, IsFaultOfSeats, IsSeatOf, PerformsHall};
+ghost use Rattle.cdb_program.specs.Reading.{file_names, FailsToRead};
+ghost use Rattle.cdb_program.specs.Seating.{AreStationsOf, HoldsSeats, IsFaultOfSeats, IsStationOf, PerformsHall};
 
 use crate::fault::Fault;
 use crate::files::{Files, read_file};
@@ -28,7 +28,7 @@ fn open_one<'a, F: Files>(
 ) -> Result<Station<F::Seat>, Fault<'a>>
     ensures opened { IfOk result
         (λ _. F.seen files.new ≡ after_opening (F.seen files.old) (name.entry.now ∷ [])) }
-    ensures seat { IfOk result (IsSeatOf F.Seat.known (F.seen files.old) name.entry.now) }
+    ensures seat { IfOk result (IsStationOf F.Seat.known (F.seen files.old) name.entry.now) }
     ensures fault { IfErr result
         (FailsToRead (F.seen files.old) (F.seen files.new) (name.entry.now ∷ [])) }
 {
@@ -49,12 +49,13 @@ fn open_each<'a, F: Files>(
     names: &[&'a str],
 ) -> Result<Vec<Station<F::Seat>>, Fault<'a>>
     ensures opened { IfOk result
-        (λ _. F.seen files.new ≡ after_opening (F.seen files.old) (texts names.now)) }
+        (λ _. F.seen files.new ≡ after_opening (F.seen files.old) (file_names names.now)) }
     ensures seats { IfOk result
-        (λ stations. AreSeatsOf F.Seat.known (F.seen files.old) (texts names.now) stations.items) }
+        (λ stations. AreStationsOf F.Seat.known (F.seen files.old) (file_names names.now)
+            stations.items) }
     ensures count { IfOk result (λ stations. vec_len stations ≡ length names.now) }
     ensures fault { IfErr result
-        (FailsToRead (F.seen files.old) (F.seen files.new) (texts names.now)) }
+        (FailsToRead (F.seen files.old) (F.seen files.new) (file_names names.now)) }
 {
     let mut stations = Vec::new(alloc);
     for name in names {
@@ -83,8 +84,8 @@ fn hold_seats<
 ) -> Result<u8, Fault<'a>>
     requires { 1 ≤ length seats.now }
     ensures held { IfOk result
-        (HoldsSeats setup.entry.now (texts seats.now) outside.old outside.new) }
-    ensures fault { IfErr result (IsFaultOfSeats setup.entry.now (texts seats.now)
+        (HoldsSeats setup.entry.now (file_names seats.now) outside.old outside.new) }
+    ensures fault { IfErr result (IsFaultOfSeats setup.entry.now (file_names seats.now)
         outside.old.files outside.new.files) }
     ensures output { IfErr result (λ _. outside.new.output ≡ outside.old.output) }
     ensures error { IfErr result (λ _. outside.new.error ≡ outside.old.error) }
@@ -112,7 +113,7 @@ pub fn perform_hall<
     E: Sink + Drop,
 >(threads: &R, alloc: Global, setup: &str, seats: &[&str], outside: &mut Outside<F, I, O, E>) -> u8
     requires { 1 ≤ length seats.now }
-    ensures { PerformsHall setup.now (texts seats.now) outside.old outside.new result }
+    ensures { PerformsHall setup.now (file_names seats.now) outside.old outside.new result }
 {
     match hold_seats(threads, alloc, setup, seats, outside) {
         Ok(status) => status,

@@ -1,7 +1,7 @@
 -- From what a thread promised to what it has done.
 use Rattle.std.proofs.Common.{◌≡◌, Bool, List, Option, ap, ◌∙◌, subst}
 use Rattle.std.specs.declared.thread.PromisedHandle.{PromisedHandle}
-use Rattle.cdb_race.specs.Promises.{IsPromise, HasRan, HasEnded}
+use Rattle.cdb_race.specs.Promises.{IsPromise, HasRan, HasEndedAtGate}
 use Rattle.cdb_race.specs.declared.plan.Plan.{Plan}
 use Rattle.cdb_race.specs.declared.worker.Ran.{Ran}
 use Rattle.cdb_race.specs.declared.worker.SeatPromise.{SeatPromise}
@@ -24,5 +24,5 @@ module _ {T G : Type 0} (rules : Parts → Rules) (plan : Plan) (seat : SeatView
   pub kept_ran : (ran : Ran T) → HasRan rules handle.promise.plan handle.promise.seat.value ran → HasRan rules plan seat ran
   kept_ran ran kept = subst (λ (x : Plan × SeatView). HasRan rules x.0 x.1 ran) (λ i. (plan_is i, seat_is i)) kept
 
-  pub kept_ended : (heard : G → Option (List Heard)) (passes : G → Bool) (after : SeatView) (end : End) → HasEnded heard passes handle.promise.gate.value handle.promise.seat.value after end → HasEnded heard passes gate seat after end
-  kept_ended heard passes after end kept = subst (λ (x : G × SeatView). HasEnded heard passes x.0 x.1 after end) (λ i. (gate_is i, seat_is i)) kept
+  pub kept_ended : (heard : G → Option (List Heard)) (passes : G → Bool) (after : SeatView) (end : End) → HasEndedAtGate heard passes handle.promise.gate.value handle.promise.seat.value after end → HasEndedAtGate heard passes gate seat after end
+  kept_ended heard passes after end kept = subst (λ (x : G × SeatView). HasEndedAtGate heard passes x.0 x.1 after end) (λ i. (gate_is i, seat_is i)) kept

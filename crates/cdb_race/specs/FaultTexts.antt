@@ -7,8 +7,8 @@ use Rattle.cdb_race.specs.declared.threads.RaceFault.TheVariants as fault
 abbrev pub refused_start_text : List ℕ
 refused_start_text = codes "no thread"
 
-abbrev pub fault_text : RaceFault → List ℕ
-fault_text fault.NoMemory = codes "no memory"
-fault_text fault.JournalFull = codes "journal full"
-fault_text (fault.Spawn refused) = refused_start_text
-fault_text (fault.Stopped seat) = codes "no thread"
+abbrev pub thread_fault_text : RaceFault → List ℕ
+thread_fault_text fault.NoMemory = codes "no memory"
+thread_fault_text fault.JournalFull = codes "journal full"
+thread_fault_text (fault.Spawn refused) = refused_start_text
+thread_fault_text (fault.Stopped seat) = codes "no thread"

@@ -33,7 +33,7 @@ abbrev pub HasRan : {T : Type 0} → (Parts → Rules) → Plan → SeatView →
 HasRan rules plan before ran = HasRun rules plan before ran.seat (map told ran.replies.items) ran.end
 
 -- how a session ended, by its gate: the gate has heard of it, and one that lets all calls go on has stopped none
-pub record HasEnded {G : Type 0} (heard : G → Option (List Heard)) (passes : G → Bool) (gate : G) (before after : SeatView) (end : End) : Type 0 where
+pub record HasEndedAtGate {G : Type 0} (heard : G → Option (List Heard)) (passes : G → Bool) (gate : G) (before after : SeatView) (end : End) : Type 0 where
   pub last : G
   pub hears : Hears (heard gate) (heard last) before after end
   pub passed : passes gate ≡ true → end ≢ Stopped

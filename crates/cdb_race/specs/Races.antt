@@ -8,7 +8,7 @@ pub use Rattle.cdb_control.specs.Journal.{answers_to}
 use Rattle.cdb_control.specs.declared.command.Command.{Command}
 use Rattle.cdb_control.specs.declared.command.Command.TheVariants.{Auto}
 use Rattle.cdb_control.specs.declared.reply.Reply.{Reply}
-use Rattle.cdb_race.specs.Promises.{HasRan, HasEnded}
+use Rattle.cdb_race.specs.Promises.{HasRan, HasEndedAtGate}
 use Rattle.cdb_race.specs.Runs.{HasFinished, IsDrivenOut}
 use Rattle.cdb_race.specs.declared.plan.Plan.{Plan}
 use Rattle.cdb_race.specs.declared.threads.Raced.{Raced}
@@ -33,7 +33,7 @@ abbrev pub AllEnded : {T G : Type 0} → (G → Option (List Heard)) → (G → 
 AllEnded {T} {G} heard passes gates seats rans =
     (k : ℕ) (ran : Ran T) (gate : G) → k < length rans → (before : SeatView)
     → let of_k = slice_index_or rans k ran in
-    HasEnded heard passes (slice_index_or gates (length gates - 1 - k) gate) (slice_index_or seats (length seats - 1 - k) before) of_k.seat of_k.end
+    HasEndedAtGate heard passes (slice_index_or gates (length gates - 1 - k) gate) (slice_index_or seats (length seats - 1 - k) before) of_k.seat of_k.end
 
 -- each of these gates lets every call go on
 abbrev pub AllPass : {G : Type 0} → (G → Bool) → List G → Type 0

@@ -3,7 +3,7 @@ ghost use Rattle.std.specs.Prelude.{◌≡◌, ◌+◌, ◌<◌, ◌≤◌, leng
 ghost use Rattle.cdb_base.specs.declared.limits.TheConstants.{MAX_SEATS};
 ghost use Rattle.cdb_race.specs.Faults.{fault_in, AreWell, HaveFinished, IsAmongSeats, IsFaultOfThreads, IsNotStopped, IsOfLeastSeat, IsTold};
 ghost use Rattle.cdb_race.specs.Plans.{IsReady};
-ghost use Rattle.cdb_race.specs.Promises.{ArePromises, IsPromise, HasRan, HasEnded};
+ghost use Rattle.cdb_race.specs.Promises.{ArePromises, IsPromise, HasRan, HasEndedAtGate};
 ghost use Rattle.cdb_race.specs.Races.{AllRan, AllEnded, AllPass, AreSeatsOf, FillsJournal, HasRaced, MayFill};
 ghost use Rattle.cdb_shared.specs.Seats.{HasHeadline};
 
@@ -34,9 +34,9 @@ pub enum RaceFault {
 
 impl fmt::Display for RaceFault {
     ghost use Rattle.std.specs.Prelude.{Some};
-    ghost use Rattle.cdb_race.specs.FaultTexts.{fault_text};
+    ghost use Rattle.cdb_race.specs.FaultTexts.{thread_fault_text};
 
-    ghost output = { λ fault. Some (fault_text fault) };
+    ghost output = { λ fault. Some (thread_fault_text fault) };
 
     fn fmt<W: fmt::Write>(&self, f: &mut fmt::Formatter<W>) -> fmt::Result {
         f.write_str(match self {
@@ -74,7 +74,7 @@ fn start_one<'s, E, T: Runs + Send + 's, G: Gate + Drop + Send + 's, R: Threads 
         move || -> Ran<T>
             requires { IsReady shared.now plan seat }
             ensures ran { HasRan T.rules plan.entry seat result }
-            ensures ended { HasEnded G.heard G.passes gate seat result.seat result.end }
+            ensures ended { HasEndedAtGate G.heard G.passes gate seat result.seat result.end }
         { run(shared, rt, alloc, plan, seat, gate) },
     );
     started.map_err(RaceFault::Spawn)

@@ -47,34 +47,34 @@ module _ {B : Type 0} where
   pub history_seen : (events : List Event) (lefts : List (Left B)) {entries : List (Recorded B)} → length lefts ≡ length events → records_of events lefts ≡ entries → events ≡ events_of entries
   history_seen events lefts same is = sym (events_entries events lefts same) ∙ ap events_of is
 
-  pub length_entries : (events : List Event) (lefts : List (Left B)) → length lefts ≡ length events → length (records_of events lefts) ≡ length events
-  length_entries [] lefts same = refl
-  length_entries (event ∷ events) [] same = absurd (omega (arith, same))
-  length_entries (event ∷ events) (left ∷ lefts) same = let rest = length_entries events lefts (omega (arith, same)) in omega (arith, rest)
+  pub length_recorded : (events : List Event) (lefts : List (Left B)) → length lefts ≡ length events → length (records_of events lefts) ≡ length events
+  length_recorded [] lefts same = refl
+  length_recorded (event ∷ events) [] same = absurd (omega (arith, same))
+  length_recorded (event ∷ events) (left ∷ lefts) same = let rest = length_recorded events lefts (omega (arith, same)) in omega (arith, rest)
 
-  pub entries_push : (events : List Event) (lefts : List (Left B)) (event : Event) (left : Left B) → length lefts ≡ length events → records_of (events ++ event ∷ []) (lefts ++ left ∷ []) ≡ records_of events lefts ++ recorded_of event left ∷ []
-  entries_push [] [] event left same = refl
-  entries_push [] (y ∷ lefts) event left same = absurd (omega (arith, same))
-  entries_push (x ∷ events) [] event left same = absurd (omega (arith, same))
-  entries_push (x ∷ events) (y ∷ lefts) event left same = ap (λ l. recorded_of x y ∷ l) (entries_push events lefts event left (omega (arith, same)))
+  pub recorded_push : (events : List Event) (lefts : List (Left B)) (event : Event) (left : Left B) → length lefts ≡ length events → records_of (events ++ event ∷ []) (lefts ++ left ∷ []) ≡ records_of events lefts ++ recorded_of event left ∷ []
+  recorded_push [] [] event left same = refl
+  recorded_push [] (y ∷ lefts) event left same = absurd (omega (arith, same))
+  recorded_push (x ∷ events) [] event left same = absurd (omega (arith, same))
+  recorded_push (x ∷ events) (y ∷ lefts) event left same = ap (λ l. recorded_of x y ∷ l) (recorded_push events lefts event left (omega (arith, same)))
 
-  pub entries_without : (events : List Event) (lefts : List (Left B)) (i : ℕ) → length lefts ≡ length events → records_of (without events i) (without lefts i) ≡ without (records_of events lefts) i
-  entries_without [] lefts i same = refl
-  entries_without (x ∷ events) [] i same = absurd (omega (arith, same))
-  entries_without (x ∷ events) (y ∷ lefts) zero same = refl
-  entries_without (x ∷ events) (y ∷ lefts) (suc i) same = ap (λ l. recorded_of x y ∷ l) (entries_without events lefts i (omega (arith, same)))
+  pub recorded_without : (events : List Event) (lefts : List (Left B)) (i : ℕ) → length lefts ≡ length events → records_of (without events i) (without lefts i) ≡ without (records_of events lefts) i
+  recorded_without [] lefts i same = refl
+  recorded_without (x ∷ events) [] i same = absurd (omega (arith, same))
+  recorded_without (x ∷ events) (y ∷ lefts) zero same = refl
+  recorded_without (x ∷ events) (y ∷ lefts) (suc i) same = ap (λ l. recorded_of x y ∷ l) (recorded_without events lefts i (omega (arith, same)))
 
-  entry_at : (events : List Event) (lefts : List (Left B)) (i : ℕ) (event : Event) (left : Left B) → slice_get events i ≡ Some event → slice_get lefts i ≡ Some left → slice_get (records_of events lefts) i ≡ Some (recorded_of event left)
-  entry_at [] lefts i event left at left_at = absurd (none-some event at)
-  entry_at (x ∷ events) [] i event left at left_at = absurd (none-some left left_at)
-  entry_at (x ∷ events) (y ∷ lefts) zero event left at left_at =
+  recorded_at : (events : List Event) (lefts : List (Left B)) (i : ℕ) (event : Event) (left : Left B) → slice_get events i ≡ Some event → slice_get lefts i ≡ Some left → slice_get (records_of events lefts) i ≡ Some (recorded_of event left)
+  recorded_at [] lefts i event left at left_at = absurd (none-some event at)
+  recorded_at (x ∷ events) [] i event left at left_at = absurd (none-some left left_at)
+  recorded_at (x ∷ events) (y ∷ lefts) zero event left at left_at =
       ap₂ (λ e l. Some (recorded_of e l)) (same_Some x event at) (same_Some y left left_at)
-  entry_at (x ∷ events) (y ∷ lefts) (suc i) event left at left_at = entry_at events lefts i event left at left_at
+  recorded_at (x ∷ events) (y ∷ lefts) (suc i) event left at left_at = recorded_at events lefts i event left at left_at
 
   -- the entry at a position from 1
-  pub entry_stood : (events : List Event) (lefts : List (Left B)) (at : ℕ) (event : Event) (left : Left B) → 1 ≤ at → nth events at ≡ Some event → slice_get lefts (at - 1) ≡ Some left → nth (records_of events lefts) at ≡ Some (recorded_of event left)
-  entry_stood events lefts zero event left from_one stood left_at = absurd (omega (arith, from_one))
-  entry_stood events lefts (suc i) event left from_one stood left_at = entry_at events lefts i event left stood (ap (slice_get lefts) (less_one i) ∙ left_at)
+  pub recorded_stood : (events : List Event) (lefts : List (Left B)) (at : ℕ) (event : Event) (left : Left B) → 1 ≤ at → nth events at ≡ Some event → slice_get lefts (at - 1) ≡ Some left → nth (records_of events lefts) at ≡ Some (recorded_of event left)
+  recorded_stood events lefts zero event left from_one stood left_at = absurd (omega (arith, from_one))
+  recorded_stood events lefts (suc i) event left from_one stood left_at = recorded_at events lefts i event left stood (ap (slice_get lefts) (less_one i) ∙ left_at)
     where
       less_one : (i : ℕ) → i ≡ suc i - 1
       less_one i = omega arith

@@ -4,7 +4,7 @@ use Rattle.cdb_base.specs.declared.event.Event.{Event}
 use Rattle.cdb_causal.specs.Causality.{IsFree}
 use Rattle.cdb_causal.specs.Dependence.{depends}
 use Rattle.cdb_record.specs.Recorded.{events_of}
-use Rattle.cdb_record.specs.Taken.{IsTakenOut, IsStepOf, IsLastStepOf}
+use Rattle.cdb_record.specs.Taken.{IsRecordTakenOut, IsStepOf, IsLastStepOf}
 use Rattle.cdb_record.specs.declared.recorded.Recorded.{Recorded}
 
 -- the event at position i is not free, and nothing has changed
@@ -13,7 +13,7 @@ IsKept old i new = (IsFree depends (events_of old) i → ⊥) × (new ≡ old)
 
 -- it was free, and it was taken out
 abbrev pub IsTakenFree : {B : Type 0} → List (Recorded B) → ℕ → Recorded B → List (Recorded B) → Type 0
-IsTakenFree old i recorded new = IsFree depends (events_of old) i × IsTakenOut old i recorded new
+IsTakenFree old i recorded new = IsFree depends (events_of old) i × IsRecordTakenOut old i recorded new
 
 -- the one or the other, by whether one is returned
 abbrev pub TakesFree : {B : Type 0} → List (Recorded B) → ℕ → Option (Recorded B) → List (Recorded B) → Type 0

@@ -9,8 +9,8 @@ use Rattle.cdb_record.specs.Recorded.{events_of}
 use Rattle.cdb_record.specs.declared.recorded.Recorded.{Recorded}
 
 -- the recorded event stood at position i, and the others are left
-abbrev pub IsTakenOut : {B : Type 0} → List (Recorded B) → ℕ → Recorded B → List (Recorded B) → Type 0
-IsTakenOut records i recorded left = (slice_get records i ≡ Some recorded) × (left ≡ without records i)
+abbrev pub IsRecordTakenOut : {B : Type 0} → List (Recorded B) → ℕ → Recorded B → List (Recorded B) → Type 0
+IsRecordTakenOut records i recorded left = (slice_get records i ≡ Some recorded) × (left ≡ without records i)
 
 -- a step of process p stands at position i
 abbrev pub IsStepOf : List Event → ℕ → ℕ → Type 0
@@ -25,4 +25,4 @@ abbrev pub TakesWhereFree : {B : Type 0} → (List Event → ℕ → Type 0) →
 TakesWhereFree Is result old new =
     MatchOption result
     (((i : ℕ) → Is (events_of old) i → IsFree depends (events_of old) i → ⊥) × (new ≡ old))
-    (λ recorded. (i : ℕ) × Is (events_of old) i × IsFree depends (events_of old) i × IsTakenOut old i recorded new)
+    (λ recorded. (i : ℕ) × Is (events_of old) i × IsFree depends (events_of old) i × IsRecordTakenOut old i recorded new)

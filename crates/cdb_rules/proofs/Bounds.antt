@@ -16,7 +16,8 @@ use Rattle.cdb_register.specs.declared.RegisterState.{RegisterState}
 use Rattle.std.specs.FinSet as set
 use Rattle.cdb_rules.specs.Mail.{mail_of}
 use Rattle.cdb_rules.specs.State.{Machine, ProcessState, RunState, start, fresh_process}
-use Rattle.cdb_rules.specs.Step.{wished_payload, wished_cell, may_lose, after}
+use Rattle.cdb_process.specs.Wishes.{wished_payload, wished_cell}
+use Rattle.cdb_rules.specs.Step.{may_lose, after}
 use Rattle.cdb_rules.specs.Taking.{queries_after, registers_after}
 use Rattle.cdb_rules.proofs.Stages.{sight_in, sent_after, process_after}
 use Rattle.cdb_rules.proofs.Positions.{nth-set_nth_same, nth-set_nth_other, nth-update_nth_same, nth-update_nth_other}

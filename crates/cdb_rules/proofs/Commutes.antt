@@ -19,7 +19,8 @@ use Rattle.cdb_message.specs.Names.{CopySet, copy_cmp}
 use Rattle.cdb_message.proofs.Sets.{copy_cmp_total, copy_cmp-IsAntisymmetric}
 use Rattle.cdb_rules.specs.Mail.{mail_of}
 use Rattle.cdb_rules.specs.State.{Machine, ProcessState, RunState}
-use Rattle.cdb_rules.specs.Step.{is_among, wished_cell, may_lose, after}
+use Rattle.cdb_process.specs.Wishes.{wished_cell}
+use Rattle.cdb_rules.specs.Step.{is_among, may_lose, after}
 use Rattle.cdb_rules.specs.Taking.{registers_after}
 use Rattle.cdb_rules.proofs.Stages.{sight_in, accepted, process_after, state_after}
 use Rattle.cdb_rules.proofs.Kept.{nat_eq-ne, other_copy, registers_swap, process_kept, sight_kept, may_lose_kept, with_loss, sight_but}

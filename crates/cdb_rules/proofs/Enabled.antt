@@ -7,12 +7,12 @@ use Rattle.cdb_base.specs.declared.event.Kind.{Kind}
 use Rattle.cdb_base.specs.declared.event.Kind.TheVariants.{Query, Send, Recv, Read, Write, Local, Learn, Crash}
 use Rattle.cdb_message.specs.Mail.{message_name, sent_by}
 use Rattle.cdb_process.specs.declared.Input.TheVariants as input
+use Rattle.cdb_process.specs.Wishes.{wished_payload}
 use Rattle.cdb_register.specs.Registers.{register_of}
 use Rattle.cdb_register.specs.declared.RegisterState.{RegisterState}
 use Rattle.cdb_rules.specs.Mail.{mail_of}
 use Rattle.cdb_rules.specs.Refusals.{accepts_kind}
 use Rattle.cdb_rules.specs.State.{Machine, ProcessState, RunState}
-use Rattle.cdb_rules.specs.Step.{wished_payload}
 use Rattle.cdb_rules.specs.Taking.{arriving, taken_local}
 use Rattle.cdb_rules.proofs.Stages.{sight_in}
 use Rattle.cdb_rules.proofs.Granted.{IsLawful, Fits}

@@ -12,12 +12,13 @@ use Rattle.cdb_base.specs.declared.refusal.Refusal.{Refusal}
 use Rattle.cdb_message.specs.Mail.{MailState, message_name, copy_name, sent_by, payload_of, is_sent, is_received, is_lost}
 use Rattle.cdb_process.specs.Process.{QueryDependsOnStateAlone, RecvDependsOnStateAlone, WishNamesSend, WishNamesWrite}
 use Rattle.cdb_process.specs.declared.Input.TheVariants as input
+use Rattle.cdb_process.specs.Wishes.{wished_payload, wished_cell}
 use Rattle.cdb_register.specs.Registers.{register_of}
 use Rattle.cdb_register.specs.declared.RegisterState.{RegisterState}
 use Rattle.cdb_rules.specs.Mail.{mail_of}
 use Rattle.cdb_rules.specs.Refusals.{first_refusal, accepts_kind}
 use Rattle.cdb_rules.specs.State.{Machine, ProcessState, RunState}
-use Rattle.cdb_rules.specs.Step.{is_among, wished_payload, wished_cell, may_step, after}
+use Rattle.cdb_rules.specs.Step.{is_among, may_step, after}
 use Rattle.cdb_rules.specs.Taking.{arriving, input_of, taken_local}
 use Rattle.cdb_rules.proofs.Stages.{sight_in, meets, is_due, accepted, state_after}
 use Rattle.cdb_rules.proofs.Mails.{sent_is, received_is}

@@ -23,7 +23,8 @@ use Rattle.cdb_message.proofs.Sets.{name_cmp_total, name_cmp-IsAntisymmetric, co
 use Rattle.cdb_register.specs.Registers.{RegisterStates, register_of, with_register, written}
 use Rattle.cdb_rules.specs.Mail.{mail_of}
 use Rattle.cdb_rules.specs.State.{Machine, ProcessState, RunState}
-use Rattle.cdb_rules.specs.Step.{is_among, wished_payload, wished_cell, may_lose}
+use Rattle.cdb_process.specs.Wishes.{wished_payload, wished_cell}
+use Rattle.cdb_rules.specs.Step.{is_among, may_lose}
 use Rattle.cdb_rules.specs.Taking.{Sight, arriving, registers_after}
 use Rattle.cdb_rules.proofs.Stages.{sight_in, accepted, sent_after, received_after, process_after}
 use Rattle.cdb_rules.proofs.Mails.{sent_is, received_is}

@@ -9,7 +9,7 @@ use Rattle.cdb_message.specs.Mail.{MailState, message_name, copy_name, sent_by, 
 use Rattle.cdb_message.specs.Names.{NameSet}
 use Rattle.cdb_rules.specs.Mail.{mail_of, mail_after, IsPostable}
 use Rattle.cdb_rules.specs.State.{Machine, ProcessState, RunState}
-use Rattle.cdb_rules.specs.Step.{wished_payload}
+use Rattle.cdb_process.specs.Wishes.{wished_payload}
 use Rattle.cdb_rules.specs.Taking.{sight, arriving}
 use Rattle.cdb_rules.proofs.Stages.{meets, is_due, sent_after, received_after}
 use Rattle.cdb_rules.proofs.Positions.{nth-map, map-set_nth, set_nth_same, nth_within}

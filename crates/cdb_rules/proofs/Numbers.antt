@@ -25,7 +25,8 @@ use Rattle.cdb_register.specs.Registers.{RegisterStates, register_of, with_regis
 use Rattle.cdb_register.specs.declared.RegisterState.{RegisterState}
 use Rattle.cdb_rules.specs.Mail.{mail_of}
 use Rattle.cdb_rules.specs.State.{Machine, OwnEvent, ProcessState, RunState}
-use Rattle.cdb_rules.specs.Step.{wished_payload, wished_cell, after}
+use Rattle.cdb_process.specs.Wishes.{wished_payload, wished_cell}
+use Rattle.cdb_rules.specs.Step.{after}
 use Rattle.cdb_rules.specs.Taking.{registers_after}
 use Rattle.cdb_rules.proofs.Stages.{sight_in, meets, is_due, accepted, sent_after, received_after, own_event}
 use Rattle.cdb_rules.proofs.Commutes.{lost_from}

@@ -13,7 +13,7 @@ use Rattle.cdb_base.specs.declared.register.Reg.TheVariants.{R, Dec}
 use Rattle.cdb_causal.specs.Dependence.{accesses}
 use Rattle.cdb_causal.specs.Effects.{kind_affects}
 use Rattle.cdb_register.specs.Registers.{register_of, fresh_register, fresh_registers}
-use Rattle.cdb_rules.specs.OwnSteps.{no_writes, writes_with, writes_met, noted, own_steps, own_of}
+use Rattle.cdb_rules.specs.OwnSteps.{no_writes, writes_with, writes_met, as_own_events, own_steps, own_of}
 use Rattle.cdb_rules.specs.State.{Machine, OwnEvent, ProcessState, RunState, start}
 use Rattle.cdb_rules.specs.Step.{after, fold}
 use Rattle.cdb_rules.proofs.Stages.{own_event, sight_in}
@@ -24,7 +24,7 @@ use Rattle.cdb_rules.proofs.Numbers.{of_register, writes_of, access_noted, write
 use Rattle.cdb_rules.proofs.Taken.{IsTaken, taken_from}
 
 -- what is noted depends on the counts of the registers alone
-pub noted_same : (writes others : Reg → ℕ) → ((register : Reg) → writes register ≡ others register) → (events : List Event) → noted writes events ≡ noted others events
+pub noted_same : (writes others : Reg → ℕ) → ((register : Reg) → writes register ≡ others register) → (events : List Event) → as_own_events writes events ≡ as_own_events others events
 noted_same writes others same [] = refl
 noted_same writes others same (event ∷ events) =
     ap₂ (λ met later. record { event = event; writes_before = met } ∷ later) (met_same event) (noted_same (writes_with writes event) (writes_with others event) (with_same event) events)
@@ -41,7 +41,7 @@ noted_same writes others same (event ∷ events) =
 
 -- the steps of process p among the events, where this many writes of each register stand before them
 abbrev steps_behind : (Reg → ℕ) → ℕ → List Event → List OwnEvent
-steps_behind writes p events = filter (λ own. is_step_of p own.event) (noted writes events)
+steps_behind writes p events = filter (λ own. is_step_of p own.event) (as_own_events writes events)
 
 fresh_at : (n i : ℕ) → of_register (slice_get (replicate n fresh_register) i) ≡ 0
 fresh_at zero i = refl

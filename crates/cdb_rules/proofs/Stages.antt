@@ -10,7 +10,8 @@ use Rattle.cdb_message.specs.Mail.{message_name}
 use Rattle.cdb_message.specs.Names.{NameSet}
 use Rattle.cdb_rules.specs.Mail.{mail_of}
 use Rattle.cdb_rules.specs.State.{Machine, OwnEvent, ProcessState, RunState}
-use Rattle.cdb_rules.specs.Step.{is_among, may_step, wished_payload, wished_cell}
+use Rattle.cdb_process.specs.Wishes.{wished_payload, wished_cell}
+use Rattle.cdb_rules.specs.Step.{is_among, may_step}
 use Rattle.cdb_rules.specs.Taking.{Sight, sight, input_of, taken_local, progress_after, registers_after}
 
 abbrev pub sight_in : {L : Type 0} → RunState L → ℕ → Kind → Sight

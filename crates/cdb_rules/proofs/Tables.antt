@@ -10,11 +10,12 @@ use Rattle.cdb_base.specs.declared.register.Cell.{Cell}
 use Rattle.cdb_message.specs.Mail.{message_name, copy_name, received_by, payload_of, is_lost}
 use Rattle.cdb_process.specs.declared.Input.{Input}
 use Rattle.cdb_process.specs.declared.Input.TheVariants as input
+use Rattle.cdb_process.specs.Wishes.{wished_payload, wished_cell}
 use Rattle.cdb_register.specs.Registers.{register_of}
 use Rattle.cdb_register.specs.declared.RegisterState.{RegisterState}
 use Rattle.cdb_rules.specs.Mail.{mail_of}
 use Rattle.cdb_rules.specs.State.{Machine, ProcessState, RunState}
-use Rattle.cdb_rules.specs.Step.{is_among, may_step, wished_payload, wished_cell, after_step, after}
+use Rattle.cdb_rules.specs.Step.{is_among, may_step, after_step, after}
 use Rattle.cdb_rules.specs.Taking.{taken_local}
 use Rattle.cdb_rules.proofs.Mails.{received_is}
 use Rattle.cdb_rules.proofs.Stages.{sight_in, accepted, state_after}

@@ -31,13 +31,13 @@ writes_met writes (Step p k (Write register)) = Some (writes register)
 writes_met writes event = None
 
 -- the events, each with the writes that it meets, where this many of each register stand before them
-abbrev pub noted : (Reg → ℕ) → List Event → List OwnEvent
-noted writes [] = []
-noted writes (event ∷ events) = record { event = event; writes_before = writes_met writes event } ∷ noted (writes_with writes event) events
+abbrev pub as_own_events : (Reg → ℕ) → List Event → List OwnEvent
+as_own_events writes [] = []
+as_own_events writes (event ∷ events) = record { event = event; writes_before = writes_met writes event } ∷ as_own_events (writes_with writes event) events
 
 -- the steps of process p
 abbrev pub own_steps : ℕ → List Event → List OwnEvent
-own_steps p history = filter (λ own. is_step_of p own.event) (noted no_writes history)
+own_steps p history = filter (λ own. is_step_of p own.event) (as_own_events no_writes history)
 
 -- the own events of process p in a state; of no process there are none
 abbrev pub own_of : {L : Type 0} → RunState L → ℕ → List OwnEvent

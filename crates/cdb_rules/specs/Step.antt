@@ -14,23 +14,13 @@ use Rattle.cdb_base.specs.declared.register.Cell.{Cell}
 use Rattle.cdb_base.specs.declared.register.Reg.{Reg}
 use Rattle.cdb_causal.specs.Reach.{reached}
 use Rattle.cdb_message.specs.Mail.{MailState, message_name, payload_of, is_open, is_sent, is_received, is_lost}
+use Rattle.cdb_process.specs.Wishes.{wished_payload, wished_cell}
 use Rattle.cdb_process.specs.declared.Input.{Input}
 use Rattle.cdb_process.specs.declared.Input.TheVariants as input
-use Rattle.cdb_process.specs.declared.Wish.{Wish}
-use Rattle.cdb_process.specs.declared.Wish.TheVariants as wished
 use Rattle.cdb_register.specs.Registers.{RegisterStates, register_of, cell_of, writes_of, after_write}
 use Rattle.cdb_rules.specs.Mail.{mail_of}
 use Rattle.cdb_rules.specs.State.{Machine, OwnEvent, ProcessState, RunState, start}
 use Rattle.cdb_rules.specs.declared.progress.Progress.{Progress}
-
--- what a send sends, and what a write writes
-abbrev pub wished_payload : Option Wish → Option Payload
-wished_payload (Some (wished.Send payload)) = Some payload
-wished_payload _ = None
-
-abbrev pub wished_cell : Option Wish → Option Cell
-wished_cell (Some (wished.Write register cell)) = Some cell
-wished_cell _ = None
 
 -- p is one of 1 to n
 abbrev pub is_among : ℕ → ℕ → Bool

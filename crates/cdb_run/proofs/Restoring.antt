@@ -32,7 +32,8 @@ use Rattle.cdb_rules.specs.Mail.{mail_of, mail_after}
 use Rattle.cdb_run.specs.Recorded.{IsRecorded, PutsBack, overwritten_by}
 use Rattle.cdb_run.specs.Restored.{queries_before, progress_before, mail_before, registers_before, IsCountable, IsUnpostable, IsRestorable}
 use Rattle.cdb_rules.specs.State.{Machine, ProcessState, RunState, start}
-use Rattle.cdb_rules.specs.Step.{wished_payload, wished_cell, after}
+use Rattle.cdb_process.specs.Wishes.{wished_payload, wished_cell}
+use Rattle.cdb_rules.specs.Step.{after}
 use Rattle.cdb_rules.specs.Taking.{sight, queries_after, registers_after}
 use Rattle.cdb_rules.proofs.Stages.{sight_in, meets, is_due, sent_after}
 use Rattle.cdb_rules.specs.declared.progress.Progress.{Progress}

@@ -12,10 +12,10 @@ use Rattle.cdb_base.specs.declared.refusal.Refusal.TheVariants as refusal
 use Rattle.cdb_base.specs.declared.register.Cell.{Cell}
 use Rattle.cdb_message.specs.Mail.{MailState, copy_name, sent_by, is_sent, is_received, is_lost}
 use Rattle.cdb_process.specs.Table.{Table}
+use Rattle.cdb_process.specs.Wishes.{wished_payload, wished_cell}
 use Rattle.cdb_register.specs.Registers.{RegisterStates}
 use Rattle.cdb_rules.specs.Machines.{machine_of}
 use Rattle.cdb_rules.specs.Refusals.{first_refusal, accepts_kind, planned, planned_again, again_checks}
-use Rattle.cdb_rules.specs.Step.{wished_payload, wished_cell}
 use Rattle.cdb_rules.specs.Taking.{sight, input_of, taken_local}
 use Rattle.cdb_rules.specs.declared.progress.Progress.{Progress}
 use Rattle.cdb_setup.specs.Parts.{Parts}

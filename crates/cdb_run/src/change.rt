@@ -4,7 +4,7 @@ ghost use Rattle.std.specs.Prelude.{◌≡◌, ◌<◌, ◌≤◌, false, length
 ghost use Rattle.cdb_message.specs.Mail.{is_sent, is_received, is_lost, add_loss};
 ghost use Rattle.cdb_run.specs.Back.{put_back, overwritten_cell};
 ghost use Rattle.cdb_rules.specs.Mail.{mail_after, IsPostable};
-ghost use Rattle.cdb_rules.specs.Step.{wished_payload, wished_cell};
+ghost use Rattle.cdb_process.specs.Wishes.{wished_payload, wished_cell};
 ghost use Rattle.cdb_rules.specs.Taking.{sight, arriving, input_of, progress_after, registers_after};
 ghost use Rattle.cdb_run.specs.Plans.{local_after, payload_due, cell_due};
 ghost use Rattle.cdb_run.specs.Registers.{IsWritable};

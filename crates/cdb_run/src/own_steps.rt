@@ -4,7 +4,7 @@
 ghost use Rattle.std.specs.Prelude.{◌≡◌, ◌+◌, ◌<◌, ◌^◌, ◌↔◌, length, IsTrue};
 ghost use Rattle.cdb_base.specs.declared.register.Reg.{Reg as ARegister};
 ghost use Rattle.std.specs.Iterator.{YieldsFirst, item_count};
-ghost use Rattle.cdb_rules.specs.OwnSteps.{no_writes, with_write, writes_with, writes_met, noted, own_steps};
+ghost use Rattle.cdb_rules.specs.OwnSteps.{no_writes, with_write, writes_with, writes_met, as_own_events, own_steps};
 
 use cdb_base::{Event, Kind, Proc, Reg};
 use cdb_causal::History;
@@ -98,11 +98,11 @@ impl<'a> Model for Noted<'a> {
     ghost use Rattle.cdb_base.specs.declared.register.Reg.{Reg as ARegister};
     ghost use Rattle.cdb_rules.specs.declared.own_event.OwnEvent.{OwnEvent};
     ghost use Rattle.cdb_run.specs.WriteCounts.{writes_counted};
-    ghost use Rattle.cdb_rules.specs.OwnSteps.{noted};
+    ghost use Rattle.cdb_rules.specs.OwnSteps.{as_own_events};
 
     ghost Value = { List OwnEvent };
 
-    ghost view = { λ x. noted (writes_counted x.writes) (drop x.position x.history.now) };
+    ghost view = { λ x. as_own_events (writes_counted x.writes) (drop x.position x.history.now) };
 
     ghost invariant = { λ x. (register : ARegister) →
         writes_counted x.writes register + length (drop x.position x.history.now) < 2 ^ 64 };
@@ -110,7 +110,7 @@ impl<'a> Model for Noted<'a> {
 
 impl<'a> Noted<'a> {
     fn new(history: &'a History) -> Self
-        ensures { result ≡ noted no_writes history.now }
+        ensures { result ≡ as_own_events no_writes history.now }
     {
         let _count = history.len();
         Noted {

@@ -17,7 +17,7 @@ use Rattle.cdb_setup.specs.declared.key.TheConstants as constants
 use Rattle.cdb_setup.specs.Format.{name_of}
 use Rattle.cdb_setup.specs.Names.{is_key_name}
 use Rattle.cdb_setup.specs.Faults.{Holds}
-use Rattle.cdb_setup.specs.Order.{IsBefore, rank, key_number}
+use Rattle.cdb_setup.specs.Order.{IsLookedForBefore, rank, key_number}
 use Rattle.cdb_setup.specs.Ranks.{IsFirstOfRank, HasNeededKeys, IsFirstMissing}
 use Rattle.cdb_setup.specs.Stops.{TellsKnownKeys}
 
@@ -131,7 +131,7 @@ one_more json k before here j below =
     ]
 
 first_of_rank : (json : Data) (k : Key) → AreThereBelow json (key_number k) → Holds (faults.Missing k) json
-    → (other : SetupFault) → rank other ≡ 4 → IsBefore other (faults.Missing k) → ¬ Holds other json
+    → (other : SetupFault) → rank other ≡ 4 → IsLookedForBefore other (faults.Missing k) → ¬ Holds other json
 first_of_rank json k before holds (faults.Missing j) at earlier = before j (omega arith)
 first_of_rank json k before holds other at earlier = absurd (omega arith)
 

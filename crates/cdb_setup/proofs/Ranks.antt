@@ -12,7 +12,7 @@ use Rattle.cdb_setup.specs.declared.fault.SetupFault.TheVariants.{BadInput, BadO
 use Rattle.cdb_setup.specs.Format.{whole, array_of}
 use Rattle.cdb_setup.specs.Parts.{IsWithin}
 use Rattle.cdb_setup.specs.Faults.{Holds, HasOneEach, IsWholeWithin}
-use Rattle.cdb_setup.specs.Order.{IsBefore, rank}
+use Rattle.cdb_setup.specs.Order.{IsLookedForBefore, rank}
 use Rattle.cdb_setup.specs.Ranks.{IsFirstOfRank}
 use Rattle.cdb_setup.specs.Stops.{IsFirstNot, IsAnswerList, IsFirstOfLists}
 use Rattle.cdb_setup.proofs.Values.{array_same}
@@ -26,7 +26,7 @@ before_is_so P (v ∷ values) (suc i) (suc j) value all below there = before_is_
 
 -- no input before the first that is none is a fault
 inputs_before : (values : List Data) (i : ℕ) (json : Data) → HasOneEach key.Inputs values json → IsFirstNot (IsWholeWithin 0 MAX_VALUE) values i
-    → (other : SetupFault) → rank other ≡ 8 → IsBefore other (BadInput (suc i)) → ¬ Holds other json
+    → (other : SetupFault) → rank other ≡ 8 → IsLookedForBefore other (BadInput (suc i)) → ¬ Holds other json
 inputs_before values i json each stop (BadInput zero) at before holds = holds values each
 inputs_before values i json each stop (BadInput (suc j)) at before holds =
     let theirs = holds.0 in
@@ -94,7 +94,7 @@ module _ (lists : List Data) (json : Data) (p : ℕ) (list : Data) (each : HasOn
       let wrong : ¬ IsWholeWithin 1 (length lists) holds.2 = subst (λ (vs : List Data). ¬ IsWholeWithin 1 (length vs) holds.2) same holds.6 in
       wrong (answer_in (length lists) (array_of holds.1) holds.1 j holds.2 is refl holds.5)
 
-  before_list : (other : SetupFault) → rank other ≡ 9 → IsBefore other (BadOracle (suc p) zero) → ¬ Holds other json
+  before_list : (other : SetupFault) → rank other ≡ 9 → IsLookedForBefore other (BadOracle (suc p) zero) → ¬ Holds other json
   before_list (BadOracle zero zero) at before holds = holds lists each
   before_list (BadOracle zero (suc j)) at before holds = holds
   before_list (BadOracle (suc q) zero) at before holds = no_other_list q (omega arith) holds
@@ -133,10 +133,10 @@ module _ (lists : List Data) (json : Data) (p : ℕ) (list : Data) (each : HasOn
     at_or_before q zero (inr at) holds = not_list (subst (λ (i : ℕ). Holds (BadOracle (suc i) zero) json) at.0 holds)
     at_or_before q (suc j) (inr at) holds = not_answer j (omega (arith, at.1)) (subst (λ (i : ℕ). Holds (BadOracle (suc i) (suc j)) json) at.0 holds)
 
-    earlier : (q b : ℕ) → IsBefore (BadOracle (suc q) b) (BadOracle (suc p) (suc k)) → (q < p) ⊎ ((q ≡ p) × (b < suc k))
+    earlier : (q b : ℕ) → IsLookedForBefore (BadOracle (suc q) b) (BadOracle (suc p) (suc k)) → (q < p) ⊎ ((q ≡ p) × (b < suc k))
     earlier q b before = elim (cases_lt q p) [ inl lt ↦ inl lt | inr le ↦ inr (omega arith, omega arith) ]
 
-    before_answer : (other : SetupFault) → rank other ≡ 9 → IsBefore other (BadOracle (suc p) (suc k)) → ¬ Holds other json
+    before_answer : (other : SetupFault) → rank other ≡ 9 → IsLookedForBefore other (BadOracle (suc p) (suc k)) → ¬ Holds other json
     before_answer (BadOracle zero zero) at before holds = holds lists each
     before_answer (BadOracle zero (suc j)) at before holds = holds
     before_answer (BadOracle (suc q) b) at before holds = at_or_before q b (earlier q b before) holds

@@ -11,7 +11,7 @@ use Rattle.cdb_setup.specs.declared.fault.SetupFault.TheVariants.{NotJson, NotOb
 use Rattle.cdb_setup.specs.Parts.{IsWithin}
 use Rattle.cdb_setup.specs.Format.{whole, array_of, array_of_whole, HasAt, HasAlgorithm, HasKnownKeys}
 use Rattle.cdb_setup.specs.Faults.{Holds, IsCount}
-use Rattle.cdb_setup.specs.Order.{rank, IsBefore}
+use Rattle.cdb_setup.specs.Order.{rank, IsLookedForBefore}
 use Rattle.cdb_setup.specs.Ranks.{IsFirstOfRank, HasNeededKeys, IsFirstOf, IsClearBelow}
 use Rattle.cdb_setup.proofs.NoFault.{no_bad_input, no_bad_answer}
 
@@ -73,7 +73,7 @@ pub after_answers : (n : ℕ) (lists : List (List ℕ)) (json : Data) → IsClea
 after_answers n lists json clear count at len all = passes 9 json clear (no_answer n lists json count at len all)
 
 -- the fault of the version is the first where no other holds
-only_version : (json : Data) → IsClearBelow 10 json → (other : SetupFault) → IsBefore other BadVersion → ¬ Holds other json
+only_version : (json : Data) → IsClearBelow 10 json → (other : SetupFault) → IsLookedForBefore other BadVersion → ¬ Holds other json
 only_version json clear TooLong before holds = holds
 only_version json clear NotJson before holds = holds
 only_version json clear BadVersion before holds = absurd (omega arith)

@@ -12,7 +12,7 @@ use Rattle.cdb_setup.specs.declared.fault.SetupFault.TheVariants.{NotJson, NotOb
 use Rattle.cdb_setup.specs.Parts.{Parts}
 use Rattle.cdb_setup.specs.Format.{algorithm_name, whole, array_of, array_of_whole, HasVersion, IsSetupOf, IsJsonOf, Encodes, longest}
 use Rattle.cdb_setup.specs.Faults.{Holds, HoldsOf}
-use Rattle.cdb_setup.specs.Order.{IsFirstFault, IsBefore}
+use Rattle.cdb_setup.specs.Order.{IsFirstFault, IsLookedForBefore}
 use Rattle.cdb_setup.specs.Ranks.{IsFirstOf}
 use Rattle.cdb_setup.proofs.Values.{array_same, whole_same}
 use Rattle.cdb_setup.proofs.Fields.{same_fields}
@@ -52,7 +52,7 @@ all_stand parts (Err fault) bytes json short is found = tt
 pub too_long : (bytes : List ℕ) → longest < length bytes → IsFirstFault TooLong bytes
 too_long bytes long = record { holds = long; first = λ other before holds. omega arith }
 
-before_not_json : (other : SetupFault) (bytes : List ℕ) → length bytes ≤ longest → IsBefore other NotJson → ¬ HoldsOf other bytes
+before_not_json : (other : SetupFault) (bytes : List ℕ) → length bytes ≤ longest → IsLookedForBefore other NotJson → ¬ HoldsOf other bytes
 before_not_json TooLong bytes short before holds = omega arith
 before_not_json other bytes short before holds = absurd (omega arith)
 

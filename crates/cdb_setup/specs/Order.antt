@@ -45,13 +45,13 @@ abbrev pub IsPairBefore : ℕ × ℕ → ℕ × ℕ → Type 0
 IsPairBefore a b = (a.0 < b.0) ⊎ ((a.0 ≡ b.0) × (a.1 < b.1))
 
 -- the one is looked for before the other: faults of one kind by the numbers that they name
-abbrev pub IsBefore : SetupFault → SetupFault → Type 0
-IsBefore e f = (rank e < rank f) ⊎ ((rank e ≡ rank f) × IsPairBefore (numbers_in e) (numbers_in f))
+abbrev pub IsLookedForBefore : SetupFault → SetupFault → Type 0
+IsLookedForBefore e f = (rank e < rank f) ⊎ ((rank e ≡ rank f) × IsPairBefore (numbers_in e) (numbers_in f))
 
 -- of the faults that hold, by this meaning, the fault is the first
 pub record IsFirst (IsSo : SetupFault → Type 0) (fault : SetupFault) : Type 0 where
   pub holds : IsSo fault
-  pub first : (other : SetupFault) → IsBefore other fault → ¬ IsSo other
+  pub first : (other : SetupFault) → IsLookedForBefore other fault → ¬ IsSo other
 
 -- the fault is the first that holds of the bytes
 abbrev pub IsFirstFault : SetupFault → List ℕ → Type 0

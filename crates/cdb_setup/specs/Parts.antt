@@ -54,12 +54,12 @@ pub record AreInRange (parts : Parts) : Type 0 where
   pub answers : AreListsOfProcesses parts.processes parts.answers
 
 -- the k-th number of the p-th list, where there is one
-abbrev pub number_at : List (List ℕ) → ℕ → ℕ → Option ℕ
-number_at lists p k = option_and_then (λ numbers. nth numbers k) (nth lists p)
+abbrev pub number_in_list : List (List ℕ) → ℕ → ℕ → Option ℕ
+number_in_list lists p k = option_and_then (λ numbers. nth numbers k) (nth lists p)
 
 -- the answer to the k-th query of process p, where there is one
 abbrev pub answer_of : Parts → ℕ → ℕ → Option ℕ
-answer_of parts p k = number_at parts.answers p k
+answer_of parts p k = number_in_list parts.answers p k
 
 -- the lists that vectors hold, and those that slices hold
 abbrev pub lists_in : List (Vec ℕ Global) → List (List ℕ)

@@ -5,13 +5,13 @@ use Rattle.cdb_setup.specs.declared.fault.SetupFault.{SetupFault}
 use Rattle.cdb_setup.specs.declared.fault.SetupFault.TheVariants.{Missing}
 use Rattle.cdb_setup.specs.declared.key.Key.{Key}
 use Rattle.cdb_setup.specs.Faults.{Holds}
-use Rattle.cdb_setup.specs.Order.{rank, IsBefore, IsFirst}
+use Rattle.cdb_setup.specs.Order.{rank, IsLookedForBefore, IsFirst}
 
 -- the fault holds of the JSON value, is of this rank, and none of this rank before it holds
 pub record IsFirstOfRank (at : ℕ) (fault : SetupFault) (json : Data) : Type 0 where
   pub in_rank : rank fault ≡ at
   pub holds : Holds fault json
-  pub first : (other : SetupFault) → rank other ≡ at → IsBefore other fault → ¬ Holds other json
+  pub first : (other : SetupFault) → rank other ≡ at → IsLookedForBefore other fault → ¬ Holds other json
 
 -- no needed key is missing
 abbrev pub HasNeededKeys : Data → Type 0

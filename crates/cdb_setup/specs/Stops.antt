@@ -31,8 +31,8 @@ abbrev pub IsFoundOr : {A : Type 0} → SetupFault → (A → Data → Type 0) �
 IsFoundOr fault Is found json = MatchOption found (Holds fault json) (λ it. Is it json)
 
 -- this quorum stands under its key, of at most n processes
-abbrev pub IsQuorum : ℕ → ℕ → Data → Type 0
-IsQuorum n q json = HasAt key.Quorum (whole q) json × IsWithin 1 n q
+abbrev pub HasQuorum : ℕ → ℕ → Data → Type 0
+HasQuorum n q json = HasAt key.Quorum (whole q) json × IsWithin 1 n q
 
 -- the version is this one, which there is
 abbrev pub IsVersion : ℕ → Data → Type 0

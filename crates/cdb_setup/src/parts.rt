@@ -6,7 +6,7 @@ ghost use Rattle.cdb_base.specs.declared.limits.TheConstants.{MAX_VALUE};
 ghost use Rattle.cdb_setup.specs.Format.{HasAlgorithm};
 ghost use Rattle.cdb_setup.specs.Faults.{IfFault, IsCount, HasOneEach, LacksOneEach};
 ghost use Rattle.cdb_setup.specs.Ranks.{IsFirstOfRank};
-ghost use Rattle.cdb_setup.specs.Stops.{IsReadIfWhole, IsFoundOr, IsQuorum, IsVersion};
+ghost use Rattle.cdb_setup.specs.Stops.{IsReadIfWhole, IsFoundOr, HasQuorum, IsVersion};
 ghost use Rattle.cdb_setup.specs.Stops.{AreRead, HasInputs, IsFirstOfInputs};
 
 use crate::fault::SetupFault;
@@ -40,7 +40,7 @@ pub(crate) fn count_of(value: &Value) -> Option<u8>
 /// The quorum, where there are this many processes.
 pub(crate) fn quorum_of(value: &Value, count: u8) -> Option<u8>
     requires { IsCount count (view value.now) }
-    ensures { IsFoundOr SetupFault.BadQuorum (IsQuorum count) result (view value.now) }
+    ensures { IsFoundOr SetupFault.BadQuorum (HasQuorum count) result (view value.now) }
 {
     let quorum = value.get(Key::Quorum.name())?;
     let number = whole_within(quorum, 1, count as u64)?;

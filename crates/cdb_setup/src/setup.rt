@@ -4,7 +4,7 @@ ghost use Rattle.std.specs.Cmp.Lexicographic.{pointwise};
 ghost use Rattle.std.specs.Prelude.{◌≡◌, ◌==◌, ◌⊎◌, ◌≤◌, ◌<◌, Some, Ok, Err, length, IfSome, IfOk};
 ghost use Rattle.std.specs.Option.{option_copied};
 ghost use Rattle.cdb_base.specs.Positions.{nth};
-ghost use Rattle.cdb_setup.specs.Parts.{lists_in, number_at};
+ghost use Rattle.cdb_setup.specs.Parts.{lists_in, number_in_list};
 
 use crate::fault::SetupFault;
 use crate::reading;
@@ -221,7 +221,7 @@ fn copy_lists(alloc: Global, lists: &[Vec<Proc>]) -> Result<Vec<Vec<Proc>>, NoMe
 
 /// The k-th answer of the p-th list, both counted from 1.
 fn answer_at(lists: &[Vec<Proc>], p: usize, k: usize) -> Option<Proc>
-    ensures { result ≡ number_at (lists_in lists.now) p k }
+    ensures { result ≡ number_in_list (lists_in lists.now) p k }
 {
     let answers = nth(lists, p)?;
     nth(answers.as_slice(), k).copied()

@@ -9,7 +9,7 @@ use Rattle.cdb_text.specs.declared.fault.LineFault.{LineFault}
 use Rattle.cdb_text.specs.declared.fault.LineFault.TheVariants.{Word, Number, Extra, Missing}
 use Rattle.cdb_text.specs.Commands.{CommandPart, fixed, number, command_parts}
 use Rattle.cdb_text.specs.Grammar.{IsInRange, part_text}
-use Rattle.cdb_text.specs.Faults.{IsWhole, GoesOn, IsFaultAt, IsFirstFaultOfWords}
+use Rattle.cdb_text.specs.Faults.{IsWholeCommand, GoesOn, IsFaultAt, IsFirstFaultOfWords}
 use Rattle.cdb_text.specs.Reading.{◌>>=◌, number_at, number_of, ended}
 use Rattle.cdb_text.proofs.Reading.{command_at, one_at, two_at, three_at}
 use Rattle.cdb_text.proofs.Numbers.{number_says}
@@ -121,7 +121,7 @@ accept parts k further fault word part reads is range on next =
 -- no word follows a whole command
 pub end_state : (command : Command) (parts : List CommandPart) → command_parts command ≡ parts → AllByRecursion IsInRange parts → Reads parts (ended command) → State parts (ended command)
 end_state command parts are ranges reads =
-    let whole : IsWhole (map part_text parts) = (command, (ap (map part_text) (sym are), subst (λ (ps : List CommandPart). AllByRecursion IsInRange ps) (sym are) ranges)) in
+    let whole : IsWholeCommand (map part_text parts) = (command, (ap (map part_text) (sym are), subst (λ (ps : List CommandPart). AllByRecursion IsInRange ps) (sym are) ranges)) in
     state parts (ended command) Extra reads (inl (command, refl, are))
     (λ word no. (whole, λ next. stops parts (ended command) Extra next reads (λ rest. refl)))
     (λ word. inr (λ rest. refl))

@@ -7,8 +7,8 @@ use Rattle.cdb_text.specs.Commands.{number}
 use Rattle.cdb_text.specs.Grammar.{part_text, IsInRange, AreWordsOf, words_of}
 
 -- these are all the words of a command
-abbrev pub IsWhole : List (List ℕ) → Type 0
-IsWhole words = (command : Command) × AreWordsOf command words
+abbrev pub IsWholeCommand : List (List ℕ) → Type 0
+IsWholeCommand words = (command : Command) × AreWordsOf command words
 
 -- after these words some command goes on with this word
 abbrev pub GoesOn : List (List ℕ) → List ℕ → Type 0
@@ -36,9 +36,9 @@ IsFaultAt Word words (Some word) =
 IsFaultAt Number words (Some word) =
     (¬ GoesOn words word) × TakesNumber words × (words ≢ codes "show" ∷ [])
 -- the words are a whole command, and no command goes on
-IsFaultAt Extra words (Some word) = IsWhole words × IsLast words
+IsFaultAt Extra words (Some word) = IsWholeCommand words × IsLast words
 -- the words are no whole command, but some command goes on
-IsFaultAt Missing words None = (¬ IsWhole words) × IsPart words
+IsFaultAt Missing words None = (¬ IsWholeCommand words) × IsPart words
 IsFaultAt fault words next = ⊥
 
 -- The first fault of the words of a line: the words before it begin a command, or are one.

@@ -12,7 +12,7 @@ use Rattle.cdb_program.specs.declared.fault.Fault.TheVariants as fault
 use Rattle.cdb_program.specs.declared.request.Request.{Request}
 use Rattle.cdb_program.specs.declared.request.Request.TheVariants.{Script, Play, Race, Explain, Draw, Debug, Hall, Print, Refuse}
 use Rattle.cdb_program.specs.Requests.{Performs}
-use Rattle.revdbg.specs.Requested.{IsDebug, IsDraw, IsExplain, IsOutOfMemory, IsPlay, IsRace, IsRequestOf, IsRefusal, PerformsAsked, PerformsOne}
+use Rattle.revdbg.specs.Requested.{IsDebugRequest, IsDrawRequest, IsExplainRequest, IsOutOfMemory, IsPlayRequest, IsRaceRequest, IsRequestOf, IsRefusal, PerformsAsked, PerformsOne}
 
 -- a request of one kind is one of another kind
 pub performs_other : (IsIt IsOther : Request → Type 0) (old new : Seen) (status : ℕ) → ((request : Request) → IsIt request → IsOther request) → PerformsOne IsIt old new status → PerformsOne IsOther old new status
@@ -47,7 +47,7 @@ module _ (prompt : Text) where
   pub script_request : (it : Asked) → it ≡ asked.Script → (request : Request) → IsRequestOf prompt it request → request ≡ Script
   script_request it is request of_it = subst (λ (a : Asked). IsRequestOf prompt a request) is of_it
 
-  pub play_request : (setup script : Text) (it : Asked) → IsPlayOf setup script it → (request : Request) → IsRequestOf prompt it request → IsPlay setup script request
+  pub play_request : (setup script : Text) (it : Asked) → IsPlayOf setup script it → (request : Request) → IsRequestOf prompt it request → IsPlayRequest setup script request
   play_request setup script (asked.Play a b) is request of_it = rw (← is.0, ← is.1) of_it
   play_request setup script asked.Script is request of_it = absurd is
   play_request setup script (asked.Draw a b q l) is request of_it = absurd is
@@ -55,7 +55,7 @@ module _ (prompt : Text) where
   play_request setup script (asked.Race a n b) is request of_it = absurd is
   play_request setup script (asked.Explain a b p k) is request of_it = absurd is
 
-  pub race_request : (setup : Text) (turns : ℕ) (scripts : List Text) (it : Asked) → IsRaceOf setup turns scripts it → (request : Request) → IsRequestOf prompt it request → IsRace setup turns scripts request
+  pub race_request : (setup : Text) (turns : ℕ) (scripts : List Text) (it : Asked) → IsRaceOf setup turns scripts it → (request : Request) → IsRequestOf prompt it request → IsRaceRequest setup turns scripts request
   race_request setup turns scripts (asked.Race a n b) is request of_it = rw (← is.0, ← is.1, ← is.2) of_it
   race_request setup turns scripts asked.Script is request of_it = absurd is
   race_request setup turns scripts (asked.Draw a b q l) is request of_it = absurd is
@@ -63,7 +63,7 @@ module _ (prompt : Text) where
   race_request setup turns scripts (asked.Play a b) is request of_it = absurd is
   race_request setup turns scripts (asked.Explain a b p k) is request of_it = absurd is
 
-  pub explain_request : (setup script : Text) (p : ℕ) (k : Option ℕ) (it : Asked) → IsExplainOf setup script p k it → (request : Request) → IsRequestOf prompt it request → IsExplain setup script p k request
+  pub explain_request : (setup script : Text) (p : ℕ) (k : Option ℕ) (it : Asked) → IsExplainOf setup script p k it → (request : Request) → IsRequestOf prompt it request → IsExplainRequest setup script p k request
   explain_request setup script p k (asked.Explain a b q l) is request of_it = rw (← is.0, ← is.1, ← is.2, ← is.3) of_it
   explain_request setup script p k asked.Script is request of_it = absurd is
   explain_request setup script p k (asked.Draw a b q l) is request of_it = absurd is
@@ -71,7 +71,7 @@ module _ (prompt : Text) where
   explain_request setup script p k (asked.Play a b) is request of_it = absurd is
   explain_request setup script p k (asked.Race a n b) is request of_it = absurd is
 
-  pub debug_request : (setup : Text) (seats : List Text) (it : Asked) → IsDebugOf setup seats it → (request : Request) → IsRequestOf prompt it request → IsDebug prompt setup seats request
+  pub debug_request : (setup : Text) (seats : List Text) (it : Asked) → IsDebugOf setup seats it → (request : Request) → IsRequestOf prompt it request → IsDebugRequest prompt setup seats request
   debug_request setup seats (asked.Debug a b) is request of_it = rw (← is.0, ← is.1) of_it
   debug_request setup seats asked.Script is request of_it = absurd is
   debug_request setup seats (asked.Play a b) is request of_it = absurd is
@@ -79,7 +79,7 @@ module _ (prompt : Text) where
   debug_request setup seats (asked.Explain a b p k) is request of_it = absurd is
   debug_request setup seats (asked.Draw a b p k) is request of_it = absurd is
 
-  pub draw_request : (setup script : Text) (p k : Option ℕ) (it : Asked) → IsDrawOf setup script p k it → (request : Request) → IsRequestOf prompt it request → IsDraw setup script p k request
+  pub draw_request : (setup script : Text) (p k : Option ℕ) (it : Asked) → IsDrawOf setup script p k it → (request : Request) → IsRequestOf prompt it request → IsDrawRequest setup script p k request
   draw_request setup script p k (asked.Draw a b q l) is request of_it = rw (← is.0, ← is.1, ← is.2, ← is.3) of_it
   draw_request setup script p k asked.Script is request of_it = absurd is
   draw_request setup script p k (asked.Play a b) is request of_it = absurd is

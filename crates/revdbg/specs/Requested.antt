@@ -4,7 +4,7 @@ use Rattle.std.specs.declared.io.ErrorKind.{ErrorKind as IoKind}
 use Rattle.std.specs.declared.io.ErrorKind.TheVariants as io_kind
 use Rattle.clap.specs.Words.{Kinds, IsAmong, Row, Text, fault_of, subcommand_of}
 use Rattle.clap.specs.declared.error.kind.ErrorKind.{ErrorKind}
-use Rattle.cdb_arguments.specs.Asking.{Asks, texts, words_status}
+use Rattle.cdb_arguments.specs.Asking.{NamesAsked, texts, words_status}
 use Rattle.cdb_arguments.specs.CommandLine.{program}
 use Rattle.cdb_arguments.specs.Plain.{IsNameAlone, IsPlayLine, IsRaceLine, IsExplainLine, IsDrawLine, IsDebugLine}
 use Rattle.cdb_arguments.specs.declared.request.Asked.{Asked}
@@ -18,50 +18,50 @@ use Rattle.cdb_program.specs.declared.request.Request.{Request}
 use Rattle.cdb_program.specs.declared.request.Request.TheVariants.{Script, Play, Race, Explain, Draw, Debug, Hall, Print, Refuse}
 
 -- a play of these two files
-abbrev pub IsPlay : Text → Text → Request → Type 0
-IsPlay setup script (Play its_setup its_script) = (its_setup.now ≡ setup) × (its_script.now ≡ script)
-IsPlay setup script request = ⊥
+abbrev pub IsPlayRequest : Text → Text → Request → Type 0
+IsPlayRequest setup script (Play its_setup its_script) = (its_setup.now ≡ setup) × (its_script.now ≡ script)
+IsPlayRequest setup script request = ⊥
 
 -- a race of these files, in this order
-abbrev pub IsRace : Text → ℕ → List Text → Request → Type 0
-IsRace setup turns scripts (Race its_setup its_turns its_scripts) =
+abbrev pub IsRaceRequest : Text → ℕ → List Text → Request → Type 0
+IsRaceRequest setup turns scripts (Race its_setup its_turns its_scripts) =
     (its_setup.now ≡ setup) × (its_turns ≡ turns) × (texts its_scripts.now ≡ scripts)
-IsRace setup turns scripts request = ⊥
+IsRaceRequest setup turns scripts request = ⊥
 
 -- the explanation of this step of the run of these two files
-abbrev pub IsExplain : Text → Text → ℕ → Option ℕ → Request → Type 0
-IsExplain setup script p k (Explain its_setup its_script its_p its_k) =
+abbrev pub IsExplainRequest : Text → Text → ℕ → Option ℕ → Request → Type 0
+IsExplainRequest setup script p k (Explain its_setup its_script its_p its_k) =
     (its_setup.now ≡ setup) × (its_script.now ≡ script) × (its_p ≡ p) × (its_k ≡ k)
-IsExplain setup script p k request = ⊥
+IsExplainRequest setup script p k request = ⊥
 
 -- the step of process p, the k-th where a number is given
 abbrev pub step_asked : Option ℕ → ℕ → StepAsked
 step_asked k p = record { p = p; k = k }
 
 -- the picture of the run of these two files, with what led to the step in full where one is given
-abbrev pub IsDraw : Text → Text → Option ℕ → Option ℕ → Request → Type 0
-IsDraw setup script p k (Draw its_setup its_script its_step) =
+abbrev pub IsDrawRequest : Text → Text → Option ℕ → Option ℕ → Request → Type 0
+IsDrawRequest setup script p k (Draw its_setup its_script its_step) =
     (its_setup.now ≡ setup) × (its_script.now ≡ script) × (its_step ≡ option_map (step_asked k) p)
-IsDraw setup script p k request = ⊥
+IsDrawRequest setup script p k request = ⊥
 
 -- a session on a run of this file, with this prompt; or sessions of these seats, where there are any
-abbrev pub IsDebug : Text → Text → List Text → Request → Type 0
-IsDebug prompt setup [] (Debug its_setup its_prompt) = (its_setup.now ≡ setup) × (its_prompt.now ≡ prompt)
-IsDebug prompt setup (seat ∷ seats) (Hall its_setup its_seats) = (its_setup.now ≡ setup) × (texts its_seats.now ≡ seat ∷ seats)
-IsDebug prompt setup seats request = ⊥
+abbrev pub IsDebugRequest : Text → Text → List Text → Request → Type 0
+IsDebugRequest prompt setup [] (Debug its_setup its_prompt) = (its_setup.now ≡ setup) × (its_prompt.now ≡ prompt)
+IsDebugRequest prompt setup (seat ∷ seats) (Hall its_setup its_seats) = (its_setup.now ≡ setup) × (texts its_seats.now ≡ seat ∷ seats)
+IsDebugRequest prompt setup seats request = ⊥
 
 -- the request for what was asked for, where sessions have this prompt
 abbrev pub IsRequestOf : Text → Asked → Request → Type 0
 IsRequestOf prompt asked.Script request = request ≡ Script
-IsRequestOf prompt (asked.Play setup script) request = IsPlay setup.now script.now request
-IsRequestOf prompt (asked.Race setup turns scripts) request = IsRace setup.now turns (texts scripts.items) request
-IsRequestOf prompt (asked.Explain setup script p k) request = IsExplain setup.now script.now p k request
-IsRequestOf prompt (asked.Draw setup script p k) request = IsDraw setup.now script.now p k request
-IsRequestOf prompt (asked.Debug setup seats) request = IsDebug prompt setup.now (texts seats.items) request
+IsRequestOf prompt (asked.Play setup script) request = IsPlayRequest setup.now script.now request
+IsRequestOf prompt (asked.Race setup turns scripts) request = IsRaceRequest setup.now turns (texts scripts.items) request
+IsRequestOf prompt (asked.Explain setup script p k) request = IsExplainRequest setup.now script.now p k request
+IsRequestOf prompt (asked.Draw setup script p k) request = IsDrawRequest setup.now script.now p k request
+IsRequestOf prompt (asked.Debug setup seats) request = IsDebugRequest prompt setup.now (texts seats.items) request
 
 -- the request for what the subcommand that `clap` found asks for
 abbrev pub IsRequested : Text → Option (Text × List Row) → Request → Type 0
-IsRequested prompt found request = (it : Asked) × Asks found it × IsRequestOf prompt it request
+IsRequested prompt found request = (it : Asked) × NamesAsked found it × IsRequestOf prompt it request
 
 -- help or the version is printed where that was asked for, else the text of what is wrong is reported
 abbrev pub IsRefusal : Kinds → Request → Type 0
@@ -82,15 +82,15 @@ PerformsOne IsIt old new status = (request : Request) × (IsIt request ⊎ IsOut
 -- of `clap`. A session has this prompt.
 pub record PerformsAsked (prompt : Text) (words : List Text) (old new : Seen) (status : ℕ) : Type 0 where
   pub script : IsNameAlone words → PerformsOne (λ it. it ≡ Script) old new status
-  pub play : (setup script : Text) → IsPlayLine words setup script → PerformsOne (IsPlay setup script) old new status
+  pub play : (setup script : Text) → IsPlayLine words setup script → PerformsOne (IsPlayRequest setup script) old new status
   pub race : (setup : Text) (turns : ℕ) (script : Text) (more : List Text)
-      → IsRaceLine words setup turns script more → PerformsOne (IsRace setup turns (script ∷ more)) old new status
+      → IsRaceLine words setup turns script more → PerformsOne (IsRaceRequest setup turns (script ∷ more)) old new status
   pub explain : (setup script : Text) (p : ℕ) (k : Option ℕ)
-      → IsExplainLine words setup script p k → PerformsOne (IsExplain setup script p k) old new status
+      → IsExplainLine words setup script p k → PerformsOne (IsExplainRequest setup script p k) old new status
   pub draw : (setup script : Text) (p k : Option ℕ)
-      → IsDrawLine words setup script p k → PerformsOne (IsDraw setup script p k) old new status
+      → IsDrawLine words setup script p k → PerformsOne (IsDrawRequest setup script p k) old new status
   pub debug : (setup : Text) (seats : List Text)
-      → IsDebugLine words setup seats → PerformsOne (IsDebug prompt setup seats) old new status
+      → IsDebugLine words setup seats → PerformsOne (IsDebugRequest prompt setup seats) old new status
   pub taken : fault_of program words ≡ [] → PerformsOne (IsRequested prompt (subcommand_of program words)) old new status
   pub refused : fault_of program words ≢ [] → PerformsOne (IsRefusal (fault_of program words)) old new status
 

@@ -3,7 +3,7 @@
 ghost use Rattle.std.specs.Prelude.{◌≡◌, ◌⊎◌, List, Option, IfErr, IfOk, map, string_bytes};
 ghost use Rattle.std.specs.IoError.{error_kind};
 ghost use Rattle.clap.specs.Words.{Kinds, Row, Text};
-ghost use Rattle.cdb_arguments.specs.Asking.{Asks, IsOfKinds, texts};
+ghost use Rattle.cdb_arguments.specs.Asking.{NamesAsked, IsOfKinds, texts};
 ghost use Rattle.cdb_program.specs.Requests.{HasTurns};
 ghost use Rattle.revdbg.specs.Requested.{IsOutOfMemory, IsRefusal, IsRequestOf, IsUnread, PerformsAsked, PerformsOne};
 
@@ -31,7 +31,8 @@ fn no_memory() -> Request<'static>
 /// The request for what was asked for, where sessions have this prompt.
 fn request_of<'a>(asked: &'a Asked<'a>, prompt: &'a str) -> Request<'a>
     ensures request { IsRequestOf prompt.now asked.now result }
-    ensures turns { (found : Option (Text × List Row)) → Asks found asked.now → HasTurns result }
+    ensures turns { (found : Option (Text × List Row)) → NamesAsked found asked.now →
+        HasTurns result }
 {
     match asked {
         Asked::Script => Request::Script,
@@ -88,7 +89,7 @@ fn perform_asked<
     asked: &Asked<'_>,
     outside: &mut Outside<F, I, O, E>,
 ) -> u8
-    requires { (found : Option (Text × List Row)) × Asks found asked.now }
+    requires { (found : Option (Text × List Row)) × NamesAsked found asked.now }
     ensures { PerformsOne (IsRequestOf prompt.now asked.now) outside.old outside.new result }
 {
     perform(threads, alloc, request_of(asked, prompt), outside)

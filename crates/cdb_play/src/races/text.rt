@@ -6,7 +6,7 @@ ghost use Rattle.cdb_base.specs.declared.limits.TheConstants.{MAX_SEATS};
 ghost use Rattle.cdb_control.specs.Answer.{told};
 ghost use Rattle.cdb_race.specs.Races.{all_told};
 ghost use Rattle.cdb_text.specs.Texts.{text_of};
-ghost use Rattle.cdb_play.specs.Races.{seat_line, seat_text, seats_text, end_text, verdict_text, have_one_value, text_with};
+ghost use Rattle.cdb_play.specs.Races.{seat_heading, seat_text, seats_text, end_text, verdict_text, have_one_value, text_with};
 ghost use Rattle.cdb_play.specs.Buffers.{Puts};
 ghost use Rattle.cdb_play.specs.Endings.{pieces_ending};
 ghost use Rattle.cdb_play.specs.Written.{IsWritten, Only};
@@ -37,7 +37,7 @@ fn put_replies<W: Sink>(
 
 /// Puts the line with the number of a seat.
 fn put_line<W: Sink>(seat: usize, buffer: &mut Buffer, out: &mut W) -> Result<(), OutputFault>
-    ensures { Puts W.stream result out.old buffer.old out.new buffer.new (seat_line seat) }
+    ensures { Puts W.stream result out.old buffer.old out.new buffer.new (seat_heading seat) }
 {
     let mut digits = Digits::new();
     buffer.put(out, b"seat ")?;

@@ -1,7 +1,7 @@
 use Rattle.std.proofs.Common.{◌+◌, List, refl, sym, subst, arith}
 use Rattle.cdb_base.specs.declared.event.Event.{Event}
 use Rattle.cdb_causal.specs.Alone.{AreAlone}
-use Rattle.cdb_causal.specs.Bounds.{IsWithin, AreWithin}
+use Rattle.cdb_causal.specs.Bounds.{IsEventWithin, AreWithin}
 use Rattle.cdb_causal.specs.Named.{AreRanged}
 use Rattle.cdb_causal.specs.Own.{AreOwn, IsOwnNoted}
 use Rattle.cdb_causal.specs.Standing.{IsStanding}
@@ -29,7 +29,7 @@ returns-clause-indexed c =
       within =
           subst (AreWithin noted (mark log)) (sym pushed.items)
           (within_push top bounds noted (mark old) (mark log) items event c.note.ensures.others (λ i less. let above = pushed.above i less in omega arith) indexed.within pushed.marks
-          (subst (λ n. IsWithin noted n event) (sym pushed.last) c.note.ensures.within));
+          (subst (λ n. IsEventWithin noted n event) (sym pushed.last) c.note.ensures.within));
       alone =
           subst (AreAlone noted) (sym pushed.items)
           (alone_push bounds bounds noted (mark old) items event (λ n. refl) c.note.ensures.receives indexed.within indexed.alone);

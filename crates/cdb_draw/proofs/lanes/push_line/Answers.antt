@@ -1,10 +1,10 @@
 use Rattle.std.specs.Prelude.{List, codes, decimal, string_bytes, ℕ, ◌++◌, ◌≡◌}
-use Rattle.cdb_draw.specs.Lanes.{line_text}
+use Rattle.cdb_draw.specs.Lanes.{lane_path}
 use Rattle.cdb_draw.proofs.Pushing.{last, next}
 use Rattle.cdb_draw.proofs.lanes.push_line.Goals as goal
 
 pub returns : goal.returns
-unfolding line_text
+unfolding lane_path
 returns c =
     let piece-1 : List ℕ = codes "<path d='M64,0H" in
     let piece-2 : List ℕ = decimal c.args.end in

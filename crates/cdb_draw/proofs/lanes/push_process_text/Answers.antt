@@ -1,10 +1,10 @@
 use Rattle.std.specs.Prelude.{List, codes, decimal, string_bytes, ℕ, ◌++◌, ◌≡◌}
-use Rattle.cdb_draw.specs.Lanes.{process_text, lane_open, line_text}
+use Rattle.cdb_draw.specs.Lanes.{process_lane_text, lane_open, lane_path}
 use Rattle.cdb_draw.proofs.Pushing.{last, next}
 use Rattle.cdb_draw.proofs.lanes.push_process_text.Goals as goal
 
 pub returns : goal.returns
-unfolding process_text
+unfolding process_lane_text
 returns c =
     let piece-1 : List ℕ = lane_open (codes "lane") c.args.y in
     let piece-2 : List ℕ = codes "<text x='8'>p" in
@@ -13,7 +13,7 @@ returns c =
     let piece-5 : List ℕ = codes "<text class='input' x='8' y='12'>input " in
     let piece-6 : List ℕ = decimal c.args.input in
     let piece-7 : List ℕ = codes "</text>" in
-    let piece-8 : List ℕ = line_text c.args.end in
+    let piece-8 : List ℕ = lane_path c.args.end in
     let bytes-0 : List ℕ = string_bytes c.args.text.now in
     let bytes-1 : List ℕ = string_bytes c.push_open.new.text in
     let bytes-2 : List ℕ = string_bytes c.push.new.text in

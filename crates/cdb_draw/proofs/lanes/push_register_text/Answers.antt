@@ -1,17 +1,17 @@
 use Rattle.std.specs.Prelude.{List, codes, string_bytes, ℕ, ◌++◌, ◌≡◌}
-use Rattle.cdb_draw.specs.Lanes.{register_line, lane_open, line_text}
+use Rattle.cdb_draw.specs.Lanes.{register_lane_text, lane_open, lane_path}
 use Rattle.cdb_base.specs.NameTexts.{register_text}
 use Rattle.cdb_draw.proofs.Pushing.{last, next}
 use Rattle.cdb_draw.proofs.lanes.push_register_text.Goals as goal
 
 pub returns : goal.returns
-unfolding register_line
+unfolding register_lane_text
 returns c =
     let piece-1 : List ℕ = lane_open (codes "register") c.args.y in
     let piece-2 : List ℕ = codes "<text x='8' y='4'>" in
     let piece-3 : List ℕ = register_text c.args.register in
     let piece-4 : List ℕ = codes "</text>" in
-    let piece-5 : List ℕ = line_text c.args.end in
+    let piece-5 : List ℕ = lane_path c.args.end in
     let bytes-0 : List ℕ = string_bytes c.args.text.now in
     let bytes-1 : List ℕ = string_bytes c.push_open.new.text in
     let bytes-2 : List ℕ = string_bytes c.push.new.text in

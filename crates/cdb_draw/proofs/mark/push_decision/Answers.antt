@@ -1,10 +1,10 @@
 use Rattle.std.specs.Prelude.{List, codes, decimal, string_bytes, ℕ, ◌++◌, ◌≡◌}
-use Rattle.cdb_draw.specs.EventMarks.{decision_text, shape_text, row_close}
+use Rattle.cdb_draw.specs.EventMarks.{decision_mark, shape_text, row_close}
 use Rattle.cdb_draw.proofs.Pushing.{last, next}
 use Rattle.cdb_draw.proofs.mark.push_decision.Goals as goal
 
 pub returns : goal.returns
-unfolding decision_text
+unfolding decision_mark
 returns c =
     let piece-1 : List ℕ = shape_text (codes "decided") in
     let piece-2 : List ℕ = codes "<text class='decision' y='-46'>decides " in

@@ -1,6 +1,6 @@
 use Rattle.std.proofs.Common.{◌≡◌, ℕ, ◌-◌, ◌∙◌, sym, ap, subst, arith, [], ◌∷◌, ◌++◌, get_or, append_assoc, append-nil, vec_len, length}
 use Rattle.std.specs.declared.thread.PromisedHandle.{PromisedHandle}
-use Rattle.cdb_hall.specs.Promises.{IsReady, IsPromise}
+use Rattle.cdb_hall.specs.Promises.{IsUnused, IsStationPromise}
 use Rattle.cdb_hall.specs.declared.station.Station.{Station}
 use Rattle.cdb_hall.specs.declared.worker.Left.{Left}
 use Rattle.cdb_hall.specs.declared.worker.SeatPromise.{SeatPromise}
@@ -21,7 +21,7 @@ loop-seat-init g c = record {
 }
 
 pub start_one-requires-after_bounds : goal.start_one-requires-after_bounds
-start_one-requires-after_bounds g c κs within = (each_front (λ (k : ℕ) (s : SeatView). IsReady c.args.shared.now s) _ _ _ c.in-Some.ensures.items c.loop-seat.invariant.ready).1
+start_one-requires-after_bounds g c κs within = (each_front (λ (k : ℕ) (s : SeatView). IsUnused c.args.shared.now s) _ _ _ c.in-Some.ensures.items c.loop-seat.invariant.ready).1
 
 pub loop-seat-preserved : goal.loop-seat-preserved
 loop-seat-preserved g c =
@@ -40,7 +40,7 @@ loop-seat-preserved g c =
     let at_station : vec_len c.args.stations - 1 - length c.loop-seat.handles.items ≡ length c.pop-in-Some.new.self.items = omega (arith, stations, seats, c.pop-in-Some.new.self.ok.0, handles, was.count, was.stations, was.many_stations) in
     let at : vec_len c.args.seats - 1 - length c.loop-seat.handles.items ≡ length front = omega (arith, seats, c.pop.new.self.ok.0, handles, was.count) in
     record {
-      ready = (each_front (λ (k : ℕ) (s : SeatView). IsReady c.args.shared.now s) _ _ _ popped was.ready).0;
+      ready = (each_front (λ (k : ℕ) (s : SeatView). IsUnused c.args.shared.now s) _ _ _ popped was.ready).0;
       stations = omega (arith, seats, stations);
       left = (seat ∷ was.left.0, whole);
       left_stations = (its ∷ was.left_stations.0, all_stations);
@@ -50,8 +50,8 @@ loop-seat-preserved g c =
       each = λ k before station handle low.
           let here : seat ≡ get_or all (vec_len c.args.seats - 1 - length c.loop-seat.handles.items) before = sym (get_or-middle front was.left.0 all seat before _ whole at) in
           let there : its ≡ get_or c.args.stations.items (vec_len c.args.stations - 1 - length c.loop-seat.handles.items) station = sym (get_or-middle c.pop-in-Some.new.self.items was.left_stations.0 c.args.stations.items its station _ all_stations at_station) in
-          let one = subst (λ (x : SeatView × Station g.row.T.Denot). IsPromise x.0 x.1 c.in_ok-handle.handle.promise) (λ i. (here i, there i)) c.in_ok-handle.ensures in
-          each_push (λ (i : ℕ) (h : PromisedHandle (Left g.row.R.Denot g.row.T.Denot) (SeatPromise g.row.R.Denot g.row.T.Denot)). IsPromise (get_or all (vec_len c.args.seats - 1 - i) before) (get_or c.args.stations.items (vec_len c.args.stations - 1 - i) station) h.promise) c.loop-seat.handles.items c.push_reserved.new.self.items c.in_ok-handle.handle
+          let one = subst (λ (x : SeatView × Station g.row.T.Denot). IsStationPromise x.0 x.1 c.in_ok-handle.handle.promise) (λ i. (here i, there i)) c.in_ok-handle.ensures in
+          each_push (λ (i : ℕ) (h : PromisedHandle (Left g.row.R.Denot g.row.T.Denot) (SeatPromise g.row.R.Denot g.row.T.Denot)). IsStationPromise (get_or all (vec_len c.args.seats - 1 - i) before) (get_or c.args.stations.items (vec_len c.args.stations - 1 - i) station) h.promise) c.loop-seat.handles.items c.push_reserved.new.self.items c.in_ok-handle.handle
           c.push_reserved.ensures.items (λ i h below. was.each i before station h (omega (arith, handles))) one k handle (omega (arith, c.push_reserved.new.self.ok.0));
     }
 

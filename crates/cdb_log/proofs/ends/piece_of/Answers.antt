@@ -3,7 +3,7 @@ use Rattle.std.proofs.lemmas.Bool.Decides.{nat_tests}
 use Rattle.std.proofs.lemmas.List.{get_or_default}
 use Rattle.std.proofs.lemmas.List.Sorted.{IsPartitionPoint-from_clause}
 use Rattle.std.specs.List.Sorted.{IsPartitionPoint}
-use Rattle.cdb_log.specs.Ends.{start, IsInPiece}
+use Rattle.cdb_log.specs.Ends.{piece_start, IsInPiece}
 use Rattle.cdb_log.proofs.Counting.{below_or_above}
 use Rattle.cdb_log.proofs.ends.piece_of.Goals as goal
 
@@ -27,7 +27,7 @@ from_point ends position at last bound point = record { within = within; low = l
         (λ all. let s = some in let t = point.0 (length ends - 1) 0 (omega arith) (omega arith) in absurd (let g : slice_index ends (length ends - 1) ≤ position = grind (arith, nat_tests, t) in omega arith))
         (below_or_above at (length ends))
 
-    low : (at : ℕ) → at ≤ length ends → IsPartitionPoint (λ e. leb e position ≡ true) (λ e. leb e position ≡ false) ends at → start ends at ≤ position
+    low : (at : ℕ) → at ≤ length ends → IsPartitionPoint (λ e. leb e position ≡ true) (λ e. leb e position ≡ false) ends at → piece_start ends at ≤ position
     low zero bound point = omega arith
     low (suc k) bound point = let t = point.0 k 0 (omega arith) (omega arith) in grind (arith, nat_tests, t)
 

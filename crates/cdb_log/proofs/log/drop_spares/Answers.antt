@@ -1,6 +1,6 @@
 use Rattle.std.proofs.Common.{◌≡◌, ℕ, suc, [], length, slice_index, subst}
 use Rattle.std.specs.List.{AllByRecursion}
-use Rattle.cdb_log.specs.Ends.{start}
+use Rattle.cdb_log.specs.Ends.{piece_start}
 use Rattle.cdb_log.specs.Offsets.{AreOffsets, seen}
 use Rattle.cdb_log.specs.Pieces.{lists}
 use Rattle.cdb_log.proofs.Changing.{popped}
@@ -20,7 +20,7 @@ loop-pieces-preserved g c =
     let spare = c.is_spare.ensures c.loop-pieces-test.true in
     let k : ℕ = spare.0 in
     let last = subst (λ l. suc (suc k) ≡ length l) c.deref.ensures.value spare.1 in
-    let none = subst (λ l. slice_index l (suc k) ≡ start l k) c.deref.ensures.value spare.2 in
+    let none = subst (λ l. slice_index l (suc k) ≡ piece_start l k) c.deref.ensures.value spare.2 in
     let p =
     popped pieces.items left.items c.pop.result ends.items left_ends.items c.pop-in-loop-pieces-2.result c.pop.ensures.items c.pop-in-loop-pieces-2.ensures.items
     pieces.len left.len ends.len left_ends.len pieces.ok.0 ends.ok.0 c.pop.ensures.cases c.pop-in-loop-pieces-2.ensures.cases kept.items_end k last none in

@@ -1,7 +1,7 @@
 use Rattle.std.proofs.Common.{◌∷◌, [], map}
 use Rattle.std.proofs.lemmas.Result.{err_from_is_err_and}
 use Rattle.cdb_rules.specs.Algorithms.{rules}
-use Rattle.cdb_program.specs.Reading.{texts}
+use Rattle.cdb_program.specs.Reading.{file_names}
 use Rattle.cdb_program.proofs.Opening.{fails_before, opened_then}
 use Rattle.cdb_program.proofs.Seated.{as_fault, fails_later, holds_seen, known_station, seats_known}
 use Rattle.cdb_program.proofs.seats.hold_seats.Goals as goal
@@ -9,19 +9,19 @@ use Rattle.cdb_program.proofs.seats.hold_seats.Goals as goal
 pub returns-in_err-json-clause-fault : goal.returns-in_err-json-clause-fault
 returns-in_err-json-clause-fault g c =
     let p = err_from_is_err_and c.from_residual.result c.from_residual.ensures.1 in
-    rw (p.1, p.2, ← c.outside.view_is) (as_fault _ _ _ _ c.in_err-json.field-0.0 (fails_before _ _ (c.args.setup.now ∷ []) (texts c.args.seats.now) c.in_err-json.field-0.0 c.in_err-json.ensures))
+    rw (p.1, p.2, ← c.outside.view_is) (as_fault _ _ _ _ c.in_err-json.field-0.0 (fails_before _ _ (c.args.setup.now ∷ []) (file_names c.args.seats.now) c.in_err-json.field-0.0 c.in_err-json.ensures))
 
 pub returns-in_err-stations-clause-fault : goal.returns-in_err-stations-clause-fault
 returns-in_err-stations-clause-fault g c =
     let p = err_from_is_err_and c.from_residual-in_err-stations.result c.from_residual-in_err-stations.ensures.1 in
     rw (p.1, p.2, ← c.outside.view_is)
-    (as_fault _ _ _ _ c.in_err-stations.field-0.0 (fails_later _ _ _ (c.args.setup.now ∷ []) (texts c.args.seats.now) c.in_err-stations.field-0.0 c.in_ok-json.ensures.0 c.in_err-stations.ensures.fault))
+    (as_fault _ _ _ _ c.in_err-stations.field-0.0 (fails_later _ _ _ (c.args.setup.now ∷ []) (file_names c.args.seats.now) c.in_err-stations.field-0.0 c.in_ok-json.ensures.0 c.in_err-stations.ensures.fault))
 
 pub returns-in-Ok-clause-held : goal.returns-in-Ok-clause-held
 returns-in-Ok-clause-held g c =
     let known = g.F.Seat.Talk.known in
     let stations = c.in_ok-stations.stations.items in
-    let names = texts c.args.seats.now in
+    let names = file_names c.args.seats.now in
     let seats = seats_known known _ _ (c.args.setup.now ∷ []) names stations c.in_ok-json.ensures.0 c.in_ok-stations.ensures.seats in
     rw (← c.outside.view_is) (
       c.in_ok-json.json.items,

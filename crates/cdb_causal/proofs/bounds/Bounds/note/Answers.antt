@@ -2,8 +2,8 @@ use Rattle.std.proofs.Common.{ℕ, ◌+◌, ◌-◌, ◌<◌, ◌≤◌, List, s
 use Rattle.std.proofs.lemmas.List.{with_items_is}
 use Rattle.cdb_base.specs.declared.event.Event.{Event}
 use Rattle.cdb_base.specs.declared.event.Event.TheVariants.{Step}
-use Rattle.cdb_causal.specs.Alone.{Joins}
-use Rattle.cdb_causal.specs.Bounds.{IsWithin}
+use Rattle.cdb_causal.specs.Alone.{JoinsCell}
+use Rattle.cdb_causal.specs.Bounds.{IsEventWithin}
 use Rattle.cdb_causal.specs.Cells.{named_cell}
 use Rattle.cdb_causal.specs.Own.{IsOwnNoted}
 use Rattle.cdb_causal.proofs.Bounding.{within_raised}
@@ -50,7 +50,7 @@ pub returns-in-Step-clause-receives : goal.returns-in-Step-clause-receives
 returns-in-Step-clause-receives c =
     let joins = c.note_kind.ensures.receives c.in-Step.k in
     let same = c.note_own.ensures.receives in
-    subst (λ e. Joins c.args.self.now c.note_own.new.self e) (sym c.in-Step.is)
+    subst (λ e. JoinsCell c.args.self.now c.note_own.new.self e) (sym c.in-Step.is)
     (record {
       alone = λ n is single. joins.alone n is (λ e. single (ap (λ t. slice_index t.items n) same ∙ e));
       others = λ n none. ap (λ t. slice_index t.items n) same ∙ joins.others n none;
@@ -74,5 +74,5 @@ returns-in-Step-clause-within c =
     let cell = c.named_cell.ensures.value in
     let here : c.args.mark < slice_index c.note_kind.new.self.steps.items (named_cell c.in-Step.p c.in-Step.k) =
     (let a = ap (λ l. slice_index l (named_cell c.in-Step.p c.in-Step.k)) is in let b = subst (λ n. c.args.mark + 1 ≤ slice_index written n) cell raised in omega arith) in
-    subst (IsWithin c.note_own.new.self c.args.mark) (sym c.in-Step.is)
+    subst (IsEventWithin c.note_own.new.self c.args.mark) (sym c.in-Step.is)
     (within_raised (c.args.mark + 1) c.note_kind.new.self c.note_own.new.self c.note_own.ensures.others c.args.mark event (omega arith) (here, rest))

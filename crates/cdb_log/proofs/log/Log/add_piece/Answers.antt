@@ -1,7 +1,7 @@
 use Rattle.std.proofs.Common.{◌∷◌, [], ◌++◌, ◌∙◌, sym, ap, subst, length, arith}
 use Rattle.std.specs.Prelude.{IsTrue}
 use Rattle.std.specs.List.{AllByRecursion}
-use Rattle.cdb_log.specs.Ends.{start, HasEnds}
+use Rattle.cdb_log.specs.Ends.{piece_start, HasEnds}
 use Rattle.cdb_log.specs.Marks.{IsSameLog}
 use Rattle.cdb_log.specs.Offsets.{AreOffsets, has_room, seen}
 use Rattle.cdb_log.specs.Pieces.{lists}
@@ -27,7 +27,7 @@ invariant_of-self-2 g c =
     let room_offsets = c.in_ok-offsets.ensures.exact in
     let is = c.push_reserved.ensures.items ∙ ap (λ l. l ++ v ∷ []) c.reserve-3.ensures.items in
     let is_offsets = c.push_reserved-2.ensures.items ∙ ap (λ l. l ++ o ∷ []) c.reserve-2.ensures.items in
-    let end_is = c.start_of-end.ensures ∙ ap (start c.deref.result.now) (c.len-2.ensures ∙ sym c.deref.ensures.len) ∙ ap (λ l. start l (length l)) (c.deref.ensures.value ∙ c.reserve.ensures.items) in
+    let end_is = c.start_of-end.ensures ∙ ap (piece_start c.deref.result.now) (c.len-2.ensures ∙ sym c.deref.ensures.len) ∙ ap (λ l. piece_start l (length l)) (c.deref.ensures.value ∙ c.reserve.ensures.items) in
     let is_ends = c.push_reserved-3.ensures.items ∙ ap (λ l. l ++ c.start_of-end.result ∷ []) c.reserve.ensures.items ∙ ap (λ n. ends ++ n ∷ []) end_is in
     record {
       items_end =

@@ -1,5 +1,5 @@
 use Rattle.std.proofs.Common.{◌≡◌, ℕ, ◌+◌, ◌*◌, ◌/◌, ◌%◌, ◌<◌, ◌≤◌, ◌↔◌, ◌∙◌, ap, sym, subst, suc, length, slice_index, arith}
-use Rattle.cdb_log.specs.Ends.{start}
+use Rattle.cdb_log.specs.Ends.{piece_start}
 use Rattle.cdb_log.specs.Marks.{mark}
 use Rattle.cdb_log.specs.Offsets.{AreOffsets, seen}
 use Rattle.cdb_log.specs.Pieces.{lists}
@@ -51,7 +51,7 @@ overflow_add-result g c =
     let few = h.few in
     let ok = c.self.inside.ends.ok.0 in
     let len = c.len.ensures in
-    let s = c.start_of.ensures ∙ ap (λ l. start l k) c.deref.ensures.value ∙ start_is offsets ends h k (omega arith) in
+    let s = c.start_of.ensures ∙ ap (λ l. piece_start l k) c.deref.ensures.value ∙ start_is offsets ends h k (omega arith) in
     let b = bounded offsets ends h k in
     let most = small_piece offsets ends h k c.index-offsets.result.now (omega arith) c.index-offsets.ensures in
     let within = c.count_below.ensures.within in
@@ -70,7 +70,7 @@ returns-clause-within g c =
     let ok = c.self.inside.ends.ok.0 in
     let len = c.len.ensures in
     let o = c.index-offsets.result.now in
-    let s = c.start_of.ensures ∙ ap (λ l. start l k) c.deref.ensures.value ∙ start_is offsets ends h k (omega arith) in
+    let s = c.start_of.ensures ∙ ap (λ l. piece_start l k) c.deref.ensures.value ∙ start_is offsets ends h k (omega arith) in
     let step = before_step (lists offsets) k o.items (lists_at offsets k o (omega arith) c.index-offsets.ensures) in
     let most = before_most (lists offsets) (suc k) in
     let many = same_many pieces offsets ends c.self.invariant in
@@ -95,7 +95,7 @@ returns-clause-marks g c =
     let rest : bound % PIECE < PIECE = omega arith in
     let whole : PIECE * (bound / PIECE) + bound % PIECE ≡ bound = omega arith in
     let o = c.index-offsets.result.now in
-    let s = c.start_of.ensures ∙ ap (λ l. start l (bound / PIECE)) c.deref.ensures.value ∙ start_is pieces ends h.items_end (bound / PIECE) (omega arith) in
+    let s = c.start_of.ensures ∙ ap (λ l. piece_start l (bound / PIECE)) c.deref.ensures.value ∙ start_is pieces ends h.items_end (bound / PIECE) (omega arith) in
     let most = subst (λ l. count ≤ length l) c.deref-2.ensures.value c.count_below.ensures.within in
     let below = subst (λ l. (j : ℕ) → j < length l → (j < count) ↔ (slice_index l j < bound % PIECE)) c.deref-2.ensures.value c.count_below.ensures.below in
     let p = position_marked pieces offsets ends h (bound / PIECE) (bound % PIECE) count o c.index-offsets.ensures within rest most below i (subst (λ log. i < length (items_of log)) (sym c.self.view_is) less) in

@@ -1,7 +1,7 @@
 use Rattle.std.proofs.Common.{◌≡◌, rules, refl, subst, codes, decimal, List, ℕ, [], ◌++◌}
 use Rattle.std.proofs.lemmas.Result.{err_from_is_err_and}
 use Rattle.cdb_play.specs.Buffers.{IsPut}
-use Rattle.cdb_play.specs.Races.{seat_line}
+use Rattle.cdb_play.specs.Races.{seat_heading}
 use Rattle.cdb_play.specs.Streams.{Fails}
 use Rattle.cdb_play.specs.declared.buffer.OutputFault.TheVariants.{Write}
 use Rattle.cdb_play.proofs.Putting.{put_nothing, put_more, cut_short}
@@ -15,7 +15,7 @@ returns-in_err-put g c =
     let held = c.args.buffer.now in
     let seat = c.args.seat in
     rw (p.1, p.2)
-    (cut_short stream (Unit {0}) Write out out c.put.new.out held held c.put.new.self [] (codes "seat ") (decimal seat ++ codes "\n") (seat_line seat) (put_nothing stream out held) refl c.in_err-put.ensures.err)
+    (cut_short stream (Unit {0}) Write out out c.put.new.out held held c.put.new.self [] (codes "seat ") (decimal seat ++ codes "\n") (seat_heading seat) (put_nothing stream out held) refl c.in_err-put.ensures.err)
 
 pub returns-in_err-put-2 : goal.returns-in_err-put-2
 returns-in_err-put-2 g c =
@@ -30,7 +30,7 @@ returns-in_err-put-2 g c =
     let same : c.as_bytes.result.now ≡ decimal seat = search rules in
     let fails = subst (λ (t : List ℕ). Fails stream now new (middle ++ t)) same c.in_err-put-2.ensures.err in
     rw (p.1, p.2)
-    (cut_short stream (Unit {0}) Write out now new held middle c.put-2.new.self (codes "seat ") (decimal seat) (codes "\n") (seat_line seat) c.in_ok-put.ensures.ok refl fails)
+    (cut_short stream (Unit {0}) Write out now new held middle c.put-2.new.self (codes "seat ") (decimal seat) (codes "\n") (seat_heading seat) c.in_ok-put.ensures.ok refl fails)
 
 pub returns-in_err-put-3 : goal.returns-in_err-put-3
 returns-in_err-put-3 g c =
@@ -47,7 +47,7 @@ returns-in_err-put-3 g c =
     let number = subst (IsPut stream first one now middle) same c.in_ok-put-2.ensures.ok in
     let so = put_more stream out first now held one middle (codes "seat ") (decimal seat) c.in_ok-put.ensures.ok number in
     rw (p.1, p.2)
-    (cut_short stream (Unit {0}) Write out now c.put-3.new.out held middle c.put-3.new.self (codes "seat " ++ decimal seat) (codes "\n") [] (seat_line seat) so refl c.in_err-put-3.ensures.err)
+    (cut_short stream (Unit {0}) Write out now c.put-3.new.out held middle c.put-3.new.self (codes "seat " ++ decimal seat) (codes "\n") [] (seat_heading seat) so refl c.in_err-put-3.ensures.err)
 
 pub returns : goal.returns
 returns g c =

@@ -3,7 +3,7 @@ use Rattle.cdb_base.specs.Event.{event_name}
 use Rattle.cdb_causal.specs.Names.{IsNewName}
 use Rattle.cdb_causal.specs.Standing.{HasNoLostCopy}
 use Rattle.cdb_record.specs.Recorded.{recorded_of, records_of}
-use Rattle.cdb_record.proofs.Seams.{history_seen, entries_push}
+use Rattle.cdb_record.proofs.Seams.{history_seen, recorded_push}
 use Rattle.cdb_record.proofs.records.Records.push_with.Goals as goal
 
 pub push_with-requires-clause-new_name : goal.push_with-requires-clause-new_name
@@ -22,6 +22,6 @@ returns-clause-ok g c =
     let items = c.push_reserved.ensures.pushed.items ∙ ap (λ l. l ++ left ∷ []) c.reserve.ensures.same.items in (
       left,
       c.in_ok-left.ensures.changed,
-      ap₂ records_of c.in_ok-left.ensures.added items ∙ entries_push events lefts c.args.event left c.self.invariant.0
+      ap₂ records_of c.in_ok-left.ensures.added items ∙ recorded_push events lefts c.args.event left c.self.invariant.0
           ∙ ap (λ l. l ++ recorded_of c.args.event left ∷ []) c.self.view_is,
     )

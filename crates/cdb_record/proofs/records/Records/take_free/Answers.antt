@@ -2,12 +2,12 @@ use Rattle.std.proofs.Common.{◌-◌, length, refl, ap, subst, arith}
 use Rattle.cdb_causal.specs.Causality.{IsFree}
 use Rattle.cdb_causal.specs.Dependence.{depends}
 use Rattle.cdb_causal.specs.Names.{IsFirstDependent}
-use Rattle.cdb_record.proofs.Seams.{history_seen, length_entries, before_nth}
+use Rattle.cdb_record.proofs.Seams.{history_seen, length_recorded, before_nth}
 use Rattle.cdb_record.proofs.records.Records.take_free.Goals as goal
 
 pub first_dependent-requires-clause-to_len : goal.first_dependent-requires-clause-to_len
 first_dependent-requires-clause-to_len g c =
-    let all = length_entries c.self.inside.history c.self.inside.left.items c.self.invariant.0 in
+    let all = length_recorded c.self.inside.history c.self.inside.left.items c.self.invariant.0 in
     let seen = ap length c.self.view_is in
     let within = c.requires.to_len in
     omega (arith, all, seen, within)

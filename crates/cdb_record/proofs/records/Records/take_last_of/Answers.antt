@@ -4,14 +4,14 @@ use Rattle.std.proofs.lemmas.Option.{slice_get_within}
 use Rattle.cdb_causal.specs.Causality.{IsFree}
 use Rattle.cdb_causal.specs.Dependence.{depends}
 use Rattle.cdb_record.specs.Recorded.{events_of}
-use Rattle.cdb_record.specs.Taken.{IsStepOf, IsLastStepOf, IsTakenOut}
+use Rattle.cdb_record.specs.Taken.{IsStepOf, IsLastStepOf, IsRecordTakenOut}
 use Rattle.cdb_record.proofs.Seams.{history_seen, matched}
 use Rattle.cdb_record.proofs.records.Records.take_last_of.Goals as goal
 
 pub returns-in_err-at : goal.returns-in_err-at
 returns-in_err-at g c =
     let seen = history_seen c.self.inside.history c.self.inside.left.items c.self.invariant.0 c.self.view_is in
-    subst (λ o. MatchOption o (((i : ℕ) → IsLastStepOf (events_of c.args.self.now) c.args.p i → IsFree depends (events_of c.args.self.now) i → ⊥) × (c.args.self.now ≡ c.args.self.now)) (λ entry. (i : ℕ) × IsLastStepOf (events_of c.args.self.now) c.args.p i × IsFree depends (events_of c.args.self.now) i × IsTakenOut c.args.self.now i entry c.args.self.now))
+    subst (λ o. MatchOption o (((i : ℕ) → IsLastStepOf (events_of c.args.self.now) c.args.p i → IsFree depends (events_of c.args.self.now) i → ⊥) × (c.args.self.now ≡ c.args.self.now)) (λ entry. (i : ℕ) × IsLastStepOf (events_of c.args.self.now) c.args.p i × IsFree depends (events_of c.args.self.now) i × IsRecordTakenOut c.args.self.now i entry c.args.self.now))
     (sym c.from_residual.ensures)
     ((λ i last free. subst (λ h. (i : ℕ) → IsStepOf h c.args.p i → ⊥) seen c.in_err-at.ensures i last.0), refl)
 

@@ -3,19 +3,19 @@ use Rattle.cdb_base.specs.Positions.{nth}
 use Rattle.cdb_causal.specs.Rollback.{without}
 use Rattle.cdb_causal.proofs.Lists.{remove-without}
 use Rattle.cdb_record.specs.Recorded.{recorded_of, records_of}
-use Rattle.cdb_record.proofs.Seams.{fewer_without, same_length_without, length_entries, entries_without, entry_stood}
+use Rattle.cdb_record.proofs.Seams.{fewer_without, same_length_without, length_recorded, recorded_without, recorded_stood}
 use Rattle.cdb_record.proofs.records.Records.take_out.Goals as goal
 
 pub remove-event-requires-clause-to_len : goal.remove-event-requires-clause-to_len
 remove-event-requires-clause-to_len g c =
-    let all = length_entries c.self.inside.history c.self.inside.left.items c.self.invariant.0 in
+    let all = length_recorded c.self.inside.history c.self.inside.left.items c.self.invariant.0 in
     let seen = ap length c.self.view_is in
     let within = c.requires.to_len in
     omega (arith, all, seen, within)
 
 pub take_out-back-requires : goal.take_out-back-requires
 take_out-back-requires g c =
-    let all = length_entries c.self.inside.history c.self.inside.left.items c.self.invariant.0 in
+    let all = length_recorded c.self.inside.history c.self.inside.left.items c.self.invariant.0 in
     let seen = ap length c.self.view_is in
     let each = c.self.invariant.0 in
     let first = c.requires.from_one in
@@ -37,7 +37,7 @@ invariant_of-self g c =
 pub returns-clause-recorded : goal.returns-clause-recorded
 returns-clause-recorded g c =
     subst (λ l. nth l c.args.at ≡ Some (recorded_of c.remove-event.result c.take_out-back.result)) c.self.view_is
-    (entry_stood c.self.inside.history c.self.inside.left.items c.args.at c.remove-event.result c.take_out-back.result c.requires.from_one c.remove-event.ensures.event c.take_out-back.ensures.stood)
+    (recorded_stood c.self.inside.history c.self.inside.left.items c.args.at c.remove-event.result c.take_out-back.result c.requires.from_one c.remove-event.ensures.event c.take_out-back.ensures.stood)
 
 pub returns-clause-rest : goal.returns-clause-rest
 returns-clause-rest g c =
@@ -45,5 +45,5 @@ returns-clause-rest g c =
     let lefts = c.self.inside.left.items in
     let i = c.args.at - 1 in
     ap₂ records_of c.remove-event.ensures.rest (c.take_out-back.ensures.items ∙ remove-without lefts i)
-    ∙ entries_without events lefts i c.self.invariant.0
+    ∙ recorded_without events lefts i c.self.invariant.0
     ∙ ap (λ l. without l i) c.self.view_is

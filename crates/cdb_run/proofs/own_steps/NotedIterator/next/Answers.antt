@@ -1,7 +1,7 @@
 use Rattle.std.proofs.Common.{◌≡◌, ℕ, suc, ◌+◌, List, ◌∷◌, Option, length, drop, sym, ap, ◌∙◌, arith, rules}
 use Rattle.cdb_base.specs.declared.event.Event.{Event}
 use Rattle.cdb_causal.proofs.Lists.{drop_from}
-use Rattle.cdb_rules.specs.OwnSteps.{writes_with, noted}
+use Rattle.cdb_rules.specs.OwnSteps.{writes_with, as_own_events}
 use Rattle.cdb_run.specs.WriteCounts.{writes_counted}
 use Rattle.cdb_rules.proofs.OwnOfState.{noted_same}
 use Rattle.cdb_run.proofs.own_steps.NotedIterator.next.Goals as goal
@@ -15,8 +15,8 @@ returns-clause-steps c =
     let later : List Event = drop (position + 1) history in
     let next : suc position ≡ position + 1 = omega arith in
     sym c.self.view_is
-    ∙ ap (noted counts) (drop_from history position first c.event-first.ensures ∙ ap (λ n. first ∷ drop n history) next)
-    ∙ ap (λ (o : Option ℕ). record { event = first; writes_before = o } ∷ noted (writes_with counts first) later) (sym c.met_by-writes_before.ensures)
+    ∙ ap (as_own_events counts) (drop_from history position first c.event-first.ensures ∙ ap (λ n. first ∷ drop n history) next)
+    ∙ ap (λ (o : Option ℕ). record { event = first; writes_before = o } ∷ as_own_events (writes_with counts first) later) (sym c.met_by-writes_before.ensures)
     ∙ ap (λ l. record { event = first; writes_before = c.met_by-writes_before.result } ∷ l) (noted_same (writes_with counts first) (writes_counted c.count.new.self) (λ register. sym (c.count.ensures register)) later)
 
 pub returns-clause-goes : goal.returns-clause-goes

@@ -1,7 +1,6 @@
 //! The words of the command line.
 
-use crate::reading::{ask_status, asked};
-use crate::request::Asked;
+use cdb_arguments::{Asked, ask_status, asked};
 use std::process::Abort;
 
 #[test]

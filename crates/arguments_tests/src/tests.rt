@@ -1,0 +1,3 @@
+//! Command lines, with and without memory.
+
+mod reading;
