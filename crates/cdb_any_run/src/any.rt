@@ -1,6 +1,6 @@
 //! A run of either algorithm.
 
-ghost use Rattle.std.specs.Prelude.{◌≡◌, ◌≤◌, ◌↔◌, [], None, Some, is_some, IsTrue, IsSome, IfNone, IsOk, IfOk, OnOk, OnErr, vec_capacity};
+ghost use Rattle.std.specs.Prelude.{◌≡◌, ◌≤◌, ◌↔◌, [], None, Some, is_some, IsTrue, IsSome, IfNone, IsOk, IfOk, OnOk, OnErr, true, vec_capacity};
 ghost use Rattle.std.specs.Option.{option_copied};
 ghost use Rattle.std.specs.Result.{result_err};
 ghost use Rattle.std.specs.Vec.{vec_items};
@@ -11,6 +11,8 @@ ghost use Rattle.cdb_message.specs.Mail.{next_pending, payload_of, is_lost};
 ghost use Rattle.cdb_rules.specs.Agreement.{AllAgree, HasMajorityIfNeeded};
 ghost use Rattle.cdb_rules.specs.Algorithms.{rules};
 ghost use Rattle.cdb_any_run.specs.Any.{run_view, IsTrueToSetup};
+ghost use Rattle.cdb_rules.specs.Auto.{first_step_by};
+ghost use Rattle.cdb_rules.specs.Step.{is_among};
 ghost use Rattle.cdb_rules.specs.ByRules.{IsNext, IsInOrder, process_in, alive_in, steps_in, queries_in, place_in, round_in, decision_in, mail_in, register_in, cell_in, writes_in, decisions_in, answer_to_step, answer_to_again, answer_to_loss};
 ghost use Rattle.cdb_rules.specs.EventRefs.{name_given};
 ghost use Rattle.cdb_rules.specs.Refusals.{IsOfRun};
@@ -74,6 +76,26 @@ impl AnyRun {
         match self {
             AnyRun::Leader(run) => run.step(alloc, p, act),
             AnyRun::Alpha(run) => run.step(alloc, p, act),
+        }
+    }
+
+    /// Takes the first step of process `p`, from 1 to their number, that `auto` tries and that is not refused, or
+    /// returns `Idle`. After a refusal and after `NoMemory` the run is as it was.
+    pub fn step_first(&mut self, alloc: Global, p: u32) -> Result<Result<Event, Refusal>, NoMemory>
+        requires true_to_setup { IsTrueToSetup self.old }
+        requires among { is_among (run_view self.old).setup.processes p ≡ true }
+        ensures answer { IfOk result (λ r. r ≡ first_step_by rules (run_view self.old) p) }
+        ensures after { IfOk result
+            (λ r. run_view self.new ≡ with_answer (run_view self.old) r) }
+        ensures undoable { IfOk result
+            (λ r. IfOk r (λ event. IsJustTaken (run_view self.new) event (run_view self.old))) }
+        ensures err { OnErr result (self.new ≡ self.old) }
+        ensures memory { OnErr result (IsOk (first_step_by rules (run_view self.old) p)) }
+        ensures true_to_setup { IsTrueToSetup self.new }
+    {
+        match self {
+            AnyRun::Leader(run) => run.step_first(alloc, p),
+            AnyRun::Alpha(run) => run.step_first(alloc, p),
         }
     }
 

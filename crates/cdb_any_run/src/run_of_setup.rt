@@ -99,6 +99,10 @@ impl Runs for RunOfSetup {
         self.run.step(alloc, p, act)
     }
 
+    fn step_first(&mut self, alloc: Global, p: u32) -> Result<Result<Event, Refusal>, NoMemory> {
+        self.run.step_first(alloc, p)
+    }
+
     fn lose(
         &mut self,
         alloc: Global,

@@ -15,5 +15,5 @@ pub mod Done
 pub mod Laws
 -- the worked journals, as the table of the commands gives them
 pub mod WorkedJournals
--- what the code keeps for itself: the acts that `auto` tries, one after the other
+-- what the code keeps for itself: whether `auto` is refused by itself
 pub mod Trying

@@ -3,12 +3,13 @@ ghost use Rattle.std.specs.Prelude.{◌≡◌, ◌+◌, ◌≤◌, [], true, IfO
 ghost use Rattle.std.specs.Option.{option_or};
 ghost use Rattle.cdb_base.specs.declared.limits.TheConstants.{MAX_ENTRIES};
 ghost use Rattle.cdb_control.specs.Done.{came_out, CameOutAs, IsCarriedOut, IsCarriedOutForAny, IsNoRefusal, IsTaken, IsTakenFromAny, NoneShrinks};
-ghost use Rattle.cdb_control.specs.Auto.{choice, first_act_of};
+ghost use Rattle.cdb_control.specs.Auto.{choice};
+ghost use Rattle.cdb_rules.specs.Auto.{first_act_of};
 ghost use Rattle.cdb_control.specs.Commands.{step, undo, rollback, why, show, decides, newly_fired, last_step, step_told};
 ghost use Rattle.cdb_rules.specs.EventRefs.{name_given};
 ghost use Rattle.cdb_rules.specs.Runs.{with_answer};
 ghost use Rattle.cdb_rules.specs.Step.{is_among};
-ghost use Rattle.cdb_control.specs.Trying.{first_step_of, IsFreeForAuto, IsRefusedForAuto};
+ghost use Rattle.cdb_control.specs.Trying.{IsFreeForAuto, IsRefusedForAuto};
 ghost use Rattle.cdb_control.specs.Room.{capacity_of, is_spared, HasSpace};
 ghost use Rattle.cdb_control.specs.State.{first_control_state, held, redo_of, AreOfRun};
 ghost use Rattle.cdb_rules.specs.Views.{round_of, decision_of};
@@ -88,38 +89,6 @@ fn first_act<R: Runs>(run: &R, p: u32) -> Result<Act, Refusal>
     Err(Refusal::Idle)
 }
 
-/// Takes the first act of those that `auto` tries which the run does not refuse.
-fn take_first<R: Runs>(
-    alloc: Global,
-    run: &mut R,
-    p: u32,
-) -> Result<Result<Event, Refusal>, NoMemory>
-    requires { is_among (R.run run.old).setup.processes p ≡ true }
-    ensures answer { IfOk result (λ r.
-        r ≡ first_step_of (R.rules (R.run run.old).setup) (R.run run.old).history p) }
-    ensures after { IfOk result (λ r. R.run run.new ≡ with_answer (R.run run.old) r) }
-    ensures err { OnErr result (R.run run.new ≡ R.run run.old) }
-    ensures memory { OnErr result (IsOk
-        (first_step_of (R.rules (R.run run.old).setup) (R.run run.old).history p)) }
-{
-    if let Ok(event) = run.step(alloc, p, Act::Learn)? {
-        return Ok(Ok(event));
-    }
-    if let Some(name) = run.pending(p) {
-        let act = Act::Recv(u32::from(name.s.number()), u32::from(name.m));
-        if let Ok(event) = run.step(alloc, p, act)? {
-            return Ok(Ok(event));
-        }
-    }
-    if let Ok(event) = run.step(alloc, p, Act::Go)? {
-        return Ok(Ok(event));
-    }
-    if let Ok(event) = run.step(alloc, p, Act::Query(None))? {
-        return Ok(Ok(event));
-    }
-    Ok(Err(Refusal::Idle))
-}
-
 impl<R: Runs> ControlState<R> {
     /// The state in which nothing has happened.
     pub fn open(alloc: Global, setup: Setup, seats: u8) -> Result<Self, NoMemory>
@@ -178,6 +147,7 @@ impl<R: Runs> ControlState<R> {
     }
 
     /// Sets a breakpoint.
+    #[inline(never)]
     #[tactic(auto, unfolding(crate::specs::Commands::outcome))]
     pub fn set_break(&mut self, stop: Stop) -> Result<Reply, NoMemory>
         requires { self.old.state.next ≤ MAX_ENTRIES }
@@ -229,6 +199,7 @@ impl<R: Runs> ControlState<R> {
 
     /// Takes an event back on which no standing event depends, and puts it at the end of the seat's
     /// redo list. It needs no memory where there is room for the event.
+    #[inline(never)]
     pub fn undo(&mut self, seat: u8, name: EventRef) -> Result<Reply, NoMemory>
         requires from_one { 1 ≤ seat }
         requires to_last { seat ≤ length self.old.state.redo }
@@ -248,6 +219,7 @@ impl<R: Runs> ControlState<R> {
     }
 
     /// Takes an event back with its consequences, and puts them on the seat's redo list, the last first.
+    #[inline(never)]
     pub fn rollback(&mut self, alloc: Global, seat: u8, name: EventRef) -> Result<Reply, NoMemory>
         requires from_one { 1 ≤ seat }
         requires to_last { seat ≤ length self.old.state.redo }
@@ -267,6 +239,7 @@ impl<R: Runs> ControlState<R> {
     }
 
     /// Takes the seat's last undone event again, and off its redo list.
+    #[inline(never)]
     #[tactic(auto, unfolding(crate::specs::Commands::outcome))]
     pub fn redo(&mut self, alloc: Global, seat: u8) -> Result<Reply, NoMemory>
         requires from_one { 1 ≤ seat }
@@ -391,6 +364,7 @@ impl<R: Runs> ControlState<R> {
     }
 
     /// Loses the copy of the `m`-th message of process `s` for process `p`. No breakpoint looks at it.
+    #[inline(never)]
     #[tactic(auto, unfolding(crate::specs::Commands::outcome))]
     pub fn lose(&mut self, alloc: Global, s: u32, m: u32, p: u32) -> Result<Reply, NoMemory>
         ensures ok { IfOk result
@@ -464,7 +438,7 @@ impl<R: Runs> ControlState<R> {
             Ok(round) => round,
             Err(refusal) => return Ok(Reply::Refused(refusal)),
         };
-        match take_first(alloc, &mut self.run, p)? {
+        match self.run.step_first(alloc, p)? {
             Ok(event) => {
                 let taken = self.last_step(event, p, round_before);
                 Ok(self.tell_step(taken))
@@ -474,6 +448,7 @@ impl<R: Runs> ControlState<R> {
     }
 
     /// Returns the direct causes of an event.
+    #[inline(never)]
     pub fn why(&self, alloc: Global, name: EventRef) -> Reply
         ensures { CameOutAs (why self.now.state (name_given name)) self.now.state result }
     {
@@ -494,6 +469,7 @@ impl<R: Runs> ControlState<R> {
     }
 
     /// Shows a part of the run.
+    #[inline(never)]
     #[tactic(auto, unfolding(crate::specs::Commands::outcome))]
     pub fn show(&self, alloc: Global, view: View) -> Result<Reply, NoMemory>
         ensures ok { IfOk result
@@ -511,6 +487,7 @@ impl<R: Runs> ControlState<R> {
     }
 
     /// Shows who has decided what.
+    #[inline(never)]
     #[tactic(auto, unfolding(crate::specs::Commands::outcome))]
     pub fn decisions(&self, alloc: Global) -> Result<Reply, NoMemory>
         ensures ok { IfOk result

@@ -13,6 +13,7 @@ pub mod Runs
 pub mod Rules
 pub mod Algorithms
 pub mod ByRules
+pub mod Auto
 pub mod Views
 -- the laws: what the rules keep, histories that reach one state, and agreement
 pub mod Lawful

@@ -4,6 +4,7 @@ ghost use Rattle.std.specs.Prelude.{◌≡◌, ◌≤◌, List, [], None, IfOk, 
 ghost use Rattle.std.specs.Option.{option_copied};
 ghost use Rattle.std.specs.Result.{result_err};
 ghost use Rattle.cdb_base.specs.declared.event.Event.{Event};
+ghost use Rattle.cdb_rules.specs.Auto.{first_step_by};
 ghost use Rattle.cdb_rules.specs.ByRules.{answer_to_step, answer_to_again, answer_to_loss, process_in, mail_in, registers_in, cell_in, decisions_in, IsInOrder};
 ghost use Rattle.cdb_rules.specs.RunView.{RunView};
 ghost use Rattle.cdb_rules.specs.Lawful.{AreLawful, KeepHistories};
@@ -47,6 +48,15 @@ pub trait Runs: Sized + Drop {
         ensures after { IfOk result (λ r. run self.new ≡ with_answer (run self.old) r) }
         ensures err { OnErr result (run self.new ≡ run self.old) }
         ensures memory { OnErr result (IsOk (answer_to_step rules (run self.old) p act)) };
+
+    /// Takes the first step of process `p`, from 1 to their number, of those that `auto` tries which is not refused,
+    /// or returns `Idle`. After a refusal and after `NoMemory` the run is as it was.
+    fn step_first(&mut self, alloc: Global, p: u32) -> Result<Result<Event, Refusal>, NoMemory>
+        requires { is_among (run self.old).setup.processes p ≡ true }
+        ensures answer { IfOk result (λ r. r ≡ first_step_by rules (run self.old) p) }
+        ensures after { IfOk result (λ r. run self.new ≡ with_answer (run self.old) r) }
+        ensures err { OnErr result (run self.new ≡ run self.old) }
+        ensures memory { OnErr result (IsOk (first_step_by rules (run self.old) p)) };
 
     /// Loses the copy of the `m`-th message of process `s` for process `p`, or returns the first
     /// refusal that holds. After a refusal and after `NoMemory` the run is as it was.

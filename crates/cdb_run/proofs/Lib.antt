@@ -1,5 +1,6 @@
 -- what is held of a run: at the start, before and after an event, and what it shows
 pub mod Starting
+pub mod FirstStep
 pub mod Held
 pub mod Stepping
 pub mod Admitting

@@ -1,6 +1,8 @@
 -- What a step of one process returns and changes, by its progress, the mail and the registers as they stand.
-use Rattle.std.specs.Prelude.{ℕ, ◌+◌, not, nat_le, [], ◌∷◌, length, Option, Result, Ok, Err, if◌then◌else◌}
+use Rattle.std.specs.Prelude.{ℕ, ◌+◌, not, nat_le, [], ◌∷◌, length, Option, option_and_then, Result, Ok, Err, if◌then◌else◌}
+use Rattle.std.specs.Result.{result_ok}
 use Rattle.cdb_base.specs.declared.act.Act.{Act}
+use Rattle.cdb_base.specs.declared.act.Act.TheVariants as act
 use Rattle.cdb_base.specs.declared.event.Event.{Event}
 use Rattle.cdb_base.specs.declared.event.Event.TheVariants.{Step}
 use Rattle.cdb_base.specs.declared.event.Kind.{Kind}
@@ -63,3 +65,7 @@ payload_due table progress = wished_payload (table.wish progress.local)
 
 abbrev pub cell_due : {L : Type 0} → Table L → Progress L → Option Cell
 cell_due table progress = wished_cell (table.wish progress.local)
+
+-- the receive of that copy, which is the least pending, where a step of it is not refused
+abbrev pub receive_of : (Act → Result Event Refusal) → Option MsgName → Option Event
+receive_of step pending = option_and_then (λ name. result_ok (step (act.Recv name.s name.m))) pending

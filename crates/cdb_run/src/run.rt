@@ -1,10 +1,13 @@
 //! A run, with one current state and a record of each standing event.
 
-ghost use Rattle.std.specs.Prelude.{◌≡◌, ◌≤◌, ◌↔◌, [], length, None, Some, is_some, IsSome, IsOk, IfOk, OnOk, OnErr, IfNone};
+ghost use Rattle.std.specs.Prelude.{◌≡◌, ◌≤◌, ◌↔◌, [], length, true, None, Some, is_some, IsSome, IfSome, IsOk, IfOk, OnOk, OnErr, IfNone};
 ghost use Rattle.std.specs.Option.{option_copied};
 ghost use Rattle.std.specs.Result.{result_err};
 ghost use Rattle.cdb_message.specs.Mail.{next_pending, payload_of, is_lost};
+ghost use Rattle.cdb_rules.specs.Auto.{first_step_in};
+ghost use Rattle.cdb_run.specs.Plans.{receive_of};
 ghost use Rattle.cdb_rules.specs.Refusals.{IsOfRun};
+ghost use Rattle.cdb_rules.specs.Step.{is_among};
 ghost use Rattle.cdb_rules.specs.Runs.{IsNumberAmong, IsNext, IsInOrder, process_in, progress_in, alive_in, steps_in, queries_in, local_in, mail_in, registers_in, register_in, cell_in, writes_in, decisions_in, answer_to_step, answer_to_again, answer_to_loss, with_event, with_answer, IsJustTaken};
 
 use crate::among::process_among;
@@ -18,7 +21,7 @@ use cdb_base::{
 };
 use cdb_causal::History;
 use cdb_message::mail::Mail;
-use cdb_process::Process;
+use cdb_process::{Process, accepts_receive};
 use cdb_record::Records;
 use cdb_register::Registers;
 use cdb_rules::{Chronicle, Progress};
@@ -180,6 +183,62 @@ impl<P: Process> Run<P> {
         ensures memory { OnErr result (IsOk (answer_to_step P.table self.old p act)) }
     {
         match self.plan(p, act) {
+            Ok(event) => {
+                self.take(alloc, &event)?;
+                Ok(Ok(event))
+            }
+            Err(refusal) => Ok(Err(refusal)),
+        }
+    }
+
+    /// The receive of the least copy that process `p` can still receive, where it is not refused.
+    fn plan_receive(&self, p: u32) -> Option<Event>
+        requires { is_among self.now.setup.processes p ≡ true }
+        ensures received { result ≡ receive_of (answer_to_step P.table self.now p)
+            (next_pending (mail_in P.table self.now) p None) }
+        ensures enabled { IfSome result (λ event. IsNext P.table self.now event) }
+    {
+        let process = self.process(p)?;
+        if !accepts_receive(self.local(process)) {
+            return None;
+        }
+        let name = self.mail().pending(process, None)?;
+        let act = Act::Recv(u32::from(name.s.number()), u32::from(name.m));
+        self.plan(p, act).ok()
+    }
+
+    /// The first step of process `p` that `auto` tries and that is not refused; `Idle` where each is.
+    fn plan_first(&self, p: u32) -> Result<Event, Refusal>
+        requires { is_among self.now.setup.processes p ≡ true }
+        ensures answer { result ≡ first_step_in P.table self.now p }
+        ensures enabled { IfOk result (λ event. IsNext P.table self.now event) }
+    {
+        if let Ok(event) = self.plan(p, Act::Learn) {
+            return Ok(event);
+        }
+        if let Some(event) = self.plan_receive(p) {
+            return Ok(event);
+        }
+        if let Ok(event) = self.plan(p, Act::Go) {
+            return Ok(event);
+        }
+        if let Ok(event) = self.plan(p, Act::Query(None)) {
+            return Ok(event);
+        }
+        Err(Refusal::Idle)
+    }
+
+    /// Takes the first step of process `p`, from 1 to their number, that `auto` tries and that is not refused, or
+    /// returns `Idle`. After a refusal and after `NoMemory` the run is as it was.
+    pub fn step_first(&mut self, alloc: Global, p: u32) -> Result<Result<Event, Refusal>, NoMemory>
+        requires { is_among self.old.setup.processes p ≡ true }
+        ensures answer { IfOk result (λ r. r ≡ first_step_in P.table self.old p) }
+        ensures after { IfOk result (λ r. self.new ≡ with_answer self.old r) }
+        ensures undoable { IfOk result (λ r. IfOk r (λ e. IsJustTaken self.new e self.old)) }
+        ensures err { OnErr result (self.new ≡ self.old) }
+        ensures memory { OnErr result (IsOk (first_step_in P.table self.old p)) }
+    {
+        match self.plan_first(p) {
             Ok(event) => {
                 self.take(alloc, &event)?;
                 Ok(Ok(event))

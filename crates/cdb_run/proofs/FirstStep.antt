@@ -1,0 +1,21 @@
+-- Where each act that `auto` tries is refused.
+use Rattle.std.proofs.Common.{rules, ◌≡◌, Option, Some, None, Result, Ok, Err, sym, refl}
+use Rattle.std.specs.Result.{result_ok}
+use Rattle.std.proofs.lemmas.Option.{none-some}
+use Rattle.cdb_base.specs.declared.act.Act.{Act}
+use Rattle.cdb_base.specs.declared.act.Act.TheVariants as act
+use Rattle.cdb_base.specs.declared.event.Event.{Event}
+use Rattle.cdb_base.specs.declared.name.MsgName.{MsgName}
+use Rattle.cdb_base.specs.declared.refusal.Refusal.{Refusal}
+use Rattle.cdb_base.specs.declared.refusal.Refusal.TheVariants as refusal
+use Rattle.cdb_rules.specs.Auto.{first_step}
+use Rattle.cdb_run.specs.Plans.{receive_of}
+
+pub then_idle : (step : Act → Result Event Refusal) (pending : Option MsgName) (why why_go why_query : Refusal) → step act.Learn ≡ Err why
+    → receive_of step pending ≡ None → step act.Go ≡ Err why_go → step (act.Query None) ≡ Err why_query → first_step step pending ≡ Err refusal.Idle
+then_idle step None why why_go why_query learn none go query = rw (learn, go, query) refl
+then_idle step (Some name) why why_go why_query learn none go query = by_result (step (act.Recv name.s name.m)) refl none
+  where
+    by_result : (r : Result Event Refusal) → step (act.Recv name.s name.m) ≡ r → result_ok r ≡ None → first_step step (Some name) ≡ Err refusal.Idle
+    by_result (Ok e) is none = absurd (none-some e (sym none))
+    by_result (Err e) is none = rw (learn, is, go, query) refl
