@@ -1,6 +1,6 @@
 //! The machine of one process of leader-based consensus.
 
-ghost use Rattle.std.specs.Prelude.{◌≡◌, ℕ, ◌<◌, ◌↔◌, Option, Some, None, IsTrue, IsSome, IfOk, OnErr, is_some};
+ghost use Rattle.std.specs.Prelude.{◌≡◌, ℕ, ◌<◌, ◌↔◌, Option, Some, None, IsTrue, IsSome, IfOk, OnErr, is_some, false};
 
 use crate::back::{Back, Overwritten};
 use crate::inbox::{Inbox, Received};
@@ -48,6 +48,7 @@ impl Model for Leader {
 impl Leader {
     ghost use Rattle.cdb_leader.specs.LocalState.{LocalState};
     ghost use Rattle.cdb_leader.specs.Table.{heard_first_phase, heard_second_phase, heard_lead, set_aux, end_round, query_at, payload_at, send_at, local_at, learn_at, recv_at};
+    ghost use Rattle.cdb_leader.specs.Place.{is_last};
     ghost use Rattle.cdb_leader.specs.Inbox.{proposal};
     ghost use Rattle.cdb_leader.specs.Back.{state_before};
 
@@ -147,6 +148,18 @@ impl Leader {
         self.lead == other.lead && self.aux == other.aux && self.decision == other.decision
     }
 
+    /// The way back from a step that overwrites this.
+    fn back(&self, overwritten: Overwritten) -> Back
+        requires { is_last self.now.place ≡ false }
+        ensures place { result.place ≡ self.now.place }
+        ensures overwritten { result.overwritten ≡ overwritten }
+    {
+        Back {
+            place: self.place,
+            overwritten,
+        }
+    }
+
     /// Begins a round, of which the oracle named the leader.
     fn begin_round(&mut self, leader: Proc) -> Back
         requires place { self.old.place ≡ Place.L0 }
@@ -154,17 +167,14 @@ impl Leader {
         ensures after { query_at Place.L0 self.old leader ≡ Some self.new }
         ensures back { state_before self.new result ≡ self.old }
     {
-        let overwritten = Overwritten::Round {
+        let back = self.back(Overwritten::Round {
             round: self.round,
             lead: self.lead,
-        };
+        });
         self.round += 1;
         self.lead = Some(leader);
         self.place = Place::L1;
-        Back {
-            place: Place::L0,
-            overwritten,
-        }
+        back
     }
 
     /// Ends the first phase.
@@ -173,13 +183,10 @@ impl Leader {
         ensures after { self.new ≡ set_aux self.old }
         ensures back { state_before self.new result ≡ self.old }
     {
-        let aux = self.aux;
+        let back = self.back(Overwritten::Aux(self.aux));
         self.aux = self.inbox.find_agreed_estimate(self.round, self.quorum);
         self.place = Place::L3;
-        Back {
-            place: Place::L2,
-            overwritten: Overwritten::Aux(aux),
-        }
+        back
     }
 
     /// Ends the second phase.
@@ -188,7 +195,7 @@ impl Leader {
         ensures after { self.new ≡ end_round self.old (proposal self.old.round self.old.inbox) }
         ensures back { state_before self.new result ≡ self.old }
     {
-        let estimate = self.estimate;
+        let back = self.back(Overwritten::Estimate(self.estimate));
         self.place = Place::L0;
         if let Some(value) = self.inbox.find_proposal(self.round) {
             if self.inbox.all_propose(self.round, value) {
@@ -196,10 +203,7 @@ impl Leader {
             }
             self.estimate = value;
         }
-        Back {
-            place: Place::L4,
-            overwritten: Overwritten::Estimate(estimate),
-        }
+        back
     }
 
     /// Takes the answer to a query.
@@ -214,10 +218,7 @@ impl Leader {
                 if self.heard_first_phase() && self.lead != Some(leader) {
                     self.set_aux()
                 } else {
-                    Back {
-                        place: Place::L2,
-                        overwritten: Overwritten::Nothing,
-                    }
+                    self.back(Overwritten::Nothing)
                 }
             }
             _ => unreachable!(),
@@ -230,10 +231,7 @@ impl Leader {
         ensures after { send_at self.old.place self.old ≡ Some self.new }
         ensures back { state_before self.new result ≡ self.old }
     {
-        let back = Back {
-            place: self.place,
-            overwritten: Overwritten::Nothing,
-        };
+        let back = self.back(Overwritten::Nothing);
         match self.place {
             Place::L1 => self.place = Place::L2,
             Place::L3 => self.place = Place::L4,
@@ -265,10 +263,7 @@ impl Leader {
         ensures after { learn_at self.old.place self.old ≡ Some self.new }
         ensures back { state_before self.new result ≡ self.old }
     {
-        let back = Back {
-            place: self.place,
-            overwritten: Overwritten::Estimate(self.estimate),
-        };
+        let back = self.back(Overwritten::Estimate(self.estimate));
         if let Some(value) = self.inbox.find_learnt() {
             self.estimate = value;
             self.place = Place::L5;
@@ -285,10 +280,7 @@ impl Leader {
         ensures unchanged { OnErr result (self.new ≡ self.old) }
     {
         self.inbox.push(&Received { from, payload })?;
-        Ok(Back {
-            place: self.place,
-            overwritten: Overwritten::Inbox,
-        })
+        Ok(self.back(Overwritten::Inbox))
     }
 }
 
