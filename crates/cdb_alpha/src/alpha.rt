@@ -3,7 +3,7 @@
 ghost use Rattle.std.specs.Prelude.{◌≡◌, ◌+◌, ◌<◌, ◌≤◌, ◌↔◌, Option, Some, None, IsTrue, IsSome, IfOk, OnErr, is_some, length, false};
 ghost use Rattle.cdb_process.specs.declared.Input.{Input};
 
-use crate::back::{Back, SeenBefore};
+use crate::back::{Back, Overwritten, PassBefore};
 use crate::place::Place;
 use crate::seen::{are_same, find_value, shows_later_round};
 use cdb_base::limits::MAX_ROUND;
@@ -50,11 +50,10 @@ impl Model for Alpha {
 }
 
 impl Alpha {
-    ghost use Rattle.cdb_alpha.specs.LocalState.{LocalState};
     ghost use Rattle.cdb_alpha.specs.Place.{is_last};
     ghost use Rattle.cdb_alpha.specs.Table.{see_decision, entered, with_value, decision_cell, begin_pass, next_register, see, next_round, judge, next_state};
     ghost use Rattle.cdb_alpha.specs.Seen.{is_overtaken};
-    ghost use Rattle.cdb_alpha.specs.Back.{state_before, seen_before};
+    ghost use Rattle.cdb_alpha.specs.Back.{state_before};
 
     /// The cell with which the process enters its round: what it last wrote, with the new round.
     fn entered(&self) -> Cell
@@ -142,45 +141,51 @@ impl Alpha {
         self.own == other.own && are_same(&self.seen, &other.seen)
     }
 
-    /// What a step would overwrite.
-    fn back(&self, seen: SeenBefore) -> Back
-        ensures { (t : LocalState) → t.me ≡ self.now.me
-            → t.processes ≡ self.now.processes
-            → t.input ≡ self.now.input
-            → state_before t result ≡ record self.now { seen = seen_before seen t.seen } }
+    /// The way back from a step that overwrites this.
+    fn back(&self, overwritten: Overwritten) -> Back
+        requires { is_last self.now.place ≡ false }
+        ensures place { result.place ≡ self.now.place }
+        ensures overwritten { result.overwritten ≡ overwritten }
     {
         Back {
             place: self.place,
-            round: self.round,
-            own: self.own,
-            value: self.value,
-            decision: self.decision,
-            seen,
+            overwritten,
         }
     }
 
     /// Goes on to the next round.
-    fn go_to_next_round(&mut self)
+    fn go_to_next_round(&mut self) -> Back
         requires not_done { is_last self.old.place ≡ false }
         requires room { IsSome (next_round self.old) }
-        ensures { next_round self.old ≡ Some self.new }
+        ensures after { next_round self.old ≡ Some self.new }
+        ensures back { state_before self.new result ≡ self.old }
     {
+        let back = self.back(Overwritten::Round(self.round));
         self.place = Place::A0;
         self.round += u32::from(self.processes);
+        back
     }
 
     /// Goes on after a write of that cell to the own register: a pass begins.
-    fn begin_pass(&mut self, alloc: Global, cell: Cell, reading: Place) -> Back
+    fn begin_pass(&mut self, alloc: Global, cell: Cell, reading: Place) -> Result<Back, NoMemory>
         requires not_done { is_last self.old.place ≡ false }
         requires not_done_then { is_last reading ≡ false }
-        ensures after { self.new ≡ begin_pass reading self.old cell }
-        ensures back { state_before self.new result ≡ self.old }
+        ensures after { IfOk result (λ _. self.new ≡ begin_pass reading self.old cell) }
+        ensures back { IfOk result (λ b. state_before self.new b ≡ self.old) }
+        ensures unchanged { OnErr result (self.new ≡ self.old) }
     {
-        let seen = mem::replace(&mut self.seen, Vec::new(alloc));
-        let back = self.back(SeenBefore::These(seen));
+        let mut before = Box::new(
+            alloc,
+            PassBefore {
+                seen: Vec::new(alloc),
+                own: self.own,
+            },
+        )?;
+        mem::swap(&mut before.seen, &mut self.seen);
+        let back = self.back(Overwritten::Pass(before));
         self.own = cell;
         self.place = reading;
-        back
+        Ok(back)
     }
 
     /// Takes what the register of the decision holds.
@@ -218,7 +223,7 @@ impl Alpha {
         ensures after { next_state self.old (Input.Query leader) ≡ Some self.new }
         ensures back { state_before self.new result ≡ self.old }
     {
-        let back = self.back(SeenBefore::Same);
+        let back = self.back(Overwritten::Nothing);
         self.place = if leader == self.me {
             Place::A2
         } else {
@@ -237,17 +242,17 @@ impl Alpha {
     {
         match self.place {
             Place::A0 => {
-                let back = self.back(SeenBefore::Same);
+                let back = self.back(Overwritten::Nothing);
                 self.see_decision(cell.val);
                 Ok(back)
             }
             Place::A3 => {
-                let back = self.back(SeenBefore::OneLess);
+                let back = self.back(Overwritten::Seen);
                 self.see(cell, Place::A4)?;
                 Ok(back)
             }
             Place::A6 => {
-                let back = self.back(SeenBefore::OneLess);
+                let back = self.back(Overwritten::Seen);
                 self.see(cell, Place::A7)?;
                 Ok(back)
             }
@@ -256,10 +261,12 @@ impl Alpha {
     }
 
     /// Goes on after a write.
-    fn write(&mut self, alloc: Global, register: Reg) -> Back
+    fn write(&mut self, alloc: Global, register: Reg) -> Result<Back, NoMemory>
         requires { IsSome (next_state self.old (Input.Write register)) }
-        ensures after { next_state self.old (Input.Write register) ≡ Some self.new }
-        ensures back { state_before self.new result ≡ self.old }
+        ensures after { IfOk result
+            (λ _. next_state self.old (Input.Write register) ≡ Some self.new) }
+        ensures back { IfOk result (λ b. state_before self.new b ≡ self.old) }
+        ensures unchanged { OnErr result (self.new ≡ self.old) }
     {
         match self.place {
             Place::A2 => {
@@ -270,11 +277,7 @@ impl Alpha {
                 let cell = self.with_value();
                 self.begin_pass(alloc, cell, Place::A6)
             }
-            Place::A8 => {
-                let back = self.back(SeenBefore::Same);
-                self.go_to_next_round();
-                back
-            }
+            Place::A8 => Ok(self.go_to_next_round()),
             _ => unreachable!(),
         }
     }
@@ -285,16 +288,19 @@ impl Alpha {
         ensures after { next_state self.old Input.Local ≡ Some self.new }
         ensures back { state_before self.new result ≡ self.old }
     {
-        let back = self.back(SeenBefore::Same);
         if self.is_overtaken() {
-            self.go_to_next_round();
-        } else if self.place == Place::A4 {
+            return self.go_to_next_round();
+        }
+        if self.place == Place::A4 {
+            let back = self.back(Overwritten::Value(self.value));
             self.value = find_value(&self.seen).unwrap_or(self.input);
             self.place = Place::A5;
+            back
         } else {
+            let back = self.back(Overwritten::Nothing);
             self.place = Place::A8;
+            back
         }
-        back
     }
 }
 
@@ -369,32 +375,28 @@ impl Process for Alpha {
         match i {
             Input::Query(leader) => Ok(self.query(leader)),
             Input::Read(register, cell) => self.read(register, cell),
-            Input::Write(register) => Ok(self.write(alloc, register)),
+            Input::Write(register) => self.write(alloc, register),
             Input::Local => Ok(self.judge()),
             Input::Send | Input::Recv(_, _) | Input::Learn => unreachable!(),
         }
     }
 
     fn put_back(&mut self, b: Back) {
-        let Back {
-            place,
-            round,
-            own,
-            value,
-            decision,
-            seen,
-        } = b;
+        let Back { place, overwritten } = b;
         self.place = place;
-        self.round = round;
-        self.own = own;
-        self.value = value;
-        self.decision = decision;
-        match seen {
-            SeenBefore::Same => {}
-            SeenBefore::OneLess => {
+        self.decision = None;
+        match overwritten {
+            Overwritten::Nothing => {}
+            Overwritten::Seen => {
                 let _ = self.seen.pop();
             }
-            SeenBefore::These(cells) => self.seen = cells,
+            Overwritten::Round(round) => self.round = round,
+            Overwritten::Value(value) => self.value = value,
+            Overwritten::Pass(before) => {
+                let PassBefore { seen, own } = Box::into_inner(before);
+                self.seen = seen;
+                self.own = own;
+            }
         }
     }
 

@@ -1,8 +1,8 @@
 //! The machine of one process of leader-based consensus.
 
-ghost use Rattle.std.specs.Prelude.{◌≡◌, ℕ, ◌+◌, ◌<◌, ◌↔◌, Option, Some, None, IsTrue, IsSome, IfOk, OnErr, is_some, if◌then◌else◌};
+ghost use Rattle.std.specs.Prelude.{◌≡◌, ℕ, ◌<◌, ◌↔◌, Option, Some, None, IsTrue, IsSome, IfOk, OnErr, is_some, false};
 
-use crate::back::Back;
+use crate::back::{Back, Overwritten};
 use crate::inbox::{Inbox, Received};
 use crate::place::Place;
 use cdb_base::limits::MAX_ROUND;
@@ -48,8 +48,8 @@ impl Model for Leader {
 impl Leader {
     ghost use Rattle.cdb_leader.specs.LocalState.{LocalState};
     ghost use Rattle.cdb_leader.specs.Table.{heard_first_phase, heard_second_phase, heard_lead, set_aux, end_round, query_at, payload_at, send_at, local_at, learn_at, recv_at};
+    ghost use Rattle.cdb_leader.specs.Place.{is_last};
     ghost use Rattle.cdb_leader.specs.Inbox.{proposal};
-    ghost use Rattle.cdb_base.specs.Positions.{without_last};
     ghost use Rattle.cdb_leader.specs.Back.{state_before};
 
     /// Whether the first phase of the round came from at least as many senders as the quorum.
@@ -148,37 +148,54 @@ impl Leader {
         self.lead == other.lead && self.aux == other.aux && self.decision == other.decision
     }
 
-    /// What a step would overwrite.
-    fn back(&self, received: bool) -> Back
-        ensures { (t : LocalState) → t.quorum ≡ self.now.quorum
-            → (if received then without_last t.inbox else t.inbox) ≡ self.now.inbox
-            → state_before t result ≡ self.now }
+    /// The way back from a step that overwrites this.
+    fn back(&self, overwritten: Overwritten) -> Back
+        requires { is_last self.now.place ≡ false }
+        ensures place { result.place ≡ self.now.place }
+        ensures overwritten { result.overwritten ≡ overwritten }
     {
         Back {
             place: self.place,
-            round: self.round,
-            estimate: self.estimate,
-            lead: self.lead,
-            aux: self.aux,
-            decision: self.decision,
-            received,
+            overwritten,
         }
     }
 
-    /// Ends the first phase.
-    fn set_aux(&mut self)
-        requires { self.old.place ≡ Place.L2 }
-        ensures { self.new ≡ set_aux self.old }
+    /// Begins a round, of which the oracle named the leader.
+    fn begin_round(&mut self, leader: Proc) -> Back
+        requires place { self.old.place ≡ Place.L0 }
+        requires room { self.old.round < MAX_ROUND }
+        ensures after { query_at Place.L0 self.old leader ≡ Some self.new }
+        ensures back { state_before self.new result ≡ self.old }
     {
+        let back = self.back(Overwritten::Round {
+            round: self.round,
+            lead: self.lead,
+        });
+        self.round += 1;
+        self.lead = Some(leader);
+        self.place = Place::L1;
+        back
+    }
+
+    /// Ends the first phase.
+    fn set_aux(&mut self) -> Back
+        requires { self.old.place ≡ Place.L2 }
+        ensures after { self.new ≡ set_aux self.old }
+        ensures back { state_before self.new result ≡ self.old }
+    {
+        let back = self.back(Overwritten::Aux(self.aux));
         self.aux = self.inbox.find_agreed_estimate(self.round, self.quorum);
         self.place = Place::L3;
+        back
     }
 
     /// Ends the second phase.
-    fn end_round(&mut self)
+    fn end_round(&mut self) -> Back
         requires { self.old.place ≡ Place.L4 }
-        ensures { self.new ≡ end_round self.old (proposal self.old.round self.old.inbox) }
+        ensures after { self.new ≡ end_round self.old (proposal self.old.round self.old.inbox) }
+        ensures back { state_before self.new result ≡ self.old }
     {
+        let back = self.back(Overwritten::Estimate(self.estimate));
         self.place = Place::L0;
         if let Some(value) = self.inbox.find_proposal(self.round) {
             if self.inbox.all_propose(self.round, value) {
@@ -186,24 +203,22 @@ impl Leader {
             }
             self.estimate = value;
         }
+        back
     }
 
     /// Takes the answer to a query.
-    fn query(&mut self, leader: Proc)
+    fn query(&mut self, leader: Proc) -> Back
         requires { IsSome (query_at self.old.place self.old leader) }
         ensures after { query_at self.old.place self.old leader ≡ Some self.new }
-        ensures quorum { self.new.quorum ≡ self.old.quorum }
-        ensures inbox { self.new.inbox ≡ self.old.inbox }
+        ensures back { state_before self.new result ≡ self.old }
     {
         match self.place {
-            Place::L0 => {
-                self.round += 1;
-                self.lead = Some(leader);
-                self.place = Place::L1;
-            }
+            Place::L0 => self.begin_round(leader),
             Place::L2 => {
                 if self.heard_first_phase() && self.lead != Some(leader) {
-                    self.set_aux();
+                    self.set_aux()
+                } else {
+                    self.back(Overwritten::Nothing)
                 }
             }
             _ => unreachable!(),
@@ -211,12 +226,12 @@ impl Leader {
     }
 
     /// Goes on after a send.
-    fn send(&mut self)
+    fn send(&mut self) -> Back
         requires { IsSome (send_at self.old.place self.old) }
         ensures after { send_at self.old.place self.old ≡ Some self.new }
-        ensures quorum { self.new.quorum ≡ self.old.quorum }
-        ensures inbox { self.new.inbox ≡ self.old.inbox }
+        ensures back { state_before self.new result ≡ self.old }
     {
+        let back = self.back(Overwritten::Nothing);
         match self.place {
             Place::L1 => self.place = Place::L2,
             Place::L3 => self.place = Place::L4,
@@ -226,14 +241,14 @@ impl Leader {
             }
             _ => unreachable!(),
         }
+        back
     }
 
     /// Goes on by itself.
-    fn go_on(&mut self)
+    fn go_on(&mut self) -> Back
         requires { IsSome (local_at self.old.place self.old) }
         ensures after { local_at self.old.place self.old ≡ Some self.new }
-        ensures quorum { self.new.quorum ≡ self.old.quorum }
-        ensures inbox { self.new.inbox ≡ self.old.inbox }
+        ensures back { state_before self.new result ≡ self.old }
     {
         match self.place {
             Place::L2 => self.set_aux(),
@@ -243,28 +258,29 @@ impl Leader {
     }
 
     /// Adopts a decision that was received.
-    fn learn(&mut self)
+    fn learn(&mut self) -> Back
         requires { IsSome (learn_at self.old.place self.old) }
         ensures after { learn_at self.old.place self.old ≡ Some self.new }
-        ensures quorum { self.new.quorum ≡ self.old.quorum }
-        ensures inbox { self.new.inbox ≡ self.old.inbox }
+        ensures back { state_before self.new result ≡ self.old }
     {
+        let back = self.back(Overwritten::Estimate(self.estimate));
         if let Some(value) = self.inbox.find_learnt() {
             self.estimate = value;
             self.place = Place::L5;
         }
+        back
     }
 
     /// Adds an entry to the inbox.
-    fn receive(&mut self, from: Proc, payload: Payload) -> Result<(), NoMemory>
+    fn receive(&mut self, from: Proc, payload: Payload) -> Result<Back, NoMemory>
         requires { IsSome (recv_at self.old.place self.old from payload) }
         ensures after { IfOk result
             (λ _. recv_at self.old.place self.old from payload ≡ Some self.new) }
-        ensures quorum { self.new.quorum ≡ self.old.quorum }
-        ensures inbox { IfOk result (λ _. without_last self.new.inbox ≡ self.old.inbox) }
+        ensures back { IfOk result (λ b. state_before self.new b ≡ self.old) }
         ensures unchanged { OnErr result (self.new ≡ self.old) }
     {
-        self.inbox.push(&Received { from, payload })
+        self.inbox.push(&Received { from, payload })?;
+        Ok(self.back(Overwritten::Inbox))
     }
 }
 
@@ -325,44 +341,28 @@ impl Process for Leader {
 
     fn take(&mut self, _alloc: Global, i: Input) -> Result<Back, NoMemory> {
         match i {
-            Input::Query(leader) => {
-                let back = self.back(false);
-                self.query(leader);
-                Ok(back)
-            }
-            Input::Send => {
-                let back = self.back(false);
-                self.send();
-                Ok(back)
-            }
-            Input::Recv(from, payload) => {
-                let back = self.back(true);
-                self.receive(from, payload)?;
-                Ok(back)
-            }
-            Input::Local => {
-                let back = self.back(false);
-                self.go_on();
-                Ok(back)
-            }
-            Input::Learn => {
-                let back = self.back(false);
-                self.learn();
-                Ok(back)
-            }
+            Input::Query(leader) => Ok(self.query(leader)),
+            Input::Send => Ok(self.send()),
+            Input::Recv(from, payload) => self.receive(from, payload),
+            Input::Local => Ok(self.go_on()),
+            Input::Learn => Ok(self.learn()),
             Input::Read(_, _) | Input::Write(_) => unreachable!(),
         }
     }
 
     fn put_back(&mut self, b: Back) {
-        self.place = b.place;
-        self.round = b.round;
-        self.estimate = b.estimate;
-        self.lead = b.lead;
-        self.aux = b.aux;
-        self.decision = b.decision;
-        if b.received {
-            self.inbox.pop();
+        let Back { place, overwritten } = b;
+        self.place = place;
+        self.decision = None;
+        match overwritten {
+            Overwritten::Nothing => {}
+            Overwritten::Inbox => self.inbox.pop(),
+            Overwritten::Round { round, lead } => {
+                self.round = round;
+                self.lead = lead;
+            }
+            Overwritten::Aux(aux) => self.aux = aux,
+            Overwritten::Estimate(estimate) => self.estimate = estimate,
         }
     }
 
