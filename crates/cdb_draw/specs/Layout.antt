@@ -30,6 +30,10 @@ register_y setup Dec = lane_y setup setup.processes + 36 + 24 * setup.processes
 abbrev pub width : ℕ → ℕ
 width count = 29 + 6 * count
 
+-- no picture is wider
+abbrev pub most_width : ℕ
+most_width = 9999999
+
 -- at most 205, on a page of 210
 abbrev pub height_by : Algorithm → ℕ → ℕ
 height_by Leader n = 7 + 20 * n
