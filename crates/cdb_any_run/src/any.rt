@@ -12,12 +12,12 @@ ghost use Rattle.cdb_rules.specs.Agreement.{AllAgree, HasMajorityIfNeeded};
 ghost use Rattle.cdb_rules.specs.Algorithms.{rules};
 ghost use Rattle.cdb_any_run.specs.Any.{run_view, IsTrueToSetup};
 ghost use Rattle.cdb_rules.specs.Auto.{first_step_by};
-ghost use Rattle.cdb_rules.specs.Step.{is_among};
-ghost use Rattle.cdb_rules.specs.ByRules.{IsNext, IsInOrder, process_in, alive_in, steps_in, queries_in, place_in, round_in, decision_in, mail_in, register_in, cell_in, writes_in, decisions_in, answer_to_step, answer_to_again, answer_to_loss};
+ghost use Rattle.cdb_rules.specs.ByRules.{IsNext, IsInOrder, process_in, alive_in, steps_in, queries_in, place_in, round_in, decision_in, mail_in, register_in, cell_in, writes_in, decisions_in, answer_to_step, answer_to_again, answer_to_loss, LeadsBack, LeadsTo, RollbackLeadsBack};
 ghost use Rattle.cdb_rules.specs.EventRefs.{name_given};
 ghost use Rattle.cdb_rules.specs.Refusals.{IsOfRun};
 ghost use Rattle.cdb_rules.specs.Runs.{step_name, loss_name, IsNumberAmong, RollsBackOnto, Tells, undo_answer, rollback_answer, causes_in, with_answer, after_undo, after_rollback, CanUndo, IsJustTaken, IsExactRollback, AreCausesOf};
 ghost use Rattle.cdb_rules.specs.SameState.{AreInSameState};
+ghost use Rattle.cdb_rules.specs.Step.{is_among};
 
 use cdb_alpha::Alpha;
 use cdb_base::{
@@ -172,6 +172,8 @@ impl AnyRun {
         ensures answer { result ≡ undo_answer (run_view self.old) (name_given event) }
         ensures after { run_view self.new ≡ after_undo (run_view self.old) (name_given event) }
         ensures free { IsOk result ↔ CanUndo (run_view self.old) (name_given event) }
+        ensures back { IfOk result
+            (λ event. LeadsTo rules (run_view self.new) event (run_view self.old)) }
         ensures true_to_setup { IsTrueToSetup self.new }
     {
         match self {
@@ -197,6 +199,8 @@ impl AnyRun {
         ensures answer { result ≡ undo_answer (run_view self.old) (step_name p k) }
         ensures after { run_view self.new ≡ after_undo (run_view self.old) (step_name p k) }
         ensures free { IsOk result ↔ CanUndo (run_view self.old) (step_name p k) }
+        ensures back { IfOk result
+            (λ event. LeadsTo rules (run_view self.new) event (run_view self.old)) }
         ensures true_to_setup { IsTrueToSetup self.new }
     {
         self.undo_event(EventRef::Step(p, k))
@@ -208,6 +212,8 @@ impl AnyRun {
         ensures answer { result ≡ undo_answer (run_view self.old) (loss_name s m p) }
         ensures after { run_view self.new ≡ after_undo (run_view self.old) (loss_name s m p) }
         ensures free { IsOk result ↔ CanUndo (run_view self.old) (loss_name s m p) }
+        ensures back { IfOk result
+            (λ event. LeadsTo rules (run_view self.new) event (run_view self.old)) }
         ensures true_to_setup { IsTrueToSetup self.new }
     {
         self.undo_event(EventRef::Lost(s, m, p))
@@ -229,6 +235,7 @@ impl AnyRun {
             (run_view self.new ≡ after_rollback (run_view self.old) (step_name p k)) }
         ensures exact { OnOk result
             (IsExactRollback (run_view self.old) (step_name p k) (run_view self.new)) }
+        ensures again { LeadsBack (run_view self.new) result (run_view self.old) }
         ensures err { OnErr result (self.new ≡ self.old) }
         ensures memory { OnErr result
             (IsOk (rollback_answer (run_view self.old) (step_name p k))) }
@@ -258,6 +265,7 @@ impl AnyRun {
             (run_view self.new ≡ after_rollback (run_view self.old) (loss_name s m p)) }
         ensures exact { OnOk result
             (IsExactRollback (run_view self.old) (loss_name s m p) (run_view self.new)) }
+        ensures again { LeadsBack (run_view self.new) result (run_view self.old) }
         ensures err { OnErr result (self.new ≡ self.old) }
         ensures memory { OnErr result
             (IsOk (rollback_answer (run_view self.old) (loss_name s m p))) }
@@ -283,6 +291,8 @@ impl AnyRun {
             (name_given event) taken.old.items taken.new.items result }
         ensures exact { OnOk result
             (IsExactRollback (run_view self.old) (name_given event) (run_view self.new)) }
+        ensures again { OnOk result
+            (RollbackLeadsBack (run_view self.old) (name_given event) (run_view self.new)) }
         ensures capacity { vec_capacity taken.old ≤ vec_capacity taken.new }
         ensures err { OnErr result (self.new ≡ self.old) }
         ensures true_to_setup { IsTrueToSetup self.new }

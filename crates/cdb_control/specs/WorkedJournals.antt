@@ -1,10 +1,12 @@
 -- Short journals of two seats, over one process of the leader-based algorithm that proposes 7 and is a quorum alone.
-use Rattle.std.specs.Prelude.{ℕ, List, [], ◌∷◌, Some}
+use Rattle.std.specs.Prelude.{ℕ, List, [], ◌∷◌, Some, None}
+use Rattle.cdb_base.specs.Event.{event_name}
 use Rattle.cdb_base.specs.declared.act.Act.TheVariants.{Go, Query}
 use Rattle.cdb_base.specs.declared.event.Event.{Event}
 use Rattle.cdb_base.specs.declared.event.Event.TheVariants as event
 use Rattle.cdb_base.specs.declared.event.Kind.TheVariants as kind
-use Rattle.cdb_control.specs.Answer.{Answer}
+use Rattle.cdb_base.specs.declared.refusal.Refusal.TheVariants.{NeededBy}
+use Rattle.cdb_control.specs.Answer.{Answer, Stepped, Refused}
 use Rattle.cdb_control.specs.Journal.{entry, replies_of}
 use Rattle.cdb_control.specs.declared.command.Command.TheVariants.{Step, Undo, Redo, Rollback, Show, Decisions}
 use Rattle.cdb_control.specs.declared.command.View.TheVariants.{History}
@@ -26,6 +28,14 @@ query = event.Step 1 1 (kind.Query 1)
 
 abbrev pub send : Event
 send = event.Step 1 2 (kind.Send 1)
+
+-- the reply to a step that decides nothing and sets no pause
+abbrev pub plain_step : Event → Answer
+plain_step event = Stepped event None None
+
+-- the reply to an undo of what this event needs
+abbrev pub needed_by : Event → Answer
+needed_by event = Refused (NeededBy (event_name event))
 
 -- seat 1 steps; seat 2 undoes the step and, after a redo of seat 1 that is refused, takes it again
 abbrev pub undone_and_redone : List Entry

@@ -1,19 +1,18 @@
 //! Laws of the table of the commands and of journals. Each function does nothing: its contract is the law.
-ghost use Rattle.std.specs.Prelude.{◌≡◌, ◌≤◌, ℕ, List, [], ◌∷◌, ◌++◌, None};
-ghost use Rattle.cdb_base.specs.Event.{event_name};
+ghost use Rattle.std.specs.Prelude.{◌≡◌, ◌≤◌, ℕ, List, [], ◌∷◌, None};
 ghost use Rattle.cdb_base.specs.declared.refusal.Refusal.{Refusal};
-ghost use Rattle.cdb_base.specs.declared.refusal.Refusal.TheVariants.{NeededBy, NothingToRedo};
+ghost use Rattle.cdb_base.specs.declared.refusal.Refusal.TheVariants.{NothingToRedo};
 ghost use Rattle.cdb_base.specs.declared.act.Act.{Act};
 ghost use Rattle.cdb_control.specs.declared.command.Command.{Command};
 ghost use Rattle.cdb_control.specs.declared.command.Command.TheVariants.{Step, Auto};
 ghost use Rattle.cdb_control.specs.declared.control.Entry.{Entry};
-ghost use Rattle.cdb_control.specs.Answer.{Stepped, Undone, Redone, RolledBack, History, Decisions, Refused};
+ghost use Rattle.cdb_control.specs.Answer.{Undone, Redone, RolledBack, History, Decisions, Refused};
 ghost use Rattle.cdb_control.specs.Commands.{TellsPause, answer, obey};
 ghost use Rattle.cdb_control.specs.Headline.{Headline};
-ghost use Rattle.cdb_control.specs.Journal.{answers_to, extended, own, reply_in, AreOfSeats};
-ghost use Rattle.cdb_control.specs.Laws.{followed_by, AreTwoSeats, ForCommands, ForSeats, InReplayed};
+ghost use Rattle.cdb_control.specs.Journal.{answers_to, own, AreOfSeats};
+ghost use Rattle.cdb_control.specs.Laws.{followed_by, AddsReply, AreTwoSeats, ForCommands, ForSeats, InReplayed};
 ghost use Rattle.cdb_control.specs.State.{redo_of};
-ghost use Rattle.cdb_control.specs.WorkedJournals.{replies, query, send, undone_and_redone, rolled_back_and_redone};
+ghost use Rattle.cdb_control.specs.WorkedJournals.{replies, query, send, plain_step, needed_by, undone_and_redone, rolled_back_and_redone};
 ghost use Rattle.cdb_setup.specs.Parts.{Parts, AreInRange};
 
 use cdb_rules::Runs;
@@ -50,9 +49,7 @@ pub fn least_fired()
 /// One command more of a seat adds its reply to the seat's replies.
 #[tactic(auto)]
 pub fn own_command_adds_its_reply()
-    ensures { ForSeats (λ rules c seat. (command : Command) →
-        answers_to rules seat (extended rules c seat command)
-        ≡ answers_to rules seat c ++ reply_in rules c seat command ∷ []) }
+    ensures { ForSeats (λ rules c seat. (command : Command) → AddsReply rules c seat command) }
 {}
 
 /// What others did adds no reply of a seat.
@@ -74,10 +71,10 @@ pub fn worked_journals()
     ensures undone_for_2 { replies 2 undone_and_redone
         ≡ Undone query ∷ Redone query None ∷ [] }
     ensures undone_for_1 { replies 1 undone_and_redone
-        ≡ Stepped query None None ∷ Refused NothingToRedo ∷ [] }
+        ≡ plain_step query ∷ Refused NothingToRedo ∷ [] }
     ensures rolled_back_for_2 { replies 2 rolled_back_and_redone
         ≡ RolledBack 2 ∷ Redone query None ∷ Redone send None ∷ [] }
     ensures rolled_back_for_1 { replies 1 rolled_back_and_redone
-        ≡ Stepped query None None ∷ Stepped send None None ∷ Decisions []
-        ∷ Refused (NeededBy (event_name send)) ∷ History (query ∷ send ∷ []) ∷ [] }
+        ≡ plain_step query ∷ plain_step send ∷ Decisions [] ∷ needed_by send
+        ∷ History (query ∷ send ∷ []) ∷ [] }
 {}

@@ -32,7 +32,7 @@ same_run rules run control setup history =
 
 pub output_fault : (why : OutputFault) (json : List ℕ) (old new : Stream) → IsSetup json → IsFaultOfPlay json old new (of_output why)
 output_fault output.Write json old new setup = setup
-output_fault output.NoMemory json old new setup = tt
+output_fault output.NoMemory json old new setup = setup.1.0
 
 pub fault_left : (rules : Parts → Rules) (json : List ℕ) (p : ℕ) (k : Option ℕ) (old new : Stream) (run : RunView) → Leaves rules json old new run
     → (result : Result (Unit {0}) ExplainFault) → IfErr result (IsFaultOfStep (StandsNoStep run.history p k)) → IfErr result (IsFaultOfExplain rules json p k old new)

@@ -152,6 +152,7 @@ impl<T: Drop> Log<T> {
         requires { HasRoom self.old }
         ensures pushed { IsPushed self.old item result self.new }
         ensures small { result < ABOVE_ALL }
+        ensures few { length self.new.items ≤ ABOVE_ALL }
     {
         let last = self.ends.len() - 1;
         let offsets = &mut self.offsets[last];

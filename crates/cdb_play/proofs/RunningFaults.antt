@@ -1,5 +1,5 @@
 -- The faults of a race, of those of its parts.
-use Rattle.std.proofs.Common.{◌≡◌, ◌≢◌, inl, inr, ℕ, suc, ◌+◌, Bool, List, [], ◌∷◌, length, Option, Result, Ok, Err, refl, ap, arith}
+use Rattle.std.proofs.Common.{◌≡◌, ◌≢◌, inl, inr, ℕ, suc, ◌+◌, ◌<◌, ◌≤◌, Bool, List, [], ◌∷◌, length, Option, Result, Ok, Err, refl, ap, arith}
 use Rattle.std.specs.Prelude.{IfErr}
 use Rattle.cdb_control.specs.declared.command.Command.{Command}
 use Rattle.cdb_race.specs.Faults.{IsAmongSeats, IsFaultBehind, IsTold}
@@ -8,13 +8,13 @@ use Rattle.cdb_race.specs.Races.{MayFill}
 use Rattle.cdb_race.specs.declared.threads.RaceFault.{RaceFault as ThreadFault}
 use Rattle.cdb_race.specs.declared.threads.RaceFault.TheVariants as threads
 use Rattle.cdb_rules.specs.Rules.{Rules}
-use Rattle.cdb_setup.specs.Format.{Encodes}
+use Rattle.cdb_setup.specs.Format.{Encodes, longest}
 use Rattle.cdb_setup.specs.Order.{IsFirstFault}
 use Rattle.cdb_setup.specs.Parts.{Parts}
 use Rattle.cdb_setup.specs.declared.fault.SetupFault.{SetupFault}
 use Rattle.cdb_setup.specs.declared.fault.SetupFault.TheVariants as setup
 use Rattle.cdb_shared.specs.Gates.{Heard}
-use Rattle.cdb_play.specs.Races.{race_fault_of_setup, race_fault_of_threads, race_fault_of_output, AreScripts, IsFaultUngated, IsFaultOfCommands, IsFaultOfScripts, IsFaultOnSetup, IsFaultOfRace, StopsNoSeat}
+use Rattle.cdb_play.specs.Races.{race_fault_of_setup, race_fault_of_threads, race_fault_of_output, AreScripts, IsFaultUngated, IsFaultOfCommands, IsFaultOfScripts, IsFaultOnSetup, IsFaultOfRace, IsFirstNotTooLong, StopsNoSeat}
 use Rattle.cdb_play.specs.declared.buffer.OutputFault.{OutputFault}
 use Rattle.cdb_play.specs.declared.buffer.OutputFault.TheVariants as output
 use Rattle.cdb_play.specs.declared.fault.RaceFault.{RaceFault}
@@ -43,6 +43,21 @@ so_many [] (script ∷ scripts) are = absurd are
 so_many (list ∷ commands) [] are = absurd are
 so_many (list ∷ commands) (script ∷ scripts) are = ap suc (so_many commands scripts are.1)
 
+-- and so the first is not too long
+pub first_fits : (commands : List (List Command)) (scripts : List (List ℕ)) → AreScripts commands scripts → IsFirstNotTooLong scripts
+first_fits [] [] are = tt
+first_fits [] (script ∷ scripts) are = absurd are
+first_fits (list ∷ commands) [] are = absurd are
+first_fits (list ∷ commands) (script ∷ scripts) are = are.0.0
+
+-- what is not more is at most as many
+at_most : (count most : ℕ) → (most < count → ⊥) → count ≤ most
+at_most count most not_more = omega arith
+
+-- a text for which memory ran out is not too long
+pub no_memory_fits : (json : List ℕ) → (longest < length json → setup.NoMemory ≡ setup.TooLong) → length json ≤ longest
+no_memory_fits json said = at_most (length json) longest (λ long. cc (said long))
+
 module _ (IsFaultOfSessions : Parts → ℕ → List (List Command) → ThreadFault → Type 0) (turns : ℕ) where
   -- so is one of the output
   pub of_writing : (setup : Parts) (commands : List (List Command)) (fault : OutputFault) → IsFaultOfCommands IsFaultOfSessions setup turns commands (race_fault_of_output fault)
@@ -55,7 +70,7 @@ module _ (IsFaultOfSessions : Parts → ℕ → List (List Command) → ThreadFa
   on_setup setup commands scripts read (Line position line fault) is = absurd is
   on_setup setup commands scripts read (ScriptTooLong position) is = absurd is
   on_setup setup commands scripts read Write is = (commands, read)
-  on_setup setup commands scripts read NoMemory is = tt
+  on_setup setup commands scripts read NoMemory is = first_fits commands scripts read
   on_setup setup commands scripts read JournalFull is = (commands, read, is.0, is.1)
   on_setup setup commands scripts read (Spawn refused) is = (commands, read)
   on_setup setup commands scripts read (Stopped seat) is = let many = so_many commands scripts read in (commands, read, (is.0.0, omega (arith, is.0.1, many)), is.1)
@@ -64,13 +79,13 @@ module _ (IsFaultOfSessions : Parts → ℕ → List (List Command) → ThreadFa
   pub of_reading : (setup : Parts) (scripts : List (List ℕ)) (fault : RaceFault) → IsFaultOfScripts fault scripts → IsFaultOnSetup IsFaultOfSessions setup turns scripts fault
   of_reading setup scripts (Line position line fault) is = is
   of_reading setup scripts (ScriptTooLong position) is = is
-  of_reading setup scripts NoMemory is = tt
+  of_reading setup scripts NoMemory is = is
   of_reading setup scripts fault is = absurd is
 
   -- and on the setup that a text encodes
   pub of_race : (json : List ℕ) (setup : Parts) (scripts : List (List ℕ)) → Encodes json setup → (fault : RaceFault) → IsFaultOnSetup IsFaultOfSessions setup turns scripts fault → IsFaultOfRace IsFaultOfSessions json turns scripts fault
   of_race json setup scripts stands (Setup fault) is = absurd is
-  of_race json setup scripts stands NoMemory is = tt
+  of_race json setup scripts stands NoMemory is = stands.0
   of_race json setup scripts stands (Line position line fault) is = (setup, stands, is)
   of_race json setup scripts stands (ScriptTooLong position) is = (setup, stands, is)
   of_race json setup scripts stands Write is = (setup, stands, is)
@@ -79,9 +94,9 @@ module _ (IsFaultOfSessions : Parts → ℕ → List (List Command) → ThreadFa
   of_race json setup scripts stands (Stopped seat) is = (setup, stands, is)
 
   -- a fault of the setup is its first one, or an allocation failed
-  pub of_setup_read : (json : List ℕ) (scripts : List (List ℕ)) (fault : SetupFault) → (fault ≢ setup.NoMemory → IsFirstFault fault json) → IsFaultOfRace IsFaultOfSessions json turns scripts (race_fault_of_setup fault)
-  of_setup_read json scripts setup.NoMemory said = tt
-  of_setup_read json scripts fault said = said (λ same. absurd cc)
+  pub of_setup_read : (json : List ℕ) (scripts : List (List ℕ)) (fault : SetupFault) → (fault ≢ setup.NoMemory → IsFirstFault fault json) → (longest < length json → fault ≡ setup.TooLong) → IsFaultOfRace IsFaultOfSessions json turns scripts (race_fault_of_setup fault)
+  of_setup_read json scripts setup.NoMemory said long = no_memory_fits json long
+  of_setup_read json scripts fault said long = said (λ same. absurd cc)
 
   -- a fault by which no gate stopped a session is one of gates that always pass
   pub ungated : (setup : Parts) (commands : List (List Command)) (scripts : List (List ℕ)) → AreScripts commands scripts → (fault : RaceFault) → IsFaultOfCommands IsFaultOfSessions setup turns commands fault → StopsNoSeat fault → IsFaultOnSetup IsFaultUngated setup turns scripts fault
@@ -91,7 +106,7 @@ module _ (IsFaultOfSessions : Parts → ℕ → List (List Command) → ThreadFa
   ungated setup commands scripts read (Line position line fault) is none = absurd is
   ungated setup commands scripts read (ScriptTooLong position) is none = absurd is
   ungated setup commands scripts read Write is none = (commands, read)
-  ungated setup commands scripts read NoMemory is none = tt
+  ungated setup commands scripts read NoMemory is none = first_fits commands scripts read
   ungated setup commands scripts read (Spawn refused) is none = (commands, read)
 
 -- ---- a gate stopped no session

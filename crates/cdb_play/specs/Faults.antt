@@ -1,7 +1,7 @@
 -- What the faults of a play say.
-use Rattle.std.specs.Prelude.{◌≡◌, ℕ, List}
+use Rattle.std.specs.Prelude.{◌≡◌, ℕ, ◌≤◌, List, length}
 use Rattle.std.specs.Io.KnownBytes.{Consumes}
-use Rattle.cdb_setup.specs.Format.{Encodes}
+use Rattle.cdb_setup.specs.Format.{Encodes, longest}
 use Rattle.cdb_setup.specs.Order.{IsFirstFault}
 use Rattle.cdb_setup.specs.Parts.{Parts}
 use Rattle.cdb_setup.specs.declared.fault.SetupFault.{SetupFault}
@@ -44,7 +44,8 @@ abbrev pub IsSetup : List ℕ → Type 0
 IsSetup json = (setup : Parts) × Encodes json setup
 
 -- What a fault of a play says of the setup's text and of the script, where the reader had the first bytes left before
--- and the second after. A fault of the setup comes before those of the script, and those before the writer's.
+-- and the second after. A fault of the setup comes before those of the script, and those before the writer's. Out of memory
+-- comes only where the setup's text is not too long.
 abbrev pub IsFaultOfPlay : List ℕ → Stream → Stream → PlayFault → Type 0
 IsFaultOfPlay json old new (Setup fault) = IsFirstFault fault json
 IsFaultOfPlay json old new (Line number line fault) =
@@ -53,7 +54,7 @@ IsFaultOfPlay json old new (ScriptTooLong number) =
     IsSetup json × (number ≡ 1) × ((bytes : List ℕ) × Consumes old.bytes new.bytes bytes × IsFaultOfScript script.TooLong bytes)
 IsFaultOfPlay json old new Read = IsSetup json
 IsFaultOfPlay json old new Write = IsSetup json
-IsFaultOfPlay json old new NoMemory = Unit {0}
+IsFaultOfPlay json old new NoMemory = length json ≤ longest
 
 -- ---- what the code keeps for itself
 

@@ -1,5 +1,5 @@
 -- What a race reads and writes.
-use Rattle.std.specs.Prelude.{◌≡◌, ℕ, ◌+◌, ◌-◌, ◌==◌, Bool, true, List, [], ◌∷◌, ◌++◌, length, map, codes, decimal, if◌then◌else◌}
+use Rattle.std.specs.Prelude.{◌≡◌, ℕ, ◌+◌, ◌-◌, ◌≤◌, ◌==◌, Bool, true, List, [], ◌∷◌, ◌++◌, length, map, codes, decimal, if◌then◌else◌}
 use Rattle.std.specs.List.{AllZip, flat_map, list_all, range_with_len}
 use Rattle.std.proofs.Common.{Vec, Global}
 use Rattle.cdb_control.specs.Answer.{Answer}
@@ -11,7 +11,7 @@ use Rattle.cdb_race.specs.declared.threads.RaceFault.{RaceFault as ThreadFault}
 use Rattle.cdb_race.specs.declared.threads.RaceFault.TheVariants as threads
 use Rattle.cdb_rules.specs.Agreement.{HasMajorityIfNeeded}
 use Rattle.cdb_rules.specs.Rules.{Rules}
-use Rattle.cdb_setup.specs.Format.{Encodes}
+use Rattle.cdb_setup.specs.Format.{Encodes, longest}
 use Rattle.cdb_setup.specs.Order.{IsFirstFault}
 use Rattle.cdb_setup.specs.Parts.{Parts, IsWithin}
 use Rattle.cdb_setup.specs.declared.fault.SetupFault.{SetupFault}
@@ -94,6 +94,11 @@ IsFirstBad position fault scripts =
     (read : List (List Command)) × (good : List (List ℕ)) × (bad : List ℕ) × (rest : List (List ℕ))
     × (scripts ≡ good ++ bad ∷ rest) × (position ≡ length good + 1) × AreScripts read good × IsFaultOfScript fault bad
 
+-- the first of them, if there is one, is not too long
+abbrev pub IsFirstNotTooLong : List (List ℕ) → Type 0
+IsFirstNotTooLong [] = Unit {0}
+IsFirstNotTooLong (script ∷ scripts) = length script ≤ longest
+
 -- all of them have their commands
 abbrev pub AreAllRead : List (List ℕ) → Type 0
 AreAllRead scripts = (read : List (List Command)) × AreScripts read scripts
@@ -147,7 +152,8 @@ IsFaultUngated setup turns commands fault = of_threads.IsNotStopped fault
 module _ (IsFaultOfSessions : Parts → ℕ → List (List Command) → ThreadFault → Type 0) where
   -- What a fault says of a race of these scripts on a setup, each process with this many turns. Those of the scripts come before
   -- the others. A journal is full only where the most calls of such a race are as many as a journal has entries at most; a
-  -- stopped seat is one of a process or of a script; of both the parameter says what ended the sessions.
+  -- stopped seat is one of a process or of a script; of both the parameter says what ended the sessions. Out of memory comes
+  -- only where the first script is not too long.
   abbrev pub IsFaultOnSetup : Parts → ℕ → List (List ℕ) → RaceFault → Type 0
   IsFaultOnSetup setup turns scripts (Setup fault) = ⊥
   IsFaultOnSetup setup turns scripts (Line position line fault) = IsFirstBad position (script.Line line fault) scripts
@@ -160,12 +166,13 @@ module _ (IsFaultOfSessions : Parts → ℕ → List (List Command) → ThreadFa
       × IsFaultOfSessions setup turns commands (threads.Stopped seat)
   IsFaultOnSetup setup turns scripts (Spawn refused) = AreAllRead scripts
   IsFaultOnSetup setup turns scripts Write = AreAllRead scripts
-  IsFaultOnSetup setup turns scripts NoMemory = Unit {0}
+  IsFaultOnSetup setup turns scripts NoMemory = IsFirstNotTooLong scripts
 
-  -- the same of a race on the setup that a text of JSON encodes: a fault of the setup comes before all others
+  -- the same of a race on the setup that a text of JSON encodes: a fault of the setup comes before all others, and out of
+  -- memory only where the text is not too long
   abbrev pub IsFaultOfRace : List ℕ → ℕ → List (List ℕ) → RaceFault → Type 0
   IsFaultOfRace json turns scripts (Setup fault) = IsFirstFault fault json
-  IsFaultOfRace json turns scripts NoMemory = Unit {0}
+  IsFaultOfRace json turns scripts NoMemory = length json ≤ longest
   IsFaultOfRace json turns scripts fault = (setup : Parts) × Encodes json setup × IsFaultOnSetup setup turns scripts fault
 
   -- ---- what the code keeps for itself
@@ -191,5 +198,5 @@ IsTextOfCommands rules setup turns commands text =
 abbrev pub IsFaultOfScripts : RaceFault → List (List ℕ) → Type 0
 IsFaultOfScripts (Line position line fault) scripts = IsFirstBad position (script.Line line fault) scripts
 IsFaultOfScripts (ScriptTooLong position) scripts = IsFirstBad position script.TooLong scripts
-IsFaultOfScripts NoMemory scripts = Unit {0}
+IsFaultOfScripts NoMemory scripts = IsFirstNotTooLong scripts
 IsFaultOfScripts fault scripts = ⊥

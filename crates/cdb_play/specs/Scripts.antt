@@ -29,8 +29,8 @@ IsScript commands script = (length script ≤ longest) × AreCommandsOf commands
 abbrev pub GivesCommands : Stream → Stream → List Command → Type 0
 GivesCommands old new commands = (script : List ℕ) × IsReadToEnd old script new × IsScript commands script
 
--- what a fault says of the script
+-- what a fault says of the script: out of memory comes only where it is not too long
 abbrev pub IsFaultOfScript : ScriptFault → List ℕ → Type 0
 IsFaultOfScript (Line line fault) script = (length script ≤ longest) × IsFirstBadLine line fault (lines_of script)
 IsFaultOfScript TooLong script = longest < length script
-IsFaultOfScript NoMemory script = Unit {0}
+IsFaultOfScript NoMemory script = length script ≤ longest

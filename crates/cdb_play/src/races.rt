@@ -124,10 +124,14 @@ fn scripts_of(alloc: Global, scripts: &[Vec<u8>]) -> Result<Vec<Script>, RaceFau
     ensures count { IfOk result (λ read. vec_len read ≡ length scripts.now) }
     ensures fault { IfErr result (λ fault. IsFaultOfScripts fault (bytes_of scripts.now)) }
 {
-    let mut read = Vec::with_capacity(alloc, scripts.len())?;
+    let mut read = Vec::new(alloc);
     for script in scripts {
         match commands_of(alloc, script.as_slice()) {
-            Ok(commands) => read.push_reserved(Script::new(commands)),
+            Ok(commands) => {
+                if read.push(Script::new(commands)).is_err() {
+                    return Err(RaceFault::NoMemory);
+                }
+            }
             Err(fault) => return Err(fault_of_script(read.len() + 1, fault)),
         }
     }

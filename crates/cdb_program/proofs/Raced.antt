@@ -1,5 +1,5 @@
 -- What a race on a setup says of the text that was read as this setup.
-use Rattle.std.proofs.Common.{◌≡◌, ◌≢◌, ◌⊎◌, inl, inr, ℕ, ◌+◌, ◌≤◌, List, length, Result, Ok, Err, sym, ap, subst}
+use Rattle.std.proofs.Common.{◌≡◌, ◌≢◌, ◌⊎◌, inl, inr, ℕ, ◌+◌, ◌<◌, ◌≤◌, List, length, Result, Ok, Err, sym, ap, subst}
 use Rattle.std.specs.Prelude.{IfErr}
 use Rattle.std.proofs.lemmas.Result.{IfErr-weaker}
 use Rattle.cdb_play.proofs.Ending.{race_unwritten_setup, written_as}
@@ -10,7 +10,7 @@ use Rattle.cdb_play.specs.Streams.{Stream}
 use Rattle.cdb_play.specs.Written.{AgreesAtEnd, IsWritten}
 use Rattle.cdb_play.specs.declared.fault.RaceFault.{RaceFault}
 use Rattle.cdb_rules.specs.Agreement.{HasMajorityIfNeeded}
-use Rattle.cdb_setup.specs.Format.{Encodes}
+use Rattle.cdb_setup.specs.Format.{Encodes, longest}
 use Rattle.cdb_setup.specs.Order.{IsFirstFault}
 use Rattle.cdb_setup.specs.Parts.{Parts}
 use Rattle.cdb_setup.specs.declared.fault.SetupFault.{SetupFault}
@@ -34,13 +34,13 @@ race_seen stream json turns parts scripts raced old new stands only few wrote ag
 }
 
 -- the text was not read as a setup
-pub race_unread : (json : List ℕ) (turns : ℕ) (scripts : List (List ℕ)) (fault : SetupFault) (out : Stream) → (fault ≢ setup.NoMemory → IsFirstFault fault json) → ((other : Parts) → Encodes json other → fault ≡ setup.NoMemory)
+pub race_unread : (json : List ℕ) (turns : ℕ) (scripts : List (List ℕ)) (fault : SetupFault) (out : Stream) → (fault ≢ setup.NoMemory → IsFirstFault fault json) → (longest < length json → fault ≡ setup.TooLong) → ((other : Parts) → Encodes json other → fault ≡ setup.NoMemory)
     → IsRace json turns scripts (Err (race_fault_of_setup fault)) out out
-race_unread json turns scripts fault out said only = record {
+race_unread json turns scripts fault out said long only = record {
   fits = λ ended other its. absurd (ended (ap (λ (f : SetupFault). Err (race_fault_of_setup f)) (only other its)));
   wrote = race_unwritten_setup (λ (s : Stream). s) (Unit {0}) (IsTextOfRace rules json turns scripts) out fault;
   agree = λ of_majority. tt;
-  fault = of_setup_read IsFaultUngated turns json scripts fault said;
+  fault = of_setup_read IsFaultUngated turns json scripts fault said long;
 }
 
 -- what was read is the only setup that the text encodes

@@ -1,9 +1,10 @@
 -- A race's fault names one of its seats, where it names a seat.
-use Rattle.std.proofs.Common.{◌≡◌, inl, inr, ℕ, ◌+◌, ◌-◌, ◌<◌, Bool, List, [], ◌∷◌, Option, Some, length, get_or, refl, sym, ap, ◌∙◌, subst, arith}
+use Rattle.std.proofs.Common.{◌≡◌, inl, inr, ℕ, ◌+◌, ◌-◌, ◌<◌, ◌≤◌, Bool, List, [], ◌∷◌, Option, Some, length, get_or, refl, sym, ap, ◌∙◌, subst, arith}
 use Rattle.atomic_table.specs.Seated.{TableId}
 use Rattle.cdb_control.specs.Journal.{opened}
 use Rattle.cdb_control.specs.declared.command.Command.{Command}
-use Rattle.cdb_race.specs.Faults.{fault_at, AreFresh, IsAmongSeats, IsFaultBehind, IsFaultOfThreads, IsNotStopped, IsOfLeastSeat, IsTold}
+use Rattle.cdb_race.specs.LastFault.{IsLastFault}
+use Rattle.cdb_race.specs.Faults.{fault_at, fault_in, AreFresh, IsAmongSeats, IsFaultBehind, IsFaultOfThreads, IsNotStopped, IsOfLeastSeat, IsTold}
 use Rattle.cdb_race.specs.Plans.{seats_of}
 use Rattle.cdb_race.specs.Races.{AllRan, AllPass}
 use Rattle.cdb_race.specs.declared.plan.Plan.{Plan}
@@ -17,6 +18,10 @@ use Rattle.cdb_shared.specs.Seats.{SeatView, fresh_seat}
 use Rattle.cdb_shared.specs.declared.session.End.{End}
 use Rattle.cdb_shared.specs.declared.session.End.TheVariants.{All, Done, Stopped, NoMemory, JournalFull}
 
+-- what is not more is at most as many
+at_most : (count most : ℕ) → (most < count → ⊥) → count ≤ most
+at_most count most not_more = omega arith
+
 -- the fault of a session names its seat
 of_end : (n seat : ℕ) (end : End) (why : RaceFault) → fault_at seat end ≡ Some why → IsWithin 1 n seat → IsAmongSeats n why
 of_end n seat All why has within = absurd cc
@@ -25,18 +30,40 @@ of_end n seat Stopped why has within = let same : fault.Stopped seat ≡ why = c
 of_end n seat NoMemory why has within = let same : fault.NoMemory ≡ why = cc in subst (IsAmongSeats n) same tt
 of_end n seat JournalFull why has within = let same : fault.JournalFull ≡ why = cc in subst (IsAmongSeats n) same tt
 
--- and so does that of the least seat
-pub of_least : {T : Type 0} (rules : Parts → Rules) (shared : TableId) (plan : Plan) (setup : Parts) (before : List SeatView) (rans : List (Ran T)) (why : RaceFault) → AreFresh shared setup (seats_of plan) before → length rans ≡ seats_of plan
-    → AllRan rules plan before rans → IsOfLeastSeat why rans → IsAmongSeats (seats_of plan) why
-of_least {T} rules shared plan setup before rans why new many all least =
-    let its = least.its in
-    let k = least.position in
+-- what each outcome says of its seat: the last seat's comes first
+number_at : {T : Type 0} (rules : Parts → Rules) (shared : TableId) (plan : Plan) (setup : Parts) (before : List SeatView) (rans : List (Ran T)) → AreFresh shared setup (seats_of plan) before → length rans ≡ seats_of plan
+    → AllRan rules plan before rans → (k : ℕ) (its : Ran T) → k < length rans → get_or rans k its ≡ its → its.seat.number ≡ 1 + (length before - 1 - k)
+number_at {T} rules shared plan setup before rans new many all k its within at =
     let nobody = fresh_seat shared (opened setup 0) 0 in
     let position = length before - 1 - k in
-    let later = (all k its least.within nobody).later.number in
-    let first = ap (λ (s : SeatView). s.number) (new.each position nobody (omega (arith, new.many, least.within))) in
-    let number : its.seat.number ≡ 1 + position = ap (λ (r : Ran T). r.seat.number) (sym least.at) ∙ later ∙ first in
-    of_end (seats_of plan) its.seat.number its.end why least.has (omega (arith, number), omega (arith, number, new.many))
+    let later = (all k its within nobody).later.number in
+    let first = ap (λ (s : SeatView). s.number) (new.each position nobody (omega (arith, new.many, within))) in
+    ap (λ (r : Ran T). r.seat.number) (sym at) ∙ later ∙ first
+
+-- and so does that of the least seat
+pub of_last : {T : Type 0} (rules : Parts → Rules) (shared : TableId) (plan : Plan) (setup : Parts) (before : List SeatView) (rans : List (Ran T)) (why : RaceFault) → AreFresh shared setup (seats_of plan) before → length rans ≡ seats_of plan
+    → AllRan rules plan before rans → IsLastFault why rans → IsAmongSeats (seats_of plan) why
+of_last {T} rules shared plan setup before rans why new many all last =
+    let its = last.its in
+    let number = number_at rules shared plan setup before rans new many all last.position its last.within last.at in
+    of_end (seats_of plan) its.seat.number its.end why last.has (omega (arith, number, last.within, new.many, many), omega (arith, number, new.many, many, last.within))
+
+-- the last outcome with a fault is that of the least seat which has one
+pub least_seat : {T : Type 0} (rules : Parts → Rules) (shared : TableId) (plan : Plan) (setup : Parts) (before : List SeatView) (rans : List (Ran T)) (why : RaceFault) → AreFresh shared setup (seats_of plan) before → length rans ≡ seats_of plan
+    → AllRan rules plan before rans → IsLastFault why rans → IsOfLeastSeat why rans
+least_seat {T} rules shared plan setup before rans why new many all last =
+    let number : (k : ℕ) (its : Ran T) → k < length rans → get_or rans k its ≡ its → its.seat.number ≡ 1 + (length before - 1 - k) = number_at rules shared plan setup before rans new many all in
+    record {
+      its = last.its;
+      ran = (last.position, last.within, last.at);
+      has = last.has;
+      least = λ other among has.
+          let k = among.0 in
+          let earlier : k ≤ last.position = at_most k last.position (λ behind. has (ap fault_in (sym among.2) ∙ last.last k other behind among.1)) in
+          let own = number last.position last.its last.within last.at in
+          let its = number k other among.1 among.2 in
+          omega (arith, own, its, earlier, among.1, last.within);
+    }
 
 -- a seat that is told to have stopped did stop
 stopped : (seat n : ℕ) (end : End) → fault_at seat end ≡ Some (fault.Stopped n) → end ≡ Stopped
@@ -57,10 +84,10 @@ never_stopped T rules heard passes gates setup turns scripts why many it all sea
     let least = it.least in
     let its = least.its in
     let nobody = fresh_seat it.shared (opened setup 0) 0 in
-    let first = some_gate gates (omega (arith, many, it.many, least.within, it.processes_are, ap length it.scripts_are)) in
-    let ended = it.ended least.position its first least.within nobody in
-    let end : (get_or it.rans least.position its).end ≡ Stopped = ap (λ (r : Ran T). r.end) least.at ∙ stopped its.seat.number seat its.end (least.has ∙ ap (λ (f : RaceFault). Some f) is) in
-    ended.passed (all (length gates - 1 - least.position) first (omega (arith, many, it.many, least.within, it.processes_are, ap length it.scripts_are))) end
+    let first = some_gate gates (omega (arith, many, it.many, least.ran.1, it.processes_are, ap length it.scripts_are)) in
+    let ended = it.ended least.ran.0 its first least.ran.1 nobody in
+    let end : (get_or it.rans least.ran.0 its).end ≡ Stopped = ap (λ (r : Ran T). r.end) least.ran.2 ∙ stopped its.seat.number seat its.end (least.has ∙ ap (λ (f : RaceFault). Some f) is) in
+    ended.passed (all (length gates - 1 - least.ran.0) first (omega (arith, many, it.many, least.ran.1, it.processes_are, ap length it.scripts_are))) end
 
 -- so it is told of none
 not_stopped : (why : RaceFault) → ((seat : ℕ) → why ≡ fault.Stopped seat → ⊥) → IsNotStopped why

@@ -1,5 +1,5 @@
 -- Which fault a race returns.
-use Rattle.std.specs.Prelude.{◌≡◌, ◌⊎◌, ℕ, ◌+◌, ◌<◌, Bool, List, All, length, slice_index_or, Option, Some, None, Vec, vec_len}
+use Rattle.std.specs.Prelude.{◌≡◌, ◌≢◌, ◌⊎◌, ℕ, ◌+◌, ◌<◌, ◌≤◌, Bool, List, All, Contains, length, slice_index_or, Option, Some, None, Vec, vec_len}
 use Rattle.std.specs.Global.{Global}
 use Rattle.atomic_table.specs.Seated.{TableId}
 use Rattle.cdb_control.specs.Journal.{opened}
@@ -40,14 +40,12 @@ HaveFinished rules rans seats replies =
     (plan : Plan) (before : List SeatView) → length before ≡ vec_len rans → AllRan rules plan before rans.items → AreWell rans.items
     → AllFinished rules plan before seats.items (all_told replies.items)
 
--- of the seats that have a fault the least has this one. The last seat's outcome comes first
+-- a seat that ran has this fault, and each that ran and has a fault has no lesser number
 pub record IsOfLeastSeat {T : Type 0} (fault : RaceFault) (rans : List (Ran T)) : Type 0 where
   pub its : Ran T
-  pub position : ℕ
-  pub within : position < length rans
-  pub at : slice_index_or rans position its ≡ its
+  pub ran : Contains rans its
   pub has : fault_in its ≡ Some fault
-  pub least : (k : ℕ) (ran : Ran T) → position < k → k < length rans → fault_in (slice_index_or rans k ran) ≡ None
+  pub least : (other : Ran T) → Contains rans other → fault_in other ≢ None → its.seat.number ≤ other.seat.number
 
 -- a stopped seat is one of this many
 abbrev pub IsAmongSeats : ℕ → RaceFault → Type 0

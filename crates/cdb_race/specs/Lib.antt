@@ -6,3 +6,5 @@ pub mod FaultTexts
 pub mod Plans
 pub mod Runs
 pub mod Promises
+-- what the code keeps for itself: the fault that is found first
+pub mod LastFault

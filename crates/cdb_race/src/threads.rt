@@ -1,7 +1,8 @@
 //! Starting and joining the threads of a race.
 ghost use Rattle.std.specs.Prelude.{◌≡◌, ◌+◌, ◌<◌, ◌≤◌, length, vec_len, All, IfOk, IfErr, MatchOption, Err};
 ghost use Rattle.cdb_base.specs.declared.limits.TheConstants.{MAX_SEATS};
-ghost use Rattle.cdb_race.specs.Faults.{fault_in, AreWell, HaveFinished, IsAmongSeats, IsFaultOfThreads, IsNotStopped, IsOfLeastSeat, IsTold};
+ghost use Rattle.cdb_race.specs.Faults.{fault_in, AreWell, HaveFinished, IsAmongSeats, IsFaultOfThreads, IsNotStopped, IsTold};
+ghost use Rattle.cdb_race.specs.LastFault.{IsLastFault};
 ghost use Rattle.cdb_race.specs.Plans.{IsReady};
 ghost use Rattle.cdb_race.specs.Promises.{ArePromises, IsPromise, HasRan, HasEndedAtGate};
 ghost use Rattle.cdb_race.specs.Races.{AllRan, AllEnded, AllPass, AreSeatsOf, FillsJournal, HasRaced, MayFill};
@@ -161,7 +162,7 @@ fn fault_of<T: Runs>(ran: &Ran<T>) -> Option<RaceFault>
 
 /// The fault of the least seat that has one. The last seat's outcome comes first.
 fn first_fault<T: Runs>(rans: &[Ran<T>]) -> Option<RaceFault>
-    ensures { MatchOption result (AreWell rans.now) (λ fault. IsOfLeastSeat fault rans.now) }
+    ensures { MatchOption result (AreWell rans.now) (λ fault. IsLastFault fault rans.now) }
 {
     for position in (0..rans.len()).rev() {
         if let Some(fault) = fault_of(&rans[position]) {

@@ -1,6 +1,6 @@
 //! The records of all standing events.
 
-ghost use Rattle.std.specs.Prelude.{◌≡◌, ◌-◌, ◌≤◌, [], Some, length, IfErr, OnOk, OnErr};
+ghost use Rattle.std.specs.Prelude.{◌≡◌, ◌-◌, ◌≤◌, [], ◌∷◌, ◌++◌, Some, length, IfErr, OnOk, OnErr};
 ghost use Rattle.std.specs.Fn.{FnOnceTakesAtMut};
 ghost use Rattle.cdb_base.specs.Event.{event_name};
 ghost use Rattle.cdb_base.specs.Positions.{nth};
@@ -13,7 +13,7 @@ ghost use Rattle.cdb_causal.specs.Rollback.{without};
 ghost use Rattle.cdb_causal.specs.Standing.{HasNoLostCopy};
 ghost use Rattle.cdb_record.specs.Adding.{IsAddedBy};
 ghost use Rattle.cdb_record.specs.Counts.{IsCountOf, IsZeroWhereFree};
-ghost use Rattle.cdb_record.specs.Recorded.{events_of};
+ghost use Rattle.cdb_record.specs.Recorded.{events_of, recorded_of};
 ghost use Rattle.cdb_record.specs.Search.{TakesFree, IsLastStepOrNone};
 ghost use Rattle.cdb_record.specs.Taken.{IsLastStepOf, TakesWhereFree};
 
@@ -35,6 +35,7 @@ pub struct Records<B: Drop> {
 
 impl<B: Drop> Model for Records<B> {
     ghost use Rattle.std.specs.Prelude.{◌≡◌, ◌≤◌, List, length};
+    ghost use Rattle.cdb_log.specs.declared.log.TheConstants.{ABOVE_ALL};
     ghost use Rattle.cdb_record.specs.declared.recorded.Recorded.{Recorded};
 
     ghost Value = { List (Recorded B) };
@@ -44,7 +45,7 @@ impl<B: Drop> Model for Records<B> {
     ghost view = { λ records. records_of records.history records.left.items };
 
     ghost invariant = { λ records. (length records.left.items ≡ length records.history)
-        × (length records.history ≤ 4294967295) };
+        × (length records.history ≤ ABOVE_ALL) };
 }
 
 impl<B: Drop> Records<B> {
@@ -88,8 +89,8 @@ impl<B: Drop> Records<B> {
 
     /// Changes a state as an event does, and adds the event at the end, with what `change` returns for
     /// taking it back: makes room for both, then calls `change`, then adds them, which takes no memory.
-    /// No event of its name stands, and of a send no copy is lost. Where there is no room, where `change`
-    /// fails, and where 4,294,967,295 events stand, nothing is added.
+    /// No event of its name stands, and of a send no copy is lost. Where there is no room, and where `change`
+    /// fails, nothing is added.
     pub fn push_with<S, F: FnOnce(&mut S) -> Result<Left<B>, NoMemory>>(
         &mut self,
         event: Event,
@@ -104,13 +105,21 @@ impl<B: Drop> Records<B> {
         ensures failed { IfErr result (λ e. HasFailed F.FnOnce change state.old e state.new) }
         ensures err { OnErr result (self.new ≡ self.old) }
     {
-        if self.left.len() >= u32::MAX as usize {
-            return Err(NoMemory);
-        }
         self.left.reserve()?;
         let left = self.history.push_with(event, state, change)?;
         self.left.push_reserved(left);
         Ok(())
+    }
+
+    /// Adds an event at the end, with what it left. No event of its name stands, and of a send no copy is
+    /// lost. After `NoMemory` nothing is added, and what it left is given up.
+    pub fn push(&mut self, event: Event, left: Left<B>) -> Result<(), NoMemory>
+        requires new_name { IsNewName (events_of self.old) (event_name event) }
+        requires not_lost { HasNoLostCopy (events_of self.old) event }
+        ensures ok { OnOk result (self.new ≡ self.old ++ recorded_of event left ∷ []) }
+        ensures err { OnErr result (self.new ≡ self.old) }
+    {
+        self.push_with(event, &mut (), |_| Ok(left))
     }
 
     /// Takes the free event at a position out, from 1 to the number of events, with what it left. It

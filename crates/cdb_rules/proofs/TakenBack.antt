@@ -1,5 +1,5 @@
 -- What was just taken can be undone, what is undone can be taken again, and what stands in the way of an undo.
-use Rattle.std.proofs.Common.{◌≡◌, ◌↔◌, ℕ, List, [], ◌∷◌, ◌++◌, length, Some, Result, Ok, Err, IsOk, IfOk, IsSome, option_and_then, reverse, append-nil, refl, sym, ap, ◌∙◌, subst, true≢false}
+use Rattle.std.proofs.Common.{◌≡◌, ◌↔◌, ℕ, List, [], ◌∷◌, ◌++◌, length, Result, Ok, Err, IsOk, IfOk, IsSome, option_and_then, reverse, append-nil, refl, sym, ap, ◌∙◌, subst, true≢false}
 use Rattle.std.proofs.lemmas.List.{reverse-reverse}
 use Rattle.cdb_base.specs.Event.{event_name}
 use Rattle.cdb_base.specs.declared.event.Event.{Event}
@@ -46,16 +46,28 @@ module _ {L : Type 0} (machine : Machine L) (n : ℕ) (number : length machine.f
       (λ stands. subst IsOk (sym is) (ok_where_free stands)),
     )
 
-    led_back : (r : Result (Event × List Event) Refusal) → undo_of n history name ≡ r → IfOk (answered r) (λ event. after machine (state_of machine (left_by history r)) event ≡ Some (state_of machine history))
-    led_back (Ok done) is = (undone_back machine n history name done.0 done.1 is valid).1
+    led_back : (r : Result (Event × List Event) Refusal) → undo_of n history name ≡ r
+        → IfOk (answered r) (λ event. IsValid machine (left_by history r ++ event ∷ []) × (fold machine (left_by history r ++ event ∷ []) ≡ fold machine history))
+    led_back (Ok done) is =
+        let u = undone_back machine n history name done.0 done.1 is valid in
+        let led : fold machine (done.1 ++ done.0 ∷ []) ≡ fold machine history =
+        reached_push (after machine) (start machine) done.1 done.0
+        ∙ ap (option_and_then (λ state. after machine state done.0)) (reached_state machine done.1 u.0)
+        ∙ u.1
+        ∙ sym (reached_state machine history valid) in
+        (subst IsSome (sym led) valid, led)
     led_back (Err why) is = tt
 
     -- the event, taken again, leads from what is left back to the state before the undo
     pub undo_leads_back : (result : Result Event Refusal) → result ≡ answered (undo_of n history name)
-        → IfOk result (λ event. after machine (state_of machine (left_by history (undo_of n history name))) event ≡ Some (state_of machine history))
+        → IfOk result
+        (λ event. IsValid machine (left_by history (undo_of n history name) ++ event ∷ []) × (fold machine (left_by history (undo_of n history name) ++ event ∷ []) ≡ fold machine history))
     undo_leads_back result is =
-        subst (λ (r : Result Event Refusal). IfOk r (λ event. after machine (state_of machine (left_by history (undo_of n history name))) event ≡ Some (state_of machine history))) (sym is)
-        (led_back (undo_of n history name) refl)
+        subst
+        (λ (r : Result Event Refusal).
+        IfOk r
+        (λ event. IsValid machine (left_by history (undo_of n history name) ++ event ∷ []) × (fold machine (left_by history (undo_of n history name) ++ event ∷ []) ≡ fold machine history)))
+        (sym is) (led_back (undo_of n history name) refl)
 
     rolled_again : (r : Result (List Event × List Event) Refusal) → rollback_of n history name ≡ r → fold machine (left_by history r ++ reverse (with_removed [] (answered r))) ≡ fold machine history
     rolled_again (Ok done) is = (rolled_back_back machine n history name done.0 done.1 is valid).1

@@ -1,5 +1,5 @@
 -- What a contract says of a run: of its setup and its standing events, with the table of its machine.
-use Rattle.std.specs.Prelude.{◌≡◌, ℕ, ◌-◌, ◌≤◌, List, [], ◌∷◌, ◌++◌, Bool, Option, Some, option_map, Result, Ok, Err, IfOk, OnOk, OnErr, IsOk, MatchOption, MatchResult, false, reverse}
+use Rattle.std.specs.Prelude.{◌≡◌, ℕ, ◌-◌, ◌≤◌, List, [], ◌∷◌, ◌++◌, Bool, Option, option_map, Result, Ok, Err, IfOk, OnOk, OnErr, IsOk, MatchOption, MatchResult, false, reverse}
 use Rattle.cdb_base.specs.Event.{event_name}
 use Rattle.cdb_base.specs.Positions.{nth}
 use Rattle.cdb_base.specs.declared.act.Act.{Act}
@@ -24,7 +24,7 @@ use Rattle.cdb_rules.specs.Machines.{machine_of}
 use Rattle.cdb_rules.specs.Mail.{mail_of}
 use Rattle.cdb_rules.specs.Refusals.{step_answer, lose_answer, again_answer, with_taken}
 use Rattle.cdb_rules.specs.State.{Machine, ProcessState, RunState}
-use Rattle.cdb_rules.specs.Step.{after, fold, is_among, state_of, IsEnabled, IsValid}
+use Rattle.cdb_rules.specs.Step.{fold, is_among, state_of, IsEnabled, IsValid}
 use Rattle.cdb_rules.specs.declared.progress.Progress.{Progress}
 use Rattle.cdb_rules.specs.Undo.{Found, IsFreeName, event_named, found_at, for_standing, undo_found, undo_of, rollback_of, causes_of, answered, left_by, number_removed, with_removed}
 
@@ -199,13 +199,13 @@ AreCausesOf run name causes = (i : ℕ) × IsNamedAt run.history i name × AreDi
 
 -- ---- back and forth
 
--- the event, taken now, leads to the state of that other run
+-- the event can be taken now, and leads to the state of that other run
 abbrev pub LeadsTo : {L : Type 0} → Table L → RunView → Event → RunView → Type 0
-LeadsTo table run event to = after (machine_in table run) (state_in table run) event ≡ Some (state_in table to)
+LeadsTo table run event to = IsInOrder table (with_event run event) × AreInSameState table (with_event run event) to
 
 -- the events, taken one after another, lead there
 abbrev pub AllLeadTo : {L : Type 0} → Table L → RunView → List Event → RunView → Type 0
-AllLeadTo table run events to = reached_in table (with_history run (run.history ++ events)) ≡ reached_in table to
+AllLeadTo table run events to = AreInSameState table (with_history run (run.history ++ events)) to
 
 -- the event was just taken: it can be undone, and that leaves the history of the run before it
 abbrev pub IsJustTaken : RunView → Event → RunView → Type 0

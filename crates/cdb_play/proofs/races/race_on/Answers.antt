@@ -6,7 +6,7 @@ use Rattle.cdb_play.specs.Endings.{race_ending}
 use Rattle.cdb_play.specs.Races.{IsFaultUngated, bytes_of, IsTextOnSetup, IsTextOfCommands}
 use Rattle.cdb_play.proofs.Ending.{race_unwritten_scripts, written_as}
 use Rattle.cdb_play.proofs.RaceTexts.{of_scripts}
-use Rattle.cdb_play.proofs.RunningFaults.{both, of_reading, ungated}
+use Rattle.cdb_play.proofs.RunningFaults.{both, first_fits, of_reading, ungated}
 use Rattle.cdb_play.proofs.races.race_on.Goals as goal
 
 pub returns-in_err-commands-clause-wrote : goal.returns-in_err-commands-clause-wrote
@@ -37,3 +37,8 @@ pub returns-in_err-commands-clause-agree : goal.returns-in_err-commands-clause-a
 returns-in_err-commands-clause-agree g c = λ majority.
     let p = err_from_is_err_and c.from_residual.result c.from_residual.ensures.1 in
     rw p.1 tt
+
+pub returns-in_err-gates-clause-fault : goal.returns-in_err-gates-clause-fault
+returns-in_err-gates-clause-fault g c =
+    let p = err_from_is_err_and c.from_residual-in_err-gates.result c.from_residual-in_err-gates.ensures.1 in
+    rw (p.1, p.2) (first_fits c.in_ok-commands.commands.items (bytes_of c.args.scripts.now) c.in_ok-commands.ensures.read)

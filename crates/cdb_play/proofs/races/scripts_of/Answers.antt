@@ -1,7 +1,7 @@
-use Rattle.std.proofs.Common.{◌≡◌, ◌+◌, length, take, drop, rules, arith}
+use Rattle.std.proofs.Common.{◌≡◌, ◌+◌, [], ◌∷◌, ◌++◌, length, take, drop, rules, arith}
 use Rattle.cdb_play.specs.Races.{bytes_of}
 use Rattle.cdb_play.specs.Scripts.{IsScript}
-use Rattle.cdb_play.proofs.ScriptsRead.{bad_script, one_script, script_at, one_more_taken, so_many}
+use Rattle.cdb_play.proofs.ScriptsRead.{bad_script, first_so_far, one_script, script_at, one_more_taken, so_many}
 use Rattle.cdb_play.proofs.races.scripts_of.Goals as goal
 
 pub returns-in-Err-clause-fault : goal.returns-in-Err-clause-fault
@@ -25,10 +25,18 @@ loop-script-preserved c =
     let so = c.loop-script.invariant in
     let said = c.in-Ok.ensures in
     let is_script : IsScript c.in-Ok.commands.items script.items = (rw c.as_slice.ensures.value at said.short, (rw c.as_slice.ensures.value at said.commands)) in
+    let items : c.push.new.self.items ≡ c.loop-script.read.items ++ c.new.result ∷ [] = search rules in
     record {
       read =
-          rw (c.push_reserved.ensures.items, c.new.ensures, one_more_taken scripts i script c.script-item.is c.loop-script-test.true)
+          rw (items, c.new.ensures, one_more_taken scripts i script c.script-item.is c.loop-script-test.true)
           (one_script c.loop-script.read.items (bytes_of (take i scripts)) c.in-Ok.commands.items script.items so.read is_script);
-      count = search rules;
-      room = search rules;
+      count = let more = c.push.ensures.len in grind (arith, more, so.count);
     }
+
+pub returns-then-is_err-clause-fault : goal.returns-then-is_err-clause-fault
+returns-then-is_err-clause-fault c =
+    let scripts = c.args.scripts.now in
+    let i = c.loop-script.script-index in
+    let script = c.script-item.result in
+    rw (script_at scripts i script c.script-item.is c.loop-script-test.true)
+    (first_so_far c.loop-script.read.items (bytes_of (take i scripts)) script.items (bytes_of (drop (i + 1) scripts)) c.loop-script.invariant.read (rw c.as_slice.ensures.value at c.in-Ok.ensures.short))

@@ -12,7 +12,7 @@ pub returns-in-Err : goal.returns-in-Err
 returns-in-Err g c =
     let fault = c.in-Err.fault in
     let only : (other : Parts) → Encodes c.args.setup.now other → fault ≡ NoMemory = λ other its. memory_alone c.read.result fault other c.in-Err.is (c.read.ensures.only other its) in
-    inl (Err c.from.result, c.of_race.ensures, rw c.from.ensures (race_unread c.args.setup.now c.args.turns (bytes_of c.args.scripts.now) fault _ c.in-Err.ensures.fault only))
+    inl (Err c.from.result, c.of_race.ensures, rw c.from.ensures (race_unread c.args.setup.now c.args.turns (bytes_of c.args.scripts.now) fault _ c.in-Err.ensures.fault (λ long. cc (c.in-Err.ensures.too_long long)) only))
 
 pub returns : goal.returns
 returns g c =

@@ -11,5 +11,5 @@ returns-in-Some g c =
       within = omega (arith, before, test);
       at = search rules;
       has = sym c.fault_of.ensures ∙ c.in-Some.is;
-      least = λ k ran low below. c.loop-position.invariant k ran (omega (arith, low, test)) below;
+      last = λ k ran low below. c.loop-position.invariant k ran (omega (arith, low, test)) below;
     }

@@ -1,6 +1,7 @@
 use Rattle.std.proofs.Common.{◌≡◌, inr, ◌+◌, ◌∙◌, ap, subst, arith, List, All, Some, None, Err, refl, length}
 use Rattle.std.proofs.lemmas.List.{length-map}
-use Rattle.cdb_race.specs.Faults.{fault_in, IsAmongSeats, IsOfLeastSeat}
+use Rattle.cdb_race.specs.Faults.{fault_in, IsAmongSeats}
+use Rattle.cdb_race.specs.LastFault.{IsLastFault}
 use Rattle.cdb_race.specs.Plans.{seats_of}
 use Rattle.cdb_race.specs.Races.{all_told}
 use Rattle.cdb_race.specs.declared.plan.Plan.{Plan}
@@ -9,7 +10,7 @@ use Rattle.cdb_race.specs.declared.threads.RaceFault.TheVariants as fault
 use Rattle.cdb_race.specs.declared.worker.Ran.{Ran}
 use Rattle.cdb_race.proofs.Outcomes.{fresh, all_ready, all_rest, raced}
 use Rattle.cdb_race.proofs.Most.{few_calls}
-use Rattle.cdb_race.proofs.Stops.{of_least, told_passes}
+use Rattle.cdb_race.proofs.Stops.{least_seat, of_last, told_passes}
 use Rattle.cdb_race.proofs.Underway.{same_fault, met_full, under_way, full_at}
 use Rattle.cdb_race.proofs.threads.race.Goals as goal
 
@@ -63,9 +64,9 @@ returns-in-Some-clause-fault g c =
     let rans = c.in_ok-rans.rans in
     let before = c.in-Ok-open.seats in
     let why = c.in-Some.fault in
-    let least : IsOfLeastSeat why rans.items = subst (IsOfLeastSeat why) c.as_slice.ensures.value c.in-Some.ensures in
+    let last : IsLastFault why rans.items = subst (IsLastFault why) c.as_slice.ensures.value c.in-Some.ensures in
     let many : length rans.items ≡ seats_of plan = omega (arith, c.in_ok-rans.ensures.count, new.many, rans.ok.0, before.ok.0) in
-    let it = of_least g.T.Runs.rules c.in-Ok-open.shared plan c.args.setup before.items rans.items why new many c.in_ok-rans.ensures.each least in
+    let it = of_last g.T.Runs.rules c.in-Ok-open.shared plan c.args.setup before.items rans.items why new many c.in_ok-rans.ensures.each last in
     subst (λ n. IsAmongSeats (n + length c.args.scripts.now) why) c.n-processes.ensures.value it
 
 pub returns-in-Some-clause-full : goal.returns-in-Some-clause-full
@@ -77,15 +78,15 @@ returns-in-Some-clause-full g c = λ full.
     let seats = c.in_ok-seats.seats in
     let got = c.in_ok-seats.ensures in
     let why = c.in-Some.fault in
-    let least : IsOfLeastSeat why rans.items = subst (IsOfLeastSeat why) c.as_slice.ensures.value c.in-Some.ensures in
+    let last : IsLastFault why rans.items = subst (IsLastFault why) c.as_slice.ensures.value c.in-Some.ensures in
     let many : length rans.items ≡ seats_of plan = omega (arith, c.in_ok-rans.ensures.count, new.many, rans.ok.0, before.ok.0) in
     let long : length seats.items ≡ length rans.items = omega (arith, got.count.0, seats.ok.0, rans.ok.0) in
     let same : why ≡ fault.JournalFull = same_fault (Err why) (Err fault.JournalFull) why fault.JournalFull refl refl full in
-    let met = met_full least.its.seat.number least.its.end (least.has ∙ ap (λ (f : RaceFault). Some f) same) in
+    let met = met_full last.its.seat.number last.its.end (last.has ∙ ap (λ (f : RaceFault). Some f) same) in
     let final = c.finish-control.result in
-    let so_far = under_way g.T.Runs.rules c.in-Ok-open.shared plan c.args.setup final before.items rans.items least.its c.n-processes.ensures.value new many c.in_ok-rans.ensures.each seats.items long got.seats c.finish-control.ensures.known c.n-processes.ensures.ranges.processes.0 c.journal.ensures.seats in
+    let so_far = under_way g.T.Runs.rules c.in-Ok-open.shared plan c.args.setup final before.items rans.items last.its c.n-processes.ensures.value new many c.in_ok-rans.ensures.each seats.items long got.seats c.finish-control.ensures.known c.n-processes.ensures.ranges.processes.0 c.journal.ensures.seats in
     let whole =
-    full_at g.T.Runs.rules c.in-Ok-open.shared plan c.args.setup final before.items rans.items least.its c.n-processes.ensures.value new many c.in_ok-rans.ensures.each seats.items long got.seats c.finish-control.ensures.known least.position least.within (ap (λ (r : Ran g.row.T.Denot). r.end) least.at ∙ met) c.journal.ensures.limit in
+    full_at g.T.Runs.rules c.in-Ok-open.shared plan c.args.setup final before.items rans.items last.its c.n-processes.ensures.value new many c.in_ok-rans.ensures.each seats.items long got.seats c.finish-control.ensures.known last.position last.within (ap (λ (r : Ran g.row.T.Denot). r.end) last.at ∙ met) c.journal.ensures.limit in
     (final, so_far, whole)
 
 pub returns-in-Some-clause-told : goal.returns-in-Some-clause-told
@@ -95,7 +96,7 @@ returns-in-Some-clause-told g c =
     let rans = c.in_ok-rans.rans in
     let before = c.in-Ok-open.seats in
     let why = c.in-Some.fault in
-    let least : IsOfLeastSeat why rans.items = subst (IsOfLeastSeat why) c.as_slice.ensures.value c.in-Some.ensures in
+    let last : IsLastFault why rans.items = subst (IsLastFault why) c.as_slice.ensures.value c.in-Some.ensures in
     let many : length rans.items ≡ seats_of plan = omega (arith, c.in_ok-rans.ensures.count, new.many, rans.ok.0, before.ok.0) in
     inr (record {
       plan = plan;
@@ -109,7 +110,7 @@ returns-in-Some-clause-told g c =
       many = many;
       ran = c.in_ok-rans.ensures.each;
       ended = c.in_ok-rans.ensures.ended;
-      least = least;
+      least = least_seat g.T.Runs.rules c.in-Ok-open.shared plan c.args.setup before.items rans.items why new many c.in_ok-rans.ensures.each last;
     })
 
 pub returns-in-Some-clause-most : goal.returns-in-Some-clause-most
