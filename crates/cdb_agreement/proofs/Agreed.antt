@@ -32,7 +32,7 @@ agreed setup ranges majority history valid = by_algorithm setup.algorithm refl v
         of_state (alpha_machine setup) (λ state. AllAgree (decisions_of (λ (local : AlphaState). local.decision) state)) history (alpha_agrees setup ranges history) valid
 
 -- what is answered, where it is the decisions that are shown
-pub answer_agrees : {V E : Type 0} (items : V → List (ℕ × ℕ)) (answer : Result V E) (setup : Parts) → AreInRange setup → (history : List Event) → IsTrue ((rules setup).valid history)
-    → IfOk answer (λ found. items found ≡ (rules setup).decisions history) → IfOk answer (λ found. HasMajorityIfNeeded setup → AllAgree (items found))
-answer_agrees items (Ok found) setup ranges history valid is = λ majority. subst AllAgree (sym is) (agreed setup ranges majority history valid)
-answer_agrees items (Err why) setup ranges history valid is = tt
+pub result_agrees : {V E : Type 0} (items : V → List (ℕ × ℕ)) (returned : Result V E) (setup : Parts) → AreInRange setup → (history : List Event) → IsTrue ((rules setup).valid history)
+    → IfOk returned (λ found. items found ≡ (rules setup).decisions history) → IfOk returned (λ found. HasMajorityIfNeeded setup → AllAgree (items found))
+result_agrees items (Ok found) setup ranges history valid is = λ majority. subst AllAgree (sym is) (agreed setup ranges majority history valid)
+result_agrees items (Err why) setup ranges history valid is = tt

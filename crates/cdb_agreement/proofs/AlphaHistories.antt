@@ -16,12 +16,12 @@ use Rattle.cdb_process.specs.declared.Input.{Input}
 use Rattle.cdb_process.specs.declared.Input.TheVariants as input
 use Rattle.cdb_process.specs.Wishes.{wished_cell}
 use Rattle.cdb_message.specs.Mail.{message_name}
-use Rattle.cdb_register.specs.Registers.{RegisterStates, register_of, fresh_register, fresh_registers, written}
+use Rattle.cdb_register.specs.Registers.{RegisterStates, register_of, fresh_register, fresh_registers, put_cell}
 use Rattle.cdb_register.specs.declared.RegisterState.{RegisterState}
 use Rattle.cdb_alpha.specs.LocalState.{LocalState, first_state}
 use Rattle.cdb_alpha.specs.Place.{place_number}
 use Rattle.cdb_alpha.specs.Table as table
-use Rattle.cdb_alpha.specs.Steps.{Traced, Step, stay, traced_of, ReadsRegisters, Taken}
+use Rattle.cdb_alpha.specs.Steps.{Traced, Step, stay, traced_of, ReadsRegisters, TableStep}
 use Rattle.cdb_alpha.proofs.Promised.{each_input_is_a_step}
 use Rattle.cdb_setup.specs.Parts.{Parts, AreInRange}
 use Rattle.cdb_rules.specs.Agreement.{AllAgree}
@@ -47,7 +47,7 @@ pub record Lawful (n : ℕ) (t : RunState LocalState) : Type 0 where
   pub size : length t.processes ≡ n
   pub me : (p : ℕ) (x : ProcessState LocalState) → nth t.processes p ≡ Some x → x.progress.local.me ≡ p
   pub among : (p : ℕ) (x : ProcessState LocalState) → nth t.processes p ≡ Some x → x.progress.local.processes ≡ n
-  pub tied : (p : ℕ) (x : ProcessState LocalState) → nth t.processes p ≡ Some x → run.traced p ≡ traced_of x.progress.local (run.traced p).written (run.traced p).carried
+  pub tied : (p : ℕ) (x : ProcessState LocalState) → nth t.processes p ≡ Some x → run.traced p ≡ traced_of x.progress.local (run.traced p).own_writes (run.traced p).carried
   pub holds : (p : ℕ) (r : RegisterState) → nth t.registers.of_processes p ≡ Some r → r.cell ≡ (run.traced p).own
   pub dec : (r : RegisterState) → t.registers.of_decision ≡ Some r → r.cell.val ≡ run.dec
 
@@ -113,10 +113,10 @@ put_other traced p k s other = go (s == p) refl
 
 -- what a step of the process x to the local state s leaves
 pub record Kinded (n : ℕ) (t : RunState LocalState) (run : Run) (x : ProcessState LocalState) (s : LocalState) (left : RegisterStates) : Type 0 where
-  pub written_after : List (ℕ × ℕ)
+  pub own_writes_after : List (ℕ × ℕ)
   pub carried_after : List ℕ
   pub published : Option ℕ
-  pub step : Step n (own_of run) run.dec (run.traced x.progress.local.me) (traced_of s written_after carried_after) published
+  pub step : Step n (own_of run) run.dec (run.traced x.progress.local.me) (traced_of s own_writes_after carried_after) published
   pub same_me : s.me ≡ x.progress.local.me
   pub same_processes : s.processes ≡ x.progress.local.processes
   pub own_cell : (r : RegisterState) → nth left.of_processes x.progress.local.me ≡ Some r → r.cell ≡ s.own
@@ -133,12 +133,12 @@ module _ (n : ℕ) (setup : Parts) (t : RunState LocalState) (lawful : Lawful n 
     mine = lawful.run.traced local.me
 
     abbrev IsTaken : Input → Type 0
-    IsTaken i = Taken (own_of lawful.run) lawful.run.dec local s mine.written mine.carried i
+    IsTaken i = TableStep (own_of lawful.run) lawful.run.dec local s mine.own_writes mine.carried i
 
     abbrev Leaving : RegisterStates → Type 0
     Leaving left = Kinded n t lawful.run x s left
 
-    tied_here : mine ≡ traced_of local mine.written mine.carried
+    tied_here : mine ≡ traced_of local mine.own_writes mine.carried
     tied_here = lawful.tied local.me x at
 
     passed : place_number local.place ≡ 4 → 1 ≤ length local.seen
@@ -152,12 +152,12 @@ module _ (n : ℕ) (setup : Parts) (t : RunState LocalState) (lawful : Lawful n 
         omega arith
 
     takes : (i : Input) → ReadsRegisters (own_of lawful.run) lawful.run.dec i → table.next_state local i ≡ Some s → IsTaken i
-    takes i holds is = each_input_is_a_step (own_of lawful.run) lawful.run.dec local s mine.written mine.carried i passed holds is
+    takes i holds is = each_input_is_a_step (own_of lawful.run) lawful.run.dec local s mine.own_writes mine.carried i passed holds is
 
-    stepped : (i : Input) → (it : IsTaken i) → Step n (own_of lawful.run) lawful.run.dec mine (traced_of s it.written_after it.carried_after) it.published
+    stepped : (i : Input) → (it : IsTaken i) → Step n (own_of lawful.run) lawful.run.dec mine (traced_of s it.own_writes_after it.carried_after) it.published
     stepped i it =
-        let P : ℕ → Type 0 = λ m. Step m (own_of lawful.run) lawful.run.dec (traced_of local mine.written mine.carried) (traced_of s it.written_after it.carried_after) it.published in
-        let Q : Traced → Type 0 = λ l. Step n (own_of lawful.run) lawful.run.dec l (traced_of s it.written_after it.carried_after) it.published in
+        let P : ℕ → Type 0 = λ m. Step m (own_of lawful.run) lawful.run.dec (traced_of local mine.own_writes mine.carried) (traced_of s it.own_writes_after it.carried_after) it.published in
+        let Q : Traced → Type 0 = λ l. Step n (own_of lawful.run) lawful.run.dec l (traced_of s it.own_writes_after it.carried_after) it.published in
         subst Q (sym tied_here) (subst P (lawful.among local.me x at) it.step)
 
     own_is : mine.own ≡ local.own
@@ -166,7 +166,7 @@ module _ (n : ℕ) (setup : Parts) (t : RunState LocalState) (lawful : Lawful n 
     -- no register changes
     keeps_cells : (i : Input) (it : IsTaken i) → (s.own ≡ local.own) × (it.published ≡ lawful.run.dec) → Leaving t.registers
     keeps_cells i it kept = record {
-      written_after = it.written_after;
+      own_writes_after = it.own_writes_after;
       carried_after = it.carried_after;
       published = it.published;
       step = stepped i it;
@@ -184,18 +184,18 @@ module _ (n : ℕ) (setup : Parts) (t : RunState LocalState) (lawful : Lawful n 
     writes_own : (j : ℕ) (it : IsTaken (input.Write (R j))) → Leaving (left_by (R j) (wished_cell (table.wish_of local)))
     writes_own j it =
         subst (λ cell. Leaving (left_by (R j) cell)) (sym it.leaves.1) (record {
-          written_after = it.written_after;
+          own_writes_after = it.own_writes_after;
           carried_after = it.carried_after;
           published = it.published;
           step = stepped (input.Write (R j)) it;
           same_me = it.same_me;
           same_processes = it.same_processes;
           own_cell = λ r is.
-              let here = subst (λ (p : ℕ). nth (update_nth (written s.own) t.registers.of_processes j) p ≡ Some r) (sym it.leaves.0) is in
-              let was = mapped (written s.own) (nth t.registers.of_processes j) r (sym (nth-update_nth_same (written s.own) t.registers.of_processes j) ∙ here) in
+              let here = subst (λ (p : ℕ). nth (update_nth (put_cell s.own) t.registers.of_processes j) p ≡ Some r) (sym it.leaves.0) is in
+              let was = mapped (put_cell s.own) (nth t.registers.of_processes j) r (sym (nth-update_nth_same (put_cell s.own) t.registers.of_processes j) ∙ here) in
               sym (ap (λ (y : RegisterState). y.cell) was.2);
           other_cells = λ p r other is.
-              lawful.holds p r (sym (nth-update_nth_other (written s.own) t.registers.of_processes j p (λ same. other (sym same ∙ it.leaves.0))) ∙ is);
+              lawful.holds p r (sym (nth-update_nth_other (put_cell s.own) t.registers.of_processes j p (λ same. other (sym same ∙ it.leaves.0))) ∙ is);
           dec = λ r is. lawful.dec r is ∙ sym it.leaves.2;
         })
 
@@ -203,7 +203,7 @@ module _ (n : ℕ) (setup : Parts) (t : RunState LocalState) (lawful : Lawful n 
     writes_dec : (it : IsTaken (input.Write Dec)) → Leaving (left_by Dec (wished_cell (table.wish_of local)))
     writes_dec it =
         subst (λ cell. Leaving (left_by Dec cell)) (sym it.leaves.2) (record {
-          written_after = it.written_after;
+          own_writes_after = it.own_writes_after;
           carried_after = it.carried_after;
           published = it.published;
           step = stepped (input.Write Dec) it;
@@ -212,7 +212,7 @@ module _ (n : ℕ) (setup : Parts) (t : RunState LocalState) (lawful : Lawful n 
           own_cell = λ r is. lawful.holds local.me r is ∙ (own_is ∙ sym it.leaves.0);
           other_cells = λ p r other is. lawful.holds p r is;
           dec = λ r is.
-              let was = mapped (written it.leaves.1) t.registers.of_decision r is in
+              let was = mapped (put_cell it.leaves.1) t.registers.of_decision r is in
               sym (ap (λ (y : RegisterState). y.cell.val) was.2) ∙ sym it.leaves.3;
         })
 
@@ -254,10 +254,10 @@ module _ (n : ℕ) (setup : Parts) (t : RunState LocalState) (lawful : Lawful n 
     kind_step p Crash met is =
         let same : s ≡ local = sym (same_Some local s is) in
         record {
-          written_after = mine.written;
+          own_writes_after = mine.own_writes;
           carried_after = mine.carried;
           published = lawful.run.dec;
-          step = record { row = stay; is = ap (λ y. traced_of y mine.written mine.carried) same ∙ sym tied_here; same = refl };
+          step = record { row = stay; is = ap (λ y. traced_of y mine.own_writes mine.carried) same ∙ sym tied_here; same = refl };
           same_me = ap (λ (y : LocalState). y.me) same;
           same_processes = ap (λ (y : LocalState). y.processes) same;
           own_cell = λ r holds. lawful.holds local.me r holds ∙ (own_is ∙ sym (ap (λ (y : LocalState). y.own) same));
@@ -281,13 +281,13 @@ module _ (n : ℕ) (setup : Parts) (t : RunState LocalState) (lawful : Lawful n 
     to = state_after (alpha_machine setup) t p k kind x s
 
     abbrev run_left : Run
-    run_left = record { traced = put lawful.run.traced p (traced_of s kinded.written_after kinded.carried_after); dec = kinded.published }
+    run_left = record { traced = put lawful.run.traced p (traced_of s kinded.own_writes_after kinded.carried_after); dec = kinded.published }
 
-    traced_here : run_left.traced p ≡ traced_of s kinded.written_after kinded.carried_after
-    traced_here = put_same lawful.run.traced p (traced_of s kinded.written_after kinded.carried_after)
+    traced_here : run_left.traced p ≡ traced_of s kinded.own_writes_after kinded.carried_after
+    traced_here = put_same lawful.run.traced p (traced_of s kinded.own_writes_after kinded.carried_after)
 
     traced_other : (o : ℕ) → (o ≡ p → ⊥) → run_left.traced o ≡ lawful.run.traced o
-    traced_other o other = put_other lawful.run.traced p (traced_of s kinded.written_after kinded.carried_after) o other
+    traced_other o other = put_other lawful.run.traced p (traced_of s kinded.own_writes_after kinded.carried_after) o other
 
     at_later : nth to.processes p ≡ Some left
     at_later = nth-set_nth_same t.processes p left x at
@@ -298,7 +298,7 @@ module _ (n : ℕ) (setup : Parts) (t : RunState LocalState) (lawful : Lawful n 
       low = nth_low t.processes p x at;
       high = let within = nth_within t.processes p x at in let size = lawful.size in omega arith;
       step =
-          let P : ℕ → Type 0 = λ o. Step n (own_of lawful.run) lawful.run.dec (lawful.run.traced o) (traced_of s kinded.written_after kinded.carried_after) kinded.published in
+          let P : ℕ → Type 0 = λ o. Step n (own_of lawful.run) lawful.run.dec (lawful.run.traced o) (traced_of s kinded.own_writes_after kinded.carried_after) kinded.published in
           let Q : Traced → Type 0 = λ l. Step n (own_of lawful.run) lawful.run.dec (lawful.run.traced p) l kinded.published in
           subst Q (sym traced_here) (subst P is_me kinded.step);
       others = traced_other;
@@ -347,13 +347,13 @@ module _ (n : ℕ) (setup : Parts) (t : RunState LocalState) (lawful : Lawful n 
         among_after o y (inr other) = lawful.among o y other.1
 
         tied_after : (o : ℕ) (y : ProcessState LocalState) → HereOrThere o y
-            → run_left.traced o ≡ traced_of y.progress.local (run_left.traced o).written (run_left.traced o).carried
+            → run_left.traced o ≡ traced_of y.progress.local (run_left.traced o).own_writes (run_left.traced o).carried
         tied_after o y (inl here) =
-            let P : Traced → Type 0 = λ l. l ≡ traced_of y.progress.local l.written l.carried in
-            let same : run_left.traced o ≡ traced_of s kinded.written_after kinded.carried_after = ap run_left.traced here.0 ∙ traced_here in
-            subst P (sym same) (sym (ap (λ z. traced_of z kinded.written_after kinded.carried_after) here.1))
+            let P : Traced → Type 0 = λ l. l ≡ traced_of y.progress.local l.own_writes l.carried in
+            let same : run_left.traced o ≡ traced_of s kinded.own_writes_after kinded.carried_after = ap run_left.traced here.0 ∙ traced_here in
+            subst P (sym same) (sym (ap (λ z. traced_of z kinded.own_writes_after kinded.carried_after) here.1))
         tied_after o y (inr other) =
-            let P : Traced → Type 0 = λ l. l ≡ traced_of y.progress.local l.written l.carried in
+            let P : Traced → Type 0 = λ l. l ≡ traced_of y.progress.local l.own_writes l.carried in
             subst P (sym (traced_other o other.0)) (lawful.tied o y other.1)
 
     -- the rounds in the registers never fall

@@ -29,11 +29,11 @@ pub record RunStep (n : ℕ) (t u : Run) : Type 0 where
 
 -- a process of 1 to n wrote v in round r
 abbrev pub Somebody : ℕ → Run → ℕ → ℕ → Type 0
-Somebody n t r v = (i : ℕ) × (1 ≤ i) × (i ≤ n) × IsIn (r, v) (t.traced i).written
+Somebody n t r v = (i : ℕ) × (1 ≤ i) × (i ≤ n) × IsIn (r, v) (t.traced i).own_writes
 
 -- a process of 1 to n carried a round through in which it wrote v
 abbrev pub Settled : ℕ → Run → ℕ → Type 0
-Settled n t v = (i : ℕ) × (r : ℕ) × (1 ≤ i) × (i ≤ n) × IsIn r (t.traced i).carried × IsIn (r, v) (t.traced i).written
+Settled n t v = (i : ℕ) × (r : ℕ) × (1 ≤ i) × (i ≤ n) × IsIn r (t.traced i).carried × IsIn (r, v) (t.traced i).own_writes
 
 -- process i did not carry its round r through, and won't
 abbrev pub Dead : ℕ → Run → ℕ → ℕ → Type 0
@@ -47,11 +47,11 @@ Visible i r seen = (length seen < i) ⊎ ((c : Cell) × IsIn c seen × (r ≤ c.
 pub record RunLaws (n : ℕ) (t : Run) : Type 0 where
   pub each : (j : ℕ) → 1 ≤ j → j ≤ n → TracedLaws n j (Somebody n t) (Settled n t) (t.traced j)
   pub dec_settled : (v : ℕ) → t.dec ≡ Some v → Settled n t v
-  pub visible : (i r v j : ℕ) → 1 ≤ i → i ≤ n → 1 ≤ j → j ≤ n → IsIn (r, v) (t.traced i).written → r < (t.traced j).round
+  pub visible : (i r v j : ℕ) → 1 ≤ i → i ≤ n → 1 ≤ j → j ≤ n → IsIn (r, v) (t.traced i).own_writes → r < (t.traced j).round
       → 3 ≤ (t.traced j).place → (t.traced j).place ≤ 4 → Dead n t i r ⊎ Visible i r (t.traced j).seen
-  pub bound : (i r v j : ℕ) → 1 ≤ i → i ≤ n → 1 ≤ j → j ≤ n → IsIn (r, v) (t.traced i).written → r < (t.traced j).round
+  pub bound : (i r v j : ℕ) → 1 ≤ i → i ≤ n → 1 ≤ j → j ≤ n → IsIn (r, v) (t.traced i).own_writes → r < (t.traced j).round
       → (t.traced j).place ≡ 5 → Dead n t i r ⊎ ((t.traced j).value ≡ v)
-  pub agree : (i r v j s x : ℕ) → 1 ≤ i → i ≤ n → 1 ≤ j → j ≤ n → IsIn (r, v) (t.traced i).written → IsIn (s, x) (t.traced j).written → r < s
+  pub agree : (i r v j s x : ℕ) → 1 ≤ i → i ≤ n → 1 ≤ j → j ≤ n → IsIn (r, v) (t.traced i).own_writes → IsIn (s, x) (t.traced j).own_writes → r < s
       → Dead n t i r ⊎ (x ≡ v)
 
 pub first_run_laws : (n : ℕ) (inputs : ℕ → ℕ) → RunLaws n (first_run inputs)
@@ -72,12 +72,12 @@ one_class n i j (suc a) (suc b) il ih jl jh same = one_class n i j a b il ih jl 
 
 -- one value is written in a round
 pub one_value : (n : ℕ) (t : Run) → RunLaws n t → (i r v j x : ℕ) → 1 ≤ i → i ≤ n → 1 ≤ j → j ≤ n
-    → IsIn (r, v) (t.traced i).written → IsIn (r, x) (t.traced j).written → v ≡ x
+    → IsIn (r, v) (t.traced i).own_writes → IsIn (r, x) (t.traced j).own_writes → v ≡ x
 one_value n t laws i r v j x il ih jl jh mine other =
     let a = ((laws.each i il ih).written_low r v mine).2 in
     let b = ((laws.each j jl jh).written_low r x other).2 in
     let same : j ≡ i = one_class n j i b.0 a.0 jl jh il ih (sym b.1 ∙ a.1) in
-    let P : ℕ → Type 0 = λ o. IsIn (r, x) (t.traced o).written in
+    let P : ℕ → Type 0 = λ o. IsIn (r, x) (t.traced o).own_writes in
     (laws.each i il ih).one_write r v x mine (subst P same other)
 
 module _ (n : ℕ) (t u : Run) (laws : RunLaws n t) (run_step : RunStep n t u) where
@@ -109,11 +109,11 @@ module _ (n : ℕ) (t u : Run) (laws : RunLaws n t) (run_step : RunStep n t u) w
   some_process : 1 ≤ n
   some_process = let low = run_step.low in let high = run_step.high in omega arith
 
-  all_written : (p : ℕ) → Grows (t.traced p).written (u.traced p).written
+  all_written : (p : ℕ) → Grows (t.traced p).own_writes (u.traced p).own_writes
   all_written p =
-      by_process (λ o. Grows (t.traced o).written (u.traced o).written) p
+      by_process (λ o. Grows (t.traced o).own_writes (u.traced o).own_writes) p
       (written_grows n run_step.process some_process (Somebody n t) (Settled n t) (own_of t) t.dec mover_before mine mover_after u.dec run_step.step)
-      (λ other. unmoved (λ x. Grows (t.traced p).written x.written) p other (same_grows (t.traced p).written))
+      (λ other. unmoved (λ x. Grows (t.traced p).own_writes x.own_writes) p other (same_grows (t.traced p).own_writes))
 
   all_carried : (p : ℕ) → Grows (t.traced p).carried (u.traced p).carried
   all_carried p =
@@ -168,26 +168,26 @@ module _ (n : ℕ) (t u : Run) (laws : RunLaws n t) (run_step : RunStep n t u) w
   keeps_dec v is =
       settled_still v (go (published_from n run_step.process some_process (Somebody n t) (Settled n t) (own_of t) t.dec mover_before mine mover_after u.dec run_step.step v is))
     where
-      go : (t.dec ≡ Some v) ⊎ ((r : ℕ) × IsIn r mover_before.carried × IsIn (r, v) mover_before.written) → Settled n t v
+      go : (t.dec ≡ Some v) ⊎ ((r : ℕ) × IsIn r mover_before.carried × IsIn (r, v) mover_before.own_writes) → Settled n t v
       go (inl was) = laws.dec_settled v was
       go (inr new) = (run_step.process, new.0, run_step.low, run_step.high, new.1, new.2)
 
   -- what is written was before, or is written by the process that moves
-  was_written : (i r v : ℕ) → IsIn (r, v) (u.traced i).written
-      → IsIn (r, v) (t.traced i).written ⊎ ((i ≡ run_step.process) × Wrote mover_before mover_after r v)
+  was_written : (i r v : ℕ) → IsIn (r, v) (u.traced i).own_writes
+      → IsIn (r, v) (t.traced i).own_writes ⊎ ((i ≡ run_step.process) × Wrote mover_before mover_after r v)
   was_written i r v it = go (cases_eq i run_step.process)
     where
-      moved_from : IsIn (r, v) mover_before.written ⊎ Wrote mover_before mover_after r v → i ≡ run_step.process
-          → IsIn (r, v) (t.traced i).written ⊎ ((i ≡ run_step.process) × Wrote mover_before mover_after r v)
-      moved_from (inl old) same = let P : ℕ → Type 0 = λ o. IsIn (r, v) (t.traced o).written in inl (subst P (sym same) old)
+      moved_from : IsIn (r, v) mover_before.own_writes ⊎ Wrote mover_before mover_after r v → i ≡ run_step.process
+          → IsIn (r, v) (t.traced i).own_writes ⊎ ((i ≡ run_step.process) × Wrote mover_before mover_after r v)
+      moved_from (inl old) same = let P : ℕ → Type 0 = λ o. IsIn (r, v) (t.traced o).own_writes in inl (subst P (sym same) old)
       moved_from (inr new) same = inr (same, new)
 
       go : (i ≡ run_step.process) ⊎ (i ≡ run_step.process → ⊥)
-          → IsIn (r, v) (t.traced i).written ⊎ ((i ≡ run_step.process) × Wrote mover_before mover_after r v)
+          → IsIn (r, v) (t.traced i).own_writes ⊎ ((i ≡ run_step.process) × Wrote mover_before mover_after r v)
       go (inl same) =
-          let P : ℕ → Type 0 = λ o. IsIn (r, v) (u.traced o).written in
+          let P : ℕ → Type 0 = λ o. IsIn (r, v) (u.traced o).own_writes in
           moved_from (written_from n run_step.process some_process (Somebody n t) (Settled n t) (own_of t) t.dec mover_before mine mover_after u.dec run_step.step r v (subst P same it)) same
-      go (inr other) = inl (was_unmoved (λ x. IsIn (r, v) x.written) i other it)
+      go (inr other) = inl (was_unmoved (λ x. IsIn (r, v) x.own_writes) i other it)
 
   -- a round just written can't be carried through where a process has entered a later one
   new_is_dead : (i r v m : ℕ) → i ≡ run_step.process → Wrote mover_before mover_after r v → 1 ≤ m → m ≤ n
@@ -197,7 +197,7 @@ module _ (n : ℕ) (t u : Run) (laws : RunLaws n t) (run_step : RunStep n t u) w
       let seen : length mover_after.seen ≡ 0 = ap length wrote.nothing_seen in
       subst P (sym same) (inr (wrote.stays ∙ sym wrote.round, inr (wrote.to, m, omega arith, high, later)))
 
-  keeps_agree : (i r v j s x : ℕ) → 1 ≤ i → i ≤ n → 1 ≤ j → j ≤ n → IsIn (r, v) (u.traced i).written → IsIn (s, x) (u.traced j).written → r < s
+  keeps_agree : (i r v j s x : ℕ) → 1 ≤ i → i ≤ n → 1 ≤ j → j ≤ n → IsIn (r, v) (u.traced i).own_writes → IsIn (s, x) (u.traced j).own_writes → r < s
       → Dead n u i r ⊎ (x ≡ v)
   keeps_agree i r v j s x il ih jl jh one other before = go (was_written i r v one) (was_written j s x other)
     where
@@ -209,8 +209,8 @@ module _ (n : ℕ) (t u : Run) (laws : RunLaws n t) (run_step : RunStep n t u) w
       bound is wrote (inl dead) = inl dead
       bound is wrote (inr same) = inr (wrote.value ∙ same)
 
-      go : IsIn (r, v) (t.traced i).written ⊎ ((i ≡ run_step.process) × Wrote mover_before mover_after r v)
-          → IsIn (s, x) (t.traced j).written ⊎ ((j ≡ run_step.process) × Wrote mover_before mover_after s x)
+      go : IsIn (r, v) (t.traced i).own_writes ⊎ ((i ≡ run_step.process) × Wrote mover_before mover_after r v)
+          → IsIn (s, x) (t.traced j).own_writes ⊎ ((j ≡ run_step.process) × Wrote mover_before mover_after s x)
           → Dead n u i r ⊎ (x ≡ v)
       go (inl old) (inl was) = still (laws.agree i r v j s x il ih jl jh old was before)
       go (inl old) (inr new) =
@@ -228,7 +228,7 @@ module _ (n : ℕ) (t u : Run) (laws : RunLaws n t) (run_step : RunStep n t u) w
   visible_still i r before after more (inr it) = inr (more it)
 
   -- the process that moves in its first pass has read register i, where it is past it
-  moving_sees : (i r v : ℕ) → 1 ≤ i → i ≤ n → IsIn (r, v) (t.traced i).written → r < mover_after.round
+  moving_sees : (i r v : ℕ) → 1 ≤ i → i ≤ n → IsIn (r, v) (t.traced i).own_writes → r < mover_after.round
       → 3 ≤ mover_after.place → mover_after.place ≤ 4 → Dead n u i r ⊎ Visible i r mover_after.seen
   moving_sees i r v il ih old before from to =
       go (pass_from n run_step.process some_process (Somebody n t) (Settled n t) (own_of t) t.dec mover_before mine mover_after u.dec run_step.step from to)
@@ -270,11 +270,11 @@ module _ (n : ℕ) (t u : Run) (laws : RunLaws n t) (run_step : RunStep n t u) w
           by_seen (inr same) =
               visible_still i r mover_before.seen mover_after.seen (subst (λ (x : List Cell). Visible i r mover_before.seen → Visible i r x) (sym same) reads) earlier
 
-  keeps_visible : (i r v j : ℕ) → 1 ≤ i → i ≤ n → 1 ≤ j → j ≤ n → IsIn (r, v) (u.traced i).written → r < (u.traced j).round
+  keeps_visible : (i r v j : ℕ) → 1 ≤ i → i ≤ n → 1 ≤ j → j ≤ n → IsIn (r, v) (u.traced i).own_writes → r < (u.traced j).round
       → 3 ≤ (u.traced j).place → (u.traced j).place ≤ 4 → Dead n u i r ⊎ Visible i r (u.traced j).seen
   keeps_visible i r v j il ih jl jh one before from to = go (was_written i r v one)
     where
-      go : IsIn (r, v) (t.traced i).written ⊎ ((i ≡ run_step.process) × Wrote mover_before mover_after r v)
+      go : IsIn (r, v) (t.traced i).own_writes ⊎ ((i ≡ run_step.process) × Wrote mover_before mover_after r v)
           → Dead n u i r ⊎ Visible i r (u.traced j).seen
       go (inr new) =
           let enters = (keeps_each j jl jh).entered_here from (omega arith) in
@@ -294,7 +294,7 @@ module _ (n : ℕ) (t u : Run) (laws : RunLaws n t) (run_step : RunStep n t u) w
   bound_still i r v w x same (inr is) = inr (same ∙ is)
 
   -- the value that the process that moves will write is that of an earlier round, where that round can still be carried through
-  moving_bound : (i r v : ℕ) → 1 ≤ i → i ≤ n → IsIn (r, v) (t.traced i).written → r < mover_after.round
+  moving_bound : (i r v : ℕ) → 1 ≤ i → i ≤ n → IsIn (r, v) (t.traced i).own_writes → r < mover_after.round
       → mover_after.place ≡ 5 → Dead n u i r ⊎ (mover_after.value ≡ v)
   moving_bound i r v il ih old before at =
       go (value_from n run_step.process some_process (Somebody n t) (Settled n t) (own_of t) t.dec mover_before mine mover_after u.dec run_step.step at)
@@ -338,14 +338,14 @@ module _ (n : ℕ) (t u : Run) (laws : RunLaws n t) (run_step : RunStep n t u) w
                   by_round (inr equal) =
                       let a = reaches in
                       let same : settles.1.top.lrww ≡ r = omega arith in
-                      let P : ℕ → Type 0 = λ x. IsIn (x, known.0) (t.traced known.2.0).written in
+                      let P : ℕ → Type 0 = λ x. IsIn (x, known.0) (t.traced known.2.0).own_writes in
                       inr (taken ∙ sym (one_value n t laws i r v known.2.0 known.0 il ih known.2.1 known.2.2 old (subst P same known.2.3)))
 
-  keeps_bound : (i r v j : ℕ) → 1 ≤ i → i ≤ n → 1 ≤ j → j ≤ n → IsIn (r, v) (u.traced i).written → r < (u.traced j).round
+  keeps_bound : (i r v j : ℕ) → 1 ≤ i → i ≤ n → 1 ≤ j → j ≤ n → IsIn (r, v) (u.traced i).own_writes → r < (u.traced j).round
       → (u.traced j).place ≡ 5 → Dead n u i r ⊎ ((u.traced j).value ≡ v)
   keeps_bound i r v j il ih jl jh one before at = go (was_written i r v one)
     where
-      go : IsIn (r, v) (t.traced i).written ⊎ ((i ≡ run_step.process) × Wrote mover_before mover_after r v)
+      go : IsIn (r, v) (t.traced i).own_writes ⊎ ((i ≡ run_step.process) × Wrote mover_before mover_after r v)
           → Dead n u i r ⊎ ((u.traced j).value ≡ v)
       go (inr new) =
           let enters = (keeps_each j jl jh).entered_here (omega arith) (omega arith) in
@@ -390,7 +390,7 @@ one_settled n t laws v w one other = go (cases_lt one.1 other.1) (cases_lt other
     go (inr late) (inl earlier) = live w v other (laws.agree other.0 other.1 w one.0 one.1 v other.2 other.3 one.2 one.3 other.5 one.5 earlier)
     go (inr late) (inr early) =
         let same : other.1 ≡ one.1 = omega arith in
-        let P : ℕ → Type 0 = λ x. IsIn (x, w) (t.traced other.0).written in
+        let P : ℕ → Type 0 = λ x. IsIn (x, w) (t.traced other.0).own_writes in
         one_value n t laws one.0 one.1 v other.0 w one.2 one.3 other.2 other.3 one.5 (subst P same other.5)
 
 -- no two decisions differ

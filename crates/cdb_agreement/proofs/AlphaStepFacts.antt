@@ -79,12 +79,12 @@ module _ (n j : ℕ) (some_process : 1 ≤ n) (somebody : ℕ → ℕ → Type 0
 
   -- the trace only grows
 
-  rows_written : (row : FoundedRow n own dec l) → Grows l.written (after_row n own dec l row).written
-  rows_written (write here) = push_grows (l.round, l.value) l.written
-  rows_written _ = same_grows l.written
+  rows_written : (row : FoundedRow n own dec l) → Grows l.own_writes (after_row n own dec l row).own_writes
+  rows_written (write here) = push_grows (l.round, l.value) l.own_writes
+  rows_written _ = same_grows l.own_writes
 
-  pub written_grows : (k : Traced) (published : Option ℕ) → Step n own dec l k published → Grows l.written k.written
-  written_grows k published step = along (λ x. Grows l.written x.written) k step.is (rows_written step.row)
+  pub written_grows : (k : Traced) (published : Option ℕ) → Step n own dec l k published → Grows l.own_writes k.own_writes
+  written_grows k published step = along (λ x. Grows l.own_writes x.own_writes) k step.is (rows_written step.row)
 
   rows_carried : (row : FoundedRow n own dec l) → Grows l.carried (after_row n own dec l row).carried
   rows_carried (carry here low) = push_grows l.round l.carried
@@ -105,11 +105,11 @@ module _ (n j : ℕ) (some_process : 1 ≤ n) (somebody : ℕ → ℕ → Type 0
 
   -- what is written after the step was before, or the step writes it
 
-  rows_written_from : (row : FoundedRow n own dec l) → (r v : ℕ) → IsIn (r, v) (after_row n own dec l row).written
-      → IsIn (r, v) l.written ⊎ Wrote l (after_row n own dec l row) r v
-  rows_written_from (write here) r v it = new (in_push (r, v) (l.round, l.value) l.written it)
+  rows_written_from : (row : FoundedRow n own dec l) → (r v : ℕ) → IsIn (r, v) (after_row n own dec l row).own_writes
+      → IsIn (r, v) l.own_writes ⊎ Wrote l (after_row n own dec l row) r v
+  rows_written_from (write here) r v it = new (in_push (r, v) (l.round, l.value) l.own_writes it)
     where
-      new : IsIn (r, v) l.written ⊎ (◌≡◌ {A = ℕ × ℕ} (r, v) (l.round, l.value)) → IsIn (r, v) l.written ⊎ Wrote l (after_row n own dec l (write here)) r v
+      new : IsIn (r, v) l.own_writes ⊎ (◌≡◌ {A = ℕ × ℕ} (r, v) (l.round, l.value)) → IsIn (r, v) l.own_writes ⊎ Wrote l (after_row n own dec l (write here)) r v
       new (inl old) = inl old
       new (inr same) = inr (record {
         from = here;
@@ -122,22 +122,22 @@ module _ (n j : ℕ) (some_process : 1 ≤ n) (somebody : ℕ → ℕ → Type 0
   rows_written_from _ r v it = inl it
 
   pub written_from : (k : Traced) (published : Option ℕ) → Step n own dec l k published
-      → (r v : ℕ) → IsIn (r, v) k.written → IsIn (r, v) l.written ⊎ Wrote l k r v
+      → (r v : ℕ) → IsIn (r, v) k.own_writes → IsIn (r, v) l.own_writes ⊎ Wrote l k r v
   written_from k published step =
-      along (λ x. (r v : ℕ) → IsIn (r, v) x.written → IsIn (r, v) l.written ⊎ Wrote l x r v) k step.is (rows_written_from step.row)
+      along (λ x. (r v : ℕ) → IsIn (r, v) x.own_writes → IsIn (r, v) l.own_writes ⊎ Wrote l x r v) k step.is (rows_written_from step.row)
 
   -- what is published after the step was before, or was carried through
 
   rows_published : (row : FoundedRow n own dec l) → (v : ℕ) → published_by n own dec l row ≡ Some v
-      → (dec ≡ Some v) ⊎ ((r : ℕ) × IsIn r l.carried × IsIn (r, v) l.written)
+      → (dec ≡ Some v) ⊎ ((r : ℕ) × IsIn r l.carried × IsIn (r, v) l.own_writes)
   rows_published (publish here) v it =
       let same : l.value ≡ v = cc in
-      let P : ℕ → Type 0 = λ x. IsIn (l.round, x) l.written in
+      let P : ℕ → Type 0 = λ x. IsIn (l.round, x) l.own_writes in
       inr (l.round, laws.carried_here here, subst P same (laws.value_here (omega arith) (omega arith)))
   rows_published _ v it = inl it
 
   pub published_from : (k : Traced) (published : Option ℕ) → Step n own dec l k published
-      → (v : ℕ) → published ≡ Some v → (dec ≡ Some v) ⊎ ((r : ℕ) × IsIn r l.carried × IsIn (r, v) l.written)
+      → (v : ℕ) → published ≡ Some v → (dec ≡ Some v) ⊎ ((r : ℕ) × IsIn r l.carried × IsIn (r, v) l.own_writes)
   published_from k published step v it = rows_published step.row v (sym step.same ∙ it)
 
   -- in a first pass after the step nothing is seen yet, or the pass stood before

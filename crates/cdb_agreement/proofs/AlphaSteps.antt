@@ -9,7 +9,7 @@ use Rattle.cdb_alpha.specs.Steps.{Traced, PassPlace, FoundedRow, after_row, Step
 -- before its first step
 abbrev pub first_traced : ℕ → ℕ → Traced
 first_traced me input =
-    record { place = 0; round = me; value = input; own = first_cell; seen = []; decision = None; written = []; carried = [] }
+    record { place = 0; round = me; value = input; own = first_cell; seen = []; decision = None; own_writes = []; carried = [] }
 
 -- the cell was written in its round, if in any
 pub record KnownCell (somebody : ℕ → ℕ → Type 0) (c : Cell) : Type 0 where
@@ -23,12 +23,12 @@ pub record TracedLaws (n j : ℕ) (somebody : ℕ → ℕ → Type 0) (settled :
   pub order : (l.own.lrww ≤ l.own.lre) × (l.own.lre ≤ l.round)
   pub entered_here : 3 ≤ l.place → l.place ≤ 8 → l.own.lre ≡ l.round
   pub fresh : l.place ≤ 5 → l.own.lrww < l.round
-  pub own_known : 0 < l.own.lrww → (v : ℕ) × (l.own.val ≡ Some v) × IsIn (l.own.lrww, v) l.written
-  pub written_low : (r v : ℕ) → IsIn (r, v) l.written → (1 ≤ r) × (r ≤ l.own.lrww) × ((a : ℕ) × (r ≡ j + a * n))
-  pub one_write : (r v x : ℕ) → IsIn (r, v) l.written → IsIn (r, x) l.written → v ≡ x
+  pub own_known : 0 < l.own.lrww → (v : ℕ) × (l.own.val ≡ Some v) × IsIn (l.own.lrww, v) l.own_writes
+  pub written_low : (r v : ℕ) → IsIn (r, v) l.own_writes → (1 ≤ r) × (r ≤ l.own.lrww) × ((a : ℕ) × (r ≡ j + a * n))
+  pub one_write : (r v x : ℕ) → IsIn (r, v) l.own_writes → IsIn (r, x) l.own_writes → v ≡ x
   pub seen_known : (c : Cell) → IsIn c l.seen → KnownCell somebody c
   pub seen_all : l.place ≡ 4 → length l.seen ≡ n
-  pub value_here : 6 ≤ l.place → l.place ≤ 8 → IsIn (l.round, l.value) l.written
+  pub value_here : 6 ≤ l.place → l.place ≤ 8 → IsIn (l.round, l.value) l.own_writes
   pub carried_past : (r : ℕ) → IsIn r l.carried → (r < l.round) ⊎ ((r ≡ l.round) × (l.place ≡ 8))
   pub carried_here : l.place ≡ 8 → IsIn l.round l.carried
   pub decision_settled : (v : ℕ) → l.decision ≡ Some v → settled v
@@ -220,24 +220,24 @@ module _ (n j : ℕ) (low : 1 ≤ j) (high : j ≤ n) (somebody : ℕ → ℕ �
 
   keeps_write : l.place ≡ 5
       → TracedLaws n j somebody settled
-      (record l { place = 6; own = record { lre = l.round; lrww = l.round; val = Some l.value }; seen = []; written = l.written ++ (l.round, l.value) ∷ [] })
+      (record l { place = 6; own = record { lre = l.round; lrww = l.round; val = Some l.value }; seen = []; own_writes = l.own_writes ++ (l.round, l.value) ∷ [] })
   keeps_write here = record {
     own_class = laws.own_class;
     order = (omega arith, omega arith);
     entered_here = λ from to. refl;
     fresh = λ early. absurd (omega arith);
-    own_known = λ positive. (l.value, refl, in_push_new (l.round, l.value) l.written);
-    written_low = λ r v it. below r v (in_push (r, v) (l.round, l.value) l.written it);
-    one_write = λ r v x it other. one r v x (in_push (r, v) (l.round, l.value) l.written it) (in_push (r, x) (l.round, l.value) l.written other);
+    own_known = λ positive. (l.value, refl, in_push_new (l.round, l.value) l.own_writes);
+    written_low = λ r v it. below r v (in_push (r, v) (l.round, l.value) l.own_writes it);
+    one_write = λ r v x it other. one r v x (in_push (r, v) (l.round, l.value) l.own_writes it) (in_push (r, x) (l.round, l.value) l.own_writes other);
     seen_known = λ c none. elim none [ ];
     seen_all = λ at. absurd (omega arith);
-    value_here = λ from to. in_push_new (l.round, l.value) l.written;
+    value_here = λ from to. in_push_new (l.round, l.value) l.own_writes;
     carried_past = λ r it. past r (laws.carried_past r it);
     carried_here = λ at. absurd (omega arith);
     decision_settled = laws.decision_settled;
   }
     where
-      below : (r v : ℕ) → IsIn (r, v) l.written ⊎ (◌≡◌ {A = ℕ × ℕ} (r, v) (l.round, l.value)) → (1 ≤ r) × (r ≤ l.round) × ((a : ℕ) × (r ≡ j + a * n))
+      below : (r v : ℕ) → IsIn (r, v) l.own_writes ⊎ (◌≡◌ {A = ℕ × ℕ} (r, v) (l.round, l.value)) → (1 ≤ r) × (r ≤ l.round) × ((a : ℕ) × (r ≡ j + a * n))
       below r v (inl old) =
           let is = laws.written_low r v old in
           let order = laws.order in
@@ -247,7 +247,7 @@ module _ (n j : ℕ) (low : 1 ≤ j) (high : j ≤ n) (somebody : ℕ → ℕ �
           let fresh = laws.fresh (omega arith) in
           (omega arith, omega arith, (laws.own_class.0, same ∙ laws.own_class.1))
 
-      one : (r v x : ℕ) → IsIn (r, v) l.written ⊎ (◌≡◌ {A = ℕ × ℕ} (r, v) (l.round, l.value)) → IsIn (r, x) l.written ⊎ (◌≡◌ {A = ℕ × ℕ} (r, x) (l.round, l.value)) → v ≡ x
+      one : (r v x : ℕ) → IsIn (r, v) l.own_writes ⊎ (◌≡◌ {A = ℕ × ℕ} (r, v) (l.round, l.value)) → IsIn (r, x) l.own_writes ⊎ (◌≡◌ {A = ℕ × ℕ} (r, x) (l.round, l.value)) → v ≡ x
       one r v x (inl old) (inl other) = laws.one_write r v x old other
       one r v x (inl old) (inr other) =
           let same : r ≡ l.round = ap (λ (e : ℕ × ℕ). e.0) other in

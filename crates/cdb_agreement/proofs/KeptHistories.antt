@@ -22,7 +22,7 @@ use Rattle.cdb_rules.specs.Algorithms.{leader_machine, alpha_machine, rules, rul
 use Rattle.cdb_rules.specs.Lawful.{KeepHistories}
 use Rattle.cdb_rules.specs.Machines.{machine_of}
 use Rattle.cdb_rules.specs.Mail.{mail_of}
-use Rattle.cdb_rules.specs.Refusals.{planned, step_answer, lose_answer, again_answer, IsOfRun, NamesProcess}
+use Rattle.cdb_rules.specs.Refusals.{planned, step_result, loss_result, again_result, IsOfRun, NamesProcess}
 use Rattle.cdb_rules.specs.Rules.{rules_of}
 use Rattle.cdb_rules.specs.SameState.{ReachSameState, ReachSameStateBy}
 use Rattle.cdb_rules.specs.State.{Machine, ProcessState, start}
@@ -46,8 +46,8 @@ use Rattle.cdb_setup.specs.Parts.{Parts, AreInRange}
 use Rattle.cdb_setup.specs.declared.setup.Algorithm.{Algorithm}
 use Rattle.cdb_setup.specs.declared.setup.Algorithm.TheVariants.{Leader, Alpha}
 
-when_ok : (answer : Result Event Refusal) (P : Event → Type 0) (event : Event) → answer ≡ Ok event → IfOk answer P → P event
-when_ok answer P event is holds = subst (λ (r : Result Event Refusal). IfOk r P) is holds
+when_ok : (returned : Result Event Refusal) (P : Event → Type 0) (event : Event) → returned ≡ Ok event → IfOk returned P → P event
+when_ok returned P event is holds = subst (λ (r : Result Event Refusal). IfOk r P) is holds
 
 from_one : (n p : ℕ) → is_among n p ≡ true → 1 ≤ p
 from_one n p h = grind (arith, nat_tests)
@@ -72,7 +72,7 @@ module _ {L : Type 0} (table : Table L) (setup : Parts) (range : AreInRange setu
   pushed : (history : List Event) → IsValid machine history → (event : Event) → IsEnabled machine (state_of machine history) event → IsValid machine (history ++ event ∷ [])
   pushed history valid event enabled = valid_push machine setup.processes number history valid event enabled
 
-  step_enabled : (history : List Event) (p : ℕ) (act : Act) (event : Event) → step_answer machine setup (state_of machine history) p act ≡ Ok event → IsEnabled machine (state_of machine history) event
+  step_enabled : (history : List Event) (p : ℕ) (act : Act) (event : Event) → step_result machine setup (state_of machine history) p act ≡ Ok event → IsEnabled machine (state_of machine history) event
   step_enabled history p act event h =
       let state = state_of machine history in
       let process = of_some (λ (process : ProcessState L). planned machine setup (mail_of state) state.registers process.progress p act) (nth state.processes p) _ event h in
@@ -132,7 +132,7 @@ module _ {L : Type 0} (table : Table L) (setup : Parts) (range : AreInRange setu
       let count = number in
       valid_standing machine history valid (omega (arith, most, count))
 
-  taken_again : (history : List Event) (event : Event) → IsEnabled machine (state_of machine history) event → again_answer machine setup (state_of machine history) event ≡ Ok event
+  taken_again : (history : List Event) (event : Event) → IsEnabled machine (state_of machine history) event → again_result machine setup (state_of machine history) event ≡ Ok event
   taken_again history (Step p k kind) enabled =
       let state = state_of machine history in
       let to = some_of (after machine state (Step p k kind)) enabled in
@@ -140,9 +140,9 @@ module _ {L : Type 0} (table : Table L) (setup : Parts) (range : AreInRange setu
       step_again machine lawful setup number refl state p k kind taken.process taken.at_process enabled
   taken_again history (Lost copy) enabled = loss_again machine setup number refl (state_of machine history) copy enabled
 
-  again_enabled : (history : List Event) (event : Event) → IsOfRun setup event → again_answer machine setup (state_of machine history) event ≡ Ok event → IsEnabled machine (state_of machine history) event
+  again_enabled : (history : List Event) (event : Event) → IsOfRun setup event → again_result machine setup (state_of machine history) event ≡ Ok event → IsEnabled machine (state_of machine history) event
   again_enabled history event of_run h =
-      (again_exact machine lawful setup number refl (state_of machine history) event of_run (again_answer machine setup (state_of machine history) event) refl).0 (ap is_ok h)
+      (again_exact machine lawful setup number refl (state_of machine history) event of_run (again_result machine setup (state_of machine history) event) refl).0 (ap is_ok h)
 
   rules_keep : (SameState : List Event → List Event → Type 0) → ((history other : List Event) → fold machine history ≡ fold machine other → SameState history other)
       → (HasMajorityIfNeeded setup → (history : List Event) → IsTrue ((rules_of table setup).valid history) → AllAgree ((rules_of table setup).decisions history))
@@ -152,7 +152,7 @@ module _ {L : Type 0} (table : Table L) (setup : Parts) (range : AreInRange setu
         nothing = refl;
         beginning = λ history more valid. reached_front_some (after machine) (start machine) history more valid;
         step = λ history valid p act event h. pushed history valid event (step_enabled history p act event h);
-        lose = λ history valid name p event h. pushed history valid event (when_ok (lose_answer setup (state_of machine history) name p) _ event h (lose_enabled machine setup number refl (state_of machine history) name p));
+        lose = λ history valid name p event h. pushed history valid event (when_ok (loss_result setup (state_of machine history) name p) _ event h (lose_enabled machine setup number refl (state_of machine history) name p));
         again = λ history valid event of_run h. pushed history valid event (again_enabled history event of_run h);
         last_again = λ history event valid. taken_again history event (last_enabled history event valid);
         of_run = λ history event valid.

@@ -14,7 +14,7 @@ use Rattle.cdb_base.specs.declared.event.Kind.{Kind}
 use Rattle.cdb_base.specs.declared.event.Kind.TheVariants as kinds
 use Rattle.cdb_base.specs.declared.register.Cell.{Cell}
 use Rattle.cdb_base.specs.declared.register.Reg.TheVariants as register
-use Rattle.cdb_register.specs.Registers.{RegisterStates, fresh_register, fresh_registers, written}
+use Rattle.cdb_register.specs.Registers.{RegisterStates, fresh_register, fresh_registers, put_cell}
 use Rattle.cdb_base.specs.declared.name.MsgName.{MsgName}
 use Rattle.cdb_base.specs.declared.refusal.Refusal.{Refusal}
 use Rattle.cdb_causal.specs.Reach.{reached}
@@ -23,7 +23,7 @@ use Rattle.cdb_message.specs.Mail.{copy_name, sent_by}
 use Rattle.cdb_process.specs.declared.Wish.{Wish}
 use Rattle.cdb_process.specs.declared.Wish.TheVariants as wished
 use Rattle.cdb_rules.specs.Mail.{mail_of}
-use Rattle.cdb_rules.specs.Refusals.{first_refusal, named_kind, wished_kind, names_no_leader, step_checks, named_event, unless_refused, planned, step_answer, again_checks, lose_checks, lose_answer, again_answer, IsOfRun, NamesProcess}
+use Rattle.cdb_rules.specs.Refusals.{first_refusal, named_kind, wished_kind, names_no_leader, step_checks, named_event, unless_refused, planned, step_result, again_checks, lose_checks, loss_result, again_result, IsOfRun, NamesProcess}
 use Rattle.cdb_rules.specs.Algorithms.{leader_machine, alpha_machine, rules_by, rules}
 use Rattle.cdb_alpha.specs.Machine.{alpha_table}
 use Rattle.cdb_leader.specs.Machine.{leader_table}
@@ -146,7 +146,7 @@ module _ {L : Type 0} (machine : Machine L) where
 
   -- and as many registers
   registers_stay : (registers : RegisterStates) (kind : Kind) (cell : Option Cell) → length (registers_after registers kind cell).of_processes ≡ length registers.of_processes
-  registers_stay registers (kinds.Write (register.R p)) (Some cell) = length-update_nth (written cell) registers.of_processes p
+  registers_stay registers (kinds.Write (register.R p)) (Some cell) = length-update_nth (put_cell cell) registers.of_processes p
   registers_stay registers (kinds.Write register.Dec) (Some cell) = refl
   registers_stay registers (kinds.Write x) None = refl
   registers_stay registers (kinds.Query leader) cell = refl
@@ -204,7 +204,7 @@ module _ {L : Type 0} (machine : Machine L) where
         let place = nth_among state.processes p process.0 process.1 in
         among setup.processes p place.0 (omega (arith, place.1, count, firsts))
 
-    step_planned : (state : RunState L) (p : ℕ) (a : Act) (event : Event) → length state.processes ≡ length machine.firsts → step_answer machine setup state p a ≡ Ok event → IsPlanned p event
+    step_planned : (state : RunState L) (p : ℕ) (a : Act) (event : Event) → length state.processes ≡ length machine.firsts → step_result machine setup state p a ≡ Ok event → IsPlanned p event
     step_planned state p a event count h =
         let process = of_some (λ (process : ProcessState L). planned machine setup (mail_of state) state.registers process.progress p a) (nth state.processes p) _ event h in
         let progress = process.0.progress in
@@ -220,7 +220,7 @@ module _ {L : Type 0} (machine : Machine L) where
               (high, below_limit progress.steps pass.1.1.1.1.1.1.1.0, kind_names setup.processes _ _ _ a named.0 (λ leader given. answers_within setup p (progress.queries + 1) leader range given) pass.1.1.1.1.1.0 named.1);
         }
 
-    lose_of_run : (state : RunState L) (name : MsgName) (p : ℕ) (event : Event) → lose_answer setup state name p ≡ Ok event → IsOfRun setup event
+    lose_of_run : (state : RunState L) (name : MsgName) (p : ℕ) (event : Event) → loss_result setup state name p ≡ Ok event → IsOfRun setup event
     lose_of_run state name p event h =
         let checks = lose_checks setup (mail_of state) name p in
         let both = answered (first_refusal checks) (Some (Lost (copy_name name p))) event h in
@@ -228,7 +228,7 @@ module _ {L : Type 0} (machine : Machine L) where
         subst (IsOfRun setup) (same_Some (Lost (copy_name name p)) event both.1)
         (is_two setup.version (not_false (setup.version == 2) pass.0), (is_within setup.processes p (not_false (is_among setup.processes p) pass.1.0)).1)
 
-    again_same : (state : RunState L) (event taken : Event) → again_answer machine setup state event ≡ Ok taken → taken ≡ event
+    again_same : (state : RunState L) (event taken : Event) → again_result machine setup state event ≡ Ok taken → taken ≡ event
     again_same state (Step p k kind) taken h =
         let process = of_some (λ (process : ProcessState L). unless_refused (first_refusal (again_checks machine (mail_of state) state.registers process.progress p k kind)) (Some (Step p k kind))) (nth state.processes p) _ taken h in
         sym (same_Some (Step p k kind) taken (answered (first_refusal (again_checks machine (mail_of state) state.registers process.0.progress p k kind)) _ taken process.2).1)

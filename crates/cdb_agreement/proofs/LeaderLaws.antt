@@ -7,7 +7,7 @@ use Rattle.std.proofs.Common.{inl, inr, arith, sym, subst}
 use Rattle.std.proofs.lemmas.Bool.{cases_lt}
 use Rattle.cdb_base.specs.declared.payload.Payload.{Payload}
 use Rattle.cdb_base.specs.declared.payload.Payload.TheVariants.{P1, P2, D}
-use Rattle.cdb_leader.specs.Bases.{AuxBasis, Carried, Answered, LeaveBasis}
+use Rattle.cdb_leader.specs.Bases.{AuxBasis, Carried, Voted, LeaveBasis}
 use Rattle.cdb_leader.specs.Quorum.{IsQuorum}
 use Rattle.cdb_agreement.proofs.Quorums.{quorums_meet}
 
@@ -15,11 +15,11 @@ use Rattle.cdb_agreement.proofs.Quorums.{quorums_meet}
 pub record ProcessLaws (q : ℕ) (sent : Payload → Type 0) (heard : ℕ → Payload → Type 0) : Type 0 where
   pub one_proposal : (r e l f k : ℕ) → sent (P1 r e l) → sent (P1 r f k) → (e ≡ f) × (l ≡ k)
   pub from_one : (r : ℕ) (a : Option ℕ) → sent (P2 r a) → 1 ≤ r
-  pub one_answer : (r : ℕ) (a b : Option ℕ) → sent (P2 r a) → sent (P2 r b) → a ≡ b
+  pub one_vote : (r : ℕ) (a b : Option ℕ) → sent (P2 r a) → sent (P2 r b) → a ≡ b
   pub aux_rests : (r v : ℕ) → sent (P2 r (Some v)) → AuxBasis q heard r v
   pub entered : (r e l : ℕ) → sent (P1 (suc r) e l) → (r ≡ 0) ⊎ LeaveBasis q sent heard r e
 
--- a quorum has answered v in the second phase of round r
+-- a quorum has voted v in the second phase of round r
 abbrev pub Chosen : ℕ → (ℕ → Payload → Type 0) → ℕ → ℕ → Type 0
 Chosen q sent r v = IsQuorum q (λ s. sent s (P2 r (Some v)))
 
@@ -72,32 +72,32 @@ module _ (n q : ℕ) (small : n ≤ 9) (majority : n < q + q)
   was_sent : (r v s : ℕ) → sent s (P2 r (Some v)) → (x : Payload) × sent s x
   was_sent r v s it = (P2 r (Some v), it)
 
-  -- what a quorum has answered in round r, whoever leaves round r takes along
+  -- what a quorum has voted in round r, whoever leaves round r takes along
   pub taken_along : (r v p e : ℕ) → Chosen q sent r v → LeaveBasis q (sent p) (heard p) r e → e ≡ v
   taken_along r v p e chosen leave =
       let P : ℕ → Type 0 = λ s. sent s (P2 r (Some v)) in
-      go (share P (Answered (heard p) r e) (was_sent r v) has_answered chosen leave.quorum)
+      go (share P (Voted (heard p) r e) (was_sent r v) has_voted chosen leave.quorum)
     where
-      has_answered : (s : ℕ) → Answered (heard p) r e s → (x : Payload) × sent s x
-      has_answered s it = (P2 r it.0, laws.delivered p s (P2 r it.0) it.1)
+      has_voted : (s : ℕ) → Voted (heard p) r e s → (x : Payload) × sent s x
+      has_voted s it = (P2 r it.0, laws.delivered p s (P2 r it.0) it.1)
 
-      go : ((s : ℕ) × sent s (P2 r (Some v)) × Answered (heard p) r e s) → e ≡ v
-      go shared = by_answer shared.2.0 shared.2.1 shared.2.2
+      go : ((s : ℕ) × sent s (P2 r (Some v)) × Voted (heard p) r e s) → e ≡ v
+      go shared = by_vote shared.2.0 shared.2.1 shared.2.2
         where
-          by_answer : (a : Option ℕ) → heard p shared.0 (P2 r a) → (a ≡ None) ⊎ Carried (heard p) r e → e ≡ v
-          by_answer a here (inr carried) = one_aux r carried.0 e shared.0 v (laws.delivered p carried.0 (P2 r (Some e)) carried.1) shared.1
-          by_answer a here (inl none) =
-              let same : a ≡ Some v = (laws.each shared.0).one_answer r a (Some v) (laws.delivered p shared.0 (P2 r a) here) shared.1 in
+          by_vote : (a : Option ℕ) → heard p shared.0 (P2 r a) → (a ≡ None) ⊎ Carried (heard p) r e → e ≡ v
+          by_vote a here (inr carried) = one_aux r carried.0 e shared.0 v (laws.delivered p carried.0 (P2 r (Some e)) carried.1) shared.1
+          by_vote a here (inl none) =
+              let same : a ≡ Some v = (laws.each shared.0).one_vote r a (Some v) (laws.delivered p shared.0 (P2 r a) here) shared.1 in
               cc
 
-  -- some process answered what was chosen
-  pub answered : (r v : ℕ) → Chosen q sent r v → (s : ℕ) × sent s (P2 r (Some v))
-  answered r v chosen =
+  -- some process voted what was chosen
+  pub voted : (r v : ℕ) → Chosen q sent r v → (s : ℕ) × sent s (P2 r (Some v))
+  voted r v chosen =
       let P : ℕ → Type 0 = λ s. sent s (P2 r (Some v)) in
       let shared = share P P (was_sent r v) (was_sent r v) chosen chosen in
       (shared.0, shared.1)
 
-  -- an answered value was the estimate of a leader in that round
+  -- a voted value was the estimate of a leader in that round
   pub was_proposed : (r v p : ℕ) → sent p (P2 r (Some v)) → (o : ℕ) × (l : ℕ) × sent o (P1 r v l)
   was_proposed r v p here = go ((laws.each p).aux_rests r v here)
     where
@@ -110,8 +110,8 @@ module _ (n q : ℕ) (small : n ≤ 9) (majority : n < q + q)
     where
       go : (u ≡ 0) ⊎ LeaveBasis q (sent p) (heard p) u e → e ≡ v
       go (inl first) =
-          let some_answer = answered r v chosen in
-          let positive = (laws.each some_answer.0).from_one r (Some v) some_answer.1 in
+          let some_vote = voted r v chosen in
+          let positive = (laws.each some_vote.0).from_one r (Some v) some_vote.1 in
           absurd (omega arith)
       go (inr leave) =
           let same : u ≡ r = omega arith in
@@ -142,8 +142,8 @@ module _ (n q : ℕ) (small : n ≤ 9) (majority : n < q + q)
   -- what is chosen in a later round is what was chosen in an earlier one
   pub chosen_later : (r v t w d : ℕ) → t ≡ suc (r + d) → Chosen q sent r v → Chosen q sent t w → w ≡ v
   chosen_later r v t w d later one other =
-      let some_answer = answered t w other in
-      let proposal = was_proposed t w some_answer.0 some_answer.1 in
+      let some_vote = voted t w other in
+      let proposal = was_proposed t w some_vote.0 some_vote.1 in
       let P : ℕ → Type 0 = λ x. sent proposal.0 (P1 x w proposal.1) in
       locked r v one d (r + d) proposal.0 w proposal.1 refl (subst P later proposal.2)
 
@@ -154,8 +154,8 @@ module _ (n q : ℕ) (small : n ≤ 9) (majority : n < q + q)
       go (inl later) = sym (chosen_later r v t w later.0 later.1 one other)
       go (inr (inr earlier)) = chosen_later t w r v earlier.0 earlier.1 other one
       go (inr (inl same)) =
-          let a = answered r v one in
-          let b = answered t w other in
+          let a = voted r v one in
+          let b = voted t w other in
           let P : ℕ → Type 0 = λ x. sent b.0 (P2 x (Some w)) in
           one_aux r a.0 v b.0 w a.1 (subst P (sym same) b.1)
 

@@ -204,8 +204,8 @@ joint_laws n q t laws = record {
   each = λ p. let it = founded q (t.local p) (t.sent p) (laws.each p) in record {
     one_proposal = λ r e l f k a b. it.one_proposal r e f l k a b;
     from_one = it.from_one;
-    one_answer = it.one_answer;
-    aux_rests = it.answer;
+    one_vote = it.one_vote;
+    aux_rests = it.vote;
     entered = λ r e l sent. it.estimate r e l sent;
   };
   members = laws.members;

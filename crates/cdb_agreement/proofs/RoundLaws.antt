@@ -68,7 +68,7 @@ module _ (n q : ℕ) (t : RunState LeaderState) (lawful : leader.Lawful n q t) w
   messages : LeaderMessages q t
   messages = record {
     one_estimate = λ p r e f k l a b. (joint.each p).one_proposal r e k f l (sent_in p (P1 r e k) a) (sent_in p (P1 r f l) b);
-    one_answer = λ p r a b one other. (joint.each p).one_answer r a b (sent_in p (P2 r a) one) (sent_in p (P2 r b) other);
+    one_vote = λ p r a b one other. (joint.each p).one_vote r a b (sent_in p (P2 r a) one) (sent_in p (P2 r b) other);
     received = is_received;
     decided = is_decided;
     learnt = λ p s v it. is_decided s v (is_received p s (D v) it);
@@ -103,14 +103,14 @@ module _ (n : ℕ) (t : RunState AlphaState) (lawful : alpha.Lawful n t) where
   high_at i process at = let within = nth_within t.processes i process at in let size = lawful.size in omega arith
 
   -- what is settled is what every later write wrote
-  settled_later : (v i r : ℕ) → 1 ≤ i → i ≤ n → IsIn r (run.traced i).carried → IsIn (r, v) (run.traced i).written
+  settled_later : (v i r : ℕ) → 1 ≤ i → i ≤ n → IsIn r (run.traced i).carried → IsIn (r, v) (run.traced i).own_writes
       → (j : ℕ) → 1 ≤ j → j ≤ n → r ≤ (run.traced j).own.lrww → (run.traced j).own.val ≡ Some v
   settled_later v i r il ih carried wrote j jl jh later = by_round (cases_lt r (run.traced j).own.lrww)
     where
       positive : 1 ≤ r
       positive = ((lawful.laws.each i il ih).written_low r v wrote).0
 
-      shown : (x : ℕ) × ((run.traced j).own.val ≡ Some x) × IsIn ((run.traced j).own.lrww, x) (run.traced j).written
+      shown : (x : ℕ) × ((run.traced j).own.val ≡ Some x) × IsIn ((run.traced j).own.lrww, x) (run.traced j).own_writes
       shown = let a = positive in (lawful.laws.each j jl jh).own_known (omega arith)
 
       live : Dead n run i r ⊎ (shown.0 ≡ v) → shown.0 ≡ v
@@ -124,7 +124,7 @@ module _ (n : ℕ) (t : RunState AlphaState) (lawful : alpha.Lawful n t) where
       by_round (inl above) = is (live (lawful.laws.agree i r v j (run.traced j).own.lrww shown.0 il ih jl jh wrote shown.2 above))
       by_round (inr below) =
           let same : (run.traced j).own.lrww ≡ r = omega arith in
-          is (sym (one_value n run lawful.laws i r v j shown.0 il ih jl jh wrote (subst (λ m. IsIn (m, shown.0) (run.traced j).written) same shown.2)))
+          is (sym (one_value n run lawful.laws i r v j shown.0 il ih jl jh wrote (subst (λ m. IsIn (m, shown.0) (run.traced j).own_writes) same shown.2)))
 
   module _ (i : ℕ) (process : ProcessState AlphaState) (at : nth t.processes i ≡ Some process) where
     abbrev local : AlphaState

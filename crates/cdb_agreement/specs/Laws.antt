@@ -60,7 +60,7 @@ ForNew Holds =
 abbrev pub ForAbsent : (ℕ → List Event → StepId → Type 0) → Type 0
 ForAbsent Holds = (n : ℕ) (history : List Event) (name : StepId) → names_processes n name ≡ false → Holds n history name
 
--- of each undo that is granted, and of each rollback: by history and name, what is taken back and what is left
+-- of each undo that is granted, and of each rollback: by history and name, what is removed and what is left
 abbrev pub ForUndone : (List Event → StepId → Event → List Event → Type 0) → Type 0
 ForUndone Holds =
     (n : ℕ) (history : List Event) (name : StepId) (event : Event) (left : List Event) → undo_of n history name ≡ Ok (event, left)
@@ -68,8 +68,8 @@ ForUndone Holds =
 
 abbrev pub ForRolledBack : (List Event → StepId → List Event → List Event → Type 0) → Type 0
 ForRolledBack Holds =
-    (n : ℕ) (history : List Event) (name : StepId) (taken left : List Event) → rollback_of n history name ≡ Ok (taken, left)
-    → Holds history name taken left
+    (n : ℕ) (history : List Event) (name : StepId) (removed left : List Event) → rollback_of n history name ≡ Ok (removed, left)
+    → Holds history name removed left
 
 -- ---- what
 
@@ -86,14 +86,14 @@ abbrev pub IsUndone : List Event → StepId → Event → List Event → Type 0
 IsUndone history name event left =
     (i : ℕ) × (is_named name event ≡ true) × (slice_get history i ≡ Some event) × IsFree depends history i × (left ≡ without history i)
 
--- an event has the name, and it is taken with its consequences, the last first; all others are left
+-- an event has the name, and it is removed with its consequences, the last first; all others are left
 abbrev pub IsRolledBackTo : List Event → StepId → List Event → List Event → Type 0
-IsRolledBackTo history name taken left =
+IsRolledBackTo history name removed left =
     (i : ℕ)
     × (event : Event)
     × (is_named name event ≡ true)
     × (slice_get history i ≡ Some event)
-    × (taken ≡ reverse (rolled_back depends history i))
+    × (removed ≡ reverse (rolled_back depends history i))
     × (left ≡ remaining depends history i)
 
 -- the steps of one process stand in the order of their numbers

@@ -30,7 +30,7 @@ HasSent t p payload = (process : ProcessState LeaderState) × IsProcess t p proc
 abbrev pub HasReceived : RunState LeaderState → ℕ → ℕ → Payload → Type 0
 HasReceived t p s payload = (process : ProcessState LeaderState) × IsProcess t p process × IsHeard process.progress.local.inbox s payload
 
--- v is decided in round r: a quorum of q processes answered v there
+-- v is decided in round r: a quorum of q processes voted v there
 abbrev pub IsDecided : ℕ → RunState LeaderState → ℕ → ℕ → Type 0
 IsDecided q t r v = IsQuorum q (λ p. HasSent t p (P2 r (Some v)))
 
@@ -38,7 +38,7 @@ IsDecided q t r v = IsQuorum q (λ p. HasSent t p (P2 r (Some v)))
 pub record LeaderMessages (q : ℕ) (t : RunState LeaderState) : Type 0 where
   -- a process sends one message of each phase in a round
   pub one_estimate : (p r e f k l : ℕ) → HasSent t p (P1 r e k) → HasSent t p (P1 r f l) → (e ≡ f) × (k ≡ l)
-  pub one_answer : (p r : ℕ) (a b : Option ℕ) → HasSent t p (P2 r a) → HasSent t p (P2 r b) → a ≡ b
+  pub one_vote : (p r : ℕ) (a b : Option ℕ) → HasSent t p (P2 r a) → HasSent t p (P2 r b) → a ≡ b
   -- what is received was sent
   pub received : (p s : ℕ) (payload : Payload) → HasReceived t p s payload → HasSent t s payload
   -- a decision that is sent, and so a value that is learnt, was decided in a round
@@ -47,7 +47,7 @@ pub record LeaderMessages (q : ℕ) (t : RunState LeaderState) : Type 0 where
 
 -- where a quorum is a majority
 pub record LeaderRounds (q : ℕ) (t : RunState LeaderState) : Type 0 where
-  -- in a round all answers with a value have one value
+  -- in a round all votes with a value have one value
   pub one_value : (r p o v w : ℕ) → HasSent t p (P2 r (Some v)) → HasSent t o (P2 r (Some w)) → v ≡ w
   -- what is decided in a round is the estimate of whoever leaves it, and of every later round
   pub taken_along : (r v d p e k : ℕ) → IsDecided q t r v → HasSent t p (P1 (suc (r + d)) e k) → e ≡ v

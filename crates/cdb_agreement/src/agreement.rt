@@ -44,8 +44,8 @@ pub fn worked_runs()
 {}
 
 /// In each state that a valid history of the leader-based algorithm reaches, a process has sent one message of
-/// each phase a round, what was received was sent, and what is sent or learnt as a decision a quorum answered in one
-/// round. Where a quorum is a majority the answers of a round have one value, and what is decided in it is the estimate
+/// each phase a round, what was received was sent, and what is sent or learnt as a decision a quorum voted in one
+/// round. Where a quorum is a majority the votes of a round have one value, and what is decided in it is the estimate
 /// of all later rounds.
 pub fn leader_rounds()
     ensures messages { (setup : Parts) →

@@ -1,6 +1,7 @@
 //! What holds of the histories of any machine. Each function does nothing: its contract is the law.
 
 ghost use Rattle.std.specs.Prelude.{◌≡◌, ℕ, ◌≤◌, List, [], ◌∷◌, ◌++◌, length, reverse, Ok, Err};
+ghost use Rattle.cdb_base.specs.declared.limits.TheConstants.{MAX_PROCESSES};
 ghost use Rattle.cdb_agreement.specs.Laws.{InValid, Reaches, ForFree, ForNamed, ForNew, ForAbsent, ForUndone, ForRolledBack, LeadsBack, AllLeadBack, ReachOneState, IsUndone, IsRolledBackTo, NumbersRise, NamesDiffer, AreNamed, LossesFollowSends, LostStayUnreceived};
 ghost use Rattle.cdb_agreement.specs.Numbering.{AreStepsNumbered, AreSendsNumbered};
 ghost use Rattle.cdb_base.specs.Event.{event_name};
@@ -43,7 +44,7 @@ pub fn exchanged_histories<L>()
         IsExchanged depends history other → fold machine history ≡ fold machine other }
 {}
 
-/// A free event may be taken back. What remains is valid, the event is enabled there, and taking it
+/// A free event may be undone. What remains is valid, the event is enabled there, and taking it
 /// again leads back to the state that the history reached.
 pub fn undo<L>()
     ensures valid { InValid (λ (machine : Machine L) history. ForFree history (λ i event.
@@ -54,12 +55,12 @@ pub fn undo<L>()
         LeadsBack machine (without history i) event history)) }
 {}
 
-/// A standing event is taken back exactly where no standing event depends on it; else the first that
+/// A standing event is undone exactly where no standing event depends on it; else the first that
 /// does is named. A name that does not stand is refused, and so is one with a process that is not
 /// there. What a granted undo leaves is valid, and the event, taken again, leads back to the state
 /// that the history reached.
-pub fn answered_undo<L>()
-    ensures taken { ForNamed (λ n history name i event. IsFree depends history i →
+pub fn granted_undo<L>()
+    ensures undone { ForNamed (λ n history name i event. IsFree depends history i →
         undo_of n history name ≡ Ok (event, without history i)) }
     ensures needed { ForNamed (λ n history name i event. (dependent : StepId) →
         IsFirstDependent history i dependent →
@@ -74,7 +75,7 @@ pub fn answered_undo<L>()
         IsValid machine history → LeadsBack machine left event history) }
 {}
 
-/// An event may be taken back with its consequences. What remains is valid, and what was taken back,
+/// An event may be removed with its consequences. What remains is valid, and what was removed,
 /// taken again in order, leads to the state that the history reached.
 #[tactic(auto, using(cdb_rules::proofs::Histories::rollback_redo))]
 pub fn rollback<L>()
@@ -84,20 +85,20 @@ pub fn rollback<L>()
         AllLeadBack machine (remaining depends history i) (rolled_back depends history i) history }
 {}
 
-/// A rollback takes the event of the name back with its consequences, the last first,
-/// and is refused where none has it. What it leaves is valid, and what it took, taken again in order,
+/// A rollback removes the event of the name with its consequences, the last first,
+/// and is refused where none has it. What it leaves is valid, and what it removed, taken again in order,
 /// leads back to the state that the history reached.
-pub fn answered_rollback<L>()
-    ensures answered { ForNamed (λ n history name i event. rollback_of n history name
+pub fn granted_rollback<L>()
+    ensures rolled_back { ForNamed (λ n history name i event. rollback_of n history name
         ≡ Ok (reverse (rolled_back depends history i), remaining depends history i)) }
     ensures no_step { ForNew (λ n history name. rollback_of n history name ≡ Err Refusal.NoStep) }
     ensures no_process { ForAbsent (λ n history name.
         rollback_of n history name ≡ Err Refusal.NoProcess) }
     ensures exact { ForRolledBack IsRolledBackTo }
-    ensures valid { (machine : Machine L) → ForRolledBack (λ history name taken left.
+    ensures valid { (machine : Machine L) → ForRolledBack (λ history name removed left.
         IsValid machine history → IsValid machine left) }
-    ensures again { (machine : Machine L) → ForRolledBack (λ history name taken left.
-        IsValid machine history → AllLeadBack machine left (reverse taken) history) }
+    ensures again { (machine : Machine L) → ForRolledBack (λ history name removed left.
+        IsValid machine history → AllLeadBack machine left (reverse removed) history) }
 {}
 
 /// An event that was just taken is free, and the history without it is the one before it: where its
@@ -134,7 +135,7 @@ pub fn numbers<L>()
 #[tactic(auto, using(cdb_rules::proofs::Naming::valid_standing))]
 pub fn valid_histories_stand<L>()
     ensures { InValid (λ (machine : Machine L) history.
-        length machine.firsts ≤ 9 → IsStanding history) }
+        length machine.firsts ≤ MAX_PROCESSES → IsStanding history) }
 {}
 
 /// In a valid history the loss of a copy comes after the send of its message, and no receive of

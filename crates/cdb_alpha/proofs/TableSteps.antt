@@ -23,7 +23,7 @@ use Rattle.cdb_alpha.proofs.Leads.{Leads, leads}
 use Rattle.cdb_alpha.proofs.Choice.{chooses_the_latest_write}
 use Rattle.cdb_process.proofs.Members.{IsIn, contained_in, in_contained}
 use Rattle.cdb_process.specs.Wishes.{wished_cell}
-use Rattle.cdb_alpha.specs.Steps.{Traced, ValueBasis, PassPlace, Step, traced_of, ReadsRegisters, Taken, EachInputIsAStep, decide, look, lead, follow, enter, read, give_up, settle, write, read_again, fail, carry, publish}
+use Rattle.cdb_alpha.specs.Steps.{Traced, ValueBasis, PassPlace, Step, traced_of, ReadsRegisters, TableStep, EachInputIsAStep, decide, look, lead, follow, enter, read, give_up, settle, write, read_again, fail, carry, publish}
 
 -- ---- the value of a pass
 
@@ -83,9 +83,9 @@ none_passes {X} test (z ∷ zs) is x here = go (test z) refl is here (λ it. non
     go false at it (inl same) later = ap test same ∙ at
     go false at it (inr there) later = later it there
 
-module _ (own : ℕ → Cell) (dec : Option ℕ) (s : LocalState) (written : List (ℕ × ℕ)) (carried : List ℕ) where
+module _ (own : ℕ → Cell) (dec : Option ℕ) (s : LocalState) (own_writes : List (ℕ × ℕ)) (carried : List ℕ) where
   abbrev Is : Input → LocalState → Type 0
-  Is i t = Taken own dec s t written carried i
+  Is i t = TableStep own dec s t own_writes carried i
 
   -- of the input and the state that a row leads to
   by_row_of : (i j : Input) (t u : LocalState) → i ≡ j → u ≡ t → Is j u → Is i t
@@ -101,18 +101,18 @@ module _ (own : ℕ → Cell) (dec : Option ℕ) (s : LocalState) (written : Lis
   looks : (c : Cell) (t : LocalState) (o : Option ℕ) → s.place ≡ A0 → c.val ≡ dec → c.val ≡ o → see_decision s o ≡ t → Is (input.Read Dec c) t
   looks c t None here holds val h =
       subst (λ x. Is (input.Read Dec c) x) h
-      (record { written_after = written; carried_after = carried; published = dec; same_me = refl; same_processes = refl; step = record { row = look (ap place_number here); is = refl; same = refl }; leaves = (refl, refl) })
+      (record { own_writes_after = own_writes; carried_after = carried; published = dec; same_me = refl; same_processes = refl; step = record { row = look (ap place_number here); is = refl; same = refl }; leaves = (refl, refl) })
   looks c t (Some v) here holds val h =
       subst (λ x. Is (input.Read Dec c) x) h
-      (record { written_after = written; carried_after = carried; published = dec; same_me = refl; same_processes = refl; step = record { row = decide v (ap place_number here) (sym holds ∙ val); is = refl; same = refl }; leaves = (refl, refl) })
+      (record { own_writes_after = own_writes; carried_after = carried; published = dec; same_me = refl; same_processes = refl; step = record { row = decide v (ap place_number here) (sym holds ∙ val); is = refl; same = refl }; leaves = (refl, refl) })
 
   asks_who : (l : ℕ) (t : LocalState) (b : Bool) → s.place ≡ A1 → record s { place = if b then A2 else A0 } ≡ t → Is (input.Query l) t
   asks_who l t true here h =
       subst (λ x. Is (input.Query l) x) h
-      (record { written_after = written; carried_after = carried; published = dec; same_me = refl; same_processes = refl; step = record { row = lead (ap place_number here); is = refl; same = refl }; leaves = (refl, refl) })
+      (record { own_writes_after = own_writes; carried_after = carried; published = dec; same_me = refl; same_processes = refl; step = record { row = lead (ap place_number here); is = refl; same = refl }; leaves = (refl, refl) })
   asks_who l t false here h =
       subst (λ x. Is (input.Query l) x) h
-      (record { written_after = written; carried_after = carried; published = dec; same_me = refl; same_processes = refl; step = record { row = follow (ap place_number here); is = refl; same = refl }; leaves = (refl, refl) })
+      (record { own_writes_after = own_writes; carried_after = carried; published = dec; same_me = refl; same_processes = refl; step = record { row = follow (ap place_number here); is = refl; same = refl }; leaves = (refl, refl) })
 
   -- the register that is read is the next of the pass
   next_is : (x : Reg) → next_register s ≡ Some x → (x ≡ R (length s.seen + 1)) × (length s.seen < s.processes)
@@ -126,8 +126,8 @@ module _ (own : ℕ → Cell) (dec : Option ℕ) (s : LocalState) (written : Lis
   sees : (reading over : Place) (x : Reg) (c : Cell) (t : LocalState) → next_register s ≡ Some x → ReadsRegisters own dec (input.Read x c)
       → place_number over ≡ suc (place_number reading)
       → ((p : ℕ) → PassPlace s.processes (length s.seen) (place_number reading) p
-      → (u : Traced) → u ≡ record (traced_of s written carried) { place = p; seen = s.seen ++ own (suc (length s.seen)) ∷ [] }
-      → Step s.processes own dec (traced_of s written carried) u dec)
+      → (u : Traced) → u ≡ record (traced_of s own_writes carried) { place = p; seen = s.seen ++ own (suc (length s.seen)) ∷ [] }
+      → Step s.processes own dec (traced_of s own_writes carried) u dec)
       → record s { seen = s.seen ++ c ∷ []; place = if length s.seen + 1 == s.processes then over else reading } ≡ t
       → Is (input.Read x c) t
   sees reading over x c t due holds is_next steps h = go (length s.seen + 1 == s.processes) refl h
@@ -140,12 +140,12 @@ module _ (own : ℕ → Cell) (dec : Option ℕ) (s : LocalState) (written : Lis
 
       stands_at : (p : Place) → PassPlace s.processes (length s.seen) (place_number reading) (place_number p) → Is (input.Read x c) (record s { seen = s.seen ++ c ∷ []; place = p })
       stands_at p pass = record {
-        written_after = written;
+        own_writes_after = own_writes;
         carried_after = carried;
         published = dec;
         same_me = refl;
         same_processes = refl;
-        step = steps (place_number p) pass _ (ap (λ (d : Cell). record (traced_of s written carried) { place = place_number p; seen = s.seen ++ d ∷ [] }) is_cell);
+        step = steps (place_number p) pass _ (ap (λ (d : Cell). record (traced_of s own_writes carried) { place = place_number p; seen = s.seen ++ d ∷ [] }) is_cell);
         leaves = (refl, refl);
       }
 
@@ -165,7 +165,7 @@ module _ (own : ℕ → Cell) (dec : Option ℕ) (s : LocalState) (written : Lis
   row_taken A1 i t here passed holds h = by_row_of i (input.Query h.0) t t h.1 refl (asks_who h.0 t (h.0 == s.me) here h.2)
   row_taken A2 i t here passed holds h =
       by_row_of i (input.Write (R s.me)) t (begin_pass A3 s (entered s)) h.0 (same_Some _ t h.1)
-      (record { written_after = written; carried_after = carried; published = dec; same_me = refl; same_processes = refl; step = record { row = enter (ap place_number here); is = refl; same = refl }; leaves = (refl, ap (λ p. wished_cell (wish_by (row_at p s))) here, refl) })
+      (record { own_writes_after = own_writes; carried_after = carried; published = dec; same_me = refl; same_processes = refl; step = record { row = enter (ap place_number here); is = refl; same = refl }; leaves = (refl, ap (λ p. wished_cell (wish_by (row_at p s))) here, refl) })
   row_taken A3 i t here passed holds h =
       by_row_of i (input.Read h.0 h.1) t t h.3 refl
       (sees A3 A4 h.0 h.1 t h.2 (subst (ReadsRegisters own dec) h.3 holds) refl (λ p pass u is. record { row = read p (ap place_number here) pass; is = is; same = refl }) h.4)
@@ -173,10 +173,10 @@ module _ (own : ℕ → Cell) (dec : Option ℕ) (s : LocalState) (written : Lis
     where
       go : (b : Bool) → (if b then next_round s else Some (record s { value = chosen_value s.input s.seen; place = A5 })) ≡ Some t → Is input.Local t
       go true k = next input.Local t k
-          (record { written_after = written; carried_after = carried; published = dec; same_me = refl; same_processes = refl; step = record { row = give_up (ap place_number here); is = refl; same = refl }; leaves = (refl, refl) })
+          (record { own_writes_after = own_writes; carried_after = carried; published = dec; same_me = refl; same_processes = refl; step = record { row = give_up (ap place_number here); is = refl; same = refl }; leaves = (refl, refl) })
       go false k = subst (λ x. Is input.Local x) (same_Some _ t k)
           (record {
-            written_after = written;
+            own_writes_after = own_writes;
             carried_after = carried;
             published = dec;
             same_me = refl;
@@ -186,7 +186,7 @@ module _ (own : ℕ → Cell) (dec : Option ℕ) (s : LocalState) (written : Lis
           })
   row_taken A5 i t here passed holds h =
       by_row_of i (input.Write (R s.me)) t (begin_pass A6 s (with_value s)) h.0 (same_Some _ t h.1)
-      (record { written_after = written ++ (s.round, s.value) ∷ []; carried_after = carried; published = dec; same_me = refl; same_processes = refl; step = record { row = write (ap place_number here); is = refl; same = refl }; leaves = (refl, ap (λ p. wished_cell (wish_by (row_at p s))) here, refl) })
+      (record { own_writes_after = own_writes ++ (s.round, s.value) ∷ []; carried_after = carried; published = dec; same_me = refl; same_processes = refl; step = record { row = write (ap place_number here); is = refl; same = refl }; leaves = (refl, ap (λ p. wished_cell (wish_by (row_at p s))) here, refl) })
   row_taken A6 i t here passed holds h =
       by_row_of i (input.Read h.0 h.1) t t h.3 refl
       (sees A6 A7 h.0 h.1 t h.2 (subst (ReadsRegisters own dec) h.3 holds) refl (λ p pass u is. record { row = read_again p (ap place_number here) pass; is = is; same = refl }) h.4)
@@ -194,10 +194,10 @@ module _ (own : ℕ → Cell) (dec : Option ℕ) (s : LocalState) (written : Lis
     where
       go : (b : Bool) → is_overtaken s.round s.seen ≡ b → (if b then next_round s else Some (record s { place = A8 })) ≡ Some t → Is input.Local t
       go true over k = next input.Local t k
-          (record { written_after = written; carried_after = carried; published = dec; same_me = refl; same_processes = refl; step = record { row = fail (ap place_number here); is = refl; same = refl }; leaves = (refl, refl) })
+          (record { own_writes_after = own_writes; carried_after = carried; published = dec; same_me = refl; same_processes = refl; step = record { row = fail (ap place_number here); is = refl; same = refl }; leaves = (refl, refl) })
       go false over k = subst (λ x. Is input.Local x) (same_Some _ t k)
           (record {
-            written_after = written;
+            own_writes_after = own_writes;
             carried_after = carried ++ s.round ∷ [];
             published = dec;
             same_me = refl;
@@ -207,7 +207,7 @@ module _ (own : ℕ → Cell) (dec : Option ℕ) (s : LocalState) (written : Lis
           })
   row_taken A8 i t here passed holds h = by_row_of i (input.Write Dec) t t h.0 refl (next (input.Write Dec) t h.1
       (record {
-        written_after = written;
+        own_writes_after = own_writes;
         carried_after = carried;
         published = Some s.value;
         same_me = refl;
@@ -221,5 +221,5 @@ module _ (own : ℕ → Cell) (dec : Option ℕ) (s : LocalState) (written : Lis
   row_taken A9 i t here passed holds h = absurd h
 
 pub each_input_is_a_step : EachInputIsAStep
-each_input_is_a_step own dec s t written carried i passed holds h =
-    row_taken own dec s written carried s.place i t refl passed holds (leads (row_at s.place s) i t h)
+each_input_is_a_step own dec s t own_writes carried i passed holds h =
+    row_taken own dec s own_writes carried s.place i t refl passed holds (leads (row_at s.place s) i t h)

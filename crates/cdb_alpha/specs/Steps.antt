@@ -20,7 +20,7 @@ pub record Traced : Type 0 where
   pub own : Cell
   pub seen : List Cell
   pub decision : Option ℕ
-  pub written : List (ℕ × ℕ)
+  pub own_writes : List (ℕ × ℕ)
   pub carried : List ℕ
 
 -- the value that the cells seen give: that of a cell with the greatest round of a write, where such a cell has one
@@ -64,7 +64,7 @@ after_row n own dec l (read p here pass) = record l { place = p; seen = l.seen +
 after_row n own dec l (give_up here) = record l { place = 0; round = l.round + n }
 after_row n own dec l (settle v here basis) = record l { place = 5; value = v }
 after_row n own dec l (write here) =
-    record l { place = 6; own = record { lre = l.round; lrww = l.round; val = Some l.value }; seen = []; written = l.written ++ (l.round, l.value) ∷ [] }
+    record l { place = 6; own = record { lre = l.round; lrww = l.round; val = Some l.value }; seen = []; own_writes = l.own_writes ++ (l.round, l.value) ∷ [] }
 after_row n own dec l (read_again p here pass) = record l { place = p; seen = l.seen ++ own (suc (length l.seen)) ∷ [] }
 after_row n own dec l (fail here) = record l { place = 0; round = l.round + n }
 after_row n own dec l (carry here low) = record l { place = 8; carried = l.carried ++ l.round ∷ [] }
@@ -85,14 +85,14 @@ pub record Step (n : ℕ) (own : ℕ → Cell) (dec : Option ℕ) (l : Traced) (
 
 -- the local state with a trace
 abbrev pub traced_of : LocalState → List (ℕ × ℕ) → List ℕ → Traced
-traced_of s written carried = record {
+traced_of s own_writes carried = record {
   place = place_number s.place;
   round = s.round;
   value = s.value;
   own = s.own;
   seen = s.seen;
   decision = s.decision;
-  written = written;
+  own_writes = own_writes;
   carried = carried;
 }
 
@@ -109,11 +109,11 @@ LeavesRegisters dec s t published (input.Write Dec) = (t.own ≡ s.own) × (c : 
 LeavesRegisters dec s t published i = (t.own ≡ s.own) × (published ≡ dec)
 
 -- the step that an input is, with the trace and the register of the decision that it leaves
-pub record Taken (own : ℕ → Cell) (dec : Option ℕ) (s t : LocalState) (written : List (ℕ × ℕ)) (carried : List ℕ) (i : Input) : Type 0 where
-  pub written_after : List (ℕ × ℕ)
+pub record TableStep (own : ℕ → Cell) (dec : Option ℕ) (s t : LocalState) (own_writes : List (ℕ × ℕ)) (carried : List ℕ) (i : Input) : Type 0 where
+  pub own_writes_after : List (ℕ × ℕ)
   pub carried_after : List ℕ
   pub published : Option ℕ
-  pub step : Step s.processes own dec (traced_of s written carried) (traced_of t written_after carried_after) published
+  pub step : Step s.processes own dec (traced_of s own_writes carried) (traced_of t own_writes_after carried_after) published
   pub leaves : LeavesRegisters dec s t published i
   pub same_me : t.me ≡ s.me
   pub same_processes : t.processes ≡ s.processes
@@ -121,5 +121,5 @@ pub record Taken (own : ℕ → Cell) (dec : Option ℕ) (s t : LocalState) (wri
 -- each input that the table takes, of a process that has seen a cell where its first pass is over, is a step
 abbrev pub EachInputIsAStep : Type 0
 EachInputIsAStep =
-    (own : ℕ → Cell) (dec : Option ℕ) (s t : LocalState) (written : List (ℕ × ℕ)) (carried : List ℕ) (i : Input)
-    → (place_number s.place ≡ 4 → 1 ≤ length s.seen) → ReadsRegisters own dec i → next_state s i ≡ Some t → Taken own dec s t written carried i
+    (own : ℕ → Cell) (dec : Option ℕ) (s t : LocalState) (own_writes : List (ℕ × ℕ)) (carried : List ℕ) (i : Input)
+    → (place_number s.place ≡ 4 → 1 ≤ length s.seen) → ReadsRegisters own dec i → next_state s i ≡ Some t → TableStep own dec s t own_writes carried i

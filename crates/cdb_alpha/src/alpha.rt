@@ -28,6 +28,7 @@ pub struct Alpha {
 }
 
 impl Model for Alpha {
+    ghost use Rattle.cdb_base.specs.declared.limits.TheConstants.{MAX_PROCESSES};
     ghost use Rattle.std.specs.Prelude.{◌≡◌, ◌≤◌, is_some};
     ghost use Rattle.cdb_alpha.specs.LocalState.{LocalState};
     ghost use Rattle.cdb_alpha.specs.Place.{is_last};
@@ -46,7 +47,8 @@ impl Model for Alpha {
       decision = x.decision;
     } };
 
-    ghost invariant = { λ x. (is_some x.decision ≡ is_last x.place) × (x.processes ≤ 9) };
+    ghost invariant = { λ x. (is_some x.decision ≡ is_last x.place)
+        × (x.processes ≤ MAX_PROCESSES) };
 }
 
 impl Alpha {

@@ -34,19 +34,19 @@ among_nine n p few among = (low n p among, high n p few among)
     high n p few among = grind (arith, nat_tests)
 
 refused : (n : ℕ) (history : List Event) (name : StepId) (causes : List StepId) (why : Refusal) → causes_of n history name ≡ Ok causes → event_named n history name ≡ Err why → ⊥
-refused n history name causes why answer none =
-    let f : causes_of n history name ≡ Ok causes → ⊥ = rw none (λ h. absurd (cc)) in f answer
+refused n history name causes why returned none =
+    let f : causes_of n history name ≡ Ok causes → ⊥ = rw none (λ h. absurd (cc)) in f returned
 
 module _ (setup : Parts) (range : AreInRange setup) (history : List Event) (valid : IsTrue ((rules setup).valid history)) (causes : List StepId) where
   there : (name : StepId) → causes_of setup.processes history name ≡ Ok causes → names_processes setup.processes name ≡ true
-  there name answer = go (names_processes setup.processes name) refl
+  there name returned = go (names_processes setup.processes name) refl
     where
       go : (b : Bool) → names_processes setup.processes name ≡ b → b ≡ true
       go true e = refl
-      go false e = absurd (refused setup.processes history name causes _ answer (no_process_named history name setup.processes e))
+      go false e = absurd (refused setup.processes history name causes _ returned (no_process_named history name setup.processes e))
 
   few : (name : StepId) → causes_of setup.processes history name ≡ Ok causes → number_of name ≤ 9999
-  few name answer = go (nat_le (number_of name) 9999) refl
+  few name returned = go (nat_le (number_of name) 9999) refl
     where
       small : (k : ℕ) → nat_le k 9999 ≡ true → k ≤ 9999
       small k h = grind (arith, nat_tests)
@@ -56,10 +56,10 @@ module _ (setup : Parts) (range : AreInRange setup) (history : List Event) (vali
 
       go : (b : Bool) → nat_le (number_of name) 9999 ≡ b → number_of name ≤ 9999
       go true e = small (number_of name) e
-      go false e = absurd (refused setup.processes history name causes _ answer (none_named history name setup.processes (there name answer) (number_new setup history valid name (great (number_of name) e))))
+      go false e = absurd (refused setup.processes history name causes _ returned (none_named history name setup.processes (there name returned) (number_new setup history valid name (great (number_of name) e))))
 
   pub can_name : (name : EventRef) → causes_of setup.processes history (name_given name) ≡ Ok causes → CanName name
-  can_name (Step p k) answer = (among_nine setup.processes p range.processes.1 (there (name_given (Step p k)) answer), few (name_given (Step p k)) answer)
-  can_name (Lost s m p) answer =
-      let among = both (is_among setup.processes s) (is_among setup.processes p) (there (name_given (Lost s m p)) answer) in
-      (among_nine setup.processes s range.processes.1 among.0, few (name_given (Lost s m p)) answer, among_nine setup.processes p range.processes.1 among.1)
+  can_name (Step p k) returned = (among_nine setup.processes p range.processes.1 (there (name_given (Step p k)) returned), few (name_given (Step p k)) returned)
+  can_name (Lost s m p) returned =
+      let among = both (is_among setup.processes s) (is_among setup.processes p) (there (name_given (Lost s m p)) returned) in
+      (among_nine setup.processes s range.processes.1 among.0, few (name_given (Lost s m p)) returned, among_nine setup.processes p range.processes.1 among.1)

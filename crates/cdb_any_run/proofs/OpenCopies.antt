@@ -5,7 +5,7 @@ use Rattle.std.proofs.lemmas.Bool.Decides.{nat_tests}
 use Rattle.std.proofs.lemmas.Option.{none-some, same_Some}
 use Rattle.cdb_base.specs.Processes.{all_processes}
 use Rattle.cdb_base.specs.declared.name.MsgName.{MsgName}
-use Rattle.cdb_message.specs.Mail.{MailState, message_name, sent_by, sent_names, messages_of, is_open, stands_above, copies_for}
+use Rattle.cdb_message.specs.Mail.{MailState, message_name, sent_by, sent_names, messages_of, is_open, is_above, copies_for}
 use Rattle.cdb_message.specs.Names.{is_name_below}
 use Rattle.cdb_rules.proofs.Alls.{all-append}
 
@@ -20,7 +20,7 @@ below-not_back a b h = grind (arith, nat_tests)
 not_below_itself : (a : MsgName) → is_name_below a a ≡ false
 not_below_itself a = grind (arith, nat_tests)
 
-above-trans : (after : Option MsgName) (a b : MsgName) → stands_above after a ≡ true → is_name_below a b ≡ true → stands_above after b ≡ true
+above-trans : (after : Option MsgName) (a b : MsgName) → is_above after a ≡ true → is_name_below a b ≡ true → is_above after b ≡ true
 above-trans None a b h k = refl
 above-trans (Some name) a b h k = below-trans name a b h k
 
@@ -124,24 +124,24 @@ found-none test (x ∷ xs) none = go (test x) (λ rest. found-none test xs rest)
     go false rest h = rest h
 
 -- those that are left stand above the one found
-pub found-next : (after : Option MsgName) (names : List MsgName) (name : MsgName) → Rise names → find (stands_above after) names ≡ Some name
-    → filter (stands_above after) names ≡ name ∷ filter (stands_above (Some name)) names
+pub found-next : (after : Option MsgName) (names : List MsgName) (name : MsgName) → Rise names → find (is_above after) names ≡ Some name
+    → filter (is_above after) names ≡ name ∷ filter (is_above (Some name)) names
 found-next after [] name rise found = absurd (none-some name found)
 found-next after (first ∷ names) name rise found =
-    go (stands_above after first) refl (λ more. found-next after names name rise.1 more) found
+    go (is_above after first) refl (λ more. found-next after names name rise.1 more) found
   where
-    go : (b : Bool) → stands_above after first ≡ b
-        → (find (stands_above after) names ≡ Some name → filter (stands_above after) names ≡ name ∷ filter (stands_above (Some name)) names)
-        → cond b (Some first) (find (stands_above after) names) ≡ Some name
-        → cond b (first ∷ filter (stands_above after) names) (filter (stands_above after) names) ≡ name ∷ filter (stands_above (Some name)) (first ∷ names)
+    go : (b : Bool) → is_above after first ≡ b
+        → (find (is_above after) names ≡ Some name → filter (is_above after) names ≡ name ∷ filter (is_above (Some name)) names)
+        → cond b (Some first) (find (is_above after) names) ≡ Some name
+        → cond b (first ∷ filter (is_above after) names) (filter (is_above after) names) ≡ name ∷ filter (is_above (Some name)) (first ∷ names)
     go true here rest h =
         let is = same_Some first name h in
-        let left = all-true (stands_above after) names (all-mapped (λ other. is_name_below first other ≡ true) (λ other. stands_above after other ≡ true) names (λ other later. above-trans after first other here later) rise.0) in
-        let behind = all-true (stands_above (Some first)) names rise.0 in
-        subst (λ other. first ∷ filter (stands_above after) names ≡ other ∷ filter (stands_above (Some other)) (first ∷ names)) is
+        let left = all-true (is_above after) names (all-mapped (λ other. is_name_below first other ≡ true) (λ other. is_above after other ≡ true) names (λ other later. above-trans after first other here later) rise.0) in
+        let behind = all-true (is_above (Some first)) names rise.0 in
+        subst (λ other. first ∷ filter (is_above after) names ≡ other ∷ filter (is_above (Some other)) (first ∷ names)) is
         (ap (λ rest. first ∷ rest) (left ∙ sym (rw (not_below_itself first) behind)))
     go false here rest h =
-        let later = found-all (λ other. is_name_below first other ≡ true) (stands_above after) names name rise.0 h in
+        let later = found-all (λ other. is_name_below first other ≡ true) (is_above after) names name rise.0 h in
         rw (below-not_back first name later) (rest h)
 
 all-left : {A : Type 0} (xs : List A) → filter (λ _. true) xs ≡ xs
@@ -150,25 +150,25 @@ all-left (x ∷ xs) = ap (λ rest. x ∷ rest) (all-left xs)
 
 module _ {A : Type 0} (shown : MsgName → List A) (names : List MsgName) (before : List A) where
   -- before the first look
-  pub none-looked : (items : List A) → items ≡ before → items ++ flat_map shown (filter (stands_above None) names) ≡ before ++ flat_map shown names
+  pub none-looked : (items : List A) → items ≡ before → items ++ flat_map shown (filter (is_above None) names) ≡ before ++ flat_map shown names
   none-looked items is = rw is (ap (λ left. before ++ flat_map shown left) (all-left names))
 
   -- a look that finds a name
-  pub one-looked : (after : Option MsgName) (items : List A) (name : MsgName) → Rise names → find (stands_above after) names ≡ Some name
-      → items ++ flat_map shown (filter (stands_above after) names) ≡ before ++ flat_map shown names
-      → (items ++ shown name) ++ flat_map shown (filter (stands_above (Some name)) names) ≡ before ++ flat_map shown names
+  pub one-looked : (after : Option MsgName) (items : List A) (name : MsgName) → Rise names → find (is_above after) names ≡ Some name
+      → items ++ flat_map shown (filter (is_above after) names) ≡ before ++ flat_map shown names
+      → (items ++ shown name) ++ flat_map shown (filter (is_above (Some name)) names) ≡ before ++ flat_map shown names
   one-looked after items name rise found so_far =
-      append_assoc items (shown name) (flat_map shown (filter (stands_above (Some name)) names))
+      append_assoc items (shown name) (flat_map shown (filter (is_above (Some name)) names))
       ∙ ap (λ left. items ++ flat_map shown left) (sym (found-next after names name rise found)) ∙ so_far
 
   -- a look that finds none
-  pub all-looked : (after : Option MsgName) (items : List A) → find (stands_above after) names ≡ None
-      → items ++ flat_map shown (filter (stands_above after) names) ≡ before ++ flat_map shown names → items ≡ before ++ flat_map shown names
-  all-looked after items none so_far = sym (append-nil items) ∙ ap (λ left. items ++ flat_map shown left) (sym (found-none (stands_above after) names none)) ∙ so_far
+  pub all-looked : (after : Option MsgName) (items : List A) → find (is_above after) names ≡ None
+      → items ++ flat_map shown (filter (is_above after) names) ≡ before ++ flat_map shown names → items ≡ before ++ flat_map shown names
+  all-looked after items none so_far = sym (append-nil items) ∙ ap (λ left. items ++ flat_map shown left) (sym (found-none (is_above after) names none)) ∙ so_far
 
 -- fewer names are left after each
-pub fewer-left : (after : Option MsgName) (names : List MsgName) (name : MsgName) → Rise names → find (stands_above after) names ≡ Some name
-    → length (filter (stands_above (Some name)) names) < length (filter (stands_above after) names)
+pub fewer-left : (after : Option MsgName) (names : List MsgName) (name : MsgName) → Rise names → find (is_above after) names ≡ Some name
+    → length (filter (is_above (Some name)) names) < length (filter (is_above after) names)
 fewer-left after names name rise found = let fewer = ap length (found-next after names name rise found) in omega (arith, fewer)
 
 -- process after process

@@ -12,10 +12,10 @@ ghost use Rattle.cdb_rules.specs.Agreement.{AllAgree, HasMajorityIfNeeded};
 ghost use Rattle.cdb_rules.specs.Algorithms.{rules};
 ghost use Rattle.cdb_any_run.specs.Any.{run_view, IsTrueToSetup};
 ghost use Rattle.cdb_rules.specs.Auto.{first_step_by};
-ghost use Rattle.cdb_rules.specs.ByRules.{IsNext, IsInOrder, process_in, alive_in, steps_in, queries_in, place_in, round_in, decision_in, mail_in, register_in, cell_in, writes_in, decisions_in, answer_to_step, answer_to_again, answer_to_loss, LeadsBack, LeadsTo, RollbackLeadsBack};
+ghost use Rattle.cdb_rules.specs.ByRules.{IsNext, IsInOrder, process_in, alive_in, steps_in, queries_in, place_in, round_in, decision_in, mail_in, register_in, cell_in, writes_in, decisions_in, result_of_step, result_of_again, result_of_loss, LeadsBack, LeadsTo, RollbackLeadsBack};
 ghost use Rattle.cdb_rules.specs.EventRefs.{name_given};
 ghost use Rattle.cdb_rules.specs.Refusals.{IsOfRun};
-ghost use Rattle.cdb_rules.specs.Runs.{step_name, loss_name, IsNumberAmong, RollsBackOnto, Tells, undo_answer, rollback_answer, causes_in, with_answer, after_undo, after_rollback, CanUndo, IsJustTaken, IsExactRollback, AreCausesOf};
+ghost use Rattle.cdb_rules.specs.Runs.{step_name, loss_name, IsNumberAmong, RollsBackOnto, Tells, result_of_undo, result_of_rollback, causes_in, with_result, after_undo, after_rollback, CanUndo, IsJustTaken, IsExactRollback, AreCausesOf};
 ghost use Rattle.cdb_rules.specs.SameState.{AreInSameState};
 ghost use Rattle.cdb_rules.specs.Step.{is_among};
 
@@ -64,13 +64,13 @@ impl AnyRun {
         act: Act,
     ) -> Result<Result<Event, Refusal>, NoMemory>
         requires { IsTrueToSetup self.old }
-        ensures answer { IfOk result (λ r. r ≡ answer_to_step rules (run_view self.old) p act) }
+        ensures returns { IfOk result (λ r. r ≡ result_of_step rules (run_view self.old) p act) }
         ensures after { IfOk result
-            (λ r. run_view self.new ≡ with_answer (run_view self.old) r) }
+            (λ r. run_view self.new ≡ with_result (run_view self.old) r) }
         ensures undoable { IfOk result
             (λ r. IfOk r (λ event. IsJustTaken (run_view self.new) event (run_view self.old))) }
         ensures err { OnErr result (self.new ≡ self.old) }
-        ensures memory { OnErr result (IsOk (answer_to_step rules (run_view self.old) p act)) }
+        ensures memory { OnErr result (IsOk (result_of_step rules (run_view self.old) p act)) }
         ensures true_to_setup { IsTrueToSetup self.new }
     {
         match self {
@@ -84,9 +84,9 @@ impl AnyRun {
     pub fn step_first(&mut self, alloc: Global, p: u32) -> Result<Result<Event, Refusal>, NoMemory>
         requires true_to_setup { IsTrueToSetup self.old }
         requires among { is_among (run_view self.old).setup.processes p ≡ true }
-        ensures answer { IfOk result (λ r. r ≡ first_step_by rules (run_view self.old) p) }
+        ensures returns { IfOk result (λ r. r ≡ first_step_by rules (run_view self.old) p) }
         ensures after { IfOk result
-            (λ r. run_view self.new ≡ with_answer (run_view self.old) r) }
+            (λ r. run_view self.new ≡ with_result (run_view self.old) r) }
         ensures undoable { IfOk result
             (λ r. IfOk r (λ event. IsJustTaken (run_view self.new) event (run_view self.old))) }
         ensures err { OnErr result (self.new ≡ self.old) }
@@ -102,7 +102,7 @@ impl AnyRun {
     /// What a step of process `p` would be refused with, if it would be.
     pub fn refuses(&self, p: u32, act: Act) -> Option<Refusal>
         requires { IsTrueToSetup self.now }
-        ensures { result ≡ result_err (answer_to_step rules (run_view self.now) p act) }
+        ensures { result ≡ result_err (result_of_step rules (run_view self.now) p act) }
     {
         match self {
             AnyRun::Leader(run) => run.refuses(p, act),
@@ -121,15 +121,15 @@ impl AnyRun {
     ) -> Result<Result<Event, Refusal>, NoMemory>
         requires true_to_setup { IsTrueToSetup self.old }
         requires of_run { IsOfRun (run_view self.old).setup event.now }
-        ensures answer { IfOk result
-            (λ r. r ≡ answer_to_again rules (run_view self.old) event.now) }
+        ensures returns { IfOk result
+            (λ r. r ≡ result_of_again rules (run_view self.old) event.now) }
         ensures taken { IfOk result (λ r. IsOk r ↔ IsNext rules (run_view self.old) event.now) }
         ensures after { IfOk result
-            (λ r. run_view self.new ≡ with_answer (run_view self.old) r) }
+            (λ r. run_view self.new ≡ with_result (run_view self.old) r) }
         ensures undoable { IfOk result
             (λ r. IfOk r (λ event. IsJustTaken (run_view self.new) event (run_view self.old))) }
         ensures err { OnErr result (self.new ≡ self.old) }
-        ensures memory { OnErr result (IsOk (answer_to_again rules (run_view self.old) event.now)) }
+        ensures memory { OnErr result (IsOk (result_of_again rules (run_view self.old) event.now)) }
         ensures true_to_setup { IsTrueToSetup self.new }
     {
         match self {
@@ -149,13 +149,13 @@ impl AnyRun {
         p: u32,
     ) -> Result<Result<Event, Refusal>, NoMemory>
         requires { IsTrueToSetup self.old }
-        ensures answer { IfOk result (λ r. r ≡ answer_to_loss rules (run_view self.old) s m p) }
+        ensures returns { IfOk result (λ r. r ≡ result_of_loss rules (run_view self.old) s m p) }
         ensures after { IfOk result
-            (λ r. run_view self.new ≡ with_answer (run_view self.old) r) }
+            (λ r. run_view self.new ≡ with_result (run_view self.old) r) }
         ensures undoable { IfOk result
             (λ r. IfOk r (λ event. IsJustTaken (run_view self.new) event (run_view self.old))) }
         ensures err { OnErr result (self.new ≡ self.old) }
-        ensures memory { OnErr result (IsOk (answer_to_loss rules (run_view self.old) s m p)) }
+        ensures memory { OnErr result (IsOk (result_of_loss rules (run_view self.old) s m p)) }
         ensures true_to_setup { IsTrueToSetup self.new }
     {
         match self {
@@ -169,7 +169,7 @@ impl AnyRun {
     /// memory.
     pub fn undo_event(&mut self, event: EventRef) -> Result<Event, Refusal>
         requires { IsTrueToSetup self.old }
-        ensures answer { result ≡ undo_answer (run_view self.old) (name_given event) }
+        ensures returns { result ≡ result_of_undo (run_view self.old) (name_given event) }
         ensures after { run_view self.new ≡ after_undo (run_view self.old) (name_given event) }
         ensures free { IsOk result ↔ CanUndo (run_view self.old) (name_given event) }
         ensures back { IfOk result
@@ -185,7 +185,7 @@ impl AnyRun {
     /// What `undo_event` would be refused with, if it would be. It takes no memory.
     pub fn refuses_undo(&self, event: EventRef) -> Option<Refusal>
         requires { IsTrueToSetup self.now }
-        ensures { result ≡ result_err (undo_answer (run_view self.now) (name_given event)) }
+        ensures { result ≡ result_err (result_of_undo (run_view self.now) (name_given event)) }
     {
         match self {
             AnyRun::Leader(run) => run.refuses_undo(event),
@@ -196,7 +196,7 @@ impl AnyRun {
     /// Undoes the `k`-th step of process `p`, as `undo_event` does.
     pub fn undo(&mut self, p: u32, k: u32) -> Result<Event, Refusal>
         requires { IsTrueToSetup self.old }
-        ensures answer { result ≡ undo_answer (run_view self.old) (step_name p k) }
+        ensures returns { result ≡ result_of_undo (run_view self.old) (step_name p k) }
         ensures after { run_view self.new ≡ after_undo (run_view self.old) (step_name p k) }
         ensures free { IsOk result ↔ CanUndo (run_view self.old) (step_name p k) }
         ensures back { IfOk result
@@ -209,7 +209,7 @@ impl AnyRun {
     /// Undoes the loss of the copy for process `p` of the `m`-th message of process `s`, as `undo_event` does.
     pub fn undo_lost(&mut self, s: u32, m: u32, p: u32) -> Result<Event, Refusal>
         requires { IsTrueToSetup self.old }
-        ensures answer { result ≡ undo_answer (run_view self.old) (loss_name s m p) }
+        ensures returns { result ≡ result_of_undo (run_view self.old) (loss_name s m p) }
         ensures after { run_view self.new ≡ after_undo (run_view self.old) (loss_name s m p) }
         ensures free { IsOk result ↔ CanUndo (run_view self.old) (loss_name s m p) }
         ensures back { IfOk result
@@ -219,8 +219,8 @@ impl AnyRun {
         self.undo_event(EventRef::Lost(s, m, p))
     }
 
-    /// Takes the `k`-th step of process `p` back with its consequences, and returns what was taken
-    /// back, the last first; or returns the first refusal that holds: `NoProcess` or `NoStep`. After a
+    /// Removes the `k`-th step of process `p` with its consequences, and returns what was
+    /// removed, the last first; or returns the first refusal that holds: `NoProcess` or `NoStep`. After a
     /// refusal and after `NoMemory` the run is as it was.
     pub fn rollback(
         &mut self,
@@ -229,8 +229,8 @@ impl AnyRun {
         k: u32,
     ) -> Result<Result<Vec<Event>, Refusal>, NoMemory>
         requires { IsTrueToSetup self.old }
-        ensures answer { IfOk result
-            (λ r. Tells vec_items r (rollback_answer (run_view self.old) (step_name p k))) }
+        ensures returns { IfOk result
+            (λ r. Tells vec_items r (result_of_rollback (run_view self.old) (step_name p k))) }
         ensures after { OnOk result
             (run_view self.new ≡ after_rollback (run_view self.old) (step_name p k)) }
         ensures exact { OnOk result
@@ -238,7 +238,7 @@ impl AnyRun {
         ensures again { LeadsBack (run_view self.new) result (run_view self.old) }
         ensures err { OnErr result (self.new ≡ self.old) }
         ensures memory { OnErr result
-            (IsOk (rollback_answer (run_view self.old) (step_name p k))) }
+            (IsOk (result_of_rollback (run_view self.old) (step_name p k))) }
         ensures true_to_setup { IsTrueToSetup self.new }
     {
         match self {
@@ -247,8 +247,8 @@ impl AnyRun {
         }
     }
 
-    /// Takes the loss of the copy for process `p` of the `m`-th message of process `s` back with its
-    /// consequences, and returns what was taken back, the last first; or returns the first refusal
+    /// Removes the loss of the copy for process `p` of the `m`-th message of process `s` with its
+    /// consequences, and returns what was removed, the last first; or returns the first refusal
     /// that holds: `NoProcess` of `s` or `p`, or `NoStep`. After a refusal and after `NoMemory` the run
     /// is as it was.
     pub fn rollback_lost(
@@ -259,8 +259,8 @@ impl AnyRun {
         p: u32,
     ) -> Result<Result<Vec<Event>, Refusal>, NoMemory>
         requires { IsTrueToSetup self.old }
-        ensures answer { IfOk result
-            (λ r. Tells vec_items r (rollback_answer (run_view self.old) (loss_name s m p))) }
+        ensures returns { IfOk result
+            (λ r. Tells vec_items r (result_of_rollback (run_view self.old) (loss_name s m p))) }
         ensures after { OnOk result
             (run_view self.new ≡ after_rollback (run_view self.old) (loss_name s m p)) }
         ensures exact { OnOk result
@@ -268,7 +268,7 @@ impl AnyRun {
         ensures again { LeadsBack (run_view self.new) result (run_view self.old) }
         ensures err { OnErr result (self.new ≡ self.old) }
         ensures memory { OnErr result
-            (IsOk (rollback_answer (run_view self.old) (loss_name s m p))) }
+            (IsOk (result_of_rollback (run_view self.old) (loss_name s m p))) }
         ensures true_to_setup { IsTrueToSetup self.new }
     {
         match self {
@@ -277,29 +277,29 @@ impl AnyRun {
         }
     }
 
-    /// Takes an event back with its consequences, adds what was taken back to the end of a list, the last first, and
+    /// Removes an event with its consequences, adds what was removed to the end of a list, the last first, and
     /// returns how many events that are; or returns the first refusal that holds: `NoProcess` or `NoStep`. After a
     /// refusal and after `NoMemory` run and list are as they were. A refusal takes no memory.
     pub fn rollback_event(
         &mut self,
         alloc: Global,
         event: EventRef,
-        taken: &mut Vec<Event>,
+        removed: &mut Vec<Event>,
     ) -> Result<Result<usize, Refusal>, NoMemory>
         requires { IsTrueToSetup self.old }
         ensures rolled_back { RollsBackOnto (run_view self.old) (run_view self.new)
-            (name_given event) taken.old.items taken.new.items result }
+            (name_given event) removed.old.items removed.new.items result }
         ensures exact { OnOk result
             (IsExactRollback (run_view self.old) (name_given event) (run_view self.new)) }
         ensures again { OnOk result
             (RollbackLeadsBack (run_view self.old) (name_given event) (run_view self.new)) }
-        ensures capacity { vec_capacity taken.old ≤ vec_capacity taken.new }
+        ensures capacity { vec_capacity removed.old ≤ vec_capacity removed.new }
         ensures err { OnErr result (self.new ≡ self.old) }
         ensures true_to_setup { IsTrueToSetup self.new }
     {
         match self {
-            AnyRun::Leader(run) => run.rollback_event(alloc, event, taken),
-            AnyRun::Alpha(run) => run.rollback_event(alloc, event, taken),
+            AnyRun::Leader(run) => run.rollback_event(alloc, event, removed),
+            AnyRun::Alpha(run) => run.rollback_event(alloc, event, removed),
         }
     }
 
@@ -307,7 +307,7 @@ impl AnyRun {
     /// holds: `NoProcess` or `NoStep`. It takes no memory.
     pub fn causes_of(&self, alloc: Global, event: EventRef) -> Result<SmallVec<StepId, 9>, Refusal>
         requires { IsTrueToSetup self.now }
-        ensures answer { Tells (λ c. c.items) result
+        ensures returns { Tells (λ c. c.items) result
             (causes_in (run_view self.now) (name_given event)) }
         ensures direct { IfOk result
             (λ c. AreCausesOf (run_view self.now) (name_given event) c.items) }
@@ -321,7 +321,7 @@ impl AnyRun {
     /// The direct causes of the `k`-th step of process `p`, as `causes_of` returns them.
     pub fn causes(&self, alloc: Global, p: u32, k: u32) -> Result<SmallVec<StepId, 9>, Refusal>
         requires { IsTrueToSetup self.now }
-        ensures answer { Tells (λ c. c.items) result
+        ensures returns { Tells (λ c. c.items) result
             (causes_in (run_view self.now) (step_name p k)) }
         ensures direct { IfOk result
             (λ c. AreCausesOf (run_view self.now) (step_name p k) c.items) }

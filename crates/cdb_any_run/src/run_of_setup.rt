@@ -117,21 +117,21 @@ impl Runs for RunOfSetup {
         self.run.again(alloc, event)
     }
 
-    fn undo(&mut self, name: EventRef) -> Result<Event, Refusal> {
-        self.run.undo_event(name)
+    fn undo(&mut self, event: EventRef) -> Result<Event, Refusal> {
+        self.run.undo_event(event)
     }
 
-    fn refuses_undo(&self, name: EventRef) -> Option<Refusal> {
-        self.run.refuses_undo(name)
+    fn refuses_undo(&self, event: EventRef) -> Option<Refusal> {
+        self.run.refuses_undo(event)
     }
 
     fn rollback(
         &mut self,
         alloc: Global,
-        name: EventRef,
-        taken: &mut Vec<Event>,
+        event: EventRef,
+        removed: &mut Vec<Event>,
     ) -> Result<Result<u32, Refusal>, NoMemory> {
-        match self.run.rollback_event(alloc, name, taken)? {
+        match self.run.rollback_event(alloc, event, removed)? {
             Ok(count) => Ok(Ok(count as u32)),
             Err(refusal) => Ok(Err(refusal)),
         }
@@ -172,12 +172,12 @@ impl Runs for RunOfSetup {
     fn explain(
         &self,
         alloc: Global,
-        name: EventRef,
+        event: EventRef,
     ) -> Result<(StepId, SmallVec<StepId, 9>), Refusal> {
         let _ranges = self.run.setup().n();
         let _valid = self.run.history();
-        let causes = self.run.causes_of(alloc, name)?;
-        match name.id() {
+        let causes = self.run.causes_of(alloc, event)?;
+        match event.id() {
             Some(id) => Ok((id, causes)),
             None => unreachable!(),
         }

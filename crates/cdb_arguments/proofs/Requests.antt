@@ -13,14 +13,14 @@ use Rattle.std.proofs.lemmas.Result.{IfOk-weaker}
 use Rattle.clap.specs.Words.{Row, Text, first_of, subcommand_of, takes}
 use Rattle.clap.specs.declared.builder.value_parser.ValueParser.TheVariants as vp
 use Rattle.clap.proofs.ValueTestLemmas.{Accepts-accepts}
-use Rattle.cdb_arguments.specs.Asking.{NamesAsked, IsAnswer, IsPlayOf, IsRaceOf, IsExplainOf, IsDrawOf, IsDebugOf, IsTurns, IsNumber, IsNumberOf, text_at, texts_at}
+use Rattle.cdb_arguments.specs.Asking.{NamesAsked, IsRequest, IsPlayOf, IsRaceOf, IsExplainOf, IsDrawOf, IsDebugOf, IsTurns, IsNumber, IsNumberOf, text_at, texts_at}
 use Rattle.cdb_arguments.specs.CommandLine.{program}
 use Rattle.cdb_arguments.specs.Plain.{IsNameAlone, IsNumberOfTurns, IsPlain, IsPlayLine, IsRaceLine, IsExplainLine, IsDrawLine, IsDebugLine}
 use Rattle.cdb_arguments.specs.declared.request.AskFault.{AskFault}
 use Rattle.cdb_arguments.specs.declared.request.AskFault.TheVariants.{NoMemory}
 use Rattle.cdb_arguments.specs.declared.request.Asked.{Asked}
 use Rattle.cdb_arguments.specs.declared.request.Asked.TheVariants.{Script, Play, Race, Explain, Draw, Debug}
-use Rattle.cdb_arguments.proofs.StepLines.{OptionWrites, StepLine, explain_line, draw_line}
+use Rattle.cdb_arguments.proofs.StepLines.{OptionWritesNumber, StepLine, explain_line, draw_line}
 use Rattle.cdb_arguments.proofs.SeatLines.{SeatLine, debug_line}
 use Rattle.cdb_arguments.proofs.Lines.{nothing_asked, nothing_taken, play_asked, play_taken, PlayRows, race_asked, race_taken, RaceRows, AcceptsTurns}
 
@@ -78,13 +78,13 @@ race_is found rows setup text turns scripts (Race a n b) is have number asks =
       asks.4 ∙ ap (texts_at (codes "SCRIPT")) same ∙ ap (λ ts. unwrap_or ts []) have.2,
     )
 
-number_is : (text : Option Text) (k its : Option ℕ) → OptionWrites text k → IsNumberOf text its → its ≡ k
+number_is : (text : Option Text) (k its : Option ℕ) → OptionWritesNumber text k → IsNumberOf text its → its ≡ k
 number_is None None its writes is = is
 number_is None (Some k) its writes is = absurd writes
 number_is (Some text) None its writes is = absurd writes
 number_is (Some text) (Some k) its writes is = is.1 ∙ ap (λ n. let found : Option ℕ = Some n in found) (is.2.2 k writes)
 
-own_number : (text : Option Text) (p its : ℕ) → OptionWrites text (Some p) → IsNumber (unwrap_or text []) its → its ≡ p
+own_number : (text : Option Text) (p its : ℕ) → OptionWritesNumber text (Some p) → IsNumber (unwrap_or text []) its → its ≡ p
 own_number None p its writes is = absurd writes
 own_number (Some text) p its writes is = is.2 p writes
 
@@ -133,18 +133,18 @@ debug_is setup seats words (Debug a b) line asks =
 
 -- ---- the answers
 
-pub script_answered : (words : List Text) (result : Result Asked AskFault) → IfOk result (NamesAsked (subcommand_of program words))
-    → (takes program words ≡ true → IfErr result (λ fault. fault ≡ NoMemory)) → IsNameAlone words → IsAnswer result (λ asked. asked ≡ Script)
-script_answered words result ok taken alone =
+pub script_asked_for : (words : List Text) (result : Result Asked AskFault) → IfOk result (NamesAsked (subcommand_of program words))
+    → (takes program words ≡ true → IfErr result (λ fault. fault ≡ NoMemory)) → IsNameAlone words → IsRequest result (λ asked. asked ≡ Script)
+script_asked_for words result ok taken alone =
     let (name, is) = alone in (
       IfOk-weaker result _ _ (λ asked asks. script_is _ asked (ap (subcommand_of program) is ∙ nothing_asked name) asks) ok,
       taken (ap (takes program) is ∙ nothing_taken name),
     )
 
-pub play_answered : (words : List Text) (result : Result Asked AskFault) → IfOk result (NamesAsked (subcommand_of program words))
+pub play_asked_for : (words : List Text) (result : Result Asked AskFault) → IfOk result (NamesAsked (subcommand_of program words))
     → (takes program words ≡ true → IfErr result (λ fault. fault ≡ NoMemory)) → (setup script : Text) → IsPlayLine words setup script
-    → IsAnswer result (IsPlayOf setup script)
-play_answered words result ok taken setup script line =
+    → IsRequest result (IsPlayOf setup script)
+play_asked_for words result ok taken setup script line =
     let its = play_asked line.0.0 setup script line.1.0 line.1.1.0 in (
       IfOk-weaker result _ _ (λ asked asks. play_is _ its.0 setup script asked (ap (subcommand_of program) line.0.1 ∙ its.1) its.2 asks) ok,
       taken (ap (takes program) line.0.1 ∙ play_taken line.0.0 setup script line.1.0 line.1.1.0),
@@ -160,10 +160,10 @@ is_signed text turns plain number =
 accepts_turns : (text : Text) (turns : ℕ) → IsPlain text → IsNumberOfTurns text turns → AcceptsTurns text
 accepts_turns text turns plain number = Accepts-accepts false (vp.Signed (pos 0) (pos 99999)) text (is_signed text turns plain number)
 
-pub race_answered : (words : List Text) (result : Result Asked AskFault) → IfOk result (NamesAsked (subcommand_of program words))
+pub race_asked_for : (words : List Text) (result : Result Asked AskFault) → IfOk result (NamesAsked (subcommand_of program words))
     → (takes program words ≡ true → IfErr result (λ fault. fault ≡ NoMemory)) → (setup : Text) (turns : ℕ) (script : Text) (more : List Text)
-    → IsRaceLine words setup turns script more → IsAnswer result (IsRaceOf setup turns (script ∷ more))
-race_answered words result ok taken setup turns script more line =
+    → IsRaceLine words setup turns script more → IsRequest result (IsRaceOf setup turns (script ∷ more))
+race_asked_for words result ok taken setup turns script more line =
     let name = line.0.0 in
     let text = line.0.1 in
     let is = line.0.2 in
@@ -174,30 +174,30 @@ race_answered words result ok taken setup turns script more line =
       taken (ap (takes program) is ∙ race_taken name setup text script more plain (accepts_turns text turns plain.1.0 number) line.1),
     )
 
-pub explain_answered : (words : List Text) (result : Result Asked AskFault) → IfOk result (NamesAsked (subcommand_of program words))
+pub explain_asked_for : (words : List Text) (result : Result Asked AskFault) → IfOk result (NamesAsked (subcommand_of program words))
     → (takes program words ≡ true → IfErr result (λ fault. fault ≡ NoMemory)) → (setup script : Text) (p : ℕ) (k : Option ℕ) → IsExplainLine words setup script p k
-    → IsAnswer result (IsExplainOf setup script p k)
-explain_answered words result ok taken setup script p k line =
+    → IsRequest result (IsExplainOf setup script p k)
+explain_asked_for words result ok taken setup script p k line =
     let its = explain_line line.2.0.0 setup script line.0 p k line.1 line.2.1 in
     let its_words : StepLine (codes "explain") setup script (Some p) k words = subst (StepLine (codes "explain") setup script (Some p) k) (sym line.2.0.1) its in (
       IfOk-weaker result _ _ (λ asked asks. explain_is setup script p k words asked its_words asks) ok,
       taken its_words.taken,
     )
 
-pub draw_answered : (words : List Text) (result : Result Asked AskFault) → IfOk result (NamesAsked (subcommand_of program words))
+pub draw_asked_for : (words : List Text) (result : Result Asked AskFault) → IfOk result (NamesAsked (subcommand_of program words))
     → (takes program words ≡ true → IfErr result (λ fault. fault ≡ NoMemory)) → (setup script : Text) (p k : Option ℕ) → IsDrawLine words setup script p k
-    → IsAnswer result (IsDrawOf setup script p k)
-draw_answered words result ok taken setup script p k line =
+    → IsRequest result (IsDrawOf setup script p k)
+draw_asked_for words result ok taken setup script p k line =
     let its = draw_line line.2.0.0 setup script line.0 p k line.1 line.2.1 in
     let its_words : StepLine (codes "draw") setup script p k words = subst (StepLine (codes "draw") setup script p k) (sym line.2.0.1) its in (
       IfOk-weaker result _ _ (λ asked asks. draw_is setup script p k words asked its_words asks) ok,
       taken its_words.taken,
     )
 
-pub debug_answered : (words : List Text) (result : Result Asked AskFault) → IfOk result (NamesAsked (subcommand_of program words))
+pub debug_asked_for : (words : List Text) (result : Result Asked AskFault) → IfOk result (NamesAsked (subcommand_of program words))
     → (takes program words ≡ true → IfErr result (λ fault. fault ≡ NoMemory)) → (setup : Text) (seats : List Text) → IsDebugLine words setup seats
-    → IsAnswer result (IsDebugOf setup seats)
-debug_answered words result ok taken setup seats line =
+    → IsRequest result (IsDebugOf setup seats)
+debug_asked_for words result ok taken setup seats line =
     let its = debug_line line.0.0.0 setup seats line.0.1 line.1 in
     let its_words : SeatLine setup seats words = subst (SeatLine setup seats) (sym line.0.0.1) its in (
       IfOk-weaker result _ _ (λ asked asks. debug_is setup seats words asked its_words asks) ok,

@@ -13,7 +13,7 @@ use Rattle.clap.specs.declared.builder.value_parser.ValueParser.TheVariants as v
 use Rattle.clap.proofs.OnLiterals.{clap_on_literals}
 use Rattle.clap.proofs.ValueTestLemmas.{Accepts-accepts}
 use Rattle.cdb_arguments.specs.CommandLine.{program}
-use Rattle.cdb_arguments.specs.Plain.{IsPlain, ArePlain, Writes, WritesStep}
+use Rattle.cdb_arguments.specs.Plain.{IsPlain, ArePlain, WritesNumber, WritesStep}
 use Rattle.cdb_arguments.proofs.PlainWords.{with_value, is_no_minus}
 use Rattle.cdb_arguments.proofs.Subcommands.{IsSub, line_asked, line_taken}
 use Rattle.cdb_arguments.proofs.Values.{ValuesPass, EndPasses}
@@ -23,23 +23,23 @@ use Rattle.cdb_arguments.proofs.Values.{ValuesPass, EndPasses}
 abbrev AcceptsNumber : Text → Type 0
 AcceptsNumber text = accepts false (vp.Signed (pos 1) (pos 999999)) text ≡ true
 
-is_signed : (text : Text) (number : ℕ) → IsPlain text → Writes text number → IsSignedIn (pos 1) (pos 999999) text
+is_signed : (text : Text) (number : ℕ) → IsPlain text → WritesNumber text number → IsSignedIn (pos 1) (pos 999999) text
 is_signed text number plain writes =
     let value = digits_value 10 (without_leading_plus text) in
     let small : value ≤ 999999 = subst (λ n. n ≤ 999999) (sym writes.1) writes.3 in
     let large : 1 ≤ value = subst (λ n. 1 ≤ n) (sym writes.1) writes.2 in
     rw (is_no_minus text plain) (writes.0, fits_signed_from_abs w64 (pos value) (omega arith), omega (arith, le→leb), omega (arith, le→leb))
 
-accepts_number : (text : Text) (number : ℕ) → IsPlain text → Writes text number → AcceptsNumber text
+accepts_number : (text : Text) (number : ℕ) → IsPlain text → WritesNumber text number → AcceptsNumber text
 accepts_number text number plain writes = Accepts-accepts false (vp.Signed (pos 1) (pos 999999)) text (is_signed text number plain writes)
 
 -- ---- what clap's matches have
 
 -- the text of a number, or no text where there is no number
-abbrev pub OptionWrites : Option Text → Option ℕ → Type 0
-OptionWrites None None = Unit {0}
-OptionWrites (Some text) (Some number) = Writes text number
-OptionWrites text number = ⊥
+abbrev pub OptionWritesNumber : Option Text → Option ℕ → Type 0
+OptionWritesNumber None None = Unit {0}
+OptionWritesNumber (Some text) (Some number) = WritesNumber text number
+OptionWritesNumber text number = ⊥
 
 -- the line is taken, and its matches have these texts and numbers
 pub record StepLine (command setup script : Text) (p k : Option ℕ) (words : List Text) : Type 0 where
@@ -50,10 +50,10 @@ pub record StepLine (command setup script : Text) (p k : Option ℕ) (words : Li
   pub script_at : first_of (codes "SCRIPT") rows ≡ Some script
   pub p_text : Option Text
   pub p_at : first_of (codes "P") rows ≡ p_text
-  pub p_written : OptionWrites p_text p
+  pub p_written : OptionWritesNumber p_text p
   pub k_text : Option Text
   pub k_at : first_of (codes "K") rows ≡ k_text
-  pub k_written : OptionWrites k_text k
+  pub k_written : OptionWritesNumber k_text k
 
 -- ---- an explanation
 
@@ -80,7 +80,7 @@ explain_end_k : (setup script p k : Text) → AcceptsNumber k → EndPasses expl
 unfolding clap_on_literals program explain_shape
 explain_end_k setup script p k a = (rw a refl, refl, refl)
 
-explain_line_p : (name setup script text : Text) (p : ℕ) → Writes text p → ArePlain (setup ∷ script ∷ text ∷ [])
+explain_line_p : (name setup script text : Text) (p : ℕ) → WritesNumber text p → ArePlain (setup ∷ script ∷ text ∷ [])
     → StepLine (codes "explain") setup script (Some p) None (name ∷ codes "explain" ∷ setup ∷ script ∷ text ∷ [])
 unfolding clap_on_literals program explain_shape
 explain_line_p name setup script text p writes plain =
@@ -100,7 +100,7 @@ explain_line_p name setup script text p writes plain =
       k_written = tt;
     }
 
-explain_line_k : (name setup script text other : Text) (p k : ℕ) → Writes text p → Writes other k → ArePlain (setup ∷ script ∷ text ∷ other ∷ [])
+explain_line_k : (name setup script text other : Text) (p k : ℕ) → WritesNumber text p → WritesNumber other k → ArePlain (setup ∷ script ∷ text ∷ other ∷ [])
     → StepLine (codes "explain") setup script (Some p) (Some k) (name ∷ codes "explain" ∷ setup ∷ script ∷ text ∷ other ∷ [])
 unfolding clap_on_literals program explain_shape
 explain_line_k name setup script text other p k writes more plain =
@@ -185,7 +185,7 @@ draw_line_alone name setup script plain =
       k_written = tt;
     }
 
-draw_line_p : (name setup script text : Text) (p : ℕ) → Writes text p → ArePlain (setup ∷ script ∷ text ∷ [])
+draw_line_p : (name setup script text : Text) (p : ℕ) → WritesNumber text p → ArePlain (setup ∷ script ∷ text ∷ [])
     → StepLine (codes "draw") setup script (Some p) None (name ∷ codes "draw" ∷ setup ∷ script ∷ text ∷ [])
 unfolding clap_on_literals program draw_shape
 draw_line_p name setup script text p writes plain =
@@ -205,7 +205,7 @@ draw_line_p name setup script text p writes plain =
       k_written = tt;
     }
 
-draw_line_k : (name setup script text other : Text) (p k : ℕ) → Writes text p → Writes other k → ArePlain (setup ∷ script ∷ text ∷ other ∷ [])
+draw_line_k : (name setup script text other : Text) (p k : ℕ) → WritesNumber text p → WritesNumber other k → ArePlain (setup ∷ script ∷ text ∷ other ∷ [])
     → StepLine (codes "draw") setup script (Some p) (Some k) (name ∷ codes "draw" ∷ setup ∷ script ∷ text ∷ other ∷ [])
 unfolding clap_on_literals program draw_shape
 draw_line_k name setup script text other p k writes more plain =

@@ -10,7 +10,7 @@ use Rattle.cdb_arguments.specs.declared.request.AskFault.{AskFault}
 use Rattle.cdb_arguments.specs.declared.request.AskFault.TheVariants.{Words, NoMemory}
 use Rattle.cdb_arguments.specs.declared.request.Asked.{Asked}
 use Rattle.cdb_arguments.specs.declared.request.Asked.TheVariants.{Script, Play, Race, Explain, Draw, Debug}
-use Rattle.cdb_arguments.specs.Plain.{IsDebugLine, IsDrawLine, IsExplainLine, IsPlayLine, IsRaceLine, Writes}
+use Rattle.cdb_arguments.specs.Plain.{IsDebugLine, IsDrawLine, IsExplainLine, IsPlayLine, IsRaceLine, WritesNumber}
 
 -- the texts of the arguments
 abbrev pub texts : List (Bor Text) → List Text
@@ -38,7 +38,7 @@ IsTurns text turns =
 
 -- a number from 1 on, and the one that the text writes where it writes one
 abbrev pub IsNumber : Text → ℕ → Type 0
-IsNumber text number = (1 ≤ number) × (number ≤ MAX_NUMBER) × ((written : ℕ) → Writes text written → number ≡ written)
+IsNumber text number = (1 ≤ number) × (number ≤ MAX_NUMBER) × ((written : ℕ) → WritesNumber text written → number ≡ written)
 
 -- the number of an argument, and none where the matches have none
 abbrev pub IsNumberOf : Option Text → Option ℕ → Type 0
@@ -94,31 +94,31 @@ IsDebugOf setup seats (Debug its_setup its_seats) = (its_setup.now ≡ setup) ×
 IsDebugOf setup seats asked = ⊥
 
 -- what was asked for, or no memory to say it
-abbrev pub IsAnswer : Result Asked AskFault → (Asked → Type 0) → Type 0
-IsAnswer result IsIt = IfOk result IsIt × IfErr result (λ fault. fault ≡ NoMemory)
+abbrev pub IsRequest : Result Asked AskFault → (Asked → Type 0) → Type 0
+IsRequest result IsIt = IfOk result IsIt × IfErr result (λ fault. fault ≡ NoMemory)
 
--- a line of one of these forms has what its words say as the answer
-abbrev pub AnswersPlay : Result Asked AskFault → List Text → Type 0
-AnswersPlay result words =
-    (setup script : Text) → IsPlayLine words setup script → IsAnswer result (IsPlayOf setup script)
+-- a line of one of these forms asks for what its words say
+abbrev pub AsksForPlay : Result Asked AskFault → List Text → Type 0
+AsksForPlay result words =
+    (setup script : Text) → IsPlayLine words setup script → IsRequest result (IsPlayOf setup script)
 
-abbrev pub AnswersRace : Result Asked AskFault → List Text → Type 0
-AnswersRace result words =
+abbrev pub AsksForRace : Result Asked AskFault → List Text → Type 0
+AsksForRace result words =
     (setup : Text) (turns : ℕ) (script : Text) (more : List Text) → IsRaceLine words setup turns script more
-    → IsAnswer result (IsRaceOf setup turns (script ∷ more))
+    → IsRequest result (IsRaceOf setup turns (script ∷ more))
 
-abbrev pub AnswersExplain : Result Asked AskFault → List Text → Type 0
-AnswersExplain result words =
+abbrev pub AsksForExplain : Result Asked AskFault → List Text → Type 0
+AsksForExplain result words =
     (setup script : Text) (p : ℕ) (k : Option ℕ) → IsExplainLine words setup script p k
-    → IsAnswer result (IsExplainOf setup script p k)
+    → IsRequest result (IsExplainOf setup script p k)
 
-abbrev pub AnswersDraw : Result Asked AskFault → List Text → Type 0
-AnswersDraw result words =
-    (setup script : Text) (p k : Option ℕ) → IsDrawLine words setup script p k → IsAnswer result (IsDrawOf setup script p k)
+abbrev pub AsksForDraw : Result Asked AskFault → List Text → Type 0
+AsksForDraw result words =
+    (setup script : Text) (p k : Option ℕ) → IsDrawLine words setup script p k → IsRequest result (IsDrawOf setup script p k)
 
-abbrev pub AnswersDebug : Result Asked AskFault → List Text → Type 0
-AnswersDebug result words =
-    (setup : Text) (seats : List Text) → IsDebugLine words setup seats → IsAnswer result (IsDebugOf setup seats)
+abbrev pub AsksForDebug : Result Asked AskFault → List Text → Type 0
+AsksForDebug result words =
+    (setup : Text) (seats : List Text) → IsDebugLine words setup seats → IsRequest result (IsDebugOf setup seats)
 
 -- out of memory, or an error of one of the kinds
 abbrev pub IsOfKinds : Kinds → AskFault → Type 0

@@ -21,20 +21,20 @@ IsNumberOfTurns text turns =
     IsNumeral 10 (without_leading_plus text) × (digits_value 10 (without_leading_plus text) ≡ turns) × (turns ≤ MAX_TURNS)
 
 -- a number from 1 on in digits, after a plus or not
-abbrev pub Writes : Text → ℕ → Type 0
-Writes text number =
+abbrev pub WritesNumber : Text → ℕ → Type 0
+WritesNumber text number =
     IsNumeral 10 (without_leading_plus text) × (digits_value 10 (without_leading_plus text) ≡ number) × (1 ≤ number) × (number ≤ MAX_NUMBER)
 
 -- the texts of a number, none where there is no number
 abbrev pub WritesOption : List Text → Option ℕ → Type 0
 WritesOption texts None = texts ≡ []
-WritesOption texts (Some number) = (text : Text) × (texts ≡ text ∷ []) × Writes text number
+WritesOption texts (Some number) = (text : Text) × (texts ≡ text ∷ []) × WritesNumber text number
 
 -- the texts of a number and of a second one, which stands only after a first
 abbrev pub WritesStep : List Text → Option ℕ → Option ℕ → Type 0
 WritesStep texts None None = texts ≡ []
 WritesStep texts None (Some k) = ⊥
-WritesStep texts (Some p) k = (text : Text) × (more : List Text) × (texts ≡ text ∷ more) × Writes text p × WritesOption more k
+WritesStep texts (Some p) k = (text : Text) × (more : List Text) × (texts ≡ text ∷ more) × WritesNumber text p × WritesOption more k
 
 -- the program's name alone
 abbrev pub IsNameAlone : List Text → Type 0

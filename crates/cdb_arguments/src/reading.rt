@@ -4,7 +4,7 @@ ghost use Rattle.std.specs.Prelude.{◌≡◌, IfOk, OnOk, IfErr, [], false, tru
 ghost use Rattle.clap.specs.Words.{Kinds, Text, HasKind, app_of, new_rule, rule_of, fault_of, found_of, kind_of, rows_of, subcommand_of, subcommand_rows_of, takes};
 ghost use Rattle.clap.specs.declared.builder.command.Command.TheViews.{out-Command};
 ghost use Rattle.cdb_arguments.specs.CommandLine.{required_rule, turns_rule, numbered, several, on_files, play_app, race_app, explain_app, draw_app, debug_app, playing, program};
-ghost use Rattle.cdb_arguments.specs.Asking.{NamesOne, IsTurns, IsNumber, IsNumberAt, text_at, texts, texts_at, NamesAsked, IsOfKinds, IsAnswer, AnswersPlay, AnswersRace, AnswersExplain, AnswersDraw, AnswersDebug, ask_status_of, words_status};
+ghost use Rattle.cdb_arguments.specs.Asking.{NamesOne, IsTurns, IsNumber, IsNumberAt, text_at, texts, texts_at, NamesAsked, IsOfKinds, IsRequest, AsksForPlay, AsksForRace, AsksForExplain, AsksForDraw, AsksForDebug, ask_status_of, words_status};
 ghost use Rattle.cdb_arguments.specs.Plain.{IsNameAlone};
 
 use crate::limits::{MAX_NUMBER, MAX_TURNS};
@@ -425,12 +425,12 @@ pub fn asked<'a>(alloc: Global, words: &'a [&'a str]) -> Result<Asked<'a>, AskFa
     ensures refused { IfErr result
         (λ fault. IsOfKinds (fault_of program (texts words.entry.now)) fault) }
     ensures script { IsNameAlone (texts words.entry.now) →
-        IsAnswer result (λ asked. asked ≡ Asked.Script) }
-    ensures play { AnswersPlay result (texts words.entry.now) }
-    ensures race { AnswersRace result (texts words.entry.now) }
-    ensures explain { AnswersExplain result (texts words.entry.now) }
-    ensures draw { AnswersDraw result (texts words.entry.now) }
-    ensures debug { AnswersDebug result (texts words.entry.now) }
+        IsRequest result (λ asked. asked ≡ Asked.Script) }
+    ensures play { AsksForPlay result (texts words.entry.now) }
+    ensures race { AsksForRace result (texts words.entry.now) }
+    ensures explain { AsksForExplain result (texts words.entry.now) }
+    ensures draw { AsksForDraw result (texts words.entry.now) }
+    ensures debug { AsksForDebug result (texts words.entry.now) }
 {
     read(alloc, words)
 }

@@ -13,13 +13,14 @@ use std::marker::Model;
 pub struct Proc(u8);
 
 impl Model for Proc {
+    ghost use Rattle.cdb_base.specs.declared.limits.TheConstants.{MAX_PROCESSES};
     ghost use Rattle.std.specs.Prelude.{ℕ, ◌≤◌};
 
     ghost Value = { ℕ };
 
     ghost view = { λ p. p.0 };
 
-    ghost invariant = { λ p. (1 ≤ p.0) × (p.0 ≤ 9) };
+    ghost invariant = { λ p. (1 ≤ p.0) × (p.0 ≤ MAX_PROCESSES) };
 
     ghost inverse = { λ n. record { 0 = n } };
 }
@@ -28,7 +29,7 @@ impl Proc {
     /// The process of that number, from 1 to 9.
     pub fn new(number: u8) -> Self
         requires from_one { 1 ≤ number }
-        requires to_nine { number ≤ 9 }
+        requires to_nine { number ≤ MAX_PROCESSES }
         ensures value { result ≡ number }
     {
         Proc(number)
@@ -36,7 +37,7 @@ impl Proc {
 
     /// The process of that number, where there can be one.
     pub fn from_number(number: u32) -> Option<Self>
-        ensures valid { IsSome result ↔ ((1 ≤ number) × (number ≤ 9)) }
+        ensures valid { IsSome result ↔ ((1 ≤ number) × (number ≤ MAX_PROCESSES)) }
         ensures value { IfSome result (λ p. p ≡ number) }
     {
         if 1 <= number && number <= u32::from(MAX_PROCESSES) {
@@ -68,7 +69,7 @@ impl Proc {
     pub fn number(self) -> u8
         ensures value { result ≡ self }
         ensures from_one { 1 ≤ result }
-        ensures to_nine { result ≤ 9 }
+        ensures to_nine { result ≤ MAX_PROCESSES }
     {
         self.0
     }

@@ -10,11 +10,13 @@ use std::marker::Model;
 pub struct Val(u32);
 
 impl Model for Val {
+    ghost use Rattle.cdb_base.specs.declared.limits.TheConstants.{MAX_VALUE};
+
     ghost Value = { ℕ };
 
     ghost view = { λ v. v.0 };
 
-    ghost invariant = { λ v. v.0 ≤ 999999 };
+    ghost invariant = { λ v. v.0 ≤ MAX_VALUE };
 
     ghost inverse = { λ n. record { 0 = n } };
 }
@@ -22,7 +24,7 @@ impl Model for Val {
 impl Val {
     /// The value of that number, from 0 to 999,999.
     pub fn new(number: u32) -> Self
-        requires { number ≤ 999999 }
+        requires { number ≤ MAX_VALUE }
         ensures value { result ≡ number }
     {
         Val(number)
@@ -30,7 +32,7 @@ impl Val {
 
     /// The value of that number, where it is in range.
     pub fn from_number(number: u64) -> Option<Self>
-        ensures valid { IsSome result ↔ (number ≤ 999999) }
+        ensures valid { IsSome result ↔ (number ≤ MAX_VALUE) }
         ensures value { IfSome result (λ v. v ≡ number) }
     {
         if number <= u64::from(MAX_VALUE) {
@@ -43,7 +45,7 @@ impl Val {
     /// The number of the value, from 0 to 999,999.
     pub fn number(self) -> u32
         ensures value { result ≡ self }
-        ensures in_range { result ≤ 999999 }
+        ensures in_range { result ≤ MAX_VALUE }
     {
         self.0
     }

@@ -2,7 +2,7 @@
 use Rattle.std.proofs.Common.{◌≡◌, ℕ, zero, suc, ◌+◌, ◌<◌, Bool, true, false, cond, ◌||◌, ◌⊎◌, inl, inr, List, [], ◌∷◌, ◌++◌, Some, slice_get, refl, sym, ap, ◌∙◌, subst, true≢false, arith, lt_trans, lt_irrefl, lt-suc_self, drop}
 use Rattle.std.proofs.lemmas.Option.{same_Some}
 use Rattle.cdb_causal.specs.Causality.{IsLink, IsConsequence, direct, onward}
-use Rattle.cdb_causal.specs.Rollback.{IsParted, done, kept, gone, IsRolledBack, depends_on_one, caught, spared, rolled_back, remaining}
+use Rattle.cdb_causal.specs.Rollback.{IsParted, done, kept, gone, IsRolledBack, depends_on_one, caught, uncaught, rolled_back, remaining}
 use Rattle.cdb_causal.specs.Exchange.{IsIn, here, there}
 
 or_true : (a b : Bool) → b ≡ true → (a || b) ≡ true
@@ -97,9 +97,9 @@ module _ {E : Type 0} (depends : E → E → Bool) where
         let p = are.only q.0 q.1 in
         linked_on history i p.0 k p.3 (record { cause = q.0; effect = event; later = p.1; at_cause = p.2; at_effect = at; linked = q.2 })
 
-    spared_is_not : i < k → depends_on_one depends causes event ≡ false → IsRolledBack depends history i k → ⊥
-    spared_is_not above h (inl e) = lt_irrefl i (subst (λ n. i < n) e above)
-    spared_is_not above h (inr c) =
+    uncaught_is_not : i < k → depends_on_one depends causes event ≡ false → IsRolledBack depends history i k → ⊥
+    uncaught_is_not above h (inl e) = lt_irrefl i (subst (λ n. i < n) e above)
+    uncaught_is_not above h (inr c) =
         let q = last_link history i c in
         let l = q.2 in
         let same : l.effect ≡ event = same_Some l.effect event (sym l.at_effect ∙ at) in
@@ -133,18 +133,18 @@ module _ {E : Type 0} (depends : E → E → Bool) where
 
   module _ (history : List E) (i : ℕ) where
     -- the walk over what follows the causes
-    parted_behind : (k : ℕ) (causes rest : List E) → i < k → drop k history ≡ rest → AreCauses history i k causes → IsParted (IsRolledBack depends history i) k rest (spared depends causes rest) (caught depends causes rest)
+    parted_behind : (k : ℕ) (causes rest : List E) → i < k → drop k history ≡ rest → AreCauses history i k causes → IsParted (IsRolledBack depends history i) k rest (uncaught depends causes rest) (caught depends causes rest)
     parted_behind k causes [] above is are = done
     parted_behind k causes (event ∷ events) above is are =
         let at = at_drop history k event events is in
         let next = drop_next history k event events is in
         let later : i < suc k = lt_trans above (lt-suc_self k) in
-        elim (depends_on_one depends causes event) as (λ b. depends_on_one depends causes event ≡ b → IsParted (IsRolledBack depends history i) k (event ∷ events) (cond b (spared depends (causes ++ event ∷ []) events) (event ∷ spared depends causes events)) (cond b (event ∷ caught depends (causes ++ event ∷ []) events) (caught depends causes events))) [
+        elim (depends_on_one depends causes event) as (λ b. depends_on_one depends causes event ≡ b → IsParted (IsRolledBack depends history i) k (event ∷ events) (cond b (uncaught depends (causes ++ event ∷ []) events) (event ∷ uncaught depends causes events)) (cond b (event ∷ caught depends (causes ++ event ∷ []) events) (caught depends causes events))) [
           | true ↦ λ h.
               let c = caught_is history i k causes event at are h in
               gone (inr c) (parted_behind (suc k) (causes ++ event ∷ []) events later next (causes_more history i k causes event at are c))
           | false ↦ λ h.
-              let not = spared_is_not history i k causes event at are above h in
+              let not = uncaught_is_not history i k causes event at are above h in
               kept not (parted_behind (suc k) causes events later next (causes_same history i k causes event at are not))
         ] refl
 

@@ -15,17 +15,17 @@ not_above position i low above = ⊎_elim (λ less. (let l = less in omega (arit
 
 module _ {E : Type 0} (depends : E → E → Bool) (history : List E) (i : ℕ) where
   -- behind the event itself
-  parted_later : {position : ℕ} {events left taken : List E} → i < position → IsParted (IsRolledBack depends history i) position events left taken → IsParted (IsConsequence depends history i) position events left taken
+  parted_later : {position : ℕ} {events left removed : List E} → i < position → IsParted (IsRolledBack depends history i) position events left removed → IsParted (IsConsequence depends history i) position events left removed
   parted_later above done = done
   parted_later above (kept not p) = kept (λ c. not (inr c)) (parted_later (let a = above in omega arith) p)
   parted_later {position} above (gone (inl e) p) = absurd (lt_irrefl i (subst (λ n. i < n) e above))
   parted_later above (gone (inr c) p) = gone c (parted_later (let a = above in omega arith) p)
 
   abbrev IsPartedBut : ℕ → List E → List E → Type 0
-  IsPartedBut position events taken = (left : List E) × IsParted (IsConsequence depends history i) position events left taken
+  IsPartedBut position events removed = (left : List E) × IsParted (IsConsequence depends history i) position events left removed
 
   -- up to the event itself, which comes first of what is rolled back
-  parted_up_to : {position : ℕ} {events left taken : List E} → (position < i) ⊎ (position ≡ i) → IsParted (IsRolledBack depends history i) position events left taken → IsPartedBut position events (drop 1 taken)
+  parted_up_to : {position : ℕ} {events left removed : List E} → (position < i) ⊎ (position ≡ i) → IsParted (IsRolledBack depends history i) position events left removed → IsPartedBut position events (drop 1 removed)
   parted_up_to low done = ([], done)
   parted_up_to low (kept {position = position} {event = event} not p) =
       let rest = parted_up_to (at_or_before_next position i low (λ e. not (inl e))) p in

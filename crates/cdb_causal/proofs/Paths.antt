@@ -3,7 +3,8 @@ use Rattle.std.proofs.Common.{◌≡◌, ℕ, zero, suc, Bool, false, List, [], 
 use Rattle.std.proofs.lemmas.Option.{same_Some, none-some}
 use Rattle.cdb_causal.specs.Causality.{IsFree}
 use Rattle.cdb_causal.specs.Rollback.{without}
-use Rattle.cdb_causal.specs.Paths.{IsPath, IsExchangeable}
+use Rattle.cdb_causal.specs.Paths.{IsPath}
+use Rattle.cdb_causal.specs.Exchanging.{IsExchangeable}
 use Rattle.cdb_causal.proofs.Exchanges.{is_false}
 
 module _ {State Step : Type 0} (IsStep : State → Step → State → Type 0) where

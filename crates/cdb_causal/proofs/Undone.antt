@@ -4,7 +4,7 @@ use Rattle.std.proofs.Common.{◌≡◌, ℕ, zero, suc, Bool, true, false, cond
 use Rattle.std.proofs.lemmas.Option.{same_Some, none-some}
 use Rattle.std.proofs.lemmas.List.Folds.{list_any-append}
 use Rattle.cdb_causal.specs.Causality.{IsFree}
-use Rattle.cdb_causal.specs.Rollback.{without, depends_on_one, caught, spared, rolled_back, remaining}
+use Rattle.cdb_causal.specs.Rollback.{without, depends_on_one, caught, uncaught, rolled_back, remaining}
 use Rattle.cdb_causal.proofs.Dependents.{IsIndependentBehind, IsIndependent, free_behind}
 use Rattle.cdb_causal.proofs.Symmetry.{or-false_left, or-false_right}
 
@@ -44,10 +44,10 @@ module _ {E : Type 0} (depends : E → E → Bool) where
   free_caught causes (x ∷ xs) free =
       ap (λ b. cond b (x ∷ caught depends (causes ++ x ∷ []) xs) (caught depends causes xs)) (free zero x refl) ∙ free_caught causes xs (λ j event at. free (suc j) event at)
 
-  free_spared : (causes events : List E) → AreFree causes events → spared depends causes events ≡ events
-  free_spared causes [] free = refl
-  free_spared causes (x ∷ xs) free =
-      ap (λ b. cond b (spared depends (causes ++ x ∷ []) xs) (x ∷ spared depends causes xs)) (free zero x refl) ∙ ap (λ l. x ∷ l) (free_spared causes xs (λ j event at. free (suc j) event at))
+  free_uncaught : (causes events : List E) → AreFree causes events → uncaught depends causes events ≡ events
+  free_uncaught causes [] free = refl
+  free_uncaught causes (x ∷ xs) free =
+      ap (λ b. cond b (uncaught depends (causes ++ x ∷ []) xs) (x ∷ uncaught depends causes xs)) (free zero x refl) ∙ ap (λ l. x ∷ l) (free_uncaught causes xs (λ j event at. free (suc j) event at))
 
   fewer_causes : (causes : List E) (x : E) (events : List E) → AreFree (causes ++ x ∷ []) events → AreFree causes events
   fewer_causes causes x events free j event at =
@@ -59,12 +59,12 @@ module _ {E : Type 0} (depends : E → E → Bool) where
       (or-false_right (depends_on_one depends causes event) (depends_on_one depends (x ∷ []) event) (sym (list_any-append (λ cause. depends cause event) causes (x ∷ [])) ∙ free j event at))
 
   -- the last of what is caught
-  record IsLastCaught (causes events taken : List E) (last : E) : Type 0 where
+  record IsLastCaught (causes events removed : List E) (last : E) : Type 0 where
     position : ℕ
     at : slice_get events position ≡ Some last
     independent : IsIndependentBehind depends events position last
-    others_caught : caught depends causes (without events position) ≡ taken
-    same_spared : spared depends causes (without events position) ≡ spared depends causes events
+    others_caught : caught depends causes (without events position) ≡ removed
+    same_uncaught : uncaught depends causes (without events position) ≡ uncaught depends causes events
 
   later_position : (x : E) (events : List E) (i : ℕ) (last : E) → IsIndependentBehind depends events i last → IsIndependentBehind depends (x ∷ events) (suc i) last
   later_position x events i last independent zero other less at = absurd (omega (arith, less))
@@ -77,10 +77,10 @@ module _ {E : Type 0} (depends : E → E → Bool) where
   caught_here : (causes : List E) (x : E) (xs : List E) (b : Bool) → depends_on_one depends causes x ≡ b → caught depends causes (x ∷ xs) ≡ cond b (x ∷ caught depends (causes ++ x ∷ []) xs) (caught depends causes xs)
   caught_here causes x xs b e = ap (λ b. cond b (x ∷ caught depends (causes ++ x ∷ []) xs) (caught depends causes xs)) e
 
-  spared_here : (causes : List E) (x : E) (xs : List E) (b : Bool) → depends_on_one depends causes x ≡ b → spared depends causes (x ∷ xs) ≡ cond b (spared depends (causes ++ x ∷ []) xs) (x ∷ spared depends causes xs)
-  spared_here causes x xs b e = ap (λ b. cond b (spared depends (causes ++ x ∷ []) xs) (x ∷ spared depends causes xs)) e
+  uncaught_here : (causes : List E) (x : E) (xs : List E) (b : Bool) → depends_on_one depends causes x ≡ b → uncaught depends causes (x ∷ xs) ≡ cond b (uncaught depends (causes ++ x ∷ []) xs) (x ∷ uncaught depends causes xs)
+  uncaught_here causes x xs b e = ap (λ b. cond b (uncaught depends (causes ++ x ∷ []) xs) (x ∷ uncaught depends causes xs)) e
 
-  taken_one : (causes : List E) (x : E) (xs taken : List E) (last : E) → depends_on_one depends causes x ≡ true → x ∷ caught depends (causes ++ x ∷ []) xs ≡ taken ++ last ∷ [] → ((more : List E) → caught depends (causes ++ x ∷ []) xs ≡ more ++ last ∷ [] → IsLastCaught (causes ++ x ∷ []) xs more last) → IsLastCaught causes (x ∷ xs) taken last
+  taken_one : (causes : List E) (x : E) (xs removed : List E) (last : E) → depends_on_one depends causes x ≡ true → x ∷ caught depends (causes ++ x ∷ []) xs ≡ removed ++ last ∷ [] → ((more : List E) → caught depends (causes ++ x ∷ []) xs ≡ more ++ last ∷ [] → IsLastCaught (causes ++ x ∷ []) xs more last) → IsLastCaught causes (x ∷ xs) removed last
   taken_one causes x xs [] last e h go =
       let is = same_first x last (caught depends (causes ++ x ∷ []) xs) [] h in
       let free = none_caught (causes ++ x ∷ []) xs (same_rest x last (caught depends (causes ++ x ∷ []) xs) [] h) in
@@ -90,7 +90,7 @@ module _ {E : Type 0} (depends : E → E → Bool) where
         at = ap Some is;
         independent = subst (λ y. IsIndependentBehind depends (x ∷ xs) 0 y) is (first_position x xs (last_cause causes x xs free));
         others_caught = free_caught causes xs fewer;
-        same_spared = free_spared causes xs fewer ∙ sym (free_spared (causes ++ x ∷ []) xs free) ∙ sym (spared_here causes x xs true e);
+        same_uncaught = free_uncaught causes xs fewer ∙ sym (free_uncaught (causes ++ x ∷ []) xs free) ∙ sym (uncaught_here causes x xs true e);
       }
   taken_one causes x xs (t ∷ ts) last e h go =
       let rest = go ts (same_rest x t (caught depends (causes ++ x ∷ []) xs) (ts ++ last ∷ []) h) in
@@ -102,22 +102,22 @@ module _ {E : Type 0} (depends : E → E → Bool) where
             caught_here causes x (without xs rest.position) true e
             ∙ ap (λ l. x ∷ l) rest.others_caught
             ∙ ap (λ y. y ∷ ts) (same_first x t (caught depends (causes ++ x ∷ []) xs) (ts ++ last ∷ []) h);
-        same_spared = spared_here causes x (without xs rest.position) true e ∙ rest.same_spared ∙ sym (spared_here causes x xs true e);
+        same_uncaught = uncaught_here causes x (without xs rest.position) true e ∙ rest.same_uncaught ∙ sym (uncaught_here causes x xs true e);
       }
 
-  last_caught : (causes events taken : List E) (last : E) → caught depends causes events ≡ taken ++ last ∷ [] → IsLastCaught causes events taken last
-  last_caught causes [] taken last h = absurd (not_empty last taken h)
-  last_caught causes (x ∷ xs) taken last h =
-      elim (depends_on_one depends causes x) as (λ b. depends_on_one depends causes x ≡ b → cond b (x ∷ caught depends (causes ++ x ∷ []) xs) (caught depends causes xs) ≡ taken ++ last ∷ [] → IsLastCaught causes (x ∷ xs) taken last) [
-        | true ↦ λ e k. taken_one causes x xs taken last e k (λ more m. last_caught (causes ++ x ∷ []) xs more last m)
+  last_caught : (causes events removed : List E) (last : E) → caught depends causes events ≡ removed ++ last ∷ [] → IsLastCaught causes events removed last
+  last_caught causes [] removed last h = absurd (not_empty last removed h)
+  last_caught causes (x ∷ xs) removed last h =
+      elim (depends_on_one depends causes x) as (λ b. depends_on_one depends causes x ≡ b → cond b (x ∷ caught depends (causes ++ x ∷ []) xs) (caught depends causes xs) ≡ removed ++ last ∷ [] → IsLastCaught causes (x ∷ xs) removed last) [
+        | true ↦ λ e k. taken_one causes x xs removed last e k (λ more m. last_caught (causes ++ x ∷ []) xs more last m)
         | false ↦ λ e k.
-            let rest = last_caught causes xs taken last k in
+            let rest = last_caught causes xs removed last k in
             record {
               position = suc rest.position;
               at = rest.at;
               independent = later_position x xs rest.position last rest.independent;
               others_caught = caught_here causes x (without xs rest.position) false e ∙ rest.others_caught;
-              same_spared = spared_here causes x (without xs rest.position) false e ∙ ap (λ l. x ∷ l) rest.same_spared ∙ sym (spared_here causes x xs false e);
+              same_uncaught = uncaught_here causes x (without xs rest.position) false e ∙ ap (λ l. x ∷ l) rest.same_uncaught ∙ sym (uncaught_here causes x xs false e);
             }
       ] refl h
 
@@ -134,28 +134,28 @@ module _ {E : Type 0} (depends : E → E → Bool) where
           let free = none_caught (x ∷ []) xs (same_rest x event (caught depends (x ∷ []) xs) [] h) in (
             ap Some is,
             subst (λ y. IsIndependentBehind depends (x ∷ xs) 0 y) is (first_position x xs (last_cause [] x xs free)),
-            sym (free_spared (x ∷ []) xs free),
+            sym (free_uncaught (x ∷ []) xs free),
           )
       alone (x ∷ xs) (suc i) event h =
           let q = alone xs i event h in
           (q.0, later_position x xs i event q.1, ap (λ l. x ∷ l) q.2)
 
   -- Where it has some, the last of them is free, and without that one the others are its consequences, and the same events remain.
-  pub rolled_back_last : (history : List E) (i : ℕ) (event last : E) (taken : List E) → rolled_back depends history i ≡ event ∷ (taken ++ last ∷ []) → (j : ℕ) × (slice_get history j ≡ Some last) × IsFree depends history j × (rolled_back depends (without history j) i ≡ event ∷ taken) × (remaining depends (without history j) i ≡ remaining depends history i)
-  rolled_back_last history i event last taken h =
-      let q = some history i event last taken h in
+  pub rolled_back_last : (history : List E) (i : ℕ) (event last : E) (removed : List E) → rolled_back depends history i ≡ event ∷ (removed ++ last ∷ []) → (j : ℕ) × (slice_get history j ≡ Some last) × IsFree depends history j × (rolled_back depends (without history j) i ≡ event ∷ removed) × (remaining depends (without history j) i ≡ remaining depends history i)
+  rolled_back_last history i event last removed h =
+      let q = some history i event last removed h in
       (q.0, q.1, free_behind depends history q.0 last q.1 q.2, q.3, q.4)
     where
-      some : (history : List E) (i : ℕ) (event last : E) (taken : List E) → rolled_back depends history i ≡ event ∷ (taken ++ last ∷ []) → (j : ℕ) × (slice_get history j ≡ Some last) × IsIndependentBehind depends history j last × (rolled_back depends (without history j) i ≡ event ∷ taken) × (remaining depends (without history j) i ≡ remaining depends history i)
-      some [] i event last taken h = absurd (not_cons event (taken ++ last ∷ []) (sym h))
-      some (x ∷ xs) zero event last taken h =
-          let q = last_caught (x ∷ []) xs taken last (same_rest x event (caught depends (x ∷ []) xs) (taken ++ last ∷ []) h) in (
+      some : (history : List E) (i : ℕ) (event last : E) (removed : List E) → rolled_back depends history i ≡ event ∷ (removed ++ last ∷ []) → (j : ℕ) × (slice_get history j ≡ Some last) × IsIndependentBehind depends history j last × (rolled_back depends (without history j) i ≡ event ∷ removed) × (remaining depends (without history j) i ≡ remaining depends history i)
+      some [] i event last removed h = absurd (not_cons event (removed ++ last ∷ []) (sym h))
+      some (x ∷ xs) zero event last removed h =
+          let q = last_caught (x ∷ []) xs removed last (same_rest x event (caught depends (x ∷ []) xs) (removed ++ last ∷ []) h) in (
             suc q.position,
             q.at,
             later_position x xs q.position last q.independent,
-            ap (λ l. x ∷ l) q.others_caught ∙ ap (λ y. y ∷ taken) (same_first x event (caught depends (x ∷ []) xs) (taken ++ last ∷ []) h),
-            q.same_spared,
+            ap (λ l. x ∷ l) q.others_caught ∙ ap (λ y. y ∷ removed) (same_first x event (caught depends (x ∷ []) xs) (removed ++ last ∷ []) h),
+            q.same_uncaught,
           )
-      some (x ∷ xs) (suc i) event last taken h =
-          let q = some xs i event last taken h in
+      some (x ∷ xs) (suc i) event last removed h =
+          let q = some xs i event last removed h in
           (suc q.0, q.1, later_position x xs q.0 last q.2, q.3, ap (λ l. x ∷ l) q.4)

@@ -18,3 +18,10 @@ named_cell p k = k * 9 + (p - 1)
 -- and so have the copies of one message
 abbrev pub named_copy_cell : ℕ → ℕ → ℕ → ℕ
 named_copy_cell s m slot = named_cell s m * 9 + slot
+
+-- all cells of steps and of messages are below the first number, those of copies below the second
+abbrev pub named_cells : ℕ
+named_cells = 1048576
+
+abbrev pub copy_cells : ℕ
+copy_cells = 9437184

@@ -43,9 +43,9 @@ IsTransitive {A} Holds = (one between other : A) → Holds one between → Holds
 abbrev pub IsMutual : {A : Type 0} → (A → A → Type 0) → Type 0
 IsMutual {A} Holds = (one other : A) → Holds one other → Holds other one
 
--- taken are the event at position i and exactly its consequences, left is all else, each in order
+-- removed are the event at position i and exactly its consequences, left is all else, each in order
 abbrev pub IsRollback : {E : Type 0} → (E → E → Bool) → List E → ℕ → List E → List E → Type 0
-IsRollback depends history i left taken = IsParted (IsRolledBack depends history i) 0 history left taken
+IsRollback depends history i left removed = IsParted (IsRolledBack depends history i) 0 history left removed
 
 -- the event at position i is a direct cause of none
 abbrev pub HasNoEffect : {E : Type 0} → (E → E → Bool) → List E → ℕ → Type 0
@@ -91,9 +91,9 @@ IsFreeIfAlone {E} depends history i =
 -- of what is rolled back with it the last is free; without that one the others are rolled back, and the same events remain
 abbrev pub MayGoLastFirst : {E : Type 0} → (E → E → Bool) → List E → ℕ → Type 0
 MayGoLastFirst {E} depends history i =
-    (event last : E) (taken : List E) → rolled_back depends history i ≡ event ∷ (taken ++ last ∷ [])
+    (event last : E) (removed : List E) → rolled_back depends history i ≡ event ∷ (removed ++ last ∷ [])
     → (j : ℕ)
     × (slice_get history j ≡ Some last)
     × IsFree depends history j
-    × (rolled_back depends (without history j) i ≡ event ∷ taken)
+    × (rolled_back depends (without history j) i ≡ event ∷ removed)
     × (remaining depends (without history j) i ≡ remaining depends history i)

@@ -12,7 +12,7 @@ pub mod Paths
 pub mod Reach
 pub mod Rollback
 pub mod Standing
--- what the code keeps for itself: tests by effect, and the bounds from which events are sought
+-- what the code keeps for itself: tests by effect, steps in another order, and the bounds from which events are sought
 pub mod AboveCauses
 pub mod AboveDependents
 pub mod Alone
@@ -25,3 +25,4 @@ pub mod LastCauses
 pub mod Named
 pub mod Own
 pub mod Raised
+pub mod Exchanging

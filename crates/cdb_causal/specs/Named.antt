@@ -1,5 +1,6 @@
 -- The cells of bounds that the name of an event has: a step's, or a loss's. No two standing events share such a cell.
 use Rattle.std.specs.Prelude.{◌≡◌, ℕ, ◌-◌, ◌≤◌, List, Some, slice_get, slice_index}
+use Rattle.cdb_base.specs.declared.limits.TheConstants.{MAX_PROCESSES}
 use Rattle.cdb_base.specs.declared.event.Event.{Event}
 use Rattle.cdb_base.specs.declared.event.Event.TheVariants.{Step, Lost}
 use Rattle.cdb_base.specs.declared.name.CopyName.{CopyName}
@@ -8,7 +9,7 @@ use Rattle.cdb_causal.specs.declared.bounds.Bounds.{Bounds}
 
 -- the copy is of a message of a process from 1 to 9, for such a process
 abbrev pub IsRanged : CopyName → Type 0
-IsRanged copy = (1 ≤ copy.msg.s) × (copy.msg.s ≤ 9) × (1 ≤ copy.to) × (copy.to ≤ 9)
+IsRanged copy = (1 ≤ copy.msg.s) × (copy.msg.s ≤ MAX_PROCESSES) × (1 ≤ copy.to) × (copy.to ≤ MAX_PROCESSES)
 
 abbrev pub AreRanged : List Event → Type 0
 AreRanged history = (i : ℕ) (copy : CopyName) → slice_get history i ≡ Some (Lost copy) → IsRanged copy

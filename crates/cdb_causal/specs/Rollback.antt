@@ -3,11 +3,11 @@ use Rattle.std.specs.Prelude.{◌≡◌, ℕ, zero, suc, Bool, List, [], ◌∷�
 use Rattle.std.specs.List.{list_any}
 use Rattle.cdb_causal.specs.Causality.{IsConsequence}
 
--- a list parted in two, in order, by the set of the positions that are taken; the first event has the position that is given
-pub data IsParted {E : Type 0} (IsTaken : ℕ → Type 0) : ℕ → List E → List E → List E → Type 0 where
-  done : {position : ℕ} → IsParted IsTaken position [] [] []
-  kept : {position : ℕ} {event : E} {events left taken : List E} → (IsTaken position → ⊥) → IsParted IsTaken (suc position) events left taken → IsParted IsTaken position (event ∷ events) (event ∷ left) taken
-  gone : {position : ℕ} {event : E} {events left taken : List E} → IsTaken position → IsParted IsTaken (suc position) events left taken → IsParted IsTaken position (event ∷ events) left (event ∷ taken)
+-- a list parted in two, in order, by the set of the positions that are removed; the first event has the position that is given
+pub data IsParted {E : Type 0} (IsRemoved : ℕ → Type 0) : ℕ → List E → List E → List E → Type 0 where
+  done : {position : ℕ} → IsParted IsRemoved position [] [] []
+  kept : {position : ℕ} {event : E} {events left removed : List E} → (IsRemoved position → ⊥) → IsParted IsRemoved (suc position) events left removed → IsParted IsRemoved position (event ∷ events) (event ∷ left) removed
+  gone : {position : ℕ} {event : E} {events left removed : List E} → IsRemoved position → IsParted IsRemoved (suc position) events left removed → IsParted IsRemoved position (event ∷ events) left (event ∷ removed)
 
 -- position i and those of its consequences
 abbrev pub IsRolledBack : {E : Type 0} → (E → E → Bool) → List E → ℕ → ℕ → Type 0
@@ -29,10 +29,10 @@ caught depends causes [] = []
 caught depends causes (event ∷ events) =
     cond (depends_on_one depends causes event) (event ∷ caught depends (causes ++ event ∷ []) events) (caught depends causes events)
 
-abbrev pub spared : {E : Type 0} → (E → E → Bool) → List E → List E → List E
-spared depends causes [] = []
-spared depends causes (event ∷ events) =
-    cond (depends_on_one depends causes event) (spared depends (causes ++ event ∷ []) events) (event ∷ spared depends causes events)
+abbrev pub uncaught : {E : Type 0} → (E → E → Bool) → List E → List E → List E
+uncaught depends causes [] = []
+uncaught depends causes (event ∷ events) =
+    cond (depends_on_one depends causes event) (uncaught depends (causes ++ event ∷ []) events) (event ∷ uncaught depends causes events)
 
 -- the event at position i with its consequences, in order
 abbrev pub rolled_back : {E : Type 0} → (E → E → Bool) → List E → ℕ → List E
@@ -47,7 +47,7 @@ consequences depends history i = drop 1 (rolled_back depends history i)
 -- the list without the event at position i and its consequences
 abbrev pub remaining : {E : Type 0} → (E → E → Bool) → List E → ℕ → List E
 remaining depends [] i = []
-remaining depends (event ∷ events) zero = spared depends (event ∷ []) events
+remaining depends (event ∷ events) zero = uncaught depends (event ∷ []) events
 remaining depends (event ∷ events) (suc i) = event ∷ remaining depends events i
 
 -- the position, in the whole list, of what stands at position k of the list without position i

@@ -1,6 +1,7 @@
 -- What every history keeps: its events have different names, no copy of a message is lost before its send, and steps are of
 -- processes 1 to 9.
 use Rattle.std.specs.Prelude.{◌≡◌, ℕ, ◌<◌, ◌≤◌, false, List, Some, slice_get}
+use Rattle.cdb_base.specs.declared.limits.TheConstants.{MAX_PROCESSES}
 use Rattle.cdb_base.specs.declared.event.Event.{Event}
 use Rattle.cdb_base.specs.declared.event.Event.TheVariants.{Step, Lost}
 use Rattle.cdb_base.specs.declared.event.Kind.{Kind}
@@ -15,5 +16,5 @@ HasNoLostCopy history event = (i : ℕ) (copy : CopyName) → slice_get history 
 
 pub record IsStanding (history : List Event) : Type 0 where
   pub names_differ : (i j : ℕ) (name : StepId) → IsNamedAt history i name → IsNamedAt history j name → i ≡ j
-  pub processes : (i p k : ℕ) (kind : Kind) → slice_get history i ≡ Some (Step p k kind) → (1 ≤ p) × (p ≤ 9)
+  pub processes : (i p k : ℕ) (kind : Kind) → slice_get history i ≡ Some (Step p k kind) → (1 ≤ p) × (p ≤ MAX_PROCESSES)
   pub lost_after_sent : (i j : ℕ) (copy : CopyName) (event : Event) → i < j → slice_get history i ≡ Some (Lost copy) → slice_get history j ≡ Some event → send_and_loss event (Lost copy) ≡ false

@@ -10,7 +10,7 @@ ghost use Rattle.cdb_base.specs.declared.event.Event.TheVariants.{Step, Lost};
 ghost use Rattle.cdb_base.specs.declared.event.Kind.{Kind as AKind};
 ghost use Rattle.cdb_base.specs.declared.event.Kind.TheVariants.{Recv, Read, Write};
 ghost use Rattle.cdb_base.specs.declared.name.CopyName.{CopyName as ACopy};
-ghost use Rattle.cdb_causal.specs.Cells.{row, register_cell as register_cell_of, named_cell as named_cell_of, named_copy_cell};
+ghost use Rattle.cdb_causal.specs.Cells.{row, register_cell as register_cell_of, named_cell as named_cell_of, named_copy_cell, copy_cells, named_cells};
 ghost use Rattle.cdb_causal.specs.Dependence.{accesses as accesses_of, same_process};
 ghost use Rattle.cdb_causal.specs.LastCauses.{IsSlot};
 ghost use Rattle.cdb_causal.specs.Raised.{IsRaised, ChangesCell, after_joining, after_leaving};
@@ -70,7 +70,7 @@ fn register_cell(register: Reg, slot: usize) -> usize
 /// The cell of the k-th step, or message, of a process.
 fn named_cell(p: Proc, k: u16) -> usize
     ensures value { result ≡ named_cell_of p k }
-    ensures small { result < 1048576 }
+    ensures small { result < named_cells }
 {
     k as usize * 9 + p.index()
 }
@@ -79,14 +79,14 @@ fn named_cell(p: Proc, k: u16) -> usize
 fn copy_cell(s: Proc, m: u16, slot: usize) -> usize
     requires { slot < 9 }
     ensures value { result ≡ named_copy_cell s m slot }
-    ensures small { result < 9437184 }
+    ensures small { result < copy_cells }
 {
     named_cell(s, m) * 9 + slot
 }
 
 /// Makes room for a cell. The new cells are 0.
 fn grow(table: &mut Vec<Mark>, cell: usize) -> Result<(), NoMemory>
-    requires { cell < 9437184 }
+    requires { cell < copy_cells }
     ensures others { (n : ℕ) → slice_index table.new.items n ≡ slice_index table.old.items n }
     ensures room { OnOk result (cell < vec_len table.new) }
 {

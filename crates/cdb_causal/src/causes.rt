@@ -47,7 +47,7 @@ fn depends_on_one(causes: &[Event], event: &Event) -> bool
 /// The event at a position, from 0, with its consequences, in order.
 fn rolled_back_events(alloc: Global, history: &History, i: usize) -> Result<Vec<Event>, NoMemory>
     requires { i < length history.now }
-    ensures { IfOk result (λ taken. taken.items ≡ rolled_back depends_of history.now i) }
+    ensures { IfOk result (λ removed. removed.items ≡ rolled_back depends_of history.now i) }
 {
     let mut causes = Vec::new(alloc);
     append(&mut causes, *history.event(i))?;
@@ -80,6 +80,6 @@ pub fn consequences(alloc: Global, history: &History, at: usize) -> Result<Vec<S
     requires to_len { at ≤ length history.now }
     ensures { IfOk result (λ names. names.items ≡ consequence_names history.now (at - 1)) }
 {
-    let taken = rolled_back_events(alloc, history, at - 1)?;
-    names(alloc, &taken[1..])
+    let removed = rolled_back_events(alloc, history, at - 1)?;
+    names(alloc, &removed[1..])
 }

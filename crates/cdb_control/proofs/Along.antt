@@ -9,9 +9,10 @@ use Rattle.cdb_setup.proofs.Walk.{push_all}
 use Rattle.cdb_setup.specs.Parts.{Parts, AreInRange}
 use Rattle.cdb_rules.specs.Rules.{Rules}
 use Rattle.cdb_rules.specs.Lawful.{AreLawful}
-use Rattle.cdb_control.specs.State.{State, first_control_state, waiting}
+use Rattle.cdb_control.specs.State.{State, first_control_state}
+use Rattle.cdb_control.specs.Kept.{waiting, IsReplayed}
 use Rattle.cdb_control.specs.Commands.{obey}
-use Rattle.cdb_control.specs.Journal.{entry, replay, IsReplayed}
+use Rattle.cdb_control.specs.Journal.{entry, replay}
 use Rattle.cdb_rules.proofs.Alls.{all-replicate}
 use Rattle.cdb_control.proofs.Table.{Adds, obey-adds}
 use Rattle.cdb_rules.specs.Refusals.{IsOfRun}

@@ -7,7 +7,7 @@ use Rattle.cdb_base.specs.declared.name.StepId.{StepId}
 use Rattle.cdb_causal.specs.Causality.{IsLink, IsFree}
 use Rattle.cdb_causal.specs.Dependence.{depends}
 use Rattle.cdb_causal.specs.Names.{IsFirstDependent}
-use Rattle.cdb_rules.proofs.Answering.{get-drop}
+use Rattle.cdb_rules.proofs.Results.{get-drop}
 
 module _ (test : Event → Bool) where
   abbrev AllFail : List Event → Type 0

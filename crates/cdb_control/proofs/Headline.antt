@@ -20,14 +20,15 @@ use Rattle.cdb_causal.specs.Rollback.{IsParted, IsRolledBack, without, remaining
 use Rattle.cdb_causal.proofs.Chains.{parted}
 use Rattle.cdb_causal.proofs.Dependents.{get_push_back, last_free, without_push_back}
 use Rattle.cdb_causal.proofs.Exchanges.{free_to_end, rollback_to_end}
-use Rattle.cdb_control.specs.Answer.{Answer}
-use Rattle.cdb_control.specs.Answer as reply
+use Rattle.cdb_control.specs.ToldReply.{ToldReply}
+use Rattle.cdb_control.specs.ToldReply as reply
 use Rattle.cdb_control.specs.Auto.{choice}
-use Rattle.cdb_control.specs.Commands.{Outcome, refused, unless, granted, found, unpaused, stepped, step, lost, taken_back, undo, rollback, why, redone, show, outcome, answer, obey}
+use Rattle.cdb_control.specs.Commands.{Outcome, refused, unless, granted, found, unpaused, step_done, step, lost, undone_by, undo, rollback, why, redone, show, outcome, reply_of, obey}
 use Rattle.cdb_control.specs.Headline.{undoing, rolling_back, TellsTaken, TellsRedone, IsUndoneWhereFree, IsUndoneNext, RedosLeadBack, IsRolledBackAndForth, HoldsAt, Headline}
-use Rattle.cdb_control.specs.Journal.{replay_from, replay, AreOfSeats, IsReplayed}
+use Rattle.cdb_control.specs.Journal.{replay_from, replay, AreOfSeats}
+use Rattle.cdb_control.specs.Kept.{IsReplayed, AreOfRun}
 use Rattle.cdb_rules.specs.EventRefs.{name_given}
-use Rattle.cdb_control.specs.State.{State, first_control_state, redo_of, last_of, AreOfRun}
+use Rattle.cdb_control.specs.State.{State, first_control_state, redo_of, last_of}
 use Rattle.cdb_control.specs.Stops.{names_none_of}
 use Rattle.cdb_control.specs.declared.command.Command.{Command}
 use Rattle.cdb_control.specs.declared.command.Command.TheVariants.{Step, Auto, Lose, Undo, UndoLost, Redo, Forget, Rollback, RollbackLost, Why, WhyLost, Break, Unbreak, Resume, Show, Decisions}
@@ -44,7 +45,7 @@ use Rattle.cdb_rules.specs.Lawful.{AreLawful, KeepHistories}
 use Rattle.cdb_rules.specs.Refusals.{IsOfRun}
 use Rattle.cdb_rules.specs.Rules.{Rules}
 use Rattle.cdb_rules.specs.Undo.{undo_of, rollback_of, causes_of}
-use Rattle.cdb_rules.proofs.Answered.{undone_free, rolled_back_answered}
+use Rattle.cdb_rules.proofs.WhereOk.{undone_free, rolled_back_where_ok}
 use Rattle.cdb_rules.proofs.Standing.{free_undone, needed_refused, standing_rolled_back}
 use Rattle.cdb_setup.specs.Parts.{Parts, IsWithin, AreInRange}
 
@@ -96,8 +97,8 @@ module _ (rules : Rules) (SameState : List Event → List Event → Type 0) (t :
 
   step-keeps : (p : ℕ) (act : Act) → Keeps (step rules t p act)
   step-keeps p act =
-      granted-keeps (rules.step t.history p act) (stepped rules t p)
-      (λ e h. one_more e (stepped rules t p e) (keeps.step t.history valid p act e h) refl refl (λ event told. told))
+      granted-keeps (rules.step t.history p act) (step_done rules t p)
+      (λ e h. one_more e (step_done rules t p e) (keeps.step t.history valid p act e h) refl refl (λ event told. told))
 
   undo-keeps : (seat : ℕ) (name : StepId) → Keeps (undo t seat name)
   undo-keeps seat name =
@@ -115,7 +116,7 @@ module _ (rules : Rules) (SameState : List Event → List Event → Type 0) (t :
   rollback-keeps seat name =
       granted-keeps (rollback_of t.setup.processes t.history name) _
       (λ removed h.
-      let u = rolled_back_answered t.setup.processes t.history name removed.0 removed.1 h in
+      let u = rolled_back_where_ok t.setup.processes t.history name removed.0 removed.1 h in
       let longer = keeps.exchanged t.history (remaining depends t.history u.0 ++ rolled_back depends t.history u.0) (rollback_to_end depends t.history u.0) valid in
       record {
         valid_after = subst (λ (l : List Event). IsTrue (rules.valid l)) (sym u.5) (keeps.beginning (remaining depends t.history u.0) (rolled_back depends t.history u.0) longer);
@@ -171,10 +172,10 @@ module _ (rules : Rules) (SameState : List Event → List Event → Type 0) (t :
 -- ---- the commands that undo, roll back and redo
 
 abbrev undone_to : State → ℕ → Event × List Event → Outcome
-undone_to t seat done = record { reply = reply.Undone done.0; after = taken_back t seat (done.0 ∷ []) done.1 }
+undone_to t seat done = record { reply = reply.Undone done.0; after = undone_by t seat (done.0 ∷ []) done.1 }
 
 abbrev rolled_to : State → ℕ → List Event × List Event → Outcome
-rolled_to t seat removed = record { reply = reply.RolledBack (length removed.0); after = taken_back t seat removed.0 removed.1 }
+rolled_to t seat removed = record { reply = reply.RolledBack (length removed.0); after = undone_by t seat removed.0 removed.1 }
 
 undoing-is : (rules : Rules) (t : State) (seat : ℕ) (name : StepId) → outcome rules t seat (undoing name) ≡ undo t seat name
 unfolding outcome
@@ -198,7 +199,7 @@ redone-is rules t seat event last again =
     ap (λ o. found o NothingToRedo t (λ e. granted (rules.again t.history e) t (redone rules t seat))) last
     ∙ ap (λ r. granted r t (redone rules t seat)) again
 
-decisions-are : (rules : Rules) (t : State) (seat : ℕ) → answer rules t seat Decisions ≡ reply.Decisions (rules.decisions t.history)
+decisions-are : (rules : Rules) (t : State) (seat : ℕ) → reply_of rules t seat Decisions ≡ reply.Decisions (rules.decisions t.history)
 unfolding outcome
 decisions-are rules t seat = refl
 
@@ -304,7 +305,7 @@ module _ (rules : Rules) (SameState : List Event → List Event → Type 0) (set
       ∙ get_or-set_same now.redo (seat - 1) (without_last (redo_of now seat)) [] low
       ∙ ap without_last list_now
       ∙ front_pushed old event in (
-        subst (λ (r : Answer). TellsRedone r event) (sym (ap (λ (o : Outcome). o.reply) is)) refl,
+        subst (λ (r : ToldReply). TellsRedone r event) (sym (ap (λ (o : Outcome). o.reply) is)) refl,
         lead_back events (obey rules now seat Redo)
             (subst (λ (h : List Event). IsTrue (rules.valid (h ++ events))) (sym history) valid_joined)
             list_after
@@ -314,24 +315,24 @@ module _ (rules : Rules) (SameState : List Event → List Event → Type 0) (set
 -- ---- the headline of one state
 
 module _ (rules : Rules) (SameState : List Event → List Event → Type 0) (t : State) (lawful : AreLawful rules t.setup) (keeps : KeepHistories rules SameState t.setup) (of_run : AreOfRun t) (valid : IsTrue (rules.valid t.history)) where
-  then_undone : (seat : ℕ) (command : Command) (event : Event) → TellsTaken (answer rules t seat command) event → (other : ℕ) → IsUndoneNext rules t (obey rules t seat command) event other
+  then_undone : (seat : ℕ) (command : Command) (event : Event) → TellsTaken (reply_of rules t seat command) event → (other : ℕ) → IsUndoneNext rules t (obey rules t seat command) event other
   then_undone seat command event tells other =
       let kept = obeyed-keeps rules SameState t lawful keeps of_run valid seat command in
       undone_last rules SameState t (obey rules t seat command) event other
       (subst (KeepHistories rules SameState) (sym kept.setup) keeps) kept.valid_after (kept.taken event tells)
 
   module _ (seat : ℕ) (low : seat - 1 < length t.redo) where
-    list_after : (events history : List Event) → redo_of (taken_back t seat events history) seat ≡ redo_of t seat ++ events
+    list_after : (events history : List Event) → redo_of (undone_by t seat events history) seat ≡ redo_of t seat ++ events
     list_after events history = get_or-set_same t.redo (seat - 1) (redo_of t seat ++ events) [] low
 
-    redone_after : (events left : List Event) (after : State) → IsExchanged depends t.history (left ++ events) → after ≡ taken_back t seat (reverse events) left → RedosLeadBack rules SameState t seat after events
+    redone_after : (events left : List Event) (after : State) → IsExchanged depends t.history (left ++ events) → after ≡ undone_by t seat (reverse events) left → RedosLeadBack rules SameState t seat after events
     redone_after events left after exchanged is =
         lead_back rules SameState t.setup keeps t seat events after
         (subst (λ (s : State). IsTrue (rules.valid (s.history ++ events))) (sym is) (keeps.exchanged t.history (left ++ events) exchanged valid))
         (ap (λ (s : State). redo_of s seat) is ∙ list_after (reverse events) left)
         (subst (λ (s : State). SameState (s.history ++ events) t.history) (sym is) (keeps.same_state t.history (left ++ events) exchanged))
 
-    then_redone : (name : StepId) (event : Event) → answer rules t seat (undoing name) ≡ reply.Undone event → RedosLeadBack rules SameState t seat (obey rules t seat (undoing name)) (event ∷ [])
+    then_redone : (name : StepId) (event : Event) → reply_of rules t seat (undoing name) ≡ reply.Undone event → RedosLeadBack rules SameState t seat (obey rules t seat (undoing name)) (event ∷ [])
     then_redone name event told = go (undo_of t.setup.processes t.history name) refl
       where
         go : (r : Result (Event × List Event) Refusal) → undo_of t.setup.processes t.history name ≡ r → RedosLeadBack rules SameState t seat (obey rules t seat (undoing name)) (event ∷ [])
@@ -343,7 +344,7 @@ module _ (rules : Rules) (SameState : List Event → List Event → Type 0) (t :
             let exchanged = subst (λ (l : List Event). IsExchanged depends t.history (l ++ done.0 ∷ [])) (sym u.4) (free_to_end depends t.history u.0 done.0 u.2 u.3) in
             redone_after (event ∷ []) done.1 (obey rules t seat (undoing name))
             (subst (λ (e : Event). IsExchanged depends t.history (done.1 ++ e ∷ [])) same exchanged)
-            (ap (λ (o : Outcome). o.after) out ∙ ap (λ (e : Event). taken_back t seat (e ∷ []) done.1) same)
+            (ap (λ (o : Outcome). o.after) out ∙ ap (λ (e : Event). undone_by t seat (e ∷ []) done.1) same)
 
     back_and_forth : (i : ℕ) (event : Event) → slice_get t.history i ≡ Some event → IsRolledBackAndForth rules SameState t seat i event
     back_and_forth i event at =
@@ -358,7 +359,7 @@ module _ (rules : Rules) (SameState : List Event → List Event → Type 0) (t :
           back = redone_after gone left (obey rules t seat (rolling_back name)) (rollback_to_end depends t.history i) (ap (λ (o : Outcome). o.after) out);
         }
 
-  agreed : HasMajorityIfNeeded t.setup → (seat : ℕ) (pairs : List (ℕ × ℕ)) → answer rules t seat Decisions ≡ reply.Decisions pairs → AllAgree pairs
+  agreed : HasMajorityIfNeeded t.setup → (seat : ℕ) (pairs : List (ℕ × ℕ)) → reply_of rules t seat Decisions ≡ reply.Decisions pairs → AllAgree pairs
   agreed majority seat pairs told =
       subst AllAgree (same_told (rules.decisions t.history) pairs (sym (decisions-are rules t seat) ∙ told)) (keeps.agreement majority t.history valid)
     where

@@ -5,7 +5,7 @@ use Rattle.cdb_base.specs.declared.act.Act.{Act}
 use Rattle.cdb_base.specs.declared.event.Event.{Event}
 use Rattle.cdb_base.specs.declared.refusal.Refusal.{Refusal}
 use Rattle.cdb_control.specs.Auto.{choice}
-use Rattle.cdb_control.specs.Commands.{granted, unpaused, taken_step, newly_fired, stepped, step, IsPauseSet, TellsPause, answer, obey}
+use Rattle.cdb_control.specs.Commands.{granted, unpaused, taken_step, newly_fired, step_done, step, IsPauseSet, TellsPause, reply_of, obey}
 use Rattle.cdb_control.specs.Commands.{outcome}
 use Rattle.cdb_control.specs.Journal.{replay_from, replay}
 use Rattle.cdb_control.specs.State.{State, first_control_state}
@@ -75,7 +75,7 @@ module _ (rules : Rules) where
   step_tells : (t : State) (p : ℕ) (act : Act) → AreRising t.stops → TellsPause rules t p (step rules t p act).reply
   step_tells t p act rising = go (rules.step t.history p act)
     where
-      go : (x : Result Event Refusal) → TellsPause rules t p (granted x t (stepped rules t p)).reply
+      go : (x : Result Event Refusal) → TellsPause rules t p (granted x t (step_done rules t p)).reply
       go (Ok e) = pause_set (taken_step rules t.history p e) t.pause t.stops rising
       go (Err why) = tt
 
@@ -85,11 +85,11 @@ module _ (rules : Rules) where
   auto_tells t p (Ok act) None rising = step_tells t p act rising
   auto_tells t p (Err why) standing rising = tt
 
-  pub least_by_step : (setup : Parts) (seats seat p : ℕ) (journal : List Entry) (act : Act) → let t = replay rules setup seats journal in TellsPause rules t p (answer rules t seat (Step p act))
+  pub least_by_step : (setup : Parts) (seats seat p : ℕ) (journal : List Entry) (act : Act) → let t = replay rules setup seats journal in TellsPause rules t p (reply_of rules t seat (Step p act))
   unfolding outcome
   least_by_step setup seats seat p journal act = step_tells (replay rules setup seats journal) p act (numbered setup seats journal).1
 
-  pub least_by_auto : (setup : Parts) (seats seat p : ℕ) (journal : List Entry) → let t = replay rules setup seats journal in TellsPause rules t p (answer rules t seat (Auto p))
+  pub least_by_auto : (setup : Parts) (seats seat p : ℕ) (journal : List Entry) → let t = replay rules setup seats journal in TellsPause rules t p (reply_of rules t seat (Auto p))
   unfolding outcome
   least_by_auto setup seats seat p journal =
       let t = replay rules setup seats journal in

@@ -3,10 +3,10 @@ use Rattle.std.proofs.Common.{◌≡◌, ◌≢◌, ℕ, ◌==◌, Bool, true, f
 use Rattle.cdb_control.specs.declared.command.Command.{Command}
 use Rattle.cdb_control.specs.declared.control.Entry.{Entry}
 use Rattle.cdb_setup.specs.Parts.{Parts}
-use Rattle.cdb_control.specs.Answer.{Answer}
+use Rattle.cdb_control.specs.ToldReply.{ToldReply}
 use Rattle.cdb_rules.specs.Rules.{Rules}
 use Rattle.cdb_control.specs.State.{State, first_control_state}
-use Rattle.cdb_control.specs.Commands.{answer, obey}
+use Rattle.cdb_control.specs.Commands.{reply_of, obey}
 use Rattle.cdb_control.specs.Journal.{entry, replay_from, replay, own, replies_from, replies_of, Begins}
 
 -- a journal begins with itself
@@ -40,7 +40,7 @@ own-push_other seat other es command apart =
     other_seat : (n m : ℕ) → n ≢ m → (n == m) ≡ false
     other_seat n m ne = grind arith
 
-replies_if : (b : Bool) (r : Answer) (xs ys zs : List Answer) → zs ≡ xs ++ ys → cond b (r ∷ zs) zs ≡ cond b (r ∷ xs) xs ++ ys
+replies_if : (b : Bool) (r : ToldReply) (xs ys zs : List ToldReply) → zs ≡ xs ++ ys → cond b (r ∷ zs) zs ≡ cond b (r ∷ xs) xs ++ ys
 replies_if true r xs ys zs e = ap (λ l. r ∷ l) e
 replies_if false r xs ys zs e = e
 
@@ -48,14 +48,14 @@ pub replies_from-append : (rules : Rules) (t : State) (seat : ℕ) (es fs : List
 replies_from-append rules t seat [] fs = refl
 replies_from-append rules t seat (e ∷ es) fs =
     let next = obey rules t e.seat e.command in
-    replies_if (e.seat == seat) (answer rules t e.seat e.command) (replies_from rules next seat es) (replies_from rules (replay_from rules next es) seat fs) (replies_from rules next seat (es ++ fs)) (replies_from-append rules next seat es fs)
+    replies_if (e.seat == seat) (reply_of rules t e.seat e.command) (replies_from rules next seat es) (replies_from rules (replay_from rules next es) seat fs) (replies_from rules next seat (es ++ fs)) (replies_from-append rules next seat es fs)
 
 -- a list that is the same after something was added: nothing was added
 nothing_added : {A : Type 0} (xs ys : List A) → xs ++ ys ≡ xs → ys ≡ []
 nothing_added [] ys e = e
 nothing_added (x ∷ xs) ys e = nothing_added xs ys (cc)
 
-none_if : (b : Bool) (x : Command) (xs : List Command) (r : Answer) (rs : List Answer) → (xs ≡ [] → rs ≡ []) → cond b (x ∷ xs) xs ≡ [] → cond b (r ∷ rs) rs ≡ []
+none_if : (b : Bool) (x : Command) (xs : List Command) (r : ToldReply) (rs : List ToldReply) → (xs ≡ [] → rs ≡ []) → cond b (x ∷ xs) xs ≡ [] → cond b (r ∷ rs) rs ≡ []
 none_if true x xs r rs rest none = absurd (cc)
 none_if false x xs r rs rest none = rest none
 
@@ -64,7 +64,7 @@ pub replies_from-none : (rules : Rules) (t : State) (seat : ℕ) (es : List Entr
 replies_from-none rules t seat [] none = refl
 replies_from-none rules t seat (e ∷ es) none =
     let next = obey rules t e.seat e.command in
-    none_if (e.seat == seat) e.command (own seat es) (answer rules t e.seat e.command) (replies_from rules next seat es) (replies_from-none rules next seat es) none
+    none_if (e.seat == seat) e.command (own seat es) (reply_of rules t e.seat e.command) (replies_from rules next seat es) (replies_from-none rules next seat es) none
 
 -- what others did adds no reply of this seat
 pub replies_of-same : (rules : Rules) (setup : Parts) (seats seat : ℕ) (seen journal : List Entry) → Begins seen journal → own seat journal ≡ own seat seen → replies_of rules setup seats seat journal ≡ replies_of rules setup seats seat seen
@@ -81,8 +81,8 @@ replies_of-more rules setup seats seat journal more none =
     (own-append seat journal more ∙ ap (λ (l : List Command). own seat journal ++ l) none ∙ append-nil (own seat journal))
 
 -- one command of the seat adds its reply
-pub replies_of-push : (rules : Rules) (setup : Parts) (seats seat : ℕ) (journal : List Entry) (command : Command) → replies_of rules setup seats seat (journal ++ entry seat command ∷ []) ≡ replies_of rules setup seats seat journal ++ answer rules (replay rules setup seats journal) seat command ∷ []
+pub replies_of-push : (rules : Rules) (setup : Parts) (seats seat : ℕ) (journal : List Entry) (command : Command) → replies_of rules setup seats seat (journal ++ entry seat command ∷ []) ≡ replies_of rules setup seats seat journal ++ reply_of rules (replay rules setup seats journal) seat command ∷ []
 unfolding replay
 replies_of-push rules setup seats seat journal command =
     let t = first_control_state setup seats in
-    replies_from-append rules t seat journal (entry seat command ∷ []) ∙ ap (λ b. replies_from rules t seat journal ++ cond b (answer rules (replay_from rules t journal) seat command ∷ []) []) (same_seat seat)
+    replies_from-append rules t seat journal (entry seat command ∷ []) ∙ ap (λ b. replies_from rules t seat journal ++ cond b (reply_of rules (replay_from rules t journal) seat command ∷ []) []) (same_seat seat)

@@ -12,7 +12,7 @@ use Rattle.cdb_control.specs.declared.command.Command.{Command}
 use Rattle.cdb_control.specs.declared.command.Command.TheVariants.{Step, Auto, Lose, Undo, UndoLost, Redo, Forget, Rollback, RollbackLost, Why, WhyLost, Break, Unbreak, Resume, Show, Decisions}
 use Rattle.cdb_control.specs.declared.command.View.{View}
 use Rattle.cdb_control.specs.declared.command.View.TheVariants as view
-use Rattle.cdb_control.specs.Answer as reply
+use Rattle.cdb_control.specs.ToldReply as reply
 use Rattle.cdb_control.specs.Auto.{choice}
 use Rattle.cdb_rules.specs.Rules.{Rules}
 use Rattle.cdb_control.specs.Stops.{names_none_of}
@@ -22,7 +22,7 @@ use Rattle.cdb_message.specs.Mail.{message_name}
 use Rattle.cdb_rules.specs.Undo.{undo_of, rollback_of, causes_of}
 use Rattle.cdb_control.specs.State.{State, redo_of, last_of}
 use Rattle.cdb_control.proofs.Numbers.{AreNumbered, AreBelow-push, AreBelow-remove, AreRising-push, AreRising-remove}
-use Rattle.cdb_control.specs.Commands.{Outcome, unless, granted, found, unpaused, stepped, step, lost, undo, rollback, why, redone, show, outcome, answer, obey}
+use Rattle.cdb_control.specs.Commands.{Outcome, unless, granted, found, unpaused, step_done, step, lost, undo, rollback, why, redone, show, outcome, reply_of, obey}
 
 -- what an outcome leaves alone: everything where it is a refusal, and otherwise the lists of other seats, the
 -- numbers that were given, and their order
@@ -60,7 +60,7 @@ unpaused-leaves None t seat go h = h
 
 step-leaves : (rules : Rules) (t : State) (seat p : ℕ) (act : Act) → Leaves t seat (step rules t p act)
 step-leaves rules t seat p act =
-    granted-leaves (rules.step t.history p act) t seat (stepped rules t p)
+    granted-leaves (rules.step t.history p act) t seat (step_done rules t p)
     (λ e. record { refused = λ r h. absurd (cc); lists = λ other low from apart. refl; numbers = omega arith; stops = λ all. all })
 
 other-list : (t : State) (seat other : ℕ) (events : List Event) → 1 ≤ seat → 1 ≤ other → other ≢ seat → get_or (set t.redo (seat - 1) events) (other - 1) [] ≡ get_or t.redo (other - 1) []
@@ -126,7 +126,7 @@ leaves rules t seat Resume = record { refused = λ r h. absurd (cc); lists = λ 
 leaves rules t seat (Show v) = show-leaves rules t seat v
 leaves rules t seat Decisions = nothing t seat _ refl
 
-pub refused_changes_nothing : (rules : Rules) (t : State) (seat : ℕ) (command : Command) (refusal : Refusal) → answer rules t seat command ≡ reply.Refused refusal → obey rules t seat command ≡ t
+pub refused_changes_nothing : (rules : Rules) (t : State) (seat : ℕ) (command : Command) (refusal : Refusal) → reply_of rules t seat command ≡ reply.Refused refusal → obey rules t seat command ≡ t
 refused_changes_nothing rules t seat command refusal h = (leaves rules t seat command).refused refusal h
 
 pub other_lists_stay : (rules : Rules) (t : State) (seat other : ℕ) (command : Command) → 1 ≤ seat → 1 ≤ other → other ≢ seat → redo_of (obey rules t seat command) other ≡ redo_of t other

@@ -10,11 +10,12 @@ use Rattle.cdb_base.specs.declared.refusal.Refusal.{Refusal}
 use Rattle.cdb_base.specs.declared.refusal.Refusal.TheVariants.{NoProcess, NothingToRedo, NoBreak, BreakLimit}
 use Rattle.cdb_base.specs.declared.limits.TheConstants.{MAX_BREAKPOINTS}
 use Rattle.cdb_control.specs.Auto.{choice}
-use Rattle.cdb_control.specs.Commands.{Outcome, unless, granted, found, unpaused, stepped, step, lost, undo, rollback, why, redone, show, outcome}
+use Rattle.cdb_control.specs.Commands.{Outcome, unless, granted, found, unpaused, step_done, step, lost, undo, rollback, why, redone, show, outcome}
 use Rattle.cdb_control.specs.Done.{NoneShrinks}
 use Rattle.cdb_rules.specs.EventRefs.{name_given}
 use Rattle.cdb_rules.proofs.Removed.{removed-one}
-use Rattle.cdb_control.specs.Room.{StoredList, StoredState, HoldsRooms, cost, room_of, lowered, raised, rooms_at}
+use Rattle.cdb_control.specs.Room.{StoredList, StoredState, cost, room_of, lowered, raised}
+use Rattle.cdb_control.specs.Kept.{HoldsRooms, rooms_at}
 use Rattle.cdb_control.specs.State.{State, redo_of, last_of}
 use Rattle.cdb_control.specs.Stops.{names_none_of}
 use Rattle.cdb_control.specs.declared.command.Command.{Command}
@@ -175,7 +176,7 @@ module _ (rules : Rules) (t : State) (seat : ℕ) (low : seat - 1 < length t.red
   show-spends view.History = kept seat t _ refl (omega arith)
 
   step-spends : (p : ℕ) (act : Act) → Spends seat t (step rules t p act)
-  step-spends p act = granted-kept seat (rules.step t.history p act) t (stepped rules t p) (λ e. kept seat t _ refl (omega arith))
+  step-spends p act = granted-kept seat (rules.step t.history p act) t (step_done rules t p) (λ e. kept seat t _ refl (omega arith))
 
   pub spends : (command : Command) → Spends seat t (outcome rules t seat command)
   unfolding outcome

@@ -8,17 +8,17 @@ use Rattle.cdb_base.specs.declared.act.Act.{Act}
 use Rattle.cdb_base.specs.declared.event.Event.{Event}
 use Rattle.cdb_base.specs.declared.refusal.Refusal.{Refusal}
 use Rattle.cdb_base.specs.declared.refusal.Refusal.TheVariants.{NothingToRedo}
-use Rattle.cdb_control.specs.Answer.{is_refused}
-use Rattle.cdb_control.specs.Answer as reply
+use Rattle.cdb_control.specs.ToldReply.{is_refused}
+use Rattle.cdb_control.specs.ToldReply as reply
 use Rattle.cdb_control.specs.Auto.{choice}
-use Rattle.cdb_control.specs.Commands.{Outcome, granted, found, unpaused, taken_back, redone, decides, step, undo, rollback, why, answer, outcome}
+use Rattle.cdb_control.specs.Commands.{Outcome, granted, found, unpaused, undone_by, redone, decides, step, undo, rollback, why, reply_of, outcome}
 use Rattle.cdb_rules.specs.EventRefs.{name_given}
 use Rattle.cdb_control.specs.State.{State, redo_of, last_of}
 use Rattle.cdb_control.specs.declared.command.Command.TheVariants as command
 use Rattle.cdb_rules.specs.declared.event_ref.EventRef.TheVariants.{Step, Lost}
 use Rattle.cdb_rules.specs.Refusals.{with_taken}
 use Rattle.cdb_rules.specs.Rules.{Rules}
-use Rattle.cdb_rules.specs.Undo.{answered, left_by, number_removed, with_removed}
+use Rattle.cdb_rules.specs.Undo.{result_alone, left_by, number_removed, with_removed}
 
 pub as_step : (rules : Rules) (t : State) (seat p : ℕ) (act : Act) (o : Outcome) → o ≡ step rules t p act → o ≡ outcome rules t seat (command.Step p act)
 unfolding outcome
@@ -50,54 +50,54 @@ as_why_lost rules t seat s m p o h = h
 
 -- ---- commands that are not refused
 
-pub step_taken : (rules : Rules) (t : State) (seat p : ℕ) (act : Act) → is_refused (step rules t p act).reply ≡ false → is_refused (answer rules t seat (command.Step p act)) ≡ false
+pub step_granted : (rules : Rules) (t : State) (seat p : ℕ) (act : Act) → is_refused (step rules t p act).reply ≡ false → is_refused (reply_of rules t seat (command.Step p act)) ≡ false
 unfolding outcome
-step_taken rules t seat p act h = h
+step_granted rules t seat p act h = h
 
-pub undo_taken : (rules : Rules) (t : State) (seat p k : ℕ) → is_refused (undo t seat (name_given (Step p k))).reply ≡ false → is_refused (answer rules t seat (command.Undo p k)) ≡ false
+pub undo_granted : (rules : Rules) (t : State) (seat p k : ℕ) → is_refused (undo t seat (name_given (Step p k))).reply ≡ false → is_refused (reply_of rules t seat (command.Undo p k)) ≡ false
 unfolding outcome
-undo_taken rules t seat p k h = h
+undo_granted rules t seat p k h = h
 
-pub undo_lost_taken : (rules : Rules) (t : State) (seat s m p : ℕ) → is_refused (undo t seat (name_given (Lost s m p))).reply ≡ false → is_refused (answer rules t seat (command.UndoLost s m p)) ≡ false
+pub undo_lost_granted : (rules : Rules) (t : State) (seat s m p : ℕ) → is_refused (undo t seat (name_given (Lost s m p))).reply ≡ false → is_refused (reply_of rules t seat (command.UndoLost s m p)) ≡ false
 unfolding outcome
-undo_lost_taken rules t seat s m p h = h
+undo_lost_granted rules t seat s m p h = h
 
-pub rollback_taken : (rules : Rules) (t : State) (seat p k : ℕ) → is_refused (rollback t seat (name_given (Step p k))).reply ≡ false → is_refused (answer rules t seat (command.Rollback p k)) ≡ false
+pub rollback_granted : (rules : Rules) (t : State) (seat p k : ℕ) → is_refused (rollback t seat (name_given (Step p k))).reply ≡ false → is_refused (reply_of rules t seat (command.Rollback p k)) ≡ false
 unfolding outcome
-rollback_taken rules t seat p k h = h
+rollback_granted rules t seat p k h = h
 
-pub rollback_lost_taken : (rules : Rules) (t : State) (seat s m p : ℕ) → is_refused (rollback t seat (name_given (Lost s m p))).reply ≡ false → is_refused (answer rules t seat (command.RollbackLost s m p)) ≡ false
+pub rollback_lost_granted : (rules : Rules) (t : State) (seat s m p : ℕ) → is_refused (rollback t seat (name_given (Lost s m p))).reply ≡ false → is_refused (reply_of rules t seat (command.RollbackLost s m p)) ≡ false
 unfolding outcome
-rollback_lost_taken rules t seat s m p h = h
+rollback_lost_granted rules t seat s m p h = h
 
 -- what is granted is answered as what it goes on to
-pub granted_taken : {A : Type 0} (x : Result A Refusal) (t : State) (go : A → Outcome) → IsOk x → ((a : A) → is_refused (go a).reply ≡ false) → is_refused (granted x t go).reply ≡ false
-granted_taken (Ok a) t go ok each = each a
-granted_taken (Err why) t go ok each = absurd (true≢false (sym ok))
+pub granted_goes_on : {A : Type 0} (x : Result A Refusal) (t : State) (go : A → Outcome) → IsOk x → ((a : A) → is_refused (go a).reply ≡ false) → is_refused (granted x t go).reply ≡ false
+granted_goes_on (Ok a) t go ok each = each a
+granted_goes_on (Err why) t go ok each = absurd (true≢false (sym ok))
 
-pub answered_ok : {A : Type 0} (x : Result (A × List Event) Refusal) → IsOk (answered x) → IsOk x
-answered_ok (Ok done) ok = refl
-answered_ok (Err why) ok = ok
+pub alone_ok : {A : Type 0} (x : Result (A × List Event) Refusal) → IsOk (result_alone x) → IsOk x
+alone_ok (Ok done) ok = refl
+alone_ok (Err why) ok = ok
 
-pub redo_taken : (rules : Rules) (t : State) (seat : ℕ) (undone : Event) → Some undone ≡ last_of (redo_of t seat) → IsOk (rules.again t.history undone) → is_refused (answer rules t seat command.Redo) ≡ false
+pub redo_granted : (rules : Rules) (t : State) (seat : ℕ) (undone : Event) → Some undone ≡ last_of (redo_of t seat) → IsOk (rules.again t.history undone) → is_refused (reply_of rules t seat command.Redo) ≡ false
 unfolding outcome
-redo_taken rules t seat undone last ok =
+redo_granted rules t seat undone last ok =
     ap (λ (o : Option Event). is_refused (found o NothingToRedo t (λ e. granted (rules.again t.history e) t (redone rules t seat))).reply) (sym last)
-    ∙ granted_taken (rules.again t.history undone) t (redone rules t seat) ok (λ event. refl)
+    ∙ granted_goes_on (rules.again t.history undone) t (redone rules t seat) ok (λ event. refl)
 
-pub auto_taken : (rules : Rules) (t : State) (seat p : ℕ) (act : Act) → choice rules t.history p ≡ Ok act → t.pause ≡ None → is_refused (step rules t p act).reply ≡ false → is_refused (answer rules t seat (command.Auto p)) ≡ false
+pub auto_granted : (rules : Rules) (t : State) (seat p : ℕ) (act : Act) → choice rules t.history p ≡ Ok act → t.pause ≡ None → is_refused (step rules t p act).reply ≡ false → is_refused (reply_of rules t seat (command.Auto p)) ≡ false
 unfolding outcome
-auto_taken rules t seat p act chosen unpaused_now taken =
+auto_granted rules t seat p act chosen unpaused_now taken =
     ap (λ (x : Result Act Refusal). is_refused (granted x t (λ act. unpaused t.pause t (step rules t p act))).reply) chosen
     ∙ ap (λ (o : Option ℕ). is_refused (unpaused o t (step rules t p act)).reply) unpaused_now
     ∙ taken
 
 pub on_err : {A E P Q : Type 0} (r : Result A E) → (P → Q) → OnErr r P → OnErr r Q
-on_err (Ok a) go held = held
-on_err (Err e) go held = go held
+on_err (Ok a) go events_kept = events_kept
+on_err (Err e) go events_kept = go events_kept
 
 -- what is refused leaves the history as it was
-pub refused_leaves : (x : Result (Event × List Event) Refusal) (history : List Event) (why : Refusal) → Some why ≡ result_err (answered x) → left_by history x ≡ history
+pub refused_leaves : (x : Result (Event × List Event) Refusal) (history : List Event) (why : Refusal) → Some why ≡ result_err (result_alone x) → left_by history x ≡ history
 refused_leaves (Ok done) history why is = absurd (none-some why (sym is))
 refused_leaves (Err other) history why is = refl
 
@@ -120,8 +120,8 @@ pub unchanged : (t : State) (seat : ℕ) → with_lists t seat t.history (redo_o
 unchanged t seat = ap (λ (lists : List (List Event)). let u : State = record t { redo = lists } in u) (set-get_or t.redo (seat - 1) [])
 
 pub undone-as : (t u : State) (seat : ℕ) (x : Result (Event × List Event) Refusal) (r : Result Event Refusal) (event : Event)
-    → r ≡ answered x → u ≡ with_lists t seat (left_by t.history x) (with_taken (redo_of t seat) r) → r ≡ Ok event
-    → (let o : Outcome = record { reply = reply.Undone event; after = u } in o) ≡ granted x t (λ undone. record { reply = reply.Undone undone.0; after = taken_back t seat (undone.0 ∷ []) undone.1 })
+    → r ≡ result_alone x → u ≡ with_lists t seat (left_by t.history x) (with_taken (redo_of t seat) r) → r ≡ Ok event
+    → (let o : Outcome = record { reply = reply.Undone event; after = u } in o) ≡ granted x t (λ undone. record { reply = reply.Undone undone.0; after = undone_by t seat (undone.0 ∷ []) undone.1 })
 undone-as t u seat (Ok done) r event is after ok =
     ap (λ (v : State). let o : Outcome = record { reply = reply.Undone event; after = v } in o) after
     ∙ ap (λ (z : Result Event Refusal). let o : Outcome = record { reply = reply.Undone event; after = with_lists t seat done.1 (with_taken (redo_of t seat) z) } in o) ok
@@ -129,7 +129,7 @@ undone-as t u seat (Ok done) r event is after ok =
 undone-as t u seat (Err why) r event is after ok = absurd (ok_err event why r ok is)
 
 pub undo_refused-as : (t u : State) (seat : ℕ) (x : Result (Event × List Event) Refusal) (r : Result Event Refusal) (why : Refusal) (go : Event × List Event → Outcome)
-    → r ≡ answered x → u ≡ with_lists t seat (left_by t.history x) (with_taken (redo_of t seat) r) → r ≡ Err why
+    → r ≡ result_alone x → u ≡ with_lists t seat (left_by t.history x) (with_taken (redo_of t seat) r) → r ≡ Err why
     → (let o : Outcome = record { reply = reply.Refused why; after = u } in o) ≡ granted x t go
 undo_refused-as t u seat (Ok done) r why go is after err = absurd (ok_err done.0 why r is err)
 undo_refused-as t u seat (Err other) r why go is after err =
@@ -139,15 +139,15 @@ undo_refused-as t u seat (Err other) r why go is after err =
     ∙ ap (λ (w : Refusal). let o : Outcome = record { reply = reply.Refused w; after = t } in o) (err_err why other r err is)
 
 pub rolled_back-as : (t u : State) (seat : ℕ) (x : Result (List Event × List Event) Refusal) (r : Result ℕ Refusal) (count : ℕ)
-    → r ≡ number_removed (answered x) → u ≡ with_lists t seat (left_by t.history x) (with_removed (redo_of t seat) (answered x)) → r ≡ Ok count
-    → (let o : Outcome = record { reply = reply.RolledBack count; after = u } in o) ≡ granted x t (λ removed. record { reply = reply.RolledBack (length removed.0); after = taken_back t seat removed.0 removed.1 })
+    → r ≡ number_removed (result_alone x) → u ≡ with_lists t seat (left_by t.history x) (with_removed (redo_of t seat) (result_alone x)) → r ≡ Ok count
+    → (let o : Outcome = record { reply = reply.RolledBack count; after = u } in o) ≡ granted x t (λ removed. record { reply = reply.RolledBack (length removed.0); after = undone_by t seat removed.0 removed.1 })
 rolled_back-as t u seat (Ok done) r count is after ok =
     ap (λ (v : State). let o : Outcome = record { reply = reply.RolledBack count; after = v } in o) after
     ∙ ap (λ (n : ℕ). let o : Outcome = record { reply = reply.RolledBack n; after = with_lists t seat done.1 (redo_of t seat ++ done.0) } in o) (ok_ok count (length done.0) r ok is)
 rolled_back-as t u seat (Err why) r count is after ok = absurd (ok_err count why r ok is)
 
 pub rollback_refused-as : (t u : State) (seat : ℕ) (x : Result (List Event × List Event) Refusal) (r : Result ℕ Refusal) (why : Refusal) (go : List Event × List Event → Outcome)
-    → r ≡ number_removed (answered x) → u ≡ with_lists t seat (left_by t.history x) (with_removed (redo_of t seat) (answered x)) → r ≡ Err why
+    → r ≡ number_removed (result_alone x) → u ≡ with_lists t seat (left_by t.history x) (with_removed (redo_of t seat) (result_alone x)) → r ≡ Err why
     → (let o : Outcome = record { reply = reply.Refused why; after = u } in o) ≡ granted x t go
 rollback_refused-as t u seat (Ok done) r why go is after err = absurd (ok_err (length done.0) why r is err)
 rollback_refused-as t u seat (Err other) r why go is after err =

@@ -12,9 +12,10 @@ use Rattle.cdb_base.specs.declared.refusal.Refusal.{Refusal}
 use Rattle.cdb_base.specs.declared.refusal.Refusal.TheVariants.{NoProcess, NothingToRedo, NoBreak, BreakLimit}
 use Rattle.cdb_base.specs.declared.limits.TheConstants.{MAX_BREAKPOINTS}
 use Rattle.cdb_control.specs.Auto.{choice}
-use Rattle.cdb_control.specs.Commands.{Outcome, unless, granted, found, unpaused, stepped, step, lost, taken_back, undo, rollback, why, redone, show, outcome, obey}
+use Rattle.cdb_control.specs.Commands.{Outcome, unless, granted, found, unpaused, step_done, step, lost, undone_by, undo, rollback, why, redone, show, outcome, obey}
 use Rattle.cdb_rules.specs.EventRefs.{name_given}
-use Rattle.cdb_control.specs.State.{State, held, redo_of, last_of, AreOfRun}
+use Rattle.cdb_control.specs.State.{State, redo_of, last_of}
+use Rattle.cdb_control.specs.Kept.{events_kept, AreOfRun}
 use Rattle.cdb_control.specs.Stops.{names_none_of}
 use Rattle.cdb_control.specs.declared.command.Command.{Command}
 use Rattle.cdb_control.specs.declared.command.Command.TheVariants.{Step, Auto, Lose, Undo, UndoLost, Redo, Forget, Rollback, RollbackLost, Why, WhyLost, Break, Unbreak, Resume, Show, Decisions}
@@ -35,7 +36,7 @@ use Rattle.cdb_rules.specs.Undo.{undo_of, rollback_of, causes_of}
 pub record Adds (t u : State) : Type 0 where
   pub setup : u.setup ≡ t.setup
   pub numbers : u.next ≤ t.next + 1
-  pub events : held u ≤ held t + 1
+  pub events : events_kept u ≤ events_kept t + 1
   pub lists : length u.redo ≡ length t.redo
   pub of_run : AreOfRun t → AreOfRun u
 
@@ -59,8 +60,8 @@ unpaused-adds (Some b) t go h = nothing t
 unpaused-adds None t go h = h
 
 module _ (rules : Rules) (t : State) (lawful : AreLawful rules t.setup) where
-  stepped-adds : (p : ℕ) (e : Event) → IsOfRun t.setup e → Adds t (stepped rules t p e).after
-  stepped-adds p e of_run =
+  step_done-adds : (p : ℕ) (e : Event) → IsOfRun t.setup e → Adds t (step_done rules t p e).after
+  step_done-adds p e of_run =
       record {
         setup = refl;
         numbers = omega arith;
@@ -70,7 +71,7 @@ module _ (rules : Rules) (t : State) (lawful : AreLawful rules t.setup) where
       }
 
   step-adds : (p : ℕ) (act : Act) → Adds t (step rules t p act).after
-  step-adds p act = granted-adds (rules.step t.history p act) t (stepped rules t p) (λ e h. stepped-adds p e (lawful.step t.history p act e h))
+  step-adds p act = granted-adds (rules.step t.history p act) t (step_done rules t p) (λ e h. step_done-adds p e (lawful.step t.history p act e h))
 
   lost-adds : (e : Event) → IsOfRun t.setup e → Adds t (lost t e).after
   lost-adds e of_run =
@@ -89,8 +90,8 @@ module _ (rules : Rules) (t : State) (lawful : AreLawful rules t.setup) where
     waiting-of_run : AreOfRun t → AllByRecursion (IsOfRun t.setup) (redo_of t seat)
     waiting-of_run all = all-get_or (AllByRecursion (IsOfRun t.setup)) t.redo (seat - 1) [] all.1 tt
 
-    taken_back-adds : (events history : List Event) → Parted (IsOfRun t.setup) t.history events history → Adds t (taken_back t seat events history)
-    taken_back-adds events history parted =
+    undone_by-adds : (events history : List Event) → Parted (IsOfRun t.setup) t.history events history → Adds t (undone_by t seat events history)
+    undone_by-adds events history parted =
         record {
           setup = refl;
           numbers = omega arith;
@@ -102,12 +103,12 @@ module _ (rules : Rules) (t : State) (lawful : AreLawful rules t.setup) where
     undo-adds : (name : StepId) → Adds t (undo t seat name).after
     undo-adds name =
         granted-adds (undo_of t.setup.processes t.history name) t _
-        (λ undone h. taken_back-adds (undone.0 ∷ []) undone.1 (undone-parted (IsOfRun t.setup) t.setup.processes t.history name undone h))
+        (λ undone h. undone_by-adds (undone.0 ∷ []) undone.1 (undone-parted (IsOfRun t.setup) t.setup.processes t.history name undone h))
 
     rollback-adds : (name : StepId) → Adds t (rollback t seat name).after
     rollback-adds name =
         granted-adds (rollback_of t.setup.processes t.history name) t _
-        (λ removed h. taken_back-adds removed.0 removed.1 (rolled_back-parted (IsOfRun t.setup) t.setup.processes t.history name removed h))
+        (λ removed h. undone_by-adds removed.0 removed.1 (rolled_back-parted (IsOfRun t.setup) t.setup.processes t.history name removed h))
 
     redone-adds : (e : Event) → (AreOfRun t → IsOfRun t.setup e) → Adds t (redone rules t seat e).after
     redone-adds e of_run =

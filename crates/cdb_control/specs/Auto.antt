@@ -9,13 +9,13 @@ use Rattle.cdb_rules.specs.Auto.{first_act_of}
 use Rattle.cdb_rules.specs.Rules.{Rules, Shown}
 
 -- where there is a refusal it is returned
-abbrev pub unless_stopped : Option Refusal → Result Act Refusal → Result Act Refusal
-unless_stopped (Some why) possible = Err why
-unless_stopped None possible = possible
+abbrev pub unless_at_once : Option Refusal → Result Act Refusal → Result Act Refusal
+unless_at_once (Some why) possible = Err why
+unless_at_once None possible = possible
 
 -- Why a process takes no step at all: it has crashed, it has decided, or it has taken all the steps that it may.
-abbrev pub stopped : Shown → Option Refusal
-stopped process =
+abbrev pub refused_at_once : Shown → Option Refusal
+refused_at_once process =
     if not process.alive then Some refusal.Crashed
     else if is_some process.decision then Some refusal.Done
     else if nat_le MAX_STEPS process.steps then Some refusal.StepLimit else None
@@ -23,7 +23,7 @@ stopped process =
 -- `auto` has refusals of its own, and then takes the first possible act, if there is one
 abbrev pub chosen : Option Shown → Result Act Refusal → Result Act Refusal
 chosen None possible = Err refusal.NoProcess
-chosen (Some process) possible = unless_stopped (stopped process) possible
+chosen (Some process) possible = unless_at_once (refused_at_once process) possible
 
 abbrev pub choice : Rules → List Event → ℕ → Result Act Refusal
 choice rules history p = chosen (rules.process history p) (first_act_of rules history p)

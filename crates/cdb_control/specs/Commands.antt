@@ -10,8 +10,8 @@ use Rattle.cdb_base.specs.declared.limits.TheConstants.{MAX_BREAKPOINTS}
 use Rattle.cdb_base.specs.declared.name.StepId.{StepId}
 use Rattle.cdb_base.specs.declared.refusal.Refusal.{Refusal}
 use Rattle.cdb_base.specs.declared.refusal.Refusal.TheVariants.{NoProcess, Paused, NothingToRedo, NoBreak, BreakLimit}
-use Rattle.cdb_control.specs.Answer.{Answer}
-use Rattle.cdb_control.specs.Answer as reply
+use Rattle.cdb_control.specs.ToldReply.{ToldReply}
+use Rattle.cdb_control.specs.ToldReply as reply
 use Rattle.cdb_control.specs.Auto.{choice}
 use Rattle.cdb_rules.specs.EventRefs.{name_given}
 use Rattle.cdb_control.specs.State.{State, redo_of, with_redo, last_of}
@@ -30,11 +30,11 @@ use Rattle.cdb_rules.specs.Undo.{undo_of, rollback_of, causes_of}
 
 -- a reply, and the state after it
 pub record Outcome : Type 0 where
-  pub reply : Answer
+  pub reply : ToldReply
   pub after : State
 
 -- a reply that changes nothing
-abbrev pub replied : State → Answer → Outcome
+abbrev pub replied : State → ToldReply → Outcome
 replied t told = record { reply = told; after = t }
 
 abbrev pub refused : State → Refusal → Outcome
@@ -82,11 +82,11 @@ step_told t taken =
     let paused = newly_fired t.pause taken t.stops in
     record { reply = reply.Stepped taken.event taken.decides paused; after = record t { pause = option_or t.pause paused } }
 
-abbrev pub stepped : Rules → State → ℕ → Event → Outcome
-stepped rules t p e = step_told (record t { history = t.history ++ e ∷ [] }) (taken_step rules t.history p e)
+abbrev pub step_done : Rules → State → ℕ → Event → Outcome
+step_done rules t p e = step_told (record t { history = t.history ++ e ∷ [] }) (taken_step rules t.history p e)
 
 abbrev pub step : Rules → State → ℕ → Act → Outcome
-step rules t p act = granted (rules.step t.history p act) t (stepped rules t p)
+step rules t p act = granted (rules.step t.history p act) t (step_done rules t p)
 
 -- a loss gives no decision and fires no breakpoint
 abbrev pub lost : State → Event → Outcome
@@ -95,18 +95,18 @@ lost t e = record { reply = reply.Stepped e None None; after = record t { histor
 -- ---- undo and redo
 
 -- some events have left the history, and go to the end of the seat's redo list
-abbrev pub taken_back : State → ℕ → List Event → List Event → State
-taken_back t seat events history = record t { history = history; redo = (with_redo t seat (redo_of t seat ++ events)).redo }
+abbrev pub undone_by : State → ℕ → List Event → List Event → State
+undone_by t seat events history = record t { history = history; redo = (with_redo t seat (redo_of t seat ++ events)).redo }
 
 abbrev pub undo : State → ℕ → StepId → Outcome
 undo t seat name =
     granted (undo_of t.setup.processes t.history name) t
-    (λ undone. record { reply = reply.Undone undone.0; after = taken_back t seat (undone.0 ∷ []) undone.1 })
+    (λ undone. record { reply = reply.Undone undone.0; after = undone_by t seat (undone.0 ∷ []) undone.1 })
 
 abbrev pub rollback : State → ℕ → StepId → Outcome
 rollback t seat name =
     granted (rollback_of t.setup.processes t.history name) t
-    (λ removed. record { reply = reply.RolledBack (length removed.0); after = taken_back t seat removed.0 removed.1 })
+    (λ removed. record { reply = reply.RolledBack (length removed.0); after = undone_by t seat removed.0 removed.1 })
 
 -- the decision that an event gave its process; a loss gives none
 abbrev pub decides : Rules → List Event → Event → Option ℕ
@@ -149,7 +149,7 @@ IsPauseSet (Some standing) taken stops paused = paused ≡ None
 IsPauseSet None taken stops paused = IsLeastFired taken stops paused
 
 -- the reply to a step of a process tells it
-abbrev pub TellsPause : Rules → State → ℕ → Answer → Type 0
+abbrev pub TellsPause : Rules → State → ℕ → ToldReply → Type 0
 TellsPause rules t p (reply.Stepped e decides paused) = IsPauseSet t.pause (taken_step rules t.history p e) t.stops paused
 TellsPause rules t p other = Unit {0}
 
@@ -177,8 +177,8 @@ outcome rules t seat (Show v) = show rules t v
 outcome rules t seat Decisions = replied t (reply.Decisions (rules.decisions t.history))
 
 -- the reply to a command of a seat
-abbrev pub answer : Rules → State → ℕ → Command → Answer
-answer rules t seat command = (outcome rules t seat command).reply
+abbrev pub reply_of : Rules → State → ℕ → Command → ToldReply
+reply_of rules t seat command = (outcome rules t seat command).reply
 
 -- the state after a command of a seat
 abbrev pub obey : Rules → State → ℕ → Command → State

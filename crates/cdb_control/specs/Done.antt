@@ -1,6 +1,6 @@
 -- What a contract says of a command that was carried out.
 use Rattle.std.specs.Prelude.{◌≡◌, ℕ, ◌≤◌, false, List, slice_index_or}
-use Rattle.cdb_control.specs.Answer.{told, is_refused}
+use Rattle.cdb_control.specs.ToldReply.{told, is_refused}
 use Rattle.cdb_control.specs.Commands.{Outcome, outcome}
 use Rattle.cdb_control.specs.State.{State}
 use Rattle.cdb_control.specs.declared.command.Command.{Command}
@@ -29,12 +29,12 @@ abbrev pub IsNoRefusal : Outcome → Type 0
 IsNoRefusal o = is_refused o.reply ≡ false
 
 -- nor is the one to that command of that seat
-abbrev pub IsTaken : (Parts → Rules) → State → ℕ → Command → Type 0
-IsTaken rules t seat command = IsNoRefusal (outcome (rules t.setup) t seat command)
+abbrev pub IsGranted : (Parts → Rules) → State → ℕ → Command → Type 0
+IsGranted rules t seat command = IsNoRefusal (outcome (rules t.setup) t seat command)
 
 -- whichever seat gives the command
-abbrev pub IsTakenFromAny : (Parts → Rules) → State → Command → Type 0
-IsTakenFromAny rules t command = (seat : ℕ) → IsTaken rules t seat command
+abbrev pub IsGrantedFromAny : (Parts → Rules) → State → Command → Type 0
+IsGrantedFromAny rules t command = (seat : ℕ) → IsGranted rules t seat command
 
 -- the room of no seat's list gets less
 abbrev pub NoneShrinks : List ℕ → List ℕ → Type 0

@@ -11,9 +11,9 @@ use Rattle.cdb_causal.specs.Causality.{IsFree}
 use Rattle.cdb_causal.specs.Dependence.{depends}
 use Rattle.cdb_causal.specs.Names.{IsFirstDependent}
 use Rattle.cdb_causal.specs.Rollback.{IsParted, IsRolledBack, without}
-use Rattle.cdb_control.specs.Answer.{Answer, Stepped, Undone, Redone, RolledBack, Refused}
-use Rattle.cdb_control.specs.Answer as reply
-use Rattle.cdb_control.specs.Commands.{answer, obey}
+use Rattle.cdb_control.specs.ToldReply.{ToldReply, Stepped, Undone, Redone, RolledBack, Refused}
+use Rattle.cdb_control.specs.ToldReply as reply
+use Rattle.cdb_control.specs.Commands.{reply_of, obey}
 use Rattle.cdb_control.specs.Journal.{replay_from, replay}
 use Rattle.cdb_control.specs.State.{State, redo_of}
 use Rattle.cdb_control.specs.declared.command.Command.{Command}
@@ -30,8 +30,8 @@ abbrev pub undoing : StepId → Command
 undoing (named.Step step) = Undo step.p step.k
 undoing (named.Lost copy) = UndoLost copy.msg.s copy.msg.m copy.to
 
-abbrev pub undo_reply : Rules → State → ℕ → Event → Answer
-undo_reply rules t seat event = answer rules t seat (undoing (event_name event))
+abbrev pub undo_reply : Rules → State → ℕ → Event → ToldReply
+undo_reply rules t seat event = reply_of rules t seat (undoing (event_name event))
 
 abbrev pub control_after_undo : Rules → State → ℕ → Event → State
 control_after_undo rules t seat event = obey rules t seat (undoing (event_name event))
@@ -41,20 +41,20 @@ abbrev pub rolling_back : StepId → Command
 rolling_back (named.Step step) = Rollback step.p step.k
 rolling_back (named.Lost copy) = RollbackLost copy.msg.s copy.msg.m copy.to
 
-abbrev pub rollback_reply : Rules → State → ℕ → Event → Answer
-rollback_reply rules t seat event = answer rules t seat (rolling_back (event_name event))
+abbrev pub rollback_reply : Rules → State → ℕ → Event → ToldReply
+rollback_reply rules t seat event = reply_of rules t seat (rolling_back (event_name event))
 
 abbrev pub control_after_rollback : Rules → State → ℕ → Event → State
 control_after_rollback rules t seat event = obey rules t seat (rolling_back (event_name event))
 
 -- the reply says that the event was taken, or taken again
-abbrev pub TellsTaken : Answer → Event → Type 0
+abbrev pub TellsTaken : ToldReply → Event → Type 0
 TellsTaken (Stepped event decides paused) taken = event ≡ taken
 TellsTaken (Redone event decides) taken = event ≡ taken
 TellsTaken _ taken = ⊥
 
 -- the reply says that the event was taken again
-abbrev pub TellsRedone : Answer → Event → Type 0
+abbrev pub TellsRedone : ToldReply → Event → Type 0
 TellsRedone (Redone event decides) taken = event ≡ taken
 TellsRedone _ taken = ⊥
 
@@ -85,10 +85,10 @@ RedosLeadBack rules SameState before seat t [] =
 RedosLeadBack rules SameState before seat t (event ∷ events) =
     (between : List Entry) → let now = replay_from rules t between in
     now.history ≡ t.history → redo_of now seat ≡ redo_of t seat
-    → TellsRedone (answer rules now seat Redo) event
+    → TellsRedone (reply_of rules now seat Redo) event
     × RedosLeadBack rules SameState before seat (obey rules now seat Redo) events
 
--- The event at position i is taken back with exactly its consequences, the reply says how many events that are, and as many
+-- The event at position i is removed with exactly its consequences, the reply says how many events that are, and as many
 -- redos lead back.
 pub record IsRolledBackAndForth (rules : Rules) (SameState : List Event → List Event → Type 0) (t : State) (seat i : ℕ) (event : Event) : Type 0 where
   pub gone : List Event
@@ -102,11 +102,11 @@ pub record IsRolledBackAndForth (rules : Rules) (SameState : List Event → List
 pub record HoldsAt (rules : Rules) (SameState : List Event → List Event → Type 0) (setup : Parts) (seats : ℕ) (t : State) : Type 0 where
   -- each standing event was enabled in its turn: the run state is what the standing events alone reach from the start
   pub reached : IsTrue (rules.valid t.history)
-  -- an undo is taken exactly where no standing event depends on its event
+  -- an undo is granted exactly where no standing event depends on its event
   pub undone_where_free : (seat i : ℕ) (event : Event) → slice_get t.history i ≡ Some event
       → IsUndoneWhereFree rules t seat i event
   -- step then undo is the identity, whoever steps and whoever undoes
-  pub step_then_undo : (seat other : ℕ) (command : Command) (event : Event) → TellsTaken (answer rules t seat command) event
+  pub step_then_undo : (seat other : ℕ) (command : Command) (event : Event) → TellsTaken (reply_of rules t seat command) event
       → IsUndoneNext rules t (obey rules t seat command) event other
   -- undo then redo is the identity
   pub undo_then_redo : (seat : ℕ) (event : Event) → IsWithin 1 seats seat → undo_reply rules t seat event ≡ Undone event
@@ -116,7 +116,7 @@ pub record HoldsAt (rules : Rules) (SameState : List Event → List Event → Ty
       → IsRolledBackAndForth rules SameState t seat i event
   -- where a quorum is a majority, or in Alpha, no two decisions that are reported differ
   pub agreement : (seat : ℕ) (pairs : List (ℕ × ℕ)) → HasMajorityIfNeeded setup
-      → answer rules t seat Decisions ≡ reply.Decisions pairs → AllAgree pairs
+      → reply_of rules t seat Decisions ≡ reply.Decisions pairs → AllAgree pairs
 
 -- It holds of the control state that a journal leads to.
 abbrev pub Headline : (Parts → Rules) → (Parts → List Event → List Event → Type 0) → Parts → ℕ → List Entry → Type 0

@@ -1,16 +1,15 @@
 -- A control as contracts see it: a setup, a number of seats, a journal, and the room of each seat. The control state
 -- is the journal's replay.
-use Rattle.std.specs.Prelude.{◌≡◌, ℕ, ◌+◌, ◌<◌, ◌≤◌, ◌==◌, ◌⊎◌, true, List, [], ◌∷◌, ◌++◌, length, replicate, fold, if◌then◌else◌}
+use Rattle.std.specs.Prelude.{◌≡◌, ℕ, ◌<◌, ◌≤◌, ◌==◌, ◌⊎◌, true, List, [], ◌∷◌, ◌++◌, replicate, fold, if◌then◌else◌}
 use Rattle.std.specs.List.{AllByRecursion}
-use Rattle.cdb_base.specs.declared.limits.TheConstants.{MAX_ENTRIES, MAX_SEATS}
 use Rattle.cdb_control.specs.declared.command.Command.{Command}
 use Rattle.cdb_control.specs.declared.control.Entry.{Entry}
-use Rattle.cdb_setup.specs.Parts.{Parts, AreInRange}
+use Rattle.cdb_setup.specs.Parts.{Parts}
 use Rattle.cdb_rules.specs.Rules.{Rules}
-use Rattle.cdb_control.specs.State.{State, first_control_state, held, AreOfRun}
-use Rattle.cdb_control.specs.Commands.{answer, obey}
+use Rattle.cdb_control.specs.State.{State, first_control_state}
+use Rattle.cdb_control.specs.Commands.{reply_of, obey}
 use Rattle.cdb_control.specs.Room.{is_spared, lowered, room_of}
-use Rattle.cdb_control.specs.Answer.{Answer, is_refused}
+use Rattle.cdb_control.specs.ToldReply.{ToldReply, is_refused}
 
 pub record Journaled : Type 0 where
   pub setup : Parts
@@ -35,8 +34,8 @@ replay rules setup seats journal = replay_from rules (first_control_state setup 
 abbrev pub control_state : (Parts → Rules) → Journaled → State
 control_state rules c = replay (rules c.setup) c.setup c.seats c.journal
 
-abbrev pub reply_in : (Parts → Rules) → Journaled → ℕ → Command → Answer
-reply_in rules c seat command = answer (rules c.setup) (control_state rules c) seat command
+abbrev pub reply_in : (Parts → Rules) → Journaled → ℕ → Command → ToldReply
+reply_in rules c seat command = reply_of (rules c.setup) (control_state rules c) seat command
 
 -- the command needs no memory: its seat has room, and it is one for which that is promised, or is refused
 abbrev pub NeedsNoMemory : (Parts → Rules) → Journaled → ℕ → Command → Type 0
@@ -54,18 +53,18 @@ own seat [] = []
 own seat (e ∷ es) = if e.seat == seat then (e.command ∷ own seat es) else own seat es
 
 -- the replies to a seat's commands, along the journal
-abbrev pub replies_from : Rules → State → ℕ → List Entry → List Answer
+abbrev pub replies_from : Rules → State → ℕ → List Entry → List ToldReply
 replies_from rules t seat [] = []
 replies_from rules t seat (e ∷ es) =
-    if e.seat == seat then (answer rules t e.seat e.command ∷ replies_from rules (obey rules t e.seat e.command) seat es)
+    if e.seat == seat then (reply_of rules t e.seat e.command ∷ replies_from rules (obey rules t e.seat e.command) seat es)
     else replies_from rules (obey rules t e.seat e.command) seat es
 
-abbrev pub replies_of : Rules → Parts → ℕ → ℕ → List Entry → List Answer
+abbrev pub replies_of : Rules → Parts → ℕ → ℕ → List Entry → List ToldReply
 replies_of rules setup seats seat journal = replies_from rules (first_control_state setup seats) seat journal
 
 -- the replies to a seat's commands in the journal of a control
-abbrev pub answers_to : (Parts → Rules) → ℕ → Journaled → List Answer
-answers_to rules seat c = replies_of (rules c.setup) c.setup c.seats seat c.journal
+abbrev pub replies_in : (Parts → Rules) → ℕ → Journaled → List ToldReply
+replies_in rules seat c = replies_of (rules c.setup) c.setup c.seats seat c.journal
 
 -- the first journal is a beginning of the second
 abbrev pub Begins : List Entry → List Entry → Type 0
@@ -74,16 +73,3 @@ Begins seen journal = (rest : List Entry) × (journal ≡ seen ++ rest)
 -- each entry is of a seat from 1 to this number
 abbrev pub AreOfSeats : ℕ → List Entry → Type 0
 AreOfSeats seats journal = AllByRecursion (λ e. (1 ≤ e.seat) × (e.seat ≤ seats)) journal
-
--- the state is the journal's replay, and numbers stay within what a journal can reach
-pub record IsReplayed (rules : Rules) (setup : Parts) (seats : ℕ) (journal : List Entry) (state : State) : Type 0 where
-  pub replayed : replay rules setup seats journal ≡ state
-  pub some_seat : 1 ≤ seats
-  pub few_seats : seats ≤ MAX_SEATS
-  pub of_seats : AreOfSeats seats journal
-  pub few_entries : length journal ≤ MAX_ENTRIES
-  pub lists : length state.redo ≡ seats
-  pub numbers : state.next ≤ length journal + 1
-  pub events : held state ≤ length journal
-  pub of_run : AreOfRun state
-  pub in_range : AreInRange setup

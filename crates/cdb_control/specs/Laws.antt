@@ -1,6 +1,6 @@
 -- The words of the laws: what they speak of.
 use Rattle.std.specs.Prelude.{◌≡◌, ℕ, ◌≢◌, ◌≤◌, [], ◌∷◌, ◌++◌, List}
-use Rattle.cdb_control.specs.Journal.{Journaled, answers_to, extended, reply_in, replay}
+use Rattle.cdb_control.specs.Journal.{Journaled, replies_in, extended, reply_in, replay}
 use Rattle.cdb_control.specs.State.{State}
 use Rattle.cdb_control.specs.declared.command.Command.{Command}
 use Rattle.cdb_control.specs.declared.control.Entry.{Entry}
@@ -31,4 +31,4 @@ followed_by c more = record c { journal = c.journal ++ more }
 -- the seat's replies of a control with this command of it more are those of the control and then the command's reply
 abbrev pub AddsReply : (Parts → Rules) → Journaled → ℕ → Command → Type 0
 AddsReply rules c seat command =
-    answers_to rules seat (extended rules c seat command) ≡ answers_to rules seat c ++ reply_in rules c seat command ∷ []
+    replies_in rules seat (extended rules c seat command) ≡ replies_in rules seat c ++ reply_in rules c seat command ∷ []

@@ -1,19 +1,20 @@
 -- what a reader of the contracts believes: the table of the commands, journals, and the headline over them
-pub mod Answer
+pub mod ToldReply
 pub mod Auto
 pub mod Stops
 pub mod State
 pub mod Commands
 pub mod Journal
 pub mod Headline
--- the texts of its faults
+-- the texts of its faults, also what a reader believes
 pub mod FaultTexts
--- the room that a control has, and what a call leaves
+-- the room that a control has, also what a reader believes
 pub mod Room
-pub mod Done
--- the words of the laws
+-- the words of the laws, also what a reader believes
 pub mod Laws
--- the worked journals, as the table of the commands gives them
+-- the worked journals, as the table of the commands gives them, also what a reader believes
 pub mod WorkedJournals
 -- what the code keeps for itself: whether `auto` is refused by itself
 pub mod Trying
+pub mod Done
+pub mod Kept

@@ -1,9 +1,7 @@
 -- The control state.
-use Rattle.std.specs.Prelude.{ℕ, ◌+◌, ◌-◌, List, [], ◌∷◌, length, replicate, Option, None, slice_get, slice_index_or, slice_set}
-use Rattle.std.specs.List.{AllByRecursion}
+use Rattle.std.specs.Prelude.{ℕ, ◌-◌, List, [], length, replicate, Option, None, slice_get, slice_index_or, slice_set}
 use Rattle.cdb_base.specs.declared.event.Event.{Event}
 use Rattle.cdb_control.specs.Stops.{Stops}
-use Rattle.cdb_rules.specs.Refusals.{IsOfRun}
 use Rattle.cdb_setup.specs.Parts.{Parts}
 
 pub record State : Type 0 where
@@ -30,16 +28,3 @@ with_redo t seat events = record t { redo = slice_set t.redo (seat - 1) events }
 -- the event that a redo takes again
 abbrev pub last_of : List Event → Option Event
 last_of events = slice_get events (length events - 1)
-
--- how many events wait in these lists
-abbrev pub waiting : List (List Event) → ℕ
-waiting [] = 0
-waiting (events ∷ more) = length events + waiting more
-
--- how many events stand or wait in a redo list
-abbrev pub held : State → ℕ
-held t = length t.history + waiting t.redo
-
--- each event that stands or waits is one of a run of the setup
-abbrev pub AreOfRun : State → Type 0
-AreOfRun t = AllByRecursion (IsOfRun t.setup) t.history × AllByRecursion (AllByRecursion (IsOfRun t.setup)) t.redo

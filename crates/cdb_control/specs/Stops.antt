@@ -1,7 +1,5 @@
 -- Breakpoints: a list of numbered stops in order of setting.
-use Rattle.std.specs.Prelude.{ℕ, ◌+◌, ◌++◌, nat_eq, ◌==◌, ◌<◌, ◌≤◌, Bool, true, false, not, ◌&&◌, List, [], ◌∷◌, Contains, Option, Some, None, IsTrue, is_some, option_map, find}
-use Rattle.std.specs.List.{AllByRecursion}
-use Rattle.std.specs.Map.{remove_entry}
+use Rattle.std.specs.Prelude.{ℕ, ◌==◌, ◌≤◌, Bool, true, false, not, ◌&&◌, List, Contains, Option, Some, None, IsTrue, is_some, option_map, find}
 use Rattle.cdb_base.specs.Event.{is_step_of}
 use Rattle.cdb_base.specs.Registers.{same_register}
 use Rattle.cdb_base.specs.declared.event.Event.{Event}
@@ -58,13 +56,3 @@ names_none_of n (stop.Write Dec) = false
 pub record Numbered : Type 0 where
   pub stops : Stops
   pub next : ℕ
-
--- each number is below this one
-abbrev pub AreBelow : ℕ → Stops → Type 0
-AreBelow next stops = AllByRecursion (λ b. b.0 < next) stops
-
-abbrev pub with_stop : Numbered → Stop → Numbered
-with_stop b stop = record { stops = b.stops ++ (b.next, stop) ∷ []; next = b.next + 1 }
-
-abbrev pub without_stop : Numbered → ℕ → Numbered
-without_stop b number = record { stops = remove_entry (nat_eq number) b.stops; next = b.next }

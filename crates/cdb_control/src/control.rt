@@ -1,7 +1,7 @@
 //! The control: the control state, and the journal that led to it.
 ghost use Rattle.std.specs.Prelude.{◌≡◌, ◌≢◌, ◌+◌, ◌-◌, ◌<◌, ◌≤◌, ◌↔◌, ◌⊎◌, max, IfOk, OnOk, OnErr, length, replicate, vec_len, vec_capacity, ◌++◌, ◌∷◌, []};
 ghost use Rattle.std.specs.Result.{result_ok};
-ghost use Rattle.cdb_control.specs.Answer.{told};
+ghost use Rattle.cdb_control.specs.ToldReply.{told};
 ghost use Rattle.cdb_control.specs.Auto.{choice};
 ghost use Rattle.cdb_control.specs.Headline.{Headline};
 ghost use Rattle.cdb_control.specs.Journal.{entry, opened, extended, reply_in, control_state, AreOfSeats, NeedsNoMemory};
@@ -87,8 +87,8 @@ pub struct Control<R: Runs> {
 
 impl<R: Runs> Model for Control<R> {
     ghost use Rattle.std.specs.Prelude.{vec_len, vec_capacity};
-    ghost use Rattle.cdb_control.specs.Journal.{Journaled, IsReplayed};
-    ghost use Rattle.cdb_control.specs.Room.{HoldsRooms, rooms_at};
+    ghost use Rattle.cdb_control.specs.Journal.{Journaled};
+    ghost use Rattle.cdb_control.specs.Kept.{IsReplayed, HoldsRooms, rooms_at};
 
     ghost Value = { Journaled };
 
@@ -183,7 +183,7 @@ impl<R: Runs> Control<R> {
     }
 
     /// How many more commands there can be of any seat before one of this seat that is spared can need memory; at
-    /// first 0. A taken rollback of the seat counts as many as it takes back.
+    /// first 0. A granted rollback of the seat counts as many as it removes.
     pub fn room(&self, seat: u8) -> u32
         requires from_one { 1 ≤ seat }
         requires to_last { seat ≤ self.now.seats }

@@ -6,10 +6,10 @@ ghost use Rattle.cdb_base.specs.declared.act.Act.{Act};
 ghost use Rattle.cdb_control.specs.declared.command.Command.{Command};
 ghost use Rattle.cdb_control.specs.declared.command.Command.TheVariants.{Step, Auto};
 ghost use Rattle.cdb_control.specs.declared.control.Entry.{Entry};
-ghost use Rattle.cdb_control.specs.Answer.{Undone, Redone, RolledBack, History, Decisions, Refused};
-ghost use Rattle.cdb_control.specs.Commands.{TellsPause, answer, obey};
+ghost use Rattle.cdb_control.specs.ToldReply.{Undone, Redone, RolledBack, History, Decisions, Refused};
+ghost use Rattle.cdb_control.specs.Commands.{TellsPause, reply_of, obey};
 ghost use Rattle.cdb_control.specs.Headline.{Headline};
-ghost use Rattle.cdb_control.specs.Journal.{answers_to, own, AreOfSeats};
+ghost use Rattle.cdb_control.specs.Journal.{replies_in, own, AreOfSeats};
 ghost use Rattle.cdb_control.specs.Laws.{followed_by, AddsReply, AreTwoSeats, ForCommands, ForSeats, InReplayed};
 ghost use Rattle.cdb_control.specs.State.{redo_of};
 ghost use Rattle.cdb_control.specs.WorkedJournals.{replies, query, send, plain_step, needed_by, undone_and_redone, rolled_back_and_redone};
@@ -21,7 +21,7 @@ use cdb_rules::Runs;
 #[tactic(auto)]
 pub fn refused_changes_nothing()
     ensures { ForCommands (λ rules t seat command. (refusal : Refusal) →
-        answer rules t seat command ≡ Refused refusal → obey rules t seat command ≡ t) }
+        reply_of rules t seat command ≡ Refused refusal → obey rules t seat command ≡ t) }
 {}
 
 /// A command leaves the redo lists of the other seats alone.
@@ -41,9 +41,9 @@ pub fn numbers_rise()
 #[tactic(auto)]
 pub fn least_fired()
     ensures by_step { InReplayed (λ rules t. (seat p : ℕ) (act : Act) →
-        TellsPause rules t p (answer rules t seat (Step p act))) }
+        TellsPause rules t p (reply_of rules t seat (Step p act))) }
     ensures by_auto { InReplayed (λ rules t. (seat p : ℕ) →
-        TellsPause rules t p (answer rules t seat (Auto p))) }
+        TellsPause rules t p (reply_of rules t seat (Auto p))) }
 {}
 
 /// One command more of a seat adds its reply to the seat's replies.
@@ -56,7 +56,7 @@ pub fn own_command_adds_its_reply()
 #[tactic(auto)]
 pub fn others_add_no_reply()
     ensures { ForSeats (λ rules c seat. (more : List Entry) → own seat more ≡ [] →
-        answers_to rules seat (followed_by c more) ≡ answers_to rules seat c) }
+        replies_in rules seat (followed_by c more) ≡ replies_in rules seat c) }
 {}
 
 /// The headline holds of every journal of commands of seats that there are, by the rules of any run.

@@ -5,7 +5,7 @@ ghost use Rattle.cdb_base.specs.declared.limits.TheConstants.{MAX_ENTRIES};
 ghost use Rattle.cdb_control.specs.State.{last_of};
 ghost use Rattle.cdb_rules.specs.EventRefs.{name_given};
 ghost use Rattle.cdb_rules.specs.Refusals.{with_taken};
-ghost use Rattle.cdb_rules.specs.Runs.{RollsBackOnto, undo_answer, after_undo};
+ghost use Rattle.cdb_rules.specs.Runs.{RollsBackOnto, result_of_undo, after_undo};
 
 use cdb_base::{Event, Kind, NoMemory, Refusal, Reg};
 use cdb_rules::{EventRef, Runs};
@@ -75,52 +75,52 @@ impl RedoList {
         Ok(())
     }
 
-    /// Takes an event of a run back, and adds it at the end. After a refusal and after `NoMemory` both
+    /// Undoes an event of a run, and adds it at the end. After a refusal and after `NoMemory` both
     /// are as they were. It needs no memory where there is room for the event, nor for a refusal.
     pub fn undo<R: Runs>(
         &mut self,
         run: &mut R,
-        name: EventRef,
+        event: EventRef,
     ) -> Result<Result<Event, Refusal>, NoMemory>
-        ensures answer { IfOk result (λ r. r ≡ undo_answer (R.run run.old) (name_given name)) }
+        ensures returns { IfOk result (λ r. r ≡ result_of_undo (R.run run.old) (name_given event)) }
         ensures after { OnOk result
-            (R.run run.new ≡ after_undo (R.run run.old) (name_given name)) }
+            (R.run run.new ≡ after_undo (R.run run.old) (name_given event)) }
         ensures list { IfOk result (λ r. self.new.events ≡ with_taken self.old.events r) }
         ensures err { OnErr result (R.run run.new ≡ R.run run.old) }
         ensures list_err { OnErr result (self.new.events ≡ self.old.events) }
         ensures capacity { self.old.capacity ≤ self.new.capacity }
         ensures spared { length self.old.events < self.old.capacity → IsOk result }
-        ensures memory { OnErr result (IsOk (undo_answer (R.run run.old) (name_given name))) }
+        ensures memory { OnErr result (IsOk (result_of_undo (R.run run.old) (name_given event))) }
     {
         let _kind: Option<Kind> = None;
         let _register: Option<Reg> = None;
         if self.events.reserve(1).is_err() {
             // A refusal needs no room in the list.
-            return match run.refuses_undo(name) {
+            return match run.refuses_undo(event) {
                 Some(refusal) => Ok(Err(refusal)),
                 None => Err(NoMemory),
             };
         }
-        let undone = run.undo(name);
+        let undone = run.undo(event);
         if let Ok(event) = &undone {
             self.events.push_reserved(*event);
         }
         Ok(undone)
     }
 
-    /// Takes an event of a run back with its consequences, adds them at the end, the last first, and
+    /// Removes an event of a run with its consequences, adds them at the end, the last first, and
     /// returns how many they are. After a refusal and after `NoMemory` both are as they were.
     pub fn rollback<R: Runs>(
         &mut self,
         alloc: Global,
         run: &mut R,
-        name: EventRef,
+        event: EventRef,
     ) -> Result<Result<u32, Refusal>, NoMemory>
         requires { length (R.run run.old).history ≤ MAX_ENTRIES }
-        ensures rolled_back { RollsBackOnto (R.run run.old) (R.run run.new) (name_given name)
+        ensures rolled_back { RollsBackOnto (R.run run.old) (R.run run.new) (name_given event)
             self.old.events self.new.events result }
         ensures capacity { self.old.capacity ≤ self.new.capacity }
     {
-        run.rollback(alloc, name, &mut self.events)
+        run.rollback(alloc, event, &mut self.events)
     }
 }

@@ -2,16 +2,17 @@
 ghost use Rattle.std.specs.Prelude.{◌≡◌, ◌+◌, ◌≤◌, [], true, IfOk, IfErr, OnOk, OnErr, IsOk, replicate, length, map};
 ghost use Rattle.std.specs.Option.{option_or};
 ghost use Rattle.cdb_base.specs.declared.limits.TheConstants.{MAX_ENTRIES};
-ghost use Rattle.cdb_control.specs.Done.{came_out, CameOutAs, IsCarriedOut, IsCarriedOutForAny, IsNoRefusal, IsTaken, IsTakenFromAny, NoneShrinks};
+ghost use Rattle.cdb_control.specs.Done.{came_out, CameOutAs, IsCarriedOut, IsCarriedOutForAny, IsNoRefusal, IsGranted, IsGrantedFromAny, NoneShrinks};
 ghost use Rattle.cdb_control.specs.Auto.{choice};
 ghost use Rattle.cdb_rules.specs.Auto.{first_act_of};
 ghost use Rattle.cdb_control.specs.Commands.{step, undo, rollback, why, show, decides, newly_fired, last_step, step_told};
 ghost use Rattle.cdb_rules.specs.EventRefs.{name_given};
-ghost use Rattle.cdb_rules.specs.Runs.{with_answer};
+ghost use Rattle.cdb_rules.specs.Runs.{with_result};
 ghost use Rattle.cdb_rules.specs.Step.{is_among};
 ghost use Rattle.cdb_control.specs.Trying.{IsFreeForAuto, IsRefusedForAuto};
-ghost use Rattle.cdb_control.specs.Room.{capacity_of, is_spared, HasSpace};
-ghost use Rattle.cdb_control.specs.State.{first_control_state, held, redo_of, AreOfRun};
+ghost use Rattle.cdb_control.specs.Room.{is_spared};
+ghost use Rattle.cdb_control.specs.Kept.{capacity_of, HasSpace, events_kept, AreOfRun};
+ghost use Rattle.cdb_control.specs.State.{first_control_state, redo_of};
 ghost use Rattle.cdb_rules.specs.Views.{round_of, decision_of};
 ghost use Rattle.cdb_setup.specs.Parts.{AreInRange};
 
@@ -155,7 +156,7 @@ impl<R: Runs> ControlState<R> {
             (IsCarriedOutForAny R.rules self.old.state (Command.Break stop) self.new.state) }
         ensures err { OnErr result (self.new.state ≡ self.old.state) }
         ensures memory { OnErr result
-            (IsTakenFromAny R.rules self.old.state (Command.Break stop)) }
+            (IsGrantedFromAny R.rules self.old.state (Command.Break stop)) }
         ensures kept { self.new.capacities ≡ self.old.capacities }
     {
         if names_none_of(self.run.processes(), &stop) {
@@ -173,7 +174,7 @@ impl<R: Runs> ControlState<R> {
     pub fn forget(&mut self, seat: u8) -> Reply
         requires from_one { 1 ≤ seat }
         requires to_last { seat ≤ length self.old.state.redo }
-        requires few { held self.old.state ≤ MAX_ENTRIES }
+        requires few { events_kept self.old.state ≤ MAX_ENTRIES }
         ensures table { IsCarriedOut R.rules self.old.state seat Command.Forget
             self.new.state result }
         ensures capacities { NoneShrinks self.old.capacities self.new.capacities }
@@ -197,42 +198,42 @@ impl<R: Runs> ControlState<R> {
         self.redo[seat as usize - 1].reserve(additional)
     }
 
-    /// Takes an event back on which no standing event depends, and puts it at the end of the seat's
+    /// Undoes an event on which no standing event depends, and puts it at the end of the seat's
     /// redo list. It needs no memory where there is room for the event.
     #[inline(never)]
-    pub fn undo(&mut self, seat: u8, name: EventRef) -> Result<Reply, NoMemory>
+    pub fn undo(&mut self, seat: u8, event: EventRef) -> Result<Reply, NoMemory>
         requires from_one { 1 ≤ seat }
         requires to_last { seat ≤ length self.old.state.redo }
         ensures ok { IfOk result
-            (CameOutAs (undo self.old.state seat (name_given name)) self.new.state) }
+            (CameOutAs (undo self.old.state seat (name_given event)) self.new.state) }
         ensures err { OnErr result (self.new.state ≡ self.old.state) }
         ensures memory { OnErr result
-            (IsNoRefusal (undo self.old.state seat (name_given name))) }
+            (IsNoRefusal (undo self.old.state seat (name_given event))) }
         ensures capacities { NoneShrinks self.old.capacities self.new.capacities }
         ensures spared { HasSpace self.old seat → IsOk result }
     {
         let list = &mut self.redo[seat as usize - 1];
-        match list.undo(&mut self.run, name)? {
+        match list.undo(&mut self.run, event)? {
             Ok(event) => Ok(Reply::Undone(event)),
             Err(refusal) => Ok(Reply::Refused(refusal)),
         }
     }
 
-    /// Takes an event back with its consequences, and puts them on the seat's redo list, the last first.
+    /// Removes an event with its consequences, and puts them on the seat's redo list, the last first.
     #[inline(never)]
-    pub fn rollback(&mut self, alloc: Global, seat: u8, name: EventRef) -> Result<Reply, NoMemory>
+    pub fn rollback(&mut self, alloc: Global, seat: u8, event: EventRef) -> Result<Reply, NoMemory>
         requires from_one { 1 ≤ seat }
         requires to_last { seat ≤ length self.old.state.redo }
-        requires few { held self.old.state ≤ MAX_ENTRIES }
+        requires few { events_kept self.old.state ≤ MAX_ENTRIES }
         ensures ok { IfOk result
-            (CameOutAs (rollback self.old.state seat (name_given name)) self.new.state) }
+            (CameOutAs (rollback self.old.state seat (name_given event)) self.new.state) }
         ensures err { OnErr result (self.new.state ≡ self.old.state) }
         ensures memory { OnErr result
-            (IsNoRefusal (rollback self.old.state seat (name_given name))) }
+            (IsNoRefusal (rollback self.old.state seat (name_given event))) }
         ensures capacities { NoneShrinks self.old.capacities self.new.capacities }
     {
         let list = &mut self.redo[seat as usize - 1];
-        match list.rollback(alloc, &mut self.run, name)? {
+        match list.rollback(alloc, &mut self.run, event)? {
             Ok(count) => Ok(Reply::RolledBack(count)),
             Err(refusal) => Ok(Reply::Refused(refusal)),
         }
@@ -248,7 +249,7 @@ impl<R: Runs> ControlState<R> {
         ensures ok { IfOk result
             (IsCarriedOut R.rules self.old.state seat Command.Redo self.new.state) }
         ensures err { OnErr result (self.new.state ≡ self.old.state) }
-        ensures memory { OnErr result (IsTaken R.rules self.old.state seat Command.Redo) }
+        ensures memory { OnErr result (IsGranted R.rules self.old.state seat Command.Redo) }
         ensures capacities { NoneShrinks self.old.capacities self.new.capacities }
     {
         let list = &mut self.redo[seat as usize - 1];
@@ -371,7 +372,7 @@ impl<R: Runs> ControlState<R> {
             (IsCarriedOutForAny R.rules self.old.state (Command.Lose s m p) self.new.state) }
         ensures err { OnErr result (self.new.state ≡ self.old.state) }
         ensures memory { OnErr result
-            (IsTakenFromAny R.rules self.old.state (Command.Lose s m p)) }
+            (IsGrantedFromAny R.rules self.old.state (Command.Lose s m p)) }
         ensures kept { self.new.capacities ≡ self.old.capacities }
     {
         match self.run.lose(alloc, s, m, p)? {
@@ -427,7 +428,7 @@ impl<R: Runs> ControlState<R> {
             (IsCarriedOutForAny R.rules self.old.state (Command.Auto p) self.new.state) }
         ensures err { OnErr result (self.new.state ≡ self.old.state) }
         ensures memory { OnErr result
-            (IsTakenFromAny R.rules self.old.state (Command.Auto p)) }
+            (IsGrantedFromAny R.rules self.old.state (Command.Auto p)) }
         ensures kept { self.new.capacities ≡ self.old.capacities }
     {
         if let Some(number) = self.pause {
@@ -449,11 +450,11 @@ impl<R: Runs> ControlState<R> {
 
     /// Returns the direct causes of an event.
     #[inline(never)]
-    pub fn why(&self, alloc: Global, name: EventRef) -> Reply
-        ensures { CameOutAs (why self.now.state (name_given name)) self.now.state result }
+    pub fn why(&self, alloc: Global, event: EventRef) -> Reply
+        ensures { CameOutAs (why self.now.state (name_given event)) self.now.state result }
     {
-        match self.run.explain(alloc, name) {
-            Ok((event, causes)) => Reply::Because(event, causes),
+        match self.run.explain(alloc, event) {
+            Ok((name, causes)) => Reply::Because(name, causes),
             Err(refusal) => Reply::Refused(refusal),
         }
     }
@@ -475,7 +476,7 @@ impl<R: Runs> ControlState<R> {
         ensures ok { IfOk result
             (IsCarriedOutForAny R.rules self.now.state (Command.Show view) self.now.state) }
         ensures memory { OnErr result
-            (IsTakenFromAny R.rules self.now.state (Command.Show view)) }
+            (IsGrantedFromAny R.rules self.now.state (Command.Show view)) }
     {
         let reply = match view {
             View::Proc(p) => self.show_process(p),
@@ -492,7 +493,7 @@ impl<R: Runs> ControlState<R> {
     pub fn decisions(&self, alloc: Global) -> Result<Reply, NoMemory>
         ensures ok { IfOk result
             (IsCarriedOutForAny R.rules self.now.state Command.Decisions self.now.state) }
-        ensures memory { OnErr result (IsTakenFromAny R.rules self.now.state Command.Decisions) }
+        ensures memory { OnErr result (IsGrantedFromAny R.rules self.now.state Command.Decisions) }
     {
         Ok(Reply::Decisions(self.run.decisions(alloc)?))
     }
@@ -502,14 +503,14 @@ impl<R: Runs> ControlState<R> {
     pub fn perform(&mut self, alloc: Global, seat: u8, command: Command) -> Result<Reply, NoMemory>
         requires from_one { 1 ≤ seat }
         requires to_last { seat ≤ length self.old.state.redo }
-        requires few { held self.old.state ≤ MAX_ENTRIES }
+        requires few { events_kept self.old.state ≤ MAX_ENTRIES }
         requires numbers { self.old.state.next ≤ MAX_ENTRIES }
         requires of_run { AreOfRun self.old.state }
         requires in_range { AreInRange self.old.state.setup }
         ensures ok { IfOk result
             (IsCarriedOut R.rules self.old.state seat command self.new.state) }
         ensures err { OnErr result (self.new.state ≡ self.old.state) }
-        ensures memory { OnErr result (IsTaken R.rules self.old.state seat command) }
+        ensures memory { OnErr result (IsGranted R.rules self.old.state seat command) }
         ensures capacities { NoneShrinks self.old.capacities self.new.capacities }
         ensures spared { is_spared command ≡ true → HasSpace self.old seat → IsOk result }
     {

@@ -3,7 +3,8 @@ ghost use Rattle.std.specs.Prelude.{◌≡◌, ◌≤◌, ◌==◌, ◌&&◌, []
 ghost use Rattle.std.specs.Map.{lookup};
 ghost use Rattle.cdb_base.specs.Event.{is_step_of};
 ghost use Rattle.cdb_base.specs.declared.limits.TheConstants.{MAX_ENTRIES};
-ghost use Rattle.cdb_control.specs.Stops.{fires, first_fired, is_receive, is_write_of, names_none_of, with_stop, without_stop};
+ghost use Rattle.cdb_control.specs.Stops.{fires, first_fired, is_receive, is_write_of, names_none_of};
+ghost use Rattle.cdb_control.specs.Kept.{with_stop, without_stop};
 ghost use Rattle.cdb_rules.specs.Step.{is_among};
 
 use crate::Stop;
@@ -80,7 +81,8 @@ pub struct Breakpoints {
 }
 
 impl Model for Breakpoints {
-    ghost use Rattle.cdb_control.specs.Stops.{Numbered, AreBelow};
+    ghost use Rattle.cdb_control.specs.Stops.{Numbered};
+    ghost use Rattle.cdb_control.specs.Kept.{AreBelow};
 
     ghost Value = { Numbered };
 

@@ -1,4 +1,4 @@
--- A dialogue grows by one answer after the other.
+-- A dialogue grows by one response after the other.
 use Rattle.std.proofs.Common.{◌≡◌, ℕ, List, [], ◌∷◌, ◌++◌, sym, ap, ◌∙◌, append_assoc, append-nil}
 use Rattle.std.proofs.lemmas.Grind.{fold-append}
 use Rattle.cdb_debug.specs.Dialogues.{Session, after_request, session_after, shown, shown_from, dialogue}

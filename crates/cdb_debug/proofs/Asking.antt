@@ -6,17 +6,17 @@ use Rattle.std.specs.Str.{bytes_eq}
 use Rattle.std.proofs.lemmas.List.{length-take, take_all}
 use Rattle.std.proofs.lemmas.Slice.Eq.{bytes_eq-Decides}
 use Rattle.cdb_setup.specs.Format.{longest}
-use Rattle.cdb_debug.specs.Held.{held_of}
+use Rattle.cdb_debug.specs.Unfinished.{unfinished_of}
 use Rattle.cdb_debug.specs.Requests.{Asks, HaveQuit, quit_line, up_to_quit}
 use Rattle.cdb_debug.specs.declared.request.Request.{Request}
 use Rattle.cdb_debug.specs.declared.request.Request.TheVariants.{Call, Seat, Help, Quit, Fault, TooLong}
 
 -- a line that is not too long is held whole
-short : (line : List ℕ) → length (held_of line) ≤ longest → held_of line ≡ line
+short : (line : List ℕ) → length (unfinished_of line) ≤ longest → unfinished_of line ≡ line
 short line few = take_all (longest + 1) line (omega (arith, few, length-take (longest + 1) line))
 
 -- what is held of a line asks for the same as the line
-pub asks_whole : (request : Request) (line : List ℕ) → Asks request (held_of line) → Asks request line
+pub asks_whole : (request : Request) (line : List ℕ) → Asks request (unfinished_of line) → Asks request line
 asks_whole (Call command) line asks = subst (Asks (Call command)) (short line asks.0) asks
 asks_whole (Seat seat) line asks = subst (Asks (Seat seat)) (short line asks.0) asks
 asks_whole Help line asks = subst (Asks Help) (short line asks.0) asks

@@ -5,8 +5,8 @@ use Rattle.std.proofs.lemmas.List.Splits.{slice_split_none, slice_split_at, leng
 use Rattle.std.proofs.Math.Seq.{take-append_seam, take-append-add}
 use Rattle.cdb_base.specs.Positions.{without_last}
 use Rattle.cdb_play.specs.Lines.{without_empty_end, lines_of}
-use Rattle.cdb_debug.specs.Held.{HasNoEnd, with_ends}
-use Rattle.cdb_debug.specs.Requests.{ended_lines}
+use Rattle.cdb_debug.specs.Unfinished.{with_ends}
+use Rattle.cdb_debug.specs.Requests.{HasNoEnd, ended_lines}
 
 abbrev pub ends_line : ℕ → Bool
 ends_line byte = nat_eq byte 10

@@ -16,11 +16,11 @@ take_min n xs =
     ]
 
 -- as much more as there is room for is the beginning of all
-pub fill : (most count : ℕ) (held bytes : List ℕ) → length held ≤ most → count ≡ min (length bytes) (most - length held) → held ++ take count bytes ≡ take most (held ++ bytes)
-fill most count held bytes room is =
-    let whole : length held + (most - length held) ≡ most = omega (arith, room) in
-    ap (λ n. held ++ take n bytes) is ∙ ap (λ more. held ++ more) (take_min (most - length held) bytes)
-    ∙ sym (take-append-add held bytes (most - length held)) ∙ ap (λ n. take n (held ++ bytes)) whole
+pub fill : (most count : ℕ) (unfinished bytes : List ℕ) → length unfinished ≤ most → count ≡ min (length bytes) (most - length unfinished) → unfinished ++ take count bytes ≡ take most (unfinished ++ bytes)
+fill most count unfinished bytes room is =
+    let whole : length unfinished + (most - length unfinished) ≡ most = omega (arith, room) in
+    ap (λ n. unfinished ++ take n bytes) is ∙ ap (λ more. unfinished ++ more) (take_min (most - length unfinished) bytes)
+    ∙ sym (take-append-add unfinished bytes (most - length unfinished)) ∙ ap (λ n. take n (unfinished ++ bytes)) whole
 
 -- a beginning and more have the same beginning as all and more
 pub take-take_append : (most : ℕ) (xs ys : List ℕ) → take most (take most xs ++ ys) ≡ take most (xs ++ ys)

@@ -4,7 +4,7 @@ use Rattle.std.specs.Io.KnownBytes.{Appends, Consumes}
 use Rattle.std.proofs.KnownBytes.{Appends-nil, Appends-trans, Consumes-nil, Consumes-trans}
 use Rattle.std.proofs.lemmas.Grind.{flat_map-append, fold-append}
 use Rattle.cdb_play.specs.Streams.{counted}
-use Rattle.cdb_debug.specs.Moves.{Known, Move, Read, ReadFailed, Wrote, WriteFailed, given_by, taken_by, read_in, written_in, AsksForInput, AreWrites, EndsWith, FindsTheEnd, Continues, AreAllOf, Makes, count_on, is_failed_read, is_failed_write}
+use Rattle.cdb_debug.specs.Moves.{Known, Move, Read, ReadFailed, Wrote, WriteFailed, given_by, written_by, read_in, written_in, AsksForInput, AreWrites, EndsWith, FindsTheEnd, Continues, AreAllOf, Makes, count_on, is_failed_read, is_failed_write}
 
 -- such a property holds at each move that asks, of those before it
 abbrev pub AtEachAsk : (List Move → Type 0) → List Move → Type 0
@@ -49,7 +49,7 @@ pub read-append : (moves made : List Move) → read_in (moves ++ made) ≡ read_
 read-append moves made = flat_map-append given_by moves made
 
 pub written-append : (moves made : List Move) → written_in (moves ++ made) ≡ written_in moves ++ written_in made
-written-append moves made = flat_map-append taken_by moves made
+written-append moves made = flat_map-append written_by moves made
 
 -- writes read nothing
 pub nothing_read : (made : List Move) → AreWrites made → read_in made ≡ []

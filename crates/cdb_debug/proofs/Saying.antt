@@ -3,8 +3,7 @@ use Rattle.std.proofs.Common.{◌≡◌, ℕ, ◌+◌, ◌-◌, ◌≤◌, List,
 use Rattle.std.specs.Prelude.{Ok, Err}
 use Rattle.std.proofs.lemmas.List.{take_rest, take_all}
 use Rattle.std.proofs.Math.Seq.{take-add}
-use Rattle.cdb_debug.specs.Held.{Says}
-use Rattle.cdb_debug.specs.Moves.{Known, Move, Wrote, written_in, taken_by, AsksForInput, AreWrites, FailsToWrite, Makes}
+use Rattle.cdb_debug.specs.Moves.{Says, Known, Move, Wrote, written_in, written_by, AsksForInput, AreWrites, FailsToWrite, Makes}
 use Rattle.cdb_debug.proofs.Ordered.{Makes-nothing, Makes-more, written-append}
 
 -- the first bytes of the text were taken
@@ -37,7 +36,7 @@ module _ (old now new : Known) (text : List ℕ) (done : ℕ) (so : HasSaid old 
       }
 
   -- the writing failed
-  pub cut_off : (A E : Type 0) (e : E) (move : Move) → FailsToWrite move → (AsksForInput move → ⊥) → taken_by move ≡ [] → Makes now new (move ∷ []) → Says {A = A} (Err e) old new text
+  pub cut_off : (A E : Type 0) (e : E) (move : Move) → FailsToWrite move → (AsksForInput move → ⊥) → written_by move ≡ [] → Makes now new (move ∷ []) → Says {A = A} (Err e) old new text
   cut_off A E e move fails no_ask none more = (
     so.made ++ move ∷ [],
     Makes-more old now new so.made (move ∷ []) so.makes more,
@@ -46,7 +45,7 @@ module _ (old now new : Known) (text : List ℕ) (done : ℕ) (so : HasSaid old 
       drop done text,
       sym (take-append-drop done text)
           ∙ ap (λ bytes. bytes ++ drop done text)
-          (sym so.written ∙ sym (append-nil (written_in so.made)) ∙ ap (λ bytes. written_in so.made ++ bytes) (sym (append-nil (taken_by move) ∙ none)) ∙ sym (written-append so.made (move ∷ []))),
+          (sym so.written ∙ sym (append-nil (written_in so.made)) ∙ ap (λ bytes. written_in so.made ++ bytes) (sym (append-nil (written_by move) ∙ none)) ∙ sym (written-append so.made (move ∷ []))),
       (so.made, move, refl, fails),
     ),
   )

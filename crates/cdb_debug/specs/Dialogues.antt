@@ -1,4 +1,4 @@
--- The answers of a session, along the lines.
+-- The responses of a session, along the lines.
 use Rattle.std.specs.Prelude.{◌≡◌, ℕ, ◌+◌, ◌==◌, List, [], ◌∷◌, ◌++◌, length, fold, codes, decimal, if◌then◌else◌}
 use Rattle.cdb_base.specs.declared.limits.TheConstants.{MAX_ENTRIES}
 use Rattle.cdb_control.specs.FaultTexts.{call_fault_text}
@@ -51,15 +51,15 @@ long_line_text line = as_line (codes "line " ++ decimal line ++ codes " too long
 
 -- ---- one line
 
--- The answer to what a line asks for. A command has the text of its reply, unless the journal is full.
-abbrev pub answer_to : Session → Request → List ℕ
-answer_to s (Call command) =
+-- The response to what a line asks for. A command has the text of its reply, unless the journal is full.
+abbrev pub response_to : Session → Request → List ℕ
+response_to s (Call command) =
     if length s.control.journal == MAX_ENTRIES then full_text else text_of (reply_in s.rules s.control s.seat command)
-answer_to s (Seat seat) = seat_line seat ++ codes "\n"
-answer_to s Help = HELP.now
-answer_to s Quit = []
-answer_to s (Fault fault) = faulty_line_text (s.lines + 1) fault
-answer_to s TooLong = long_line_text (s.lines + 1)
+response_to s (Seat seat) = seat_line seat ++ codes "\n"
+response_to s Help = HELP.now
+response_to s Quit = []
+response_to s (Fault fault) = faulty_line_text (s.lines + 1) fault
+response_to s TooLong = long_line_text (s.lines + 1)
 
 -- the control after it: a command has an entry, unless the journal is full
 abbrev pub control_after : Session → Request → Journaled
@@ -93,11 +93,11 @@ after_request s request =
 
 -- ---- all lines
 
--- The answers, and what else is shown: the prompt stands before each line, and so after each answer but that to `quit`.
+-- The responses, and what else is shown: the prompt stands before each line, and so after each response but that to `quit`.
 module _ (prompt : List ℕ) where
   abbrev pub shown : Session → Request → List ℕ
-  shown s Quit = answer_to s Quit
-  shown s request = answer_to s request ++ prompt
+  shown s Quit = response_to s Quit
+  shown s request = response_to s request ++ prompt
 
   abbrev pub shown_from : Session → List Request → List ℕ
   shown_from s [] = []
@@ -107,7 +107,7 @@ module _ (prompt : List ℕ) where
   abbrev pub dialogue : Session → List Request → List ℕ
   dialogue start requests = prompt ++ shown_from start requests
 
-  -- the text is that of a session from this start with these lines, of which it answers those up to `quit`
+  -- the text is that of a session from this start with these lines, of which it responds to those up to `quit`
   abbrev pub IsDialogue : Session → List (List ℕ) → List ℕ → Type 0
   IsDialogue start lines text =
       (requests : List Request) × AreAsked requests lines × (text ≡ dialogue start requests)

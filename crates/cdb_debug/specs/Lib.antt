@@ -5,4 +5,4 @@ pub mod Dialogues
 pub mod Sessions
 pub mod Laws
 -- ---- what the code keeps for itself
-pub mod Held
+pub mod Unfinished

@@ -5,7 +5,7 @@ use Rattle.std.specs.List.{AllByRecursion, flat_map}
 use Rattle.cdb_play.specs.Streams.{counted}
 
 -- The session asked for input, and was given these bytes, none at the end of input; or the reading failed. Or it handed
--- a text over, of which these first bytes were taken; or the writing failed.
+-- a text over, of which these first bytes were written; or the writing failed.
 pub data Move : Type 0 where
   Read : List ℕ → Move
   ReadFailed : Move
@@ -18,11 +18,11 @@ given_by ReadFailed = []
 given_by (Wrote bytes) = []
 given_by WriteFailed = []
 
-abbrev pub taken_by : Move → List ℕ
-taken_by (Read bytes) = []
-taken_by ReadFailed = []
-taken_by (Wrote bytes) = bytes
-taken_by WriteFailed = []
+abbrev pub written_by : Move → List ℕ
+written_by (Read bytes) = []
+written_by ReadFailed = []
+written_by (Wrote bytes) = bytes
+written_by WriteFailed = []
 
 -- all that was read
 abbrev pub read_in : List Move → List ℕ
@@ -30,7 +30,7 @@ read_in moves = flat_map given_by moves
 
 -- all that was written
 abbrev pub written_in : List Move → List ℕ
-written_in moves = flat_map taken_by moves
+written_in moves = flat_map written_by moves
 
 -- the session asked for input
 abbrev pub AsksForInput : Move → Type 0
@@ -119,3 +119,12 @@ pub record Makes (old new : Known) (made : List Move) : Type 0 where
   pub held : Appends old.held new.held (written_in made)
   pub failed_reads : new.failed_reads ≡ count_on is_failed_read old.failed_reads made
   pub failed_writes : new.failed_writes ≡ count_on is_failed_write old.failed_writes made
+
+-- these writes are of this text, or where the writing failed of a beginning of it
+abbrev pub IsSaid : {A E : Type 0} → Result A E → List Move → List ℕ → Type 0
+IsSaid (Ok done) made text = written_in made ≡ text
+IsSaid (Err failed) made text = (missing : List ℕ) × (text ≡ written_in made ++ missing) × EndsWith FailsToWrite made
+
+-- a text was handed over
+abbrev pub Says : {A E : Type 0} → Result A E → Known → Known → List ℕ → Type 0
+Says result old new text = (made : List Move) × Makes old new made × AreWrites made × IsSaid result made text

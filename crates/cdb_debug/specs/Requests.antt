@@ -1,6 +1,6 @@
 -- What the lines of a session ask for.
-use Rattle.std.specs.Prelude.{◌≡◌, ◌⊎◌, ℕ, ◌<◌, ◌≤◌, List, [], ◌∷◌, ◌++◌, length, codes, decimal, if◌then◌else◌}
-use Rattle.std.specs.List.{AllZip, slice_split}
+use Rattle.std.specs.Prelude.{◌≡◌, ◌⊎◌, ℕ, ◌<◌, ◌≤◌, List, [], ◌∷◌, ◌++◌, length, codes, decimal, if◌then◌else◌, false}
+use Rattle.std.specs.List.{AllZip, slice_split, All}
 use Rattle.std.specs.Str.{bytes_eq}
 use Rattle.std.specs.Prelude.{nat_eq}
 use Rattle.cdb_base.specs.Positions.{without_last}
@@ -66,3 +66,7 @@ HaveQuit lines = (before others : List (List ℕ)) × (lines ≡ before ++ quit_
 -- what the lines up to `quit` ask for, one after the other
 abbrev pub AreAsked : List Request → List (List ℕ) → Type 0
 AreAsked requests lines = AllZip Asks requests (up_to_quit lines)
+
+-- no byte ends a line
+abbrev pub HasNoEnd : List ℕ → Type 0
+HasNoEnd bytes = All (λ byte. nat_eq byte 10 ≡ false) bytes

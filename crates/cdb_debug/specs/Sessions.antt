@@ -22,43 +22,43 @@ pub data HasEnded (moves : List Move) : Type 0 where
   at_most : most_input ≤ length (read_in moves) → HasEnded moves
 
 module _ (prompt : List ℕ) (start : Session) where
-  -- all lines that have ended are answered in full, and none of them is `quit`
-  pub record IsAnswered (moves : List Move) : Type 0 where
-    pub answered : IsDialogue prompt start (ended_lines (read_in moves)) (written_in moves)
+  -- all lines that have ended have their responses in full, and none of them is `quit`
+  pub record HasResponded (moves : List Move) : Type 0 where
+    pub responded : IsDialogue prompt start (ended_lines (read_in moves)) (written_in moves)
     pub goes_on : ¬ HaveQuit (ended_lines (read_in moves))
 
-  -- whenever the session asks for more input, all lines that it was given so far are answered in full
-  abbrev pub AnswersInTime : List Move → Type 0
-  AnswersInTime moves =
+  -- whenever the session asks for more input, all lines that it was given so far have their responses in full
+  abbrev pub RespondsInTime : List Move → Type 0
+  RespondsInTime moves =
       (before : List Move) (ask : Move) (later : List Move) → moves ≡ before ++ ask ∷ later → AsksForInput ask
-      → IsAnswered before
+      → HasResponded before
 
-  -- all is answered, a last line too that lacks its byte 10
+  -- all has its response, a last line too that lacks its byte 10
   pub record IsWhole (moves : List Move) : Type 0 where
-    pub answered : IsDialogue prompt start (lines_of (read_in moves)) (written_in moves)
+    pub responded : IsDialogue prompt start (lines_of (read_in moves)) (written_in moves)
     pub ended : HasEnded moves
 
-  -- the first of the lines are answered in full, and the others not at all
+  -- the first of the lines have their responses in full, and the others not at all
   pub record IsCutShort (moves : List Move) : Type 0 where
     pub lines : List (List ℕ)
     pub others : List (List ℕ)
     pub begins : lines_of (read_in moves) ≡ lines ++ others
-    pub answered : IsDialogue prompt start lines (written_in moves)
+    pub responded : IsDialogue prompt start lines (written_in moves)
 
-  -- what was written is a beginning of the answers to the first of the lines
+  -- what was written is a beginning of the responses to the first of the lines
   pub record IsBroken (moves : List Move) : Type 0 where
     pub lines : List (List ℕ)
     pub others : List (List ℕ)
     pub text : List ℕ
     pub missing : List ℕ
     pub begins : lines_of (read_in moves) ≡ lines ++ others
-    pub answered : IsDialogue prompt start lines text
+    pub responded : IsDialogue prompt start lines text
     pub written : text ≡ written_in moves ++ missing
 
   -- the moves by what the session returned
   abbrev pub EndsAs : {A : Type 0} → Result A PlayFault → List Move → Type 0
   EndsAs (Ok done) moves = IsWhole moves
-  EndsAs (Err fault.Read) moves = IsAnswered moves × EndsWith (λ last. last ≡ ReadFailed) moves
+  EndsAs (Err fault.Read) moves = HasResponded moves × EndsWith (λ last. last ≡ ReadFailed) moves
   EndsAs (Err fault.Write) moves = IsBroken moves × EndsWith FailsToWrite moves
   EndsAs (Err fault.NoMemory) moves = IsCutShort moves
   EndsAs (Err (fault.Setup why)) moves = ⊥
@@ -67,7 +67,7 @@ module _ (prompt : List ℕ) (start : Session) where
 
   -- a session that has made these moves, and returned this
   pub record IsSession {A : Type 0} (returned : Result A PlayFault) (moves : List Move) : Type 0 where
-    pub in_time : AnswersInTime moves
+    pub in_time : RespondsInTime moves
     pub ends : EndsAs returned moves
 
 module _ (rules : Parts → Rules) (prompt json : List ℕ) where

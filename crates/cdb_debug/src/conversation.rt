@@ -2,10 +2,10 @@
 
 ghost use Rattle.std.specs.Prelude.{◌≡◌, ◌-◌, ◌<◌, ◌^◌};
 ghost use Rattle.cdb_debug.specs.Dialogues.{session_by};
-ghost use Rattle.cdb_debug.specs.Held.{AnswersLast, Converses};
+ghost use Rattle.cdb_debug.specs.Unfinished.{RespondsToLast, Converses};
 ghost use Rattle.cdb_debug.specs.Sessions.{Debugs};
 
-use crate::hearing::{answer_held, hear};
+use crate::hearing::{hear, respond_to_line};
 use crate::session::Session;
 use crate::talk::{Talk, say};
 use cdb_play::PlayFault;
@@ -20,21 +20,21 @@ const PIECE: usize = 4096;
 const MOST_INPUT: u64 = 1 << 63;
 
 /// Answers a last line that has not ended, if there is one.
-fn answer_last<R: Runs, T: Talk>(
+fn respond_to_last<R: Runs, T: Talk>(
     alloc: Global,
     prompt: &[u8],
     session: &mut Session<R>,
-    mut held: Vec<u8>,
+    mut unfinished: Vec<u8>,
     talk: &mut T,
 ) -> Result<(), PlayFault>
     requires { session.old.lines < 2 ^ 64 - 1 }
-    ensures { AnswersLast result (T.known talk.old) (T.known talk.new)
-        prompt.now (session_by R.rules session.old) held.items }
+    ensures { RespondsToLast result (T.known talk.old) (T.known talk.new)
+        prompt.now (session_by R.rules session.old) unfinished.items }
 {
-    if held.is_empty() {
+    if unfinished.is_empty() {
         return Ok(());
     }
-    answer_held(alloc, prompt, session, &mut held, talk)?;
+    respond_to_line(alloc, prompt, session, &mut unfinished, talk)?;
     Ok(())
 }
 
@@ -52,7 +52,7 @@ fn converse<R: Runs, T: Talk>(
     let Ok(()) = say(talk, prompt) else {
         return Err(PlayFault::Write);
     };
-    let mut held = Vec::new(alloc);
+    let mut unfinished = Vec::new(alloc);
     let mut buffer = [0u8; PIECE];
     let mut read = 0u64;
     while read < MOST_INPUT {
@@ -60,24 +60,31 @@ fn converse<R: Runs, T: Talk>(
             return Err(PlayFault::Read);
         };
         if count == 0 {
-            return answer_last(alloc, prompt, session, held, talk);
+            return respond_to_last(alloc, prompt, session, unfinished, talk);
         }
         read += count as u64;
-        if hear(alloc, prompt, session, &mut held, talk, &buffer[..count])? {
+        if hear(
+            alloc,
+            prompt,
+            session,
+            &mut unfinished,
+            talk,
+            &buffer[..count],
+        )? {
             return Ok(());
         }
     }
-    answer_last(alloc, prompt, session, held, talk)
+    respond_to_last(alloc, prompt, session, unfinished, talk)
 }
 
-/// A session on a run of the setup, in which each line is answered before more input is asked for: a command of the
+/// A session on a run of the setup, in which each line has its response before more input is asked for: a command of the
 /// seat that the session is at, `help`, `seat S`, or `quit`, which ends it; a line that is none of these has its fault.
 /// The prompt is shown before each line. The end of the input ends the session too, and so do 2^63 bytes.
 ///
 /// # Errors
 /// `Setup` with the setup's first fault, before any input is asked for. `Read` where the reading failed: each line is
-/// answered. `Write` where the writing failed: what was written is a beginning of the answers. `NoMemory` where an
-/// allocation fails: what was written are the answers to a beginning of the lines.
+/// responded to. `Write` where the writing failed: what was written is a beginning of the responses. `NoMemory` where an
+/// allocation fails: what was written are the responses to a beginning of the lines.
 pub fn debug<R: Runs, T: Talk>(
     alloc: Global,
     setup: &[u8],

@@ -1,4 +1,4 @@
-//! Sessions at a prompt or behind a pipe: each line is answered before the next is read.
+//! Sessions at a prompt or behind a pipe: each line has its response before the next is read.
 //!
 //! ```text
 //! let mut talk = Streams::new(Input::new(rt.reader()), Output::new(io::writer(rt)));
@@ -6,21 +6,21 @@
 //! ```
 #![tactic(auto)]
 
-mod answer;
 mod conversation;
 mod hearing;
-mod held;
 mod help;
 pub mod laws;
 mod request;
+mod response;
 mod session;
 mod streams;
 mod talk;
+mod unfinished;
 
-pub use answer::{push_fault, push_too_long};
 pub use conversation::debug;
-pub use held::{cut, hold};
 pub use help::HELP;
 pub use request::{Request, request_of};
+pub use response::{push_fault, push_too_long};
 pub use streams::Streams;
 pub use talk::{Talk, say};
+pub use unfinished::{cut, hold};

@@ -1,12 +1,12 @@
 //! A session: what its lines have led to.
 
 ghost use Rattle.std.specs.Prelude.{◌≡◌, ◌-◌, ◌<◌, ◌^◌, ◌++◌, IfOk, OnOk};
-ghost use Rattle.cdb_debug.specs.Dialogues.{session_by, begun, after_request, answer_to, shown};
+ghost use Rattle.cdb_debug.specs.Dialogues.{session_by, begun, after_request, response_to, shown};
 ghost use Rattle.cdb_debug.specs.Requests.{Asks};
 
-use crate::answer::{push_fault, push_seat, push_too_long};
 use crate::help::HELP;
 use crate::request::Request;
+use crate::response::{push_fault, push_seat, push_too_long};
 use cdb_base::NoMemory;
 use cdb_control::{CallFault, Command, Control};
 use cdb_rules::Runs;
@@ -57,7 +57,8 @@ impl<R: Runs> Session<R> {
     fn call(&mut self, alloc: Global, command: Command) -> Result<Vec<u8>, NoMemory>
         requires { self.old.lines < 2 ^ 64 - 1 }
         ensures text { IfOk result
-            (λ text. text.items ≡ answer_to (session_by R.rules self.old) (Request.Call command)) }
+            (λ text. text.items
+            ≡ response_to (session_by R.rules self.old) (Request.Call command)) }
         ensures after { OnOk result (session_by R.rules self.new
             ≡ after_request (session_by R.rules self.old) (Request.Call command)) }
     {
@@ -70,12 +71,12 @@ impl<R: Runs> Session<R> {
         Ok(text)
     }
 
-    /// Does what a line asks for, and returns the answer. After an error the session is not to go on.
-    fn answer(&mut self, alloc: Global, line: &[u8], request: Request) -> Result<Vec<u8>, NoMemory>
+    /// Does what a line asks for, and returns the response. After an error the session is not to go on.
+    fn respond(&mut self, alloc: Global, line: &[u8], request: Request) -> Result<Vec<u8>, NoMemory>
         requires lines { self.old.lines < 2 ^ 64 - 1 }
         requires asks { Asks request line.now }
         ensures text { IfOk result
-            (λ text. text.items ≡ answer_to (session_by R.rules self.old) request) }
+            (λ text. text.items ≡ response_to (session_by R.rules self.old) request) }
         ensures after { OnOk result
             (session_by R.rules self.new ≡ after_request (session_by R.rules self.old) request) }
     {
@@ -95,7 +96,7 @@ impl<R: Runs> Session<R> {
         Ok(text.into_bytes())
     }
 
-    /// Does what a line asks for, and returns what is shown then: the answer, and the prompt unless the line was
+    /// Does what a line asks for, and returns what is shown then: the response, and the prompt unless the line was
     /// `quit`. After an error the session is not to go on.
     pub(crate) fn show(
         &mut self,
@@ -111,7 +112,7 @@ impl<R: Runs> Session<R> {
         ensures after { OnOk result
             (session_by R.rules self.new ≡ after_request (session_by R.rules self.old) request) }
     {
-        let mut text = self.answer(alloc, line, request)?;
+        let mut text = self.respond(alloc, line, request)?;
         if request != Request::Quit {
             text.extend_from_slice(prompt)?;
         }

@@ -14,7 +14,7 @@ pub struct Streams<R: Source + Drop, W: Sink + Drop> {
 }
 
 impl<R: Source + Drop, W: Sink + Drop> Streams<R, W> {
-    /// Lines come from the one, and answers go to the other.
+    /// Lines come from the one, and responses go to the other.
     pub fn new(input: R, output: W) -> Self
         ensures input { result.input ≡ input }
         ensures output { result.output ≡ output }

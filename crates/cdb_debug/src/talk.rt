@@ -2,12 +2,11 @@
 
 ghost use Rattle.std.specs.Prelude.{◌≡◌, ◌<◌, ◌++◌, ◌∷◌, [], length};
 ghost use Rattle.std.specs.Io.{ReadsAtMost, WritesAtMost};
-ghost use Rattle.cdb_debug.specs.Moves.{Known, Makes, move_of_read, move_of_write};
-ghost use Rattle.cdb_debug.specs.Held.{Says};
+ghost use Rattle.cdb_debug.specs.Moves.{Known, Makes, move_of_read, move_of_write, Says};
 
 use cdb_play::Failed;
 
-/// What gives the lines of a session, and takes the answers.
+/// What gives the lines of a session, and takes the responses.
 pub trait Talk {
     /// What is known of it: what was read from it and written to it.
     ghost known: { Self → Known };

@@ -1,7 +1,7 @@
 -- What was written of the picture of a script, by how it ended.
 use Rattle.std.proofs.Common.{◌≡◌, ℕ, List, Option, Result, Ok, Err, refl, sym, subst}
 use Rattle.std.specs.Prelude.{IfErr}
-use Rattle.cdb_explain.proofs.Answered.{output_fault}
+use Rattle.cdb_explain.proofs.Returned.{output_fault}
 use Rattle.cdb_explain.specs.StepFaults.{IsFaultOfStep}
 use Rattle.cdb_explain.specs.declared.fault.ExplainFault.{ExplainFault}
 use Rattle.cdb_explain.specs.declared.fault.ExplainFault.TheVariants.{NoStep, Play}
@@ -29,4 +29,4 @@ pub fault_left : (rules : Parts → Rules) (json : List ℕ) (step : Option Step
 fault_left rules json step old new run left (Ok done) none = tt
 fault_left rules json step old new run left (Err NoStep) missing = (run, left, missing)
 fault_left rules json step old new run left (Err (Play fault)) (why, is) =
-    subst (IsFaultOfPlay json old new) (sym is) (output_fault why json old new (left.2.setup, left.2.stands))
+    subst (IsFaultOfPlay json old new) (sym is) (output_fault why json old new (left.2.setup, left.2.encodes))

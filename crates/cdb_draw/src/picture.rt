@@ -1,13 +1,14 @@
 //! The picture of a run, written in pieces: lanes, the arrows of all events, and then their marks.
 
 ghost use Rattle.std.specs.Prelude.{◌≡◌, ◌<◌, ◌≤◌, ◌++◌, length, string_bytes, IfOk};
+ghost use Rattle.cdb_draw.specs.Layout.{most_width};
 ghost use Rattle.cdb_draw.specs.Arrows.{arrow_at};
 ghost use Rattle.cdb_draw.specs.EventMarks.{mark_at};
 ghost use Rattle.cdb_draw.specs.Lanes.{lanes_text};
 ghost use Rattle.cdb_draw.specs.Picture.{algorithm_text, arrows_text, document_text, foot, head_text, heading_text, marks_text, namespace_text, picture_text, shapes_text, size_text, style_text};
 ghost use Rattle.cdb_draw.specs.Sends.{AreSendsOf};
 ghost use Rattle.cdb_explain.specs.Explanations.{run_after};
-ghost use Rattle.cdb_play.specs.Buffers.{Puts};
+ghost use Rattle.cdb_play.specs.Putting.{Puts};
 ghost use Rattle.cdb_play.specs.Endings.{pieces_ending};
 ghost use Rattle.cdb_play.specs.Written.{IsWritten, Only};
 ghost use Rattle.cdb_rules.specs.ByRules.{IsInOrder};
@@ -102,7 +103,7 @@ fn push_document(
     algorithm: Algorithm,
     quorum: usize,
 ) -> Result<(), AllocError>
-    requires wide { w ≤ 9999999 }
+    requires wide { w ≤ most_width }
     requires high { h ≤ 999 }
     ensures { Pushes result text.old text.new (document_text w h algorithm quorum) }
 {

@@ -4,7 +4,8 @@ use Rattle.std.proofs.lemmas.List.{length-replicate}
 use Rattle.cdb_control.proofs.Table.{obey-adds}
 use Rattle.cdb_control.specs.Commands.{obey}
 use Rattle.cdb_control.specs.Journal.{AreOfSeats, Journaled, replay, replay_from, control_state}
-use Rattle.cdb_control.specs.State.{State, first_control_state, held, waiting}
+use Rattle.cdb_control.specs.State.{State, first_control_state}
+use Rattle.cdb_control.specs.Kept.{events_kept, waiting}
 use Rattle.cdb_control.specs.declared.control.Entry.{Entry}
 use Rattle.cdb_rules.specs.Lawful.{AreLawful}
 use Rattle.cdb_rules.specs.Rules.{Rules}
@@ -15,7 +16,7 @@ none_wait zero = refl
 none_wait (suc n) = omega (arith, none_wait n)
 
 -- each entry adds one event at most
-held_after : (rules : Rules) (journal : List Entry) (t : State) (seats : ℕ) → AreLawful rules t.setup → length t.redo ≡ seats → AreOfSeats seats journal → held (replay_from rules t journal) ≤ held t + length journal
+held_after : (rules : Rules) (journal : List Entry) (t : State) (seats : ℕ) → AreLawful rules t.setup → length t.redo ≡ seats → AreOfSeats seats journal → events_kept (replay_from rules t journal) ≤ events_kept t + length journal
 held_after rules [] t seats lawful lists of_seats = omega arith
 held_after rules (e ∷ journal) t seats lawful lists of_seats =
     let adds = obey-adds rules t lawful e.seat e.command of_seats.0.0 (omega (arith, of_seats.0.1, lists)) in

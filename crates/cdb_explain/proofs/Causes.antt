@@ -10,7 +10,7 @@ use Rattle.cdb_causal.specs.Names.{IsNamedAt}
 use Rattle.cdb_causal.specs.Standing.{IsStanding}
 use Rattle.cdb_past.proofs.Pairing.{taken}
 use Rattle.cdb_rules.specs.Undo.{causes_of, direct_among, for_standing, found_at, names_processes}
-use Rattle.cdb_rules.proofs.Answering.{found_is}
+use Rattle.cdb_rules.proofs.Results.{found_is}
 use Rattle.cdb_rules.proofs.Finding.{no_process_named, stands_named}
 use Rattle.cdb_rules.proofs.ListMembers.{get-take}
 

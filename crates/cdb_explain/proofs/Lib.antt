@@ -1,4 +1,4 @@
-pub mod Answered
+pub mod Returned
 pub mod Marking
 pub mod Causes
 pub mod Along

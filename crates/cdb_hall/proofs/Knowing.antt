@@ -3,7 +3,7 @@ use Rattle.std.proofs.Common.{◌≡◌, inl, inr, ℕ, ◌≤◌, List, ◌++�
 use Rattle.std.specs.Prelude.{Result, Ok, Err}
 use Rattle.cdb_base.specs.declared.limits.TheConstants.{MAX_ENTRIES}
 use Rattle.cdb_control.proofs.Own.{replies_of-same}
-use Rattle.cdb_control.specs.Answer.{Answer}
+use Rattle.cdb_control.specs.ToldReply.{ToldReply}
 use Rattle.cdb_control.specs.Journal.{Journaled, own, replies_of}
 use Rattle.cdb_play.specs.declared.fault.PlayFault.{PlayFault}
 use Rattle.cdb_play.specs.declared.fault.PlayFault.TheVariants as fault
@@ -17,7 +17,7 @@ use Rattle.cdb_shared.specs.Seats.{SeatView, IsKnownBy}
 use Rattle.cdb_shared.specs.Sessions.{calls_of, replies_to}
 use Rattle.cdb_hall.specs.Dialogues.{seat_dialogue}
 use Rattle.cdb_hall.specs.Parts.{part_in, part_seen, HasCommands}
-use Rattle.cdb_hall.specs.Sessions.{SeatAnswersInTime, IsServed, SeatEndsAs, IsSeatSession}
+use Rattle.cdb_hall.specs.Sessions.{SeatRespondsInTime, IsServed, SeatEndsAs, IsSeatSession}
 
 module _ (rules : Parts → Rules) (prompt : List ℕ) (c : Journaled) (seat : SeatView) (n : ℕ) (is : seat.number ≡ n) (known : IsKnownBy c seat) (few : length c.journal ≤ MAX_ENTRIES) where
   calls_known : calls_of seat ≡ own n c.journal
@@ -36,7 +36,7 @@ module _ (rules : Parts → Rules) (prompt : List ℕ) (c : Journaled) (seat : S
   has_known requests (inr some) = inr (full_known some.0, some.1, some.2 ∙ ap (λ calls. calls ++ some.1) calls_known)
 
   served_known : (lines : List (List ℕ)) (text : List ℕ) → IsServed prompt (part_seen rules seat) lines text → IsServed prompt (part_in rules c n) lines text
-  served_known lines text s = (s.0, s.1, s.2 ∙ ap (λ (r : List Answer). seat_dialogue prompt r s.0) replies_known, has_known s.0 s.3)
+  served_known lines text s = (s.0, s.1, s.2 ∙ ap (λ (r : List ToldReply). seat_dialogue prompt r s.0) replies_known, has_known s.0 s.3)
 
   ends_known : (returned : Result (Unit {0}) PlayFault) (moves : List Move) → SeatEndsAs prompt (part_seen rules seat) returned moves → SeatEndsAs prompt (part_in rules c n) returned moves
   ends_known (Ok done) moves e = record { served = served_known (lines_of (read_in moves)) (written_in moves) e.served; ended = e.ended }
@@ -51,7 +51,7 @@ module _ (rules : Parts → Rules) (prompt : List ℕ) (c : Journaled) (seat : S
     others = e.others;
     begins = e.begins;
     one = e.one;
-    answered = (e.answered.0, e.answered.1, e.answered.2 ∙ ap (λ (r : List Answer). seat_dialogue prompt r e.answered.0) replies_known);
+    responded = (e.responded.0, e.responded.1, e.responded.2 ∙ ap (λ (r : List ToldReply). seat_dialogue prompt r e.responded.0) replies_known);
     commands = (e.commands.0, e.commands.1, has_known e.commands.0 e.commands.2);
   }
   ends_known (Err (fault.Setup why)) moves e = e
@@ -61,6 +61,6 @@ module _ (rules : Parts → Rules) (prompt : List ℕ) (c : Journaled) (seat : S
   -- a session by what the seat has seen is one by the final journal
   pub session_known : (returned : Result (Unit {0}) PlayFault) (moves : List Move) → IsSeatSession prompt (part_seen rules seat) returned moves → IsSeatSession prompt (part_in rules c n) returned moves
   session_known returned moves s = record {
-    in_time = subst (λ (r : List Answer). SeatAnswersInTime prompt r moves) replies_known s.in_time;
+    in_time = subst (λ (r : List ToldReply). SeatRespondsInTime prompt r moves) replies_known s.in_time;
     ends = ends_known returned moves s.ends;
   }

@@ -1,6 +1,6 @@
 pub mod Along
 pub mod Going
-pub mod Answering
+pub mod Responding
 pub mod Stepping
 pub mod Looking
 pub mod Conversing

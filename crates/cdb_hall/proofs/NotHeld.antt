@@ -1,4 +1,4 @@
--- Sessions that were not held.
+-- Sessions that did not begin.
 use Rattle.std.proofs.Common.{◌≢◌, List, ℕ}
 use Rattle.cdb_play.specs.Races.{race_fault_of_setup}
 use Rattle.cdb_setup.specs.Order.{IsFirstFault}

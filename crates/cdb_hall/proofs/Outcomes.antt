@@ -78,7 +78,7 @@ module _ {R T : Type 0} (rules : Parts → Rules) (known : T → Known) (shared 
         (record { made = its.made; makes = its.makes; session = session_known rules station.prompt.now c seat (k + 1) number (by k nobody (omega (arith, long, many, low))) few there.attended.outcome its.made session })
 
     pub hall : 1 ≤ length stations → AreOfSeats c.seats c.journal → length attended ≡ length lefts → IsHall rules known setup stations c attended
-    hall some entries answered =
+    hall some entries responded =
         let left = some_of lefts (omega (arith, many, some)) in
         let p = some_of stations (omega (arith, some)) in
         let first = (attended_by 0 p left (omega (arith, some))).later in
@@ -88,6 +88,6 @@ module _ {R T : Type 0} (rules : Parts → Rules) (known : T → Known) (shared 
           setup_is = at.setup ∙ ap (λ (s : SeatView). s.setup) is ∙ first.setup;
           seats_are = at.seats ∙ ap (λ (s : SeatView). s.seats) is ∙ first.seats;
           entries = entries;
-          many = answered ∙ many;
+          many = responded ∙ many;
           each = λ k p a low. one k p a low;
         }

@@ -4,15 +4,15 @@ use Rattle.std.specs.Prelude.{Result, Err}
 use Rattle.std.specs.List.{AllZip, AllByRecursion}
 use Rattle.std.proofs.lemmas.List.{length-take, take_all, nil_from_length}
 use Rattle.std.proofs.lemmas.List.Elements.{All-append, All-nil}
-use Rattle.cdb_control.specs.Answer.{Answer}
+use Rattle.cdb_control.specs.ToldReply.{ToldReply}
 use Rattle.cdb_play.specs.Lines.{lines_of}
 use Rattle.cdb_play.specs.declared.buffer.OutputFault.TheVariants as output
 use Rattle.cdb_play.specs.declared.fault.PlayFault.{PlayFault}
 use Rattle.cdb_play.specs.declared.fault.PlayFault.TheVariants as fault
 use Rattle.cdb_setup.specs.Format.{longest}
-use Rattle.cdb_debug.specs.Held.{IsOver, HasNoEnd, with_ends, held_of, ended_well, ended_by}
+use Rattle.cdb_debug.specs.Unfinished.{IsOver, with_ends, unfinished_of, ended_well, ended_by}
+use Rattle.cdb_debug.specs.Requests.{HasNoEnd, Asks, AreAsked, HaveQuit, ended_lines, up_to_quit, quit_line}
 use Rattle.cdb_debug.specs.Moves.{Move, Read, ReadFailed, read_in, written_in, AreWrites, FailsToWrite, EndsWith}
-use Rattle.cdb_debug.specs.Requests.{Asks, AreAsked, HaveQuit, ended_lines, up_to_quit, quit_line}
 use Rattle.cdb_debug.specs.Sessions.{most_input, HasEnded, by_quit, at_end, at_most}
 use Rattle.cdb_debug.specs.declared.request.Request.{Request}
 use Rattle.cdb_debug.specs.declared.request.Request.TheVariants.{Quit}
@@ -26,13 +26,13 @@ use Rattle.cdb_setup.specs.Parts.{Parts}
 use Rattle.cdb_shared.specs.Seats.{SeatView}
 use Rattle.cdb_shared.specs.Sessions.{calls_of}
 use Rattle.cdb_hall.specs.Dialogues.{Along, begun_along, next_along, seat_shown, seat_dialogue, IsSeatDialogue}
-use Rattle.cdb_hall.specs.Held.{IsSeatAt}
+use Rattle.cdb_hall.specs.Unfinished.{IsSeatAt}
 use Rattle.cdb_hall.specs.Parts.{Part, part_seen, HasCommands}
-use Rattle.cdb_hall.specs.Sessions.{IsSeatAnswered, SeatAnswersInTime, IsServed, IsSeatSession}
+use Rattle.cdb_hall.specs.Sessions.{HasSeatResponded, SeatRespondsInTime, IsServed, IsSeatSession}
 use Rattle.cdb_hall.proofs.Along.{along_after-more, seat_dialogue-more}
 
 -- what the seat has seen, with these replies
-abbrev pub part_with : List Answer → SeatView → Part
+abbrev pub part_with : List ToldReply → SeatView → Part
 part_with replies seat = record { calls = calls_of seat; replies = replies; entries = length seat.seen }
 
 ended-more : (lines : List (List ℕ)) (line : List ℕ) → AllByRecursion HasNoEnd lines → HasNoEnd line → AllByRecursion HasNoEnd (lines ++ line ∷ [])
@@ -42,8 +42,8 @@ ended-more (other ∷ lines) line are is = (are.0, ended-more lines line are.1 i
 none_in_nothing : HasNoEnd []
 none_in_nothing = All-nil _
 
-held_of_nothing : held_of [] ≡ []
-held_of_nothing = take_all (longest + 1) [] (omega arith)
+unfinished_of_nothing : unfinished_of [] ≡ []
+unfinished_of_nothing = take_all (longest + 1) [] (omega arith)
 
 -- ---- what lines ask for
 
@@ -75,11 +75,11 @@ over_more moves made writes (inl ends) = at_end (
 over_more moves made writes (inr most) =
     at_most (subst (λ bytes. most_input ≤ length bytes) (sym (read-append moves made ∙ ap (λ more. read_in moves ++ more) (nothing_read made writes) ∙ append-nil (read_in moves))) most)
 
-module _ (rules : Parts → Rules) (prompt : List ℕ) (replies : List Answer) where
-  module _ (moves : List Move) (seat : SeatView) (along : Along) (held left : List ℕ) (at : IsSeatAt rules prompt replies moves seat along held left) where
+module _ (rules : Parts → Rules) (prompt : List ℕ) (replies : List ToldReply) where
+  module _ (moves : List Move) (seat : SeatView) (along : Along) (unfinished left : List ℕ) (at : IsSeatAt rules prompt replies moves seat along unfinished left) where
     -- bytes that end no line are held
-    pub more_held : (more behind kept : List ℕ) → left ≡ more ++ behind → HasNoEnd more → kept ≡ take (longest + 1) (held ++ more) → IsSeatAt rules prompt replies moves seat along kept behind
-    more_held more behind kept cut none is =
+    pub more_unfinished : (more behind kept : List ℕ) → left ≡ more ++ behind → HasNoEnd more → kept ≡ take (longest + 1) (unfinished ++ more) → IsSeatAt rules prompt replies moves seat along kept behind
+    more_unfinished more behind kept cut none is =
         record {
           lines = at.lines;
           line = at.line ++ more;
@@ -87,7 +87,7 @@ module _ (rules : Parts → Rules) (prompt : List ℕ) (replies : List Answer) w
           read = at.read ∙ ap (λ bytes. with_ends at.lines ++ bytes) (ap (λ bytes. at.line ++ bytes) cut ∙ sym (append_assoc at.line more behind));
           ended = at.ended;
           unended = All-append (λ byte. nat_eq byte 10 ≡ false) at.line more at.unended none;
-          held_is = is ∙ ap (λ front. take (longest + 1) (front ++ more)) at.held_is ∙ take-take_append (longest + 1) at.line more;
+          unfinished_is = is ∙ ap (λ front. take (longest + 1) (front ++ more)) at.unfinished_is ∙ take-take_append (longest + 1) at.line more;
           asked = at.asked;
           goes_on = at.goes_on;
           written = at.written;
@@ -105,11 +105,11 @@ module _ (rules : Parts → Rules) (prompt : List ℕ) (replies : List Answer) w
     asked_so_far : AreAsked at.requests at.lines
     asked_so_far = asked_all at.requests at.lines at.asked at.goes_on
 
-    answered_so_far : left ≡ [] → IsSeatAnswered prompt replies moves
-    answered_so_far none =
+    responded_so_far : left ≡ [] → HasSeatResponded prompt replies moves
+    responded_so_far none =
         let lines = lines_so_far none in
         record {
-          answered = subst (λ parts. IsSeatDialogue prompt replies parts (written_in moves)) (sym lines) (at.requests, asked_so_far, at.written);
+          responded = subst (λ parts. IsSeatDialogue prompt replies parts (written_in moves)) (sym lines) (at.requests, asked_so_far, at.written);
           goes_on = subst (λ parts. ¬ HaveQuit parts) (sym lines) (have_none at.lines at.goes_on);
         }
 
@@ -128,7 +128,7 @@ module _ (rules : Parts → Rules) (prompt : List ℕ) (replies : List Answer) w
             others = lines_of (at.line ++ left);
             begins = lines_begin ∙ ap (λ front. front ++ lines_of (at.line ++ left)) (sym (append-nil at.lines));
             one = omega arith;
-            answered = (at.requests, asked_so_far, at.written);
+            responded = (at.requests, asked_so_far, at.written);
             commands = (at.requests, subst (λ lines. AreAsked at.requests lines) (sym (append-nil at.lines)) asked_so_far, has);
           };
         }
@@ -144,13 +144,13 @@ module _ (rules : Parts → Rules) (prompt : List ℕ) (replies : List Answer) w
             others = others;
             begins = begins;
             one = omega arith;
-            answered = (at.requests, asked_so_far, at.written);
+            responded = (at.requests, asked_so_far, at.written);
             commands = (at.requests ++ request ∷ [], asked_with at.requests at.lines request at.line at.asked at.goes_on asks, has);
           };
         }
 
     -- more input is asked for
-    pub more_read : left ≡ [] → (bytes : List ℕ) → IsSeatAt rules prompt replies (moves ++ Read bytes ∷ []) seat along held bytes
+    pub more_read : left ≡ [] → (bytes : List ℕ) → IsSeatAt rules prompt replies (moves ++ Read bytes ∷ []) seat along unfinished bytes
     more_read none bytes =
         record {
           lines = at.lines;
@@ -162,13 +162,13 @@ module _ (rules : Parts → Rules) (prompt : List ℕ) (replies : List Answer) w
               ∙ ap (λ front. (with_ends at.lines ++ front) ++ bytes) (append-nil at.line) ∙ append_assoc (with_ends at.lines) at.line bytes;
           ended = at.ended;
           unended = at.unended;
-          held_is = at.held_is;
+          unfinished_is = at.unfinished_is;
           asked = at.asked;
           goes_on = at.goes_on;
           written = written-append moves (Read bytes ∷ []) ∙ append-nil (written_in moves) ∙ at.written;
           along_is = at.along_is;
           few = omega (arith, at.few, ap length (read-append moves (Read bytes ∷ [])), length-append (read_in moves) (bytes ++ []), ap length (append-nil bytes));
-          in_time = one_move (IsSeatAnswered prompt replies) moves (Read bytes) at.in_time (λ asks. answered_so_far none);
+          in_time = one_move (HasSeatResponded prompt replies) moves (Read bytes) at.in_time (λ asks. responded_so_far none);
           commands = at.commands;
         }
 
@@ -179,7 +179,7 @@ module _ (rules : Parts → Rules) (prompt : List ℕ) (replies : List Answer) w
         let same_written : written_in (moves ++ ReadFailed ∷ []) ≡ written_in moves = written-append moves (ReadFailed ∷ []) ∙ append-nil (written_in moves) in
         let same_lines = ap ended_lines same_read ∙ lines in
         record {
-          in_time = one_move (IsSeatAnswered prompt replies) moves ReadFailed at.in_time (λ asks. answered_so_far none);
+          in_time = one_move (HasSeatResponded prompt replies) moves ReadFailed at.in_time (λ asks. responded_so_far none);
           ends = (
             record {
               served = subst (λ parts. IsServed prompt (part_with replies seat) parts (written_in (moves ++ ReadFailed ∷ []))) (sym same_lines) (at.requests, asked_so_far, same_written ∙ at.written, at.commands);
@@ -189,10 +189,10 @@ module _ (rules : Parts → Rules) (prompt : List ℕ) (replies : List Answer) w
           );
         }
 
-  -- what was written once one line more is answered, or the beginning of its answer
-  module _ (moves : List Move) (seat : SeatView) (along : Along) (held left : List ℕ) (at : IsSeatAt rules prompt replies moves seat along held left) (request : Request) (asks : Asks request held) (made : List Move) (writes : AreWrites made) where
+  -- what was written once one line more is responded to, or the beginning of its response
+  module _ (moves : List Move) (seat : SeatView) (along : Along) (unfinished left : List ℕ) (at : IsSeatAt rules prompt replies moves seat along unfinished left) (request : Request) (asks : Asks request unfinished) (made : List Move) (writes : AreWrites made) where
     whole_line : Asks request at.line
-    whole_line = asks_whole request at.line (subst (Asks request) at.held_is asks)
+    whole_line = asks_whole request at.line (subst (Asks request) at.unfinished_is asks)
 
     same_read : read_in (moves ++ made) ≡ read_in moves
     same_read = read-append moves made ∙ ap (λ more. read_in moves ++ more) (nothing_read made writes) ∙ append-nil (read_in moves)
@@ -205,8 +205,8 @@ module _ (rules : Parts → Rules) (prompt : List ℕ) (replies : List Answer) w
     text_now : written_in made ≡ seat_shown prompt along request → written_in (moves ++ made) ≡ seat_dialogue prompt replies (at.requests ++ request ∷ [])
     text_now said = written-append moves made ∙ ap (λ text. written_in moves ++ text) said ∙ text_before
 
-    still_in_time : SeatAnswersInTime prompt replies (moves ++ made)
-    still_in_time = writes_more (IsSeatAnswered prompt replies) moves made at.in_time writes
+    still_in_time : SeatRespondsInTime prompt replies (moves ++ made)
+    still_in_time = writes_more (HasSeatResponded prompt replies) moves made at.in_time writes
 
     -- the writing failed
     broken : (others : List (List ℕ)) → lines_of (read_in moves) ≡ (at.lines ++ at.line ∷ []) ++ others → (missing : List ℕ) → seat_shown prompt along request ≡ written_in made ++ missing → EndsWith FailsToWrite made
@@ -231,7 +231,7 @@ module _ (rules : Parts → Rules) (prompt : List ℕ) (replies : List Answer) w
         }
 
   -- a line has ended
-  module _ (moves : List Move) (seat : SeatView) (along : Along) (held left : List ℕ) (at : IsSeatAt rules prompt replies moves seat along held (10 ∷ left)) (request : Request) (asks : Asks request held) (new : SeatView) where
+  module _ (moves : List Move) (seat : SeatView) (along : Along) (unfinished left : List ℕ) (at : IsSeatAt rules prompt replies moves seat along unfinished (10 ∷ left)) (request : Request) (asks : Asks request unfinished) (new : SeatView) where
     now_read : read_in moves ≡ with_ends (at.lines ++ at.line ∷ []) ++ left
     now_read =
         at.read
@@ -245,18 +245,18 @@ module _ (rules : Parts → Rules) (prompt : List ℕ) (replies : List Answer) w
 
     -- memory is out
     pub line_lost : HasCommands (part_seen rules new) at.requests ⊎ HasCommands (part_seen rules new) (at.requests ++ request ∷ []) → IsSeatSession prompt (part_with replies new) (ended_by output.NoMemory) moves
-    line_lost (inl has) = lost_before moves seat along held (10 ∷ left) at new has
-    line_lost (inr has) = lost_behind moves seat along held (10 ∷ left) at new request (whole_line moves seat along held (10 ∷ left) at request asks [] tt) (lines_of left) now_lines has
+    line_lost (inl has) = lost_before moves seat along unfinished (10 ∷ left) at new has
+    line_lost (inr has) = lost_behind moves seat along unfinished (10 ∷ left) at new request (whole_line moves seat along unfinished (10 ∷ left) at request asks [] tt) (lines_of left) now_lines has
 
     module _ (has : HasCommands (part_seen rules new) (at.requests ++ request ∷ [])) (made : List Move) (writes : AreWrites made) where
       pub line_broken : (missing : List ℕ) → seat_shown prompt along request ≡ written_in made ++ missing → EndsWith FailsToWrite made → IsSeatSession prompt (part_with replies new) (ended_by output.Write) (moves ++ made)
-      line_broken missing said fails = broken moves seat along held (10 ∷ left) at request asks made writes (lines_of left) now_lines missing said fails new has
+      line_broken missing said fails = broken moves seat along unfinished (10 ∷ left) at request asks made writes (lines_of left) now_lines missing said fails new has
 
       -- it was another line than `quit`
-      pub line_answered : (next : Along) (kept : List ℕ) → written_in made ≡ seat_shown prompt along request → next ≡ next_along along request → next.lines ≡ along.lines + 1 → kept ≡ [] → request ≢ Quit → IsSeatAt rules prompt replies (moves ++ made) new next kept left
-      line_answered next kept said is one emptied other =
-          let asked : Asks request at.line = whole_line moves seat along held (10 ∷ left) at request asks made writes in
-          let read : read_in (moves ++ made) ≡ read_in moves = same_read moves seat along held (10 ∷ left) at request asks made writes in
+      pub line_responded : (next : Along) (kept : List ℕ) → written_in made ≡ seat_shown prompt along request → next ≡ next_along along request → next.lines ≡ along.lines + 1 → kept ≡ [] → request ≢ Quit → IsSeatAt rules prompt replies (moves ++ made) new next kept left
+      line_responded next kept said is one emptied other =
+          let asked : Asks request at.line = whole_line moves seat along unfinished (10 ∷ left) at request asks made writes in
+          let read : read_in (moves ++ made) ≡ read_in moves = same_read moves seat along unfinished (10 ∷ left) at request asks made writes in
           record {
             lines = at.lines ++ at.line ∷ [];
             line = [];
@@ -264,29 +264,29 @@ module _ (rules : Parts → Rules) (prompt : List ℕ) (replies : List Answer) w
             read = read ∙ now_read;
             ended = now_ended;
             unended = none_in_nothing;
-            held_is = emptied ∙ sym held_of_nothing;
+            unfinished_is = emptied ∙ sym unfinished_of_nothing;
             asked = AllZip-more at.requests at.lines request at.line at.asked asked;
             goes_on = AreOthers-more at.lines at.line at.goes_on (is_not_quit request at.line asked other);
-            written = text_now moves seat along held (10 ∷ left) at request asks made writes said;
+            written = text_now moves seat along unfinished (10 ∷ left) at request asks made writes said;
             along_is = is ∙ ap (λ s. next_along s request) at.along_is ∙ sym (along_after-more (begun_along replies) at.requests request);
             few = omega (arith, at.few, ap length read, one);
-            in_time = still_in_time moves seat along held (10 ∷ left) at request asks made writes;
+            in_time = still_in_time moves seat along unfinished (10 ∷ left) at request asks made writes;
             commands = has;
           }
 
       -- it was `quit`
       pub line_quit : written_in made ≡ seat_shown prompt along request → request ≡ Quit → IsSeatSession prompt (part_with replies new) ended_well (moves ++ made)
       line_quit said is_quit =
-          let asked : Asks Quit at.line = subst (λ r. Asks r at.line) is_quit (whole_line moves seat along held (10 ∷ left) at request asks made writes) in
-          let read : read_in (moves ++ made) ≡ read_in moves = same_read moves seat along held (10 ∷ left) at request asks made writes in
+          let asked : Asks Quit at.line = subst (λ r. Asks r at.line) is_quit (whole_line moves seat along unfinished (10 ∷ left) at request asks made writes) in
+          let read : read_in (moves ++ made) ≡ read_in moves = same_read moves seat along unfinished (10 ∷ left) at request asks made writes in
           let lines : lines_of (read_in (moves ++ made)) ≡ at.lines ++ at.line ∷ lines_of left = ap lines_of read ∙ now_lines ∙ append_assoc at.lines (at.line ∷ []) (lines_of left) in
           let ended : ended_lines (read_in (moves ++ made)) ≡ at.lines ++ quit_line ∷ ended_lines left =
           ap ended_lines (read ∙ now_read) ∙ ended_and_more (at.lines ++ at.line ∷ []) left now_ended
           ∙ append_assoc at.lines (at.line ∷ []) (ended_lines left) ∙ ap (λ line. at.lines ++ line ∷ ended_lines left) asked.1 in
           let text : written_in (moves ++ made) ≡ seat_dialogue prompt replies (at.requests ++ Quit ∷ []) =
-          text_now moves seat along held (10 ∷ left) at request asks made writes said ∙ ap (λ r. seat_dialogue prompt replies (at.requests ++ r ∷ [])) is_quit in
+          text_now moves seat along unfinished (10 ∷ left) at request asks made writes said ∙ ap (λ r. seat_dialogue prompt replies (at.requests ++ r ∷ [])) is_quit in
           record {
-            in_time = still_in_time moves seat along held (10 ∷ left) at request asks made writes;
+            in_time = still_in_time moves seat along unfinished (10 ∷ left) at request asks made writes;
             ends = record {
               served =
                   subst (λ parts. IsServed prompt (part_with replies new) parts (written_in (moves ++ made))) (sym lines)
@@ -296,41 +296,41 @@ module _ (rules : Parts → Rules) (prompt : List ℕ) (replies : List Answer) w
           }
 
   -- there is no more input
-  module _ (moves : List Move) (seat : SeatView) (along : Along) (held : List ℕ) (at : IsSeatAt rules prompt replies moves seat along held []) (over : IsOver moves) where
-    last_lines : 0 < length held → lines_of (read_in moves) ≡ at.lines ++ at.line ∷ []
+  module _ (moves : List Move) (seat : SeatView) (along : Along) (unfinished : List ℕ) (at : IsSeatAt rules prompt replies moves seat along unfinished []) (over : IsOver moves) where
+    last_lines : 0 < length unfinished → lines_of (read_in moves) ≡ at.lines ++ at.line ∷ []
     last_lines some =
-        let some_line : 0 < length at.line = omega (arith, some, ap length at.held_is, length-take (longest + 1) at.line) in
+        let some_line : 0 < length at.line = omega (arith, some, ap length at.unfinished_is, length-take (longest + 1) at.line) in
         ap lines_of (at.read ∙ ap (λ last. with_ends at.lines ++ last) (append-nil at.line)) ∙ lines_of_joined at.lines at.line at.ended ∙ ap (λ last. at.lines ++ last) (one_unended at.line some_line at.unended)
 
     -- a last line without its end
-    module _ (some : 0 < length held) (request : Request) (asks : Asks request held) (new : SeatView) where
+    module _ (some : 0 < length unfinished) (request : Request) (asks : Asks request unfinished) (new : SeatView) where
       pub last_lost : HasCommands (part_seen rules new) at.requests ⊎ HasCommands (part_seen rules new) (at.requests ++ request ∷ []) → IsSeatSession prompt (part_with replies new) (ended_by output.NoMemory) moves
-      last_lost (inl has) = lost_before moves seat along held [] at new has
-      last_lost (inr has) = lost_behind moves seat along held [] at new request (whole_line moves seat along held [] at request asks [] tt) [] (last_lines some ∙ sym (append-nil (at.lines ++ at.line ∷ []))) has
+      last_lost (inl has) = lost_before moves seat along unfinished [] at new has
+      last_lost (inr has) = lost_behind moves seat along unfinished [] at new request (whole_line moves seat along unfinished [] at request asks [] tt) [] (last_lines some ∙ sym (append-nil (at.lines ++ at.line ∷ []))) has
 
       module _ (has : HasCommands (part_seen rules new) (at.requests ++ request ∷ [])) (made : List Move) (writes : AreWrites made) where
         pub last_broken : (missing : List ℕ) → seat_shown prompt along request ≡ written_in made ++ missing → EndsWith FailsToWrite made → IsSeatSession prompt (part_with replies new) (ended_by output.Write) (moves ++ made)
-        last_broken missing said fails = broken moves seat along held [] at request asks made writes [] (last_lines some ∙ sym (append-nil (at.lines ++ at.line ∷ []))) missing said fails new has
+        last_broken missing said fails = broken moves seat along unfinished [] at request asks made writes [] (last_lines some ∙ sym (append-nil (at.lines ++ at.line ∷ []))) missing said fails new has
 
-        pub last_answered : written_in made ≡ seat_shown prompt along request → IsSeatSession prompt (part_with replies new) ended_well (moves ++ made)
-        last_answered said =
-            let read : read_in (moves ++ made) ≡ read_in moves = same_read moves seat along held [] at request asks made writes in
+        pub last_responded : written_in made ≡ seat_shown prompt along request → IsSeatSession prompt (part_with replies new) ended_well (moves ++ made)
+        last_responded said =
+            let read : read_in (moves ++ made) ≡ read_in moves = same_read moves seat along unfinished [] at request asks made writes in
             let lines : lines_of (read_in (moves ++ made)) ≡ at.lines ++ at.line ∷ [] = ap lines_of read ∙ last_lines some in
-            let asked : Asks request at.line = whole_line moves seat along held [] at request asks made writes in
+            let asked : Asks request at.line = whole_line moves seat along unfinished [] at request asks made writes in
             record {
-              in_time = still_in_time moves seat along held [] at request asks made writes;
+              in_time = still_in_time moves seat along unfinished [] at request asks made writes;
               ends = record {
                 served =
                     subst (λ parts. IsServed prompt (part_with replies new) parts (written_in (moves ++ made))) (sym lines)
-                    (at.requests ++ request ∷ [], asked_with at.requests at.lines request at.line at.asked at.goes_on asked, text_now moves seat along held [] at request asks made writes said, has);
+                    (at.requests ++ request ∷ [], asked_with at.requests at.lines request at.line at.asked at.goes_on asked, text_now moves seat along unfinished [] at request asks made writes said, has);
                 ended = over_more moves made writes over;
               };
             }
 
     -- or none
-    pub no_last_line : length held ≡ 0 → IsSeatSession prompt (part_with replies seat) ended_well moves
+    pub no_last_line : length unfinished ≡ 0 → IsSeatSession prompt (part_with replies seat) ended_well moves
     no_last_line none =
-        let no_line : at.line ≡ [] = nil_from_length at.line (omega (arith, none, ap length at.held_is, length-take (longest + 1) at.line)) in
+        let no_line : at.line ≡ [] = nil_from_length at.line (omega (arith, none, ap length at.unfinished_is, length-take (longest + 1) at.line)) in
         let lines : lines_of (read_in moves) ≡ at.lines =
         ap lines_of (at.read ∙ ap (λ last. with_ends at.lines ++ (last ++ [])) no_line) ∙ lines_of_joined at.lines [] at.ended ∙ ap (λ last. at.lines ++ last) lines_of_none ∙ append-nil at.lines in
         record {
@@ -353,20 +353,20 @@ module _ (rules : Parts → Rules) (prompt : List ℕ) (replies : List Answer) w
           read = nothing_read made writes;
           ended = tt;
           unended = none_in_nothing;
-          held_is = sym held_of_nothing;
+          unfinished_is = sym unfinished_of_nothing;
           asked = tt;
           goes_on = tt;
           written = said ∙ sym (append-nil prompt);
           along_is = refl;
           few = omega (arith, ap length (nothing_read made writes));
-          in_time = writes_more (IsSeatAnswered prompt replies) [] made (nothing_asked (IsSeatAnswered prompt replies)) writes;
+          in_time = writes_more (HasSeatResponded prompt replies) [] made (nothing_asked (HasSeatResponded prompt replies)) writes;
           commands = inl new;
         }
 
     pub not_prompted : (missing : List ℕ) → prompt ≡ written_in made ++ missing → EndsWith FailsToWrite made → IsSeatSession prompt (part_with replies seat) (ended_by output.Write) made
     not_prompted missing said fails =
         record {
-          in_time = writes_more (IsSeatAnswered prompt replies) [] made (nothing_asked (IsSeatAnswered prompt replies)) writes;
+          in_time = writes_more (HasSeatResponded prompt replies) [] made (nothing_asked (HasSeatResponded prompt replies)) writes;
           ends = (
             record {
               lines = [];

@@ -1,4 +1,4 @@
--- Why no sessions were held.
+-- Why there were no sessions.
 use Rattle.std.specs.Prelude.{ℕ, List}
 use Rattle.cdb_play.specs.FaultTexts.{race_fault_text}
 use Rattle.cdb_play.specs.declared.fault.RaceFault.{RaceFault}

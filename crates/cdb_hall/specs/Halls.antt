@@ -18,7 +18,7 @@ pub record IsAttended {T : Type 0} (rules : Parts → Rules) (known : T → Know
   pub makes : Makes (known station.talk) (known attended.talk) made
   pub session : IsSeatSession station.prompt.now (part_in rules c seat) attended.outcome made
 
--- One journal explains what all seats were answered: each talk is that of its seat, and no entry is of another.
+-- One journal explains the responses to all seats: each talk is that of its seat, and no entry is of another.
 pub record IsHall {T : Type 0} (rules : Parts → Rules) (known : T → Known) (setup : Parts) (stations : List (Station T)) (c : Journaled) (attended : List (Attended T)) : Type 0 where
   pub setup_is : c.setup ≡ setup
   pub seats_are : c.seats ≡ length stations

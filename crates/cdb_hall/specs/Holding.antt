@@ -17,11 +17,11 @@ use Rattle.cdb_hall.specs.Reports.{outcomes, failures_text, status_of}
 use Rattle.cdb_hall.specs.declared.station.Station.{Station}
 use Rattle.cdb_hall.specs.declared.station.Attended.{Attended}
 
--- the sessions were held, the journal was written and what failed was reported, as far as that went, and this is the status
+-- the sessions have ended, the journal was written and what failed was reported, as far as that went, and this is the status
 pub record HoldsSessions {T O E : Type 0} (rules : Parts → Rules) (known : T → Known) (output_stream : O → Stream) (error_stream : E → Stream)
     (json : List ℕ) (stations : List (Station T)) (output output_after : O) (error error_after : E) (status : ℕ) : Type 0 where
   pub setup : Parts
-  pub stands : Encodes json setup
+  pub encodes : Encodes json setup
   pub control : Journaled
   pub attended : List (Attended T)
   pub hall : IsHall rules known setup stations control attended

@@ -8,5 +8,5 @@ pub mod Holding
 pub mod Faults
 -- ---- what the code keeps for itself
 pub mod Lines
-pub mod Held
+pub mod Unfinished
 pub mod Promises

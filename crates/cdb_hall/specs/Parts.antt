@@ -2,7 +2,7 @@
 use Rattle.std.specs.Prelude.{◌≡◌, ◌⊎◌, ℕ, List, [], ◌∷◌, ◌++◌, length}
 use Rattle.std.specs.List.{flat_map}
 use Rattle.cdb_base.specs.declared.limits.TheConstants.{MAX_ENTRIES}
-use Rattle.cdb_control.specs.Answer.{Answer}
+use Rattle.cdb_control.specs.ToldReply.{ToldReply}
 use Rattle.cdb_control.specs.Journal.{Journaled, own, replies_of}
 use Rattle.cdb_control.specs.declared.command.Command.{Command}
 use Rattle.cdb_debug.specs.Requests.{AreAsked}
@@ -17,7 +17,7 @@ use Rattle.cdb_shared.specs.Sessions.{calls_of, replies_to}
 -- has in all.
 pub record Part : Type 0 where
   pub calls : List Command
-  pub replies : List Answer
+  pub replies : List ToldReply
   pub entries : ℕ
 
 -- in the journal of a control

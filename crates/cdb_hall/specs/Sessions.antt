@@ -1,6 +1,6 @@
 -- What a seat's session has done, by its moves and by what the journal has of the seat.
 use Rattle.std.specs.Prelude.{◌≡◌, ℕ, ◌≤◌, List, ◌∷◌, ◌++◌, length, Result, Ok, Err}
-use Rattle.cdb_control.specs.Answer.{Answer}
+use Rattle.cdb_control.specs.ToldReply.{ToldReply}
 use Rattle.cdb_play.specs.Lines.{lines_of}
 use Rattle.cdb_play.specs.declared.fault.PlayFault.{PlayFault}
 use Rattle.cdb_play.specs.declared.fault.PlayFault.TheVariants as fault
@@ -12,16 +12,16 @@ use Rattle.cdb_hall.specs.Dialogues.{seat_dialogue, IsSeatDialogue}
 use Rattle.cdb_hall.specs.Parts.{Part, HasCommands, HasCommandsOf}
 
 module _ (prompt : List ℕ) where
-  -- with these replies all lines that have ended are answered in full, and none of them is `quit`
-  pub record IsSeatAnswered (replies : List Answer) (moves : List Move) : Type 0 where
-    pub answered : IsSeatDialogue prompt replies (ended_lines (read_in moves)) (written_in moves)
+  -- with these replies all lines that have ended have their responses in full, and none of them is `quit`
+  pub record HasSeatResponded (replies : List ToldReply) (moves : List Move) : Type 0 where
+    pub responded : IsSeatDialogue prompt replies (ended_lines (read_in moves)) (written_in moves)
     pub goes_on : ¬ HaveQuit (ended_lines (read_in moves))
 
-  -- whenever the session asks for more input, all lines that it was given so far are answered in full
-  abbrev pub SeatAnswersInTime : List Answer → List Move → Type 0
-  SeatAnswersInTime replies moves =
+  -- whenever the session asks for more input, all lines that it was given so far have their responses in full
+  abbrev pub SeatRespondsInTime : List ToldReply → List Move → Type 0
+  SeatRespondsInTime replies moves =
       (before : List Move) (ask : Move) (later : List Move) → moves ≡ before ++ ask ∷ later → AsksForInput ask
-      → IsSeatAnswered replies before
+      → HasSeatResponded replies before
 
   module _ (part : Part) where
     -- the text has the replies to the commands of these lines, which the journal has
@@ -29,17 +29,17 @@ module _ (prompt : List ℕ) where
     IsServed lines text =
         (requests : List Request) × AreAsked requests lines × (text ≡ seat_dialogue prompt part.replies requests) × HasCommands part requests
 
-    -- all is answered, a last line too that lacks its byte 10
+    -- all has its response, a last line too that lacks its byte 10
     pub record IsSeatWhole (moves : List Move) : Type 0 where
       pub served : IsServed (lines_of (read_in moves)) (written_in moves)
       pub ended : HasEnded moves
 
-    -- each line that has ended is answered, and none of them is `quit`
+    -- each line that has ended has its response, and none of them is `quit`
     pub record IsSeatUnread (moves : List Move) : Type 0 where
       pub served : IsServed (ended_lines (read_in moves)) (written_in moves)
       pub goes_on : ¬ HaveQuit (ended_lines (read_in moves))
 
-    -- What was written is a beginning of the answers to the first of the lines.
+    -- What was written is a beginning of the responses to the first of the lines.
     pub record IsSeatBroken (moves : List Move) : Type 0 where
       pub lines : List (List ℕ)
       pub others : List (List ℕ)
@@ -49,7 +49,7 @@ module _ (prompt : List ℕ) where
       pub served : IsServed lines text
       pub written : text ≡ written_in moves ++ missing
 
-    -- The first of the lines are answered in full, and the others not at all. The journal has the commands of the first
+    -- The first of the lines have their responses in full, and the others not at all. The journal has the commands of the first
     -- lines, and maybe that of the next line too.
     pub record IsSeatCutShort (moves : List Move) : Type 0 where
       pub lines : List (List ℕ)
@@ -57,7 +57,7 @@ module _ (prompt : List ℕ) where
       pub others : List (List ℕ)
       pub begins : lines_of (read_in moves) ≡ (lines ++ next) ++ others
       pub one : length next ≤ 1
-      pub answered : IsSeatDialogue prompt part.replies lines (written_in moves)
+      pub responded : IsSeatDialogue prompt part.replies lines (written_in moves)
       pub commands : HasCommandsOf part (lines ++ next)
 
     -- the moves by what the session returned
@@ -72,5 +72,5 @@ module _ (prompt : List ℕ) where
 
     -- a session that has made these moves, and returned this
     pub record IsSeatSession {A : Type 0} (returned : Result A PlayFault) (moves : List Move) : Type 0 where
-      pub in_time : SeatAnswersInTime part.replies moves
+      pub in_time : SeatRespondsInTime part.replies moves
       pub ends : SeatEndsAs returned moves

@@ -1,10 +1,10 @@
 //! A seat's session from its first line to its last.
 
 ghost use Rattle.std.specs.Prelude.{◌≡◌, [], ◌-◌, ◌<◌, ◌^◌};
-ghost use Rattle.cdb_hall.specs.Held.{SeatAnswersLast, SeatConverses};
+ghost use Rattle.cdb_hall.specs.Unfinished.{SeatRespondsToLast, SeatConverses};
 ghost use Rattle.cdb_shared.specs.Seats.{RestsAt, IsLater};
 
-use crate::hearing::{answer_held, hear};
+use crate::hearing::{hear, respond_to_line};
 use crate::session::Session;
 use cdb_debug::{Talk, say};
 use cdb_play::PlayFault;
@@ -20,32 +20,32 @@ const PIECE: usize = 4096;
 const MOST_INPUT: u64 = 1 << 63;
 
 /// Answers a last line that has not ended, if there is one.
-fn answer_last<R: Runs, T: Talk, Rt: Wait>(
+fn respond_to_last<R: Runs, T: Talk, Rt: Wait>(
     shared: &Shared<R>,
     rt: &Rt,
     alloc: Global,
     prompt: &[u8],
     session: &mut Session<R>,
-    mut held: Vec<u8>,
+    mut unfinished: Vec<u8>,
     talk: &mut T,
 ) -> Result<(), PlayFault>
     requires rests { RestsAt shared.now session.old.seat }
     requires lines { session.old.lines < 2 ^ 64 - 1 }
-    ensures last { SeatAnswersLast R.rules result (T.known talk.old) (T.known talk.new)
-        prompt.now session.old session.new held.items }
+    ensures last { SeatRespondsToLast R.rules result (T.known talk.old) (T.known talk.new)
+        prompt.now session.old session.new unfinished.items }
     ensures seat { IsLater session.old.seat session.new.seat }
 {
-    if held.is_empty() {
+    if unfinished.is_empty() {
         return Ok(());
     }
-    answer_held(shared, rt, alloc, prompt, session, &mut held, talk)?;
+    respond_to_line(shared, rt, alloc, prompt, session, &mut unfinished, talk)?;
     Ok(())
 }
 
 /// Answers a seat's lines one after the other, from the first one on, up to `quit` or the end of the input. The prompt
 /// is shown before each line. The end of the input ends the session too, and so do 2^63 bytes. After `Read` each line
-/// that has ended is answered, after `Write` what was written is a beginning of the answers, and after `NoMemory` it is
-/// the answers to a beginning of the lines.
+/// that has ended has its response, after `Write` what was written is a beginning of the responses, and after `NoMemory` it is
+/// the responses to a beginning of the lines.
 pub(crate) fn converse<R: Runs, T: Talk, Rt: Wait>(
     shared: &Shared<R>,
     rt: &Rt,
@@ -64,7 +64,7 @@ pub(crate) fn converse<R: Runs, T: Talk, Rt: Wait>(
     let Ok(()) = say(talk, prompt) else {
         return Err(PlayFault::Write);
     };
-    let mut held = Vec::new(alloc);
+    let mut unfinished = Vec::new(alloc);
     let mut buffer = [0u8; PIECE];
     let mut read = 0u64;
     while read < MOST_INPUT {
@@ -72,7 +72,7 @@ pub(crate) fn converse<R: Runs, T: Talk, Rt: Wait>(
             return Err(PlayFault::Read);
         };
         if count == 0 {
-            return answer_last(shared, rt, alloc, prompt, session, held, talk);
+            return respond_to_last(shared, rt, alloc, prompt, session, unfinished, talk);
         }
         read += count as u64;
         if hear(
@@ -81,12 +81,12 @@ pub(crate) fn converse<R: Runs, T: Talk, Rt: Wait>(
             alloc,
             prompt,
             session,
-            &mut held,
+            &mut unfinished,
             talk,
             &buffer[..count],
         )? {
             return Ok(());
         }
     }
-    answer_last(shared, rt, alloc, prompt, session, held, talk)
+    respond_to_last(shared, rt, alloc, prompt, session, unfinished, talk)
 }

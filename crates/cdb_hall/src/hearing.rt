@@ -1,7 +1,7 @@
 //! What a seat's session does with the bytes that it was given.
 
 ghost use Rattle.std.specs.Prelude.{◌≡◌, ◌+◌, ◌-◌, ◌<◌, ◌≤◌, ◌^◌, length, OnOk};
-ghost use Rattle.cdb_hall.specs.Held.{SeatAnswersHeld, SeatHears};
+ghost use Rattle.cdb_hall.specs.Unfinished.{SeatRespondsToLine, SeatHears};
 ghost use Rattle.cdb_setup.specs.Format.{longest};
 ghost use Rattle.cdb_shared.specs.Seats.{RestsAt, IsLater};
 
@@ -13,26 +13,26 @@ use cdb_shared::Shared;
 use std::alloc::Global;
 use std::sync::Wait;
 
-/// Answers the line that is held, and holds nothing then. Returns whether the line was `quit`.
-pub(crate) fn answer_held<R: Runs, T: Talk, Rt: Wait>(
+/// Responds to the line that has ended, and keeps nothing then. Returns whether the line was `quit`.
+pub(crate) fn respond_to_line<R: Runs, T: Talk, Rt: Wait>(
     shared: &Shared<R>,
     rt: &Rt,
     alloc: Global,
     prompt: &[u8],
     session: &mut Session<R>,
-    held: &mut Vec<u8>,
+    unfinished: &mut Vec<u8>,
     talk: &mut T,
 ) -> Result<bool, OutputFault>
     requires rests { RestsAt shared.now session.old.seat }
     requires lines { session.old.lines < 2 ^ 64 - 1 }
-    ensures held { SeatAnswersHeld R.rules result (T.known talk.old) (T.known talk.new)
-        prompt.now session.old session.new held.old.items held.new.items }
+    ensures unfinished { SeatRespondsToLine R.rules result (T.known talk.old) (T.known talk.new)
+        prompt.now session.old session.new unfinished.old.items unfinished.new.items }
     ensures seat { IsLater session.old.seat session.new.seat }
 {
-    let request = request_of(held.as_slice());
+    let request = request_of(unfinished.as_slice());
     let text = session.show(shared, rt, alloc, prompt, request)?;
     say(talk, text.as_slice())?;
-    held.clear();
+    unfinished.clear();
     Ok(request == Request::Quit)
 }
 
@@ -44,27 +44,27 @@ pub(crate) fn hear<R: Runs, T: Talk, Rt: Wait>(
     alloc: Global,
     prompt: &[u8],
     session: &mut Session<R>,
-    held: &mut Vec<u8>,
+    unfinished: &mut Vec<u8>,
     talk: &mut T,
     bytes: &[u8],
 ) -> Result<bool, OutputFault>
     requires rests { RestsAt shared.now session.old.seat }
     requires lines { session.old.lines + length bytes.now < 2 ^ 64 }
-    requires held { length held.old.items ≤ longest + 1 }
+    requires unfinished { length unfinished.old.items ≤ longest + 1 }
     ensures heard { SeatHears R.rules result (T.known talk.old) (T.known talk.new)
-        prompt.now session.old session.new held.old.items held.new.items bytes.now }
-    ensures held { OnOk result (length held.new.items ≤ longest + 1) }
+        prompt.now session.old session.new unfinished.old.items unfinished.new.items bytes.now }
+    ensures unfinished { OnOk result (length unfinished.new.items ≤ longest + 1) }
     ensures lines { OnOk result (session.new.lines ≤ session.old.lines + length bytes.now) }
     ensures seat { IsLater session.old.seat session.new.seat }
 {
     let mut rest = bytes;
     while let Some((line, behind)) = cut(rest) {
-        hold(held, line)?;
-        if answer_held(shared, rt, alloc, prompt, session, held, talk)? {
+        hold(unfinished, line)?;
+        if respond_to_line(shared, rt, alloc, prompt, session, unfinished, talk)? {
             return Ok(true);
         }
         rest = behind;
     }
-    hold(held, rest)?;
+    hold(unfinished, rest)?;
     Ok(false)
 }

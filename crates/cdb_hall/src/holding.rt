@@ -16,7 +16,7 @@ use std::alloc::Global;
 use std::sync::Wait;
 use std::thread::Threads;
 
-/// The fault of sessions that were not held.
+/// The fault of sessions that did not begin.
 fn of_hall(fault: HallFault) -> RaceFault
     ensures { result ≡ of_hall fault }
 {
@@ -44,7 +44,7 @@ pub fn hold<R: Runs + Send, T: Talk + Drop + Send, Rt: Threads + Wait + Sync, O:
 ) -> Result<u8, RaceFault>
     requires some { 1 ≤ vec_len stations }
     requires fits { vec_len stations ≤ MAX_SEATS }
-    ensures held { IfOk result (HoldsSessions R.rules T.known O.stream E.stream
+    ensures sessions { IfOk result (HoldsSessions R.rules T.known O.stream E.stream
         setup.now stations.items output.old output.new error.old error.new) }
     ensures fault { IfErr result (IsFaultOfHall setup.now) }
     ensures unwritten { OnErr result ((output.new ≡ output.old) × (error.new ≡ error.old)) }
@@ -54,7 +54,7 @@ pub fn hold<R: Runs + Send, T: Talk + Drop + Send, Rt: Threads + Wait + Sync, O:
         Err(fault) => return Err(RaceFault::from(fault)),
     };
     let (control, attended) = match debug_seats::<R, T, Rt>(rt, alloc, setup, stations) {
-        Ok(held) => held,
+        Ok(sessions) => sessions,
         Err(fault) => return Err(of_hall(fault)),
     };
     let written = write_journal(alloc, control.journal(), output);

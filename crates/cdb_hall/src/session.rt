@@ -3,7 +3,7 @@
 ghost use Rattle.std.specs.Prelude.{◌≡◌, ◌+◌, ◌-◌, ◌<◌, ◌^◌, ◌++◌, IfOk, OnOk};
 ghost use Rattle.cdb_text.specs.Pushes.{Pushes};
 ghost use Rattle.cdb_hall.specs.Dialogues.{prompt_after};
-ghost use Rattle.cdb_hall.specs.Lines.{Answers, Shows, own_answer};
+ghost use Rattle.cdb_hall.specs.Lines.{Responds, Shows, own_response};
 ghost use Rattle.cdb_shared.specs.Seats.{RestsAt};
 
 use crate::help::HELP;
@@ -42,7 +42,7 @@ impl<R: Runs> Session<R> {
         command: Command,
     ) -> Result<Vec<u8>, NoMemory>
         requires { RestsAt shared.now self.old.seat }
-        ensures answers { Answers R.rules result self.old (Request.Call command) self.new }
+        ensures responds { Responds R.rules result self.old (Request.Call command) self.new }
         ensures lines { self.new.lines ≡ self.old.lines }
     {
         let reply = match shared.call(rt, alloc, &mut self.seat, command) {
@@ -53,8 +53,8 @@ impl<R: Runs> Session<R> {
         reply_text(alloc, &reply)
     }
 
-    /// Does what a line asks for, and returns the answer. After an error the session is not to go on.
-    fn answer<Rt: Wait>(
+    /// Does what a line asks for, and returns the response. After an error the session is not to go on.
+    fn respond<Rt: Wait>(
         &mut self,
         shared: &Shared<R>,
         rt: &Rt,
@@ -63,16 +63,16 @@ impl<R: Runs> Session<R> {
     ) -> Result<Vec<u8>, NoMemory>
         requires rests { RestsAt shared.now self.old.seat }
         requires lines { self.old.lines < 2 ^ 64 - 1 }
-        ensures answers { Answers R.rules result self.old request self.new }
+        ensures responds { Responds R.rules result self.old request self.new }
         ensures lines { self.new.lines ≡ self.old.lines }
     {
         match request {
             Request::Call(command) => self.call(shared, rt, alloc, command),
-            _ => own_answer(alloc, self.lines, request),
+            _ => own_response(alloc, self.lines, request),
         }
     }
 
-    /// Does what a line asks for, and returns what is shown then: the answer, and the prompt unless the line was
+    /// Does what a line asks for, and returns what is shown then: the response, and the prompt unless the line was
     /// `quit`. After an error the session is not to go on.
     pub(crate) fn show<Rt: Wait>(
         &mut self,
@@ -88,26 +88,26 @@ impl<R: Runs> Session<R> {
         ensures lines { OnOk result (self.new.lines ≡ self.old.lines + 1) }
     {
         let again = request;
-        let mut text = self.answer(shared, rt, alloc, request)?;
+        let mut text = self.respond(shared, rt, alloc, request)?;
         push_prompt(&mut text, prompt, again)?;
         self.lines += 1;
         Ok(text)
     }
 }
 
-/// The answer to a line that asks for no command, after this many lines.
-fn own_answer(alloc: Global, lines: u64, request: Request) -> Result<Vec<u8>, NoMemory>
+/// The response to a line that asks for no command, after this many lines.
+fn own_response(alloc: Global, lines: u64, request: Request) -> Result<Vec<u8>, NoMemory>
     requires { lines < 2 ^ 64 - 1 }
-    ensures { IfOk result (λ text. text.items ≡ own_answer lines request) }
+    ensures { IfOk result (λ text. text.items ≡ own_response lines request) }
 {
     let mut text = String::new(alloc);
-    push_own_answer(&mut text, lines, request)?;
+    push_own_response(&mut text, lines, request)?;
     Ok(text.into_bytes())
 }
 
-fn push_own_answer(text: &mut String, lines: u64, request: Request) -> Result<(), AllocError>
+fn push_own_response(text: &mut String, lines: u64, request: Request) -> Result<(), AllocError>
     requires { lines < 2 ^ 64 - 1 }
-    ensures { Pushes result text.old text.new (own_answer lines request) }
+    ensures { Pushes result text.old text.new (own_response lines request) }
 {
     match request {
         Request::Seat(_) => push_fault(text, lines + 1, LineFault::Word),

@@ -21,7 +21,7 @@ use std::sync::Wait;
 use std::thread::{PromisedHandle, Scope, Threads};
 use std::{fmt, thread};
 
-/// Why no sessions were held, or why their journal was lost.
+/// Why there were no sessions, or why their journal was lost.
 #[derive(Debug, Clone, Copy, PartialEq)]
 pub enum HallFault {
     NoMemory,
@@ -171,7 +171,7 @@ fn collect<R: Runs, T: Talk + Drop>(
 
 /// Sessions of as many seats as there are stations, from 1 to 64, over one run of the setup, each in a thread of its own,
 /// until all have ended; then the control, whose journal has the commands of all, and the stations in the same order, each
-/// with how its session ended. The k-th station is that of seat k. A line is answered as in a session of one seat, but that
+/// with how its session ended. The k-th station is that of seat k. A line has its response as in a session of one seat, but that
 /// no line chooses a seat. A seat whose session ends with a fault ends alone, and the others go on.
 ///
 /// # Errors

@@ -1,4 +1,4 @@
--- How the index of an inbox changes with its last entry, and what is read by it.
+-- How the index of an inbox changes with its last message, and what is read by it.
 use Rattle.std.proofs.Common.{◌≡◌, ℕ, zero, suc, ◌<◌, Bool, true, false, cond, List, [], ◌∷◌, ◌++◌, Option, Some, None, length, arith, refl, ap, sym, subst, ◌∙◌, eq-eqb, eqb-true}
 use Rattle.std.specs.Prelude.{◌==◌, if◌then◌else◌, is_some, not, nat_eq}
 use Rattle.std.proofs.lemmas.Bool.{ne_eqb}
@@ -12,7 +12,7 @@ use Rattle.cdb_leader.specs.declared.firsts.Firsts.{Firsts}
 use Rattle.cdb_leader.specs.declared.row.Row.{Row}
 use Rattle.cdb_leader.specs.declared.index.Index.{Index}
 use Rattle.cdb_leader.specs.Inbox.{first_given, first_phase, second_phase, as_decision}
-use Rattle.cdb_leader.specs.Index.{message_round, first_position, noted, forgotten, position_from, ChangesFrom, reads_from, AreFirsts, answer_in, are_different, IsRowOf, IsEmptyRow, IsRoundOf, IsIndexOf}
+use Rattle.cdb_leader.specs.Index.{message_round, first_position, noted, forgotten, position_from, ChangesFrom, reads_from, AreFirsts, vote_in, are_different, IsRowOf, IsEmptyRow, IsRoundOf, IsIndexOf}
 
 -- ---- the first that passes
 
@@ -83,16 +83,16 @@ pub first_position-back : {X : Type 0} (test : X → Bool) (xs : List X) (y : X)
 first_position-back test xs y =
     back_by (length xs) (test y) (first_position test xs) (first_position test (xs ++ y ∷ [])) (first_position-within test xs) (first_position-push test xs y)
 
--- ---- an answer that differs from the first
+-- ---- a vote that differs from the first
 
 not_different : (a : Option (Option ℕ)) → are_different a None ≡ false
 not_different None = refl
 not_different (Some a) = refl
 
-same_answer : (a : Option (Option ℕ)) → are_different a a ≡ false
-same_answer None = refl
-same_answer (Some None) = refl
-same_answer (Some (Some v)) = ap not (eq-eqb v v refl)
+same_vote : (a : Option (Option ℕ)) → are_different a a ≡ false
+same_vote None = refl
+same_vote (Some None) = refl
+same_vote (Some (Some v)) = ap not (eq-eqb v v refl)
 
 module _ {X : Type 0} (f : X → Option (Option ℕ)) where
   given-push : (xs : List X) (y : X) → first_given f (xs ++ y ∷ []) ≡ option_or (first_given f xs) (f y)
@@ -127,7 +127,7 @@ module _ {X : Type 0} (f : X → Option (Option ℕ)) where
           ≡ (if are_different a (f y) then noted (length xs) (first_position (λ x. are_different a (f x)) xs) else first_position (λ x. are_different a (f x)) xs)
       by_given (Some v) is = first_position-push (λ x. are_different (Some v) (f x)) xs y
       by_given None is =
-          first_position-silent (λ x. are_different (f y) (f x)) xs y (same_answer (f y))
+          first_position-silent (λ x. are_different (f y) (f x)) xs y (same_vote (f y))
           ∙ nothing (f y) xs is ∙ sym (nothing None xs is)
 
   pub others-back : (xs : List X) (y : X) → forgotten (length xs) (others (xs ++ y ∷ [])) ≡ others xs
@@ -140,7 +140,7 @@ module _ {X : Type 0} (f : X → Option (Option ℕ)) where
       others-push xs y
       ∙ ap (λ b. if b then noted (length xs) (others xs) else others xs) (ap (are_different (first_given f xs)) nil ∙ not_different (first_given f xs))
 
--- ---- what an entry reads as
+-- ---- what a message reads as
 
 read_true : {A : Type 0} (a : Bool) (o : Option A) (v : A) → o ≡ Some v → is_some (if a then o else None) ≡ a
 read_true true o v e = ap is_some e
@@ -151,7 +151,7 @@ read_false true o e = ap is_some e
 read_false false o e = refl
 
 module _ {A : Type 0} (reading : Payload → Option A) (inbox : List Received) (y : Received) where
-  -- an entry that reads as something is noted for its sender
+  -- a message that reads as something is noted for its sender
   pub AreFirsts-push : (v : A) (old new : Firsts) → reading y.payload ≡ Some v → AreFirsts reading old inbox
       → ChangesFrom y.from (noted (length inbox)) old new → AreFirsts reading new (inbox ++ y ∷ [])
   AreFirsts-push v old new reads h changes = λ t.
@@ -183,79 +183,79 @@ module _ {A : Type 0} (reading : Payload → Option A) (inbox : List Received) (
 -- ---- the row of one round
 
 module _ (r : ℕ) (inbox : List Received) (y : Received) where
-  no_answer : second_phase r y.payload ≡ None
+  no_vote : second_phase r y.payload ≡ None
       → first_position (λ e. is_some (second_phase r e.payload)) (inbox ++ y ∷ []) ≡ first_position (λ e. is_some (second_phase r e.payload)) inbox
-  no_answer nil = first_position-silent (λ e. is_some (second_phase r e.payload)) inbox y (ap is_some nil)
+  no_vote nil = first_position-silent (λ e. is_some (second_phase r e.payload)) inbox y (ap is_some nil)
 
   pub IsRowOf-push_first : (v : FirstPhase) (old new : Row) → first_phase r y.payload ≡ Some v → second_phase r y.payload ≡ None
       → IsRowOf r old inbox → ChangesFrom y.from (noted (length inbox)) old.first_phases new.first_phases
-      → new.second_phases ≡ old.second_phases → new.answer ≡ old.answer → new.other_answer ≡ old.other_answer
+      → new.second_phases ≡ old.second_phases → new.vote ≡ old.vote → new.other_vote ≡ old.other_vote
       → IsRowOf r new (inbox ++ y ∷ [])
-  IsRowOf-push_first v old new reads nil h changes seconds answer other = record {
+  IsRowOf-push_first v old new reads nil h changes seconds vote other = record {
     first_phases = AreFirsts-push (first_phase r) inbox y v old.first_phases new.first_phases reads h.first_phases changes;
     second_phases = subst (λ f. AreFirsts (second_phase r) f (inbox ++ y ∷ [])) (sym seconds) (AreFirsts-longer (second_phase r) inbox y old.second_phases nil h.second_phases);
-    answer = answer ∙ h.answer ∙ sym (no_answer nil);
-    other_answer = other ∙ h.other_answer ∙ sym (others-silent (λ e. second_phase r e.payload) inbox y nil);
+    vote = vote ∙ h.vote ∙ sym (no_vote nil);
+    other_vote = other ∙ h.other_vote ∙ sym (others-silent (λ e. second_phase r e.payload) inbox y nil);
   }
 
   pub IsRowOf-forget_first : (v : FirstPhase) (old new : Row) → first_phase r y.payload ≡ Some v → second_phase r y.payload ≡ None
       → IsRowOf r old (inbox ++ y ∷ []) → ChangesFrom y.from (forgotten (length inbox)) old.first_phases new.first_phases
-      → new.second_phases ≡ old.second_phases → new.answer ≡ old.answer → new.other_answer ≡ old.other_answer
+      → new.second_phases ≡ old.second_phases → new.vote ≡ old.vote → new.other_vote ≡ old.other_vote
       → IsRowOf r new inbox
-  IsRowOf-forget_first v old new reads nil h changes seconds answer other = record {
+  IsRowOf-forget_first v old new reads nil h changes seconds vote other = record {
     first_phases = AreFirsts-forget (first_phase r) inbox y v old.first_phases new.first_phases reads h.first_phases changes;
     second_phases = subst (λ f. AreFirsts (second_phase r) f inbox) (sym seconds) (AreFirsts-shorter (second_phase r) inbox y old.second_phases nil h.second_phases);
-    answer = answer ∙ h.answer ∙ no_answer nil;
-    other_answer = other ∙ h.other_answer ∙ others-silent (λ e. second_phase r e.payload) inbox y nil;
+    vote = vote ∙ h.vote ∙ no_vote nil;
+    other_vote = other ∙ h.other_vote ∙ others-silent (λ e. second_phase r e.payload) inbox y nil;
   }
 
-  pub IsRowOf-push_answer : (aux : Option ℕ) (b : Bool) (old new : Row) → first_phase r y.payload ≡ None → second_phase r y.payload ≡ Some aux
+  pub IsRowOf-push_vote : (aux : Option ℕ) (b : Bool) (old new : Row) → first_phase r y.payload ≡ None → second_phase r y.payload ≡ Some aux
       → IsRowOf r old inbox → new.first_phases ≡ old.first_phases
       → ChangesFrom y.from (noted (length inbox)) old.second_phases new.second_phases
-      → new.answer ≡ noted (length inbox) old.answer
-      → b ≡ are_different (answer_in r inbox) (Some aux)
-      → new.other_answer ≡ (if b then noted (length inbox) old.other_answer else old.other_answer)
+      → new.vote ≡ noted (length inbox) old.vote
+      → b ≡ are_different (vote_in r inbox) (Some aux)
+      → new.other_vote ≡ (if b then noted (length inbox) old.other_vote else old.other_vote)
       → IsRowOf r new (inbox ++ y ∷ [])
-  IsRowOf-push_answer aux b old new nil reads h firsts changes answer tells other = record {
+  IsRowOf-push_vote aux b old new nil reads h firsts changes vote tells other = record {
     first_phases = subst (λ f. AreFirsts (first_phase r) f (inbox ++ y ∷ [])) (sym firsts) (AreFirsts-longer (first_phase r) inbox y old.first_phases nil h.first_phases);
     second_phases = AreFirsts-push (second_phase r) inbox y aux old.second_phases new.second_phases reads h.second_phases changes;
-    answer = answer ∙ ap (noted (length inbox)) h.answer ∙ sym (first_position-noted (λ e. is_some (second_phase r e.payload)) inbox y (ap is_some reads));
-    other_answer =
+    vote = vote ∙ ap (noted (length inbox)) h.vote ∙ sym (first_position-noted (λ e. is_some (second_phase r e.payload)) inbox y (ap is_some reads));
+    other_vote =
         other
-        ∙ ap (λ o. if b then noted (length inbox) o else o) h.other_answer
-        ∙ ap (λ d. if d then noted (length inbox) (first_position (λ e. are_different (answer_in r inbox) (second_phase r e.payload)) inbox) else first_position (λ e. are_different (answer_in r inbox) (second_phase r e.payload)) inbox)
-        (tells ∙ ap (are_different (answer_in r inbox)) (sym reads))
+        ∙ ap (λ o. if b then noted (length inbox) o else o) h.other_vote
+        ∙ ap (λ d. if d then noted (length inbox) (first_position (λ e. are_different (vote_in r inbox) (second_phase r e.payload)) inbox) else first_position (λ e. are_different (vote_in r inbox) (second_phase r e.payload)) inbox)
+        (tells ∙ ap (are_different (vote_in r inbox)) (sym reads))
         ∙ sym (others-push (λ e. second_phase r e.payload) inbox y);
   }
 
-  pub IsRowOf-forget_answer : (aux : Option ℕ) (old new : Row) → first_phase r y.payload ≡ None → second_phase r y.payload ≡ Some aux
+  pub IsRowOf-forget_vote : (aux : Option ℕ) (old new : Row) → first_phase r y.payload ≡ None → second_phase r y.payload ≡ Some aux
       → IsRowOf r old (inbox ++ y ∷ []) → new.first_phases ≡ old.first_phases
       → ChangesFrom y.from (forgotten (length inbox)) old.second_phases new.second_phases
-      → new.answer ≡ forgotten (length inbox) old.answer → new.other_answer ≡ forgotten (length inbox) old.other_answer
+      → new.vote ≡ forgotten (length inbox) old.vote → new.other_vote ≡ forgotten (length inbox) old.other_vote
       → IsRowOf r new inbox
-  IsRowOf-forget_answer aux old new nil reads h firsts changes answer other = record {
+  IsRowOf-forget_vote aux old new nil reads h firsts changes vote other = record {
     first_phases = subst (λ f. AreFirsts (first_phase r) f inbox) (sym firsts) (AreFirsts-shorter (first_phase r) inbox y old.first_phases nil h.first_phases);
     second_phases = AreFirsts-forget (second_phase r) inbox y aux old.second_phases new.second_phases reads h.second_phases changes;
-    answer = answer ∙ ap (forgotten (length inbox)) h.answer ∙ first_position-back (λ e. is_some (second_phase r e.payload)) inbox y;
-    other_answer = other ∙ ap (forgotten (length inbox)) h.other_answer ∙ others-back (λ e. second_phase r e.payload) inbox y;
+    vote = vote ∙ ap (forgotten (length inbox)) h.vote ∙ first_position-back (λ e. is_some (second_phase r e.payload)) inbox y;
+    other_vote = other ∙ ap (forgotten (length inbox)) h.other_vote ∙ others-back (λ e. second_phase r e.payload) inbox y;
   }
 
-  -- an entry of no such round changes nothing of it
+  -- a message of no such round changes nothing of it
   module _ (no_first : first_phase r y.payload ≡ None) (no_second : second_phase r y.payload ≡ None) where
     IsRowOf-longer : (row : Row) → IsRowOf r row inbox → IsRowOf r row (inbox ++ y ∷ [])
     IsRowOf-longer row h = record {
       first_phases = AreFirsts-longer (first_phase r) inbox y row.first_phases no_first h.first_phases;
       second_phases = AreFirsts-longer (second_phase r) inbox y row.second_phases no_second h.second_phases;
-      answer = h.answer ∙ sym (no_answer no_second);
-      other_answer = h.other_answer ∙ sym (others-silent (λ e. second_phase r e.payload) inbox y no_second);
+      vote = h.vote ∙ sym (no_vote no_second);
+      other_vote = h.other_vote ∙ sym (others-silent (λ e. second_phase r e.payload) inbox y no_second);
     }
 
     IsRowOf-shorter : (row : Row) → IsRowOf r row (inbox ++ y ∷ []) → IsRowOf r row inbox
     IsRowOf-shorter row h = record {
       first_phases = AreFirsts-shorter (first_phase r) inbox y row.first_phases no_first h.first_phases;
       second_phases = AreFirsts-shorter (second_phase r) inbox y row.second_phases no_second h.second_phases;
-      answer = h.answer ∙ no_answer no_second;
-      other_answer = h.other_answer ∙ others-silent (λ e. second_phase r e.payload) inbox y no_second;
+      vote = h.vote ∙ no_vote no_second;
+      other_vote = h.other_vote ∙ others-silent (λ e. second_phase r e.payload) inbox y no_second;
     }
 
     pub IsRoundOf-longer : (o : Option Row) → IsRoundOf r o inbox → IsRoundOf r o (inbox ++ y ∷ [])
@@ -314,10 +314,10 @@ module _ (r : ℕ) (inbox : List Received) where
 
 module _ (r : ℕ) (inbox : List Received) (o : Option Row) (none : o ≡ None) (h : IsRoundOf r o inbox) (new : Firsts) (empty : (s : ℕ) → position_from s new ≡ None) where
   abbrev new_row : Row
-  new_row = record { first_phases = new; second_phases = new; answer = None; other_answer = None }
+  new_row = record { first_phases = new; second_phases = new; vote = None; other_vote = None }
 
   new_is_empty : IsEmptyRow new_row
-  new_is_empty = record { first_phases = empty; second_phases = empty; answer = refl; other_answer = refl }
+  new_is_empty = record { first_phases = empty; second_phases = empty; vote = refl; other_vote = refl }
 
   pub first_of_none : AreFirsts (first_phase r) new inbox
   first_of_none = (row_of_none r inbox o none h new_row new_is_empty).first_phases
@@ -338,9 +338,9 @@ empty_back r inbox y (P1 round est lead) is at row e h =
     IsRowOf-forget_first r inbox y _ row row (first_of y.payload r round est lead is at) (ap (second_phase r) is) h
     (empty_changes y.from (length inbox) row.first_phases e.first_phases) refl refl refl
 empty_back r inbox y (P2 round aux) is at row e h =
-    IsRowOf-forget_answer r inbox y aux row row (ap (first_phase r) is) (second_of y.payload r round aux is at) h refl
+    IsRowOf-forget_vote r inbox y aux row row (ap (first_phase r) is) (second_of y.payload r round aux is at) h refl
     (empty_changes y.from (length inbox) row.second_phases e.second_phases)
-    (e.answer ∙ sym (ap (forgotten (length inbox)) e.answer)) (e.other_answer ∙ sym (ap (forgotten (length inbox)) e.other_answer))
+    (e.vote ∙ sym (ap (forgotten (length inbox)) e.vote)) (e.other_vote ∙ sym (ap (forgotten (length inbox)) e.other_vote))
 empty_back r inbox y (D est) is at row e h = let nowhere : Path (Option ℕ) None (Some r) = sym (ap message_round is) ∙ at in absurd (cc)
 
 -- ---- the whole index

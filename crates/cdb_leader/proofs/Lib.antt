@@ -1,4 +1,4 @@
-pub mod SameEntries
+pub mod SameMessages
 pub mod Quorum
 pub mod Steps
 pub mod Readings

@@ -15,7 +15,7 @@ use Rattle.cdb_leader.specs.declared.first_phases.FirstPhases.{FirstPhases}
 use Rattle.cdb_leader.specs.declared.firsts.Firsts.{Firsts}
 use Rattle.cdb_leader.specs.declared.row.Row.{Row}
 use Rattle.cdb_leader.specs.Inbox.{first_given, if_from, first_from, first_phase_from, names, backers, is_agreed, agreed_leader, agreed_estimate, second_phase, carries, is_only_proposal}
-use Rattle.cdb_leader.specs.Index.{first_position, position_from, AreFirsts, said_by, backers_among, agreed_among, answer_in, are_different, IsRowOf}
+use Rattle.cdb_leader.specs.Index.{first_position, position_from, AreFirsts, said_by, backers_among, agreed_among, vote_in, are_different, IsRowOf}
 
 -- ---- the element at the first position that passes
 
@@ -56,19 +56,19 @@ module _ {A : Type 0} (reading : Payload → Option A) (kept : Firsts) (inbox : 
         same ss (n + cond (is_some (position_from s kept)) 1 0)
         ∙ ap (λ b. fold (λ a t. a + cond (is_some (first_from t reading inbox)) 1 0) (n + cond b 1 0) ss) (is_kept s)
 
--- what is read at the position of the first answer
-pub answer_at : (r : ℕ) (row : Row) (inbox : List Received) → IsRowOf r row inbox
-    → option_and_then (λ e. second_phase r e.payload) (option_and_then (slice_get inbox) row.answer) ≡ answer_in r inbox
-answer_at r row inbox h =
-    ap (λ o. option_and_then (λ e. second_phase r e.payload) (option_and_then (slice_get inbox) o)) h.answer ∙ at_first (λ e. second_phase r e.payload) inbox
+-- what is read at the position of the first vote
+pub vote_at : (r : ℕ) (row : Row) (inbox : List Received) → IsRowOf r row inbox
+    → option_and_then (λ e. second_phase r e.payload) (option_and_then (slice_get inbox) row.vote) ≡ vote_in r inbox
+vote_at r row inbox h =
+    ap (λ o. option_and_then (λ e. second_phase r e.payload) (option_and_then (slice_get inbox) o)) h.vote ∙ at_first (λ e. second_phase r e.payload) inbox
 
--- the same, as a look-up finds an entry or none
-module _ (r : ℕ) (row : Row) (inbox : List Received) (h : IsRowOf r row inbox) (o : Option Received) (at : o ≡ option_and_then (slice_get inbox) row.answer) where
-  pub answer_none : o ≡ None → None ≡ answer_in r inbox
-  answer_none none = ap (option_and_then (λ e. second_phase r e.payload)) (sym none ∙ at) ∙ answer_at r row inbox h
+-- the same, as a look-up finds a message or none
+module _ (r : ℕ) (row : Row) (inbox : List Received) (h : IsRowOf r row inbox) (o : Option Received) (at : o ≡ option_and_then (slice_get inbox) row.vote) where
+  pub vote_none : o ≡ None → None ≡ vote_in r inbox
+  vote_none none = ap (option_and_then (λ e. second_phase r e.payload)) (sym none ∙ at) ∙ vote_at r row inbox h
 
-  pub answer_some : (e : Received) → o ≡ Some e → second_phase r e.payload ≡ answer_in r inbox
-  answer_some e some = ap (option_and_then (λ e. second_phase r e.payload)) (sym some ∙ at) ∙ answer_at r row inbox h
+  pub vote_some : (e : Received) → o ≡ Some e → second_phase r e.payload ≡ vote_in r inbox
+  vote_some e some = ap (option_and_then (λ e. second_phase r e.payload)) (sym some ∙ at) ∙ vote_at r row inbox h
 
 -- ---- whether every second-phase message of a round carries one value
 
@@ -130,10 +130,10 @@ module _ {X : Type 0} (f : X → Option (Option ℕ)) (w : ℕ) where
 
 -- by the row of a round
 module _ (r w : ℕ) (row : Row) (inbox : List Received) (h : IsRowOf r row inbox) where
-  pub only_alike : (a : Option ℕ) → answer_in r inbox ≡ Some a → is_only_proposal r w inbox ≡ (carries w (Some a) && not (is_some row.other_answer))
-  only_alike a is = only_by_first (λ e. second_phase r e.payload) w inbox a is ∙ ap (λ o. carries w (Some a) && not (is_some o)) (sym h.other_answer)
+  pub only_alike : (a : Option ℕ) → vote_in r inbox ≡ Some a → is_only_proposal r w inbox ≡ (carries w (Some a) && not (is_some row.other_vote))
+  only_alike a is = only_by_first (λ e. second_phase r e.payload) w inbox a is ∙ ap (λ o. carries w (Some a) && not (is_some o)) (sym h.other_vote)
 
-  pub only_none : answer_in r inbox ≡ None → is_only_proposal r w inbox ≡ true
+  pub only_none : vote_in r inbox ≡ None → is_only_proposal r w inbox ≡ true
   only_none is = only_by_none (λ e. second_phase r e.payload) w inbox is
 
 -- ---- the leader that is agreed on

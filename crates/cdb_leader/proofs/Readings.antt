@@ -11,8 +11,8 @@ use Rattle.cdb_leader.specs.declared.inbox.FirstPhase.{FirstPhase}
 use Rattle.cdb_leader.specs.Inbox.{first_given, first_phase, second_phase, as_decision, if_from, first_from, first_phase_from, second_phase_from, decision_from, names, backers, is_agreed, agreed_leader, agreed_estimate, second_phase_senders, proposal, carries, is_only_proposal, learnt}
 use Rattle.cdb_leader.specs.Quorum.{count_processes, IsQuorum}
 use Rattle.cdb_process.proofs.Members.{IsIn}
-use Rattle.cdb_leader.specs.Bases.{AuxBasis, Carried, Answered, AnsweredAlike}
-use Rattle.cdb_leader.proofs.Steps.{Inbox, entry, Heard}
+use Rattle.cdb_leader.specs.Bases.{AuxBasis, Carried, Voted, VotedAlike}
+use Rattle.cdb_leader.proofs.Steps.{Inbox, message, Heard}
 
 -- ---- lists
 
@@ -67,7 +67,7 @@ count_all test = omega arith
 
 -- ---- messages
 
--- a reading from a sender is that of an entry
+-- a reading from a sender is that of a message
 first_from_heard : {A : Type 0} (s : ℕ) (reading : Payload → Option A) (inbox : Inbox) (a : A) → first_from s reading inbox ≡ Some a
     → (x : Payload) × Heard inbox s x × (reading x ≡ Some a)
 first_from_heard {A} s reading inbox a is = let found = given_from (if_from s reading) inbox a is in go found.0 found.1 (found.0.from == s) refl found.2
@@ -76,7 +76,7 @@ first_from_heard {A} s reading inbox a is = let found = given_from (if_from s re
         → (x : Payload) × Heard inbox s x × (reading x ≡ Some a)
     go e here true same is_read =
         let from : e.from ≡ s = eqb-true e.from s same in
-        let P : ℕ → Type 0 = λ o. IsIn (entry o e.payload) inbox in
+        let P : ℕ → Type 0 = λ o. IsIn (message o e.payload) inbox in
         (e.payload, subst P from here, is_read)
     go e here false same is_read = absurd (cc)
 
@@ -179,13 +179,13 @@ some_heard r s inbox is = go (second_phase_from r s inbox) refl is
     go None at it = absurd (cc)
     go (Some a) at it = (a, at, second_phase_heard r s inbox a at)
 
-enough_answers : (q r : ℕ) (inbox : Inbox) → nat_le q (second_phase_senders r inbox) ≡ true → q ≤ count_processes 9 (λ s. is_some (second_phase_from r s inbox))
-enough_answers q r inbox is =
+enough_votes : (q r : ℕ) (inbox : Inbox) → nat_le q (second_phase_senders r inbox) ≡ true → q ≤ count_processes 9 (λ s. is_some (second_phase_from r s inbox))
+enough_votes q r inbox is =
     let same = count_all (λ s. is_some (second_phase_from r s inbox)) in
     let is_enough : q ≤ second_phase_senders r inbox = leb-true q (second_phase_senders r inbox) is in
     omega arith
 
--- a proposal was answered by somebody
+-- a proposal was voted by somebody
 pub proposal_carried : (r : ℕ) (inbox : Inbox) (w : ℕ) → proposal r inbox ≡ Some w → Carried (Heard inbox) r w
 proposal_carried r inbox w is =
     let found = given_from (λ s. option_flatten (second_phase_from r s inbox)) all_processes w is in
@@ -197,38 +197,38 @@ proposal_carried r inbox w is =
         let P : Option ℕ → Type 0 = λ x. Heard inbox s (P2 r x) in
         (s, subst P it (second_phase_heard r s inbox a at))
 
--- with no proposal all that answered answered none
-pub answered_none : (q r : ℕ) (inbox : Inbox) (e : ℕ) → nat_le q (second_phase_senders r inbox) ≡ true → proposal r inbox ≡ None → IsQuorum q (Answered (Heard inbox) r e)
-answered_none q r inbox e is none =
-    ((λ s. is_some (second_phase_from r s inbox)), enough_answers q r inbox is, (λ s low high it. go s low high (some_heard r s inbox it)))
+-- with no proposal all that voted voted none
+pub voted_none : (q r : ℕ) (inbox : Inbox) (e : ℕ) → nat_le q (second_phase_senders r inbox) ≡ true → proposal r inbox ≡ None → IsQuorum q (Voted (Heard inbox) r e)
+voted_none q r inbox e is none =
+    ((λ s. is_some (second_phase_from r s inbox)), enough_votes q r inbox is, (λ s low high it. go s low high (some_heard r s inbox it)))
   where
-    go : (s : ℕ) → 1 ≤ s → s ≤ 9 → ((a : Option ℕ) × (second_phase_from r s inbox ≡ Some a) × Heard inbox s (P2 r a)) → Answered (Heard inbox) r e s
+    go : (s : ℕ) → 1 ≤ s → s ≤ 9 → ((a : Option ℕ) × (second_phase_from r s inbox ≡ Some a) × Heard inbox s (P2 r a)) → Voted (Heard inbox) r e s
     go s low high it =
         let flat : option_flatten (second_phase_from r s inbox) ≡ None = none_given (λ p. option_flatten (second_phase_from r p inbox)) all_processes none s (is_process s low high) in
         let same : it.0 ≡ None = sym (ap option_flatten it.1) ∙ flat in
         (it.0, it.2, inl same)
 
-pub answered_some : (q r : ℕ) (inbox : Inbox) (w : ℕ) → nat_le q (second_phase_senders r inbox) ≡ true → proposal r inbox ≡ Some w → IsQuorum q (Answered (Heard inbox) r w)
-answered_some q r inbox w is some =
-    ((λ s. is_some (second_phase_from r s inbox)), enough_answers q r inbox is, (λ s low high it. go s (some_heard r s inbox it)))
+pub voted_some : (q r : ℕ) (inbox : Inbox) (w : ℕ) → nat_le q (second_phase_senders r inbox) ≡ true → proposal r inbox ≡ Some w → IsQuorum q (Voted (Heard inbox) r w)
+voted_some q r inbox w is some =
+    ((λ s. is_some (second_phase_from r s inbox)), enough_votes q r inbox is, (λ s low high it. go s (some_heard r s inbox it)))
   where
-    go : (s : ℕ) → ((a : Option ℕ) × (second_phase_from r s inbox ≡ Some a) × Heard inbox s (P2 r a)) → Answered (Heard inbox) r w s
+    go : (s : ℕ) → ((a : Option ℕ) × (second_phase_from r s inbox ≡ Some a) × Heard inbox s (P2 r a)) → Voted (Heard inbox) r w s
     go s it = (it.0, it.2, inr (proposal_carried r inbox w some))
 
--- where every answer carries w, all that answered answered w
-pub answered_alike : (q r : ℕ) (inbox : Inbox) (w : ℕ) → nat_le q (second_phase_senders r inbox) ≡ true → is_only_proposal r w inbox ≡ true → AnsweredAlike q (Heard inbox) r w
-answered_alike q r inbox w is only =
-    ((λ s. is_some (second_phase_from r s inbox)), enough_answers q r inbox is, (λ s low high it. go s (some_heard r s inbox it)))
+-- where every vote carries w, all that voted voted w
+pub voted_alike : (q r : ℕ) (inbox : Inbox) (w : ℕ) → nat_le q (second_phase_senders r inbox) ≡ true → is_only_proposal r w inbox ≡ true → VotedAlike q (Heard inbox) r w
+voted_alike q r inbox w is only =
+    ((λ s. is_some (second_phase_from r s inbox)), enough_votes q r inbox is, (λ s low high it. go s (some_heard r s inbox it)))
   where
     go : (s : ℕ) → ((a : Option ℕ) × (second_phase_from r s inbox ≡ Some a) × Heard inbox s (P2 r a)) → Heard inbox s (P2 r (Some w))
-    go s it = by_answer it.0 it.2 (all_pass (λ e. carries w (second_phase r e.payload)) inbox only (entry s (P2 r it.0)) it.2)
+    go s it = by_vote it.0 it.2 (all_pass (λ e. carries w (second_phase r e.payload)) inbox only (message s (P2 r it.0)) it.2)
       where
         reads : (a : Option ℕ) → second_phase r (P2 r a) ≡ Some a
         reads a = let same : (r == r) ≡ true = eq-eqb r r refl in ap (λ (b : Bool). if b then Some a else None) same
 
-        by_answer : (a : Option ℕ) → Heard inbox s (P2 r a) → carries w (second_phase r (P2 r a)) ≡ true → Heard inbox s (P2 r (Some w))
-        by_answer None here passes = let it : carries w (Some None) ≡ true = sym (ap (carries w) (reads None)) ∙ passes in absurd (cc)
-        by_answer (Some v) here passes =
+        by_vote : (a : Option ℕ) → Heard inbox s (P2 r a) → carries w (second_phase r (P2 r a)) ≡ true → Heard inbox s (P2 r (Some w))
+        by_vote None here passes = let it : carries w (Some None) ≡ true = sym (ap (carries w) (reads None)) ∙ passes in absurd (cc)
+        by_vote (Some v) here passes =
             let it : carries w (Some (Some v)) ≡ true = sym (ap (carries w) (reads (Some v))) ∙ passes in
             let same : v ≡ w = eqb-true v w it in
             let P : ℕ → Type 0 = λ x. Heard inbox s (P2 r (Some x)) in

@@ -4,15 +4,15 @@ use Rattle.std.proofs.Common.{inl, inr, arith, sym, ap, subst}
 use Rattle.cdb_base.specs.declared.payload.Payload.{Payload}
 use Rattle.cdb_base.specs.declared.payload.Payload.TheVariants.{P1, P2, D}
 use Rattle.cdb_leader.specs.declared.inbox.Received.{Received}
-use Rattle.cdb_leader.specs.Bases.{AuxBasis, Carried, LeaveBasis, Answered, AnsweredAlike, DecisionBasis}
+use Rattle.cdb_leader.specs.Bases.{AuxBasis, Carried, LeaveBasis, Voted, VotedAlike, DecisionBasis}
 use Rattle.cdb_leader.specs.Quorum.{IsQuorum}
 use Rattle.cdb_process.proofs.Members.{IsIn, Grows, same_grows, push_grows, in_push, in_push_new, in_push_other}
 
 abbrev pub Inbox : Type 0
 Inbox = List Received
 
-abbrev pub entry : ℕ → Payload → Received
-entry s x = record { from = s; payload = x }
+abbrev pub message : ℕ → Payload → Received
+message s x = record { from = s; payload = x }
 
 -- the local state of one process
 pub record Local : Type 0 where
@@ -28,7 +28,7 @@ first_local input = record { place = 0; round = 0; estimate = input; aux = None;
 
 -- the inbox has x from s
 abbrev pub Heard : Inbox → ℕ → Payload → Type 0
-Heard inbox s x = IsIn (entry s x) inbox
+Heard inbox s x = IsIn (message s x) inbox
 
 -- x is among the payloads sent
 abbrev pub SentIn : List Payload → Payload → Type 0
@@ -40,9 +40,9 @@ pub data Row (q : ℕ) (mail : ℕ → List Payload) (l : Local) : Type 0 where
   propose : (m : ℕ) → l.place ≡ 1 → Row q mail l
   stay : Row q mail l
   settle : (a : Option ℕ) → l.place ≡ 2 → ((v : ℕ) → a ≡ Some v → AuxBasis q (Heard l.inbox) l.round v) → Row q mail l
-  answer : l.place ≡ 3 → Row q mail l
-  decide : (v : ℕ) → l.place ≡ 4 → AnsweredAlike q (Heard l.inbox) l.round v → Row q mail l
-  leave : (e : ℕ) → l.place ≡ 4 → IsQuorum q (Answered (Heard l.inbox) l.round e) → Carried (Heard l.inbox) l.round e ⊎ (e ≡ l.estimate) → Row q mail l
+  vote : l.place ≡ 3 → Row q mail l
+  decide : (v : ℕ) → l.place ≡ 4 → VotedAlike q (Heard l.inbox) l.round v → Row q mail l
+  leave : (e : ℕ) → l.place ≡ 4 → IsQuorum q (Voted (Heard l.inbox) l.round e) → Carried (Heard l.inbox) l.round e ⊎ (e ≡ l.estimate) → Row q mail l
   learn : (s v : ℕ) → l.place ≤ 4 → Heard l.inbox s (D v) → Row q mail l
   announce : l.place ≡ 5 → Row q mail l
   receive : (s : ℕ) (x : Payload) → IsIn x (mail s) → Row q mail l
@@ -53,17 +53,17 @@ after_row q mail l (enter here) = record l { place = 1; round = l.round + 1 }
 after_row q mail l (propose m here) = record l { place = 2 }
 after_row q mail l stay = l
 after_row q mail l (settle a here rests) = record l { place = 3; aux = a }
-after_row q mail l (answer here) = record l { place = 4 }
+after_row q mail l (vote here) = record l { place = 4 }
 after_row q mail l (decide v here alike) = record l { place = 5; estimate = v }
 after_row q mail l (leave e here quorum value) = record l { place = 0; estimate = e }
 after_row q mail l (learn s v here learnt) = record l { place = 5; estimate = v }
 after_row q mail l (announce here) = record l { place = 6; decision = Some l.estimate }
-after_row q mail l (receive s x known) = record l { inbox = l.inbox ++ entry s x ∷ [] }
+after_row q mail l (receive s x known) = record l { inbox = l.inbox ++ message s x ∷ [] }
 
 -- what the process has sent after a row
 abbrev pub sent_by : (q : ℕ) (mail : ℕ → List Payload) (l : Local) → List Payload → Row q mail l → List Payload
 sent_by q mail l sent (propose m here) = sent ++ P1 l.round l.estimate m ∷ []
-sent_by q mail l sent (answer here) = sent ++ P2 l.round l.aux ∷ []
+sent_by q mail l sent (vote here) = sent ++ P2 l.round l.aux ∷ []
 sent_by q mail l sent (announce here) = sent ++ D l.estimate ∷ []
 sent_by q mail l sent _ = sent
 
@@ -76,9 +76,9 @@ pub record Step (q : ℕ) (mail : ℕ → List Payload) (l : Local) (sent : List
 -- what holds of one process after any of its steps
 pub record LocalLaws (q : ℕ) (l : Local) (sent : List Payload) : Type 0 where
   pub proposals_below : (r e k : ℕ) → IsIn (P1 r e k) sent → (r ≤ l.round) × (l.place ≡ 1 → suc r ≤ l.round)
-  pub answers_below : (r : ℕ) (a : Option ℕ) → IsIn (P2 r a) sent → (1 ≤ r) × (r ≤ l.round) × (1 ≤ l.place → l.place ≤ 3 → suc r ≤ l.round)
+  pub votes_below : (r : ℕ) (a : Option ℕ) → IsIn (P2 r a) sent → (1 ≤ r) × (r ≤ l.round) × (1 ≤ l.place → l.place ≤ 3 → suc r ≤ l.round)
   pub one_proposal : (r e j f k : ℕ) → IsIn (P1 r e j) sent → IsIn (P1 r f k) sent → (e ≡ f) × (j ≡ k)
-  pub one_answer : (r : ℕ) (a b : Option ℕ) → IsIn (P2 r a) sent → IsIn (P2 r b) sent → a ≡ b
+  pub one_vote : (r : ℕ) (a b : Option ℕ) → IsIn (P2 r a) sent → IsIn (P2 r b) sent → a ≡ b
   pub aux_here : l.place ≡ 3 → (v : ℕ) → l.aux ≡ Some v → AuxBasis q (Heard l.inbox) l.round v
   pub aux_rests : (r v : ℕ) → IsIn (P2 r (Some v)) sent → AuxBasis q (Heard l.inbox) r v
   pub round_here : 1 ≤ l.place → l.place ≤ 4 → 1 ≤ l.round
@@ -109,8 +109,8 @@ module _ (q : ℕ) (sent posted : Payload → Type 0) (heard more : ℕ → Payl
   carried_follows : (r e : ℕ) → Carried heard r e → Carried more r e
   carried_follows r e it = (it.0, more_heard it.0 (P2 r (Some e)) it.1)
 
-  answered_follows : (r e s : ℕ) → Answered heard r e s → Answered more r e s
-  answered_follows r e s it = (it.0, more_heard s (P2 r it.0) it.1, go it.2)
+  voted_follows : (r e s : ℕ) → Voted heard r e s → Voted more r e s
+  voted_follows r e s it = (it.0, more_heard s (P2 r it.0) it.1, go it.2)
     where
       go : (it.0 ≡ None) ⊎ Carried heard r e → (it.0 ≡ None) ⊎ Carried more r e
       go (inl none) = inl none
@@ -118,7 +118,7 @@ module _ (q : ℕ) (sent posted : Payload → Type 0) (heard more : ℕ → Payl
 
   pub leave_follows : (r e : ℕ) → LeaveBasis q sent heard r e → LeaveBasis q posted more r e
   leave_follows r e basis = record {
-    quorum = quorum_follows q (Answered heard r e) (Answered more r e) (λ s it. answered_follows r e s it) basis.quorum;
+    quorum = quorum_follows q (Voted heard r e) (Voted more r e) (λ s it. voted_follows r e s it) basis.quorum;
     value = go basis.value;
   }
     where
@@ -138,24 +138,24 @@ module _ (q : ℕ) (sent posted : Payload → Type 0) (heard more : ℕ → Payl
 -- the same of lists that grow
 
 pub aux_grows : (q : ℕ) (inbox more : Inbox) (r v : ℕ) → Grows inbox more → AuxBasis q (Heard inbox) r v → AuxBasis q (Heard more) r v
-aux_grows q inbox more r v grows = aux_follows q (SentIn []) (SentIn []) (Heard inbox) (Heard more) (λ x it. it) (λ s x it. grows (entry s x) it) r v
+aux_grows q inbox more r v grows = aux_follows q (SentIn []) (SentIn []) (Heard inbox) (Heard more) (λ x it. it) (λ s x it. grows (message s x) it) r v
 
 pub decision_grows : (q : ℕ) (inbox more : Inbox) (v : ℕ) → Grows inbox more → DecisionBasis q (Heard inbox) v → DecisionBasis q (Heard more) v
-decision_grows q inbox more v grows = decision_follows q (SentIn []) (SentIn []) (Heard inbox) (Heard more) (λ x it. it) (λ s x it. grows (entry s x) it) v
+decision_grows q inbox more v grows = decision_follows q (SentIn []) (SentIn []) (Heard inbox) (Heard more) (λ x it. it) (λ s x it. grows (message s x) it) v
 
 first_or_leave_grows : (q : ℕ) (sent posted : List Payload) (inbox more : Inbox) (r e : ℕ) → Grows sent posted → Grows inbox more
     → (r ≡ 0) ⊎ LeaveBasis q (SentIn sent) (Heard inbox) r e → (r ≡ 0) ⊎ LeaveBasis q (SentIn posted) (Heard more) r e
 first_or_leave_grows q sent posted inbox more r e grows_sent grows =
-    first_or_leave_follows q (SentIn sent) (SentIn posted) (Heard inbox) (Heard more) grows_sent (λ s x it. grows (entry s x) it) r e
+    first_or_leave_follows q (SentIn sent) (SentIn posted) (Heard inbox) (Heard more) grows_sent (λ s x it. grows (message s x) it) r e
 
 -- the first local state keeps the laws
 
 pub first_laws : (q input : ℕ) → LocalLaws q (first_local input) []
 first_laws q input = record {
   proposals_below = λ r e k none. elim none [ ];
-  answers_below = λ r a none. elim none [ ];
+  votes_below = λ r a none. elim none [ ];
   one_proposal = λ r e j f k none other. elim none [ ];
-  one_answer = λ r a b none other. elim none [ ];
+  one_vote = λ r a b none other. elim none [ ];
   aux_here = λ at v is. absurd (omega arith);
   aux_rests = λ r v none. elim none [ ];
   round_here = λ low high. absurd (omega arith);
@@ -172,9 +172,9 @@ module _ (q : ℕ) (l : Local) (sent : List Payload) (laws : LocalLaws q l sent)
   keeps_enter : l.place ≡ 0 → LocalLaws q (record l { place = 1; round = l.round + 1 }) sent
   keeps_enter here = record {
     proposals_below = λ r e k it. let old = laws.proposals_below r e k it in omega arith;
-    answers_below = λ r a it. let old = laws.answers_below r a it in omega arith;
+    votes_below = λ r a it. let old = laws.votes_below r a it in omega arith;
     one_proposal = laws.one_proposal;
-    one_answer = laws.one_answer;
+    one_vote = laws.one_vote;
     aux_here = λ at v is. absurd (omega arith);
     aux_rests = laws.aux_rests;
     round_here = λ low high. omega arith;
@@ -194,9 +194,9 @@ module _ (q : ℕ) (l : Local) (sent : List Payload) (laws : LocalLaws q l sent)
       → LocalLaws q (record l { place = 3; aux = a }) sent
   keeps_settle a here rests = record {
     proposals_below = λ r e k it. let old = laws.proposals_below r e k it in omega arith;
-    answers_below = λ r b it. let old = laws.answers_below r b it in omega arith;
+    votes_below = λ r b it. let old = laws.votes_below r b it in omega arith;
     one_proposal = laws.one_proposal;
-    one_answer = laws.one_answer;
+    one_vote = laws.one_vote;
     aux_here = λ at v is. rests v is;
     aux_rests = laws.aux_rests;
     round_here = λ low high. laws.round_here (omega arith) (omega arith);
@@ -212,11 +212,11 @@ module _ (q : ℕ) (l : Local) (sent : List Payload) (laws : LocalLaws q l sent)
   keeps_propose : (m : ℕ) → l.place ≡ 1 → LocalLaws q (record l { place = 2 }) (sent ++ P1 l.round l.estimate m ∷ [])
   keeps_propose m here = record {
     proposals_below = λ r e k it. below r e k (split r e k it);
-    answers_below = λ r a it. let old = laws.answers_below r a (other_answer r a it) in omega arith;
+    votes_below = λ r a it. let old = laws.votes_below r a (other_vote r a it) in omega arith;
     one_proposal = λ r e j f k it other. one r e j f k (split r e j it) (split r f k other);
-    one_answer = λ r a b it other. laws.one_answer r a b (other_answer r a it) (other_answer r b other);
+    one_vote = λ r a b it other. laws.one_vote r a b (other_vote r a it) (other_vote r b other);
     aux_here = λ at v is. absurd (omega arith);
-    aux_rests = λ r v it. laws.aux_rests r v (other_answer r (Some v) it);
+    aux_rests = λ r v it. laws.aux_rests r v (other_vote r (Some v) it);
     round_here = λ low high. laws.round_here (omega arith) (omega arith);
     left_here = λ at. absurd (omega arith);
     entering_here = λ at r is. absurd (omega arith);
@@ -233,8 +233,8 @@ module _ (q : ℕ) (l : Local) (sent : List Payload) (laws : LocalLaws q l sent)
       split : (r e k : ℕ) → IsIn (P1 r e k) (sent ++ P1 l.round l.estimate m ∷ []) → IsIn (P1 r e k) sent ⊎ (P1 r e k ≡ P1 l.round l.estimate m)
       split r e k it = in_push (P1 r e k) (P1 l.round l.estimate m) sent it
 
-      other_answer : (r : ℕ) (a : Option ℕ) → IsIn (P2 r a) (sent ++ P1 l.round l.estimate m ∷ []) → IsIn (P2 r a) sent
-      other_answer r a it = in_push_other (P2 r a) (P1 l.round l.estimate m) sent (λ same. cc) it
+      other_vote : (r : ℕ) (a : Option ℕ) → IsIn (P2 r a) (sent ++ P1 l.round l.estimate m ∷ []) → IsIn (P2 r a) sent
+      other_vote r a it = in_push_other (P2 r a) (P1 l.round l.estimate m) sent (λ same. cc) it
 
       other_decision : (v : ℕ) → IsIn (D v) (sent ++ P1 l.round l.estimate m ∷ []) → IsIn (D v) sent
       other_decision v it = in_push_other (D v) (P1 l.round l.estimate m) sent (λ same. cc) it
@@ -266,12 +266,12 @@ module _ (q : ℕ) (l : Local) (sent : List Payload) (laws : LocalLaws q l sent)
       more : (r e : ℕ) → (r ≡ 0) ⊎ LeaveBasis q (SentIn sent) (Heard l.inbox) r e → (r ≡ 0) ⊎ LeaveBasis q (SentIn (sent ++ P1 l.round l.estimate m ∷ [])) (Heard l.inbox) r e
       more r e it = first_or_leave_grows q sent (sent ++ P1 l.round l.estimate m ∷ []) l.inbox l.inbox r e (push_grows proposal sent) (same_grows l.inbox) it
 
-  keeps_answer : l.place ≡ 3 → LocalLaws q (record l { place = 4 }) (sent ++ P2 l.round l.aux ∷ [])
-  keeps_answer here = record {
+  keeps_vote : l.place ≡ 3 → LocalLaws q (record l { place = 4 }) (sent ++ P2 l.round l.aux ∷ [])
+  keeps_vote here = record {
     proposals_below = λ r e k it. let old = laws.proposals_below r e k (other_proposal r e k it) in omega arith;
-    answers_below = λ r a it. below r a (split r a it);
+    votes_below = λ r a it. below r a (split r a it);
     one_proposal = λ r e j f k it other. laws.one_proposal r e j f k (other_proposal r e j it) (other_proposal r f k other);
-    one_answer = λ r a b it other. one r a b (split r a it) (split r b other);
+    one_vote = λ r a b it other. one r a b (split r a it) (split r b other);
     aux_here = λ at v is. absurd (omega arith);
     aux_rests = λ r v it. rests r v (split r (Some v) it);
     round_here = λ low high. laws.round_here (omega arith) (omega arith);
@@ -279,15 +279,15 @@ module _ (q : ℕ) (l : Local) (sent : List Payload) (laws : LocalLaws q l sent)
     entering_here = λ at r is. absurd (omega arith);
     proposed_here = λ low high.
         let old = laws.proposed_here (omega arith) (omega arith) in
-        (old.0, push_grows answer sent (P1 l.round l.estimate old.0) old.1);
+        (old.0, push_grows vote sent (P1 l.round l.estimate old.0) old.1);
     entered = λ r e k it. more r e (laws.entered r e k (other_proposal (suc r) e k it));
     decided_here = λ late. absurd (omega arith);
     decided = λ v it. laws.decided v (other_decision v it);
-    announced = λ v is. push_grows answer sent (D v) (laws.announced v is);
+    announced = λ v is. push_grows vote sent (D v) (laws.announced v is);
   }
     where
-      answer : Payload
-      answer = P2 l.round l.aux
+      vote : Payload
+      vote = P2 l.round l.aux
 
       split : (r : ℕ) (a : Option ℕ) → IsIn (P2 r a) (sent ++ P2 l.round l.aux ∷ []) → IsIn (P2 r a) sent ⊎ (P2 r a ≡ P2 l.round l.aux)
       split r a it = in_push (P2 r a) (P2 l.round l.aux) sent it
@@ -299,21 +299,21 @@ module _ (q : ℕ) (l : Local) (sent : List Payload) (laws : LocalLaws q l sent)
       other_decision v it = in_push_other (D v) (P2 l.round l.aux) sent (λ same. cc) it
 
       below : (r : ℕ) (a : Option ℕ) → IsIn (P2 r a) sent ⊎ (P2 r a ≡ P2 l.round l.aux) → (1 ≤ r) × (r ≤ l.round) × (1 ≤ 4 → 4 ≤ 3 → suc r ≤ l.round)
-      below r a (inl old) = let it = laws.answers_below r a old in omega arith
+      below r a (inl old) = let it = laws.votes_below r a old in omega arith
       below r a (inr new) =
           let same : r ≡ l.round = cc in
           let from_one = laws.round_here (omega arith) (omega arith) in
           omega arith
 
       one : (r : ℕ) (a b : Option ℕ) → IsIn (P2 r a) sent ⊎ (P2 r a ≡ P2 l.round l.aux) → IsIn (P2 r b) sent ⊎ (P2 r b ≡ P2 l.round l.aux) → a ≡ b
-      one r a b (inl old) (inl other) = laws.one_answer r a b old other
+      one r a b (inl old) (inl other) = laws.one_vote r a b old other
       one r a b (inl old) (inr other) =
           let same : r ≡ l.round = cc in
-          let it = (laws.answers_below r a old).2 (omega arith) (omega arith) in
+          let it = (laws.votes_below r a old).2 (omega arith) (omega arith) in
           absurd (omega arith)
       one r a b (inr new) (inl other) =
           let same : r ≡ l.round = cc in
-          let it = (laws.answers_below r b other).2 (omega arith) (omega arith) in
+          let it = (laws.votes_below r b other).2 (omega arith) (omega arith) in
           absurd (omega arith)
       one r a b (inr new) (inr other) = cc
 
@@ -326,15 +326,15 @@ module _ (q : ℕ) (l : Local) (sent : List Payload) (laws : LocalLaws q l sent)
           subst P same (laws.aux_here here v is)
 
       more : (r e : ℕ) → (r ≡ 0) ⊎ LeaveBasis q (SentIn sent) (Heard l.inbox) r e → (r ≡ 0) ⊎ LeaveBasis q (SentIn (sent ++ P2 l.round l.aux ∷ [])) (Heard l.inbox) r e
-      more r e it = first_or_leave_grows q sent (sent ++ P2 l.round l.aux ∷ []) l.inbox l.inbox r e (push_grows answer sent) (same_grows l.inbox) it
+      more r e it = first_or_leave_grows q sent (sent ++ P2 l.round l.aux ∷ []) l.inbox l.inbox r e (push_grows vote sent) (same_grows l.inbox) it
 
   -- to place 5 with an estimate that rests on what was received
   keeps_decide : (v : ℕ) → l.place ≤ 4 → DecisionBasis q (Heard l.inbox) v → LocalLaws q (record l { place = 5; estimate = v }) sent
   keeps_decide v here basis = record {
     proposals_below = λ r e k it. let old = laws.proposals_below r e k it in omega arith;
-    answers_below = λ r a it. let old = laws.answers_below r a it in omega arith;
+    votes_below = λ r a it. let old = laws.votes_below r a it in omega arith;
     one_proposal = laws.one_proposal;
-    one_answer = laws.one_answer;
+    one_vote = laws.one_vote;
     aux_here = λ at w is. absurd (omega arith);
     aux_rests = laws.aux_rests;
     round_here = λ low high. absurd (omega arith);
@@ -347,14 +347,14 @@ module _ (q : ℕ) (l : Local) (sent : List Payload) (laws : LocalLaws q l sent)
     announced = laws.announced;
   }
 
-  keeps_leave : (e : ℕ) → l.place ≡ 4 → IsQuorum q (Answered (Heard l.inbox) l.round e)
+  keeps_leave : (e : ℕ) → l.place ≡ 4 → IsQuorum q (Voted (Heard l.inbox) l.round e)
       → Carried (Heard l.inbox) l.round e ⊎ (e ≡ l.estimate)
       → LocalLaws q (record l { place = 0; estimate = e }) sent
   keeps_leave e here quorum value = record {
     proposals_below = λ r f k it. let old = laws.proposals_below r f k it in omega arith;
-    answers_below = λ r a it. let old = laws.answers_below r a it in omega arith;
+    votes_below = λ r a it. let old = laws.votes_below r a it in omega arith;
     one_proposal = laws.one_proposal;
-    one_answer = laws.one_answer;
+    one_vote = laws.one_vote;
     aux_here = λ at w is. absurd (omega arith);
     aux_rests = laws.aux_rests;
     round_here = λ low high. absurd (omega arith);
@@ -377,11 +377,11 @@ module _ (q : ℕ) (l : Local) (sent : List Payload) (laws : LocalLaws q l sent)
   keeps_announce : l.place ≡ 5 → LocalLaws q (record l { place = 6; decision = Some l.estimate }) (sent ++ D l.estimate ∷ [])
   keeps_announce here = record {
     proposals_below = λ r e k it. let old = laws.proposals_below r e k (other_proposal r e k it) in omega arith;
-    answers_below = λ r a it. let old = laws.answers_below r a (other_answer r a it) in omega arith;
+    votes_below = λ r a it. let old = laws.votes_below r a (other_vote r a it) in omega arith;
     one_proposal = λ r e j f k it other. laws.one_proposal r e j f k (other_proposal r e j it) (other_proposal r f k other);
-    one_answer = λ r a b it other. laws.one_answer r a b (other_answer r a it) (other_answer r b other);
+    one_vote = λ r a b it other. laws.one_vote r a b (other_vote r a it) (other_vote r b other);
     aux_here = λ at v is. absurd (omega arith);
-    aux_rests = λ r v it. laws.aux_rests r v (other_answer r (Some v) it);
+    aux_rests = λ r v it. laws.aux_rests r v (other_vote r (Some v) it);
     round_here = λ low high. absurd (omega arith);
     left_here = λ at. absurd (omega arith);
     entering_here = λ at r is. absurd (omega arith);
@@ -400,8 +400,8 @@ module _ (q : ℕ) (l : Local) (sent : List Payload) (laws : LocalLaws q l sent)
       other_proposal : (r e k : ℕ) → IsIn (P1 r e k) (sent ++ D l.estimate ∷ []) → IsIn (P1 r e k) sent
       other_proposal r e k it = in_push_other (P1 r e k) (D l.estimate) sent (λ same. cc) it
 
-      other_answer : (r : ℕ) (a : Option ℕ) → IsIn (P2 r a) (sent ++ D l.estimate ∷ []) → IsIn (P2 r a) sent
-      other_answer r a it = in_push_other (P2 r a) (D l.estimate) sent (λ same. cc) it
+      other_vote : (r : ℕ) (a : Option ℕ) → IsIn (P2 r a) (sent ++ D l.estimate ∷ []) → IsIn (P2 r a) sent
+      other_vote r a it = in_push_other (P2 r a) (D l.estimate) sent (λ same. cc) it
 
       decided : (v : ℕ) → IsIn (D v) sent ⊎ (D v ≡ D l.estimate) → DecisionBasis q (Heard l.inbox) v
       decided v (inl old) = laws.decided v old
@@ -410,12 +410,12 @@ module _ (q : ℕ) (l : Local) (sent : List Payload) (laws : LocalLaws q l sent)
           let P : ℕ → Type 0 = λ x. DecisionBasis q (Heard l.inbox) x in
           subst P same (laws.decided_here (omega arith))
 
-  keeps_receive : (s : ℕ) (x : Payload) → LocalLaws q (record l { inbox = l.inbox ++ entry s x ∷ [] }) sent
+  keeps_receive : (s : ℕ) (x : Payload) → LocalLaws q (record l { inbox = l.inbox ++ message s x ∷ [] }) sent
   keeps_receive s x = record {
     proposals_below = laws.proposals_below;
-    answers_below = laws.answers_below;
+    votes_below = laws.votes_below;
     one_proposal = laws.one_proposal;
-    one_answer = laws.one_answer;
+    one_vote = laws.one_vote;
     aux_here = λ at v is. aux_grows q l.inbox more l.round v grows (laws.aux_here at v is);
     aux_rests = λ r v it. aux_grows q l.inbox more r v grows (laws.aux_rests r v it);
     round_here = laws.round_here;
@@ -429,10 +429,10 @@ module _ (q : ℕ) (l : Local) (sent : List Payload) (laws : LocalLaws q l sent)
   }
     where
       more : Inbox
-      more = l.inbox ++ entry s x ∷ []
+      more = l.inbox ++ message s x ∷ []
 
-      grows : Grows l.inbox (l.inbox ++ entry s x ∷ [])
-      grows = push_grows (entry s x) l.inbox
+      grows : Grows l.inbox (l.inbox ++ message s x ∷ [])
+      grows = push_grows (message s x) l.inbox
 
 -- each step of a process keeps its laws
 pub step_keeps : (q : ℕ) (mail : ℕ → List Payload) (l : Local) (sent : List Payload) (k : Local) (posted : List Payload)
@@ -447,7 +447,7 @@ step_keeps q mail l sent k posted laws step =
     by_row (propose m here) = keeps_propose q l sent laws m here
     by_row stay = laws
     by_row (settle a here rests) = keeps_settle q l sent laws a here rests
-    by_row (answer here) = keeps_answer q l sent laws here
+    by_row (vote here) = keeps_vote q l sent laws here
     by_row (decide v here alike) = keeps_decide q l sent laws v (omega arith) (inr (l.round, alike))
     by_row (leave e here quorum value) = keeps_leave q l sent laws e here quorum value
     by_row (learn s v here learnt) = keeps_decide q l sent laws v here (inl (s, learnt))
@@ -461,18 +461,18 @@ step_posts q mail l sent k posted step = let P : List Payload → Type 0 = λ x.
   where
     by_row : (row : Row q mail l) → Grows sent (sent_by q mail l sent row)
     by_row (propose m here) = push_grows (P1 l.round l.estimate m) sent
-    by_row (answer here) = push_grows (P2 l.round l.aux) sent
+    by_row (vote here) = push_grows (P2 l.round l.aux) sent
     by_row (announce here) = push_grows (D l.estimate) sent
     by_row _ = same_grows sent
 
--- an entry of the inbox is an old one, or what its sender has sent
+-- a message of the inbox is an old one, or what its sender has sent
 pub step_delivers : (q : ℕ) (mail : ℕ → List Payload) (l : Local) (sent : List Payload) (k : Local) (posted : List Payload)
     → Step q mail l sent k posted → (s : ℕ) (x : Payload) → Heard k.inbox s x → Heard l.inbox s x ⊎ IsIn x (mail s)
 step_delivers q mail l sent k posted step s x it =
     let P : Local → Type 0 = λ j. Heard j.inbox s x in
     by_row step.row (subst P step.is it)
   where
-    new : (p : ℕ) (y : Payload) → IsIn y (mail p) → Heard l.inbox s x ⊎ (entry s x ≡ entry p y) → Heard l.inbox s x ⊎ IsIn x (mail s)
+    new : (p : ℕ) (y : Payload) → IsIn y (mail p) → Heard l.inbox s x ⊎ (message s x ≡ message p y) → Heard l.inbox s x ⊎ IsIn x (mail s)
     new p y known (inl here) = inl here
     new p y known (inr same) =
         let sender : p ≡ s = sym (ap (λ (e : Received). e.from) same) in
@@ -482,5 +482,5 @@ step_delivers q mail l sent k posted step s x it =
         inr (subst Q payload (subst P sender known))
 
     by_row : (row : Row q mail l) → Heard (after_row q mail l row).inbox s x → Heard l.inbox s x ⊎ IsIn x (mail s)
-    by_row (receive p y known) here = new p y known (in_push (entry s x) (entry p y) l.inbox here)
+    by_row (receive p y known) here = new p y known (in_push (message s x) (message p y) l.inbox here)
     by_row _ here = inl here

@@ -13,8 +13,8 @@ use Rattle.cdb_leader.specs.Inbox.{agreed_estimate, proposal, is_only_proposal, 
 use Rattle.cdb_leader.specs.LocalState.{LocalState}
 use Rattle.cdb_leader.specs.Table.{heard_first_phase, heard_second_phase, heard_lead, is_lead, set_aux, end_round, query_at, payload_at, after_sending_at, send_at, local_at, adopt, learn_at, hear, recv_at, next_state}
 use Rattle.cdb_process.proofs.Members.{IsIn}
-use Rattle.cdb_leader.proofs.Readings.{learnt_heard, agreed_rests, proposal_carried, answered_none, answered_some, answered_alike}
-use Rattle.cdb_leader.proofs.Steps.{Local, entry, Row, after_row, sent_by, Step, enter, propose, stay, settle, answer, decide, leave, learn, announce, receive}
+use Rattle.cdb_leader.proofs.Readings.{learnt_heard, agreed_rests, proposal_carried, voted_none, voted_some, voted_alike}
+use Rattle.cdb_leader.proofs.Steps.{Local, message, Row, after_row, sent_by, Step, enter, propose, stay, settle, vote, decide, leave, learn, announce, receive}
 
 -- the local state, as the laws on agreement see it
 abbrev pub local_of : LocalState → Local
@@ -90,7 +90,7 @@ module _ (mail : ℕ → List Payload) (s t : LocalState) (sent : List Payload) 
       go None it = absurd (cc)
       go (Some m) it = by_row (propose m (ap place_number at)) (after_sending_at L1 s) it refl refl
   send_step L2 at is = absurd (cc)
-  send_step L3 at is = by_row (answer (ap place_number at)) (after_sending_at L3 s) is refl refl
+  send_step L3 at is = by_row (vote (ap place_number at)) (after_sending_at L3 s) is refl refl
   send_step L4 at is = absurd (cc)
   send_step L5 at is = by_row (announce (ap place_number at)) (after_sending_at L5 s) is refl refl
   send_step L6 at is = absurd (cc)
@@ -115,17 +115,17 @@ module _ (mail : ℕ → List Payload) (s t : LocalState) (sent : List Payload) 
         where
           ends : (o : Option ℕ) → proposal s.round s.inbox ≡ o → Some (end_round s o) ≡ Some t → Taken sent
           ends None none it_is =
-              by_row (leave s.estimate (ap place_number at) (answered_none s.quorum s.round s.inbox s.estimate enough none) (inr refl))
+              by_row (leave s.estimate (ap place_number at) (voted_none s.quorum s.round s.inbox s.estimate enough none) (inr refl))
               (end_round s None) it_is refl refl
           ends (Some w) some it_is = by_only (is_only_proposal s.round w s.inbox) refl it_is
             where
               by_only : (b : Bool) → is_only_proposal s.round w s.inbox ≡ b → Some (record s { estimate = w; place = if b then L5 else L0 }) ≡ Some t
                   → Taken sent
               by_only true only so =
-                  by_row (decide w (ap place_number at) (answered_alike s.quorum s.round s.inbox w enough only))
+                  by_row (decide w (ap place_number at) (voted_alike s.quorum s.round s.inbox w enough only))
                   (record s { estimate = w; place = L5 }) so refl refl
               by_only false only so =
-                  by_row (leave w (ap place_number at) (answered_some s.quorum s.round s.inbox w enough some) (inl (proposal_carried s.round s.inbox w some)))
+                  by_row (leave w (ap place_number at) (voted_some s.quorum s.round s.inbox w enough some) (inl (proposal_carried s.round s.inbox w some)))
                   (record s { estimate = w; place = L0 }) so refl refl
   local_step L5 at is = absurd (cc)
   local_step L6 at is = absurd (cc)
@@ -149,7 +149,7 @@ module _ (mail : ℕ → List Payload) (s t : LocalState) (sent : List Payload) 
   learn_step L6 at is = absurd (cc)
 
   hear_step : (o : ℕ) (x : Payload) → IsIn x (mail o) → hear s o x ≡ Some t → Taken sent
-  hear_step o x known is = by_row (receive o x known) (record s { inbox = s.inbox ++ entry o x ∷ [] }) is refl refl
+  hear_step o x known is = by_row (receive o x known) (record s { inbox = s.inbox ++ message o x ∷ [] }) is refl refl
 
   recv_step : (p : Place) (o : ℕ) (x : Payload) → IsIn x (mail o) → recv_at p s o x ≡ Some t → Taken sent
   recv_step L0 o x known is = hear_step o x known is

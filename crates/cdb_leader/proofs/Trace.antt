@@ -10,7 +10,7 @@ use Rattle.cdb_process.specs.Walk.{state_along}
 use Rattle.cdb_leader.specs.LocalState.{LocalState, first_state}
 use Rattle.cdb_leader.specs.Table.{next_state}
 use Rattle.cdb_leader.specs.Trace.{sent_of, sent_along, IsHeard, IsFounded, SentMessagesAreFounded, ReceivedIsBrought}
-use Rattle.cdb_leader.proofs.Steps.{Heard, SentIn, Step, LocalLaws, entry, first_laws, step_keeps, step_delivers, aux_follows, decision_follows, first_or_leave_follows}
+use Rattle.cdb_leader.proofs.Steps.{Heard, SentIn, Step, LocalLaws, message, first_laws, step_keeps, step_delivers, aux_follows, decision_follows, first_or_leave_follows}
 use Rattle.cdb_leader.proofs.TableSteps.{local_of, posted_by, WasSent, table_step}
 
 -- ---- one input after another
@@ -66,16 +66,16 @@ module _ (q : ℕ) where
   founded : (s : LocalState) (sent : List Payload) → LocalLaws q (local_of s) sent → IsFounded q s sent
   founded s sent laws = record {
     one_proposal = λ r e f k l a b. laws.one_proposal r e k f l (contained_in sent (P1 r e k) a) (contained_in sent (P1 r f l) b);
-    from_one = λ r a it. (laws.answers_below r a (contained_in sent (P2 r a) it)).0;
-    one_answer = λ r a b x y. laws.one_answer r a b (contained_in sent (P2 r a) x) (contained_in sent (P2 r b) y);
+    from_one = λ r a it. (laws.votes_below r a (contained_in sent (P2 r a) it)).0;
+    one_vote = λ r a b x y. laws.one_vote r a b (contained_in sent (P2 r a) x) (contained_in sent (P2 r b) y);
     estimate = λ r e k it.
-        first_or_leave_follows q (SentIn sent) (Contains sent) (Heard s.inbox) (IsHeard s.inbox) (in_contained sent) (λ o x h. in_contained s.inbox (entry o x) h) r e
+        first_or_leave_follows q (SentIn sent) (Contains sent) (Heard s.inbox) (IsHeard s.inbox) (in_contained sent) (λ o x h. in_contained s.inbox (message o x) h) r e
         (laws.entered r e k (contained_in sent (P1 (suc r) e k) it));
-    answer = λ r v it.
-        aux_follows q (SentIn sent) (Contains sent) (Heard s.inbox) (IsHeard s.inbox) (in_contained sent) (λ o x h. in_contained s.inbox (entry o x) h) r v
+    vote = λ r v it.
+        aux_follows q (SentIn sent) (Contains sent) (Heard s.inbox) (IsHeard s.inbox) (in_contained sent) (λ o x h. in_contained s.inbox (message o x) h) r v
         (laws.aux_rests r v (contained_in sent (P2 r (Some v)) it));
     decision = λ v it.
-        decision_follows q (SentIn sent) (Contains sent) (Heard s.inbox) (IsHeard s.inbox) (in_contained sent) (λ o x h. in_contained s.inbox (entry o x) h) v
+        decision_follows q (SentIn sent) (Contains sent) (Heard s.inbox) (IsHeard s.inbox) (in_contained sent) (λ o x h. in_contained s.inbox (message o x) h) v
         (laws.decided v (contained_in sent (D v) it));
     announced = λ v is. in_contained sent (D v) (laws.announced v is);
   }
@@ -102,8 +102,8 @@ carried input.Learn from x none = elim none [ ]
 pub received_is_brought : ReceivedIsBrought
 received_is_brought s t i taken from x here =
     let step = table_step (mail_of i) s t [] i (known i) taken in
-    go (step_delivers s.quorum (mail_of i) (local_of s) [] (local_of t) (posted_by s i []) step.0 from x (contained_in t.inbox (entry from x) here))
+    go (step_delivers s.quorum (mail_of i) (local_of s) [] (local_of t) (posted_by s i []) step.0 from x (contained_in t.inbox (message from x) here))
   where
     go : Heard s.inbox from x ⊎ IsIn x (mail_of i from) → IsHeard s.inbox from x ⊎ (i ≡ input.Recv from x)
-    go (inl old) = inl (in_contained s.inbox (entry from x) old)
+    go (inl old) = inl (in_contained s.inbox (message from x) old)
     go (inr new) = inr (carried i from x new)

@@ -14,24 +14,24 @@ pub record AuxBasis (q : ℕ) (heard : ℕ → Payload → Type 0) (r v : ℕ) :
   pub quorum : IsQuorum q (λ s. (e : ℕ) × heard s (P1 r e leader))
   pub estimate : heard leader (P1 r v named)
 
--- somebody answered e in the second phase of round r
+-- somebody voted e in the second phase of round r
 abbrev pub Carried : (ℕ → Payload → Type 0) → ℕ → ℕ → Type 0
 Carried heard r e = (c : ℕ) × heard c (P2 r (Some e))
 
--- s has answered in the second phase of round r: none, or somebody answered e
-abbrev pub Answered : (ℕ → Payload → Type 0) → ℕ → ℕ → ℕ → Type 0
-Answered heard r e s = (a : Option ℕ) × heard s (P2 r a) × ((a ≡ None) ⊎ Carried heard r e)
+-- s has voted in the second phase of round r: none, or somebody voted e
+abbrev pub Voted : (ℕ → Payload → Type 0) → ℕ → ℕ → ℕ → Type 0
+Voted heard r e s = (a : Option ℕ) × heard s (P2 r a) × ((a ≡ None) ⊎ Carried heard r e)
 
--- a quorum answered in the second phase of round r, and e was answered, or is what the process proposed there itself where all of
--- that quorum answered none
+-- a quorum voted in the second phase of round r, and e was voted, or is what the process proposed there itself where all of
+-- that quorum voted none
 pub record LeaveBasis (q : ℕ) (sent : Payload → Type 0) (heard : ℕ → Payload → Type 0) (r e : ℕ) : Type 0 where
-  pub quorum : IsQuorum q (Answered heard r e)
+  pub quorum : IsQuorum q (Voted heard r e)
   pub value : Carried heard r e ⊎ ((l : ℕ) × sent (P1 r e l))
 
--- a quorum answered v in the second phase of round r
-abbrev pub AnsweredAlike : ℕ → (ℕ → Payload → Type 0) → ℕ → ℕ → Type 0
-AnsweredAlike q heard r v = IsQuorum q (λ s. heard s (P2 r (Some v)))
+-- a quorum voted v in the second phase of round r
+abbrev pub VotedAlike : ℕ → (ℕ → Payload → Type 0) → ℕ → ℕ → Type 0
+VotedAlike q heard r v = IsQuorum q (λ s. heard s (P2 r (Some v)))
 
--- a decision message with v, or a quorum that answered v in the second phase of one round
+-- a decision message with v, or a quorum that voted v in the second phase of one round
 abbrev pub DecisionBasis : ℕ → (ℕ → Payload → Type 0) → ℕ → Type 0
-DecisionBasis q heard v = ((s : ℕ) × heard s (D v)) ⊎ ((r : ℕ) × AnsweredAlike q heard r v)
+DecisionBasis q heard v = ((s : ℕ) × heard s (D v)) ⊎ ((r : ℕ) × VotedAlike q heard r v)

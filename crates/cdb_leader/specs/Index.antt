@@ -47,11 +47,11 @@ abbrev pub ChangesFrom : ℕ → (Option ℕ → Option ℕ) → Firsts → Firs
 ChangesFrom s change old new =
     (t : ℕ) → position_from t new ≡ (if s == t then change (position_from t old) else position_from t old)
 
--- the entry came from s and reads as something
+-- the message came from s and reads as something
 abbrev pub reads_from : {A : Type 0} → ℕ → (Payload → Option A) → Received → Bool
 reads_from s reading e = is_some (if_from s reading e)
 
--- for each sender the position of its first entry that reads as something
+-- for each sender the position of its first message that reads as something
 abbrev pub AreFirsts : {A : Type 0} → (Payload → Option A) → Firsts → List Received → Type 0
 AreFirsts reading kept inbox =
     (s : ℕ) → position_from s kept ≡ first_position (reads_from s reading) inbox
@@ -75,8 +75,8 @@ agreed_among q said =
 -- ---- by round
 
 -- what the first second-phase message of round r carries, whoever sent it
-abbrev pub answer_in : ℕ → List Received → Option (Option ℕ)
-answer_in r inbox = first_given (λ e. second_phase r e.payload) inbox
+abbrev pub vote_in : ℕ → List Received → Option (Option ℕ)
+vote_in r inbox = first_given (λ e. second_phase r e.payload) inbox
 
 -- both are there, and they carry different things
 abbrev pub are_different : Option (Option ℕ) → Option (Option ℕ) → Bool
@@ -88,20 +88,20 @@ are_different (Some (Some v)) (Some None) = true
 are_different (Some (Some v)) (Some (Some w)) = not (v == w)
 
 -- the row says where in the inbox the first messages of round r stand: those of each sender, the
--- first answer, and the first that carries something else than that
+-- first vote, and the first that carries something else than that
 pub record IsRowOf (r : ℕ) (row : Row) (inbox : List Received) : Type 0 where
   pub first_phases : AreFirsts (first_phase r) row.first_phases inbox
   pub second_phases : AreFirsts (second_phase r) row.second_phases inbox
-  pub answer : row.answer ≡ first_position (λ e. is_some (second_phase r e.payload)) inbox
-  pub other_answer : row.other_answer
-      ≡ first_position (λ e. are_different (answer_in r inbox) (second_phase r e.payload)) inbox
+  pub vote : row.vote ≡ first_position (λ e. is_some (second_phase r e.payload)) inbox
+  pub other_vote : row.other_vote
+      ≡ first_position (λ e. are_different (vote_in r inbox) (second_phase r e.payload)) inbox
 
 -- the row keeps nothing
 pub record IsEmptyRow (row : Row) : Type 0 where
   pub first_phases : (s : ℕ) → position_from s row.first_phases ≡ None
   pub second_phases : (s : ℕ) → position_from s row.second_phases ≡ None
-  pub answer : row.answer ≡ None
-  pub other_answer : row.other_answer ≡ None
+  pub vote : row.vote ≡ None
+  pub other_vote : row.other_vote ≡ None
 
 -- a round that has no row needs an empty one
 abbrev pub IsRoundOf : ℕ → Option Row → List Received → Type 0

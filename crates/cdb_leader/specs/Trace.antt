@@ -29,12 +29,12 @@ IsHeard inbox from payload = Contains inbox (record { from = from; payload = pay
 pub record IsFounded (q : ℕ) (s : LocalState) (sent : List Payload) : Type 0 where
   -- one first-phase and one second-phase message a round, and rounds begin at 1
   pub one_proposal : (r e f k l : ℕ) → Contains sent (P1 r e k) → Contains sent (P1 r f l) → (e ≡ f) × (k ≡ l)
-  pub one_answer : (r : ℕ) (a b : Option ℕ) → Contains sent (P2 r a) → Contains sent (P2 r b) → a ≡ b
+  pub one_vote : (r : ℕ) (a b : Option ℕ) → Contains sent (P2 r a) → Contains sent (P2 r b) → a ≡ b
   pub from_one : (r : ℕ) (a : Option ℕ) → Contains sent (P2 r a) → 1 ≤ r
-  -- an estimate rests on the answers of the round before, an answer with a value on a quorum for one leader, a
-  -- decision on answers that were alike, or on a decision that was received
+  -- an estimate rests on the votes of the round before, a vote with a value on a quorum for one leader, a
+  -- decision on votes that were alike, or on a decision that was received
   pub estimate : (r e k : ℕ) → Contains sent (P1 (suc r) e k) → (r ≡ 0) ⊎ LeaveBasis q (Contains sent) (IsHeard s.inbox) r e
-  pub answer : (r v : ℕ) → Contains sent (P2 r (Some v)) → AuxBasis q (IsHeard s.inbox) r v
+  pub vote : (r v : ℕ) → Contains sent (P2 r (Some v)) → AuxBasis q (IsHeard s.inbox) r v
   pub decision : (v : ℕ) → Contains sent (D v) → DecisionBasis q (IsHeard s.inbox) v
   -- what the process has decided it has sent
   pub announced : (v : ℕ) → s.decision ≡ Some v → Contains sent (D v)

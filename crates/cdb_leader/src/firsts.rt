@@ -6,7 +6,7 @@ ghost use Rattle.cdb_leader.specs.Index.{position_from, noted, forgotten, Change
 
 use cdb_base::Proc;
 
-/// Where in an inbox an entry stands. It has 32 bits, since an index keeps many.
+/// Where in an inbox a message stands. It has 32 bits, since an index keeps many.
 pub(crate) type Position = u32;
 
 /// The position that is kept, or that one where none is.

@@ -43,8 +43,8 @@ impl Received {
         }
     }
 
-    /// What the entry carries as a second-phase message of that round.
-    pub(crate) fn answer(&self, in_round: u32) -> Option<Option<Val>>
+    /// What the message carries as a second-phase message of that round.
+    pub(crate) fn vote(&self, in_round: u32) -> Option<Option<Val>>
         ensures { result ≡ second_phase in_round self.now.payload }
     {
         match self.payload {
@@ -53,7 +53,7 @@ impl Received {
         }
     }
 
-    /// The entry as a first-phase message of that round from that sender.
+    /// The message as a first-phase message of that round from that sender.
     fn first_phase(&self, in_round: u32, sender: Proc) -> Option<FirstPhase>
         ensures { result ≡ if_from sender (first_phase in_round) self.now }
     {
@@ -68,7 +68,7 @@ impl Received {
         }
     }
 
-    /// The entry as a second-phase message of that round from that sender.
+    /// The message as a second-phase message of that round from that sender.
     fn second_phase(&self, in_round: u32, sender: Proc) -> Option<Option<Val>>
         ensures { result ≡ if_from sender (second_phase in_round) self.now }
     {
@@ -78,7 +78,7 @@ impl Received {
         }
     }
 
-    /// The entry as a decision of that sender.
+    /// The message as a decision of that sender.
     fn decision(&self, sender: Proc) -> Option<Val>
         ensures { result ≡ if_from sender as_decision self.now }
     {
@@ -89,18 +89,18 @@ impl Received {
     }
 }
 
-/// The entry at that position, if one is given.
-pub(crate) fn entry_at(entries: &[Received], position: Option<Position>) -> Option<&Received>
-    ensures { option_copied result ≡ option_and_then (slice_get entries.now) position }
+/// The message at that position, if one is given.
+pub(crate) fn message_at(messages: &[Received], position: Option<Position>) -> Option<&Received>
+    ensures { option_copied result ≡ option_and_then (slice_get messages.now) position }
 {
-    entries.get(position? as usize)
+    messages.get(position? as usize)
 }
 
 /// The messages that a process has received. A contract sees the list of them, in the order of
 /// receipt. Beside the list stands an index, so that no question goes over the list.
 #[derive(Drop)]
 pub struct Inbox {
-    entries: Vec<Received>,
+    messages: Vec<Received>,
     index: Index,
 }
 
@@ -111,9 +111,9 @@ impl Model for Inbox {
 
     ghost Value = { List Received };
 
-    ghost view = { λ x. x.entries.items };
+    ghost view = { λ x. x.messages.items };
 
-    ghost invariant = { λ x. IsIndexOf x.index x.entries.items };
+    ghost invariant = { λ x. IsIndexOf x.index x.messages.items };
 }
 
 impl Inbox {
@@ -122,28 +122,28 @@ impl Inbox {
         ensures { result ≡ [] }
     {
         Inbox {
-            entries: Vec::new(alloc),
+            messages: Vec::new(alloc),
             index: Index::new(alloc),
         }
     }
 
-    /// Adds an entry at the end. Where an allocation fails, the inbox is as it was.
-    pub(crate) fn push(&mut self, entry: &Received) -> Result<(), NoMemory>
-        ensures ok { OnOk result (self.new ≡ self.old ++ entry.now ∷ []) }
+    /// Adds a message at the end. Where an allocation fails, the inbox is as it was.
+    pub(crate) fn push(&mut self, message: &Received) -> Result<(), NoMemory>
+        ensures ok { OnOk result (self.new ≡ self.old ++ message.now ∷ []) }
         ensures err { OnErr result (self.new ≡ self.old) }
     {
-        self.entries.reserve(1)?;
-        self.index.note(&self.entries, entry)?;
-        self.entries.push_reserved(*entry);
+        self.messages.reserve(1)?;
+        self.index.note(&self.messages, message)?;
+        self.messages.push_reserved(*message);
         Ok(())
     }
 
-    /// Takes the last entry out, if there is one. It allocates nothing.
+    /// Takes the last message out, if there is one. It allocates nothing.
     pub(crate) fn pop(&mut self)
         ensures { self.new ≡ without_last self.old }
     {
-        if let Some(entry) = self.entries.pop() {
-            self.index.forget(&self.entries, &entry);
+        if let Some(message) = self.messages.pop() {
+            self.index.forget(&self.messages, &message);
         }
     }
 
@@ -153,7 +153,7 @@ impl Inbox {
         ensures { AreFirsts (first_phase round) kept.now self.now
             → result ≡ first_phase_from round sender self.now }
     {
-        entry_at(&self.entries, kept.get(sender))?.first_phase(round, sender)
+        message_at(&self.messages, kept.get(sender))?.first_phase(round, sender)
     }
 
     /// The second-phase message of the round from that sender, by what is kept of the round.
@@ -162,7 +162,7 @@ impl Inbox {
         ensures { AreFirsts (second_phase round) kept.now self.now
             → result ≡ second_phase_from round sender self.now }
     {
-        entry_at(&self.entries, kept.get(sender))?.second_phase(round, sender)
+        message_at(&self.messages, kept.get(sender))?.second_phase(round, sender)
     }
 
     /// The decision of that sender: the first of its kind.
@@ -170,7 +170,7 @@ impl Inbox {
     fn find_decision(&self, sender: Proc) -> Option<Val>
         ensures { result ≡ decision_from sender self.now }
     {
-        entry_at(&self.entries, self.index.decision(sender))?.decision(sender)
+        message_at(&self.messages, self.index.decision(sender))?.decision(sender)
     }
 
     /// Where the first-phase messages of that round stand.
@@ -256,8 +256,8 @@ impl Inbox {
         ensures { result ≡ is_only_proposal round value self.now }
     {
         let row = self.row(round);
-        match row.find_answer(round, &self.entries) {
-            Some(aux) => aux == Some(value) && !row.has_other_answer(),
+        match row.find_vote(round, &self.messages) {
+            Some(aux) => aux == Some(value) && !row.has_other_vote(),
             None => true,
         }
     }
@@ -274,10 +274,10 @@ impl Inbox {
         None
     }
 
-    /// Whether the inboxes have the same entries, in the same order.
+    /// Whether the inboxes have the same messages, in the same order.
     pub(crate) fn is_same(&self, other: &Self) -> bool
         ensures { IsTrue result ↔ (self.now ≡ other.now) }
     {
-        self.entries == other.entries
+        self.messages == other.messages
     }
 }

@@ -70,44 +70,46 @@ impl Index {
         self.decisions.get(sender)
     }
 
-    /// Notes the entry that comes after those. Where an allocation fails, the index is as it was. An entry
+    /// Notes the message that comes after those. Where an allocation fails, the index is as it was. A message
     /// beyond position `u32::MAX` is refused in the same way.
-    pub(crate) fn note(&mut self, entries: &[Received], entry: &Received) -> Result<(), NoMemory>
-        ensures ok { IsIndexOf self.old entries.now
-            → OnOk result (IsIndexOf self.new (entries.now ++ entry.now ∷ [])) }
-        ensures err { IsIndexOf self.old entries.now
-            → OnErr result (IsIndexOf self.new entries.now) }
+    pub(crate) fn note(&mut self, messages: &[Received], message: &Received) -> Result<(), NoMemory>
+        ensures ok { IsIndexOf self.old messages.now
+            → OnOk result (IsIndexOf self.new (messages.now ++ message.now ∷ [])) }
+        ensures err { IsIndexOf self.old messages.now
+            → OnErr result (IsIndexOf self.new messages.now) }
     {
-        if entries.len() > Position::MAX as usize {
+        if messages.len() > Position::MAX as usize {
             return Err(NoMemory);
         }
-        match entry.round() {
+        match message.round() {
             Some(round) => {
                 if let Some(row) = self.rows.get_mut(&round) {
-                    row.note(round, entries, entry);
+                    row.note(round, messages, message);
                     return Ok(());
                 }
                 let mut row = Row::new();
-                row.note(round, entries, entry);
+                row.note(round, messages, message);
                 self.rows.insert(round, row)?;
             }
-            None => self.decisions.note(entry.from, entries.len() as Position),
+            None => self
+                .decisions
+                .note(message.from, messages.len() as Position),
         }
         Ok(())
     }
 
-    /// Forgets the entry that came after those. It allocates nothing.
-    pub(crate) fn forget(&mut self, entries: &[Received], entry: &Received)
-        ensures { IsIndexOf self.old (entries.now ++ entry.now ∷ [])
-            → IsIndexOf self.new entries.now }
+    /// Forgets the message that came after those. It allocates nothing.
+    pub(crate) fn forget(&mut self, messages: &[Received], message: &Received)
+        ensures { IsIndexOf self.old (messages.now ++ message.now ∷ [])
+            → IsIndexOf self.new messages.now }
     {
-        match entry.round() {
+        match message.round() {
             Some(round) => {
                 if let Some(row) = self.rows.get_mut(&round) {
-                    row.forget(round, entries, entry);
+                    row.forget(round, messages, message);
                 }
             }
-            None => self.decisions.forget(entry.from, entries.len()),
+            None => self.decisions.forget(message.from, messages.len()),
         }
     }
 }

@@ -271,7 +271,7 @@ impl Leader {
         back
     }
 
-    /// Adds an entry to the inbox.
+    /// Adds a message to the inbox.
     fn receive(&mut self, from: Proc, payload: Payload) -> Result<Back, NoMemory>
         requires { IsSome (recv_at self.old.place self.old from payload) }
         ensures after { IfOk result

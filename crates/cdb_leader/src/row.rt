@@ -1,10 +1,10 @@
 //! What an index holds of one round.
 
 ghost use Rattle.std.specs.Prelude.{◌≡◌, ◌≤◌, ℕ, Some, ◌++◌, ◌∷◌, [], length, is_some, if◌then◌else◌};
-ghost use Rattle.cdb_leader.specs.Index.{message_round, noted, forgotten, ChangesFrom, answer_in, are_different, IsRowOf, IsEmptyRow};
+ghost use Rattle.cdb_leader.specs.Index.{message_round, noted, forgotten, ChangesFrom, vote_in, are_different, IsRowOf, IsEmptyRow};
 
 use crate::firsts::{Firsts, Position, forgotten, noted};
-use crate::inbox::{Received, entry_at};
+use crate::inbox::{Received, message_at};
 use cdb_base::{Payload, Proc, Val};
 
 /// Where in an inbox the first messages of one round stand.
@@ -12,15 +12,15 @@ use cdb_base::{Payload, Proc, Val};
 pub struct Row {
     pub(crate) first_phases: Firsts,
     pub(crate) second_phases: Firsts,
-    answer: Option<Position>,
-    other_answer: Option<Position>,
+    vote: Option<Position>,
+    other_vote: Option<Position>,
 }
 
-/// Whether the answer that came first is there and carries something else.
-fn is_different(answer: Option<Option<Val>>, aux: Option<Val>) -> bool
-    ensures { result ≡ are_different answer (Some aux) }
+/// Whether the vote that came first is there and carries something else.
+fn is_different(vote: Option<Option<Val>>, aux: Option<Val>) -> bool
+    ensures { result ≡ are_different vote (Some aux) }
 {
-    match answer {
+    match vote {
         Some(first) => first != aux,
         None => false,
     }
@@ -34,78 +34,79 @@ impl Row {
         Row {
             first_phases: Firsts::new(),
             second_phases: Firsts::new(),
-            answer: None,
-            other_answer: None,
+            vote: None,
+            other_vote: None,
         }
     }
 
     /// What the first second-phase message of the round carries, whoever sent it.
-    pub(crate) fn find_answer(&self, round: u32, entries: &[Received]) -> Option<Option<Val>>
-        ensures { IsRowOf round self.now entries.now → result ≡ answer_in round entries.now }
+    pub(crate) fn find_vote(&self, round: u32, messages: &[Received]) -> Option<Option<Val>>
+        ensures { IsRowOf round self.now messages.now → result ≡ vote_in round messages.now }
     {
-        entry_at(entries, self.answer)?.answer(round)
+        message_at(messages, self.vote)?.vote(round)
     }
 
     /// Whether a second-phase message of the round carries something else than the first.
-    pub(crate) fn has_other_answer(&self) -> bool
-        ensures { result ≡ is_some self.now.other_answer }
+    pub(crate) fn has_other_vote(&self) -> bool
+        ensures { result ≡ is_some self.now.other_vote }
     {
-        self.other_answer.is_some()
+        self.other_vote.is_some()
     }
 
-    fn note_answer(&mut self, sender: Proc, position: Position, other: bool)
+    fn note_vote(&mut self, sender: Proc, position: Position, other: bool)
         ensures first_phases { self.new.first_phases ≡ self.old.first_phases }
         ensures second_phases { ChangesFrom sender
             (noted position) self.old.second_phases self.new.second_phases }
-        ensures answer { self.new.answer ≡ noted position self.old.answer }
-        ensures other_answer { self.new.other_answer
-            ≡ (if other then noted position self.old.other_answer else self.old.other_answer) }
+        ensures vote { self.new.vote ≡ noted position self.old.vote }
+        ensures other_vote { self.new.other_vote
+            ≡ (if other then noted position self.old.other_vote else self.old.other_vote) }
     {
         self.second_phases.note(sender, position);
-        self.answer = noted(self.answer, position);
+        self.vote = noted(self.vote, position);
         if other {
-            self.other_answer = noted(self.other_answer, position);
+            self.other_vote = noted(self.other_vote, position);
         }
     }
 
-    fn forget_answer(&mut self, sender: Proc, position: usize)
+    fn forget_vote(&mut self, sender: Proc, position: usize)
         ensures first_phases { self.new.first_phases ≡ self.old.first_phases }
         ensures second_phases { ChangesFrom sender
             (forgotten position) self.old.second_phases self.new.second_phases }
-        ensures answer { self.new.answer ≡ forgotten position self.old.answer }
-        ensures other_answer { self.new.other_answer ≡ forgotten position self.old.other_answer }
+        ensures vote { self.new.vote ≡ forgotten position self.old.vote }
+        ensures other_vote { self.new.other_vote ≡ forgotten position self.old.other_vote }
     {
         self.second_phases.forget(sender, position);
-        self.answer = forgotten(self.answer, position);
-        self.other_answer = forgotten(self.other_answer, position);
+        self.vote = forgotten(self.vote, position);
+        self.other_vote = forgotten(self.other_vote, position);
     }
 
-    /// Notes an entry of the round, which comes after those.
-    pub(crate) fn note(&mut self, round: u32, entries: &[Received], entry: &Received)
-        requires { length entries.now ≤ u32.MAX }
-        ensures { message_round entry.now.payload ≡ Some round → IsRowOf round self.old entries.now
-            → IsRowOf round self.new (entries.now ++ entry.now ∷ []) }
+    /// Notes a message of the round, which comes after those.
+    pub(crate) fn note(&mut self, round: u32, messages: &[Received], message: &Received)
+        requires { length messages.now ≤ u32.MAX }
+        ensures { message_round message.now.payload ≡ Some round
+            → IsRowOf round self.old messages.now
+            → IsRowOf round self.new (messages.now ++ message.now ∷ []) }
     {
-        let position = entries.len() as Position;
-        match entry.payload {
-            Payload::P1 { .. } => self.first_phases.note(entry.from, position),
+        let position = messages.len() as Position;
+        match message.payload {
+            Payload::P1 { .. } => self.first_phases.note(message.from, position),
             Payload::P2 { aux, .. } => {
-                let other = is_different(self.find_answer(round, entries), aux);
-                self.note_answer(entry.from, position, other);
+                let other = is_different(self.find_vote(round, messages), aux);
+                self.note_vote(message.from, position, other);
             }
             Payload::D { .. } => {}
         }
     }
 
-    /// Forgets an entry of the round, which came after those.
-    pub(crate) fn forget(&mut self, round: u32, entries: &[Received], entry: &Received)
-        ensures { message_round entry.now.payload ≡ Some round
-            → IsRowOf round self.old (entries.now ++ entry.now ∷ [])
-            → IsRowOf round self.new entries.now }
+    /// Forgets a message of the round, which came after those.
+    pub(crate) fn forget(&mut self, round: u32, messages: &[Received], message: &Received)
+        ensures { message_round message.now.payload ≡ Some round
+            → IsRowOf round self.old (messages.now ++ message.now ∷ [])
+            → IsRowOf round self.new messages.now }
     {
-        match entry.payload {
-            Payload::P1 { .. } => self.first_phases.forget(entry.from, entries.len()),
-            Payload::P2 { .. } => self.forget_answer(entry.from, entries.len()),
+        match message.payload {
+            Payload::P1 { .. } => self.first_phases.forget(message.from, messages.len()),
+            Payload::P2 { .. } => self.forget_vote(message.from, messages.len()),
             Payload::D { .. } => {}
         }
     }

@@ -6,7 +6,7 @@ use Rattle.std.proofs.lemmas.Bool.{cases_eq}
 use Rattle.std.proofs.lemmas.Bool.Decides.{nat_tests}
 use Rattle.std.proofs.lemmas.Option.{none-some, same_Some}
 use Rattle.cdb_base.specs.declared.name.MsgName.{MsgName}
-use Rattle.cdb_message.specs.Mail.{MailState, message_name, sent_by, sent_names, messages_of, is_sent, is_open, stands_above, copies_for, next_pending, IsPending, IsLeastPending, HasNonePending}
+use Rattle.cdb_message.specs.Mail.{MailState, message_name, sent_by, sent_names, messages_of, is_sent, is_open, is_above, copies_for, next_pending, IsPending, IsLeastPending, HasNonePending}
 use Rattle.cdb_message.specs.Names.{is_name_below}
 use Rattle.cdb_message.proofs.Rising.{Rise, all-mapped, all-joined, all_nine, below-not_back, copies-rise, not_below_itself}
 use Rattle.cdb_message.proofs.Sent.{is_sent_within, unsent_by_none}
@@ -161,12 +161,12 @@ module _ (mail : MailState) where
     least_pending after few = found (next_pending mail p after) refl
       where
         found : (o : Option MsgName) → next_pending mail p after ≡ o → MatchOption o (HasNonePending mail p after) (IsLeastPending mail p after)
-        found None none = λ name pending. at_pending (λ n. stands_above after n ≡ false) few (found-none (stands_above after) (copies_for mail p) none) name pending
+        found None none = λ name pending. at_pending (λ n. is_above after n ≡ false) few (found-none (is_above after) (copies_for mail p) none) name pending
         found (Some name) is =
-            let one = found-all (IsPending mail p) (stands_above after) (copies_for mail p) name copies-pending is in
+            let one = found-all (IsPending mail p) (is_above after) (copies_for mail p) name copies-pending is in
             record {
               pending = one.0;
               above = one.1;
-              least = λ other pending above. at_pending (λ n. stands_above after n ≡ true → is_name_below n name ≡ false) few
-                  (found-least (stands_above after) (copies_for mail p) name (copies-rise mail p) is) other pending above;
+              least = λ other pending above. at_pending (λ n. is_above after n ≡ true → is_name_below n name ≡ false) few
+                  (found-least (is_above after) (copies_for mail p) name (copies-rise mail p) is) other pending above;
             }

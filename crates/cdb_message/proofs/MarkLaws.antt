@@ -6,7 +6,7 @@ use Rattle.std.proofs.lemmas.Bool.{eqb-false}
 use Rattle.std.proofs.lemmas.Option.{slice_get-get_or}
 use Rattle.cdb_base.specs.Positions.{nth}
 use Rattle.cdb_message.specs.declared.marks.Row.{Row}
-use Rattle.cdb_message.specs.Marks.{number_of, mark_of}
+use Rattle.cdb_message.specs.Marks.{number_up_to, mark_of}
 
 -- what stands at a position of a list in which one position was set
 slice_get-same : {A : Type 0} (xs : List A) (i : ℕ) (y : A) → i < length xs → slice_get (set xs i y) i ≡ Some y
@@ -22,9 +22,9 @@ slice_get-other (x ∷ xs) (suc i) zero y h = refl
 slice_get-other (x ∷ xs) (suc i) (suc j) y h = slice_get-other xs i j y (λ e. h (λ k. suc (e k)))
 
 module _ (rows : List Row) (i p s number : ℕ) (d row changed : Row) (at : i + 1 ≡ p) (within : i < length rows) (is : row ≡ get_or rows i d)
-    (changes : (t : ℕ) → number_of changed t ≡ (if t == s then number else number_of row t)) where
+    (changes : (t : ℕ) → number_up_to changed t ≡ (if t == s then number else number_up_to row t)) where
   abbrev numbers : Option Row → ℕ → ℕ
-  numbers found t = unwrap_or (option_map (λ r. number_of r t) found) 0
+  numbers found t = unwrap_or (option_map (λ r. number_up_to r t) found) 0
 
   abbrev after : List Row
   after = set rows i changed

@@ -3,6 +3,7 @@ use Rattle.std.specs.Prelude.{◌≡◌, ℕ, ◌+◌, ◌-◌, ◌*◌, ◌==�
 use Rattle.std.specs.List.{flat_map, range_with_len}
 use Rattle.std.specs.declared.cmp.Ordering.{Ordering}
 use Rattle.std.specs.FinSet as set
+use Rattle.cdb_base.specs.declared.limits.TheConstants.{MAX_PROCESSES}
 use Rattle.cdb_base.specs.Processes.{all_processes}
 use Rattle.cdb_base.specs.declared.name.MsgName.{MsgName}
 use Rattle.cdb_base.specs.declared.name.CopyName.{CopyName}
@@ -33,16 +34,27 @@ keys_in table flags = set.from_list (filter (has_key table flags) table.all)
 
 -- a process can have the number
 abbrev pub is_process : ℕ → Bool
-is_process p = nat_le 1 p && nat_le p 9
+is_process p = nat_le 1 p && nat_le p MAX_PROCESSES
 
 -- ---- of messages
 
+-- the last number that fits the 16 bits of a message's
+abbrev pub last_number : ℕ
+last_number = 65535
+
 -- whether a message can have the name: its number has 16 bits
 abbrev pub is_name : MsgName → Bool
-is_name name = is_process name.s && nat_le name.m 65535
+is_name name = is_process name.s && nat_le name.m last_number
 
 abbrev pub name_cell : MsgName → ℕ
 name_cell name = name.m * 9 + (name.s - 1)
+
+-- all cells of names are below the first number, those of copies below the second
+abbrev pub name_cells : ℕ
+name_cells = 1048576
+
+abbrev pub copy_cells : ℕ
+copy_cells = 9437184
 
 -- the names that a message with this number can have
 abbrev pub names_of_number : ℕ → List MsgName

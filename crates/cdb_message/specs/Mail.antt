@@ -139,9 +139,9 @@ abbrev pub copies_for : MailState → ℕ → List MsgName
 copies_for mail p = filter (is_open mail p) (sent_names mail)
 
 -- the name stands above the other, if there is one
-abbrev pub stands_above : Option MsgName → MsgName → Bool
-stands_above None name = true
-stands_above (Some after) name = is_name_below after name
+abbrev pub is_above : Option MsgName → MsgName → Bool
+is_above None name = true
+is_above (Some after) name = is_name_below after name
 
 -- the message was sent, and p neither received its copy nor is this copy lost
 abbrev pub IsPending : MailState → ℕ → MsgName → Type 0
@@ -150,15 +150,15 @@ IsPending mail p name = IsTrue (is_sent mail name) × IsTrue (is_open mail p nam
 -- of the pending messages above `after`, this is the least
 pub record IsLeastPending (mail : MailState) (p : ℕ) (after : Option MsgName) (name : MsgName) : Type 0 where
   pub pending : IsPending mail p name
-  pub above : IsTrue (stands_above after name)
+  pub above : IsTrue (is_above after name)
   pub least : (other : MsgName) → IsPending mail p other
-      → IsTrue (stands_above after other) → is_name_below other name ≡ false
+      → IsTrue (is_above after other) → is_name_below other name ≡ false
 
 -- no pending message is above `after`
 abbrev pub HasNonePending : MailState → ℕ → Option MsgName → Type 0
 HasNonePending mail p after =
-    (name : MsgName) → IsPending mail p name → stands_above after name ≡ false
+    (name : MsgName) → IsPending mail p name → is_above after name ≡ false
 
 -- the first of these copies above `after`, which is the least pending one
 abbrev pub next_pending : MailState → ℕ → Option MsgName → Option MsgName
-next_pending mail p after = find (stands_above after) (copies_for mail p)
+next_pending mail p after = find (is_above after) (copies_for mail p)

@@ -7,17 +7,17 @@ use Rattle.cdb_message.specs.declared.marks.Marks.{Marks}
 use Rattle.cdb_message.specs.Mail.{MailState, message_name, is_open}
 
 -- the number of sender s
-abbrev pub number_of : Row → ℕ → ℕ
-number_of row s = unwrap_or (nth row.numbers s) 0
+abbrev pub number_up_to : Row → ℕ → ℕ
+number_up_to row s = unwrap_or (nth row.numbers s) 0
 
 -- the number of s is this one, and every other stays
 abbrev pub SetsNumber : Row → Row → ℕ → ℕ → Type 0
 SetsNumber old new s number =
-    (t : ℕ) → number_of new t ≡ (if t == s then number else number_of old t)
+    (t : ℕ) → number_up_to new t ≡ (if t == s then number else number_up_to old t)
 
 -- the mark of receiver p and sender s
 abbrev pub mark_of : Marks → ℕ → ℕ → ℕ
-mark_of marks p s = unwrap_or (option_map (λ row. number_of row s) (nth marks.rows p)) 0
+mark_of marks p s = unwrap_or (option_map (λ row. number_up_to row s) (nth marks.rows p)) 0
 
 -- p received or lost its copy of each message of s up to this number
 abbrev pub HasNoneOpen : MailState → ℕ → ℕ → ℕ → Type 0

@@ -2,7 +2,7 @@
 
 ghost use Rattle.std.specs.Prelude.{◌≡◌, ◌<◌, true, OnOk, OnErr};
 ghost use Rattle.std.specs.FinSet as set;
-ghost use Rattle.cdb_message.specs.Flags.{is_copy, copy_cell};
+ghost use Rattle.cdb_message.specs.Flags.{is_copy, copy_cell, copy_cells};
 
 use crate::flags::{clear, is_set, set as set_flag};
 use crate::names::cell_of as cell_of_name;
@@ -13,7 +13,7 @@ use std::marker::Model;
 /// The cell of a copy in a table of flags.
 fn cell_of(copy: CopyName) -> usize
     ensures value { result ≡ copy_cell copy }
-    ensures small { result < 9437184 }
+    ensures small { result < copy_cells }
     ensures named { is_copy copy ≡ true }
 {
     cell_of_name(copy.msg) * 9 + copy.to.index()

@@ -1,7 +1,7 @@
 //! Tables of flags.
 
 ghost use Rattle.std.specs.Prelude.{◌≡◌, ℕ, ◌<◌, true, false, vec_len, OnOk, OnErr};
-ghost use Rattle.cdb_message.specs.Flags.{flag_in, SetsFlag};
+ghost use Rattle.cdb_message.specs.Flags.{flag_in, SetsFlag, copy_cells};
 
 use cdb_base::NoMemory;
 
@@ -14,7 +14,7 @@ pub(crate) fn is_set(flags: &[bool], cell: usize) -> bool
 
 /// Makes room for a cell. The new flags are not set.
 fn grow(flags: &mut Vec<bool>, cell: usize) -> Result<(), NoMemory>
-    requires { cell < 9437184 }
+    requires { cell < copy_cells }
     ensures others { (n : ℕ) → flag_in flags.new.items n ≡ flag_in flags.old.items n }
     ensures room { OnOk result (cell < vec_len flags.new) }
 {
@@ -26,7 +26,7 @@ fn grow(flags: &mut Vec<bool>, cell: usize) -> Result<(), NoMemory>
 
 /// Sets the flag in a cell. Where an allocation fails, all flags are as they were.
 pub(crate) fn set(flags: &mut Vec<bool>, cell: usize) -> Result<(), NoMemory>
-    requires { cell < 9437184 }
+    requires { cell < copy_cells }
     ensures ok { OnOk result (SetsFlag flags.old.items flags.new.items cell true) }
     ensures err { OnErr result ((n : ℕ) → flag_in flags.new.items n ≡ flag_in flags.old.items n) }
 {

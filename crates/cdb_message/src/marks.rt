@@ -1,7 +1,7 @@
 //! From which message on the look for a pending copy begins.
 
 ghost use Rattle.std.specs.Prelude.{◌≡◌, ℕ};
-ghost use Rattle.cdb_message.specs.Marks.{number_of, mark_of, SetsNumber, SetsMark, LowersMark};
+ghost use Rattle.cdb_message.specs.Marks.{number_up_to, mark_of, SetsNumber, SetsMark, LowersMark};
 
 use cdb_base::Proc;
 
@@ -13,7 +13,7 @@ pub struct Row {
 
 impl Row {
     fn get(&self, s: Proc) -> u16
-        ensures { result ≡ number_of self.now s }
+        ensures { result ≡ number_up_to self.now s }
     {
         self.numbers[s.index()]
     }

@@ -2,7 +2,7 @@
 
 ghost use Rattle.std.specs.Prelude.{◌≡◌, ◌<◌, true, OnOk, OnErr};
 ghost use Rattle.std.specs.FinSet as set;
-ghost use Rattle.cdb_message.specs.Flags.{is_name, name_cell};
+ghost use Rattle.cdb_message.specs.Flags.{is_name, name_cell, name_cells};
 
 use crate::flags::{clear, is_set, set as set_flag};
 use cdb_base::{MsgName, NoMemory};
@@ -12,7 +12,7 @@ use std::marker::Model;
 /// The cell of a name in a table of flags.
 pub(crate) fn cell_of(name: MsgName) -> usize
     ensures value { result ≡ name_cell name }
-    ensures small { result < 1048576 }
+    ensures small { result < name_cells }
     ensures named { is_name name ≡ true }
 {
     name.m as usize * 9 + name.s.index()

@@ -4,7 +4,8 @@ use Rattle.cdb_setup.specs.declared.fault.SetupFault.{SetupFault}
 use Rattle.cdb_setup.specs.declared.fault.SetupFault.TheVariants as setup
 use Rattle.cdb_play.specs.Endings.{Ending, Complete, WriterFailed, CutShort, NotBegun, pieces_ending, play_ending, race_ending}
 use Rattle.cdb_play.specs.Faults.{of_output}
-use Rattle.cdb_play.specs.Races.{race_fault_of_setup, race_fault_of_threads, race_fault_of_output, IsFaultOfScripts}
+use Rattle.cdb_play.specs.Races.{race_fault_of_setup, race_fault_of_threads, race_fault_of_output}
+use Rattle.cdb_play.specs.RaceStages.{IsFaultOfScripts}
 use Rattle.cdb_play.specs.Streams.{Stream}
 use Rattle.cdb_play.specs.Written.{IsWritten, Only}
 use Rattle.cdb_play.specs.declared.buffer.OutputFault.{OutputFault}

@@ -19,5 +19,5 @@ pub rests_on_headline : (rules : Parts → Rules) (SameState : Parts → List Ev
     → (json : List ℕ) (old new : Stream) (text : List ℕ) → Plays rules json old new text → RestsOnHeadline rules SameState json old new text
 rests_on_headline rules SameState holds json old new text plays = record {
   plays = plays;
-  headline = holds plays.2.setup plays.2.stands.3.ranges 1 (journal_of plays.2.commands) (of_the_only_seat plays.2.commands);
+  headline = holds plays.2.setup plays.2.encodes.3.ranges 1 (journal_of plays.2.commands) (of_the_only_seat plays.2.commands);
 }

@@ -1,7 +1,8 @@
 -- Texts that are put one after the other.
 use Rattle.std.proofs.Common.{◌≡◌, ℕ, ◌+◌, ◌<◌, List, [], ◌++◌, length, take, drop, get_or, Result, Ok, Err, refl, inr, sym, ap, subst, ◌∙◌, append_assoc, append-nil, length-append, arith}
 use Rattle.std.proofs.KnownBytes.{Appends-nil, Appends-trans}
-use Rattle.cdb_play.specs.Buffers.{piece, AreWholePieces, IsPut, PutsBeginning, Puts}
+use Rattle.cdb_play.specs.Buffers.{piece, AreWholePieces, IsPut}
+use Rattle.cdb_play.specs.Putting.{PutsBeginning, Puts}
 use Rattle.cdb_play.specs.Endings.{pieces_ending}
 use Rattle.cdb_play.specs.Streams.{Stream, Takes, Fails, one_more}
 use Rattle.cdb_play.specs.Written.{IsWritten, Only}

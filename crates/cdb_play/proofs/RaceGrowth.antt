@@ -3,7 +3,7 @@ use Rattle.std.proofs.Common.{◌≡◌, ℕ, ◌+◌, ◌<◌, List, [], ◌∷
 use Rattle.std.specs.List.{flat_map}
 use Rattle.std.proofs.lemmas.Grind.{flat_map-append}
 use Rattle.std.proofs.lemmas.List.{length-map, map-append, take_more}
-use Rattle.cdb_control.specs.Answer.{Answer, told}
+use Rattle.cdb_control.specs.ToldReply.{ToldReply, told}
 use Rattle.cdb_control.specs.declared.reply.Reply.{Reply}
 use Rattle.cdb_race.specs.Races.{all_told}
 use Rattle.cdb_text.specs.Texts.{text_of}
@@ -28,13 +28,13 @@ module _ (replies : List Reply) (i : ℕ) (reply : Reply) (is : reply ≡ get_or
       ap texts (parted replies i reply below ∙ ap (λ r. take i replies ++ r ∷ drop (i + 1) replies) (sym is)) ∙ texts-append (take i replies) (reply ∷ drop (i + 1) replies)
 
 module _ (first : ℕ) (seats : List (Vec Reply Global)) (i : ℕ) (replies : Vec Reply Global) (is : replies ≡ get_or seats i replies) (below : i < length seats) where
-  abbrev told_of : Vec Reply Global → List Answer
+  abbrev told_of : Vec Reply Global → List ToldReply
   told_of list = map told list.items
 
   count : length (all_told (take i seats)) ≡ i
   count = length-map (take i seats) told_of ∙ omega (arith, length-take i seats)
 
-  behind : (others : List (List Answer)) → seats_text first (all_told (take i seats) ++ others) ≡ seats_text first (all_told (take i seats)) ++ seats_text (first + i) others
+  behind : (others : List (List ToldReply)) → seats_text first (all_told (take i seats) ++ others) ≡ seats_text first (all_told (take i seats)) ++ seats_text (first + i) others
   behind others = seats_text-append first (all_told (take i seats)) others ∙ ap (λ n. seats_text first (all_told (take i seats)) ++ seats_text (first + n) others) count
 
   pub one_seat : seats_text first (all_told (take (i + 1) seats)) ≡ seats_text first (all_told (take i seats)) ++ seat_text (first + i) (map told replies.items)

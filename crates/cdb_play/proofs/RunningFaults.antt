@@ -14,7 +14,8 @@ use Rattle.cdb_setup.specs.Parts.{Parts}
 use Rattle.cdb_setup.specs.declared.fault.SetupFault.{SetupFault}
 use Rattle.cdb_setup.specs.declared.fault.SetupFault.TheVariants as setup
 use Rattle.cdb_shared.specs.Gates.{Heard}
-use Rattle.cdb_play.specs.Races.{race_fault_of_setup, race_fault_of_threads, race_fault_of_output, AreScripts, IsFaultUngated, IsFaultOfCommands, IsFaultOfScripts, IsFaultOnSetup, IsFaultOfRace, IsFirstNotTooLong, StopsNoSeat}
+use Rattle.cdb_play.specs.Races.{race_fault_of_setup, race_fault_of_threads, race_fault_of_output, AreScripts, IsFaultUngated, IsFaultOnSetup, IsFaultOfRace, IsFirstNotTooLong, StopsNoSeat}
+use Rattle.cdb_play.specs.RaceStages.{IsFaultOfCommands, IsFaultOfScripts}
 use Rattle.cdb_play.specs.declared.buffer.OutputFault.{OutputFault}
 use Rattle.cdb_play.specs.declared.buffer.OutputFault.TheVariants as output
 use Rattle.cdb_play.specs.declared.fault.RaceFault.{RaceFault}

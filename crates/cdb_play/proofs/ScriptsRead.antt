@@ -2,7 +2,8 @@
 use Rattle.std.proofs.Common.{◌≡◌, ℕ, ◌+◌, ◌<◌, ◌≤◌, List, [], ◌∷◌, ◌++◌, length, get_or, take, drop, Vec, Global, sym, ap, subst, ◌∙◌, arith, length-take}
 use Rattle.std.proofs.lemmas.List.{length-map, map-append, take_more}
 use Rattle.cdb_control.specs.declared.command.Command.{Command}
-use Rattle.cdb_play.specs.Races.{race_fault_of_script, AreScripts, IsFaultOfScripts, IsFirstNotTooLong, bytes_of}
+use Rattle.cdb_play.specs.Races.{race_fault_of_script, AreScripts, IsFirstNotTooLong, bytes_of}
+use Rattle.cdb_play.specs.RaceStages.{IsFaultOfScripts}
 use Rattle.cdb_setup.specs.Format.{longest}
 use Rattle.cdb_play.specs.Scripts.{IsScript, IsFaultOfScript}
 use Rattle.cdb_play.specs.declared.script.ScriptFault.{ScriptFault}

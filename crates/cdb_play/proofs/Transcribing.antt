@@ -6,7 +6,7 @@ use Rattle.std.proofs.lemmas.Grind.{flat_map-append}
 use Rattle.cdb_control.specs.declared.command.Command.{Command}
 use Rattle.cdb_control.specs.Commands.{obey}
 use Rattle.cdb_control.specs.Journal.{Journaled, entry, extended, replay, replay_from, replies_from, reply_in}
-use Rattle.cdb_control.specs.Answer.{Answer}
+use Rattle.cdb_control.specs.ToldReply.{ToldReply}
 use Rattle.cdb_control.specs.Room.{cost, lowered}
 use Rattle.cdb_control.specs.State.{first_control_state}
 use Rattle.cdb_control.proofs.Own.{replies_from-append}
@@ -20,7 +20,7 @@ abbrev pub so_far : Parts → List Command → Journaled
 so_far setup commands = record { setup = setup; seats = 1; journal = journal_of commands; rooms = 0 ∷ [] }
 
 -- where there is no room a command leaves none
-still_no_room : (a : Answer) → lowered (0 ∷ []) 1 a ≡ 0 ∷ []
+still_no_room : (a : ToldReply) → lowered (0 ∷ []) 1 a ≡ 0 ∷ []
 still_no_room a = let none : 0 - cost a ≡ 0 = omega arith in ap (λ (room : ℕ). let rooms : List ℕ = room ∷ [] in rooms) none
 
 pub no_texts : (rules : Rules) (setup : Parts) → transcript rules setup [] ≡ []

@@ -23,7 +23,7 @@ run_of rules control = record { setup = control.setup; history = (control_state 
 pub record IsRunLeft (rules : Parts → Rules) (json script : List ℕ) (run : RunView) : Type 0 where
   pub setup : Parts
   pub commands : List Command
-  pub stands : Encodes json setup
+  pub encodes : Encodes json setup
   pub short : length script ≤ longest
   pub lines : AreCommandsOf commands (lines_of script)
   pub is : run ≡ run_of rules (carried_out setup commands)

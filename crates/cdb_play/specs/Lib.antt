@@ -10,7 +10,9 @@ pub mod Races
 pub mod Endings
 pub mod Written
 pub mod Left
--- what the public ones name, and then what the code keeps for itself
 pub mod Buffers
 -- ---- what the code keeps for itself
 pub mod Pieces
+pub mod Putting
+pub mod PlayStages
+pub mod RaceStages

@@ -2,11 +2,11 @@
 use Rattle.std.specs.Prelude.{◌≡◌, ℕ, ◌+◌, ◌-◌, ◌≤◌, ◌==◌, Bool, true, List, [], ◌∷◌, ◌++◌, length, map, codes, decimal, if◌then◌else◌}
 use Rattle.std.specs.List.{AllZip, flat_map, list_all, range_with_len}
 use Rattle.std.proofs.Common.{Vec, Global}
-use Rattle.cdb_control.specs.Answer.{Answer}
+use Rattle.cdb_control.specs.ToldReply.{ToldReply}
 use Rattle.cdb_control.specs.Journal.{Journaled, control_state}
 use Rattle.cdb_control.specs.declared.command.Command.{Command}
 use Rattle.cdb_race.specs.Faults as of_threads
-use Rattle.cdb_race.specs.Races.{IsRaced, MayFill, answers_to}
+use Rattle.cdb_race.specs.Races.{IsRaced, MayFill, replies_in}
 use Rattle.cdb_race.specs.declared.threads.RaceFault.{RaceFault as ThreadFault}
 use Rattle.cdb_race.specs.declared.threads.RaceFault.TheVariants as threads
 use Rattle.cdb_rules.specs.Agreement.{HasMajorityIfNeeded}
@@ -33,13 +33,13 @@ abbrev pub seat_heading : ℕ → List ℕ
 seat_heading seat = codes "seat " ++ decimal seat ++ codes "\n"
 
 -- that line, and then the texts of the seat's replies
-abbrev pub seat_text : ℕ → List Answer → List ℕ
-seat_text seat answers = seat_heading seat ++ flat_map text_of answers
+abbrev pub seat_text : ℕ → List ToldReply → List ℕ
+seat_text seat replies_given = seat_heading seat ++ flat_map text_of replies_given
 
 -- seats from this number on, each with its replies
-abbrev pub seats_text : ℕ → List (List Answer) → List ℕ
+abbrev pub seats_text : ℕ → List (List ToldReply) → List ℕ
 seats_text seat [] = []
-seats_text seat (answers ∷ others) = seat_text seat answers ++ seats_text (seat + 1) others
+seats_text seat (replies_given ∷ others) = seat_text seat replies_given ++ seats_text (seat + 1) others
 
 -- all decisions have one value, or there are none
 abbrev pub have_one_value : List (ℕ × ℕ) → Bool
@@ -70,13 +70,13 @@ last_decisions rules c = (rules c.setup).decisions (control_state rules c).histo
 abbrev pub script_seats : Journaled → List ℕ
 script_seats c = range_with_len (c.setup.processes + 1) (c.seats - c.setup.processes)
 
--- the seats of the scripts with these answers, and then the decisions of the last state
-abbrev pub text_with : (Parts → Rules) → Journaled → List (List Answer) → List ℕ
-text_with rules c answers = seats_text (c.setup.processes + 1) answers ++ end_text (last_decisions rules c)
+-- the seats of the scripts with these replies, and then the decisions of the last state
+abbrev pub text_with : (Parts → Rules) → Journaled → List (List ToldReply) → List ℕ
+text_with rules c replies_given = seats_text (c.setup.processes + 1) replies_given ++ end_text (last_decisions rules c)
 
 -- the text of a race with this journal
 unfoldable pub race_text : (Parts → Rules) → Journaled → List ℕ
-race_text rules c = text_with rules c (map (λ seat. answers_to rules seat c) (script_seats c))
+race_text rules c = text_with rules c (map (λ seat. replies_in rules seat c) (script_seats c))
 
 -- ---- the scripts
 
@@ -107,9 +107,9 @@ AreAllRead scripts = (read : List (List Command)) × AreScripts read scripts
 pub record IsTextOnSetup (rules : Parts → Rules) (setup : Parts) (turns : ℕ) (scripts : List (List ℕ)) (text : List ℕ) : Type 0 where
   pub commands : List (List Command)
   pub control : Journaled
-  pub answers : List (List Answer)
+  pub replies_given : List (List ToldReply)
   pub read : AreScripts commands scripts
-  pub raced : IsRaced rules setup turns commands control answers
+  pub raced : IsRaced rules setup turns commands control replies_given
   pub is : text ≡ race_text rules control
 
 -- the same on the setup that a text of JSON encodes
@@ -174,29 +174,3 @@ module _ (IsFaultOfSessions : Parts → ℕ → List (List Command) → ThreadFa
   IsFaultOfRace json turns scripts (Setup fault) = IsFirstFault fault json
   IsFaultOfRace json turns scripts NoMemory = length json ≤ longest
   IsFaultOfRace json turns scripts fault = (setup : Parts) × Encodes json setup × IsFaultOnSetup setup turns scripts fault
-
-  -- ---- what the code keeps for itself
-
-  -- a fault of a race of these commands
-  abbrev pub IsFaultOfCommands : Parts → ℕ → List (List Command) → RaceFault → Type 0
-  IsFaultOfCommands setup turns commands JournalFull =
-      MayFill setup turns commands × IsFaultOfSessions setup turns commands threads.JournalFull
-  IsFaultOfCommands setup turns commands (Stopped seat) =
-      IsWithin 1 (setup.processes + length commands) seat × IsFaultOfSessions setup turns commands (threads.Stopped seat)
-  IsFaultOfCommands setup turns commands (Spawn refused) = Unit {0}
-  IsFaultOfCommands setup turns commands Write = Unit {0}
-  IsFaultOfCommands setup turns commands NoMemory = Unit {0}
-  IsFaultOfCommands setup turns commands other = ⊥
-
--- the text is that of a race of these commands
-abbrev pub IsTextOfCommands : (Parts → Rules) → Parts → ℕ → List (List Command) → List ℕ → Type 0
-IsTextOfCommands rules setup turns commands text =
-    (control : Journaled) × (answers : List (List Answer)) × IsRaced rules setup turns commands control answers
-    × (text ≡ race_text rules control)
-
--- a fault of reading the scripts
-abbrev pub IsFaultOfScripts : RaceFault → List (List ℕ) → Type 0
-IsFaultOfScripts (Line position line fault) scripts = IsFirstBad position (script.Line line fault) scripts
-IsFaultOfScripts (ScriptTooLong position) scripts = IsFirstBad position script.TooLong scripts
-IsFaultOfScripts NoMemory scripts = IsFirstNotTooLong scripts
-IsFaultOfScripts fault scripts = ⊥

@@ -30,7 +30,7 @@ transcript rules setup commands = flat_map text_of (replies_of rules setup 1 1 (
 pub record IsTranscriptOf (rules : Parts → Rules) (json script text : List ℕ) : Type 0 where
   pub setup : Parts
   pub commands : List Command
-  pub stands : Encodes json setup
+  pub encodes : Encodes json setup
   pub short : length script ≤ longest
   pub lines : AreCommandsOf commands (lines_of script)
   pub is : text ≡ transcript (rules setup) setup commands

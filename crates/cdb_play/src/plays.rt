@@ -4,7 +4,7 @@ ghost use Rattle.std.specs.Prelude.{◌≡◌, ◌<◌, length, Err, IfErr, OnOk
 ghost use Rattle.cdb_base.specs.declared.limits.TheConstants.{MAX_ENTRIES};
 ghost use Rattle.cdb_control.specs.Journal.{extended};
 ghost use Rattle.cdb_setup.specs.declared.fault.SetupFault.{SetupFault as SetupFaultName};
-ghost use Rattle.cdb_play.specs.Buffers.{Puts};
+ghost use Rattle.cdb_play.specs.Putting.{Puts};
 ghost use Rattle.cdb_play.specs.Endings.{pieces_ending, play_ending};
 ghost use Rattle.cdb_play.specs.Faults.{IsFaultOfPlay};
 ghost use Rattle.cdb_play.specs.Streams.{FailsWhere};

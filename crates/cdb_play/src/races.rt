@@ -7,9 +7,8 @@ ghost use Rattle.cdb_race.specs.Races.{AllPass};
 ghost use Rattle.cdb_rules.specs.Agreement.{HasMajorityIfNeeded};
 ghost use Rattle.cdb_setup.specs.Format.{Encodes};
 ghost use Rattle.cdb_setup.specs.Parts.{Parts};
-ghost use Rattle.cdb_play.specs.Races.{race_fault_of_script, bytes_of, AreScripts, IsTextOnSetup, IsTextOfRace};
-ghost use Rattle.cdb_play.specs.Races.{StopsNoSeat, IsFaultUngated, IsFaultOnSetup, IsFaultOfRace, IsSetupWithMajority};
-ghost use Rattle.cdb_play.specs.Races.{IsTextOfCommands, IsFaultOfScripts, IsFaultOfCommands};
+ghost use Rattle.cdb_play.specs.Races.{race_fault_of_script, bytes_of, AreScripts, IsTextOnSetup, IsTextOfRace, StopsNoSeat, IsFaultUngated, IsFaultOnSetup, IsFaultOfRace, IsSetupWithMajority};
+ghost use Rattle.cdb_play.specs.RaceStages.{IsTextOfCommands, IsFaultOfScripts, IsFaultOfCommands};
 ghost use Rattle.cdb_play.specs.Endings.{race_ending};
 ghost use Rattle.cdb_play.specs.Written.{AgreesAtEnd, IsWritten};
 

@@ -1,8 +1,8 @@
 //! The text of a reply is put into a buffer.
 
-ghost use Rattle.cdb_control.specs.Answer.{told};
+ghost use Rattle.cdb_control.specs.ToldReply.{told};
 ghost use Rattle.cdb_text.specs.Texts.{text_of};
-ghost use Rattle.cdb_play.specs.Buffers.{Puts};
+ghost use Rattle.cdb_play.specs.Putting.{Puts};
 
 use crate::buffer::{Buffer, OutputFault};
 use crate::sink::Sink;

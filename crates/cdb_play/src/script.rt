@@ -3,7 +3,7 @@
 ghost use Rattle.std.specs.Prelude.{◌≡◌, ◌+◌, ◌*◌, ◌<◌, ◌≤◌, [], ◌∷◌, ◌++◌, length, Err, IfOk, IfErr, OnOk};
 ghost use Rattle.cdb_base.specs.declared.limits.TheConstants.{MAX_ENTRIES};
 ghost use Rattle.cdb_setup.specs.Format.{longest};
-ghost use Rattle.cdb_play.specs.Faults.{IsFaultOfReading};
+ghost use Rattle.cdb_play.specs.PlayStages.{IsFaultOfReading};
 ghost use Rattle.cdb_play.specs.Lines.{lines_of};
 ghost use Rattle.cdb_play.specs.Scripts.{AreCommandsOf, GivesCommands, IsFaultOfScript};
 ghost use Rattle.cdb_play.specs.Streams.{FailsWhere};

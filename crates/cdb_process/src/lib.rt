@@ -10,6 +10,7 @@
 #![tactic(auto)]
 
 ghost use Rattle.std.specs.Prelude.{◌≡◌, ℕ, ◌↔◌, ◌≤◌, Option, Some, IsTrue, IsSome, IfOk, OnErr};
+ghost use Rattle.cdb_base.specs.declared.limits.TheConstants.{MAX_PROCESSES};
 ghost use Rattle.cdb_process.specs.declared.Input.{Input};
 ghost use Rattle.cdb_process.specs.declared.Wish.{Wish};
 ghost use Rattle.cdb_process.specs.Table.{Table};
@@ -64,7 +65,7 @@ pub trait Process: Sized + Drop {
     /// The machine of process `me` of `n`, at most 9, before its first step. The quorum `q` is from 1
     /// to `n`. `NoMemory` if a growth is refused.
     fn first(alloc: Global, me: Proc, n: u8, q: u8, input: Val) -> Result<Self, NoMemory>
-        requires among { (me ≤ n) × (n ≤ 9) }
+        requires among { (me ≤ n) × (n ≤ MAX_PROCESSES) }
         requires quorum { (1 ≤ q) × (q ≤ n) }
         ensures { IfOk result (λ local. local ≡ table.first me n q input) };
 

@@ -33,7 +33,7 @@ pub one_fails : (T : Type 0) (known : T → Known) (old new : FilesSeen) (name :
 one_fails T known old new name reading.Failed is = ([], [], refl, is)
 one_fails T known old new name reading.NoMemory is = ([], name.now ∷ [], refl, is ∙ (read_none old).0)
 
--- what can't be read or opened is why no sessions are held
+-- what can't be read or opened is why there are no sessions
 pub as_fault : (setup : List ℕ) (seats : List (List ℕ)) (old new : FilesSeen) (fault : Fault) → FailsToRead old new (setup ∷ seats) fault → IsFaultOfSeats setup seats old new fault
 as_fault setup seats old new (Play why name) fails = fails
 as_fault setup seats old new (Race why) fails = absurd fails
@@ -122,7 +122,7 @@ module _ {T : Type 0} (known : T → Known) where
   same_outcomes [] = refl
   same_outcomes (its ∷ attended) = ap (λ (l : List (Result (Unit {0}) PlayFault)). its.outcome ∷ l) (same_outcomes attended)
 
--- sessions that were held, by what is known of whom they talked with and of the streams
+-- sessions that took place, by what is known of whom they talked with and of the streams
 pub holds_seen : {T O E : Type 0} (rules : Parts → Rules) (known : T → Known) (output_stream : O → Stream) (error_stream : E → Stream) (json : List ℕ) (stations : List (Station T)) (output output_after : O) (error error_after : E) (status : ℕ)
     → HoldsSessions rules known output_stream error_stream json stations output output_after error error_after status
     → HoldsSessions rules (λ (k : Known). k) (λ (s : Stream). s) (λ (s : Stream). s) json (map (known_station known) stations) (output_stream output) (output_stream output_after) (error_stream error) (error_stream error_after) status
@@ -130,7 +130,7 @@ holds_seen rules known output_stream error_stream json stations output output_af
     let same = same_outcomes known h.attended in
     record {
       setup = h.setup;
-      stands = h.stands;
+      encodes = h.encodes;
       control = h.control;
       attended = map (known_attended known) h.attended;
       hall = record {

@@ -6,9 +6,9 @@ use Rattle.cdb_play.specs.declared.fault.PlayFault.{PlayFault}
 use Rattle.cdb_rules.specs.Algorithms.{rules}
 use Rattle.cdb_program.specs.Known.{Seen}
 use Rattle.cdb_program.specs.Outcomes.{RequestEnd, IsOfPlay}
-use Rattle.cdb_program.specs.Reading.{HasRead, StopsAtFiles}
+use Rattle.cdb_program.specs.Reading.{HasRead, CannotReadFiles}
 
--- What is known of standard input and standard output, over which a session is held. In which order it reads from the one and
+-- What is known of standard input and standard output, over which a session takes place. In which order it reads from the one and
 -- writes to the other, neither of them knows.
 abbrev pub talk_of : Seen → Known
 talk_of seen = record {
@@ -19,14 +19,14 @@ talk_of seen = record {
   failed_writes = seen.output.failures;
 }
 
--- a session was held over them, with this prompt, on the setup of this text; its faults have the name of standard input
+-- a session took place over them, with this prompt, on the setup of this text; its faults have the name of standard input
 abbrev pub DebugsBytes : List ℕ → List ℕ → Seen → Seen → RequestEnd → Type 0
 DebugsBytes json prompt old new outcome =
     (debugged : Result (Unit {0}) PlayFault) × IsOfPlay (codes "standard input") debugged outcome
     × Debugs rules prompt json debugged (talk_of old) (talk_of new)
 
--- The file of the setup is read, and then the session is held. Where the file can't be read, no input is.
+-- The file of the setup is read, and then the session takes place. Where the file can't be read, no input is.
 abbrev pub DebugsFile : List ℕ → List ℕ → Seen → Seen → RequestEnd → Type 0
 DebugsFile setup prompt old new outcome =
-    (StopsAtFiles (setup ∷ []) old new outcome × (new.input ≡ old.input))
+    (CannotReadFiles (setup ∷ []) old new outcome × (new.input ≡ old.input))
     ⊎ ((json : List ℕ) × HasRead old.files new.files (setup ∷ []) (json ∷ []) × DebugsBytes json prompt old new outcome)

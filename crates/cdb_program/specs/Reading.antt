@@ -60,14 +60,14 @@ Reads given old new names (Ok read) = HasRead old new names (given read)
 Reads given old new names (Err fault) = FailsToRead old new names fault
 
 -- files of these names could not all be read, and so nothing was written
-abbrev pub StopsAtFiles : List (List ℕ) → Seen → Seen → RequestEnd → Type 0
-StopsAtFiles names old new (Ok done) = ⊥
-StopsAtFiles names old new (Err fault) = FailsToRead old.files new.files names fault × (new.output ≡ old.output)
+abbrev pub CannotReadFiles : List (List ℕ) → Seen → Seen → RequestEnd → Type 0
+CannotReadFiles names old new (Ok done) = ⊥
+CannotReadFiles names old new (Err fault) = FailsToRead old.files new.files names fault × (new.output ≡ old.output)
 
 -- Files of these names are read, in order, and then this is done with their bytes. Where one can't be read it is not done.
 -- Standard input is left as it is.
 abbrev pub ReadsThen : List (List ℕ) → Seen → Seen → RequestEnd → (List (List ℕ) → Type 0) → Type 0
 ReadsThen names old new outcome IsDone =
     (new.input ≡ old.input)
-    × (StopsAtFiles names old new outcome
+    × (CannotReadFiles names old new outcome
     ⊎ ((contents : List (List ℕ)) × HasRead old.files new.files names contents × IsDone contents))

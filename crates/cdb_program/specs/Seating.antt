@@ -33,19 +33,19 @@ OpensSeat known old new name (Err reading.NoMemory) = new ≡ old
 abbrev pub HasSeated : FilesSeen → FilesSeen → List ℕ → List (List ℕ) → List ℕ → Type 0
 HasSeated old new setup seats json = (new ≡ after_opening old (setup ∷ seats)) × AreFirstBytes old most_read setup json
 
--- Why no sessions were held: there are too many seats, and then no file was opened; the setup has a fault, or memory or threads
+-- Why there were no sessions: there are too many seats, and then no file was opened; the setup has a fault, or memory or threads
 -- are out; or the setup or a seat can't be opened, and then nothing after it was.
 abbrev pub IsFaultOfSeats : List ℕ → List (List ℕ) → FilesSeen → FilesSeen → Fault → Type 0
 IsFaultOfSeats setup seats old new TooManySeats = (MAX_SEATS < length seats) × (new ≡ old)
 IsFaultOfSeats setup seats old new (Race why) = (json : List ℕ) × HasSeated old new setup seats json × IsFaultOfHall json why
 IsFaultOfSeats setup seats old new other = FailsToRead old new (setup ∷ seats) other
 
--- no sessions were held, nothing was written to standard output, and why is reported
+-- there were no sessions, nothing was written to standard output, and why is reported
 abbrev pub RefusesSeats : List ℕ → List (List ℕ) → Seen → Seen → ℕ → Type 0
 RefusesSeats setup seats old new status =
     (fault : Fault) × IsFaultOfSeats setup seats old.files new.files fault × (new.output ≡ old.output) × IsReported (Err fault) old.error new.error status
 
--- The sessions were held, the k-th at the station of the k-th seat, of which it is known what each was asked and answered. The
+-- There were sessions, the k-th at the station of the k-th seat, of which it is known what each read and wrote. The
 -- journal was written to standard output, and what failed was reported.
 abbrev pub HoldsSeats : List ℕ → List (List ℕ) → Seen → Seen → ℕ → Type 0
 HoldsSeats setup seats old new status =
@@ -53,6 +53,6 @@ HoldsSeats setup seats old new status =
     × ((stations : List (Station Known)) × AreStationsOf (λ known. known) old.files seats stations
     × HoldsSessions rules (λ known. known) itself itself json stations old.output new.output old.error new.error status)
 
--- sessions of these seats were held, or not; standard input is left as it is
+-- there were sessions of these seats, or not; standard input is left as it is
 abbrev pub PerformsHall : List ℕ → List (List ℕ) → Seen → Seen → ℕ → Type 0
 PerformsHall setup seats old new status = (new.input ≡ old.input) × (RefusesSeats setup seats old new status ⊎ HoldsSeats setup seats old new status)

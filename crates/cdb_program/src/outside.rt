@@ -11,7 +11,7 @@ use std::marker::Model;
 #[derive(Drop)]
 pub struct Outside<F: Files + Drop, I: Source + Drop, O: Sink + Drop, E: Sink + Drop> {
     pub files: F,
-    /// Standard input and standard output, over which a session can be held.
+    /// Standard input and standard output, over which a session can take place.
     pub streams: Streams<I, O>,
     pub error: E,
 }

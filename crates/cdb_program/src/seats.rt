@@ -52,7 +52,7 @@ fn open_each<'a, F: Files>(
         (λ _. F.seen files.new ≡ after_opening (F.seen files.old) (file_names names.now)) }
     ensures seats { IfOk result
         (λ stations. AreStationsOf F.Seat.known (F.seen files.old) (file_names names.now)
-            stations.items) }
+        stations.items) }
     ensures count { IfOk result (λ stations. vec_len stations ≡ length names.now) }
     ensures fault { IfErr result
         (FailsToRead (F.seen files.old) (F.seen files.new) (file_names names.now)) }
@@ -83,7 +83,7 @@ fn hold_seats<
     outside: &mut Outside<F, I, O, E>,
 ) -> Result<u8, Fault<'a>>
     requires { 1 ≤ length seats.now }
-    ensures held { IfOk result
+    ensures sessions { IfOk result
         (HoldsSeats setup.entry.now (file_names seats.now) outside.old outside.new) }
     ensures fault { IfErr result (IsFaultOfSeats setup.entry.now (file_names seats.now)
         outside.old.files outside.new.files) }

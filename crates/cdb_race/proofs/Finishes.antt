@@ -1,7 +1,7 @@
 -- From what a thread has done to what its seat has finished.
 use Rattle.std.proofs.Common.{◌≡◌, inl, inr, ℕ, List, None, refl, length, take, ap, ◌∙◌, subst, arith}
 use Rattle.std.proofs.lemmas.List.{take_all}
-use Rattle.cdb_control.specs.Answer.{Answer}
+use Rattle.cdb_control.specs.ToldReply.{ToldReply}
 use Rattle.cdb_control.specs.declared.command.Command.{Command}
 use Rattle.cdb_race.specs.Faults.{fault_at}
 use Rattle.cdb_race.specs.Plans.{script_of}
@@ -18,9 +18,9 @@ driven_out : (rules : Parts → Rules) (turns : ℕ) (seat : SeatView) (end : En
 driven_out rules turns seat end (inl is) h = record { count = h.count; few = h.few; calls_are = h.calls; ended = inl (subst (λ (e : End). IsDriven e h.count turns (replies_to rules seat)) is h.ended) }
 driven_out rules turns seat end (inr is) h = record { count = h.count; few = h.few; calls_are = h.calls; ended = inr (subst (λ (e : End). IsDriven e h.count turns (replies_to rules seat)) is h.ended) }
 
-served_out : (rules : Parts → Rules) (commands : List Command) (seat : SeatView) (answered : List Answer) (end : End) → EndsWell end → HasServed rules commands seat answered end → (calls_of seat ≡ commands) × (replies_to rules seat ≡ answered)
-served_out rules commands seat answered end (inl is) h = (h.calls ∙ ap (λ n. take n commands) (h.whole is) ∙ take_all (length commands) commands (omega arith), h.replies)
-served_out rules commands seat answered end (inr is) h = absurd (h.done is)
+served_out : (rules : Parts → Rules) (commands : List Command) (seat : SeatView) (replied : List ToldReply) (end : End) → EndsWell end → HasServed rules commands seat replied end → (calls_of seat ≡ commands) × (replies_to rules seat ≡ replied)
+served_out rules commands seat replied end (inl is) h = (h.calls ∙ ap (λ n. take n commands) (h.whole is) ∙ take_all (length commands) commands (omega arith), h.replies)
+served_out rules commands seat replied end (inr is) h = absurd (h.done is)
 
 -- a seat without a fault
 pub ends_well : (seat : ℕ) (end : End) → fault_at seat end ≡ None → EndsWell end
@@ -31,9 +31,9 @@ ends_well seat NoMemory none = absurd (cc)
 ends_well seat JournalFull none = absurd (cc)
 
 -- a session that ended well
-pub finished : (rules : Parts → Rules) (plan : Plan) (before seat : SeatView) (answered : List Answer) (end : End) → EndsWell end → HasRun rules plan before seat answered end → HasFinished rules plan before seat answered
-finished rules plan before seat answered end well h = record {
+pub finished : (rules : Parts → Rules) (plan : Plan) (before seat : SeatView) (replied : List ToldReply) (end : End) → EndsWell end → HasRun rules plan before seat replied end → HasFinished rules plan before seat replied
+finished rules plan before seat replied end well h = record {
   later = h.later;
   driven = λ low. let driven = h.driven low in (driven_out rules plan.turns seat end well driven.0, driven.1);
-  served = λ high. served_out rules (script_of plan before.number) seat answered end well (h.served high);
+  served = λ high. served_out rules (script_of plan before.number) seat replied end well (h.served high);
 }

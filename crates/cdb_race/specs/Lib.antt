@@ -2,9 +2,9 @@
 pub mod Races
 pub mod Faults
 pub mod FaultTexts
--- what the two are said by: the plan of the seats, what one seat's thread does, and what a handle promises
+-- what the two are said by, also what a reader believes: the plan of the seats, and what one seat's thread does
 pub mod Plans
 pub mod Runs
-pub mod Promises
 -- what the code keeps for itself: the fault that is found first
 pub mod LastFault
+pub mod Promises

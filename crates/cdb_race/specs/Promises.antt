@@ -1,8 +1,8 @@
 -- What a started thread promises, and what it hands back.
-use Rattle.std.specs.Prelude.{◌≡◌, ◌≢◌, ℕ, ◌-◌, ◌<◌, Bool, true, List, Option, map, slice_index_or, Vec, vec_len}
+use Rattle.std.specs.Prelude.{◌≡◌, ◌≢◌, ℕ, ◌-◌, ◌<◌, Bool, true, List, Option, map, slice_index_or, Vec, vec_len, ◌≤◌, []}
 use Rattle.std.specs.Global.{Global}
 use Rattle.std.specs.declared.thread.PromisedHandle.{PromisedHandle}
-use Rattle.cdb_control.specs.Answer.{told}
+use Rattle.cdb_control.specs.ToldReply.{told}
 use Rattle.cdb_race.specs.Runs.{HasRun}
 use Rattle.cdb_race.specs.declared.plan.Plan.{Plan}
 use Rattle.cdb_race.specs.declared.worker.Ran.{Ran}
@@ -10,9 +10,11 @@ use Rattle.cdb_race.specs.declared.worker.SeatPromise.{SeatPromise}
 use Rattle.cdb_rules.specs.Rules.{Rules}
 use Rattle.cdb_setup.specs.Parts.{Parts}
 use Rattle.cdb_shared.specs.Gates.{Heard, Hears}
-use Rattle.cdb_shared.specs.Seats.{SeatView}
+use Rattle.cdb_shared.specs.Seats.{SeatView, RestsAt}
 use Rattle.cdb_shared.specs.declared.session.End.{End}
 use Rattle.cdb_shared.specs.declared.session.End.TheVariants.{Stopped}
+use Rattle.atomic_table.specs.Seated.{TableId}
+use Rattle.cdb_race.specs.Plans.{seats_of}
 
 -- a promise of this seat, with this gate, by this plan
 pub record IsPromise {T G : Type 0} (plan : Plan) (seat : SeatView) (gate : G) (promise : SeatPromise T G) : Type 0 where
@@ -37,3 +39,9 @@ pub record HasEndedAtGate {G : Type 0} (heard : G → Option (List Heard)) (pass
   pub last : G
   pub hears : Hears (heard gate) (heard last) before after end
   pub passed : passes gate ≡ true → end ≢ Stopped
+
+-- a seat of the plan that has seen nothing yet
+pub record IsReady (shared : TableId) (plan : Plan) (seat : SeatView) : Type 0 where
+  pub rests : RestsAt shared seat
+  pub new : seat.seen ≡ []
+  pub planned : seat.number ≤ seats_of plan

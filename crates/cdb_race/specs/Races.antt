@@ -2,9 +2,9 @@
 use Rattle.std.specs.Prelude.{◌≡◌, ℕ, ◌+◌, ◌-◌, ◌*◌, ◌<◌, ◌≤◌, Bool, true, List, [], Option, All, length, map, replicate, sum, take, slice_index_or, Vec}
 use Rattle.std.specs.Global.{Global}
 use Rattle.cdb_base.specs.declared.limits.TheConstants.{MAX_ENTRIES}
-use Rattle.cdb_control.specs.Answer.{Answer, told}
+use Rattle.cdb_control.specs.ToldReply.{ToldReply, told}
 use Rattle.cdb_control.specs.Journal.{Journaled, own, AreOfSeats}
-pub use Rattle.cdb_control.specs.Journal.{answers_to}
+pub use Rattle.cdb_control.specs.Journal.{replies_in}
 use Rattle.cdb_control.specs.declared.command.Command.{Command}
 use Rattle.cdb_control.specs.declared.command.Command.TheVariants.{Auto}
 use Rattle.cdb_control.specs.declared.reply.Reply.{Reply}
@@ -19,7 +19,7 @@ use Rattle.cdb_shared.specs.Gates.{Heard}
 use Rattle.cdb_shared.specs.Seats.{SeatView}
 
 -- what lists of replies hold
-abbrev pub all_told : List (Vec Reply Global) → List (List Answer)
+abbrev pub all_told : List (Vec Reply Global) → List (List ToldReply)
 all_told replies = map (λ list. map told list.items) replies
 
 -- the outcomes of the threads of these seats, the last seat's first
@@ -46,23 +46,23 @@ AreSeatsOf {T} seats rans =
     → slice_index_or seats k seat ≡ (slice_index_or rans (length rans - 1 - k) ran).seat
 
 -- each of these seats has finished, and each has its replies
-abbrev pub AllFinished : (Parts → Rules) → Plan → List SeatView → List SeatView → List (List Answer) → Type 0
-AllFinished rules plan before seats answers =
-    (k : ℕ) (seat : SeatView) (list : List Answer) → k < length seats
-    → (b : SeatView) → HasFinished rules plan (slice_index_or before k b) (slice_index_or seats k seat) (slice_index_or answers k list)
+abbrev pub AllFinished : (Parts → Rules) → Plan → List SeatView → List SeatView → List (List ToldReply) → Type 0
+AllFinished rules plan before seats replies_given =
+    (k : ℕ) (seat : SeatView) (list : List ToldReply) → k < length seats
+    → (b : SeatView) → HasFinished rules plan (slice_index_or before k b) (slice_index_or seats k seat) (slice_index_or replies_given k list)
 
 -- The final control and the replies of each seat: each process was driven by its seat, each script was served by its seat, and
 -- the journal has no other entries.
-pub record IsRaced (rules : Parts → Rules) (setup : Parts) (turns : ℕ) (scripts : List (List Command)) (c : Journaled) (answers : List (List Answer)) : Type 0 where
+pub record IsRaced (rules : Parts → Rules) (setup : Parts) (turns : ℕ) (scripts : List (List Command)) (c : Journaled) (replies_given : List (List ToldReply)) : Type 0 where
   pub setup_is : c.setup ≡ setup
   pub seats_are : c.seats ≡ setup.processes + length scripts
   pub entries : AreOfSeats c.seats c.journal
-  pub driven : (p : ℕ) → 1 ≤ p → p ≤ setup.processes → IsDrivenOut p turns (own p c.journal) (answers_to rules p c)
+  pub driven : (p : ℕ) → 1 ≤ p → p ≤ setup.processes → IsDrivenOut p turns (own p c.journal) (replies_in rules p c)
   pub served : (k : ℕ) → k < length scripts → own (setup.processes + k + 1) c.journal ≡ slice_index_or scripts k []
-  pub many : length answers ≡ c.seats
-  pub none : (k : ℕ) → k < setup.processes → slice_index_or answers k [] ≡ []
-  pub answered : (k : ℕ) → k < length scripts
-      → slice_index_or answers (setup.processes + k) [] ≡ answers_to rules (setup.processes + k + 1) c
+  pub many : length replies_given ≡ c.seats
+  pub none : (k : ℕ) → k < setup.processes → slice_index_or replies_given k [] ≡ []
+  pub replied : (k : ℕ) → k < length scripts
+      → slice_index_or replies_given (setup.processes + k) [] ≡ replies_in rules (setup.processes + k + 1) c
 
 -- A race that is not at its end: each process was driven by its seat for no more than its turns, of each script its seat served
 -- a beginning, and the journal has no other entries.

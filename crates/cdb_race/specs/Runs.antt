@@ -1,7 +1,7 @@
 -- What the seats of a race have done.
 use Rattle.std.specs.Prelude.{◌≡◌, ◌≢◌, ◌⊎◌, ℕ, ◌<◌, ◌≤◌, List, [], length, take, replicate}
 use Rattle.cdb_base.specs.declared.limits.TheConstants.{MAX_ENTRIES}
-use Rattle.cdb_control.specs.Answer.{Answer}
+use Rattle.cdb_control.specs.ToldReply.{ToldReply}
 use Rattle.cdb_control.specs.declared.command.Command.{Command}
 use Rattle.cdb_control.specs.declared.command.Command.TheVariants.{Auto}
 use Rattle.cdb_race.specs.Plans.{script_of}
@@ -21,17 +21,17 @@ pub record HasDriven (rules : Parts → Rules) (turns : ℕ) (seat : SeatView) (
   pub ended : IsDriven end count turns (replies_to rules seat)
 
 -- the calls of the seat are the first of these commands, and all of them where the session ended so
-pub record HasServed (rules : Parts → Rules) (commands : List Command) (seat : SeatView) (answered : List Answer) (end : End) : Type 0 where
-  pub calls : calls_of seat ≡ take (length answered) commands
-  pub replies : replies_to rules seat ≡ answered
-  pub whole : end ≡ All → length answered ≡ length commands
+pub record HasServed (rules : Parts → Rules) (commands : List Command) (seat : SeatView) (replied : List ToldReply) (end : End) : Type 0 where
+  pub calls : calls_of seat ≡ take (length replied) commands
+  pub replies : replies_to rules seat ≡ replied
+  pub whole : end ≡ All → length replied ≡ length commands
   pub done : end ≢ Done
 
 -- what a seat has done when its thread has ended: the first seats drive the processes, and the others serve the scripts
-pub record HasRun (rules : Parts → Rules) (plan : Plan) (before seat : SeatView) (answered : List Answer) (end : End) : Type 0 where
+pub record HasRun (rules : Parts → Rules) (plan : Plan) (before seat : SeatView) (replied : List ToldReply) (end : End) : Type 0 where
   pub later : IsLater before seat
-  pub driven : before.number ≤ plan.processes → HasDriven rules plan.turns seat end × (answered ≡ [])
-  pub served : plan.processes < before.number → HasServed rules (script_of plan before.number) seat answered end
+  pub driven : before.number ≤ plan.processes → HasDriven rules plan.turns seat end × (replied ≡ [])
+  pub served : plan.processes < before.number → HasServed rules (script_of plan before.number) seat replied end
   pub full : end ≡ JournalFull → length seat.seen ≡ MAX_ENTRIES
 
 -- the session ended well: its script was served to the end, or its process was done or had its turns
@@ -39,14 +39,14 @@ abbrev pub EndsWell : End → Type 0
 EndsWell end = (end ≡ All) ⊎ (end ≡ Done)
 
 -- the steps of a process by `auto`: all its turns, none refused as it was done; or fewer or as many, the last alone refused so
-pub record IsDrivenOut (process turns : ℕ) (calls : List Command) (answered : List Answer) : Type 0 where
+pub record IsDrivenOut (process turns : ℕ) (calls : List Command) (replied : List ToldReply) : Type 0 where
   pub count : ℕ
   pub few : count ≤ turns
   pub calls_are : calls ≡ replicate count (Auto process)
-  pub ended : IsDriven All count turns answered ⊎ IsDriven Done count turns answered
+  pub ended : IsDriven All count turns replied ⊎ IsDriven Done count turns replied
 
 -- what a seat has done where its session ended well
-pub record HasFinished (rules : Parts → Rules) (plan : Plan) (before seat : SeatView) (answered : List Answer) : Type 0 where
+pub record HasFinished (rules : Parts → Rules) (plan : Plan) (before seat : SeatView) (replied : List ToldReply) : Type 0 where
   pub later : IsLater before seat
-  pub driven : before.number ≤ plan.processes → IsDrivenOut seat.number plan.turns (calls_of seat) (replies_to rules seat) × (answered ≡ [])
-  pub served : plan.processes < before.number → (calls_of seat ≡ script_of plan before.number) × (replies_to rules seat ≡ answered)
+  pub driven : before.number ≤ plan.processes → IsDrivenOut seat.number plan.turns (calls_of seat) (replies_to rules seat) × (replied ≡ [])
+  pub served : plan.processes < before.number → (calls_of seat ≡ script_of plan before.number) × (replies_to rules seat ≡ replied)

@@ -3,8 +3,7 @@ ghost use Rattle.std.specs.Prelude.{◌≡◌, ◌+◌, ◌<◌, ◌≤◌, leng
 ghost use Rattle.cdb_base.specs.declared.limits.TheConstants.{MAX_SEATS};
 ghost use Rattle.cdb_race.specs.Faults.{fault_in, AreWell, HaveFinished, IsAmongSeats, IsFaultOfThreads, IsNotStopped, IsTold};
 ghost use Rattle.cdb_race.specs.LastFault.{IsLastFault};
-ghost use Rattle.cdb_race.specs.Plans.{IsReady};
-ghost use Rattle.cdb_race.specs.Promises.{ArePromises, IsPromise, HasRan, HasEndedAtGate};
+ghost use Rattle.cdb_race.specs.Promises.{IsReady, ArePromises, IsPromise, HasRan, HasEndedAtGate};
 ghost use Rattle.cdb_race.specs.Races.{AllRan, AllEnded, AllPass, AreSeatsOf, FillsJournal, HasRaced, MayFill};
 ghost use Rattle.cdb_shared.specs.Seats.{HasHeadline};
 
@@ -186,7 +185,7 @@ fn collect<T: Runs>(
     let Ok(mut seats) = Vec::with_capacity(alloc, rans.len()) else {
         return Err(RaceFault::NoMemory);
     };
-    let Ok(mut answered) = Vec::with_capacity(alloc, rans.len()) else {
+    let Ok(mut replied) = Vec::with_capacity(alloc, rans.len()) else {
         return Err(RaceFault::NoMemory);
     };
     while let Some(ran) = rans.pop() {
@@ -196,9 +195,9 @@ fn collect<T: Runs>(
             end: _,
         } = ran;
         seats.push_reserved(seat);
-        answered.push_reserved(replies);
+        replied.push_reserved(replies);
     }
-    Ok((seats, answered))
+    Ok((seats, replied))
 }
 
 /// The final control, and for each seat the replies to its script, none where it drove a process.

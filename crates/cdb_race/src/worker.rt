@@ -1,6 +1,5 @@
 //! What one thread of a race does with its seat.
-ghost use Rattle.cdb_race.specs.Plans.{IsReady};
-ghost use Rattle.cdb_race.specs.Promises.{HasRan, HasEndedAtGate};
+ghost use Rattle.cdb_race.specs.Promises.{IsReady, HasRan, HasEndedAtGate};
 
 use crate::plan::Plan;
 use cdb_control::Reply;

@@ -1,4 +1,4 @@
--- what a reader of the contracts believes: what stands, what is counted of it, and what is taken back
+-- what a reader of the contracts believes: what stands, what is counted of it, and what is removed
 pub mod Recorded
 pub mod Adding
 pub mod Counts

@@ -1,4 +1,4 @@
-//! Records of standing events, by which they are taken back.
+//! Records of standing events, which restore the state before them.
 #![tactic(auto)]
 
 mod recorded;

@@ -58,8 +58,8 @@ HasWrite registers register = ForSome (register_of registers register) (λ state
 -- ---- a write, and the way back
 
 -- the register holds the cell, and one write more of it stands
-abbrev pub written : Cell → RegisterState → RegisterState
-written cell register = record { cell = cell; writes = register.writes + 1 }
+abbrev pub put_cell : Cell → RegisterState → RegisterState
+put_cell cell register = record { cell = cell; writes = register.writes + 1 }
 
 -- the register holds the cell, and one write less of it stands
 abbrev pub restored : Cell → RegisterState → RegisterState
@@ -74,7 +74,7 @@ with_register change registers Dec =
 
 -- the registers after a write of the cell
 abbrev pub after_write : RegisterStates → Reg → Cell → RegisterStates
-after_write registers register cell = with_register (written cell) registers register
+after_write registers register cell = with_register (put_cell cell) registers register
 
 -- the registers after the cell was put back, in place of what a write left
 abbrev pub after_restore : RegisterStates → Reg → Cell → RegisterStates

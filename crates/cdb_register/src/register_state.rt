@@ -12,7 +12,7 @@ pub struct RegisterState {
 }
 
 impl RegisterState {
-    ghost use Rattle.cdb_register.specs.Registers.{fresh_register, most_writes, written, restored};
+    ghost use Rattle.cdb_register.specs.Registers.{fresh_register, most_writes, put_cell, restored};
 
     /// A register that nobody has written.
     pub(crate) fn fresh() -> Self
@@ -30,7 +30,7 @@ impl RegisterState {
     pub(crate) fn write(&mut self, cell: Cell) -> Cell
         requires { self.old.writes < most_writes }
         ensures overwritten { result ≡ self.old.cell }
-        ensures after { self.new ≡ written cell self.old }
+        ensures after { self.new ≡ put_cell cell self.old }
     {
         let overwritten = self.cell;
         self.cell = cell;

@@ -15,7 +15,7 @@ use Rattle.cdb_base.specs.declared.refusal.Refusal.{Refusal}
 use Rattle.cdb_base.specs.declared.refusal.Refusal.TheVariants as refusal
 use Rattle.cdb_message.specs.Mail.{MailState, message_name, copy_name, sent_by, is_sent, is_received, is_lost}
 use Rattle.cdb_rules.specs.Mail.{mail_of}
-use Rattle.cdb_rules.specs.Refusals.{first_refusal, accepts_kind, receives_such, again_checks, again_answer, lose_checks, lose_answer, unless_refused, NamesProcess, IsOfRun}
+use Rattle.cdb_rules.specs.Refusals.{first_refusal, accepts_kind, receives_such, again_checks, again_result, lose_checks, loss_result, unless_refused, NamesProcess, IsOfRun}
 use Rattle.cdb_rules.specs.State.{Machine, ProcessState, RunState}
 use Rattle.cdb_rules.specs.Step.{is_among, may_lose, after}
 use Rattle.cdb_rules.proofs.Stages.{sight_in}
@@ -58,22 +58,22 @@ receive_passes : {L : Type 0} (machine : Machine L) (mail : MailState) (p : ℕ)
 receive_passes machine mail p (Recv s m) fits = (turned (is_sent mail (message_name s m)) fits.0, fits.1, fits.2)
 receive_passes machine mail p _ fits = (refl, refl, refl)
 
-err_not_ok : {A : Type 0} (answer : Result Event Refusal) (why : Refusal) → answer ≡ Err why → IsOk answer → A
-err_not_ok answer why is ok = absurd (true≢false (sym ok ∙ ap is_ok is))
+err_not_ok : {A : Type 0} (returned : Result Event Refusal) (why : Refusal) → returned ≡ Err why → IsOk returned → A
+err_not_ok returned why is ok = absurd (true≢false (sym ok ∙ ap is_ok is))
 
-ok_of : (answer : Result Event Refusal) → IsOk answer → (event : Event) × (answer ≡ Ok event)
+ok_of : (returned : Result Event Refusal) → IsOk returned → (event : Event) × (returned ≡ Ok event)
 ok_of (Ok event) ok = (event, refl)
 ok_of (Err why) ok = absurd (true≢false (sym ok))
 
-is_ok_of : (answer : Result Event Refusal) (event : Event) → answer ≡ Ok event → IsOk answer
-is_ok_of answer event is = ap is_ok is
+is_ok_of : (returned : Result Event Refusal) (event : Event) → returned ≡ Ok event → IsOk returned
+is_ok_of returned event is = ap is_ok is
 
 module _ {L : Type 0} (machine : Machine L) (setup : Parts) (number : length machine.firsts ≡ setup.processes) (loses : machine.loses_copies ≡ (setup.version == 2)) (state : RunState L) where
   module _ (copy : CopyName) where
     may_is : may_lose machine (mail_of state) copy ≡ ((setup.version == 2) && is_among setup.processes copy.to && is_sent (mail_of state) copy.msg && not (is_received (mail_of state) copy.to copy.msg) && not (is_lost (mail_of state) copy))
     may_is = ap₂ (λ b n. b && is_among n copy.to && is_sent (mail_of state) copy.msg && not (is_received (mail_of state) copy.to copy.msg) && not (is_lost (mail_of state) copy)) loses number
 
-    pub loss_enabled : (event : Event) → again_answer machine setup state (Lost copy) ≡ Ok event → IsSome (after machine state (Lost copy))
+    pub loss_enabled : (event : Event) → again_result machine setup state (Lost copy) ≡ Ok event → IsSome (after machine state (Lost copy))
     loss_enabled event h =
         let versions = all_pass (lose_checks setup (mail_of state) copy.msg copy.to) (unrefused (first_refusal (lose_checks setup (mail_of state) copy.msg copy.to)) (Some (Lost copy)) event h).0 in
         let among = versions.1 in
@@ -87,7 +87,7 @@ module _ {L : Type 0} (machine : Machine L) (setup : Parts) (number : length mac
         all_of : (a b c d e : Bool) → a ≡ true → b ≡ true → c ≡ true → d ≡ true → e ≡ true → (a && b && c && d && e) ≡ true
         all_of a b c d e p q r s t = cc
 
-    pub loss_again : IsSome (after machine state (Lost copy)) → again_answer machine setup state (Lost copy) ≡ Ok (Lost copy)
+    pub loss_again : IsSome (after machine state (Lost copy)) → again_result machine setup state (Lost copy) ≡ Ok (Lost copy)
     loss_again enabled =
         let to = some_of (after machine state (Lost copy)) enabled in
         let may = sym may_is ∙ (where_true (may_lose machine (mail_of state) copy) (Some (record state { lost = set.insert state.lost copy })) to.0 to.1).0 in
@@ -113,12 +113,12 @@ module _ {L : Type 0} (machine : Machine L) (lawful : IsLawful machine) (setup :
     abbrev checks : List (Bool × Refusal)
     checks = again_checks machine (mail_of state) state.registers process.progress p k kind
 
-    answer_is : again_answer machine setup state (Step p k kind) ≡ unless_refused (first_refusal checks) (Some (Step p k kind))
-    answer_is = ap (λ o. option_map_or (λ (x : ProcessState L). unless_refused (first_refusal (again_checks machine (mail_of state) state.registers x.progress p k kind)) (Some (Step p k kind))) o (Err refusal.NoProcess)) at
+    again_is : again_result machine setup state (Step p k kind) ≡ unless_refused (first_refusal checks) (Some (Step p k kind))
+    again_is = ap (λ o. option_map_or (λ (x : ProcessState L). unless_refused (first_refusal (again_checks machine (mail_of state) state.registers x.progress p k kind)) (Some (Step p k kind))) o (Err refusal.NoProcess)) at
 
-    pub step_enabled : (event : Event) → k ≤ 9999 → NamesProcess setup.processes kind → again_answer machine setup state (Step p k kind) ≡ Ok event → IsSome (after machine state (Step p k kind))
+    pub step_enabled : (event : Event) → k ≤ 9999 → NamesProcess setup.processes kind → again_result machine setup state (Step p k kind) ≡ Ok event → IsSome (after machine state (Step p k kind))
     step_enabled event limit names h =
-        let moved = all_pass checks (unrefused (first_refusal checks) (Some (Step p k kind)) event (sym answer_is ∙ h)).0 in
+        let moved = all_pass checks (unrefused (first_refusal checks) (Some (Step p k kind)) event (sym again_is ∙ h)).0 in
         let alive = moved.1 in
         let going = alive.1 in
         let accepted = going.1 in
@@ -130,14 +130,14 @@ module _ {L : Type 0} (machine : Machine L) (lawful : IsLawful machine) (setup :
         (not_false (accepts_kind machine process.progress.local (length (sent_by (mail_of state) p)) state.registers kind) accepted.0)
         (fits_receive machine setup number (mail_of state) p kind names sent.0 received.0 lost.0)
 
-    pub step_again : IsSome (after machine state (Step p k kind)) → again_answer machine setup state (Step p k kind) ≡ Ok (Step p k kind)
+    pub step_again : IsSome (after machine state (Step p k kind)) → again_result machine setup state (Step p k kind) ≡ Ok (Step p k kind)
     step_again enabled =
         let to = some_of (after machine state (Step p k kind)) enabled in
         let taken = taken_from machine state to.0 p k kind to.1 in
         let same = same_Some taken.process process (sym taken.at_process ∙ at) in
         let accepted = subst (λ (x : ProcessState L). IsAccepted machine x k kind (sight_in state p kind) taken.next) same (parts machine state to.0 p k kind taken) in
         let fits = receive_passes machine (mail_of state) p kind (fits_by machine lawful state p process at k kind taken.next accepted) in
-        answer_is
+        again_is
         ∙ unless_ok (first_refusal checks) (Step p k kind)
         (none_refuses checks (
           turned (k == process.progress.steps + 1) (is_number k (process.progress.steps + 1) accepted.number),
@@ -153,7 +153,7 @@ module _ {L : Type 0} (machine : Machine L) (lawful : IsLawful machine) (setup :
           ),
         ))
 
-  none_again : (p k : ℕ) (kind : Kind) → nth state.processes p ≡ None → again_answer machine setup state (Step p k kind) ≡ Err refusal.NoProcess
+  none_again : (p k : ℕ) (kind : Kind) → nth state.processes p ≡ None → again_result machine setup state (Step p k kind) ≡ Err refusal.NoProcess
   none_again p k kind at = ap (λ o. option_map_or (λ (x : ProcessState L). unless_refused (first_refusal (again_checks machine (mail_of state) state.registers x.progress p k kind)) (Some (Step p k kind))) o (Err refusal.NoProcess)) at
 
   none_after : (p k : ℕ) (kind : Kind) → nth state.processes p ≡ None → IsSome (after machine state (Step p k kind)) → ⊥
@@ -163,18 +163,18 @@ module _ {L : Type 0} (machine : Machine L) (lawful : IsLawful machine) (setup :
       none-some taken.process (sym at ∙ taken.at_process)
 
   -- an event of the run is taken again exactly where it is enabled
-  pub again_exact : (event : Event) → IsOfRun setup event → (answer : Result Event Refusal) → answer ≡ again_answer machine setup state event → IsOk answer ↔ IsSome (after machine state event)
-  again_exact (Step p k kind) of_run answer is = go (nth state.processes p) refl
+  pub again_exact : (event : Event) → IsOfRun setup event → (returned : Result Event Refusal) → returned ≡ again_result machine setup state event → IsOk returned ↔ IsSome (after machine state event)
+  again_exact (Step p k kind) of_run returned is = go (nth state.processes p) refl
     where
-      go : (o : Option (ProcessState L)) → nth state.processes p ≡ o → IsOk answer ↔ IsSome (after machine state (Step p k kind))
-      go None at = ((λ ok. err_not_ok answer refusal.NoProcess (is ∙ none_again p k kind at) ok), (λ enabled. absurd (none_after p k kind at enabled)))
+      go : (o : Option (ProcessState L)) → nth state.processes p ≡ o → IsOk returned ↔ IsSome (after machine state (Step p k kind))
+      go None at = ((λ ok. err_not_ok returned refusal.NoProcess (is ∙ none_again p k kind at) ok), (λ enabled. absurd (none_after p k kind at enabled)))
       go (Some process) at = (
-        (λ ok. let taken = ok_of answer ok in step_enabled p k kind process at taken.0 of_run.1.1 of_run.2 (sym is ∙ taken.1)),
-        (λ enabled. is_ok_of answer (Step p k kind) (is ∙ step_again p k kind process at enabled)),
+        (λ ok. let taken = ok_of returned ok in step_enabled p k kind process at taken.0 of_run.1.1 of_run.2 (sym is ∙ taken.1)),
+        (λ enabled. is_ok_of returned (Step p k kind) (is ∙ step_again p k kind process at enabled)),
       )
-  again_exact (Lost copy) of_run answer is = (
-    (λ ok. let taken = ok_of answer ok in loss_enabled machine setup number loses state copy taken.0 (sym is ∙ taken.1)),
-    (λ enabled. is_ok_of answer (Lost copy) (is ∙ loss_again machine setup number loses state copy enabled)),
+  again_exact (Lost copy) of_run returned is = (
+    (λ ok. let taken = ok_of returned ok in loss_enabled machine setup number loses state copy taken.0 (sym is ∙ taken.1)),
+    (λ enabled. is_ok_of returned (Lost copy) (is ∙ loss_again machine setup number loses state copy enabled)),
   )
 
 unless_same : (why : Option Refusal) (event : Event) → IfOk (unless_refused why (Some event)) (λ taken. taken ≡ event)
@@ -182,7 +182,7 @@ unless_same (Some why) event = tt
 unless_same None event = refl
 
 -- what is answered is the event
-pub again_same : {L : Type 0} (machine : Machine L) (setup : Parts) (state : RunState L) (event : Event) → IfOk (again_answer machine setup state event) (λ taken. taken ≡ event)
+pub again_same : {L : Type 0} (machine : Machine L) (setup : Parts) (state : RunState L) (event : Event) → IfOk (again_result machine setup state event) (λ taken. taken ≡ event)
 again_same machine setup state (Step p k kind) = go (nth state.processes p)
   where
     go : (o : Option (ProcessState _)) → IfOk (option_map_or (λ (x : ProcessState _). unless_refused (first_refusal (again_checks machine (mail_of state) state.registers x.progress p k kind)) (Some (Step p k kind))) o (Err refusal.NoProcess)) (λ taken. taken ≡ Step p k kind)
@@ -191,7 +191,7 @@ again_same machine setup state (Step p k kind) = go (nth state.processes p)
 again_same machine setup state (Lost copy) = unless_same (first_refusal (lose_checks setup (mail_of state) copy.msg copy.to)) (Lost copy)
 
 -- where the loss of a copy is answered, it is enabled
-pub lose_enabled : {L : Type 0} (machine : Machine L) (setup : Parts) (number : length machine.firsts ≡ setup.processes) (loses : machine.loses_copies ≡ (setup.version == 2)) (state : RunState L) (name : MsgName) (p : ℕ) → IfOk (lose_answer setup state name p) (λ event. IsSome (after machine state event))
+pub lose_enabled : {L : Type 0} (machine : Machine L) (setup : Parts) (number : length machine.firsts ≡ setup.processes) (loses : machine.loses_copies ≡ (setup.version == 2)) (state : RunState L) (name : MsgName) (p : ℕ) → IfOk (loss_result setup state name p) (λ event. IsSome (after machine state event))
 lose_enabled machine setup number loses state name p = go (first_refusal (lose_checks setup (mail_of state) name p)) refl
   where
     go : (why : Option Refusal) → first_refusal (lose_checks setup (mail_of state) name p) ≡ why → IfOk (unless_refused why (Some (Lost (copy_name name p)))) (λ event. IsSome (after machine state event))

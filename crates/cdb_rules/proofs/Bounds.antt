@@ -11,7 +11,7 @@ use Rattle.cdb_base.specs.declared.event.Kind.TheVariants.{Query, Send, Write}
 use Rattle.cdb_base.specs.declared.register.Cell.{Cell}
 use Rattle.cdb_base.specs.declared.register.Reg.{Reg}
 use Rattle.cdb_base.specs.declared.register.Reg.TheVariants.{R, Dec}
-use Rattle.cdb_register.specs.Registers.{RegisterStates, fresh_register, fresh_registers, register_of, with_register, written}
+use Rattle.cdb_register.specs.Registers.{RegisterStates, fresh_register, fresh_registers, register_of, with_register, put_cell}
 use Rattle.cdb_register.specs.declared.RegisterState.{RegisterState}
 use Rattle.std.specs.FinSet as set
 use Rattle.cdb_rules.specs.Mail.{mail_of}
@@ -63,19 +63,19 @@ option_few : {A : Type 0} (o : Option A) → length (option_to_list o) ≤ 1
 option_few None = omega arith
 option_few (Some a) = omega arith
 
-written_more : (cell : Cell) (o : Option RegisterState) (stands : RegisterState) (most : ℕ) → ((old : RegisterState) → o ≡ Some old → old.writes ≤ most) → option_map (written cell) o ≡ Some stands → stands.writes ≤ most + 1
+written_more : (cell : Cell) (o : Option RegisterState) (stands : RegisterState) (most : ℕ) → ((old : RegisterState) → o ≡ Some old → old.writes ≤ most) → option_map (put_cell cell) o ≡ Some stands → stands.writes ≤ most + 1
 written_more cell None stands most few at = absurd (none-some stands at)
 written_more cell (Some old) stands most few at =
-    let is = ap (λ (r : RegisterState). r.writes) (same_Some (written cell old) stands at) in let less = few old refl in omega (arith, is, less)
+    let is = ap (λ (r : RegisterState). r.writes) (same_Some (put_cell cell old) stands at) in let less = few old refl in omega (arith, is, less)
 
 kept_few : (o : Option RegisterState) (stands : RegisterState) (most : ℕ) → ((old : RegisterState) → o ≡ Some old → old.writes ≤ most) → o ≡ Some stands → stands.writes ≤ most + 1
 kept_few o stands most few at = let less = few stands at in omega (arith, less)
 
-write_few : (registers : RegisterStates) (x y : Reg) (cell : Cell) (stands : RegisterState) (most : ℕ) → ((register : Reg) (old : RegisterState) → register_of registers register ≡ Some old → old.writes ≤ most) → register_of (with_register (written cell) registers x) y ≡ Some stands → stands.writes ≤ most + 1
+write_few : (registers : RegisterStates) (x y : Reg) (cell : Cell) (stands : RegisterState) (most : ℕ) → ((register : Reg) (old : RegisterState) → register_of registers register ≡ Some old → old.writes ≤ most) → register_of (with_register (put_cell cell) registers x) y ≡ Some stands → stands.writes ≤ most + 1
 write_few registers (R p) (R q) cell stands most few at =
     elim (p == q) as (λ b. (p == q) ≡ b → stands.writes ≤ most + 1) [
-      | true ↦ λ e. written_more cell (nth registers.of_processes q) stands most (few (R q)) (sym (nth-update_nth_same (written cell) registers.of_processes q) ∙ subst (λ i. nth (update_nth (written cell) registers.of_processes i) q ≡ Some stands) (is_same p q e) at)
-      | false ↦ λ e. kept_few (nth registers.of_processes q) stands most (few (R q)) (sym (nth-update_nth_other (written cell) registers.of_processes p q (is_other p q e)) ∙ at)
+      | true ↦ λ e. written_more cell (nth registers.of_processes q) stands most (few (R q)) (sym (nth-update_nth_same (put_cell cell) registers.of_processes q) ∙ subst (λ i. nth (update_nth (put_cell cell) registers.of_processes i) q ≡ Some stands) (is_same p q e) at)
+      | false ↦ λ e. kept_few (nth registers.of_processes q) stands most (few (R q)) (sym (nth-update_nth_other (put_cell cell) registers.of_processes p q (is_other p q e)) ∙ at)
     ] refl
 write_few registers (R p) Dec cell stands most few at = kept_few registers.of_decision stands most (few Dec) at
 write_few registers Dec (R q) cell stands most few at = kept_few (nth registers.of_processes q) stands most (few (R q)) at

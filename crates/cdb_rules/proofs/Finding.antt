@@ -160,8 +160,8 @@ module _ (n p : ℕ) where
 -- What is found, as it is answered.
 
 module _ (history : List Event) (name : StepId) (at : Option ℕ) (is : MatchOption at (IsNewName history name) (IsPositionOf history name)) where
-  pub found_answer : (n : ℕ) → names_processes n name ≡ true → MatchResult (ok_or at refusal.NoStep) (λ position. event_named n history name ≡ found_at history (position - 1)) (λ why. event_named n history name ≡ Err why)
-  found_answer n there = by at is
+  pub found_result : (n : ℕ) → names_processes n name ≡ true → MatchResult (ok_or at refusal.NoStep) (λ position. event_named n history name ≡ found_at history (position - 1)) (λ why. event_named n history name ≡ Err why)
+  found_result n there = by at is
     where
       by : (o : Option ℕ) → MatchOption o (IsNewName history name) (IsPositionOf history name) → MatchResult (ok_or o refusal.NoStep) (λ position. event_named n history name ≡ found_at history (position - 1)) (λ why. event_named n history name ≡ Err why)
       by None new = none_named history name n there new

@@ -20,7 +20,7 @@ use Rattle.cdb_causal.specs.Effects.{kind_affects, affects}
 use Rattle.cdb_message.specs.Mail.{message_name, copy_name, sent_by, received_by, payload_of, is_sent, is_received, is_lost}
 use Rattle.cdb_message.specs.Names.{NameSet, CopySet, name_cmp, copy_cmp}
 use Rattle.cdb_message.proofs.Sets.{name_cmp_total, name_cmp-IsAntisymmetric, copy_cmp_total, copy_cmp-IsAntisymmetric}
-use Rattle.cdb_register.specs.Registers.{RegisterStates, register_of, with_register, written}
+use Rattle.cdb_register.specs.Registers.{RegisterStates, register_of, with_register, put_cell}
 use Rattle.cdb_rules.specs.Mail.{mail_of}
 use Rattle.cdb_rules.specs.State.{Machine, ProcessState, RunState}
 use Rattle.cdb_process.specs.Wishes.{wished_payload, wished_cell}
@@ -43,22 +43,22 @@ is_false false h = refl
 
 -- the registers
 
-register_of_other : (registers : RegisterStates) (x y : Reg) (cell : Cell) → same_register x y ≡ false → register_of (with_register (written cell) registers x) y ≡ register_of registers y
-register_of_other registers (R p) (R q) cell h = nth-update_nth_other (written cell) registers.of_processes p q (nat_eq-ne p q h)
+register_of_other : (registers : RegisterStates) (x y : Reg) (cell : Cell) → same_register x y ≡ false → register_of (with_register (put_cell cell) registers x) y ≡ register_of registers y
+register_of_other registers (R p) (R q) cell h = nth-update_nth_other (put_cell cell) registers.of_processes p q (nat_eq-ne p q h)
 register_of_other registers (R p) Dec cell h = refl
 register_of_other registers Dec (R q) cell h = refl
 register_of_other registers Dec Dec cell h = absurd (true≢false h)
 
-written-written : (registers : RegisterStates) (x y : Reg) (a b : Cell) → same_register x y ≡ false → with_register (written b) (with_register (written a) registers x) y ≡ with_register (written a) (with_register (written b) registers y) x
-written-written registers (R p) (R q) a b h =
-    ap (λ l. record registers { of_processes = l }) (update_nth-update_nth (written a) (written b) registers.of_processes p q (nat_eq-ne p q h))
-written-written registers (R p) Dec a b h = refl
-written-written registers Dec (R q) a b h = refl
-written-written registers Dec Dec a b h = absurd (true≢false h)
+put_cell-put_cell : (registers : RegisterStates) (x y : Reg) (a b : Cell) → same_register x y ≡ false → with_register (put_cell b) (with_register (put_cell a) registers x) y ≡ with_register (put_cell a) (with_register (put_cell b) registers y) x
+put_cell-put_cell registers (R p) (R q) a b h =
+    ap (λ l. record registers { of_processes = l }) (update_nth-update_nth (put_cell a) (put_cell b) registers.of_processes p q (nat_eq-ne p q h))
+put_cell-put_cell registers (R p) Dec a b h = refl
+put_cell-put_cell registers Dec (R q) a b h = refl
+put_cell-put_cell registers Dec Dec a b h = absurd (true≢false h)
 
 -- writes of different registers may change places
 pub registers_swap : (registers : RegisterStates) (p : ℕ) (first second : Kind) (a b : Option Cell) → kind_affects p first second ≡ false → registers_after (registers_after registers first a) second b ≡ registers_after (registers_after registers second b) first a
-registers_swap registers p (Write x) (Write y) (Some a) (Some b) h = written-written registers x y a b h
+registers_swap registers p (Write x) (Write y) (Some a) (Some b) h = put_cell-put_cell registers x y a b h
 registers_swap registers p (Write x) (Write y) None (Some b) h = refl
 registers_swap registers p (Write x) (Write y) (Some a) None h = refl
 registers_swap registers p (Write x) (Write y) None None h = refl

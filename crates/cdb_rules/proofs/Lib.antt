@@ -28,8 +28,8 @@ pub mod Bounds
 pub mod Limits
 -- an event is found, undone and rolled back
 pub mod Finding
-pub mod Answering
-pub mod Answered
+pub mod Results
+pub mod WhereOk
 pub mod Standing
 pub mod Removed
 pub mod TakenBack

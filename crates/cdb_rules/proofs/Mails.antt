@@ -7,10 +7,10 @@ use Rattle.cdb_base.specs.declared.event.Kind.TheVariants.{Send, Recv}
 use Rattle.cdb_base.specs.declared.payload.Payload.{Payload}
 use Rattle.cdb_message.specs.Mail.{MailState, message_name, copy_name, sent_by, received_by, payload_of, is_sent, is_lost}
 use Rattle.cdb_message.specs.Names.{NameSet}
-use Rattle.cdb_rules.specs.Mail.{mail_of, mail_after, IsPostable}
+use Rattle.cdb_rules.specs.Mail.{mail_of}
+use Rattle.cdb_rules.specs.Taking.{mail_after, IsPostable, sight, arriving}
 use Rattle.cdb_rules.specs.State.{Machine, ProcessState, RunState}
 use Rattle.cdb_process.specs.Wishes.{wished_payload}
-use Rattle.cdb_rules.specs.Taking.{sight, arriving}
 use Rattle.cdb_rules.proofs.Stages.{meets, is_due, sent_after, received_after}
 use Rattle.cdb_rules.proofs.Positions.{nth-map, map-set_nth, set_nth_same, nth_within}
 

@@ -21,7 +21,7 @@ use Rattle.cdb_causal.specs.Dependence.{accesses}
 use Rattle.cdb_message.specs.Mail.{message_name, copy_name, sent_by, is_sent, is_received, is_lost}
 use Rattle.cdb_message.specs.Names.{NameSet, CopySet, name_cmp, copy_cmp}
 use Rattle.cdb_message.proofs.Sets.{name_cmp_total, copy_cmp_total}
-use Rattle.cdb_register.specs.Registers.{RegisterStates, register_of, with_register, written}
+use Rattle.cdb_register.specs.Registers.{RegisterStates, register_of, with_register, put_cell}
 use Rattle.cdb_register.specs.declared.RegisterState.{RegisterState}
 use Rattle.cdb_rules.specs.Mail.{mail_of}
 use Rattle.cdb_rules.specs.State.{Machine, OwnEvent, ProcessState, RunState}
@@ -69,26 +69,26 @@ access_cases register (Read other) h = inl (ap Read (sym (same_register-true reg
 access_cases register (Write other) h = inr (ap Write (sym (same_register-true register other h)))
 access_cases register _ h = absurd (true≢false (sym h))
 
-of_register-written : (cell : Cell) (o : Option RegisterState) → of_register o ≤ of_register (option_map (written cell) o)
-of_register-written cell None = le_refl 0
-of_register-written cell (Some register) = omega arith
+of_register-put_cell : (cell : Cell) (o : Option RegisterState) → of_register o ≤ of_register (option_map (put_cell cell) o)
+of_register-put_cell cell None = le_refl 0
+of_register-put_cell cell (Some register) = omega arith
 
-written_grows : (registers : RegisterStates) (x y : Reg) (cell : Cell) → of_register (register_of registers y) ≤ of_register (register_of (with_register (written cell) registers x) y)
+written_grows : (registers : RegisterStates) (x y : Reg) (cell : Cell) → of_register (register_of registers y) ≤ of_register (register_of (with_register (put_cell cell) registers x) y)
 written_grows registers (R p) (R q) cell =
-    elim (nat_eq p q) as (λ b. nat_eq p q ≡ b → of_register (nth registers.of_processes q) ≤ of_register (nth (update_nth (written cell) registers.of_processes p) q)) [
+    elim (nat_eq p q) as (λ b. nat_eq p q ≡ b → of_register (nth registers.of_processes q) ≤ of_register (nth (update_nth (put_cell cell) registers.of_processes p) q)) [
       | true ↦ λ e.
           let same : p ≡ q = nat_eq-is p q e in
-          subst (λ i. of_register (nth registers.of_processes i) ≤ of_register (nth (update_nth (written cell) registers.of_processes p) i)) same
-          (subst (λ o. of_register (nth registers.of_processes p) ≤ of_register o) (sym (nth-update_nth_same (written cell) registers.of_processes p)) (of_register-written cell (nth registers.of_processes p)))
-      | false ↦ λ e. le_of_eq (ap of_register (sym (nth-update_nth_other (written cell) registers.of_processes p q (nat_eq-ne p q e))))
+          subst (λ i. of_register (nth registers.of_processes i) ≤ of_register (nth (update_nth (put_cell cell) registers.of_processes p) i)) same
+          (subst (λ o. of_register (nth registers.of_processes p) ≤ of_register o) (sym (nth-update_nth_same (put_cell cell) registers.of_processes p)) (of_register-put_cell cell (nth registers.of_processes p)))
+      | false ↦ λ e. le_of_eq (ap of_register (sym (nth-update_nth_other (put_cell cell) registers.of_processes p q (nat_eq-ne p q e))))
     ] refl
 written_grows registers (R p) Dec cell = le_refl (of_register registers.of_decision)
 written_grows registers Dec (R q) cell = le_refl (of_register (nth registers.of_processes q))
-written_grows registers Dec Dec cell = of_register-written cell registers.of_decision
+written_grows registers Dec Dec cell = of_register-put_cell cell registers.of_decision
 
-written_one : (registers : RegisterStates) (x : Reg) (cell : Cell) (register : RegisterState) → register_of registers x ≡ Some register → of_register (register_of (with_register (written cell) registers x) x) ≡ register.writes + 1
-written_one registers (R p) cell register at = ap of_register (nth-update_nth_same (written cell) registers.of_processes p) ∙ ap (λ o. of_register (option_map (written cell) o)) at
-written_one registers Dec cell register at = ap (λ o. of_register (option_map (written cell) o)) at
+written_one : (registers : RegisterStates) (x : Reg) (cell : Cell) (register : RegisterState) → register_of registers x ≡ Some register → of_register (register_of (with_register (put_cell cell) registers x) x) ≡ register.writes + 1
+written_one registers (R p) cell register at = ap of_register (nth-update_nth_same (put_cell cell) registers.of_processes p) ∙ ap (λ o. of_register (option_map (put_cell cell) o)) at
+written_one registers Dec cell register at = ap (λ o. of_register (option_map (put_cell cell) o)) at
 
 registers_grow : (registers : RegisterStates) (kind : Kind) (cell : Option Cell) (y : Reg) → of_register (register_of registers y) ≤ of_register (register_of (registers_after registers kind cell) y)
 registers_grow registers (Write x) (Some cell) y = written_grows registers x y cell

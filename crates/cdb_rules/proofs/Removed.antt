@@ -7,9 +7,9 @@ use Rattle.cdb_base.specs.declared.event.Event.{Event}
 use Rattle.cdb_base.specs.declared.name.StepId.{StepId}
 use Rattle.cdb_base.specs.declared.refusal.Refusal.{Refusal}
 use Rattle.cdb_causal.specs.Dependence.{depends}
-use Rattle.cdb_causal.specs.Rollback.{without, depends_on_one, caught, spared, rolled_back, remaining}
+use Rattle.cdb_causal.specs.Rollback.{without, depends_on_one, caught, uncaught, rolled_back, remaining}
 use Rattle.cdb_rules.proofs.Alls.{all-append}
-use Rattle.cdb_rules.specs.Undo.{Found, is_named, names_processes, found_at, event_named, undo_of, rollback_of, answered, number_removed}
+use Rattle.cdb_rules.specs.Undo.{Found, is_named, names_processes, found_at, event_named, undo_of, rollback_of, result_alone, number_removed}
 
 option_cases : {A : Type 0} (G : Type 0) (o : Option A) → (o ≡ None → G) → ((a : A) → o ≡ Some a → G) → G
 option_cases G None none some = none refl
@@ -58,13 +58,13 @@ module _ (P : Event → Type 0) where
       let rest = without-parted xs i event at in
       record { count = omega (arith, rest.count); gone = λ all. rest.gone all.1; left = λ all. (all.0, rest.left all.1) }
 
-  one-more : (b : Bool) (x : Event) (xs taken left_taken spared_ left_spared : List Event) → Parted xs taken left_taken → Parted xs spared_ left_spared → Parted (x ∷ xs) (cond b (x ∷ taken) spared_) (cond b left_taken (x ∷ left_spared))
-  one-more true x xs taken left_taken spared_ left_spared h k =
+  one-more : (b : Bool) (x : Event) (xs taken left_taken uncaught_ left_uncaught : List Event) → Parted xs taken left_taken → Parted xs uncaught_ left_uncaught → Parted (x ∷ xs) (cond b (x ∷ taken) uncaught_) (cond b left_taken (x ∷ left_uncaught))
+  one-more true x xs taken left_taken uncaught_ left_uncaught h k =
       record { count = omega (arith, h.count); gone = λ all. (all.0, h.gone all.1); left = λ all. h.left all.1 }
-  one-more false x xs taken left_taken spared_ left_spared h k =
+  one-more false x xs taken left_taken uncaught_ left_uncaught h k =
       record { count = omega (arith, k.count); gone = λ all. k.gone all.1; left = λ all. (all.0, k.left all.1) }
 
-  caught-parted : (causes events : List Event) → Parted events (caught depends causes events) (spared depends causes events)
+  caught-parted : (causes events : List Event) → Parted events (caught depends causes events) (uncaught depends causes events)
   caught-parted causes [] = record { count = refl; gone = λ all. tt; left = λ all. tt }
   caught-parted causes (x ∷ xs) =
       one-more (depends_on_one depends causes x) x xs _ _ _ _ (caught-parted (causes ++ x ∷ []) xs) (caught-parted causes xs)
@@ -122,10 +122,10 @@ removed-one n history name removed h =
     (λ why is. let f : rollback_of n history name ≡ Ok removed → 1 ≤ length removed.0 = rw is (λ k. absurd (cc)) in f h)
 
 -- no more events are removed than stood
-pub few-removed : (n : ℕ) (history : List Event) (name : StepId) (count most : ℕ) → length history ≤ most → number_removed (answered (rollback_of n history name)) ≡ Ok count → count ≤ most
+pub few-removed : (n : ℕ) (history : List Event) (name : StepId) (count most : ℕ) → length history ≤ most → number_removed (result_alone (rollback_of n history name)) ≡ Ok count → count ≤ most
 few-removed n history name count most few counted = go (rollback_of n history name) refl counted
   where
-    go : (r : Result (List Event × List Event) Refusal) → rollback_of n history name ≡ r → number_removed (answered r) ≡ Ok count → count ≤ most
+    go : (r : Result (List Event × List Event) Refusal) → rollback_of n history name ≡ r → number_removed (result_alone r) ≡ Ok count → count ≤ most
     go (Ok removed) is h =
         let parted = rolled_back-parted (λ _. Unit {0}) n history name removed is in
         let same : length removed.0 ≡ count = cc in

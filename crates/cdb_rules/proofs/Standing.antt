@@ -21,7 +21,7 @@ use Rattle.cdb_rules.specs.Mail.{mail_of}
 use Rattle.cdb_rules.specs.State.{Machine, RunState, start}
 use Rattle.cdb_rules.specs.Step.{IsValid, is_among, after, fold}
 use Rattle.cdb_rules.specs.Undo.{Found, IsEventNamed, event_named, found_at, for_standing, names_processes, undo_found, undo_of, rollback_of}
-use Rattle.cdb_rules.proofs.Answering.{free_answer, needed_answer, found_is}
+use Rattle.cdb_rules.proofs.Results.{free_result, needed_result, found_is}
 use Rattle.cdb_rules.proofs.Commutes.{lost_from}
 use Rattle.cdb_rules.proofs.Finding.{stands_named, none_named, no_process_named, among_is}
 use Rattle.cdb_rules.proofs.Limits.{in_front}
@@ -56,11 +56,11 @@ module _ (n : ℕ) (history : List Event) (name : StepId) where
     standing = stands_named history name n (suc i) is.among is.position ∙ ap (found_at history) (sym (less_one i))
 
     pub free_undone : IsFree depends history i → undo_of n history name ≡ Ok (event, without history i)
-    free_undone free = ap (λ found. for_standing found (undo_found history)) standing ∙ free_answer history i event is.at free
+    free_undone free = ap (λ found. for_standing found (undo_found history)) standing ∙ free_result history i event is.at free
 
     pub needed_refused : (dependent : StepId) → IsFirstDependent history i dependent → undo_of n history name ≡ Err (refusal.NeededBy dependent)
     needed_refused dependent first =
-        ap (λ found. for_standing found (undo_found history)) standing ∙ needed_answer history i event is.at dependent first
+        ap (λ found. for_standing found (undo_found history)) standing ∙ needed_result history i event is.at dependent first
 
     pub standing_rolled_back : rollback_of n history name ≡ Ok (reverse (rolled_back depends history i), remaining depends history i)
     standing_rolled_back = ap (λ found. for_standing found (all_rolled_back history)) (standing ∙ found_is history i event is.at)

@@ -15,21 +15,21 @@ use Rattle.cdb_rules.specs.RunView.{RunView}
 use Rattle.cdb_rules.specs.Runs.{IsExactRollback, rollback_in, after_rollback}
 use Rattle.cdb_rules.specs.State.{Machine, start}
 use Rattle.cdb_rules.specs.Step.{IsValid, IsEnabled, after, fold, state_of}
-use Rattle.cdb_rules.specs.Undo.{IsEventNamed, IsFreeName, undo_of, rollback_of, answered, left_by, with_removed}
-use Rattle.cdb_rules.proofs.Answered.{undone_free, undone_back, rolled_back_answered, rolled_back_back}
+use Rattle.cdb_rules.specs.Undo.{IsEventNamed, IsFreeName, undo_of, rollback_of, result_alone, left_by, with_removed}
+use Rattle.cdb_rules.proofs.WhereOk.{undone_free, undone_back, rolled_back_where_ok, rolled_back_back}
 use Rattle.cdb_rules.proofs.Finding.{has_name_is}
 use Rattle.cdb_rules.proofs.Histories.{reached_state}
 use Rattle.cdb_rules.proofs.Standing.{free_undone, valid_named}
 
 module _ {L : Type 0} (machine : Machine L) (n : ℕ) (number : length machine.firsts ≡ n) (history : List Event) (valid : IsValid machine history) where
   module _ (name : StepId) where
-    free_where_ok : (r : Result (Event × List Event) Refusal) → undo_of n history name ≡ r → IsOk (answered r) → IsFreeName history name
+    free_where_ok : (r : Result (Event × List Event) Refusal) → undo_of n history name ≡ r → IsOk (result_alone r) → IsFreeName history name
     free_where_ok (Ok done) is ok =
         let u = undone_free n history name done.0 done.1 is in
         (u.0, (done.0, u.2, has_name_is name done.0 u.1), u.3)
     free_where_ok (Err why) is ok = absurd (true≢false (sym ok))
 
-    ok_where_free : IsFreeName history name → IsOk (answered (undo_of n history name))
+    ok_where_free : IsFreeName history name → IsOk (result_alone (undo_of n history name))
     ok_where_free stands =
         let i = stands.0 in
         let event = stands.1.0 in
@@ -37,17 +37,17 @@ module _ {L : Type 0} (machine : Machine L) (n : ℕ) (number : length machine.f
         let its_name : event_name event ≡ name = stands.1.2 in
         let named = subst (λ (m : ℕ). IsEventNamed m history (event_name event) i event) number (valid_named machine history valid i event at) in
         let is = subst (λ (x : StepId). IsEventNamed n history x i event) its_name named in
-        subst (λ (r : Result (Event × List Event) Refusal). IsOk (answered r)) (sym (free_undone n history name i event is stands.2)) refl
+        subst (λ (r : Result (Event × List Event) Refusal). IsOk (result_alone r)) (sym (free_undone n history name i event is stands.2)) refl
 
     -- an undo is answered Ok exactly where the event stands and no standing event depends on it
-    pub undo_ok_free : (result : Result Event Refusal) → result ≡ answered (undo_of n history name) → IsOk result ↔ IsFreeName history name
+    pub undo_ok_free : (result : Result Event Refusal) → result ≡ result_alone (undo_of n history name) → IsOk result ↔ IsFreeName history name
     undo_ok_free result is = (
       (λ ok. free_where_ok (undo_of n history name) refl (subst IsOk is ok)),
       (λ stands. subst IsOk (sym is) (ok_where_free stands)),
     )
 
     led_back : (r : Result (Event × List Event) Refusal) → undo_of n history name ≡ r
-        → IfOk (answered r) (λ event. IsValid machine (left_by history r ++ event ∷ []) × (fold machine (left_by history r ++ event ∷ []) ≡ fold machine history))
+        → IfOk (result_alone r) (λ event. IsValid machine (left_by history r ++ event ∷ []) × (fold machine (left_by history r ++ event ∷ []) ≡ fold machine history))
     led_back (Ok done) is =
         let u = undone_back machine n history name done.0 done.1 is valid in
         let led : fold machine (done.1 ++ done.0 ∷ []) ≡ fold machine history =
@@ -59,7 +59,7 @@ module _ {L : Type 0} (machine : Machine L) (n : ℕ) (number : length machine.f
     led_back (Err why) is = tt
 
     -- the event, taken again, leads from what is left back to the state before the undo
-    pub undo_leads_back : (result : Result Event Refusal) → result ≡ answered (undo_of n history name)
+    pub undo_leads_back : (result : Result Event Refusal) → result ≡ result_alone (undo_of n history name)
         → IfOk result
         (λ event. IsValid machine (left_by history (undo_of n history name) ++ event ∷ []) × (fold machine (left_by history (undo_of n history name) ++ event ∷ []) ≡ fold machine history))
     undo_leads_back result is =
@@ -69,12 +69,12 @@ module _ {L : Type 0} (machine : Machine L) (n : ℕ) (number : length machine.f
         (λ event. IsValid machine (left_by history (undo_of n history name) ++ event ∷ []) × (fold machine (left_by history (undo_of n history name) ++ event ∷ []) ≡ fold machine history)))
         (sym is) (led_back (undo_of n history name) refl)
 
-    rolled_again : (r : Result (List Event × List Event) Refusal) → rollback_of n history name ≡ r → fold machine (left_by history r ++ reverse (with_removed [] (answered r))) ≡ fold machine history
+    rolled_again : (r : Result (List Event × List Event) Refusal) → rollback_of n history name ≡ r → fold machine (left_by history r ++ reverse (with_removed [] (result_alone r))) ≡ fold machine history
     rolled_again (Ok done) is = (rolled_back_back machine n history name done.0 done.1 is valid).1
     rolled_again (Err why) is = ap (fold machine) (append-nil history)
 
     -- what a rollback took, taken again in order, leads back
-    pub rollback_leads_back : fold machine (left_by history (rollback_of n history name) ++ reverse (with_removed [] (answered (rollback_of n history name)))) ≡ fold machine history
+    pub rollback_leads_back : fold machine (left_by history (rollback_of n history name) ++ reverse (with_removed [] (result_alone (rollback_of n history name)))) ≡ fold machine history
     rollback_leads_back = rolled_again (rollback_of n history name) refl
 
   -- an event that is enabled can be taken
@@ -98,10 +98,10 @@ pub exact_rollback : (run : RunView) (name : StepId) → IsExactRollback run nam
 exact_rollback run name = go (rollback_in run name) refl
   where
     go : (r : Result (List Event × List Event) Refusal) → rollback_in run name ≡ r
-        → IfOk (answered r) (λ removed. (i : ℕ) × IsNamedAt run.history i name × IsParted (IsRolledBack depends run.history i) 0 run.history (left_by run.history r) (reverse removed))
+        → IfOk (result_alone r) (λ removed. (i : ℕ) × IsNamedAt run.history i name × IsParted (IsRolledBack depends run.history i) 0 run.history (left_by run.history r) (reverse removed))
     go (Err why) is = tt
     go (Ok done) is =
-        let u = rolled_back_answered run.setup.processes run.history name done.0 done.1 is in
+        let u = rolled_back_where_ok run.setup.processes run.history name done.0 done.1 is in
         let i = u.0 in
         let event = u.1 in
         let back : reverse done.0 ≡ rolled_back depends run.history i = ap reverse u.4 ∙ reverse-reverse (rolled_back depends run.history i) in (

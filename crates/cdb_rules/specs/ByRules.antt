@@ -25,14 +25,14 @@ abbrev pub IsInOrder : (Parts → Rules) → RunView → Type 0
 IsInOrder rules run = IsTrue ((rules run.setup).valid run.history)
 
 -- the first refusal that holds, else the event: of a step, of an undone event taken again, and of a loss
-abbrev pub answer_to_step : (Parts → Rules) → RunView → ℕ → Act → Result Event Refusal
-answer_to_step rules run p act = (rules run.setup).step run.history p act
+abbrev pub result_of_step : (Parts → Rules) → RunView → ℕ → Act → Result Event Refusal
+result_of_step rules run p act = (rules run.setup).step run.history p act
 
-abbrev pub answer_to_again : (Parts → Rules) → RunView → Event → Result Event Refusal
-answer_to_again rules run event = (rules run.setup).again run.history event
+abbrev pub result_of_again : (Parts → Rules) → RunView → Event → Result Event Refusal
+result_of_again rules run event = (rules run.setup).again run.history event
 
-abbrev pub answer_to_loss : (Parts → Rules) → RunView → ℕ → ℕ → ℕ → Result Event Refusal
-answer_to_loss rules run s m p = (rules run.setup).lose run.history (message_name s m) p
+abbrev pub result_of_loss : (Parts → Rules) → RunView → ℕ → ℕ → ℕ → Result Event Refusal
+result_of_loss rules run s m p = (rules run.setup).lose run.history (message_name s m) p
 
 -- what is shown
 abbrev pub process_in : (Parts → Rules) → RunView → ℕ → Option Shown

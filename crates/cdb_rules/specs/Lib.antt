@@ -19,5 +19,7 @@ pub mod Views
 pub mod Lawful
 pub mod SameState
 pub mod Agreement
--- what the code keeps for itself: a step as it is taken
+-- what the code keeps for itself: a step as it is taken, how runs are compared, and events by their positions
 pub mod Taking
+pub mod Comparing
+pub mod AtPositions

@@ -1,15 +1,12 @@
 -- The events of a history, each with the number of writes that it meets.
-use Rattle.std.specs.Prelude.{◌≡◌, All, IsTrue, ℕ, ◌+◌, Bool, true, List, [], ◌∷◌, Option, Some, None, option_map, unwrap_or, filter, if◌then◌else◌}
-use Rattle.std.specs.List.{list_all}
+use Rattle.std.specs.Prelude.{ℕ, ◌+◌, List, [], ◌∷◌, Option, Some, None, option_map, unwrap_or, filter, if◌then◌else◌}
 use Rattle.cdb_base.specs.Event.{is_step_of}
 use Rattle.cdb_base.specs.Positions.{nth}
-use Rattle.cdb_base.specs.Processes.{all_processes}
 use Rattle.cdb_base.specs.Registers.{same_register}
 use Rattle.cdb_base.specs.declared.event.Event.{Event}
-use Rattle.cdb_base.specs.declared.event.Event.TheVariants.{Step, Lost}
+use Rattle.cdb_base.specs.declared.event.Event.TheVariants.{Step}
 use Rattle.cdb_base.specs.declared.event.Kind.TheVariants.{Read, Write}
 use Rattle.cdb_base.specs.declared.register.Reg.{Reg}
-use Rattle.cdb_message.specs.Mail.{MailState, is_lost}
 use Rattle.cdb_rules.specs.State.{OwnEvent, RunState}
 
 abbrev pub no_writes : Reg → ℕ
@@ -42,15 +39,3 @@ own_steps p history = filter (λ own. is_step_of p own.event) (as_own_events no_
 -- the own events of process p in a state; of no process there are none
 abbrev pub own_of : {L : Type 0} → RunState L → ℕ → List OwnEvent
 own_of state p = unwrap_or (option_map (λ process. process.own) (nth state.processes p)) []
-
--- a loss is one of a copy that is lost in the mail too; any step passes
-abbrev pub is_lost_too : MailState → Event → Bool
-is_lost_too mail (Step p k kind) = true
-is_lost_too mail (Lost copy) = is_lost mail copy
-
--- two histories, each with its mail, have for each process the same steps, and each has lost what the other loses
-abbrev pub AreAlike : List Event → MailState → List Event → MailState → Type 0
-AreAlike history mail other other_mail =
-    All (λ p. own_steps p history ≡ own_steps p other) all_processes
-    × IsTrue (list_all (is_lost_too mail) other)
-    × IsTrue (list_all (is_lost_too other_mail) history)

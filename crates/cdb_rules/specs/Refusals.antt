@@ -114,8 +114,8 @@ abbrev pub planned : {L : Type 0} → Machine L → Parts → MailState → Regi
 planned machine setup mail registers progress p do_act =
     unless_refused (first_refusal (step_checks machine setup mail registers progress p do_act)) (named_event machine setup mail progress p do_act)
 
-abbrev pub step_answer : {L : Type 0} → Machine L → Parts → RunState L → ℕ → Act → Result Event Refusal
-step_answer machine setup state p do_act =
+abbrev pub step_result : {L : Type 0} → Machine L → Parts → RunState L → ℕ → Act → Result Event Refusal
+step_result machine setup state p do_act =
     option_map_or (λ process. planned machine setup (mail_of state) state.registers process.progress p do_act)
     (nth state.processes p) (Err refusal.NoProcess)
 
@@ -150,19 +150,19 @@ lose_checks setup mail name p =
 abbrev pub planned_loss : Parts → MailState → MsgName → ℕ → Result Event Refusal
 planned_loss setup mail name p = unless_refused (first_refusal (lose_checks setup mail name p)) (Some (Lost (copy_name name p)))
 
-abbrev pub lose_answer : {L : Type 0} → Parts → RunState L → MsgName → ℕ → Result Event Refusal
-lose_answer setup state name p = planned_loss setup (mail_of state) name p
+abbrev pub loss_result : {L : Type 0} → Parts → RunState L → MsgName → ℕ → Result Event Refusal
+loss_result setup state name p = planned_loss setup (mail_of state) name p
 
 -- what taking an undone event again returns: the first refusal that holds, else the event
 abbrev pub planned_again : {L : Type 0} → Machine L → MailState → RegisterStates → Progress L → ℕ → ℕ → Kind → Result Event Refusal
 planned_again machine mail registers progress p k kind =
     unless_refused (first_refusal (again_checks machine mail registers progress p k kind)) (Some (Step p k kind))
 
-abbrev pub again_answer : {L : Type 0} → Machine L → Parts → RunState L → Event → Result Event Refusal
-again_answer machine setup state (Step p k kind) =
+abbrev pub again_result : {L : Type 0} → Machine L → Parts → RunState L → Event → Result Event Refusal
+again_result machine setup state (Step p k kind) =
     option_map_or (λ process. planned_again machine (mail_of state) state.registers process.progress p k kind)
     (nth state.processes p) (Err refusal.NoProcess)
-again_answer machine setup state (Lost copy) = lose_answer setup state copy.msg copy.to
+again_result machine setup state (Lost copy) = loss_result setup state copy.msg copy.to
 
 -- a query names a process of the run
 abbrev pub NamesProcess : ℕ → Kind → Type 0

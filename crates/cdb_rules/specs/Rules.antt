@@ -11,7 +11,7 @@ use Rattle.cdb_rules.specs.Decisions.{decisions_of}
 use Rattle.cdb_process.specs.Table.{Table}
 use Rattle.cdb_rules.specs.Machines.{machine_of}
 use Rattle.cdb_rules.specs.Mail.{mail_of}
-use Rattle.cdb_rules.specs.Refusals.{step_answer, lose_answer, again_answer}
+use Rattle.cdb_rules.specs.Refusals.{step_result, loss_result, again_result}
 use Rattle.cdb_rules.specs.State.{ProcessState}
 use Rattle.cdb_rules.specs.Step.{after, fold, state_of}
 use Rattle.cdb_setup.specs.Parts.{Parts}
@@ -57,9 +57,9 @@ rules_of table setup =
     record {
       valid = λ history. is_some (fold machine history);
       enabled = λ history event. is_some (after machine (state_of machine history) event);
-      step = λ history p act. step_answer machine setup (state_of machine history) p act;
-      lose = λ history name p. lose_answer setup (state_of machine history) name p;
-      again = λ history event. again_answer machine setup (state_of machine history) event;
+      step = λ history p act. step_result machine setup (state_of machine history) p act;
+      lose = λ history name p. loss_result setup (state_of machine history) name p;
+      again = λ history event. again_result machine setup (state_of machine history) event;
       process = λ history p. option_map (shown_of table) (nth (state_of machine history).processes p);
       mail = λ history. mail_of (state_of machine history);
       registers = λ history. (state_of machine history).registers;

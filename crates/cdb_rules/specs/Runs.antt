@@ -1,5 +1,5 @@
 -- What a contract says of a run: of its setup and its standing events, with the table of its machine.
-use Rattle.std.specs.Prelude.{◌≡◌, ℕ, ◌-◌, ◌≤◌, List, [], ◌∷◌, ◌++◌, Bool, Option, option_map, Result, Ok, Err, IfOk, OnOk, OnErr, IsOk, MatchOption, MatchResult, false, reverse}
+use Rattle.std.specs.Prelude.{◌≡◌, ℕ, ◌≤◌, List, [], ◌∷◌, ◌++◌, Bool, Option, option_map, Result, Ok, Err, IfOk, OnOk, OnErr, IsOk, MatchOption, MatchResult, false, reverse}
 use Rattle.cdb_base.specs.Event.{event_name}
 use Rattle.cdb_base.specs.Positions.{nth}
 use Rattle.cdb_base.specs.declared.act.Act.{Act}
@@ -13,7 +13,6 @@ use Rattle.cdb_causal.specs.Dependence.{depends}
 use Rattle.cdb_causal.specs.DirectCauses.{AreDirectCauses}
 use Rattle.cdb_causal.specs.Laws.{IsRollback}
 use Rattle.cdb_causal.specs.Names.{IsNamedAt}
-use Rattle.cdb_causal.specs.Rollback.{rolled_back, remaining}
 use Rattle.cdb_message.specs.Mail.{MailState, message_name, copy_name}
 use Rattle.cdb_process.specs.Table.{Table}
 use Rattle.cdb_register.specs.Registers.{RegisterStates, register_of}
@@ -22,11 +21,11 @@ use Rattle.cdb_rules.specs.RunView.{RunView}
 use Rattle.cdb_rules.specs.Decisions.{decisions_of}
 use Rattle.cdb_rules.specs.Machines.{machine_of}
 use Rattle.cdb_rules.specs.Mail.{mail_of}
-use Rattle.cdb_rules.specs.Refusals.{step_answer, lose_answer, again_answer, with_taken}
+use Rattle.cdb_rules.specs.Refusals.{step_result, loss_result, again_result, with_taken}
 use Rattle.cdb_rules.specs.State.{Machine, ProcessState, RunState}
 use Rattle.cdb_rules.specs.Step.{fold, is_among, state_of, IsEnabled, IsValid}
 use Rattle.cdb_rules.specs.declared.progress.Progress.{Progress}
-use Rattle.cdb_rules.specs.Undo.{Found, IsFreeName, event_named, found_at, for_standing, undo_found, undo_of, rollback_of, causes_of, answered, left_by, number_removed, with_removed}
+use Rattle.cdb_rules.specs.Undo.{IsFreeName, undo_of, rollback_of, causes_of, result_alone, left_by, number_removed, with_removed}
 
 -- ---- names
 
@@ -107,14 +106,14 @@ abbrev pub IsNext : {L : Type 0} → Table L → RunView → Event → Type 0
 IsNext table run event = IsEnabled (machine_in table run) (state_in table run) event
 
 -- the first refusal that holds, else the event: of a step, of an undone event taken again, and of a loss
-abbrev pub answer_to_step : {L : Type 0} → Table L → RunView → ℕ → Act → Result Event Refusal
-answer_to_step table run p act = step_answer (machine_in table run) run.setup (state_in table run) p act
+abbrev pub result_of_step : {L : Type 0} → Table L → RunView → ℕ → Act → Result Event Refusal
+result_of_step table run p act = step_result (machine_in table run) run.setup (state_in table run) p act
 
-abbrev pub answer_to_again : {L : Type 0} → Table L → RunView → Event → Result Event Refusal
-answer_to_again table run event = again_answer (machine_in table run) run.setup (state_in table run) event
+abbrev pub result_of_again : {L : Type 0} → Table L → RunView → Event → Result Event Refusal
+result_of_again table run event = again_result (machine_in table run) run.setup (state_in table run) event
 
-abbrev pub answer_to_loss : {L : Type 0} → Table L → RunView → ℕ → ℕ → ℕ → Result Event Refusal
-answer_to_loss table run s m p = lose_answer run.setup (state_in table run) (message_name s m) p
+abbrev pub result_of_loss : {L : Type 0} → Table L → RunView → ℕ → ℕ → ℕ → Result Event Refusal
+result_of_loss table run s m p = loss_result run.setup (state_in table run) (message_name s m) p
 
 -- ---- the run afterwards
 
@@ -126,14 +125,10 @@ abbrev pub with_event : RunView → Event → RunView
 with_event run event = with_history run (run.history ++ event ∷ [])
 
 -- with the event that was returned, if there is one
-abbrev pub with_answer : RunView → Result Event Refusal → RunView
-with_answer run answer = with_history run (with_taken run.history answer)
+abbrev pub with_result : RunView → Result Event Refusal → RunView
+with_result run result = with_history run (with_taken run.history result)
 
 -- ---- what is undone: the result, and the history that is left
-
--- the standing event of the name, and where it stands
-abbrev pub found_in : RunView → StepId → Result Found Refusal
-found_in run name = event_named run.setup.processes run.history name
 
 abbrev pub undo_in : RunView → StepId → Result (Event × List Event) Refusal
 undo_in run name = undo_of run.setup.processes run.history name
@@ -142,28 +137,18 @@ abbrev pub rollback_in : RunView → StepId → Result (List Event × List Event
 rollback_in run name = rollback_of run.setup.processes run.history name
 
 -- what an undo and a rollback return
-abbrev pub undo_answer : RunView → StepId → Result Event Refusal
-undo_answer run name = answered (undo_in run name)
+abbrev pub result_of_undo : RunView → StepId → Result Event Refusal
+result_of_undo run name = result_alone (undo_in run name)
 
-abbrev pub rollback_answer : RunView → StepId → Result (List Event) Refusal
-rollback_answer run name = answered (rollback_in run name)
+abbrev pub result_of_rollback : RunView → StepId → Result (List Event) Refusal
+result_of_rollback run name = result_alone (rollback_in run name)
 
 abbrev pub causes_in : RunView → StepId → Result (List StepId) Refusal
 causes_in run name = causes_of run.setup.processes run.history name
 
--- the same by a position of the history, from 0
-abbrev pub found_at_position : RunView → ℕ → Result Found Refusal
-found_at_position run position = found_at run.history position
-
-abbrev pub undo_at_position : RunView → ℕ → Result (Event × List Event) Refusal
-undo_at_position run position = for_standing (found_at_position run position) (undo_found run.history)
-
-abbrev pub rolled_back_at : RunView → ℕ → List Event
-rolled_back_at run position = rolled_back depends run.history position
-
 -- the run that such a result leaves; a refusal leaves it as it was
 abbrev pub with_left : {A : Type 0} → RunView → Result (A × List Event) Refusal → RunView
-with_left run answer = with_history run (left_by run.history answer)
+with_left run result = with_history run (left_by run.history result)
 
 abbrev pub after_undo : RunView → StepId → RunView
 after_undo run name = with_left run (undo_in run name)
@@ -171,27 +156,19 @@ after_undo run name = with_left run (undo_in run name)
 abbrev pub after_rollback : RunView → StepId → RunView
 after_rollback run name = with_left run (rollback_in run name)
 
-abbrev pub after_rollback_at : RunView → ℕ → RunView
-after_rollback_at run position = with_history run (remaining depends run.history position)
-
 -- the result says that, through a view of what it holds
 abbrev pub Tells : {A B E : Type 0} → (A → B) → Result A E → Result B E → Type 0
-Tells view answer told = MatchResult answer (λ a. told ≡ Ok (view a)) (λ why. told ≡ Err why)
+Tells view result told = MatchResult result (λ a. told ≡ Ok (view a)) (λ why. told ≡ Err why)
 
--- the result is the position, from 1, of the event of the name, or why there is none
-abbrev pub IsPositionFound : RunView → StepId → Result ℕ Refusal → Type 0
-IsPositionFound run name answer =
-    MatchResult answer (λ at. found_in run name ≡ found_at_position run (at - 1)) (λ why. found_in run name ≡ Err why)
-
--- where a rollback is granted, it takes back the event of the name with exactly its consequences, and all else is left in order
+-- where a rollback is granted, it removes the event of the name with exactly its consequences, and all else is left in order
 abbrev pub IsExactRollback : RunView → StepId → RunView → Type 0
 IsExactRollback run name left =
-    IfOk (rollback_answer run name)
+    IfOk (result_of_rollback run name)
     (λ removed. (i : ℕ) × IsNamedAt run.history i name × IsRollback depends run.history i left.history (reverse removed))
 
--- what it takes back, the last first; nothing where it is refused
+-- what it removes, the last first; nothing where it is refused
 abbrev pub removed_by_rollback : RunView → StepId → List Event
-removed_by_rollback run name = with_removed [] (rollback_answer run name)
+removed_by_rollback run name = with_removed [] (result_of_rollback run name)
 
 -- the names are those of the direct causes of the event of that name, in order
 abbrev pub AreCausesOf : RunView → StepId → List StepId → Type 0
@@ -215,16 +192,16 @@ IsJustTaken run event before = undo_in run (event_name event) ≡ Ok (event, bef
 abbrev pub CanUndo : RunView → StepId → Type 0
 CanUndo run name = IsFreeName run.history name
 
--- what a rollback took back leads back: taken again in order, to the state of the run before
+-- what a rollback removed leads back: taken again in order, to the state of the run before
 abbrev pub RollbackLeadsBack : {L : Type 0} → Table L → RunView → StepId → RunView → Type 0
 RollbackLeadsBack table run name left = AllLeadTo table left (reverse (removed_by_rollback run name)) run
 
--- A rollback that adds what it takes back to the end of a list, and returns how many events that are: with a refusal
--- nothing is taken back, and out of memory run and list are as they were; a refusal needs no memory.
+-- A rollback that adds what it removes to the end of a list, and returns how many events that are: with a refusal
+-- nothing is removed, and out of memory run and list are as they were; a refusal needs no memory.
 pub record RollsBackOnto {E : Type 0} (run left : RunView) (name : StepId) (onto grown : List Event) (result : Result (Result ℕ Refusal) E) : Type 0 where
-  pub answer : IfOk result (λ answer. answer ≡ number_removed (rollback_answer run name))
+  pub returns : IfOk result (λ count. count ≡ number_removed (result_of_rollback run name))
   pub after : OnOk result (left ≡ after_rollback run name)
-  pub list : OnOk result (grown ≡ with_removed onto (rollback_answer run name))
+  pub list : OnOk result (grown ≡ with_removed onto (result_of_rollback run name))
   pub err : OnErr result (left ≡ run)
   pub list_err : OnErr result (grown ≡ onto)
-  pub memory : OnErr result (IsOk (rollback_answer run name))
+  pub memory : OnErr result (IsOk (result_of_rollback run name))

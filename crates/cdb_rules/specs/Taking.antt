@@ -1,16 +1,17 @@
 -- A step as the code takes it: what it meets outside of its process, what its machine is given, and what it leaves.
-use Rattle.std.specs.Prelude.{ℕ, ◌+◌, Bool, false, Option, Some, None, option_map, if◌then◌else◌}
+use Rattle.std.specs.Prelude.{ℕ, ◌+◌, Bool, false, Option, Some, None, option_map, if◌then◌else◌, ◌≡◌, ◌<◌, ◌≤◌, length, IsTrue}
 use Rattle.cdb_base.specs.declared.event.Kind.{Kind}
 use Rattle.cdb_base.specs.declared.event.Kind.TheVariants.{Query, Send, Recv, Read, Write, Local, Learn, Crash}
 use Rattle.cdb_base.specs.declared.name.MsgName.{MsgName}
 use Rattle.cdb_base.specs.declared.payload.Payload.{Payload}
 use Rattle.cdb_base.specs.declared.register.Cell.{Cell}
-use Rattle.cdb_message.specs.Mail.{MailState, message_name, copy_name, payload_of, is_lost}
+use Rattle.cdb_message.specs.Mail.{MailState, message_name, copy_name, payload_of, is_lost, sent_by, is_sent, is_received, add_send, add_receive}
 use Rattle.cdb_process.specs.declared.Input.{Input}
 use Rattle.cdb_process.specs.declared.Input.TheVariants as input
-use Rattle.cdb_register.specs.Registers.{RegisterStates, register_of, with_register, written}
+use Rattle.cdb_register.specs.Registers.{RegisterStates, register_of, with_register, put_cell}
 use Rattle.cdb_register.specs.declared.RegisterState.{RegisterState}
 use Rattle.cdb_rules.specs.declared.progress.Progress.{Progress}
+use Rattle.cdb_base.specs.declared.limits.TheConstants.{MAX_STEPS}
 
 -- at a receive the message's payload, where the copy is not lost; at a read or a write the register as it stands
 pub record Sight : Type 0 where
@@ -61,5 +62,19 @@ progress_after progress kind next =
     }
 
 abbrev pub registers_after : RegisterStates → Kind → Option Cell → RegisterStates
-registers_after registers (Write register) (Some cell) = with_register (written cell) registers register
+registers_after registers (Write register) (Some cell) = with_register (put_cell cell) registers register
 registers_after registers _ _ = registers
+
+-- the mail after a step of p
+abbrev pub mail_after : MailState → ℕ → Kind → Option Payload → MailState
+mail_after mail p (Send m) (Some payload) = add_send mail p payload
+mail_after mail p (Recv s m) payload = add_receive mail p (message_name s m)
+mail_after mail p _ payload = mail
+
+-- p can send one message more, or its copy of the message was sent and neither received nor lost
+abbrev pub IsPostable : MailState → ℕ → Kind → Type 0
+IsPostable mail p (Send m) = (p ≤ length mail.sent) × (length (sent_by mail p) < MAX_STEPS)
+IsPostable mail p (Recv s m) =
+    (p ≤ length mail.received) × IsTrue (is_sent mail (message_name s m)) × (is_received mail p (message_name s m) ≡ false)
+    × (is_lost mail (copy_name (message_name s m) p) ≡ false)
+IsPostable mail p _ = Unit {0}

@@ -1,4 +1,4 @@
--- What is taken back, and why it is not.
+-- What is undone, and why it is not.
 use Rattle.std.specs.Prelude.{◌≡◌, ℕ, suc, Bool, true, false, ◌&&◌, ◌==◌, List, [], ◌∷◌, ◌++◌, Some, Result, Ok, Err, find, drop, take, filter, map, reverse, flat_map, slice_get, length, if◌then◌else◌}
 use Rattle.std.specs.List.{position}
 use Rattle.std.specs.Option.{option_map_or}
@@ -54,8 +54,8 @@ event_named n history name =
 
 -- the result for a standing event, or the refusal
 abbrev pub for_standing : {A : Type 0} → Result Found Refusal → (Found → Result A Refusal) → Result A Refusal
-for_standing (Ok found) answer = answer found
-for_standing (Err why) answer = Err why
+for_standing (Ok found) go = go found
+for_standing (Err why) go = Err why
 
 -- an event of the name stands on which no later one depends
 abbrev pub IsFreeName : List Event → StepId → Type 0
@@ -71,9 +71,9 @@ abbrev pub undo_of : ℕ → List Event → StepId → Result (Event × List Eve
 undo_of n history name = for_standing (event_named n history name) (undo_found history)
 
 -- the result alone, of one that comes with the history that it leaves
-abbrev pub answered : {A : Type 0} → Result (A × List Event) Refusal → Result A Refusal
-answered (Ok done) = Ok done.0
-answered (Err why) = Err why
+abbrev pub result_alone : {A : Type 0} → Result (A × List Event) Refusal → Result A Refusal
+result_alone (Ok done) = Ok done.0
+result_alone (Err why) = Err why
 
 -- the history that a result leaves; a refusal leaves it as it was
 abbrev pub left_by : {A : Type 0} → List Event → Result (A × List Event) Refusal → List Event

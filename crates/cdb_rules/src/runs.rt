@@ -3,14 +3,15 @@
 ghost use Rattle.std.specs.Prelude.{◌≡◌, ◌≤◌, List, [], None, IfOk, OnErr, IsOk, true, length, option_map, vec_capacity};
 ghost use Rattle.std.specs.Option.{option_copied};
 ghost use Rattle.std.specs.Result.{result_err};
+ghost use Rattle.cdb_base.specs.declared.limits.TheConstants.{MAX_ENTRIES};
 ghost use Rattle.cdb_base.specs.declared.event.Event.{Event};
 ghost use Rattle.cdb_rules.specs.Auto.{first_step_by};
-ghost use Rattle.cdb_rules.specs.ByRules.{answer_to_step, answer_to_again, answer_to_loss, process_in, mail_in, registers_in, cell_in, decisions_in, IsInOrder};
+ghost use Rattle.cdb_rules.specs.ByRules.{result_of_step, result_of_again, result_of_loss, process_in, mail_in, registers_in, cell_in, decisions_in, IsInOrder};
 ghost use Rattle.cdb_rules.specs.RunView.{RunView};
 ghost use Rattle.cdb_rules.specs.Lawful.{AreLawful, KeepHistories};
 ghost use Rattle.cdb_rules.specs.Refusals.{IsOfRun};
 ghost use Rattle.cdb_rules.specs.Rules.{Rules};
-ghost use Rattle.cdb_rules.specs.Runs.{RollsBackOnto, Tells, undo_answer, causes_in, with_answer, after_undo};
+ghost use Rattle.cdb_rules.specs.Runs.{RollsBackOnto, Tells, result_of_undo, causes_in, with_result, after_undo};
 ghost use Rattle.cdb_rules.specs.Step.{is_among};
 ghost use Rattle.cdb_rules.specs.EventRefs.{name_given};
 ghost use Rattle.cdb_rules.specs.Views.{seen_as, cells_of, all_open_copies};
@@ -44,17 +45,17 @@ pub trait Runs: Sized + Drop {
     /// Takes the step of process `p` that an act names, or returns the first refusal that holds. After
     /// a refusal and after `NoMemory` the run is as it was.
     fn step(&mut self, alloc: Global, p: u32, act: Act) -> Result<Result<Event, Refusal>, NoMemory>
-        ensures answer { IfOk result (λ r. r ≡ answer_to_step rules (run self.old) p act) }
-        ensures after { IfOk result (λ r. run self.new ≡ with_answer (run self.old) r) }
+        ensures returns { IfOk result (λ r. r ≡ result_of_step rules (run self.old) p act) }
+        ensures after { IfOk result (λ r. run self.new ≡ with_result (run self.old) r) }
         ensures err { OnErr result (run self.new ≡ run self.old) }
-        ensures memory { OnErr result (IsOk (answer_to_step rules (run self.old) p act)) };
+        ensures memory { OnErr result (IsOk (result_of_step rules (run self.old) p act)) };
 
     /// Takes the first step of process `p`, from 1 to their number, of those that `auto` tries which is not refused,
     /// or returns `Idle`. After a refusal and after `NoMemory` the run is as it was.
     fn step_first(&mut self, alloc: Global, p: u32) -> Result<Result<Event, Refusal>, NoMemory>
         requires { is_among (run self.old).setup.processes p ≡ true }
-        ensures answer { IfOk result (λ r. r ≡ first_step_by rules (run self.old) p) }
-        ensures after { IfOk result (λ r. run self.new ≡ with_answer (run self.old) r) }
+        ensures returns { IfOk result (λ r. r ≡ first_step_by rules (run self.old) p) }
+        ensures after { IfOk result (λ r. run self.new ≡ with_result (run self.old) r) }
         ensures err { OnErr result (run self.new ≡ run self.old) }
         ensures memory { OnErr result (IsOk (first_step_by rules (run self.old) p)) };
 
@@ -67,46 +68,46 @@ pub trait Runs: Sized + Drop {
         m: u32,
         p: u32,
     ) -> Result<Result<Event, Refusal>, NoMemory>
-        ensures answer { IfOk result (λ r. r ≡ answer_to_loss rules (run self.old) s m p) }
-        ensures after { IfOk result (λ r. run self.new ≡ with_answer (run self.old) r) }
+        ensures returns { IfOk result (λ r. r ≡ result_of_loss rules (run self.old) s m p) }
+        ensures after { IfOk result (λ r. run self.new ≡ with_result (run self.old) r) }
         ensures err { OnErr result (run self.new ≡ run self.old) }
-        ensures memory { OnErr result (IsOk (answer_to_loss rules (run self.old) s m p)) };
+        ensures memory { OnErr result (IsOk (result_of_loss rules (run self.old) s m p)) };
 
     /// Takes an undone event of the run again, or returns the first refusal that holds. After a refusal
     /// and after `NoMemory` the run is as it was.
     fn again(&mut self, alloc: Global, event: &Event) -> Result<Result<Event, Refusal>, NoMemory>
         requires { IsOfRun (run self.old).setup event.now }
-        ensures answer { IfOk result (λ r. r ≡ answer_to_again rules (run self.old) event.now) }
-        ensures after { IfOk result (λ r. run self.new ≡ with_answer (run self.old) r) }
+        ensures returns { IfOk result (λ r. r ≡ result_of_again rules (run self.old) event.now) }
+        ensures after { IfOk result (λ r. run self.new ≡ with_result (run self.old) r) }
         ensures err { OnErr result (run self.new ≡ run self.old) }
-        ensures memory { OnErr result (IsOk (answer_to_again rules (run self.old) event.now)) };
+        ensures memory { OnErr result (IsOk (result_of_again rules (run self.old) event.now)) };
 
-    /// Takes a standing event back on which no standing event depends, or returns the first refusal
+    /// Undoes a standing event on which no standing event depends, or returns the first refusal
     /// that holds, and then the run is as it was.
-    fn undo(&mut self, name: EventRef) -> Result<Event, Refusal>
-        ensures answer { result ≡ undo_answer (run self.old) (name_given name) }
-        ensures after { run self.new ≡ after_undo (run self.old) (name_given name) };
+    fn undo(&mut self, event: EventRef) -> Result<Event, Refusal>
+        ensures returns { result ≡ result_of_undo (run self.old) (name_given event) }
+        ensures after { run self.new ≡ after_undo (run self.old) (name_given event) };
 
     /// What `undo` would be refused with, if it would be.
-    fn refuses_undo(&self, name: EventRef) -> Option<Refusal>
-        ensures { result ≡ result_err (undo_answer (run self.now) (name_given name)) };
+    fn refuses_undo(&self, event: EventRef) -> Option<Refusal>
+        ensures { result ≡ result_err (result_of_undo (run self.now) (name_given event)) };
 
-    /// Takes a standing event back with its consequences, adds them to a list, the last first, and
+    /// Removes a standing event with its consequences, adds them to a list, the last first, and
     /// returns how many they are. After a refusal and after `NoMemory` run and list are as they were.
     fn rollback(
         &mut self,
         alloc: Global,
-        name: EventRef,
-        taken: &mut Vec<Event>,
+        event: EventRef,
+        removed: &mut Vec<Event>,
     ) -> Result<Result<u32, Refusal>, NoMemory>
-        requires { length (run self.old).history ≤ 999999 }
-        ensures rolled_back { RollsBackOnto (run self.old) (run self.new) (name_given name)
-            taken.old.items taken.new.items result }
-        ensures capacity { vec_capacity taken.old ≤ vec_capacity taken.new };
+        requires { length (run self.old).history ≤ MAX_ENTRIES }
+        ensures rolled_back { RollsBackOnto (run self.old) (run self.new) (name_given event)
+            removed.old.items removed.new.items result }
+        ensures capacity { vec_capacity removed.old ≤ vec_capacity removed.new };
 
     /// What `step` would be refused with, if it would be.
     fn refuses(&self, p: u32, act: Act) -> Option<Refusal>
-        ensures { result ≡ result_err (answer_to_step rules (run self.now) p act) };
+        ensures { result ≡ result_err (result_of_step rules (run self.now) p act) };
 
     /// The setup.
     fn setup(&self) -> &Setup
@@ -139,11 +140,11 @@ pub trait Runs: Sized + Drop {
     fn explain(
         &self,
         alloc: Global,
-        name: EventRef,
+        event: EventRef,
     ) -> Result<(StepId, SmallVec<StepId, 9>), Refusal>
-        ensures name { IfOk result (λ r. r.0 ≡ name_given name) }
+        ensures name { IfOk result (λ r. r.0 ≡ name_given event) }
         ensures causes { Tells (λ r. r.1.items) result
-            (causes_in (run self.now) (name_given name)) };
+            (causes_in (run self.now) (name_given event)) };
 
     /// The process of that number as it is shown, where there is one.
     fn view(&self, p: u32) -> Option<ProcView>

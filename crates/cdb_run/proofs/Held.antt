@@ -23,13 +23,13 @@ use Rattle.cdb_register.specs.Registers.{RegisterStates, register_of}
 use Rattle.cdb_register.specs.declared.RegisterState.{RegisterState}
 use Rattle.cdb_run.specs.Back.{put_back, overwritten_cell}
 use Rattle.cdb_run.specs.Current.{IsCurrent}
-use Rattle.cdb_rules.specs.Mail.{mail_of, mail_after, IsPostable}
+use Rattle.cdb_rules.specs.Mail.{mail_of}
+use Rattle.cdb_rules.specs.Taking.{mail_after, IsPostable, sight, input_of, taken_local, progress_after, registers_after}
 use Rattle.cdb_run.specs.Recorded.{IsRecorded}
 use Rattle.cdb_run.specs.Registers.{IsWritable}
 use Rattle.cdb_rules.specs.State.{Machine, ProcessState, RunState, start}
 use Rattle.cdb_process.specs.Wishes.{wished_payload, wished_cell}
 use Rattle.cdb_rules.specs.Step.{is_among, may_lose, after, fold, state_of}
-use Rattle.cdb_rules.specs.Taking.{sight, input_of, taken_local, progress_after, registers_after}
 use Rattle.cdb_rules.proofs.Stages.{sight_in, meets, is_due, process_after}
 use Rattle.cdb_rules.specs.declared.progress.Progress.{Progress}
 use Rattle.cdb_rules.proofs.Bounds.{IsSound, event_sound, start_sound, writes_below}

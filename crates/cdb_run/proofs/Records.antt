@@ -10,7 +10,8 @@ use Rattle.cdb_base.specs.declared.event.Kind.TheVariants.{Write}
 use Rattle.cdb_causal.specs.Causality.{IsFree}
 use Rattle.cdb_causal.specs.Dependence.{depends}
 use Rattle.cdb_causal.specs.Effects.{kind_affects}
-use Rattle.cdb_causal.specs.Paths.{IsPath, IsExchangeable}
+use Rattle.cdb_causal.specs.Paths.{IsPath}
+use Rattle.cdb_causal.specs.Exchanging.{IsExchangeable}
 use Rattle.cdb_causal.specs.Rollback.{without}
 use Rattle.cdb_causal.proofs.Paths.{free_last}
 use Rattle.cdb_causal.proofs.Reaches.{two_parts, two_taken}

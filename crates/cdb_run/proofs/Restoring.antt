@@ -24,17 +24,17 @@ use Rattle.cdb_message.proofs.TakenBack.{remove_receive-add_receive, remove_loss
 use Rattle.cdb_record.specs.Recorded.{events_of}
 use Rattle.cdb_record.specs.declared.recorded.Recorded.{Recorded}
 use Rattle.cdb_register.proofs.Changes.{with_register-back}
-use Rattle.cdb_register.specs.Registers.{RegisterStates, register_of, with_register, written}
+use Rattle.cdb_register.specs.Registers.{RegisterStates, register_of, with_register, put_cell}
 use Rattle.cdb_register.specs.declared.RegisterState.{RegisterState}
 use Rattle.cdb_run.specs.Back.{put_back, overwritten_cell}
 use Rattle.cdb_run.specs.Current.{IsCurrent}
-use Rattle.cdb_rules.specs.Mail.{mail_of, mail_after}
+use Rattle.cdb_rules.specs.Mail.{mail_of}
+use Rattle.cdb_rules.specs.Taking.{mail_after, sight, queries_after, registers_after}
 use Rattle.cdb_run.specs.Recorded.{IsRecorded, PutsBack, overwritten_by}
 use Rattle.cdb_run.specs.Restored.{queries_before, progress_before, mail_before, registers_before, IsCountable, IsUnpostable, IsRestorable}
 use Rattle.cdb_rules.specs.State.{Machine, ProcessState, RunState, start}
 use Rattle.cdb_process.specs.Wishes.{wished_payload, wished_cell}
 use Rattle.cdb_rules.specs.Step.{after}
-use Rattle.cdb_rules.specs.Taking.{sight, queries_after, registers_after}
 use Rattle.cdb_rules.proofs.Stages.{sight_in, meets, is_due, sent_after}
 use Rattle.cdb_rules.specs.declared.progress.Progress.{Progress}
 use Rattle.cdb_rules.proofs.Commutes.{lost_from}
@@ -99,8 +99,8 @@ overwritten_there registers register there =
     let stands = some_of (register_of registers register) there in
     (stands.0, stands.1, ap (option_map (λ (x : RegisterState). x.cell)) stands.1)
 
-register_written : (registers : RegisterStates) (register : Reg) (cell : Cell) → register_of (with_register (written cell) registers register) register ≡ option_map (written cell) (register_of registers register)
-register_written registers (R p) cell = nth-update_nth_same (written cell) registers.of_processes p
+register_written : (registers : RegisterStates) (register : Reg) (cell : Cell) → register_of (with_register (put_cell cell) registers register) register ≡ option_map (put_cell cell) (register_of registers register)
+register_written registers (R p) cell = nth-update_nth_same (put_cell cell) registers.of_processes p
 register_written registers Dec cell = refl
 
 module _ {L : Type 0} (machine : Machine L) (process : ProcessState L) (mail : MailState) (registers : RegisterStates) (p : ℕ) where
@@ -117,10 +117,10 @@ module _ {L : Type 0} (machine : Machine L) (process : ProcessState L) (mail : M
   restorable (Write register) due met =
       let cell = some_of (wished_cell (machine.wish process.progress.local)) due in
       let there = overwritten_there registers register met in
-      let is : register_of (registers_after registers (Write register) (wished_cell (machine.wish process.progress.local))) register ≡ Some (written cell.0 there.0) =
-      ap (λ c. register_of (registers_after registers (Write register) c) register) cell.1 ∙ register_written registers register cell.0 ∙ ap (option_map (written cell.0)) there.1 in (
+      let is : register_of (registers_after registers (Write register) (wished_cell (machine.wish process.progress.local))) register ≡ Some (put_cell cell.0 there.0) =
+      ap (λ c. register_of (registers_after registers (Write register) c) register) cell.1 ∙ register_written registers register cell.0 ∙ ap (option_map (put_cell cell.0)) there.1 in (
         subst IsSome (sym is) refl,
-        λ stands at. subst (λ (x : RegisterState). 0 < x.writes) (same_Some (written cell.0 there.0) stands (sym is ∙ at)) (omega arith),
+        λ stands at. subst (λ (x : RegisterState). 0 < x.writes) (same_Some (put_cell cell.0 there.0) stands (sym is ∙ at)) (omega arith),
         subst IsSome (sym there.2) refl,
       )
   restorable _ due met = tt

@@ -19,9 +19,9 @@ use Rattle.cdb_rules.specs.RunView.{RunView}
 use Rattle.cdb_rules.specs.Runs.{with_left, after_rollback}
 use Rattle.cdb_rules.specs.State.{Machine}
 use Rattle.cdb_rules.specs.Step.{IsValid}
-use Rattle.cdb_rules.specs.Undo.{Found, event_named, found_at, for_standing, rollback_of, causes_of, answered, left_by, number_removed, with_removed, direct_among}
-use Rattle.cdb_rules.proofs.Answered.{found_named}
-use Rattle.cdb_rules.proofs.Answering.{found_is}
+use Rattle.cdb_rules.specs.Undo.{Found, event_named, found_at, for_standing, rollback_of, causes_of, result_alone, left_by, number_removed, with_removed, direct_among}
+use Rattle.cdb_rules.proofs.WhereOk.{found_named}
+use Rattle.cdb_rules.proofs.Results.{found_is}
 use Rattle.cdb_run.proofs.Causes.{causes_are}
 
 -- the last of the names is that of the last of the events
@@ -51,21 +51,21 @@ split (x ∷ xs) (r ∷ rest) name h =
 
 -- What is left to take back, by names, of the event at position i and its consequences, the first of which is that event; what
 -- has been taken back stands at the end of the list into which it goes.
-pub record IsLeft (before : List Event) (i : ℕ) (into : List Event) (history : List Event) (names : List StepId) (taken : List Event) : Type 0 where
+pub record IsLeft (before : List Event) (i : ℕ) (into : List Event) (history : List Event) (names : List StepId) (removed : List Event) : Type 0 where
   pub event : Event
   pub left : List Event
   pub rolled : rolled_back depends history i ≡ event ∷ left
   pub names_are : names ≡ map event_name left
   pub remains : remaining depends history i ≡ remaining depends before i
-  pub went : taken ++ reverse (event ∷ left) ≡ into ++ reverse (rolled_back depends before i)
+  pub went : removed ++ reverse (event ∷ left) ≡ into ++ reverse (rolled_back depends before i)
 
 -- only the event itself is left
-pub record IsAlone (before : List Event) (i : ℕ) (into history taken : List Event) : Type 0 where
+pub record IsAlone (before : List Event) (i : ℕ) (into history removed : List Event) : Type 0 where
   pub event : Event
   pub at : slice_get history i ≡ Some event
   pub free : IsFree depends history i
   pub remains : without history i ≡ remaining depends before i
-  pub went : taken ++ event ∷ [] ≡ into ++ reverse (rolled_back depends before i)
+  pub went : removed ++ event ∷ [] ≡ into ++ reverse (rolled_back depends before i)
 
 module _ (before : List Event) (i : ℕ) (into : List Event) where
   pub left_first : (event : Event) → slice_get before i ≡ Some event → IsLeft before i into before (map event_name (consequences depends before i)) into
@@ -86,9 +86,9 @@ module _ (before : List Event) (i : ℕ) (into : List Event) where
       let names = length-map (consequences depends before i) event_name in
       omega (arith, rolled, names)
 
-  module _ {history : List Event} {taken : List Event} where
-    pub next_free : (rest : List StepId) (name : StepId) → IsLeft before i into history (rest ++ name ∷ []) taken
-        → (j : ℕ) × IsNamedAt history j name × IsFree depends history j × ((event : Event) → slice_get history j ≡ Some event → IsLeft before i into (without history j) rest (taken ++ event ∷ []))
+  module _ {history : List Event} {removed : List Event} where
+    pub next_free : (rest : List StepId) (name : StepId) → IsLeft before i into history (rest ++ name ∷ []) removed
+        → (j : ℕ) × IsNamedAt history j name × IsFree depends history j × ((event : Event) → slice_get history j ≡ Some event → IsLeft before i into (without history j) rest (removed ++ event ∷ []))
     next_free rest name h =
         let s = split h.left rest name h.names_are in
         let q = rolled_back_last depends history i h.event s.last s.more (h.rolled ∙ ap (λ l. h.event ∷ l) s.left_is) in (
@@ -103,15 +103,15 @@ module _ (before : List Event) (i : ℕ) (into : List Event) where
                 names_are = s.rest_is;
                 remains = q.4 ∙ h.remains;
                 went =
-                    append_assoc taken (event ∷ []) (reverse (h.event ∷ s.more))
-                    ∙ ap (λ e. taken ++ e ∷ reverse (h.event ∷ s.more)) (same_Some event s.last (sym at ∙ q.1))
-                    ∙ ap (λ l. taken ++ l) (sym (reverse-append (h.event ∷ s.more) (s.last ∷ [])))
-                    ∙ ap (λ l. taken ++ reverse (h.event ∷ l)) (sym s.left_is)
+                    append_assoc removed (event ∷ []) (reverse (h.event ∷ s.more))
+                    ∙ ap (λ e. removed ++ e ∷ reverse (h.event ∷ s.more)) (same_Some event s.last (sym at ∙ q.1))
+                    ∙ ap (λ l. removed ++ l) (sym (reverse-append (h.event ∷ s.more) (s.last ∷ [])))
+                    ∙ ap (λ l. removed ++ reverse (h.event ∷ l)) (sym s.left_is)
                     ∙ h.went;
               },
         )
 
-    pub alone_left : (names : List StepId) {len : ℕ} → len ≡ length names → len ≡ 0 → IsLeft before i into history names taken → IsAlone before i into history taken
+    pub alone_left : (names : List StepId) {len : ℕ} → len ≡ length names → len ≡ 0 → IsLeft before i into history names removed → IsAlone before i into history removed
     alone_left names {len = len} is none h =
         let no_more : h.left ≡ [] = empty h.left (sym (ap length h.names_are ∙ length-map h.left event_name) ∙ sym is ∙ none) in
         let q = rolled_back_alone depends history i h.event (h.rolled ∙ ap (λ l. h.event ∷ l) no_more) in
@@ -120,7 +120,7 @@ module _ (before : List Event) (i : ℕ) (into : List Event) where
           at = q.0;
           free = q.1;
           remains = q.2 ∙ h.remains;
-          went = ap (λ l. taken ++ reverse (h.event ∷ l)) (sym no_more) ∙ h.went;
+          went = ap (λ l. removed ++ reverse (h.event ∷ l)) (sym no_more) ∙ h.went;
         }
       where
         empty : (left : List Event) → length left ≡ 0 → left ≡ []
@@ -138,34 +138,34 @@ module _ (n : ℕ) (history : List Event) (name : StepId) (at : ℕ) (found : ev
   pub found_event : (event : Event) × (slice_get history (at - 1) ≡ Some event)
   found_event = let first = within.0 in let last = within.1 in stands_at history (at - 1) (omega (arith, first, last))
 
-  pub rolled_answer : rollback_of n history name ≡ Ok (reverse (rolled_back depends history (at - 1)), remaining depends history (at - 1))
-  rolled_answer =
+  pub rolled_result : rollback_of n history name ≡ Ok (reverse (rolled_back depends history (at - 1)), remaining depends history (at - 1))
+  rolled_result =
       ap (λ f. for_standing f (λ stands. Ok (reverse (rolled_back depends history stands.position), remaining depends history stands.position)))
       (found ∙ found_is history (at - 1) found_event.0 found_event.1)
 
-  pub number_answer : (number : ℕ) → number ≡ length (rolled_back depends history (at - 1)) → Ok number ≡ number_removed (answered (rollback_of n history name))
-  number_answer number is = ap Ok (is ∙ sym (length-reverse (rolled_back depends history (at - 1)))) ∙ sym (ap (λ a. number_removed (answered a)) rolled_answer)
+  pub number_result : (number : ℕ) → number ≡ length (rolled_back depends history (at - 1)) → Ok number ≡ number_removed (result_alone (rollback_of n history name))
+  number_result number is = ap Ok (is ∙ sym (length-reverse (rolled_back depends history (at - 1)))) ∙ sym (ap (λ a. number_removed (result_alone a)) rolled_result)
 
-  pub history_answer : (left : List Event) → left ≡ remaining depends history (at - 1) → left ≡ left_by history (rollback_of n history name)
-  history_answer left is = is ∙ sym (ap (left_by history) rolled_answer)
+  pub history_result : (left : List Event) → left ≡ remaining depends history (at - 1) → left ≡ left_by history (rollback_of n history name)
+  history_result left is = is ∙ sym (ap (left_by history) rolled_result)
 
-  pub list_answer : (old new : List Event) → new ≡ old ++ reverse (rolled_back depends history (at - 1)) → new ≡ with_removed old (answered (rollback_of n history name))
-  list_answer old new is = is ∙ sym (ap (λ a. with_removed old (answered a)) rolled_answer)
+  pub list_result : (old new : List Event) → new ≡ old ++ reverse (rolled_back depends history (at - 1)) → new ≡ with_removed old (result_alone (rollback_of n history name))
+  list_result old new is = is ∙ sym (ap (λ a. with_removed old (result_alone a)) rolled_result)
 
   -- the event that was found has the name
-  pub named_answer : IsNamedAt history (at - 1) name
-  named_answer = found_named n history name (at - 1) found_event.0 found_event.1 found
+  pub named_result : IsNamedAt history (at - 1) name
+  named_result = found_named n history name (at - 1) found_event.0 found_event.1 found
 
   -- Why, by the direct causes that are looked for.
-  pub causes_answer : {L : Type 0} (machine : Machine L) → IsValid machine history → length machine.firsts ≤ 9 → (names : List StepId) → AreDirectCauses history (at - 1) names → causes_of n history name ≡ Ok names
-  causes_answer machine valid few names are =
+  pub causes_result : {L : Type 0} (machine : Machine L) → IsValid machine history → length machine.firsts ≤ 9 → (names : List StepId) → AreDirectCauses history (at - 1) names → causes_of n history name ≡ Ok names
+  causes_result machine valid few names are =
       ap (λ f. for_standing f (λ stands. Ok (map event_name (flat_map (λ p. filter (is_step_of p) (direct_among stands.earlier stands.event)) all_processes))))
       (found ∙ found_is history (at - 1) found_event.0 found_event.1)
       ∙ ap Ok (sym (causes_are machine history valid few (at - 1) found_event.0 found_event.1 names are))
 
 -- a rollback that is refused leaves the run as it was
-pub refused_answer : (run : RunView) (name : StepId) (why : Refusal) → event_named run.setup.processes run.history name ≡ Err why → after_rollback run name ≡ run
-refused_answer run name why is =
+pub refused_result : (run : RunView) (name : StepId) (why : Refusal) → event_named run.setup.processes run.history name ≡ Err why → after_rollback run name ≡ run
+refused_result run name why is =
     ap
     (λ (f : Result Found Refusal). with_left run (for_standing f (λ stands. Ok (reverse (rolled_back depends run.history stands.position), remaining depends run.history stands.position))))
     is

@@ -12,7 +12,8 @@ use Rattle.cdb_causal.specs.Dependence.{depends}
 use Rattle.cdb_causal.specs.Exchange.{IsExchanged, IsIn, here, there}
 use Rattle.cdb_message.specs.Mail.{MailState, is_lost}
 use Rattle.cdb_rules.specs.Mail.{mail_of}
-use Rattle.cdb_rules.specs.OwnSteps.{own_steps, own_of, is_lost_too, AreAlike}
+use Rattle.cdb_rules.specs.OwnSteps.{own_steps, own_of}
+use Rattle.cdb_rules.specs.Comparing.{is_lost_too, AreAlike}
 use Rattle.cdb_rules.specs.State.{Machine, ProcessState, RunState, fresh_process, start}
 use Rattle.cdb_rules.specs.Step.{after, fold, IsValid, state_of}
 use Rattle.cdb_rules.proofs.FoldKeeps.{reached_keeps}
@@ -35,10 +36,10 @@ all_from : {X : Type 0} (test : X → Bool) (xs : List X) → ((x : X) → IsIn 
 all_from test [] each = refl
 all_from test (y ∷ ys) each = ap (λ b. b && list_all test ys) (each y here) ∙ all_from test ys (λ x i. each x (there i))
 
-same_answer : (a b : Bool) → (a ≡ true → b ≡ true) → (b ≡ true → a ≡ true) → a ≡ b
-same_answer true b h g = sym (h refl)
-same_answer false true h g = g refl
-same_answer false false h g = refl
+same_bool : (a b : Bool) → (a ≡ true → b ≡ true) → (b ≡ true → a ≡ true) → a ≡ b
+same_bool true b h g = sym (h refl)
+same_bool false true h g = g refl
+same_bool false false h g = refl
 
 nothing_at : {X : Type 0} (xs : List X) (p : ℕ) → length xs < p → nth xs p ≡ None
 nothing_at [] zero beyond = refl
@@ -104,7 +105,7 @@ module _ {L : Type 0} (machine : Machine L) where
         record {
           own = λ p k. own_at-own_of to p k ∙ ap (λ l. nth l k) (same_own alike p) ∙ sym (own_at-own_of other p k);
           lost = λ copy.
-              same_answer (is_lost (mail_of to) copy) (is_lost (mail_of other) copy)
+              same_bool (is_lost (mail_of to) copy) (is_lost (mail_of other) copy)
               (λ is. all_in (is_lost_too (mail_of other)) history alike.2 (Lost copy) (lost_in history to h copy is))
               (λ is. all_in (is_lost_too (mail_of to)) others alike.1 (Lost copy) (lost_in others other g copy is));
         }
@@ -130,24 +131,24 @@ module _ {L : Type 0} (machine : Machine L) where
     alike_exchanges = (alike_exchanged, λ exchanged. alike_folds.1 (fold_exchanged machine history others exchanged))
 
   -- what a call says of two valid histories with the mail that they lead to
-  module _ (few : length machine.firsts ≤ 9) (history others : List Event) (valid : IsValid machine history) (other_valid : IsValid machine others) (answer : Bool) (history' : List Event) (mail : MailState) (others' : List Event) (other_mail : MailState)
-      (history_is : history' ≡ history) (mail_is : mail ≡ mail_of (state_of machine history)) (others_are : others' ≡ others) (other_mail_is : other_mail ≡ mail_of (state_of machine others)) (told : IsTrue answer ↔ AreAlike history' mail others' other_mail) where
+  module _ (few : length machine.firsts ≤ 9) (history others : List Event) (valid : IsValid machine history) (other_valid : IsValid machine others) (returned : Bool) (history' : List Event) (mail : MailState) (others' : List Event) (other_mail : MailState)
+      (history_is : history' ≡ history) (mail_is : mail ≡ mail_of (state_of machine history)) (others_are : others' ≡ others) (other_mail_is : other_mail ≡ mail_of (state_of machine others)) (told : IsTrue returned ↔ AreAlike history' mail others' other_mail) where
     to : (state : RunState L) × (fold machine history ≡ Some state)
     to = some_of (fold machine history) valid
 
     other : (state : RunState L) × (fold machine others ≡ Some state)
     other = some_of (fold machine others) other_valid
 
-    told_of_states : IsTrue answer ↔ AreAlike history (mail_of to.0) others (mail_of other.0)
+    told_of_states : IsTrue returned ↔ AreAlike history (mail_of to.0) others (mail_of other.0)
     told_of_states =
         let its = mail_is ∙ ap (λ o. mail_of (unwrap_or o (start machine))) to.1 in
         let others_own = other_mail_is ∙ ap (λ o. mail_of (unwrap_or o (start machine))) other.1 in
-        subst (λ h. IsTrue answer ↔ AreAlike h (mail_of to.0) others (mail_of other.0)) history_is
-        (subst (λ m. IsTrue answer ↔ AreAlike history' m others (mail_of other.0)) its
-        (subst (λ h. IsTrue answer ↔ AreAlike history' mail h (mail_of other.0)) others_are
-        (subst (λ m. IsTrue answer ↔ AreAlike history' mail others' m) others_own told)))
+        subst (λ h. IsTrue returned ↔ AreAlike h (mail_of to.0) others (mail_of other.0)) history_is
+        (subst (λ m. IsTrue returned ↔ AreAlike history' m others (mail_of other.0)) its
+        (subst (λ h. IsTrue returned ↔ AreAlike history' mail h (mail_of other.0)) others_are
+        (subst (λ m. IsTrue returned ↔ AreAlike history' mail others' m) others_own told)))
 
-    pub answered : (IsTrue answer ↔ (fold machine history ≡ fold machine others)) × (IsTrue answer ↔ IsExchanged depends history others)
+    pub answered : (IsTrue returned ↔ (fold machine history ≡ fold machine others)) × (IsTrue returned ↔ IsExchanged depends history others)
     answered =
         let folds = alike_folds few history others to.0 other.0 to.1 other.1 in
         let exchanges = alike_exchanges few history others to.0 other.0 to.1 other.1 in (

@@ -18,7 +18,7 @@ use Rattle.cdb_record.specs.declared.recorded.Recorded.{Recorded}
 use Rattle.cdb_register.specs.Registers.{RegisterStates}
 use Rattle.cdb_run.specs.Current.{IsCurrent}
 use Rattle.cdb_rules.specs.Mail.{mail_of}
-use Rattle.cdb_rules.specs.Refusals.{first_refusal, planned, step_answer, again_checks, again_answer, lose_checks, lose_answer, unless_refused}
+use Rattle.cdb_rules.specs.Refusals.{first_refusal, planned, step_result, again_checks, again_result, lose_checks, loss_result, unless_refused}
 use Rattle.cdb_rules.specs.State.{Machine, ProcessState, RunState}
 use Rattle.cdb_rules.specs.Step.{is_among, after, fold, state_of}
 use Rattle.cdb_rules.specs.declared.progress.Progress.{Progress}
@@ -64,30 +64,30 @@ module _ {L B : Type 0} {machine : Machine L} {before : L → B → L} {processe
         let count = ap (λ (m : MailState). length m.received) current.mail_is ∙ length-map current.state.processes (λ (x : ProcessState L). x.received) ∙ (sound current).count in
         omega (arith, count, number, last)
 
-    pub plan_shown : (setup : Parts) (act : Act) (answer : Result Event Refusal) → answer ≡ planned machine setup mail registers progress p act → answer ≡ step_answer machine setup (state_of machine history) p act
+    pub plan_shown : (setup : Parts) (act : Act) (answer : Result Event Refusal) → answer ≡ planned machine setup mail registers progress p act → answer ≡ step_result machine setup (state_of machine history) p act
     plan_shown setup act answer planned_is =
         planned_is
         ∙ ap (λ m. planned machine setup m registers progress p act) current.mail_is
         ∙ ap₂ (λ r x. planned machine setup (mail_of current.state) r x p act) current.registers_are is
         ∙ sym (ap (λ o. option_map_or (λ (x : ProcessState L). planned machine setup (mail_of current.state) current.state.registers x.progress p act) o (Err NoProcess)) process_here.1)
-        ∙ ap (λ (state : RunState L). step_answer machine setup state p act) (sym (state_is current))
+        ∙ ap (λ (state : RunState L). step_result machine setup state p act) (sym (state_is current))
 
-    pub again_shown : (setup : Parts) (k : ℕ) (kind : Kind) (answer : Result Event Refusal) → answer ≡ unless_refused (first_refusal (again_checks machine mail registers progress p k kind)) (Some (Step p k kind)) → answer ≡ again_answer machine setup (state_of machine history) (Step p k kind)
+    pub again_shown : (setup : Parts) (k : ℕ) (kind : Kind) (answer : Result Event Refusal) → answer ≡ unless_refused (first_refusal (again_checks machine mail registers progress p k kind)) (Some (Step p k kind)) → answer ≡ again_result machine setup (state_of machine history) (Step p k kind)
     again_shown setup k kind answer planned_is =
         planned_is
         ∙ ap (λ m. unless_refused (first_refusal (again_checks machine m registers progress p k kind)) (Some (Step p k kind))) current.mail_is
         ∙ ap₂ (λ r x. unless_refused (first_refusal (again_checks machine (mail_of current.state) r x p k kind)) (Some (Step p k kind))) current.registers_are is
         ∙ sym (ap (λ o. option_map_or (λ (x : ProcessState L). unless_refused (first_refusal (again_checks machine (mail_of current.state) current.state.registers x.progress p k kind)) (Some (Step p k kind))) o (Err NoProcess)) process_here.1)
-        ∙ ap (λ (state : RunState L). again_answer machine setup state (Step p k kind)) (sym (state_is current))
+        ∙ ap (λ (state : RunState L). again_result machine setup state (Step p k kind)) (sym (state_is current))
 
   pub process_none : (p : ℕ) → is_among n p ≡ false → nth (state_of machine history).processes p ≡ None
   process_none p none =
       ap (λ (state : RunState L). nth state.processes p) (state_is current) ∙ process_absent current p (subst (λ m. is_among m p ≡ false) (sym number) none)
 
-  pub plan_absent : (p : ℕ) (setup : Parts) (act : Act) → is_among n p ≡ false → Err NoProcess ≡ step_answer machine setup (state_of machine history) p act
+  pub plan_absent : (p : ℕ) (setup : Parts) (act : Act) → is_among n p ≡ false → Err NoProcess ≡ step_result machine setup (state_of machine history) p act
   plan_absent p setup act none =
       sym (ap (λ o. option_map_or (λ (x : ProcessState L). planned machine setup (mail_of current.state) current.state.registers x.progress p act) o (Err NoProcess)) (process_absent current p (subst (λ m. is_among m p ≡ false) (sym number) none)))
-      ∙ ap (λ (state : RunState L). step_answer machine setup state p act) (sym (state_is current))
+      ∙ ap (λ (state : RunState L). step_result machine setup state p act) (sym (state_is current))
 
 map-map : {A B C : Type 0} (f : B → C) (g : A → B) (xs : List A) → map f (map g xs) ≡ map (λ x. f (g x)) xs
 map-map f g [] = refl
@@ -101,11 +101,11 @@ within_among n (Some found) within leader answered = subst (λ l. is_among n l �
     tests n l first last = grind (arith, nat_tests)
 
 module _ {L B : Type 0} {machine : Machine L} {before : L → B → L} {processes : List (Progress L)} {mail : MailState} {registers : RegisterStates} {history : List Event} {entries : List (Recorded B)} (current : IsCurrent machine before processes mail registers history entries) where
-  pub loss_shown : (setup : Parts) (name : MsgName) (p : ℕ) (answer : Result Event Refusal) → answer ≡ unless_refused (first_refusal (lose_checks setup mail name p)) (Some (Lost (copy_name name p))) → answer ≡ lose_answer setup (state_of machine history) name p
+  pub loss_shown : (setup : Parts) (name : MsgName) (p : ℕ) (answer : Result Event Refusal) → answer ≡ unless_refused (first_refusal (lose_checks setup mail name p)) (Some (Lost (copy_name name p))) → answer ≡ loss_result setup (state_of machine history) name p
   loss_shown setup name p answer planned_is =
       planned_is
       ∙ ap (λ m. unless_refused (first_refusal (lose_checks setup m name p)) (Some (Lost (copy_name name p)))) current.mail_is
-      ∙ ap (λ (state : RunState L). lose_answer setup state name p) (sym (state_is current))
+      ∙ ap (λ (state : RunState L). loss_result setup state name p) (sym (state_is current))
 
   pub mail_shown : mail ≡ mail_of (state_of machine history)
   mail_shown = current.mail_is ∙ ap mail_of (sym (state_is current))
@@ -128,10 +128,10 @@ module _ {L B : Type 0} {machine : Machine L} {before : L → B → L} {processe
 
 module _ {L B : Type 0} {machine : Machine L} {before : L → B → L} {processes : List (Progress L)} {mail : MailState} {registers : RegisterStates} {history : List Event} {entries : List (Recorded B)} (current : IsCurrent machine before processes mail registers history entries) (setup : Parts) (number : length machine.firsts ≡ setup.processes) (ranges : AreInRange setup) (lawful : IsLawful machine) where
   -- a step that is not refused is enabled
-  pub answer_enabled : (p : ℕ) (act : Act) (event : Event) → step_answer machine setup (state_of machine history) p act ≡ Ok event → IsSome (after machine (state_of machine history) event)
-  answer_enabled p act event answered =
+  pub result_enabled : (p : ℕ) (act : Act) (event : Event) → step_result machine setup (state_of machine history) p act ≡ Ok event → IsSome (after machine (state_of machine history) event)
+  result_enabled p act event answered =
       subst (λ (state : RunState L). IsSome (after machine state event)) (sym (state_is current))
-      (go (nth current.state.processes p) refl (sym (ap (λ (state : RunState L). step_answer machine setup state p act) (state_is current)) ∙ answered))
+      (go (nth current.state.processes p) refl (sym (ap (λ (state : RunState L). step_result machine setup state p act) (state_is current)) ∙ answered))
     where
       go : (o : Option (ProcessState L)) → nth current.state.processes p ≡ o
           → option_map_or (λ (x : ProcessState L). planned machine setup (mail_of current.state) current.state.registers x.progress p act) o (Err NoProcess) ≡ Ok event → IsSome (after machine current.state event)

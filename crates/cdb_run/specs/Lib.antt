@@ -1,9 +1,10 @@
--- what the code keeps for itself: the plan of a step, what it does to the registers, what takes it back, and what a run records of it
+-- what a reader of the contracts believes: what a run records of an event, and the way back
+pub mod Back
+pub mod Recorded
+-- what the code keeps for itself: the plan of a step, what it does to the registers, and what restores the state before it
 pub mod Plans
 pub mod Registers
 pub mod WriteCounts
-pub mod Back
 pub mod Restored
-pub mod Recorded
 pub mod Stepped
 pub mod Current

@@ -1,4 +1,4 @@
--- Steps that are taken with a record from which they can be taken back.
+-- Steps that are taken with a record that restores the state before them.
 use Rattle.std.specs.Prelude.{◌≡◌, ℕ, List, Option, Some, None, slice_get}
 use Rattle.cdb_base.specs.Positions.{nth}
 use Rattle.cdb_base.specs.declared.event.Event.{Event}

@@ -1,11 +1,11 @@
 -- What a step of a process changes of the state of a run.
 use Rattle.std.specs.Prelude.{◌≡◌, ℕ, ◌<◌, ◌≤◌, IsSome, Some}
+use Rattle.cdb_base.specs.declared.limits.TheConstants.{MAX_STEPS}
 use Rattle.cdb_base.specs.Positions.{nth, set_nth}
 use Rattle.cdb_base.specs.declared.event.Kind.{Kind}
 use Rattle.cdb_process.specs.Table.{Table}
 use Rattle.cdb_record.specs.declared.recorded.Left.{Left}
-use Rattle.cdb_rules.specs.Mail.{mail_after, IsPostable}
-use Rattle.cdb_rules.specs.Taking.{progress_after, registers_after}
+use Rattle.cdb_rules.specs.Taking.{mail_after, IsPostable, progress_after, registers_after}
 use Rattle.cdb_rules.specs.declared.progress.Progress.{Progress}
 use Rattle.cdb_run.specs.Back.{put_back, overwritten_cell}
 use Rattle.cdb_run.specs.Plans.{local_after, payload_due, cell_due}
@@ -14,7 +14,7 @@ use Rattle.cdb_run.specs.declared.state.State.{State}
 
 -- process p, which has come so far, may take a step of that kind
 pub record MayStepFrom {L : Type 0} (table : Table L) (state : State L) (p : ℕ) (kind : Kind) (progress : Progress L) : Type 0 where
-  pub steps : progress.steps < 9999
+  pub steps : progress.steps < MAX_STEPS
   pub queries : progress.queries ≤ progress.steps
   pub accepted : IsSome (local_after table progress state.mail state.registers p kind)
   pub postable : IsPostable state.mail p kind

@@ -1,13 +1,14 @@
 //! The processes of a run, by their numbers.
 
 ghost use Rattle.std.specs.Prelude.{◌≡◌, ◌≤◌, None, Some, if◌then◌else◌};
+ghost use Rattle.cdb_base.specs.declared.limits.TheConstants.{MAX_PROCESSES};
 ghost use Rattle.cdb_rules.specs.Step.{is_among};
 
 use cdb_base::Proc;
 
 /// The process of that number, where it is one of processes 1 to `n`.
 pub(crate) fn process_among(n: u8, number: u32) -> Option<Proc>
-    requires { n ≤ 9 }
+    requires { n ≤ MAX_PROCESSES }
     ensures { result ≡ (if is_among n number then Some number else None) }
 {
     Proc::from_number(number).filter(|p| p.number() <= n)

@@ -1,11 +1,11 @@
 //! What one step changes: its process, the mail and the registers.
 
 ghost use Rattle.std.specs.Prelude.{◌≡◌, ◌<◌, ◌≤◌, false, length, None, Some, IsTrue, IsSome, IfOk, OnOk, OnErr};
+ghost use Rattle.cdb_base.specs.declared.limits.TheConstants.{MAX_STEPS};
 ghost use Rattle.cdb_message.specs.Mail.{is_sent, is_received, is_lost, add_loss};
 ghost use Rattle.cdb_run.specs.Back.{put_back, overwritten_cell};
-ghost use Rattle.cdb_rules.specs.Mail.{mail_after, IsPostable};
+ghost use Rattle.cdb_rules.specs.Taking.{mail_after, IsPostable, sight, arriving, input_of, progress_after, registers_after};
 ghost use Rattle.cdb_process.specs.Wishes.{wished_payload, wished_cell};
-ghost use Rattle.cdb_rules.specs.Taking.{sight, arriving, input_of, progress_after, registers_after};
 ghost use Rattle.cdb_run.specs.Plans.{local_after, payload_due, cell_due};
 ghost use Rattle.cdb_run.specs.Registers.{IsWritable};
 
@@ -105,7 +105,7 @@ pub(crate) fn change<P: Process>(
     p: Proc,
     kind: &Kind,
 ) -> Result<Left<P::Back>, NoMemory>
-    requires steps { progress.old.steps < 9999 }
+    requires steps { progress.old.steps < MAX_STEPS }
     requires queries { progress.old.queries ≤ progress.old.steps }
     requires accepted { IsSome
         (local_after P.table progress.old mail.old registers.old p kind.now) }

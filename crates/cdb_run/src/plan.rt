@@ -17,7 +17,7 @@ use cdb_setup::Setup;
 
 /// The kind of step that a wish names, after this many sends.
 fn kind_of_wish(wish: &Wish, sends: u16) -> Kind
-    requires { sends ≤ 9999 }
+    requires { sends ≤ MAX_STEPS }
     ensures { result ≡ wished_kind sends wish.now }
 {
     match wish {
@@ -36,7 +36,7 @@ fn does_accept<P: Process>(
     registers: &Registers,
     kind: &Kind,
 ) -> bool
-    requires { sends ≤ 9999 }
+    requires { sends ≤ MAX_STEPS }
     ensures { result ≡ accepts_kind (machine_of P.table setup.now) local.now sends registers.now
         kind.now }
 {
@@ -122,7 +122,7 @@ fn plan_query<P: Process>(
 ) -> Result<Event, Refusal>
     requires alive { progress.now.alive ≡ true }
     requires going { (P.table.place progress.now.local == P.table.last_place) ≡ false }
-    requires queries { progress.now.queries ≤ 9999 }
+    requires queries { progress.now.queries ≤ MAX_STEPS }
     ensures { result ≡ plan_at P.table setup.now mail.now registers.now progress.now p
         (Act.Query None) }
 {
@@ -136,7 +136,7 @@ fn plan_query<P: Process>(
 }
 
 /// Process `p` asks the oracle, which names that leader.
-fn plan_answer<P: Process>(
+fn plan_result<P: Process>(
     setup: &Setup,
     mail: &Mail,
     registers: &Registers,
@@ -202,7 +202,7 @@ pub(crate) fn plan<P: Process>(
     act: Act,
 ) -> Result<Event, Refusal>
     requires among { p ≤ length mail.now.received }
-    requires queries { progress.now.queries ≤ 9999 }
+    requires queries { progress.now.queries ≤ MAX_STEPS }
     ensures { result ≡ plan_at P.table setup.now mail.now registers.now progress.now p act }
 {
     if !progress.alive {
@@ -216,7 +216,7 @@ pub(crate) fn plan<P: Process>(
         Act::Learn => plan_kind(setup, mail, registers, progress, p, Kind::Learn),
         Act::Crash => plan_kind(setup, mail, registers, progress, p, Kind::Crash),
         Act::Query(None) => plan_query(setup, mail, registers, progress, p),
-        Act::Query(Some(leader)) => plan_answer(setup, mail, registers, progress, p, leader),
+        Act::Query(Some(leader)) => plan_result(setup, mail, registers, progress, p, leader),
         Act::Recv(s, m) => plan_recv(setup, mail, registers, progress, p, s, m),
     }
 }
@@ -275,7 +275,7 @@ fn refuses_again<P: Process>(
     kind: &Kind,
 ) -> Option<Refusal>
     requires among { p ≤ length mail.now.received }
-    requires steps { progress.now.steps ≤ 9999 }
+    requires steps { progress.now.steps ≤ MAX_STEPS }
     ensures { result ≡ refusal_again_at P.table setup.now mail.now registers.now progress.now p k
         kind.now }
 {
@@ -308,7 +308,7 @@ pub(crate) fn plan_again<P: Process>(
     kind: &Kind,
 ) -> Result<Event, Refusal>
     requires among { p ≤ length mail.now.received }
-    requires steps { progress.now.steps ≤ 9999 }
+    requires steps { progress.now.steps ≤ MAX_STEPS }
     ensures { result ≡ plan_again_at P.table setup.now mail.now registers.now progress.now p k
         kind.now }
 {

@@ -2,6 +2,7 @@
 
 ghost use Rattle.std.specs.Prelude.{◌≡◌, ◌<◌, ◌≤◌, length, map, Some, IsSome, IfOk, OnErr};
 ghost use Rattle.std.specs.Option.{ForSome};
+ghost use Rattle.cdb_base.specs.declared.limits.TheConstants.{MAX_PROCESSES, MAX_STEPS};
 ghost use Rattle.cdb_rules.specs.Decisions.{decided_from};
 ghost use Rattle.cdb_run.specs.Back.{put_back};
 ghost use Rattle.cdb_rules.specs.Taking.{taken_local, progress_after};
@@ -39,7 +40,7 @@ pub(crate) fn give_back<P: Process>(local: &mut P, back: Option<P::Back>)
 
 /// Counts a step of that kind.
 pub(crate) fn count<P: Process>(progress: &mut Progress<P>, kind: &Kind)
-    requires steps { progress.old.steps < 9999 }
+    requires steps { progress.old.steps < MAX_STEPS }
     requires queries { progress.old.queries ≤ progress.old.steps }
     ensures { progress.new ≡ progress_after progress.old kind.now progress.old.local }
 {
@@ -56,7 +57,7 @@ pub(crate) fn decided<P: Process>(
     alloc: Global,
     processes: &[Progress<P>],
 ) -> Result<Vec<(Proc, Val)>, NoMemory>
-    requires { length processes.now ≤ 9 }
+    requires { length processes.now ≤ MAX_PROCESSES }
     ensures { IfOk result (λ found. found.items
         ≡ decided_from P.table.decision 1 (map (λ progress. progress.local) processes.now)) }
 {

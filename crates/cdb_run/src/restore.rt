@@ -1,4 +1,4 @@
-//! What takes one step back: its process, the mail and the registers.
+//! What restores the state before one step: its process, the mail and the registers.
 
 ghost use Rattle.std.specs.Prelude.{◌≡◌, ◌<◌};
 ghost use Rattle.cdb_run.specs.Restored.{progress_before, mail_before, registers_before, IsCountable, IsUnpostable, IsRestorable};
@@ -47,9 +47,9 @@ fn write_back(registers: &mut Registers, kind: &Kind, overwritten: Option<Cell>)
     }
 }
 
-/// Takes a step of process `p`, whose progress is given, back with all that it changed. It takes no
+/// Restores all that a step of process `p` changed, whose progress is given. It takes no
 /// memory.
-pub(crate) fn change_back<P: Process>(
+pub(crate) fn restore_change<P: Process>(
     progress: &mut Progress<P>,
     mail: &mut Mail,
     registers: &mut Registers,

@@ -8,7 +8,7 @@ ghost use Rattle.cdb_rules.specs.Auto.{first_step_in};
 ghost use Rattle.cdb_run.specs.Plans.{receive_of};
 ghost use Rattle.cdb_rules.specs.Refusals.{IsOfRun};
 ghost use Rattle.cdb_rules.specs.Step.{is_among};
-ghost use Rattle.cdb_rules.specs.Runs.{IsNumberAmong, IsNext, IsInOrder, process_in, progress_in, alive_in, steps_in, queries_in, local_in, mail_in, registers_in, register_in, cell_in, writes_in, decisions_in, answer_to_step, answer_to_again, answer_to_loss, with_event, with_answer, IsJustTaken};
+ghost use Rattle.cdb_rules.specs.Runs.{IsNumberAmong, IsNext, IsInOrder, process_in, progress_in, alive_in, steps_in, queries_in, local_in, mail_in, registers_in, register_in, cell_in, writes_in, decisions_in, result_of_step, result_of_again, result_of_loss, with_event, with_result, IsJustTaken};
 
 use crate::among::process_among;
 use crate::change::lose;
@@ -53,7 +53,8 @@ impl<P: Process> Model for Run<P> {
     ghost view = { λ run. record { setup = run.setup; history = events_of run.records } };
 
     ghost invariant = { λ run. IsCurrent (machine_of P.table run.setup) P.before
-        run.state.processes.items run.state.mail run.state.registers (events_of run.records) run.records };
+        run.state.processes.items run.state.mail run.state.registers
+        (events_of run.records) run.records };
 }
 
 impl<P: Process> Run<P> {
@@ -142,7 +143,7 @@ impl<P: Process> Run<P> {
 
     /// What a step of process `p` returns.
     fn plan(&self, p: u32, act: Act) -> Result<Event, Refusal>
-        ensures answer { result ≡ answer_to_step P.table self.now p act }
+        ensures returns { result ≡ result_of_step P.table self.now p act }
         ensures enabled { IfOk result (λ event. IsNext P.table self.now event) }
     {
         let _ranges = self.setup.n();
@@ -162,7 +163,7 @@ impl<P: Process> Run<P> {
 
     /// What a step of process `p` would be refused with, if it would be.
     pub fn refuses(&self, p: u32, act: Act) -> Option<Refusal>
-        ensures { result ≡ result_err (answer_to_step P.table self.now p act) }
+        ensures { result ≡ result_err (result_of_step P.table self.now p act) }
     {
         self.plan(p, act).err()
     }
@@ -176,11 +177,11 @@ impl<P: Process> Run<P> {
         p: u32,
         act: Act,
     ) -> Result<Result<Event, Refusal>, NoMemory>
-        ensures answer { IfOk result (λ r. r ≡ answer_to_step P.table self.old p act) }
-        ensures after { IfOk result (λ r. self.new ≡ with_answer self.old r) }
+        ensures returns { IfOk result (λ r. r ≡ result_of_step P.table self.old p act) }
+        ensures after { IfOk result (λ r. self.new ≡ with_result self.old r) }
         ensures undoable { IfOk result (λ r. IfOk r (λ e. IsJustTaken self.new e self.old)) }
         ensures err { OnErr result (self.new ≡ self.old) }
-        ensures memory { OnErr result (IsOk (answer_to_step P.table self.old p act)) }
+        ensures memory { OnErr result (IsOk (result_of_step P.table self.old p act)) }
     {
         match self.plan(p, act) {
             Ok(event) => {
@@ -194,7 +195,7 @@ impl<P: Process> Run<P> {
     /// The receive of the least copy that process `p` can still receive, where it is not refused.
     fn plan_receive(&self, p: u32) -> Option<Event>
         requires { is_among self.now.setup.processes p ≡ true }
-        ensures received { result ≡ receive_of (answer_to_step P.table self.now p)
+        ensures received { result ≡ receive_of (result_of_step P.table self.now p)
             (next_pending (mail_in P.table self.now) p None) }
         ensures enabled { IfSome result (λ event. IsNext P.table self.now event) }
     {
@@ -210,7 +211,7 @@ impl<P: Process> Run<P> {
     /// The first step of process `p` that `auto` tries and that is not refused; `Idle` where each is.
     fn plan_first(&self, p: u32) -> Result<Event, Refusal>
         requires { is_among self.now.setup.processes p ≡ true }
-        ensures answer { result ≡ first_step_in P.table self.now p }
+        ensures returns { result ≡ first_step_in P.table self.now p }
         ensures enabled { IfOk result (λ event. IsNext P.table self.now event) }
     {
         if let Ok(event) = self.plan(p, Act::Learn) {
@@ -232,8 +233,8 @@ impl<P: Process> Run<P> {
     /// returns `Idle`. After a refusal and after `NoMemory` the run is as it was.
     pub fn step_first(&mut self, alloc: Global, p: u32) -> Result<Result<Event, Refusal>, NoMemory>
         requires { is_among self.old.setup.processes p ≡ true }
-        ensures answer { IfOk result (λ r. r ≡ first_step_in P.table self.old p) }
-        ensures after { IfOk result (λ r. self.new ≡ with_answer self.old r) }
+        ensures returns { IfOk result (λ r. r ≡ first_step_in P.table self.old p) }
+        ensures after { IfOk result (λ r. self.new ≡ with_result self.old r) }
         ensures undoable { IfOk result (λ r. IfOk r (λ e. IsJustTaken self.new e self.old)) }
         ensures err { OnErr result (self.new ≡ self.old) }
         ensures memory { OnErr result (IsOk (first_step_in P.table self.old p)) }
@@ -250,7 +251,7 @@ impl<P: Process> Run<P> {
     /// What taking an undone event again returns.
     fn plan_again(&self, event: &Event) -> Result<Event, Refusal>
         requires { IsOfRun self.now.setup event.now }
-        ensures answer { result ≡ answer_to_again P.table self.now event.now }
+        ensures returns { result ≡ result_of_again P.table self.now event.now }
         ensures taken { IsOk result ↔ IsNext P.table self.now event.now }
         ensures same { IfOk result (λ taken. taken ≡ event.now) }
     {
@@ -282,18 +283,18 @@ impl<P: Process> Run<P> {
         event: &Event,
     ) -> Result<Result<Event, Refusal>, NoMemory>
         requires { IsOfRun self.old.setup event.now }
-        ensures answer { IfOk result (λ r. r ≡ answer_to_again P.table self.old event.now) }
+        ensures returns { IfOk result (λ r. r ≡ result_of_again P.table self.old event.now) }
         ensures taken { IfOk result (λ r. IsOk r ↔ IsNext P.table self.old event.now) }
-        ensures after { IfOk result (λ r. self.new ≡ with_answer self.old r) }
+        ensures after { IfOk result (λ r. self.new ≡ with_result self.old r) }
         ensures undoable { IfOk result (λ r. IfOk r (λ e. IsJustTaken self.new e self.old)) }
         ensures err { OnErr result (self.new ≡ self.old) }
-        ensures memory { OnErr result (IsOk (answer_to_again P.table self.old event.now)) }
+        ensures memory { OnErr result (IsOk (result_of_again P.table self.old event.now)) }
     {
-        let answer = self.plan_again(event);
-        if answer.is_ok() {
+        let returned = self.plan_again(event);
+        if returned.is_ok() {
             self.take(alloc, event)?;
         }
-        Ok(answer)
+        Ok(returned)
     }
 
     /// Loses the copy of the `m`-th message of process `s` for process `p`, or returns the first
@@ -306,11 +307,11 @@ impl<P: Process> Run<P> {
         m: u32,
         p: u32,
     ) -> Result<Result<Event, Refusal>, NoMemory>
-        ensures answer { IfOk result (λ r. r ≡ answer_to_loss P.table self.old s m p) }
-        ensures after { IfOk result (λ r. self.new ≡ with_answer self.old r) }
+        ensures returns { IfOk result (λ r. r ≡ result_of_loss P.table self.old s m p) }
+        ensures after { IfOk result (λ r. self.new ≡ with_result self.old r) }
         ensures undoable { IfOk result (λ r. IfOk r (λ e. IsJustTaken self.new e self.old)) }
         ensures err { OnErr result (self.new ≡ self.old) }
-        ensures memory { OnErr result (IsOk (answer_to_loss P.table self.old s m p)) }
+        ensures memory { OnErr result (IsOk (result_of_loss P.table self.old s m p)) }
     {
         match self.plan_loss(s, m, p) {
             Ok(event) => {
@@ -323,7 +324,7 @@ impl<P: Process> Run<P> {
 
     /// What losing a copy returns.
     fn plan_loss(&self, s: u32, m: u32, p: u32) -> Result<Event, Refusal>
-        ensures answer { result ≡ answer_to_loss P.table self.now s m p }
+        ensures returns { result ≡ result_of_loss P.table self.now s m p }
         ensures enabled { IfOk result (λ event. IsNext P.table self.now event) }
     {
         let _ranges = self.setup.n();

@@ -19,7 +19,7 @@ use Rattle.cdb_setup.specs.Names.{is_key_name}
 use Rattle.cdb_setup.specs.Faults.{Holds}
 use Rattle.cdb_setup.specs.Order.{IsLookedForBefore, rank, key_number}
 use Rattle.cdb_setup.specs.Ranks.{IsFirstOfRank, HasNeededKeys, IsFirstMissing}
-use Rattle.cdb_setup.specs.Stops.{TellsKnownKeys}
+use Rattle.cdb_setup.specs.Readings.{TellsKnownKeys}
 
 -- one of the keys has the name
 some_key : (name : List ℕ) (keys : List Key) → list_any (λ k. bytes_eq name (name_of k)) keys ≡ true → (key : Key) × (name ≡ name_of key)

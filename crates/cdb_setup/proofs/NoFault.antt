@@ -10,7 +10,7 @@ use Rattle.cdb_setup.specs.declared.fault.SetupFault.TheVariants.{BadInput, BadO
 use Rattle.cdb_setup.specs.Parts.{IsWithin}
 use Rattle.cdb_setup.specs.Format.{whole, array_of, array_of_whole, HasAt, HasVersion}
 use Rattle.cdb_setup.specs.Faults.{Holds, IsCount, HasOneEach, IsWholeWithin}
-use Rattle.cdb_setup.specs.Stops.{IsAnswerList}
+use Rattle.cdb_setup.specs.Readings.{IsAnswerList}
 use Rattle.cdb_setup.proofs.Ranks.{one_list, within_at, answer_in}
 
 -- ---- inputs

@@ -14,7 +14,7 @@ use Rattle.cdb_setup.specs.Parts.{IsWithin}
 use Rattle.cdb_setup.specs.Faults.{Holds, HasOneEach, IsWholeWithin}
 use Rattle.cdb_setup.specs.Order.{IsLookedForBefore, rank}
 use Rattle.cdb_setup.specs.Ranks.{IsFirstOfRank}
-use Rattle.cdb_setup.specs.Stops.{IsFirstNot, IsAnswerList, IsFirstOfLists}
+use Rattle.cdb_setup.specs.Readings.{IsFirstNot, IsAnswerList, IsFirstOfLists}
 use Rattle.cdb_setup.proofs.Values.{array_same}
 
 -- a value before the first that isn't so is so

@@ -8,7 +8,7 @@ use Rattle.serde_json.specs.Data.{Data}
 use Rattle.cdb_setup.specs.Parts.{IsWithin}
 use Rattle.cdb_setup.specs.Format.{whole, array_of_whole}
 use Rattle.cdb_setup.specs.Faults.{IsWholeWithin}
-use Rattle.cdb_setup.specs.Stops.{IsFirstNot, IsAnswerList}
+use Rattle.cdb_setup.specs.Readings.{IsFirstNot, IsAnswerList}
 
 -- one more value is read
 pub push_read : {A : Type 0} (form : A → Data) (values : List Data) (parts : List A) (i : ℕ) (part : A) → slice_get values i ≡ Some (form part) → take i values ≡ map form parts

@@ -6,8 +6,8 @@ ghost use Rattle.cdb_base.specs.declared.limits.TheConstants.{MAX_PROCESSES};
 ghost use Rattle.cdb_setup.specs.Parts.{lists_in};
 ghost use Rattle.cdb_setup.specs.Faults.{IfFault, IsCount};
 ghost use Rattle.cdb_setup.specs.Ranks.{IsFirstOfRank};
-ghost use Rattle.cdb_setup.specs.Stops.{IsReadIfWhole, AreRead, IsListRead, AreListsRead, HasAnswers};
-ghost use Rattle.cdb_setup.specs.Stops.{IsFirstOfAnswers, IsFirstOfList, IsFirstOfLists};
+ghost use Rattle.cdb_setup.specs.Readings.{IsReadIfWhole, AreRead, IsListRead, AreListsRead, HasAnswers};
+ghost use Rattle.cdb_setup.specs.Readings.{IsFirstOfAnswers, IsFirstOfList, IsFirstOfLists};
 
 use crate::fault::SetupFault;
 use crate::key::Key;

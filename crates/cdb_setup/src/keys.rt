@@ -10,7 +10,7 @@ ghost use Rattle.serde_json.specs.Find.{get};
 ghost use Rattle.serde_json.specs.View.{view, members_view};
 ghost use Rattle.cdb_setup.specs.Format.{name_of, HasKnownKeys};
 ghost use Rattle.cdb_setup.specs.Ranks.{HasNeededKeys, IsFirstMissing, IsFirstOf, IsClearBelow};
-ghost use Rattle.cdb_setup.specs.Stops.{TellsKnownKeys};
+ghost use Rattle.cdb_setup.specs.Readings.{TellsKnownKeys};
 ghost use Rattle.cdb_setup.specs.Names.{is_key_name};
 
 use crate::fault::SetupFault;

@@ -6,8 +6,8 @@ ghost use Rattle.cdb_base.specs.declared.limits.TheConstants.{MAX_VALUE};
 ghost use Rattle.cdb_setup.specs.Format.{HasAlgorithm};
 ghost use Rattle.cdb_setup.specs.Faults.{IfFault, IsCount, HasOneEach, LacksOneEach};
 ghost use Rattle.cdb_setup.specs.Ranks.{IsFirstOfRank};
-ghost use Rattle.cdb_setup.specs.Stops.{IsReadIfWhole, IsFoundOr, HasQuorum, IsVersion};
-ghost use Rattle.cdb_setup.specs.Stops.{AreRead, HasInputs, IsFirstOfInputs};
+ghost use Rattle.cdb_setup.specs.Readings.{IsReadIfWhole, IsFoundOr, HasQuorum, IsVersion};
+ghost use Rattle.cdb_setup.specs.Readings.{AreRead, HasInputs, IsFirstOfInputs};
 
 use crate::fault::SetupFault;
 use crate::key::Key;

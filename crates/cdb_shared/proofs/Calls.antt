@@ -7,8 +7,8 @@ use Rattle.cdb_control.specs.declared.command.Command.{Command}
 use Rattle.cdb_control.specs.declared.control.Entry.{Entry}
 use Rattle.cdb_control.specs.declared.reply.Reply.{Reply}
 use Rattle.cdb_control.specs.declared.control.CallFault.{CallFault}
-use Rattle.cdb_control.specs.Answer.{Answer, told}
-use Rattle.cdb_control.specs.Commands.{answer}
+use Rattle.cdb_control.specs.ToldReply.{ToldReply, told}
+use Rattle.cdb_control.specs.Commands.{reply_of}
 use Rattle.cdb_control.specs.Headline.{Headline}
 use Rattle.cdb_control.specs.Journal.{Journaled, Begins, entry, extended, replay, reply_in}
 use Rattle.cdb_control.proofs.Own.{Begins-refl, Begins-push}
@@ -228,9 +228,9 @@ met_begins home u v y z c a one two other_one other_two is known first second =
       subst (λ (s : SeatView × List Entry). SameCalls s.0 s.1) (λ i. (is i, sym its i)) known.calls,
     )
 
-call_at : (rules : Parts → Rules) (number : ℕ) (home home' : TableId) (v w x : Knowledge) (c after : Journaled) (command : Command) (reply : Answer) (one : IsOfOneSeat v) (other : IsOfOneSeat x) → HasNumber number (known_seat_of v one) → TurnTaken v c w → TurnGiven w after x
+call_at : (rules : Parts → Rules) (number : ℕ) (home home' : TableId) (v w x : Knowledge) (c after : Journaled) (command : Command) (reply : ToldReply) (one : IsOfOneSeat v) (other : IsOfOneSeat x) → HasNumber number (known_seat_of v one) → TurnTaken v c w → TurnGiven w after x
     → reply ≡ reply_in rules c number command → after ≡ extended rules c number command → IsCall rules (seat_of_pass home v one) command reply (seat_of_pass home' x other)
-call_at rules number home home' v w x c after command reply one other its taken given answered extends =
+call_at rules number home home' v w x c after command reply one other its taken given replied extends =
     let p = known_seat_of v one in
     let known = knows_one v (story c) one taken.1 in
     let mine = seen_one v w x c after one other taken given in
@@ -239,15 +239,15 @@ call_at rules number home home' v w x c after command reply one other its taken 
       begins = known.begins;
       calls = known.calls;
       entry = ap (λ (q : KnownSeat). q.seen) mine ∙ ap (λ (y : Journaled). y.journal) extends ∙ ap (λ n. c.journal ++ entry n command ∷ []) (sym its.same);
-      reply = answered ∙ (λ i. answer (rules (known.setup i)) (replay (rules (known.setup i)) (known.setup i) (known.seats i) c.journal) (sym its.same i) command);
+      reply = replied ∙ (λ i. reply_of (rules (known.setup i)) (replay (rules (known.setup i)) (known.setup i) (known.seats i) c.journal) (sym its.same i) command);
     }
 
 -- a call that was answered
 pub is_call : (rules : Parts → Rules) (number : ℕ) (home home' : TableId) (v w x : Knowledge) (c after : Journaled) (command : Command) (r : Result Reply CallFault) (old : SeatView) (one : IsOfOneSeat v) (other : IsOfOneSeat x) → seat_of_pass home v one ≡ old → HasNumber number (known_seat_of v one) → TurnTaken v c w → TurnGiven w after x
     → IfOk r (λ reply. told reply ≡ reply_in rules c number command) → IfOk r (λ _. after ≡ extended rules c number command) → IfOk r (λ reply. IsCall rules old command (told reply) (seat_of_pass home' x other))
-is_call rules number home home' v w x c after command (Ok reply) old one other is its taken given answered extends =
-    subst (λ (s : SeatView). IsCall rules s command (told reply) (seat_of_pass home' x other)) is (call_at rules number home home' v w x c after command (told reply) one other its taken given answered extends)
-is_call rules number home home' v w x c after command (Err fault) old one other is its taken given answered extends = tt
+is_call rules number home home' v w x c after command (Ok reply) old one other is its taken given replied extends =
+    subst (λ (s : SeatView). IsCall rules s command (told reply) (seat_of_pass home' x other)) is (call_at rules number home home' v w x c after command (told reply) one other its taken given replied extends)
+is_call rules number home home' v w x c after command (Err fault) old one other is its taken given replied extends = tt
 
 -- a call leaves the setup and the number of seats
 same_parts : (rules : Parts → Rules) (c after : Journaled) (number : ℕ) (command : Command) (r : Result Reply CallFault) → IfOk r (λ _. after ≡ extended rules c number command) → OnErr r (after ≡ c) → (after.setup ≡ c.setup) × (after.seats ≡ c.seats)

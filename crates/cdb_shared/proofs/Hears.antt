@@ -20,8 +20,8 @@ heard_twice (Some heard) a b = ap (λ l. Some l) (append_assoc heard a b)
 abbrev pub heard_one : ℕ → List Command → Command → List Heard
 heard_one number made command = Asked number made true ∷ Told number (made ++ command ∷ []) ∷ []
 
-pub heard_of-push : (number : ℕ) (made answered : List Command) (command : Command)
-    → heard_of number made (answered ++ command ∷ []) ≡ heard_of number made answered ++ heard_one (number + length answered) (made ++ answered) command
+pub heard_of-push : (number : ℕ) (made replied : List Command) (command : Command)
+    → heard_of number made (replied ++ command ∷ []) ≡ heard_of number made replied ++ heard_one (number + length replied) (made ++ replied) command
 heard_of-push number made [] command = λ i. heard_one (none i) (sym (append-nil made) i) command
   where
     none : number ≡ number + 0
@@ -33,46 +33,46 @@ heard_of-push number made (c ∷ cs) command =
     (heard_of-push (number + 1) all cs command ∙ (λ i. heard_of (number + 1) all cs ++ heard_one (next i) (append_assoc made (c ∷ []) cs i) command))
 
 -- asked before the call after these
-pub heard_asked : (old was new : Option (List Heard)) (made answered calls : List Command) (number : ℕ) (passed : Bool) → was ≡ heard_more old (heard_of 1 made answered) → calls ≡ made ++ answered → number ≡ length answered + 1
-    → new ≡ heard_more was (Asked number calls passed ∷ []) → new ≡ heard_more old (heard_of 1 made answered ++ Asked (length answered + 1) (made ++ answered) passed ∷ [])
-heard_asked old was new made answered calls number passed before same count asked =
-    asked ∙ (λ i. heard_more (before i) (Asked (count i) (same i) passed ∷ [])) ∙ heard_twice old (heard_of 1 made answered) _
+pub heard_asked : (old was new : Option (List Heard)) (made replied calls : List Command) (number : ℕ) (passed : Bool) → was ≡ heard_more old (heard_of 1 made replied) → calls ≡ made ++ replied → number ≡ length replied + 1
+    → new ≡ heard_more was (Asked number calls passed ∷ []) → new ≡ heard_more old (heard_of 1 made replied ++ Asked (length replied + 1) (made ++ replied) passed ∷ [])
+heard_asked old was new made replied calls number passed before same count asked =
+    asked ∙ (λ i. heard_more (before i) (Asked (count i) (same i) passed ∷ [])) ∙ heard_twice old (heard_of 1 made replied) _
 
 -- and told after it
-pub heard_told : (old was new : Option (List Heard)) (made answered calls : List Command) (command : Command) (number : ℕ)
-    → was ≡ heard_more old (heard_of 1 made answered ++ Asked (length answered + 1) (made ++ answered) true ∷ []) → calls ≡ (made ++ answered) ++ command ∷ [] → number ≡ length answered + 1
-    → new ≡ heard_more was (Told number calls ∷ []) → new ≡ heard_more old (heard_of 1 made (answered ++ command ∷ []))
-heard_told old was new made answered calls command number before same count told =
-    let asked = Asked (length answered + 1) (made ++ answered) true in
-    let one : 1 + length answered ≡ length answered + 1 = omega arith in
+pub heard_told : (old was new : Option (List Heard)) (made replied calls : List Command) (command : Command) (number : ℕ)
+    → was ≡ heard_more old (heard_of 1 made replied ++ Asked (length replied + 1) (made ++ replied) true ∷ []) → calls ≡ (made ++ replied) ++ command ∷ [] → number ≡ length replied + 1
+    → new ≡ heard_more was (Told number calls ∷ []) → new ≡ heard_more old (heard_of 1 made (replied ++ command ∷ []))
+heard_told old was new made replied calls command number before same count told =
+    let asked = Asked (length replied + 1) (made ++ replied) true in
+    let one : 1 + length replied ≡ length replied + 1 = omega arith in
     told ∙ (λ i. heard_more (before i) (Told (count i) (same i) ∷ []))
-    ∙ heard_twice old (heard_of 1 made answered ++ asked ∷ []) _
-    ∙ ap (heard_more old) (append_assoc (heard_of 1 made answered) (asked ∷ []) _
-    ∙ (λ i. heard_of 1 made answered ++ heard_one (sym one i) (made ++ answered) command)
-    ∙ sym (heard_of-push 1 made answered command))
+    ∙ heard_twice old (heard_of 1 made replied ++ asked ∷ []) _
+    ∙ ap (heard_more old) (append_assoc (heard_of 1 made replied) (asked ∷ []) _
+    ∙ (λ i. heard_of 1 made replied ++ heard_one (sym one i) (made ++ replied) command)
+    ∙ sym (heard_of-push 1 made replied command))
 
 -- a session that ended at a call that was asked for
-pub hears_asked : (old new : Option (List Heard)) (before after : SeatView) (answered : List Command) (end : End) (passed : Bool) → calls_of after ≡ calls_of before ++ answered
-    → heard_last end (length answered + 1) (calls_of before ++ answered) ≡ Asked (length answered + 1) (calls_of before ++ answered) passed ∷ []
-    → new ≡ heard_more old (heard_of 1 (calls_of before) answered ++ Asked (length answered + 1) (calls_of before ++ answered) passed ∷ []) → Hears old new before after end
-hears_asked old new before after answered end passed calls last heard =
-    record { answered = answered; calls = calls; heard = heard ∙ ap (λ l. heard_more old (heard_of 1 (calls_of before) answered ++ l)) (sym last) }
+pub hears_asked : (old new : Option (List Heard)) (before after : SeatView) (replied : List Command) (end : End) (passed : Bool) → calls_of after ≡ calls_of before ++ replied
+    → heard_last end (length replied + 1) (calls_of before ++ replied) ≡ Asked (length replied + 1) (calls_of before ++ replied) passed ∷ []
+    → new ≡ heard_more old (heard_of 1 (calls_of before) replied ++ Asked (length replied + 1) (calls_of before ++ replied) passed ∷ []) → Hears old new before after end
+hears_asked old new before after replied end passed calls last heard =
+    record { replied = replied; calls = calls; heard = heard ∙ ap (λ l. heard_more old (heard_of 1 (calls_of before) replied ++ l)) (sym last) }
 
 -- a session whose calls were all answered
-pub hears_all : (old new : Option (List Heard)) (before after : SeatView) (answered : List Command) (end : End) → calls_of after ≡ calls_of before ++ answered
-    → heard_last end (length answered + 1) (calls_of before ++ answered) ≡ [] → new ≡ heard_more old (heard_of 1 (calls_of before) answered) → Hears old new before after end
-hears_all old new before after answered end calls last heard = record {
-  answered = answered;
+pub hears_all : (old new : Option (List Heard)) (before after : SeatView) (replied : List Command) (end : End) → calls_of after ≡ calls_of before ++ replied
+    → heard_last end (length replied + 1) (calls_of before ++ replied) ≡ [] → new ≡ heard_more old (heard_of 1 (calls_of before) replied) → Hears old new before after end
+hears_all old new before after replied end calls last heard = record {
+  replied = replied;
   calls = calls;
-  heard = heard ∙ ap (heard_more old) (sym (append-nil (heard_of 1 (calls_of before) answered)) ∙ ap (λ l. heard_of 1 (calls_of before) answered ++ l) (sym last));
+  heard = heard ∙ ap (heard_more old) (sym (append-nil (heard_of 1 (calls_of before) replied)) ∙ ap (λ l. heard_of 1 (calls_of before) replied ++ l) (sym last));
 }
 
 -- a session that ended at a fault
-pub hears_fault : (old new : Option (List Heard)) (before after : SeatView) (answered : List Command) (fault : CallFault) (end : End) → end ≡ end_at fault → calls_of after ≡ calls_of before ++ answered
-    → new ≡ heard_more old (heard_of 1 (calls_of before) answered ++ Asked (length answered + 1) (calls_of before ++ answered) true ∷ []) → Hears old new before after end
-hears_fault old new before after answered fault end is calls heard =
-    hears_asked old new before after answered end true calls (ap (λ (e : End). heard_last e (length answered + 1) (calls_of before ++ answered)) is ∙ last fault) heard
+pub hears_fault : (old new : Option (List Heard)) (before after : SeatView) (replied : List Command) (fault : CallFault) (end : End) → end ≡ end_at fault → calls_of after ≡ calls_of before ++ replied
+    → new ≡ heard_more old (heard_of 1 (calls_of before) replied ++ Asked (length replied + 1) (calls_of before ++ replied) true ∷ []) → Hears old new before after end
+hears_fault old new before after replied fault end is calls heard =
+    hears_asked old new before after replied end true calls (ap (λ (e : End). heard_last e (length replied + 1) (calls_of before ++ replied)) is ∙ last fault) heard
   where
-    last : (f : CallFault) → heard_last (end_at f) (length answered + 1) (calls_of before ++ answered) ≡ Asked (length answered + 1) (calls_of before ++ answered) true ∷ []
+    last : (f : CallFault) → heard_last (end_at f) (length replied + 1) (calls_of before ++ replied) ≡ Asked (length replied + 1) (calls_of before ++ replied) true ∷ []
     last JournalFull = refl
     last NoMemory = refl

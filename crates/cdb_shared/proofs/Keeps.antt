@@ -14,7 +14,7 @@ use Rattle.cdb_shared.specs.declared.knowledge.Stage.TheVariants.{Spent, Resting
 use Rattle.cdb_shared.specs.declared.knowledge.KnownSeat.{KnownSeat}
 use Rattle.cdb_shared.specs.declared.knowledge.Story.{Story}
 use Rattle.cdb_shared.specs.declared.knowledge.Knowledge.{Knowledge}
-use Rattle.cdb_shared.specs.Turn.{story, longer, opening, spent, resting, holding, Knows, AllKnow, Whereabouts, InQueue, HeldBy, FitsAt, queued, IsHeld, seat_count, total_of, Turns, IsRuled, known_seats_from, seen_at, seen_by, TurnTaken, TurnGiven, MayGrow, MayFollow, MayGive, seats_after, NoneStands, without_first, first_alone, joined_pass}
+use Rattle.cdb_shared.specs.Turn.{story, longer, opening, spent, resting, holding, Knows, AllKnow, Whereabouts, InQueue, HeldBy, FitsAt, queued, IsHeld, seat_count, total_of, Turns, IsRuled, known_seats_from, seen_at, seen_by, TurnTaken, TurnGiven, MayGrow, MayFollow, MayGive, seats_after, NoneWaits, without_first, first_alone, joined_pass}
 
 -- at the start there is one pass, and nothing in the queue
 pub begins : IsRuled [] (opening ∷ [])
@@ -178,7 +178,7 @@ take_other Holding c turn pass j u none fits = let e : InQueue ≡ HeldBy j = sy
 pub takes : (pass : ℕ) (v : Knowledge) → v.stage ≡ Resting → Pops IsRuled pass v (λ x w. TurnTaken v x w)
 takes pass v rests x items views (inl start) at = let e = start.0 in absurd (cc)
 takes pass v rests x items views (inr t) at =
-    let was = stood t.turn t.control x items t.stands in
+    let was = stood t.turn t.control x items t.waits in
     let c = t.control in
     let w = holding v.known_seats (story x) in
     let fits = fits_as Resting c t.turn pass v rests (t.each pass v at) in
@@ -187,7 +187,7 @@ takes pass v rests x items views (inr t) at =
       inr (record {
         control = c;
         turn = HeldBy pass;
-        stands = was.2;
+        waits = was.2;
         held = (w, here views pass v w at, refl);
         each = each_set F views pass w (fits, refl, ap Some was.1) (λ j u apart e. take_other u.stage c t.turn pass j u was.0 (t.each j u e));
         once = λ k. let total = total_set k views pass v w at in let few = t.once k in omega arith;
@@ -234,7 +234,7 @@ gives_first n pass v c items views empty alone at =
     record {
       control = k;
       turn = InQueue;
-      stands = ap (λ l. map story (l ++ c ∷ [])) empty;
+      waits = ap (λ l. map story (l ++ c ∷ [])) empty;
       held = tt;
       each = each_set F views pass w (AllKnow-from 1 c.seats k) (λ j u apart e. absurd (apart ((only_view views j u alone e).0 ∙ sym first.0)));
       once = λ m. let total = total_set m views pass v w at in let was = none m in let few = count_from m 1 c.seats k in omega arith;
@@ -251,7 +251,7 @@ gives_next pass v c items views t at mine known grow =
     record {
       control = k;
       turn = InQueue;
-      stands = map-append story items (c ∷ []) ∙ ap (λ l. l ++ k ∷ []) (t.stands ∙ ap (λ h. queued h old) mine);
+      waits = map-append story items (c ∷ []) ∙ ap (λ l. l ++ k ∷ []) (t.waits ∙ ap (λ h. queued h old) mine);
       held = tt;
       each = each_set F views pass w (AllKnow-given v.known_seats old k grow known)
           (λ j u apart e. give_other u.stage old k t.turn pass j u mine apart (grown old k views pass j v u grow t.once apart at e) (t.each j u e));
@@ -279,11 +279,11 @@ no_stories [] e = refl
 no_stories (x ∷ items) e = absurd (cc)
 
 -- while a pass holds the control, none stands in the queue
-pub none_stands : (pass : ℕ) (v : Knowledge) → v.stage ≡ Holding → Learns IsRuled pass v (λ items. NoneStands v items)
-none_stands pass v holds items views (inl start) at = start.0
-none_stands pass v holds items views (inr t) at =
+pub none_waits : (pass : ℕ) (v : Knowledge) → v.stage ≡ Holding → Learns IsRuled pass v (λ items. NoneWaits v items)
+none_waits pass v holds items views (inl start) at = start.0
+none_waits pass v holds items views (inr t) at =
     let fits = fits_as Holding t.control t.turn pass v holds (t.each pass v at) in
-    no_stories items (t.stands ∙ ap (λ h. queued h t.control) fits.1)
+    no_stories items (t.waits ∙ ap (λ h. queued h t.control) fits.1)
 
 -- the first seat of a pass gets a pass of its own
 pub forks : (pass : ℕ) (v : Knowledge) → v.stage ≡ Resting → Forks IsRuled pass v (without_first v) (first_alone v)
@@ -298,7 +298,7 @@ forks pass v rests items views (inr t) at =
     inr (record {
       control = c;
       turn = t.turn;
-      stands = t.stands;
+      waits = t.waits;
       held = held_push t.turn (set views pass left) right (held_set t.turn views pass v left at (resting_holds v rests) t.held);
       each = λ j u e. ⊎_elim (λ there. was j u there) (λ (is : right ≡ u). subst (F j) is (AllKnow-first c v.known_seats fits)) (at_snoc (set views pass left) right u j e);
       once = λ k.
@@ -322,7 +322,7 @@ merges pass v other u rests rests' items views (inr t) at apart at' =
     inr (record {
       control = c;
       turn = t.turn;
-      stands = t.stands;
+      waits = t.waits;
       held = held_set t.turn (set views pass both) other u spent at' (resting_holds u rests') (held_set t.turn views pass v both at (resting_holds v rests) t.held);
       each = each_set F (set views pass both) other spent tt (λ j y _ e. was j y e);
       once = λ k.

@@ -3,7 +3,7 @@ use Rattle.std.proofs.Common.{◌≡◌, ◌≢◌, ℕ, length-append, suc, ◌
 use Rattle.std.proofs.lemmas.List.{replicate-append-replicate, take_more}
 use Rattle.cdb_control.specs.declared.command.Command.{Command}
 use Rattle.cdb_base.specs.declared.refusal.Refusal.TheVariants as refusal
-use Rattle.cdb_control.specs.Answer.{Answer, Refused}
+use Rattle.cdb_control.specs.ToldReply.{ToldReply, Refused}
 use Rattle.cdb_control.specs.declared.control.Entry.{Entry}
 use Rattle.cdb_control.specs.declared.control.CallFault.{CallFault}
 use Rattle.cdb_control.specs.declared.control.CallFault.TheVariants.{JournalFull, NoMemory}
@@ -26,7 +26,7 @@ IsLater-trans a b c x y = record {
 }
 
 -- a call is one more of the seat's own
-pub calls_of-call : (rules : Parts → Rules) (old new : SeatView) (command : Command) (reply : Answer) → IsLater old new → IsCall rules old command reply new → calls_of new ≡ calls_of old ++ command ∷ []
+pub calls_of-call : (rules : Parts → Rules) (old new : SeatView) (command : Command) (reply : ToldReply) → IsLater old new → IsCall rules old command reply new → calls_of new ≡ calls_of old ++ command ∷ []
 calls_of-call rules old new command reply later call =
     (λ i. own (later.number i) (call.entry i)) ∙ own-push old.number call.journal command ∙ ap (λ l. l ++ command ∷ []) call.calls
 
@@ -34,7 +34,7 @@ same_replies : (rules : Parts → Rules) (old new : SeatView) → IsLater old ne
 same_replies rules old new later journal is = λ i. replies_of (rules (later.setup i)) (later.setup i) (later.seats i) (later.number i) (is i)
 
 -- and its reply is one more of the seat's replies
-pub replies_to-call : (rules : Parts → Rules) (old new : SeatView) (command : Command) (reply : Answer) → IsLater old new → IsCall rules old command reply new → replies_to rules new ≡ replies_to rules old ++ reply ∷ []
+pub replies_to-call : (rules : Parts → Rules) (old new : SeatView) (command : Command) (reply : ToldReply) → IsLater old new → IsCall rules old command reply new → replies_to rules new ≡ replies_to rules old ++ reply ∷ []
 replies_to-call rules old new command reply later call =
     same_replies rules old new later (call.journal ++ entry old.number command ∷ []) call.entry
     ∙ replies_of-push (rules old.setup) old.setup old.seats old.number call.journal command
@@ -56,12 +56,12 @@ pub length-own : (seat : ℕ) (es : List Entry) → length (own seat es) ≤ len
 length-own seat [] = omega arith
 length-own seat (e ∷ es) = shorter_if (e.seat == seat) e.command (own seat es) (length es) (length-own seat es)
 
-pub NoneDone-push : (rs : List Answer) (r : Answer) → NoneDone rs → r ≢ Refused refusal.Done → NoneDone (rs ++ r ∷ [])
+pub NoneDone-push : (rs : List ToldReply) (r : ToldReply) → NoneDone rs → r ≢ Refused refusal.Done → NoneDone (rs ++ r ∷ [])
 NoneDone-push [] r none apart = (apart, tt)
 NoneDone-push (x ∷ rs) r none apart = (none.0, NoneDone-push rs r none.1 apart)
 
 -- a driven seat whose call met a fault
-pub driven_fault : (fault : CallFault) (end : End) (count turns : ℕ) (replies : List Answer) → end ≡ end_at fault → count < turns → NoneDone replies → IsDriven end count turns replies
+pub driven_fault : (fault : CallFault) (end : End) (count turns : ℕ) (replies : List ToldReply) → end ≡ end_at fault → count < turns → NoneDone replies → IsDriven end count turns replies
 driven_fault fault end count turns replies is low none = subst (λ (e : End). IsDriven e count turns replies) (sym is) (by_fault fault)
   where
     by_fault : (f : CallFault) → IsDriven (end_at f) count turns replies

@@ -45,11 +45,11 @@ heard_last JournalFull number made = Asked number made true ∷ []
 
 -- of a session whose calls with replies are these, numbered from 1
 abbrev pub heard_in : List Command → List Command → End → List Heard
-heard_in made answered end =
-    heard_of 1 made answered ++ heard_last end (length answered + 1) (made ++ answered)
+heard_in made replied end =
+    heard_of 1 made replied ++ heard_last end (length replied + 1) (made ++ replied)
 
 -- a gate has heard of a session that led one seat to the other
 pub record Hears (old new : Option (List Heard)) (before after : SeatView) (end : End) : Type 0 where
-  pub answered : List Command
-  pub calls : calls_of after ≡ calls_of before ++ answered
-  pub heard : new ≡ heard_more old (heard_in (calls_of before) answered end)
+  pub replied : List Command
+  pub calls : calls_of after ≡ calls_of before ++ replied
+  pub heard : new ≡ heard_more old (heard_in (calls_of before) replied end)

@@ -6,8 +6,8 @@ use Rattle.cdb_base.specs.declared.event.Event.{Event}
 use Rattle.cdb_base.specs.declared.limits.TheConstants.{MAX_ENTRIES}
 use Rattle.cdb_control.specs.declared.command.Command.{Command}
 use Rattle.cdb_control.specs.declared.control.Entry.{Entry}
-use Rattle.cdb_control.specs.Answer.{Answer}
-use Rattle.cdb_control.specs.Commands.{answer}
+use Rattle.cdb_control.specs.ToldReply.{ToldReply}
+use Rattle.cdb_control.specs.Commands.{reply_of}
 use Rattle.cdb_control.specs.Headline.{Headline}
 use Rattle.cdb_control.specs.Journal.{Journaled, Begins, entry as entry_of, own, replay}
 use Rattle.cdb_rules.specs.Rules.{Rules}
@@ -50,18 +50,18 @@ abbrev pub SameCalls : SeatView → List Entry → Type 0
 SameCalls seat journal = own seat.number journal ≡ own seat.number seat.seen
 
 -- the reply to a command of the seat at a journal
-abbrev pub answer_at : (Parts → Rules) → SeatView → List Entry → Command → Answer
-answer_at rules seat journal command =
+abbrev pub reply_at : (Parts → Rules) → SeatView → List Entry → Command → ToldReply
+reply_at rules seat journal command =
     let rules_of = rules seat.setup in
-    answer rules_of (replay rules_of seat.setup seat.seats journal) seat.number command
+    reply_of rules_of (replay rules_of seat.setup seat.seats journal) seat.number command
 
 -- one call: before it the others had made the journal what it was, and the reply is the one there
-pub record IsCall (rules : Parts → Rules) (old : SeatView) (command : Command) (answered : Answer) (new : SeatView) : Type 0 where
+pub record IsCall (rules : Parts → Rules) (old : SeatView) (command : Command) (replied : ToldReply) (new : SeatView) : Type 0 where
   pub journal : List Entry
   pub begins : Begins old.seen journal
   pub calls : SameCalls old journal
   pub entry : new.seen ≡ journal ++ entry_of old.number command ∷ []
-  pub reply : answered ≡ answer_at rules old journal command
+  pub reply : replied ≡ reply_at rules old journal command
 
 -- The control has the setup and the number of seats that the seat knows. Its journal begins with what the seat
 -- has seen, and has of the seat's calls just those.

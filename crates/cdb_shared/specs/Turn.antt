@@ -82,7 +82,7 @@ total_of number (v ∷ vs) = seat_count number v.known_seats + total_of number v
 pub record Turns (items : List Journaled) (views : List Knowledge) : Type 0 where
   pub control : Story
   pub turn : Whereabouts
-  pub stands : map story items ≡ queued turn control
+  pub waits : map story items ≡ queued turn control
   pub held : IsHeld turn views
   pub each : (pass : ℕ) (v : Knowledge) → get_elem? views pass ≡ some v → FitsAt v.stage control turn pass v
   pub once : (number : ℕ) → total_of number views ≤ 1
@@ -135,8 +135,8 @@ abbrev pub TurnGiven : Knowledge → Journaled → Knowledge → Type 0
 TurnGiven v c w = w ≡ resting (seats_after v.held v.known_seats (story c))
 
 -- while a pass holds the control, none stands in the queue
-abbrev pub NoneStands : Knowledge → List Journaled → Type 0
-NoneStands v items = items ≡ []
+abbrev pub NoneWaits : Knowledge → List Journaled → Type 0
+NoneWaits v items = items ≡ []
 
 abbrev pub without_first : Knowledge → Knowledge
 without_first v = resting (drop 1 v.known_seats)

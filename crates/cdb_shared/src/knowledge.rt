@@ -65,9 +65,9 @@ impl<T: Runs> Outcome<Control<T>, Knowledge> for Gives {
 }
 
 impl<T: Runs> Lesson<Control<T>, Knowledge> for Gives {
-    ghost use Rattle.cdb_shared.specs.Turn.{NoneStands};
+    ghost use Rattle.cdb_shared.specs.Turn.{NoneWaits};
 
-    ghost fact = { NoneStands };
+    ghost fact = { NoneWaits };
 }
 
 /// The first seat of a pass gets a pass of its own.

@@ -1,6 +1,6 @@
 //! Sessions: a seat's calls in order, each after its gate was asked.
 ghost use Rattle.std.specs.Prelude.{◌≡◌, ◌≢◌, ◌++◌, ◌≤◌, ◌↔◌, length, map, take, replicate, vec_len, List, Bool, true, false, Option, None, IsTrue};
-ghost use Rattle.cdb_control.specs.Answer.{Refused, told};
+ghost use Rattle.cdb_control.specs.ToldReply.{Refused, told};
 ghost use Rattle.cdb_shared.specs.Gates.{Heard, HearsAsked, HearsTold, Hears};
 ghost use Rattle.cdb_shared.specs.Seats.{RestsAt, IsLater, SeesFull, SeesRoom};
 ghost use Rattle.cdb_shared.specs.Sessions.{calls_of, replies_to, end_at, IsDrivenFrom};
@@ -111,7 +111,7 @@ pub fn serve<T: Runs, G: Gate + Drop, R: Wait>(
 
 /// Steps a process by `auto`, each call after the gate was asked, until one is refused as the process is done
 /// or the turns are used up, and hands the seat back with the number of calls. It ends with `Done` at that
-/// answer, also at the last turn, and with `Stopped`, `JournalFull` and `NoMemory` as `serve` does.
+/// reply, also at the last turn, and with `Stopped`, `JournalFull` and `NoMemory` as `serve` does.
 pub fn drive<T: Runs, G: Gate + Drop, R: Wait>(
     shared: &Shared<T>,
     rt: &R,

@@ -8,9 +8,9 @@ pub mod Laws
 pub mod Events
 pub mod Reports
 pub mod Texts
+pub mod Pushes
 -- what the code keeps for itself: the words of a line, and how they are read one after the other
 pub mod Keywords
 pub mod Verbs
 pub mod Words
 pub mod Reading
-pub mod Pushes

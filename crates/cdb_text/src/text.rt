@@ -2,7 +2,7 @@
 
 ghost use Rattle.std.specs.Prelude.{◌≡◌, ◌++◌, IfOk, codes, decimal};
 ghost use Rattle.cdb_text.specs.Pushes.{Pushes};
-ghost use Rattle.cdb_control.specs.Answer.{told};
+ghost use Rattle.cdb_control.specs.ToldReply.{told};
 ghost use Rattle.cdb_text.specs.Events.{event_text};
 ghost use Rattle.cdb_base.specs.NameTexts.{name_text};
 ghost use Rattle.cdb_text.specs.Reports.{causes_text};

@@ -3,11 +3,11 @@
 ghost use Rattle.std.specs.Prelude.{◌≡◌, ◌+◌, ◌≤◌, [], ◌++◌, length, map};
 ghost use Rattle.std.specs.List.{flat_map};
 ghost use Rattle.cdb_base.specs.declared.limits.TheConstants.{MAX_SEATS};
-ghost use Rattle.cdb_control.specs.Answer.{told};
+ghost use Rattle.cdb_control.specs.ToldReply.{told};
 ghost use Rattle.cdb_race.specs.Races.{all_told};
 ghost use Rattle.cdb_text.specs.Texts.{text_of};
 ghost use Rattle.cdb_play.specs.Races.{seat_heading, seat_text, seats_text, end_text, verdict_text, have_one_value, text_with};
-ghost use Rattle.cdb_play.specs.Buffers.{Puts};
+ghost use Rattle.cdb_play.specs.Putting.{Puts};
 ghost use Rattle.cdb_play.specs.Endings.{pieces_ending};
 ghost use Rattle.cdb_play.specs.Written.{IsWritten, Only};
 
@@ -118,7 +118,7 @@ fn put_end<W: Sink>(
     Ok(())
 }
 
-/// Puts what the seats of the scripts were answered, and then the decisions of the last state.
+/// Puts the replies to the seats of the scripts, and then the decisions of the last state.
 fn put_race<T: Runs, W: Sink>(
     alloc: Global,
     control: &Control<T>,

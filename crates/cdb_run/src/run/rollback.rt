@@ -1,4 +1,4 @@
-//! Steps and losses of a run, taken back with their consequences, and why they cannot be taken back
+//! Steps and losses of a run, removed with their consequences, and why they cannot be removed
 //! alone.
 
 ghost use Rattle.std.specs.Prelude.{◌≡◌, ℕ, ◌+◌, ◌-◌, ◌<◌, ◌≤◌, [], ◌∷◌, ◌++◌, length, reverse, Some, slice_get, vec_len, vec_capacity, IfOk, IsOk, OnOk, OnErr};
@@ -6,7 +6,8 @@ ghost use Rattle.std.specs.Vec.{vec_items};
 ghost use Rattle.cdb_causal.specs.Names.{IsNamedAt};
 ghost use Rattle.cdb_causal.specs.Rollback.{without};
 ghost use Rattle.cdb_rules.specs.EventRefs.{name_given};
-ghost use Rattle.cdb_rules.specs.Runs.{step_name, loss_name, AllLeadTo, RollsBackOnto, Tells, rollback_answer, causes_in, rolled_back_at, after_rollback, after_rollback_at, RollbackLeadsBack, IsExactRollback, AreCausesOf, with_history};
+ghost use Rattle.cdb_rules.specs.Runs.{step_name, loss_name, AllLeadTo, RollsBackOnto, Tells, result_of_rollback, causes_in, after_rollback, RollbackLeadsBack, IsExactRollback, AreCausesOf, with_history};
+ghost use Rattle.cdb_rules.specs.AtPositions.{rolled_back_at, after_rollback_at};
 ghost use Rattle.cdb_rules.specs.Undo.{IsFreeName};
 
 use crate::run::Run;
@@ -30,8 +31,8 @@ fn push_reserved(events: &mut Vec<Event>, event: &Event)
 }
 
 impl<P: Process> Run<P> {
-    /// Takes the free event of that name back, which stands.
-    fn take_back_named(&mut self, name: StepId) -> Event
+    /// Removes the free event of that name, which stands, and restores the state before it.
+    fn restore_named(&mut self, name: StepId) -> Event
         requires { IsFreeName self.old.history name }
         ensures event { (i : ℕ) → IsNamedAt self.old.history i name →
             slice_get self.old.history i ≡ Some result }
@@ -39,88 +40,88 @@ impl<P: Process> Run<P> {
             self.new ≡ with_history self.old (without self.old.history i) }
     {
         match self.history().position(name) {
-            Some(at) => self.take_back(at),
+            Some(at) => self.restore_at(at),
             None => unreachable!(),
         }
     }
 
-    /// Takes the event at a position, from 1, back with its consequences, from the last of them back, and
+    /// Removes the event at a position, from 1, with its consequences, from the last of them back, and
     /// adds each to the end of a list. Returns how many events that are.
     fn roll_back(
         &mut self,
         alloc: Global,
         at: usize,
-        taken: &mut Vec<Event>,
+        removed: &mut Vec<Event>,
     ) -> Result<usize, NoMemory>
         requires from_one { 1 ≤ at }
         requires to_len { at ≤ length self.old.history }
         ensures number { IfOk result (λ n. n ≡ length (rolled_back_at self.old (at - 1))) }
         ensures after { OnOk result (self.new ≡ after_rollback_at self.old (at - 1)) }
         ensures list { OnOk result
-            (taken.new.items ≡ taken.old.items ++ reverse (rolled_back_at self.old (at - 1))) }
+            (removed.new.items ≡ removed.old.items ++ reverse (rolled_back_at self.old (at - 1))) }
         ensures err { OnErr result (self.new ≡ self.old) }
-        ensures list_err { OnErr result (taken.new.items ≡ taken.old.items) }
-        ensures capacity { vec_capacity taken.old ≤ vec_capacity taken.new }
+        ensures list_err { OnErr result (removed.new.items ≡ removed.old.items) }
+        ensures capacity { vec_capacity removed.old ≤ vec_capacity removed.new }
     {
         let mut names = consequences(alloc, self.history(), at)?;
         let number = names.len() + 1;
-        taken.reserve(number)?;
+        removed.reserve(number)?;
         while let Some(name) = names.pop() {
-            let event = self.take_back_named(name);
-            push_reserved(taken, &event);
+            let event = self.restore_named(name);
+            push_reserved(removed, &event);
         }
-        let event = self.take_back(at);
-        push_reserved(taken, &event);
+        let event = self.restore_at(at);
+        push_reserved(removed, &event);
         Ok(number)
     }
 
-    /// Takes an event back with its consequences, and returns what was taken back, the last first.
+    /// Removes an event with its consequences, and returns what was removed, the last first.
     fn rolled_back(
         &mut self,
         alloc: Global,
         event: EventRef,
     ) -> Result<Result<Vec<Event>, Refusal>, NoMemory>
-        ensures answer { IfOk result
-            (λ r. Tells vec_items r (rollback_answer self.old (name_given event))) }
+        ensures returns { IfOk result
+            (λ r. Tells vec_items r (result_of_rollback self.old (name_given event))) }
         ensures after { OnOk result (self.new ≡ after_rollback self.old (name_given event)) }
         ensures exact { OnOk result (IsExactRollback self.old (name_given event) self.new) }
         ensures again { IfOk result
-            (λ r. IfOk r (λ taken. AllLeadTo P.table self.new (reverse taken.items) self.old)) }
+            (λ r. IfOk r (λ removed. AllLeadTo P.table self.new (reverse removed.items) self.old)) }
         ensures err { OnErr result (self.new ≡ self.old) }
-        ensures memory { OnErr result (IsOk (rollback_answer self.old (name_given event))) }
+        ensures memory { OnErr result (IsOk (result_of_rollback self.old (name_given event))) }
     {
-        let mut taken = Vec::new(alloc);
-        match self.rollback_event(alloc, event, &mut taken)? {
-            Ok(_) => Ok(Ok(taken)),
+        let mut removed = Vec::new(alloc);
+        match self.rollback_event(alloc, event, &mut removed)? {
+            Ok(_) => Ok(Ok(removed)),
             Err(refusal) => Ok(Err(refusal)),
         }
     }
 
-    /// Takes an event back with its consequences, adds what was taken back to the end of a list, the last first, and
+    /// Removes an event with its consequences, adds what was removed to the end of a list, the last first, and
     /// returns how many events that are; or returns the first refusal that holds: `NoProcess` or `NoStep`. After a
     /// refusal and after `NoMemory` run and list are as they were. A refusal takes no memory.
     pub fn rollback_event(
         &mut self,
         alloc: Global,
         event: EventRef,
-        taken: &mut Vec<Event>,
+        removed: &mut Vec<Event>,
     ) -> Result<Result<usize, Refusal>, NoMemory>
         ensures rolled_back { RollsBackOnto self.old self.new (name_given event)
-            taken.old.items taken.new.items result }
+            removed.old.items removed.new.items result }
         ensures exact { OnOk result (IsExactRollback self.old (name_given event) self.new) }
         ensures again { OnOk result
             (RollbackLeadsBack P.table self.old (name_given event) self.new) }
-        ensures capacity { vec_capacity taken.old ≤ vec_capacity taken.new }
+        ensures capacity { vec_capacity removed.old ≤ vec_capacity removed.new }
     {
         let _ranges = self.setup().n();
         let _valid = self.history();
         match self.find(event) {
-            Ok(at) => Ok(Ok(self.roll_back(alloc, at, taken)?)),
+            Ok(at) => Ok(Ok(self.roll_back(alloc, at, removed)?)),
             Err(refusal) => Ok(Err(refusal)),
         }
     }
 
-    /// Takes the `k`-th step of process `p` back with its consequences, and returns what was taken back, the last
+    /// Removes the `k`-th step of process `p` with its consequences, and returns what was removed, the last
     /// first; or returns the first refusal that holds: `NoProcess` or `NoStep`. After a refusal and after `NoMemory`
     /// the run is as it was. A refusal takes no memory.
     pub fn rollback(
@@ -129,19 +130,19 @@ impl<P: Process> Run<P> {
         p: u32,
         k: u32,
     ) -> Result<Result<Vec<Event>, Refusal>, NoMemory>
-        ensures answer { IfOk result
-            (λ r. Tells vec_items r (rollback_answer self.old (step_name p k))) }
+        ensures returns { IfOk result
+            (λ r. Tells vec_items r (result_of_rollback self.old (step_name p k))) }
         ensures after { OnOk result (self.new ≡ after_rollback self.old (step_name p k)) }
         ensures exact { OnOk result (IsExactRollback self.old (step_name p k) self.new) }
         ensures again { IfOk result
-            (λ r. IfOk r (λ taken. AllLeadTo P.table self.new (reverse taken.items) self.old)) }
+            (λ r. IfOk r (λ removed. AllLeadTo P.table self.new (reverse removed.items) self.old)) }
         ensures err { OnErr result (self.new ≡ self.old) }
-        ensures memory { OnErr result (IsOk (rollback_answer self.old (step_name p k))) }
+        ensures memory { OnErr result (IsOk (result_of_rollback self.old (step_name p k))) }
     {
         self.rolled_back(alloc, EventRef::Step(p, k))
     }
 
-    /// Takes the loss of the copy for process `p` of the `m`-th message of process `s` back with its consequences, as
+    /// Removes the loss of the copy for process `p` of the `m`-th message of process `s` with its consequences, as
     /// `rollback` does a step.
     pub fn rollback_lost(
         &mut self,
@@ -150,14 +151,14 @@ impl<P: Process> Run<P> {
         m: u32,
         p: u32,
     ) -> Result<Result<Vec<Event>, Refusal>, NoMemory>
-        ensures answer { IfOk result
-            (λ r. Tells vec_items r (rollback_answer self.old (loss_name s m p))) }
+        ensures returns { IfOk result
+            (λ r. Tells vec_items r (result_of_rollback self.old (loss_name s m p))) }
         ensures after { OnOk result (self.new ≡ after_rollback self.old (loss_name s m p)) }
         ensures exact { OnOk result (IsExactRollback self.old (loss_name s m p) self.new) }
         ensures again { IfOk result
-            (λ r. IfOk r (λ taken. AllLeadTo P.table self.new (reverse taken.items) self.old)) }
+            (λ r. IfOk r (λ removed. AllLeadTo P.table self.new (reverse removed.items) self.old)) }
         ensures err { OnErr result (self.new ≡ self.old) }
-        ensures memory { OnErr result (IsOk (rollback_answer self.old (loss_name s m p))) }
+        ensures memory { OnErr result (IsOk (result_of_rollback self.old (loss_name s m p))) }
     {
         self.rolled_back(alloc, EventRef::Lost(s, m, p))
     }
@@ -165,7 +166,7 @@ impl<P: Process> Run<P> {
     /// The direct causes of a standing event, in order of process, at most one of each; or the first refusal that
     /// holds: `NoProcess` or `NoStep`. It takes no memory.
     pub fn causes_of(&self, alloc: Global, event: EventRef) -> Result<SmallVec<StepId, 9>, Refusal>
-        ensures answer { Tells (λ causes. causes.items) result
+        ensures returns { Tells (λ causes. causes.items) result
             (causes_in self.now (name_given event)) }
         ensures direct { IfOk result
             (λ causes. AreCausesOf self.now (name_given event) causes.items) }
@@ -177,7 +178,7 @@ impl<P: Process> Run<P> {
 
     /// The direct causes of the `k`-th step of process `p`, as `causes_of` returns them.
     pub fn causes(&self, alloc: Global, p: u32, k: u32) -> Result<SmallVec<StepId, 9>, Refusal>
-        ensures answer { Tells (λ causes. causes.items) result
+        ensures returns { Tells (λ causes. causes.items) result
             (causes_in self.now (step_name p k)) }
         ensures direct { IfOk result (λ causes. AreCausesOf self.now (step_name p k) causes.items) }
     {

@@ -5,7 +5,8 @@ ghost use Rattle.std.specs.List.{list_all};
 ghost use Rattle.cdb_base.specs.Processes.{all_processes};
 ghost use Rattle.cdb_causal.specs.Dependence.{depends};
 ghost use Rattle.cdb_causal.specs.Exchange.{IsExchanged};
-ghost use Rattle.cdb_rules.specs.OwnSteps.{own_steps, is_lost_too as is_lost_too_of, AreAlike};
+ghost use Rattle.cdb_rules.specs.OwnSteps.{own_steps};
+ghost use Rattle.cdb_rules.specs.Comparing.{is_lost_too as is_lost_too_of, AreAlike};
 ghost use Rattle.cdb_rules.specs.Runs.{AreInSameState};
 
 use crate::own_steps::same_steps;

@@ -1,4 +1,4 @@
-//! Steps and losses of a run, found by their names and taken back in place.
+//! Steps and losses of a run, found by their names and undone in place.
 
 ghost use Rattle.std.specs.Prelude.{◌≡◌, ◌↔◌, ◌-◌, ◌≤◌, length, Some, IsOk, IfOk};
 ghost use Rattle.std.specs.Result.{result_err};
@@ -7,10 +7,11 @@ ghost use Rattle.cdb_causal.specs.Causality.{IsFree};
 ghost use Rattle.cdb_causal.specs.Dependence.{depends as depends_of};
 ghost use Rattle.cdb_causal.specs.Rollback.{without};
 ghost use Rattle.cdb_rules.specs.EventRefs.{name_given};
-ghost use Rattle.cdb_rules.specs.Runs.{step_name, loss_name, IsPositionFound, CanUndo, LeadsTo, undo_at_position, undo_answer, after_undo, with_history, with_left};
-ghost use Rattle.cdb_rules.specs.Undo.{answered};
+ghost use Rattle.cdb_rules.specs.Runs.{step_name, loss_name, CanUndo, LeadsTo, result_of_undo, after_undo, with_history, with_left};
+ghost use Rattle.cdb_rules.specs.AtPositions.{IsPositionFound, undo_at_position};
+ghost use Rattle.cdb_rules.specs.Undo.{result_alone};
 
-use crate::restore::change_back;
+use crate::restore::restore_change;
 use crate::run::Run;
 use cdb_base::{CopyName, Event, MsgName, Refusal, StepId, StepName};
 use cdb_causal::first_dependent;
@@ -67,8 +68,8 @@ impl<P: Process> Run<P> {
         }
     }
 
-    /// Takes the free event at a position, from 1, back. It takes no memory.
-    pub(crate) fn take_back(&mut self, at: usize) -> Event
+    /// Removes the free event at a position, from 1, and restores the state before it. It takes no memory.
+    pub(crate) fn restore_at(&mut self, at: usize) -> Event
         requires from_one { 1 ≤ at }
         requires to_len { at ≤ length self.old.history }
         requires free { IsFree depends_of self.old.history (at - 1) }
@@ -86,7 +87,7 @@ impl<P: Process> Run<P> {
                 let state = &mut self.state;
                 let progress = &mut state.processes[p.index()];
                 let left = Left { back, overwritten };
-                change_back(
+                restore_change(
                     progress,
                     &mut state.mail,
                     &mut state.registers,
@@ -100,16 +101,16 @@ impl<P: Process> Run<P> {
         taken
     }
 
-    /// Takes the event at a position, from 1, back where it is free, else names the first that needs it.
+    /// Undoes the event at a position, from 1, where it is free, else names the first that needs it.
     fn undo_at(&mut self, at: usize) -> Result<Event, Refusal>
         requires from_one { 1 ≤ at }
         requires to_len { at ≤ length self.old.history }
-        ensures answer { result ≡ answered (undo_at_position self.old (at - 1)) }
+        ensures returns { result ≡ result_alone (undo_at_position self.old (at - 1)) }
         ensures after { self.new ≡ with_left self.old (undo_at_position self.old (at - 1)) }
     {
         match first_dependent(self.history(), at) {
             Some(name) => Err(Refusal::NeededBy(name)),
-            None => Ok(self.take_back(at)),
+            None => Ok(self.restore_at(at)),
         }
     }
 
@@ -117,7 +118,7 @@ impl<P: Process> Run<P> {
     /// or `NeededBy` the first standing event that depends on it. After a refusal the run is as it was. It takes no
     /// memory.
     pub fn undo_event(&mut self, event: EventRef) -> Result<Event, Refusal>
-        ensures answer { result ≡ undo_answer self.old (name_given event) }
+        ensures returns { result ≡ result_of_undo self.old (name_given event) }
         ensures after { self.new ≡ after_undo self.old (name_given event) }
         ensures free { IsOk result ↔ CanUndo self.old (name_given event) }
         ensures back { IfOk result (λ event. LeadsTo P.table self.new event self.old) }
@@ -130,7 +131,7 @@ impl<P: Process> Run<P> {
 
     /// What `undo_event` would be refused with, if it would be. It takes no memory.
     pub fn refuses_undo(&self, event: EventRef) -> Option<Refusal>
-        ensures { result ≡ result_err (undo_answer self.now (name_given event)) }
+        ensures { result ≡ result_err (result_of_undo self.now (name_given event)) }
     {
         match self.find(event) {
             Ok(at) => Some(Refusal::NeededBy(first_dependent(self.history(), at)?)),
@@ -140,7 +141,7 @@ impl<P: Process> Run<P> {
 
     /// Undoes the `k`-th step of process `p`, as `undo_event` does.
     pub fn undo(&mut self, p: u32, k: u32) -> Result<Event, Refusal>
-        ensures answer { result ≡ undo_answer self.old (step_name p k) }
+        ensures returns { result ≡ result_of_undo self.old (step_name p k) }
         ensures after { self.new ≡ after_undo self.old (step_name p k) }
         ensures free { IsOk result ↔ CanUndo self.old (step_name p k) }
         ensures back { IfOk result (λ event. LeadsTo P.table self.new event self.old) }
@@ -150,7 +151,7 @@ impl<P: Process> Run<P> {
 
     /// Undoes the loss of the copy for process `p` of the `m`-th message of process `s`, as `undo_event` does.
     pub fn undo_lost(&mut self, s: u32, m: u32, p: u32) -> Result<Event, Refusal>
-        ensures answer { result ≡ undo_answer self.old (loss_name s m p) }
+        ensures returns { result ≡ result_of_undo self.old (loss_name s m p) }
         ensures after { self.new ≡ after_undo self.old (loss_name s m p) }
         ensures free { IsOk result ↔ CanUndo self.old (loss_name s m p) }
         ensures back { IfOk result (λ event. LeadsTo P.table self.new event self.old) }

@@ -24,10 +24,10 @@ fn laws_of_the_leader_machine() {
 #[test]
 fn laws_of_the_alpha_machine() {
     alpha::rounds_are_entered_once();
-    alpha::written_cells_never_fall();
-    alpha::own_is_what_was_written();
+    alpha::cells_left_never_fall();
+    alpha::own_is_what_was_left();
     alpha::chooses_the_latest_write();
-    alpha::reached_states_stand();
+    alpha::reached_states_hold();
     alpha::rounds_are_of_one_process();
     alpha::each_input_is_a_step();
 }

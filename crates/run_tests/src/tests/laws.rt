@@ -18,8 +18,8 @@ fn laws_of_exchange() {
 /// A standing event is taken back by its name, alone where it is free or with its consequences.
 #[test]
 fn laws_of_names() {
-    laws::answered_undo::<Leader>();
-    laws::answered_rollback::<Leader>();
+    laws::granted_undo::<Leader>();
+    laws::granted_rollback::<Leader>();
     laws::names::<Leader>();
 }
 

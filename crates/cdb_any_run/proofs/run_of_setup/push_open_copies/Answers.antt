@@ -1,7 +1,7 @@
 use Rattle.std.proofs.Common.{◌≡◌, ◌++◌, Some, option_to_list, filter, refl, sym, ap, ◌∙◌, append-nil}
 use Rattle.std.specs.List.{flat_map}
 use Rattle.cdb_any_run.proofs.OpenCopies.{copies-rise, none-looked, one-looked, all-looked, fewer-left}
-use Rattle.cdb_message.specs.Mail.{copies_for, stands_above}
+use Rattle.cdb_message.specs.Mail.{copies_for, is_above}
 use Rattle.cdb_rules.specs.Algorithms.{rules}
 use Rattle.cdb_rules.specs.Views.{shown_copy}
 use Rattle.cdb_any_run.specs.Any.{run_view}
@@ -35,7 +35,7 @@ loop-name-preserved c =
       | in-Some-copy_of+in_ok-push w ↦ ap (λ v. v.items) w.copies-is ∙ w.in_ok-push.ensures.items ∙ ap (λ o. items ++ option_to_list o) (sym w.in-Some-copy_of.is) ∙ ap (λ more. items ++ more) copied
       | in_default-copy_of w ↦ ap (λ v. v.items) w.copies-is ∙ sym (append-nil items) ∙ ap (λ o. items ++ option_to_list o) (sym w.in_default-copy_of.is) ∙ ap (λ more. items ++ more) copied
     ] in
-    ap (λ so_far. so_far ++ flat_map (shown_copy mail p) (filter (stands_above (Some name)) (copies_for mail p))) grown
+    ap (λ so_far. so_far ++ flat_map (shown_copy mail p) (filter (is_above (Some name)) (copies_for mail p))) grown
     ∙ one-looked (shown_copy mail p) (copies_for mail p) c.args.copies.now.items c.loop-name.after items name (copies-rise mail p) (sym c.pending.ensures ∙ c.in-Some.is) c.loop-name.invariant
 
 pub returns : goal.returns

@@ -10,7 +10,7 @@ pub slice_bounds-names-count : goal.slice_bounds-names-count
 slice_bounds-names-count c =
     let within : c.args.at - 1 < length c.args.history.now = omega arith in
     let some = rolled_back_some depends c.args.history.now (c.args.at - 1) within in
-    let taken = ap length c.in_ok-taken.ensures in
+    let removed = ap length c.in_ok-removed.ensures in
     let is_there = ap length c.deref.ensures.value in
     omega arith
 
@@ -22,6 +22,6 @@ returns c =
     let events : List Event = c.deref.result.now in
     let are =
     take_rest events 1
-    ∙ ap (drop 1) (c.deref.ensures.value ∙ c.in_ok-taken.ensures)
+    ∙ ap (drop 1) (c.deref.ensures.value ∙ c.in_ok-removed.ensures)
     in
     subst (λ l. IfOk c.names.result (λ names. names.items ≡ map event_name l)) are c.names.ensures

@@ -2,7 +2,7 @@ use Rattle.std.proofs.Common.{◌≡◌, ◌+◌, List, ℕ, [], sym, ap, subst,
 use Rattle.std.proofs.lemmas.List.{length-take}
 use Rattle.std.proofs.lemmas.Result.{err_from_is_err_and}
 use Rattle.cdb_debug.specs.Dialogues.{session_by}
-use Rattle.cdb_debug.proofs.Conversing.{Stands, started, not_started, not_read, over_at_most, over_at_end, goes_on, quits, breaks}
+use Rattle.cdb_debug.proofs.Conversing.{Arrives, started, not_started, not_read, over_at_most, over_at_end, goes_on, quits, breaks}
 use Rattle.cdb_debug.proofs.conversation.converse.Goals as goal
 
 pub returns-in_default : goal.returns-in_default
@@ -10,7 +10,7 @@ returns-in_default g c = not_started c.args.prompt.now _ _ (session_by g.R.Runs.
 
 pub loop-read-init : goal.loop-read-init
 loop-read-init g c =
-    let none : c.new-held.result.items ≡ [] = c.new-held.ensures.items in
+    let none : c.new-unfinished.result.items ≡ [] = c.new-unfinished.ensures.items in
     let first = session_by g.R.Runs.rules c.args.session.now in
     let before = g.T.Talk.known c.args.talk.now in
     let now = g.T.Talk.known c.say.new.talk in
@@ -18,19 +18,19 @@ loop-read-init g c =
       few = omega (arith, ap length none);
       bound = omega arith;
       lines = omega (arith, c.requires);
-      stands = subst (λ held. Stands c.args.prompt.now before first now first held 0) (sym none) (started c.args.prompt.now before now first (Unit {0}) (Unit {0}) tt c.in-Ok.ensures);
+      arrives = subst (λ unfinished. Arrives c.args.prompt.now before first now first unfinished 0) (sym none) (started c.args.prompt.now before now first (Unit {0}) (Unit {0}) tt c.in-Ok.ensures);
     }
 
 pub returns-in_default-read : goal.returns-in_default-read
 returns-in_default-read g c =
-    not_read c.args.prompt.now _ (session_by g.R.Runs.rules c.args.session.now) _ (session_by g.R.Runs.rules c.loop-read.session) c.loop-read.held.items c.loop-read.read c.loop-read.invariant.stands _ c.in_default-read.ensures.moves
+    not_read c.args.prompt.now _ (session_by g.R.Runs.rules c.args.session.now) _ (session_by g.R.Runs.rules c.loop-read.session) c.loop-read.unfinished.items c.loop-read.read c.loop-read.invariant.arrives _ c.in_default-read.ensures.moves
 
 pub returns-then-count-eq0 : goal.returns-then-count-eq0
 returns-then-count-eq0 g c =
     let buffer : List ℕ = c.read.new.buffer in
     let bytes : List ℕ = take c.in-Ok-read.count buffer in
     let none : bytes ≡ [] = ap (λ n. take n buffer) c.if-count-eq0.true in
-    over_at_end c.args.prompt.now _ (session_by g.R.Runs.rules c.args.session.now) _ (session_by g.R.Runs.rules c.loop-read.session) c.loop-read.held.items c.loop-read.read c.loop-read.invariant.stands _ bytes c.in-Ok-read.ensures.moves _ none c.answer_last.result c.answer_last.ensures
+    over_at_end c.args.prompt.now _ (session_by g.R.Runs.rules c.args.session.now) _ (session_by g.R.Runs.rules c.loop-read.session) c.loop-read.unfinished.items c.loop-read.read c.loop-read.invariant.arrives _ bytes c.in-Ok-read.ensures.moves _ none c.respond_to_last.result c.respond_to_last.ensures
 
 pub returns-in_err-hear : goal.returns-in_err-hear
 returns-in_err-hear g c =
@@ -38,13 +38,13 @@ returns-in_err-hear g c =
     let buffer : List ℕ = c.read.new.buffer in
     let bytes : List ℕ = take c.in-Ok-read.count buffer in
     rw (p.1, p.2)
-    (breaks c.args.prompt.now _ (session_by g.R.Runs.rules c.args.session.now) _ (session_by g.R.Runs.rules c.loop-read.session) c.loop-read.held.items c.loop-read.read c.loop-read.invariant.stands _ bytes c.in-Ok-read.ensures.moves _ (session_by g.R.Runs.rules c.hear.new.session) c.hear.new.held.items c.in_err-hear.field-0.0 c.in_err-hear.ensures.heard)
+    (breaks c.args.prompt.now _ (session_by g.R.Runs.rules c.args.session.now) _ (session_by g.R.Runs.rules c.loop-read.session) c.loop-read.unfinished.items c.loop-read.read c.loop-read.invariant.arrives _ bytes c.in-Ok-read.ensures.moves _ (session_by g.R.Runs.rules c.hear.new.session) c.hear.new.unfinished.items c.in_err-hear.field-0.0 c.in_err-hear.ensures.heard)
 
 pub returns-then-branch : goal.returns-then-branch
 returns-then-branch g c =
     let buffer : List ℕ = c.read.new.buffer in
     let bytes : List ℕ = take c.in-Ok-read.count buffer in
-    quits c.args.prompt.now _ (session_by g.R.Runs.rules c.args.session.now) _ (session_by g.R.Runs.rules c.loop-read.session) c.loop-read.held.items c.loop-read.read c.loop-read.invariant.stands _ bytes c.in-Ok-read.ensures.moves _ (session_by g.R.Runs.rules c.hear.new.session) c.hear.new.held.items (rw c.if-branch.true at c.in_ok-hear.ensures.heard)
+    quits c.args.prompt.now _ (session_by g.R.Runs.rules c.args.session.now) _ (session_by g.R.Runs.rules c.loop-read.session) c.loop-read.unfinished.items c.loop-read.read c.loop-read.invariant.arrives _ bytes c.in-Ok-read.ensures.moves _ (session_by g.R.Runs.rules c.hear.new.session) c.hear.new.unfinished.items (rw c.if-branch.true at c.in_ok-hear.ensures.heard)
 
 pub loop-read-preserved : goal.loop-read-preserved
 loop-read-preserved g c =
@@ -56,16 +56,16 @@ loop-read-preserved g c =
     let before = g.T.Talk.known c.args.talk.now in
     let now = g.T.Talk.known c.hear.new.talk in
     record {
-      few = c.in_ok-hear.ensures.held;
+      few = c.in_ok-hear.ensures.unfinished;
       bound = omega (arith, c.loop-read-test.true, c.in-Ok-read.ensures.within);
       lines = omega (arith, c.in_ok-hear.ensures.lines, c.loop-read.invariant.lines, long);
-      stands = subst (λ n. Stands c.args.prompt.now before first now (session_by g.R.Runs.rules c.hear.new.session) c.hear.new.held.items (c.loop-read.read + n)) long
-          (goes_on c.args.prompt.now before first _ (session_by g.R.Runs.rules c.loop-read.session) c.loop-read.held.items c.loop-read.read c.loop-read.invariant.stands _ bytes c.in-Ok-read.ensures.moves now (session_by g.R.Runs.rules c.hear.new.session) c.hear.new.held.items (rw c.if-branch.false at c.in_ok-hear.ensures.heard));
+      arrives = subst (λ n. Arrives c.args.prompt.now before first now (session_by g.R.Runs.rules c.hear.new.session) c.hear.new.unfinished.items (c.loop-read.read + n)) long
+          (goes_on c.args.prompt.now before first _ (session_by g.R.Runs.rules c.loop-read.session) c.loop-read.unfinished.items c.loop-read.read c.loop-read.invariant.arrives _ bytes c.in-Ok-read.ensures.moves now (session_by g.R.Runs.rules c.hear.new.session) c.hear.new.unfinished.items (rw c.if-branch.false at c.in_ok-hear.ensures.heard));
     }
 
-pub answer_last-requires-2 : goal.answer_last-requires-2
-answer_last-requires-2 g c = omega (arith, c.loop-read.invariant.lines, c.loop-read.invariant.bound)
+pub respond_to_last-requires-2 : goal.respond_to_last-requires-2
+respond_to_last-requires-2 g c = omega (arith, c.loop-read.invariant.lines, c.loop-read.invariant.bound)
 
 pub returns : goal.returns
 returns g c =
-    over_at_most c.args.prompt.now _ (session_by g.R.Runs.rules c.args.session.now) _ (session_by g.R.Runs.rules c.loop-read.session) c.loop-read.held.items c.loop-read.read c.loop-read.invariant.stands (g.T.Talk.known c.loop-read.talk) c.loop-read-test.false _ c.answer_last-2.result c.answer_last-2.ensures
+    over_at_most c.args.prompt.now _ (session_by g.R.Runs.rules c.args.session.now) _ (session_by g.R.Runs.rules c.loop-read.session) c.loop-read.unfinished.items c.loop-read.read c.loop-read.invariant.arrives (g.T.Talk.known c.loop-read.talk) c.loop-read-test.false _ c.respond_to_last-2.result c.respond_to_last-2.ensures

@@ -1,15 +1,15 @@
 use Rattle.std.proofs.Common.{◌+◌, ◌-◌, ◌≤◌, length}
 use Rattle.cdb_setup.specs.Format.{longest}
 use Rattle.cdb_debug.specs.Dialogues.{session_by}
-use Rattle.cdb_debug.proofs.Conversing.{Stands}
+use Rattle.cdb_debug.proofs.Conversing.{Arrives}
 use Rattle.cdb_debug.proofs.conversation.converse.Given as goal
 
 abbrev pub invariant-loop-read : goal.invariant-loop-read
 invariant-loop-read g l = record {
-  few : length l.held.items ≤ longest + 1;
+  few : length l.unfinished.items ≤ longest + 1;
   bound : l.read ≤ 9223372036854779904;
   lines : l.session.lines ≤ l.read;
-  stands : Stands l.prompt (g.T.Talk.known l.fn.talk) (session_by g.R.Runs.rules l.fn.session) (g.T.Talk.known l.talk) (session_by g.R.Runs.rules l.session) l.held.items l.read;
+  arrives : Arrives l.prompt (g.T.Talk.known l.fn.talk) (session_by g.R.Runs.rules l.fn.session) (g.T.Talk.known l.talk) (session_by g.R.Runs.rules l.session) l.unfinished.items l.read;
 }
 
 abbrev pub decreases-loop-read : goal.decreases-loop-read

@@ -3,66 +3,66 @@ use Rattle.std.proofs.lemmas.List.{length-take}
 use Rattle.std.proofs.lemmas.Result.{err_from_is_err_and}
 use Rattle.cdb_setup.specs.Format.{longest}
 use Rattle.cdb_debug.specs.Dialogues.{Session, session_by}
-use Rattle.cdb_debug.proofs.Looking.{starts, no_memory, holds, answers, quits, fails}
+use Rattle.cdb_debug.proofs.Looking.{starts, no_memory, holds, responds, quits, fails}
 use Rattle.cdb_debug.proofs.hearing.hear.Goals as goal
 
 pub loop-line-init : goal.loop-line-init
-loop-line-init g c = record { few = c.requires.held; lines = omega arith; goes = starts _ _ _ _ _ }
+loop-line-init g c = record { few = c.requires.unfinished; lines = omega arith; goes = starts _ _ _ _ _ }
 
 pub returns-in_err-hold-clause-heard : goal.returns-in_err-hold-clause-heard
 returns-in_err-hold-clause-heard g c =
     let p = err_from_is_err_and c.from_residual.result c.from_residual.ensures.1 in
-    rw (p.1, p.2) (no_memory c.args.prompt.now (g.T.Talk.known c.args.talk.now) (session_by g.R.Runs.rules c.args.session.now) c.args.held.now.items c.args.bytes.now _ (session_by g.R.Runs.rules c.loop-line.session) c.loop-line.held.items c.loop-line.rest.now c.loop-line.invariant.goes (session_by g.R.Runs.rules c.loop-line.session) c.hold.new.held.items)
+    rw (p.1, p.2) (no_memory c.args.prompt.now (g.T.Talk.known c.args.talk.now) (session_by g.R.Runs.rules c.args.session.now) c.args.unfinished.now.items c.args.bytes.now _ (session_by g.R.Runs.rules c.loop-line.session) c.loop-line.unfinished.items c.loop-line.rest.now c.loop-line.invariant.goes (session_by g.R.Runs.rules c.loop-line.session) c.hold.new.unfinished.items)
 
-pub returns-in_err-answer_held-clause-heard : goal.returns-in_err-answer_held-clause-heard
-returns-in_err-answer_held-clause-heard g c =
-    let p = err_from_is_err_and c.from_residual-in_err-answer_held.result c.from_residual-in_err-answer_held.ensures.1 in
+pub returns-in_err-respond_to_line-clause-heard : goal.returns-in_err-respond_to_line-clause-heard
+returns-in_err-respond_to_line-clause-heard g c =
+    let p = err_from_is_err_and c.from_residual-in_err-respond_to_line.result c.from_residual-in_err-respond_to_line.ensures.1 in
     let before = g.T.Talk.known c.args.talk.now in
     let now = g.T.Talk.known c.loop-line.talk in
-    let goes = holds c.args.prompt.now before (session_by g.R.Runs.rules c.args.session.now) c.args.held.now.items c.args.bytes.now now (session_by g.R.Runs.rules c.loop-line.session) c.loop-line.held.items c.loop-line.rest.now c.loop-line.invariant.goes c.in-Some.line.now (10 ∷ c.in-Some.behind.now) c.hold.new.held.items c.in-Some.ensures.some.1 c.in-Some.ensures.some.0 c.in_ok-hold.ensures in
-    rw (p.1, p.2) (fails c.args.prompt.now before (session_by g.R.Runs.rules c.args.session.now) c.args.held.now.items c.args.bytes.now now (session_by g.R.Runs.rules c.loop-line.session) c.hold.new.held.items c.in-Some.behind.now goes (g.T.Talk.known c.answer_held.new.talk) (session_by g.R.Runs.rules c.answer_held.new.session) c.answer_held.new.held.items c.in_err-answer_held.field-0.0 c.in_err-answer_held.ensures)
+    let goes = holds c.args.prompt.now before (session_by g.R.Runs.rules c.args.session.now) c.args.unfinished.now.items c.args.bytes.now now (session_by g.R.Runs.rules c.loop-line.session) c.loop-line.unfinished.items c.loop-line.rest.now c.loop-line.invariant.goes c.in-Some.line.now (10 ∷ c.in-Some.behind.now) c.hold.new.unfinished.items c.in-Some.ensures.some.1 c.in-Some.ensures.some.0 c.in_ok-hold.ensures in
+    rw (p.1, p.2) (fails c.args.prompt.now before (session_by g.R.Runs.rules c.args.session.now) c.args.unfinished.now.items c.args.bytes.now now (session_by g.R.Runs.rules c.loop-line.session) c.hold.new.unfinished.items c.in-Some.behind.now goes (g.T.Talk.known c.respond_to_line.new.talk) (session_by g.R.Runs.rules c.respond_to_line.new.session) c.respond_to_line.new.unfinished.items c.in_err-respond_to_line.field-0.0 c.in_err-respond_to_line.ensures)
 
 pub returns-then-branch-clause-heard : goal.returns-then-branch-clause-heard
 returns-then-branch-clause-heard g c =
     let before = g.T.Talk.known c.args.talk.now in
     let now = g.T.Talk.known c.loop-line.talk in
-    let goes = holds c.args.prompt.now before (session_by g.R.Runs.rules c.args.session.now) c.args.held.now.items c.args.bytes.now now (session_by g.R.Runs.rules c.loop-line.session) c.loop-line.held.items c.loop-line.rest.now c.loop-line.invariant.goes c.in-Some.line.now (10 ∷ c.in-Some.behind.now) c.hold.new.held.items c.in-Some.ensures.some.1 c.in-Some.ensures.some.0 c.in_ok-hold.ensures in
-    quits c.args.prompt.now before (session_by g.R.Runs.rules c.args.session.now) c.args.held.now.items c.args.bytes.now now (session_by g.R.Runs.rules c.loop-line.session) c.hold.new.held.items c.in-Some.behind.now goes (g.T.Talk.known c.answer_held.new.talk) (session_by g.R.Runs.rules c.answer_held.new.session) c.answer_held.new.held.items c.in_ok-answer_held.field-0 c.in_ok-answer_held.ensures c.if-branch.true
+    let goes = holds c.args.prompt.now before (session_by g.R.Runs.rules c.args.session.now) c.args.unfinished.now.items c.args.bytes.now now (session_by g.R.Runs.rules c.loop-line.session) c.loop-line.unfinished.items c.loop-line.rest.now c.loop-line.invariant.goes c.in-Some.line.now (10 ∷ c.in-Some.behind.now) c.hold.new.unfinished.items c.in-Some.ensures.some.1 c.in-Some.ensures.some.0 c.in_ok-hold.ensures in
+    quits c.args.prompt.now before (session_by g.R.Runs.rules c.args.session.now) c.args.unfinished.now.items c.args.bytes.now now (session_by g.R.Runs.rules c.loop-line.session) c.hold.new.unfinished.items c.in-Some.behind.now goes (g.T.Talk.known c.respond_to_line.new.talk) (session_by g.R.Runs.rules c.respond_to_line.new.session) c.respond_to_line.new.unfinished.items c.in_ok-respond_to_line.field-0 c.in_ok-respond_to_line.ensures c.if-branch.true
 
 pub loop-line-preserved : goal.loop-line-preserved
 loop-line-preserved g c =
     let before = g.T.Talk.known c.args.talk.now in
     let now = g.T.Talk.known c.loop-line.talk in
-    let goes = holds c.args.prompt.now before (session_by g.R.Runs.rules c.args.session.now) c.args.held.now.items c.args.bytes.now now (session_by g.R.Runs.rules c.loop-line.session) c.loop-line.held.items c.loop-line.rest.now c.loop-line.invariant.goes c.in-Some.line.now (10 ∷ c.in-Some.behind.now) c.hold.new.held.items c.in-Some.ensures.some.1 c.in-Some.ensures.some.0 c.in_ok-hold.ensures in
-    let done = c.in_ok-answer_held.ensures.2 in
+    let goes = holds c.args.prompt.now before (session_by g.R.Runs.rules c.args.session.now) c.args.unfinished.now.items c.args.bytes.now now (session_by g.R.Runs.rules c.loop-line.session) c.loop-line.unfinished.items c.loop-line.rest.now c.loop-line.invariant.goes c.in-Some.line.now (10 ∷ c.in-Some.behind.now) c.hold.new.unfinished.items c.in-Some.ensures.some.1 c.in-Some.ensures.some.0 c.in_ok-hold.ensures in
+    let done = c.in_ok-respond_to_line.ensures.2 in
     let one_line = ap (λ (s : Session). s.lines) done.session in
     let cut = ap length c.in-Some.ensures.some.1 in
     let parts = length-append c.in-Some.line.now (10 ∷ c.in-Some.behind.now) in
     record {
       few = omega (arith, ap length done.emptied);
       lines = omega (arith, c.loop-line.invariant.lines, one_line, cut, parts);
-      goes = answers c.args.prompt.now before (session_by g.R.Runs.rules c.args.session.now) c.args.held.now.items c.args.bytes.now now (session_by g.R.Runs.rules c.loop-line.session) c.hold.new.held.items c.in-Some.behind.now goes (g.T.Talk.known c.answer_held.new.talk) (session_by g.R.Runs.rules c.answer_held.new.session) c.answer_held.new.held.items c.in_ok-answer_held.field-0 c.in_ok-answer_held.ensures c.if-branch.false;
+      goes = responds c.args.prompt.now before (session_by g.R.Runs.rules c.args.session.now) c.args.unfinished.now.items c.args.bytes.now now (session_by g.R.Runs.rules c.loop-line.session) c.hold.new.unfinished.items c.in-Some.behind.now goes (g.T.Talk.known c.respond_to_line.new.talk) (session_by g.R.Runs.rules c.respond_to_line.new.session) c.respond_to_line.new.unfinished.items c.in_ok-respond_to_line.field-0 c.in_ok-respond_to_line.ensures c.if-branch.false;
     }
 
 pub returns-in_err-hold-2-clause-heard : goal.returns-in_err-hold-2-clause-heard
 returns-in_err-hold-2-clause-heard g c =
     let p = err_from_is_err_and c.from_residual-in_err-hold-2.result c.from_residual-in_err-hold-2.ensures.1 in
-    rw (p.1, p.2) (no_memory c.args.prompt.now (g.T.Talk.known c.args.talk.now) (session_by g.R.Runs.rules c.args.session.now) c.args.held.now.items c.args.bytes.now _ (session_by g.R.Runs.rules c.loop-line.session) c.loop-line.held.items c.loop-line.rest.now c.loop-line.invariant.goes (session_by g.R.Runs.rules c.loop-line.session) c.hold-2.new.held.items)
+    rw (p.1, p.2) (no_memory c.args.prompt.now (g.T.Talk.known c.args.talk.now) (session_by g.R.Runs.rules c.args.session.now) c.args.unfinished.now.items c.args.bytes.now _ (session_by g.R.Runs.rules c.loop-line.session) c.loop-line.unfinished.items c.loop-line.rest.now c.loop-line.invariant.goes (session_by g.R.Runs.rules c.loop-line.session) c.hold-2.new.unfinished.items)
 
 pub returns-clause-heard : goal.returns-clause-heard
 returns-clause-heard g c =
     let before = g.T.Talk.known c.args.talk.now in
     let now = g.T.Talk.known c.loop-line.talk in
-    holds c.args.prompt.now before (session_by g.R.Runs.rules c.args.session.now) c.args.held.now.items c.args.bytes.now now (session_by g.R.Runs.rules c.loop-line.session) c.loop-line.held.items c.loop-line.rest.now c.loop-line.invariant.goes c.loop-line.rest.now [] c.hold-2.new.held.items (sym (append-nil c.loop-line.rest.now)) c.in_default.ensures.none c.in_ok-hold-2.ensures
+    holds c.args.prompt.now before (session_by g.R.Runs.rules c.args.session.now) c.args.unfinished.now.items c.args.bytes.now now (session_by g.R.Runs.rules c.loop-line.session) c.loop-line.unfinished.items c.loop-line.rest.now c.loop-line.invariant.goes c.loop-line.rest.now [] c.hold-2.new.unfinished.items (sym (append-nil c.loop-line.rest.now)) c.in_default.ensures.none c.in_ok-hold-2.ensures
 
-pub returns-clause-held : goal.returns-clause-held
-returns-clause-held g c =
-    let more : List ℕ = c.loop-line.held.items ++ c.loop-line.rest.now in
+pub returns-clause-unfinished : goal.returns-clause-unfinished
+returns-clause-unfinished g c =
+    let more : List ℕ = c.loop-line.unfinished.items ++ c.loop-line.rest.now in
     omega (arith, ap length c.in_ok-hold-2.ensures, length-take (longest + 1) more)
 
 pub returns-then-branch-clause-lines : goal.returns-then-branch-clause-lines
 returns-then-branch-clause-lines g c =
-    let one_line = ap (λ (s : Session). s.lines) c.in_ok-answer_held.ensures.2.session in
+    let one_line = ap (λ (s : Session). s.lines) c.in_ok-respond_to_line.ensures.2.session in
     let cut = ap length c.in-Some.ensures.some.1 in
     let parts = length-append c.in-Some.line.now (10 ∷ c.in-Some.behind.now) in
     omega (arith, c.loop-line.invariant.lines, one_line, cut, parts)

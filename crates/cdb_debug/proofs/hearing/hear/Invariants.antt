@@ -6,9 +6,9 @@ use Rattle.cdb_debug.proofs.hearing.hear.Given as goal
 
 abbrev pub invariant-loop-line : goal.invariant-loop-line
 invariant-loop-line g l = record {
-  few : length l.held.items ≤ longest + 1;
+  few : length l.unfinished.items ≤ longest + 1;
   lines : l.session.lines + length l.rest ≤ l.initial.session.lines + length l.bytes;
-  goes : Goes l.prompt (g.T.Talk.known l.initial.talk) (session_by g.R.Runs.rules l.initial.session) l.initial.held.items l.bytes (g.T.Talk.known l.talk) (session_by g.R.Runs.rules l.session) l.held.items l.rest;
+  goes : Goes l.prompt (g.T.Talk.known l.initial.talk) (session_by g.R.Runs.rules l.initial.session) l.initial.unfinished.items l.bytes (g.T.Talk.known l.talk) (session_by g.R.Runs.rules l.session) l.unfinished.items l.rest;
 }
 
 abbrev pub decreases-loop-line : goal.decreases-loop-line

@@ -1,6 +1,6 @@
 use Rattle.std.proofs.Common.{List, ℕ, subst}
 use Rattle.std.proofs.lemmas.Result.{err_from_is_err_and}
-use Rattle.cdb_play.specs.Buffers.{Puts}
+use Rattle.cdb_play.specs.Putting.{Puts}
 use Rattle.cdb_play.proofs.Putting.{puts_nothing}
 use Rattle.cdb_draw.proofs.picture.put_mark.Goals as goal
 

@@ -2,7 +2,7 @@ use Rattle.std.proofs.Common.{sym, subst}
 use Rattle.cdb_play.specs.Left.{Leaves}
 use Rattle.cdb_rules.specs.RunView.{RunView}
 use Rattle.cdb_play.proofs.Ending.{written_as}
-use Rattle.cdb_explain.proofs.Answered.{is_no_setup, reads_none, no_err}
+use Rattle.cdb_explain.proofs.Returned.{is_no_setup, reads_none, no_err}
 use Rattle.cdb_draw.specs.Drawn.{draw_ending, Draws, IsPictureFor}
 use Rattle.cdb_draw.proofs.Ended.{fault_left}
 use Rattle.cdb_draw.proofs.script.draw.Goals as goal

@@ -2,7 +2,7 @@ use Rattle.std.proofs.Common.{List, ℕ, ◌++◌, string_bytes, ap, sym, ◌∙
 use Rattle.cdb_explain.specs.Explanations.{because_text}
 use Rattle.cdb_rules.specs.EventRefs.{name_given}
 use Rattle.cdb_rules.specs.Runs.{causes_in}
-use Rattle.cdb_explain.proofs.Answered.{no_because}
+use Rattle.cdb_explain.proofs.Returned.{no_because}
 use Rattle.cdb_explain.proofs.line.push_because.Goals as goal
 
 pub returns-in-Err : goal.returns-in-Err

@@ -1,17 +1,17 @@
 use Rattle.std.proofs.Common.{◌+◌, ◌-◌, ◌≤◌, length}
 use Rattle.cdb_setup.specs.Format.{longest}
 use Rattle.cdb_shared.specs.Seats.{IsLater, RestsAt}
-use Rattle.cdb_hall.proofs.Conversing.{Stands}
+use Rattle.cdb_hall.proofs.Conversing.{Arrives}
 use Rattle.cdb_hall.proofs.conversation.converse.Given as goal
 
 abbrev pub invariant-loop-read : goal.invariant-loop-read
 invariant-loop-read g l = record {
-  few : length l.held.items ≤ longest + 1;
+  few : length l.unfinished.items ≤ longest + 1;
   bound : l.read ≤ 9223372036854779904;
   lines : l.session.lines ≤ l.read;
   rests : RestsAt l.shared l.session.seat;
   later : IsLater l.fn.session.seat l.session.seat;
-  stands : Stands g.R.Runs.rules l.prompt (g.T.Talk.known l.fn.talk) (g.T.Talk.known l.talk) l.session l.held.items l.read;
+  arrives : Arrives g.R.Runs.rules l.prompt (g.T.Talk.known l.fn.talk) (g.T.Talk.known l.talk) l.session l.unfinished.items l.read;
 }
 
 abbrev pub decreases-loop-read : goal.decreases-loop-read

@@ -4,12 +4,12 @@ use Rattle.std.proofs.lemmas.Result.{err_from_is_err_and}
 use Rattle.cdb_setup.specs.Format.{longest}
 use Rattle.cdb_shared.proofs.Steps.{IsLater-trans}
 use Rattle.cdb_hall.proofs.Going.{IsLater-refl}
-use Rattle.cdb_hall.proofs.Looking.{starts, no_memory, holds, answers, quits, fails}
+use Rattle.cdb_hall.proofs.Looking.{starts, no_memory, holds, responds, quits, fails}
 use Rattle.cdb_hall.proofs.hearing.hear.Goals as goal
 
 pub loop-line-init : goal.loop-line-init
 loop-line-init g c = record {
-  few = c.requires.held;
+  few = c.requires.unfinished;
   lines = omega arith;
   rests = c.requires.rests;
   later = IsLater-refl c.args.session.now.seat c.requires.rests.1;
@@ -19,36 +19,36 @@ loop-line-init g c = record {
 pub returns-in_err-hold-clause-heard : goal.returns-in_err-hold-clause-heard
 returns-in_err-hold-clause-heard g c =
     let p = err_from_is_err_and c.from_residual.result c.from_residual.ensures.1 in
-    rw (p.1, p.2) (no_memory g.R.Runs.rules c.args.prompt.now (g.T.Talk.known c.args.talk.now) c.args.session.now c.args.held.now.items c.args.bytes.now _ c.loop-line.session c.loop-line.held.items c.loop-line.rest.now c.loop-line.invariant.goes c.hold.new.held.items)
+    rw (p.1, p.2) (no_memory g.R.Runs.rules c.args.prompt.now (g.T.Talk.known c.args.talk.now) c.args.session.now c.args.unfinished.now.items c.args.bytes.now _ c.loop-line.session c.loop-line.unfinished.items c.loop-line.rest.now c.loop-line.invariant.goes c.hold.new.unfinished.items)
 
-pub returns-in_err-answer_held-clause-heard : goal.returns-in_err-answer_held-clause-heard
-returns-in_err-answer_held-clause-heard g c =
-    let p = err_from_is_err_and c.from_residual-in_err-answer_held.result c.from_residual-in_err-answer_held.ensures.1 in
+pub returns-in_err-respond_to_line-clause-heard : goal.returns-in_err-respond_to_line-clause-heard
+returns-in_err-respond_to_line-clause-heard g c =
+    let p = err_from_is_err_and c.from_residual-in_err-respond_to_line.result c.from_residual-in_err-respond_to_line.ensures.1 in
     let before = g.T.Talk.known c.args.talk.now in
     let now = g.T.Talk.known c.loop-line.talk in
-    let goes = holds g.R.Runs.rules c.args.prompt.now before c.args.session.now c.args.held.now.items c.args.bytes.now now c.loop-line.session c.loop-line.held.items c.loop-line.rest.now c.loop-line.invariant.goes c.in-Some.line.now (10 ∷ c.in-Some.behind.now) c.hold.new.held.items c.in-Some.ensures.some.1 c.in-Some.ensures.some.0 c.in_ok-hold.ensures in
-    rw (p.1, p.2) (fails g.R.Runs.rules c.args.prompt.now before c.args.session.now c.args.held.now.items c.args.bytes.now now c.loop-line.session c.hold.new.held.items c.in-Some.behind.now goes (g.T.Talk.known c.answer_held.new.talk) c.answer_held.new.session c.answer_held.new.held.items c.in_err-answer_held.field-0.0 c.in_err-answer_held.ensures.held)
+    let goes = holds g.R.Runs.rules c.args.prompt.now before c.args.session.now c.args.unfinished.now.items c.args.bytes.now now c.loop-line.session c.loop-line.unfinished.items c.loop-line.rest.now c.loop-line.invariant.goes c.in-Some.line.now (10 ∷ c.in-Some.behind.now) c.hold.new.unfinished.items c.in-Some.ensures.some.1 c.in-Some.ensures.some.0 c.in_ok-hold.ensures in
+    rw (p.1, p.2) (fails g.R.Runs.rules c.args.prompt.now before c.args.session.now c.args.unfinished.now.items c.args.bytes.now now c.loop-line.session c.hold.new.unfinished.items c.in-Some.behind.now goes (g.T.Talk.known c.respond_to_line.new.talk) c.respond_to_line.new.session c.respond_to_line.new.unfinished.items c.in_err-respond_to_line.field-0.0 c.in_err-respond_to_line.ensures.unfinished)
 
-pub returns-in_err-answer_held-clause-seat : goal.returns-in_err-answer_held-clause-seat
-returns-in_err-answer_held-clause-seat g c = IsLater-trans _ _ _ c.loop-line.invariant.later c.answer_held.ensures.seat
+pub returns-in_err-respond_to_line-clause-seat : goal.returns-in_err-respond_to_line-clause-seat
+returns-in_err-respond_to_line-clause-seat g c = IsLater-trans _ _ _ c.loop-line.invariant.later c.respond_to_line.ensures.seat
 
 pub returns-then-branch-clause-heard : goal.returns-then-branch-clause-heard
 returns-then-branch-clause-heard g c =
     let before = g.T.Talk.known c.args.talk.now in
     let now = g.T.Talk.known c.loop-line.talk in
-    let goes = holds g.R.Runs.rules c.args.prompt.now before c.args.session.now c.args.held.now.items c.args.bytes.now now c.loop-line.session c.loop-line.held.items c.loop-line.rest.now c.loop-line.invariant.goes c.in-Some.line.now (10 ∷ c.in-Some.behind.now) c.hold.new.held.items c.in-Some.ensures.some.1 c.in-Some.ensures.some.0 c.in_ok-hold.ensures in
-    quits g.R.Runs.rules c.args.prompt.now before c.args.session.now c.args.held.now.items c.args.bytes.now now c.loop-line.session c.hold.new.held.items c.in-Some.behind.now goes (g.T.Talk.known c.answer_held.new.talk) c.answer_held.new.session c.answer_held.new.held.items c.in_ok-answer_held.field-0 c.in_ok-answer_held.ensures.held c.if-branch.true
+    let goes = holds g.R.Runs.rules c.args.prompt.now before c.args.session.now c.args.unfinished.now.items c.args.bytes.now now c.loop-line.session c.loop-line.unfinished.items c.loop-line.rest.now c.loop-line.invariant.goes c.in-Some.line.now (10 ∷ c.in-Some.behind.now) c.hold.new.unfinished.items c.in-Some.ensures.some.1 c.in-Some.ensures.some.0 c.in_ok-hold.ensures in
+    quits g.R.Runs.rules c.args.prompt.now before c.args.session.now c.args.unfinished.now.items c.args.bytes.now now c.loop-line.session c.hold.new.unfinished.items c.in-Some.behind.now goes (g.T.Talk.known c.respond_to_line.new.talk) c.respond_to_line.new.session c.respond_to_line.new.unfinished.items c.in_ok-respond_to_line.field-0 c.in_ok-respond_to_line.ensures.unfinished c.if-branch.true
 
 pub returns-then-branch-clause-seat : goal.returns-then-branch-clause-seat
-returns-then-branch-clause-seat g c = IsLater-trans _ _ _ c.loop-line.invariant.later c.answer_held.ensures.seat
+returns-then-branch-clause-seat g c = IsLater-trans _ _ _ c.loop-line.invariant.later c.respond_to_line.ensures.seat
 
 pub loop-line-preserved : goal.loop-line-preserved
 loop-line-preserved g c =
     let before = g.T.Talk.known c.args.talk.now in
     let now = g.T.Talk.known c.loop-line.talk in
-    let goes = holds g.R.Runs.rules c.args.prompt.now before c.args.session.now c.args.held.now.items c.args.bytes.now now c.loop-line.session c.loop-line.held.items c.loop-line.rest.now c.loop-line.invariant.goes c.in-Some.line.now (10 ∷ c.in-Some.behind.now) c.hold.new.held.items c.in-Some.ensures.some.1 c.in-Some.ensures.some.0 c.in_ok-hold.ensures in
-    let done = c.in_ok-answer_held.ensures.held.2 in
-    let later = c.answer_held.ensures.seat in
+    let goes = holds g.R.Runs.rules c.args.prompt.now before c.args.session.now c.args.unfinished.now.items c.args.bytes.now now c.loop-line.session c.loop-line.unfinished.items c.loop-line.rest.now c.loop-line.invariant.goes c.in-Some.line.now (10 ∷ c.in-Some.behind.now) c.hold.new.unfinished.items c.in-Some.ensures.some.1 c.in-Some.ensures.some.0 c.in_ok-hold.ensures in
+    let done = c.in_ok-respond_to_line.ensures.unfinished.2 in
+    let later = c.respond_to_line.ensures.seat in
     let cut = ap length c.in-Some.ensures.some.1 in
     let parts = length-append c.in-Some.line.now (10 ∷ c.in-Some.behind.now) in
     record {
@@ -56,28 +56,28 @@ loop-line-preserved g c =
       lines = omega (arith, c.loop-line.invariant.lines, done.lines, cut, parts);
       rests = (later.home ∙ c.loop-line.invariant.rests.0, later.rests);
       later = IsLater-trans _ _ _ c.loop-line.invariant.later later;
-      goes = answers g.R.Runs.rules c.args.prompt.now before c.args.session.now c.args.held.now.items c.args.bytes.now now c.loop-line.session c.hold.new.held.items c.in-Some.behind.now goes (g.T.Talk.known c.answer_held.new.talk) c.answer_held.new.session c.answer_held.new.held.items c.in_ok-answer_held.field-0 c.in_ok-answer_held.ensures.held c.if-branch.false;
+      goes = responds g.R.Runs.rules c.args.prompt.now before c.args.session.now c.args.unfinished.now.items c.args.bytes.now now c.loop-line.session c.hold.new.unfinished.items c.in-Some.behind.now goes (g.T.Talk.known c.respond_to_line.new.talk) c.respond_to_line.new.session c.respond_to_line.new.unfinished.items c.in_ok-respond_to_line.field-0 c.in_ok-respond_to_line.ensures.unfinished c.if-branch.false;
     }
 
 pub returns-in_err-hold-2-clause-heard : goal.returns-in_err-hold-2-clause-heard
 returns-in_err-hold-2-clause-heard g c =
     let p = err_from_is_err_and c.from_residual-in_err-hold-2.result c.from_residual-in_err-hold-2.ensures.1 in
-    rw (p.1, p.2) (no_memory g.R.Runs.rules c.args.prompt.now (g.T.Talk.known c.args.talk.now) c.args.session.now c.args.held.now.items c.args.bytes.now _ c.loop-line.session c.loop-line.held.items c.loop-line.rest.now c.loop-line.invariant.goes c.hold-2.new.held.items)
+    rw (p.1, p.2) (no_memory g.R.Runs.rules c.args.prompt.now (g.T.Talk.known c.args.talk.now) c.args.session.now c.args.unfinished.now.items c.args.bytes.now _ c.loop-line.session c.loop-line.unfinished.items c.loop-line.rest.now c.loop-line.invariant.goes c.hold-2.new.unfinished.items)
 
 pub returns-clause-heard : goal.returns-clause-heard
 returns-clause-heard g c =
     let before = g.T.Talk.known c.args.talk.now in
     let now = g.T.Talk.known c.loop-line.talk in
-    holds g.R.Runs.rules c.args.prompt.now before c.args.session.now c.args.held.now.items c.args.bytes.now now c.loop-line.session c.loop-line.held.items c.loop-line.rest.now c.loop-line.invariant.goes c.loop-line.rest.now [] c.hold-2.new.held.items (sym (append-nil c.loop-line.rest.now)) c.in_default.ensures.none c.in_ok-hold-2.ensures
+    holds g.R.Runs.rules c.args.prompt.now before c.args.session.now c.args.unfinished.now.items c.args.bytes.now now c.loop-line.session c.loop-line.unfinished.items c.loop-line.rest.now c.loop-line.invariant.goes c.loop-line.rest.now [] c.hold-2.new.unfinished.items (sym (append-nil c.loop-line.rest.now)) c.in_default.ensures.none c.in_ok-hold-2.ensures
 
-pub returns-clause-held : goal.returns-clause-held
-returns-clause-held g c =
-    let more : List ℕ = c.loop-line.held.items ++ c.loop-line.rest.now in
+pub returns-clause-unfinished : goal.returns-clause-unfinished
+returns-clause-unfinished g c =
+    let more : List ℕ = c.loop-line.unfinished.items ++ c.loop-line.rest.now in
     omega (arith, ap length c.in_ok-hold-2.ensures, length-take (longest + 1) more)
 
 pub returns-then-branch-clause-lines : goal.returns-then-branch-clause-lines
 returns-then-branch-clause-lines g c =
-    let one_line = c.in_ok-answer_held.ensures.held.2.lines in
+    let one_line = c.in_ok-respond_to_line.ensures.unfinished.2.lines in
     let cut = ap length c.in-Some.ensures.some.1 in
     let parts = length-append c.in-Some.line.now (10 ∷ c.in-Some.behind.now) in
     omega (arith, c.loop-line.invariant.lines, one_line, cut, parts)

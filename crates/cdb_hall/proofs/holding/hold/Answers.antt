@@ -18,14 +18,14 @@ returns-in-Err-debug_seats-clause-fault g c = subst (IsFaultOfHall c.args.setup.
 pub write_failures-requires : goal.write_failures-requires
 write_failures-requires g c = omega (arith, c.requires.fits, ap length c.as_slice.ensures.value, c.in-Ok-debug_seats.ensures.hall.many, c.args.stations.ok.0)
 
-pub returns-clause-held : goal.returns-clause-held
-returns-clause-held g c =
+pub returns-clause-sessions : goal.returns-clause-sessions
+returns-clause-sessions g c =
     let written = c.write_journal-written.result in
     record {
       setup = c.in-Ok.setup;
-      stands = c.in-Ok.ensures.found;
-      control = c.in-Ok-debug_seats.held.0;
-      attended = c.in-Ok-debug_seats.held.1.items;
+      encodes = c.in-Ok.ensures.found;
+      control = c.in-Ok-debug_seats.sessions.0;
+      attended = c.in-Ok-debug_seats.sessions.1.items;
       hall = c.in-Ok-debug_seats.ensures.hall;
       written = written;
       journal = subst (λ (es : List Entry). IsWritten g.O.Sink.stream (whole_ending written) c.args.output.now c.write_journal-written.new.out (Only (journal_text es))) c.journal.ensures.entries c.write_journal-written.ensures;

@@ -38,6 +38,6 @@ returns-clause-hall g c =
     let attended = c.in_ok-seats.attended in
     let many : length lefts.items ≡ length stations.items = omega (arith, new.many, c.in_ok-lefts.ensures.count, before.ok.0, lefts.ok.0) in
     let long : length seats.items ≡ length lefts.items = omega (arith, c.in_ok-seats.ensures.count.0, seats.ok.0, lefts.ok.0) in
-    let answered : length attended.items ≡ length lefts.items = omega (arith, c.in_ok-seats.ensures.count.1, attended.ok.0, lefts.ok.0) in
+    let responded : length attended.items ≡ length lefts.items = omega (arith, c.in_ok-seats.ensures.count.1, attended.ok.0, lefts.ok.0) in
     let some : 1 ≤ length stations.items = omega (arith, c.requires.some, stations.ok.0) in
-    hall g.R.Runs.rules g.T.Talk.known c.in-Ok-open.shared c.args.setup stations.items before.items lefts.items seats.items attended.items new many long c.in_ok-lefts.ensures.each c.in_ok-seats.ensures.each c.finish-control.result c.finish-control.ensures.known c.journal.ensures.limit some c.journal.ensures.seats answered
+    hall g.R.Runs.rules g.T.Talk.known c.in-Ok-open.shared c.args.setup stations.items before.items lefts.items seats.items attended.items new many long c.in_ok-lefts.ensures.each c.in_ok-seats.ensures.each c.finish-control.result c.finish-control.ensures.known c.journal.ensures.limit some c.journal.ensures.seats responded

@@ -12,7 +12,7 @@ returns-clause-left g c =
       record {
         setup = c.in_ok-setup.setup;
         commands = c.in_ok-commands.commands.items;
-        stands = c.in_ok-setup.ensures.found;
+        encodes = c.in_ok-setup.ensures.found;
         short = given.2.0;
         lines = given.2.1;
         is = ap (run_of g.T.Runs.rules) (rw c.as_slice.ensures.value at c.in_ok-control.ensures);

@@ -17,8 +17,8 @@ returns-in_err-stations-clause-fault g c =
     rw (p.1, p.2, ← c.outside.view_is)
     (as_fault _ _ _ _ c.in_err-stations.field-0.0 (fails_later _ _ _ (c.args.setup.now ∷ []) (file_names c.args.seats.now) c.in_err-stations.field-0.0 c.in_ok-json.ensures.0 c.in_err-stations.ensures.fault))
 
-pub returns-in-Ok-clause-held : goal.returns-in-Ok-clause-held
-returns-in-Ok-clause-held g c =
+pub returns-in-Ok-clause-sessions : goal.returns-in-Ok-clause-sessions
+returns-in-Ok-clause-sessions g c =
     let known = g.F.Seat.Talk.known in
     let stations = c.in_ok-stations.stations.items in
     let names = file_names c.args.seats.now in
@@ -26,5 +26,5 @@ returns-in-Ok-clause-held g c =
     rw (← c.outside.view_is) (
       c.in_ok-json.json.items,
       (opened_then _ _ _ (c.args.setup.now ∷ []) names c.in_ok-json.ensures.0 c.in_ok-stations.ensures.opened, c.in_ok-json.ensures.1.0),
-      (map (known_station known) stations, seats, rw (← c.as_slice.ensures.value) (holds_seen rules known g.O.Sink.stream g.E.Sink.stream _ stations _ _ _ _ _ c.in-Ok.ensures.held)),
+      (map (known_station known) stations, seats, rw (← c.as_slice.ensures.value) (holds_seen rules known g.O.Sink.stream g.E.Sink.stream _ stations _ _ _ _ _ c.in-Ok.ensures.sessions)),
     )

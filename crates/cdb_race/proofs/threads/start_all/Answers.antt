@@ -1,7 +1,6 @@
 use Rattle.std.proofs.Common.{◌≡◌, ℕ, ◌-◌, ◌∙◌, sym, ap, subst, arith, [], ◌∷◌, ◌++◌, get_or, append_assoc, vec_len, length}
 use Rattle.std.specs.declared.thread.PromisedHandle.{PromisedHandle}
-use Rattle.cdb_race.specs.Plans.{IsReady}
-use Rattle.cdb_race.specs.Promises.{IsPromise}
+use Rattle.cdb_race.specs.Promises.{IsReady, IsPromise}
 use Rattle.cdb_race.specs.declared.worker.Ran.{Ran}
 use Rattle.cdb_race.specs.declared.worker.SeatPromise.{SeatPromise}
 use Rattle.cdb_shared.specs.Seats.{SeatView}

@@ -1,6 +1,5 @@
 use Rattle.std.proofs.Common.{◌≡◌, ℕ, ◌+◌, ◌-◌, ◌<◌, ◌≤◌, ◌++◌, List, All, get_or, vec_len, vec_capacity}
-use Rattle.cdb_race.specs.Plans.{IsReady}
-use Rattle.cdb_race.specs.Promises.{IsPromise}
+use Rattle.cdb_race.specs.Promises.{IsReady, IsPromise}
 use Rattle.cdb_shared.specs.Seats.{SeatView}
 use Rattle.cdb_race.proofs.threads.start_all.Given as goal
 

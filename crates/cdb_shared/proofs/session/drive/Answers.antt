@@ -1,7 +1,7 @@
 use Rattle.std.proofs.Common.{◌≡◌, ◌+◌, ap, sym, ◌∙◌, rules, arith, ◌∷◌, [], ◌++◌, length, replicate, refl, true, false, true≢false}
 use Rattle.std.proofs.lemmas.List.{length-replicate}
 use Rattle.cdb_base.specs.declared.refusal.Refusal.TheVariants.{Done}
-use Rattle.cdb_control.specs.Answer.{Refused, told}
+use Rattle.cdb_control.specs.ToldReply.{Refused, told}
 use Rattle.cdb_control.specs.declared.command.Command.TheVariants.{Auto}
 use Rattle.cdb_shared.specs.Gates.{Asked, heard_more, heard_of}
 use Rattle.cdb_shared.specs.Sessions.{calls_of, replies_to}
@@ -12,34 +12,34 @@ use Rattle.cdb_shared.proofs.session.drive.Goals as goal
 pub returns-then-not-before-clause-gate : goal.returns-then-not-before-clause-gate
 returns-then-not-before-clause-gate g c =
     let was = c.loop-turn.invariant in
-    let answered = replicate c.loop-turn.turn (Auto c.args.process) in
+    let replied = replicate c.loop-turn.turn (Auto c.args.process) in
     let refused : c.before-in-loop-turn.result ≡ false = search rules in
-    let count : c.loop-turn.turn + 1 ≡ length answered + 1 = omega (arith, length-replicate c.loop-turn.turn (Auto c.args.process)) in
-    let asked = heard_asked (g.G.Gate.heard c.args.gate) (g.G.Gate.heard c.loop-turn.gate) (g.G.Gate.heard c.before-in-loop-turn.new.self) (calls_of c.args.seat) answered (calls_of c.loop-turn.seat) (c.loop-turn.turn + 1) false was.heard was.calls count
+    let count : c.loop-turn.turn + 1 ≡ length replied + 1 = omega (arith, length-replicate c.loop-turn.turn (Auto c.args.process)) in
+    let asked = heard_asked (g.G.Gate.heard c.args.gate) (g.G.Gate.heard c.loop-turn.gate) (g.G.Gate.heard c.before-in-loop-turn.new.self) (calls_of c.args.seat) replied (calls_of c.loop-turn.seat) (c.loop-turn.turn + 1) false was.heard was.calls count
     (c.before-in-loop-turn.ensures.heard ∙ ap (λ b. heard_more (g.G.Gate.heard c.loop-turn.gate) (Asked (c.loop-turn.turn + 1) (calls_of c.loop-turn.seat) b ∷ [])) refused) in
-    (c.before-in-loop-turn.new.self, hears_asked _ _ c.args.seat c.loop-turn.seat answered _ false was.calls refl asked)
+    (c.before-in-loop-turn.new.self, hears_asked _ _ c.args.seat c.loop-turn.seat replied _ false was.calls refl asked)
 
 pub returns-in-Err-clause-gate : goal.returns-in-Err-clause-gate
 returns-in-Err-clause-gate g c =
     let was = c.loop-turn.invariant in
-    let answered = replicate c.loop-turn.turn (Auto c.args.process) in
+    let replied = replicate c.loop-turn.turn (Auto c.args.process) in
     let passed : c.before-in-loop-turn.result ≡ true = search rules in
-    let count : c.loop-turn.turn + 1 ≡ length answered + 1 = omega (arith, length-replicate c.loop-turn.turn (Auto c.args.process)) in
-    let asked = heard_asked (g.G.Gate.heard c.args.gate) (g.G.Gate.heard c.loop-turn.gate) (g.G.Gate.heard c.before-in-loop-turn.new.self) (calls_of c.args.seat) answered (calls_of c.loop-turn.seat) (c.loop-turn.turn + 1) true was.heard was.calls count
+    let count : c.loop-turn.turn + 1 ≡ length replied + 1 = omega (arith, length-replicate c.loop-turn.turn (Auto c.args.process)) in
+    let asked = heard_asked (g.G.Gate.heard c.args.gate) (g.G.Gate.heard c.loop-turn.gate) (g.G.Gate.heard c.before-in-loop-turn.new.self) (calls_of c.args.seat) replied (calls_of c.loop-turn.seat) (c.loop-turn.turn + 1) true was.heard was.calls count
     (c.before-in-loop-turn.ensures.heard ∙ ap (λ b. heard_more (g.G.Gate.heard c.loop-turn.gate) (Asked (c.loop-turn.turn + 1) (calls_of c.loop-turn.seat) b ∷ [])) passed) in
     let calls = calls_of-fault c.loop-turn.seat c.call.new.seat c.call.ensures.seat c.in-Err.ensures.fault ∙ was.calls in
-    (c.before-in-loop-turn.new.self, hears_fault _ _ c.args.seat c.call.new.seat answered c.in-Err.fault _ c.ended_by.ensures calls asked)
+    (c.before-in-loop-turn.new.self, hears_fault _ _ c.args.seat c.call.new.seat replied c.in-Err.fault _ c.ended_by.ensures calls asked)
 
 pub returns-then-is_done-clause-gate : goal.returns-then-is_done-clause-gate
 returns-then-is_done-clause-gate g c =
     let was = c.loop-turn.invariant in
-    let answered = replicate c.loop-turn.turn (Auto c.args.process) in
+    let replied = replicate c.loop-turn.turn (Auto c.args.process) in
     let passed : c.before-in-loop-turn.result ≡ true = search rules in
-    let count : c.loop-turn.turn + 1 ≡ length answered + 1 = omega (arith, length-replicate c.loop-turn.turn (Auto c.args.process)) in
-    let asked = heard_asked (g.G.Gate.heard c.args.gate) (g.G.Gate.heard c.loop-turn.gate) (g.G.Gate.heard c.before-in-loop-turn.new.self) (calls_of c.args.seat) answered (calls_of c.loop-turn.seat) (c.loop-turn.turn + 1) true was.heard was.calls count
+    let count : c.loop-turn.turn + 1 ≡ length replied + 1 = omega (arith, length-replicate c.loop-turn.turn (Auto c.args.process)) in
+    let asked = heard_asked (g.G.Gate.heard c.args.gate) (g.G.Gate.heard c.loop-turn.gate) (g.G.Gate.heard c.before-in-loop-turn.new.self) (calls_of c.args.seat) replied (calls_of c.loop-turn.seat) (c.loop-turn.turn + 1) true was.heard was.calls count
     (c.before-in-loop-turn.ensures.heard ∙ ap (λ b. heard_more (g.G.Gate.heard c.loop-turn.gate) (Asked (c.loop-turn.turn + 1) (calls_of c.loop-turn.seat) b ∷ [])) passed) in
     let one_more = calls_of-call g.T.Runs.rules c.loop-turn.seat c.call.new.seat _ _ c.call.ensures.seat c.in-Ok.ensures.call ∙ ap (λ l. l ++ Auto c.args.process ∷ []) was.calls in
-    let told_it = heard_told (g.G.Gate.heard c.args.gate) (g.G.Gate.heard c.before-in-loop-turn.new.self) (g.G.Gate.heard c.after.new.self) (calls_of c.args.seat) answered (calls_of c.call.new.seat) (Auto c.args.process) (c.loop-turn.turn + 1) asked one_more count c.after.ensures.heard in
+    let told_it = heard_told (g.G.Gate.heard c.args.gate) (g.G.Gate.heard c.before-in-loop-turn.new.self) (g.G.Gate.heard c.after.new.self) (calls_of c.args.seat) replied (calls_of c.call.new.seat) (Auto c.args.process) (c.loop-turn.turn + 1) asked one_more count c.after.ensures.heard in
     let heard = told_it ∙ ap (λ l. heard_more (g.G.Gate.heard c.args.gate) (heard_of 1 (calls_of c.args.seat) l)) (sym (replicate-push c.loop-turn.turn (Auto c.args.process))) in
     let calls = append_one (calls_of c.loop-turn.seat) (calls_of c.call.new.seat) (calls_of c.args.seat) _ _ _ was.calls (calls_of-call g.T.Runs.rules c.loop-turn.seat c.call.new.seat _ _ c.call.ensures.seat c.in-Ok.ensures.call) (replicate-push c.loop-turn.turn (Auto c.args.process)) in
     (c.after.new.self, hears_all _ _ c.args.seat c.call.new.seat (replicate (c.loop-turn.turn + 1) (Auto c.args.process)) _ calls refl heard)
@@ -66,13 +66,13 @@ returns-then-is_done-clause-replies g c =
 pub loop-turn-preserved : goal.loop-turn-preserved
 loop-turn-preserved g c =
     let was = c.loop-turn.invariant in
-    let answered = replicate c.loop-turn.turn (Auto c.args.process) in
+    let replied = replicate c.loop-turn.turn (Auto c.args.process) in
     let passed : c.before-in-loop-turn.result ≡ true = search rules in
-    let count : c.loop-turn.turn + 1 ≡ length answered + 1 = omega (arith, length-replicate c.loop-turn.turn (Auto c.args.process)) in
-    let asked = heard_asked (g.G.Gate.heard c.args.gate) (g.G.Gate.heard c.loop-turn.gate) (g.G.Gate.heard c.before-in-loop-turn.new.self) (calls_of c.args.seat) answered (calls_of c.loop-turn.seat) (c.loop-turn.turn + 1) true was.heard was.calls count
+    let count : c.loop-turn.turn + 1 ≡ length replied + 1 = omega (arith, length-replicate c.loop-turn.turn (Auto c.args.process)) in
+    let asked = heard_asked (g.G.Gate.heard c.args.gate) (g.G.Gate.heard c.loop-turn.gate) (g.G.Gate.heard c.before-in-loop-turn.new.self) (calls_of c.args.seat) replied (calls_of c.loop-turn.seat) (c.loop-turn.turn + 1) true was.heard was.calls count
     (c.before-in-loop-turn.ensures.heard ∙ ap (λ b. heard_more (g.G.Gate.heard c.loop-turn.gate) (Asked (c.loop-turn.turn + 1) (calls_of c.loop-turn.seat) b ∷ [])) passed) in
     let one_more = calls_of-call g.T.Runs.rules c.loop-turn.seat c.call.new.seat _ _ c.call.ensures.seat c.in-Ok.ensures.call ∙ ap (λ l. l ++ Auto c.args.process ∷ []) was.calls in
-    let told_it = heard_told (g.G.Gate.heard c.args.gate) (g.G.Gate.heard c.before-in-loop-turn.new.self) (g.G.Gate.heard c.after.new.self) (calls_of c.args.seat) answered (calls_of c.call.new.seat) (Auto c.args.process) (c.loop-turn.turn + 1) asked one_more count c.after.ensures.heard in
+    let told_it = heard_told (g.G.Gate.heard c.args.gate) (g.G.Gate.heard c.before-in-loop-turn.new.self) (g.G.Gate.heard c.after.new.self) (calls_of c.args.seat) replied (calls_of c.call.new.seat) (Auto c.args.process) (c.loop-turn.turn + 1) asked one_more count c.after.ensures.heard in
     let heard = told_it ∙ ap (λ l. heard_more (g.G.Gate.heard c.args.gate) (heard_of 1 (calls_of c.args.seat) l)) (sym (replicate-push c.loop-turn.turn (Auto c.args.process))) in
     let now = c.call.new.seat in
     let reply = told c.in-Ok.reply in

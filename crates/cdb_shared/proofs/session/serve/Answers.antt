@@ -1,6 +1,6 @@
 use Rattle.std.proofs.Common.{◌≡◌, ◌+◌, ◌∙◌, rules, refl, sym, ap, arith, true, false, List, [], ◌∷◌, ◌++◌, length, length-take, map, take}
 use Rattle.std.proofs.lemmas.List.{map-append}
-use Rattle.cdb_control.specs.Answer.{told}
+use Rattle.cdb_control.specs.ToldReply.{told}
 use Rattle.cdb_control.specs.declared.reply.Reply.{Reply}
 use Rattle.cdb_shared.specs.Gates.{Asked, heard_more, heard_of}
 use Rattle.cdb_shared.specs.Sessions.{calls_of, replies_to}
@@ -12,24 +12,24 @@ pub returns-then-not-before-clause-gate : goal.returns-then-not-before-clause-ga
 returns-then-not-before-clause-gate g c =
     let was = c.loop-command.invariant in
     let index = c.loop-command.command-index in
-    let answered = take index c.args.commands.now in
+    let replied = take index c.args.commands.now in
     let refused : c.before-in-loop-command.result ≡ false = search rules in
-    let count : c.loop-command.number + 1 ≡ length answered + 1 = omega (arith, length-take index c.args.commands.now, was.number) in
-    let asked = heard_asked (g.G.Gate.heard c.args.gate) (g.G.Gate.heard c.loop-command.gate) (g.G.Gate.heard c.before-in-loop-command.new.self) (calls_of c.args.seat) answered (calls_of c.loop-command.seat) (c.loop-command.number + 1) false was.heard was.calls count
+    let count : c.loop-command.number + 1 ≡ length replied + 1 = omega (arith, length-take index c.args.commands.now, was.number) in
+    let asked = heard_asked (g.G.Gate.heard c.args.gate) (g.G.Gate.heard c.loop-command.gate) (g.G.Gate.heard c.before-in-loop-command.new.self) (calls_of c.args.seat) replied (calls_of c.loop-command.seat) (c.loop-command.number + 1) false was.heard was.calls count
     (c.before-in-loop-command.ensures.heard ∙ ap (λ b. heard_more (g.G.Gate.heard c.loop-command.gate) (Asked (c.loop-command.number + 1) (calls_of c.loop-command.seat) b ∷ [])) refused) in
-    (c.before-in-loop-command.new.self, hears_asked _ _ c.args.seat c.loop-command.seat answered _ false was.calls refl asked)
+    (c.before-in-loop-command.new.self, hears_asked _ _ c.args.seat c.loop-command.seat replied _ false was.calls refl asked)
 
 pub returns-then-is_err-clause-gate : goal.returns-then-is_err-clause-gate
 returns-then-is_err-clause-gate g c =
     let was = c.loop-command.invariant in
     let index = c.loop-command.command-index in
-    let answered = take index c.args.commands.now in
+    let replied = take index c.args.commands.now in
     let passed : c.before-in-loop-command.result ≡ true = search rules in
-    let count : c.loop-command.number + 1 ≡ length answered + 1 = omega (arith, length-take index c.args.commands.now, was.number) in
-    let asked = heard_asked (g.G.Gate.heard c.args.gate) (g.G.Gate.heard c.loop-command.gate) (g.G.Gate.heard c.before-in-loop-command.new.self) (calls_of c.args.seat) answered (calls_of c.loop-command.seat) (c.loop-command.number + 1) true was.heard was.calls count
+    let count : c.loop-command.number + 1 ≡ length replied + 1 = omega (arith, length-take index c.args.commands.now, was.number) in
+    let asked = heard_asked (g.G.Gate.heard c.args.gate) (g.G.Gate.heard c.loop-command.gate) (g.G.Gate.heard c.before-in-loop-command.new.self) (calls_of c.args.seat) replied (calls_of c.loop-command.seat) (c.loop-command.number + 1) true was.heard was.calls count
     (c.before-in-loop-command.ensures.heard ∙ ap (λ b. heard_more (g.G.Gate.heard c.loop-command.gate) (Asked (c.loop-command.number + 1) (calls_of c.loop-command.seat) b ∷ [])) passed) in
     let calls = calls_of-fault c.loop-command.seat c.no_room-fault.new.seat c.no_room-fault.ensures.seat.0 c.no_room-fault.ensures.seat.1 ∙ was.calls in
-    (c.before-in-loop-command.new.self, hears_fault _ _ c.args.seat c.no_room-fault.new.seat answered c.no_room-fault.result _ c.ended_by.ensures calls asked)
+    (c.before-in-loop-command.new.self, hears_fault _ _ c.args.seat c.no_room-fault.new.seat replied c.no_room-fault.result _ c.ended_by.ensures calls asked)
 
 pub returns-then-is_err-clause-replies : goal.returns-then-is_err-clause-replies
 returns-then-is_err-clause-replies g c =
@@ -40,13 +40,13 @@ pub returns-in-Err-clause-gate : goal.returns-in-Err-clause-gate
 returns-in-Err-clause-gate g c =
     let was = c.loop-command.invariant in
     let index = c.loop-command.command-index in
-    let answered = take index c.args.commands.now in
+    let replied = take index c.args.commands.now in
     let passed : c.before-in-loop-command.result ≡ true = search rules in
-    let count : c.loop-command.number + 1 ≡ length answered + 1 = omega (arith, length-take index c.args.commands.now, was.number) in
-    let asked = heard_asked (g.G.Gate.heard c.args.gate) (g.G.Gate.heard c.loop-command.gate) (g.G.Gate.heard c.before-in-loop-command.new.self) (calls_of c.args.seat) answered (calls_of c.loop-command.seat) (c.loop-command.number + 1) true was.heard was.calls count
+    let count : c.loop-command.number + 1 ≡ length replied + 1 = omega (arith, length-take index c.args.commands.now, was.number) in
+    let asked = heard_asked (g.G.Gate.heard c.args.gate) (g.G.Gate.heard c.loop-command.gate) (g.G.Gate.heard c.before-in-loop-command.new.self) (calls_of c.args.seat) replied (calls_of c.loop-command.seat) (c.loop-command.number + 1) true was.heard was.calls count
     (c.before-in-loop-command.ensures.heard ∙ ap (λ b. heard_more (g.G.Gate.heard c.loop-command.gate) (Asked (c.loop-command.number + 1) (calls_of c.loop-command.seat) b ∷ [])) passed) in
     let calls = calls_of-fault c.loop-command.seat c.call.new.seat c.call.ensures.seat c.in-Err.ensures.fault ∙ was.calls in
-    (c.before-in-loop-command.new.self, hears_fault _ _ c.args.seat c.call.new.seat answered c.in-Err.fault _ c.ended_by-in-Err.ensures calls asked)
+    (c.before-in-loop-command.new.self, hears_fault _ _ c.args.seat c.call.new.seat replied c.in-Err.fault _ c.ended_by-in-Err.ensures calls asked)
 
 pub returns-in-Err-clause-replies : goal.returns-in-Err-clause-replies
 returns-in-Err-clause-replies g c =
@@ -71,11 +71,11 @@ loop-command-preserved g c =
     let heard = told_it ∙ ap (λ l. heard_more (g.G.Gate.heard c.args.gate) (heard_of 1 (calls_of c.args.seat) l)) (sym (take_one_more commands index c.command-item.result (omega arith) c.command-item.is)) in
     let few = few_calls c.args.seat now (take (index + 1) commands) calls c.call.ensures.limit in
     let kept = c.reserve.ensures.items in
-    let answered = ap (map told) (c.push_reserved.ensures.items ∙ ap (λ (l : List Reply). l ++ c.in-Ok.reply ∷ []) kept) ∙ map-append told c.loop-command.replies.items (c.in-Ok.reply ∷ []) in
+    let replied = ap (map told) (c.push_reserved.ensures.items ∙ ap (λ (l : List Reply). l ++ c.in-Ok.reply ∷ []) kept) ∙ map-append told c.loop-command.replies.items (c.in-Ok.reply ∷ []) in
     record {
       seat = IsLater-trans c.args.seat c.loop-command.seat now was.seat c.call.ensures.seat;
       calls = calls;
-      replies = append_one (replies_to g.T.Runs.rules c.loop-command.seat) (replies_to g.T.Runs.rules now) (replies_to g.T.Runs.rules c.args.seat) _ _ _ was.replies (replies_to-call g.T.Runs.rules c.loop-command.seat now _ _ c.call.ensures.seat c.in-Ok.ensures.call) answered;
+      replies = append_one (replies_to g.T.Runs.rules c.loop-command.seat) (replies_to g.T.Runs.rules now) (replies_to g.T.Runs.rules c.args.seat) _ _ _ was.replies (replies_to-call g.T.Runs.rules c.loop-command.seat now _ _ c.call.ensures.seat c.in-Ok.ensures.call) replied;
       count = omega arith;
       number = omega arith;
       limit = omega (arith, length-take (index + 1) commands);

@@ -12,6 +12,6 @@ unreachable-requires c =
     let now = c.args.self.now in
     let range : AreInRange now.setup = subst (λ (s : RunView). AreInRange s.setup) c.self.view_is (subst AreInRange c.setup.ensures c.n-ranges.ensures.ranges) in
     let valid = subst (λ (s : RunView). IsTrue ((rules_of_setup s.setup).valid s.history)) c.self.view_is c.history-valid.ensures.valid in
-    let causes = subst (λ (s : RunView). causes_in s (name_given c.args.name) ≡ Ok c.in_ok-causes.causes.items) c.self.view_is c.in_ok-causes.ensures.answer in
-    let named = c.id.ensures.some (can_name now.setup range now.history valid c.in_ok-causes.causes.items c.args.name causes) in
+    let causes = subst (λ (s : RunView). causes_in s (name_given c.args.event) ≡ Ok c.in_ok-causes.causes.items) c.self.view_is c.in_ok-causes.ensures.returns in
+    let named = c.id.ensures.some (can_name now.setup range now.history valid c.in_ok-causes.causes.items c.args.event causes) in
     true≢false (sym (subst IsSome c.in-None.is named))

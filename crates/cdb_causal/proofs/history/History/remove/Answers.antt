@@ -18,10 +18,10 @@ use Rattle.cdb_causal.proofs.history.History.remove.Goals as goal
 
 -- no mark has risen
 marks_fall : (old new : Marked Event) (gone : ℕ) (event : Event) → IsTakenOut old gone event new → (i : ℕ) → i < length new.items → mark new i ≤ mark old (position_before gone i)
-marks_fall old new gone event taken i less =
+marks_fall old new gone event removed i less =
     ⊎_elim
-    (λ before. let e = taken.earlier i before in let f = ap (mark old) (position_before_low gone i before) in omega arith)
-    (λ behind. let e = taken.later i behind less in let f = ap (mark old) (position_before_high gone i behind) in omega arith)
+    (λ before. let e = removed.earlier i before in let f = ap (mark old) (position_before_low gone i before) in omega arith)
+    (λ behind. let e = removed.later i behind less in let f = ap (mark old) (position_before_high gone i behind) in omega arith)
     (below_or_above i gone)
   where
     below_or_above : (i n : ℕ) → (i < n) ⊎ (n ≤ i)
@@ -33,31 +33,31 @@ invariant_of-self c =
     let new : Marked Event = c.take_out-event.new.self in
     let items : List Event = old.items in
     let gone : ℕ = c.args.at - 1 in
-    let taken = c.take_out-event.ensures in
-    let left = taken.items ∙ remove-without items gone in
+    let removed = c.take_out-event.ensures in
+    let left = removed.items ∙ remove-without items gone in
     let event = c.take_out-event.result in
     let forgotten = c.forget_own.ensures in
     let unnamed = c.forget_name.ensures in
     let leaves = leaves_then c.self.inside.bounds c.forget_own.new.self c.forget.new.self c.last_of_its_process-last.result event forgotten c.forget.ensures.leaves in
-    let fall : (i : ℕ) → i < length (without items gone) → mark new i ≤ mark old (position_before gone i) = λ i less. marks_fall old new gone event taken i (subst (λ l. i < length l) (sym left) less) in
+    let fall : (i : ℕ) → i < length (without items gone) → mark new i ≤ mark old (position_before gone i) = λ i less. marks_fall old new gone event removed i (subst (λ l. i < length l) (sym left) less) in
     record {
       standing = subst IsStanding (sym left) (standing_without items gone c.self.invariant.standing);
       within =
           subst (AreWithin c.forget_name.new.self (mark new)) (sym left)
-          (within_named c.forget.new.self c.forget_name.new.self (mark new) items c.self.invariant.standing c.self.invariant.ranged gone event taken.stood unnamed
-          (within_without c.self.inside.bounds c.forget.new.self (mark old) (mark new) items gone event taken.stood leaves c.self.invariant.alone c.self.invariant.within fall));
+          (within_named c.forget.new.self c.forget_name.new.self (mark new) items c.self.invariant.standing c.self.invariant.ranged gone event removed.stood unnamed
+          (within_without c.self.inside.bounds c.forget.new.self (mark old) (mark new) items gone event removed.stood leaves c.self.invariant.alone c.self.invariant.within fall));
       alone =
           subst (AreAlone c.forget_name.new.self) (sym left)
           (alone_kept c.forget.new.self c.forget_name.new.self (without items gone) (λ n. ap (λ t. slice_index t.items n) unnamed.receives)
-          (alone_without c.self.inside.bounds c.forget.new.self items gone event taken.stood leaves c.self.invariant.alone));
+          (alone_without c.self.inside.bounds c.forget.new.self items gone event removed.stood leaves c.self.invariant.alone));
       ranged = subst AreRanged (sym left) (ranged_without items gone c.self.invariant.ranged);
       own =
           subst (AreOwn c.forget_name.new.self (mark new)) (sym left)
           (own_same c.forget.new.self c.forget_name.new.self (mark new) (without items gone) unnamed.own unnamed.before
           (own_same c.forget_own.new.self c.forget.new.self (mark new) (without items gone) c.forget.ensures.own c.forget.ensures.leaves.before
-          (own_without c.self.inside.bounds c.forget_own.new.self (mark old) (mark new) items gone event c.last_of_its_process-last.result c.self.invariant.standing c.self.invariant.own taken.stood forgotten
+          (own_without c.self.inside.bounds c.forget_own.new.self (mark old) (mark new) items gone event c.last_of_its_process-last.result c.self.invariant.standing c.self.invariant.own removed.stood forgotten
           (λ is p k l kind other i is_step at.
-          let stood = subst (λ e. slice_get items gone ≡ Some e) is_step taken.stood in
+          let stood = subst (λ e. slice_get items gone ≡ Some e) is_step removed.stood in
           let low = c.last_of_its_process-last.ensures is i p k l kind other (subst (λ h. slice_get h gone ≡ Some (Step p k kind)) c.self.view_is stood) (subst (λ h. slice_get h i ≡ Some (Step p l other)) c.self.view_is at) in
           omega arith)
           fall)));

@@ -1,11 +1,12 @@
 use Rattle.std.proofs.Common.{ℕ, ◌+◌, ◌-◌, ◌<◌, ◌≤◌, arith, ap, ◌∙◌, sym, subst, List, [], ◌∷◌, ◌++◌, length, vec_len, vec_capacity, inl, inr, true≢false}
 use Rattle.std.proofs.lemmas.List.{length-map}
-use Rattle.cdb_control.specs.Answer.{told, is_refused}
+use Rattle.cdb_control.specs.ToldReply.{told, is_refused}
 use Rattle.cdb_control.specs.declared.control.Entry.{Entry}
-use Rattle.cdb_control.specs.Commands.{Outcome, answer, outcome}
+use Rattle.cdb_control.specs.Commands.{Outcome, reply_of, outcome}
 use Rattle.cdb_control.specs.Headline.{Headline}
-use Rattle.cdb_control.specs.Journal.{Journaled, IsReplayed, entry, extended, reply_in}
-use Rattle.cdb_control.specs.Room.{HoldsRooms, cost, lowered, room_of, rooms_at}
+use Rattle.cdb_control.specs.Journal.{Journaled, entry, extended, reply_in}
+use Rattle.cdb_control.specs.Kept.{IsReplayed, HoldsRooms, rooms_at}
+use Rattle.cdb_control.specs.Room.{cost, lowered, room_of}
 use Rattle.cdb_control.specs.State.{State}
 use Rattle.cdb_control.proofs.Along.{obey-setup, IsReplayed-next}
 use Rattle.cdb_control.proofs.Headline.{replayed-headline}
@@ -77,7 +78,7 @@ returns-clause-journal g c =
     ∙ ap (λ (l : List ℕ). rooms_at (n + 1) l) c.lower.ensures
     ∙ sym (rooms-lowered marks (seat - 1) n (cost (told c.in-Ok.reply)) one_at_least (omega (arith, many, seats, high, to_last, from_one, lists)))
     ∙ ap (λ (o : Outcome). lowered (rooms_at n marks) seat o.reply) c.in-Ok.ensures.ok
-    ∙ ap (λ (t : State). lowered (rooms_at n marks) seat (answer rules t seat c.args.command)) (sym was.0.replayed) in
+    ∙ ap (λ (t : State). lowered (rooms_at n marks) seat (reply_of rules t seat c.args.command)) (sym was.0.replayed) in
     (λ j. let v : Journaled = record { setup = same j; seats = i.seats; journal = added j; rooms = rooms j } in v)
     ∙ ap (λ (v : Journaled). extended g.R.Runs.rules v seat c.args.command) c.self.view_is
 
@@ -136,11 +137,11 @@ returns-in_default-clause-spared g c = λ needs same.
     let seat = c.args.seat in
     let command = c.args.command in
     let some : 0 < room_of (rooms_at (vec_len i.journal) i.marks.items) seat = subst (λ (v : Journaled). 0 < room_of v.rooms seat) (sym c.self.view_is) needs.0 in
-    let held = c.self.invariant.1.lists (seat - 1) some in
+    let events_kept = c.self.invariant.1.lists (seat - 1) some in
     let as_shown =
-    ap (λ (t : State). is_refused (answer (rules i.state.state.setup) t seat command)) (sym c.self.invariant.0.replayed)
+    ap (λ (t : State). is_refused (reply_of (rules i.state.state.setup) t seat command)) (sym c.self.invariant.0.replayed)
     ∙ ap (λ (v : Journaled). is_refused (reply_in rules v seat command)) c.self.view_is in
     elim needs.1 [
-      | inl spared ↦ absurd (let impossible = c.in_default.ensures.spared spared (omega (arith, some, held)) in cc)
+      | inl spared ↦ absurd (let impossible = c.in_default.ensures.spared spared (omega (arith, some, events_kept)) in cc)
       | inr refused ↦ absurd (true≢false (sym refused ∙ sym as_shown ∙ c.in_default.ensures.memory))
     ]

@@ -5,7 +5,7 @@ use Rattle.cdb_control.proofs.Along.{IsReplayed-first}
 use Rattle.cdb_control.proofs.Headline.{replayed-headline}
 use Rattle.cdb_control.proofs.Room.{HoldsRooms-first, rooms-none}
 use Rattle.cdb_control.specs.Journal.{Journaled}
-use Rattle.cdb_control.specs.Room.{rooms_at}
+use Rattle.cdb_control.specs.Kept.{rooms_at}
 use Rattle.cdb_control.specs.State.{State}
 use Rattle.cdb_control.proofs.control.Control.open.Goals as goal
 

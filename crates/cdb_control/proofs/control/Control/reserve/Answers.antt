@@ -1,8 +1,9 @@
 use Rattle.std.proofs.Common.{ℕ, ◌+◌, ◌-◌, ◌<◌, arith, ap, ◌∙◌, sym, subst, max, length, List, vec_len, vec_capacity}
 use Rattle.std.proofs.lemmas.List.{length-map}
 use Rattle.cdb_control.proofs.Room.{HoldsRooms-raised, rooms-raised}
-use Rattle.cdb_control.specs.Journal.{Journaled, IsReplayed}
-use Rattle.cdb_control.specs.Room.{HoldsRooms, raised, room_of, rooms_at, with_room}
+use Rattle.cdb_control.specs.Journal.{Journaled}
+use Rattle.cdb_control.specs.Kept.{IsReplayed, HoldsRooms, rooms_at}
+use Rattle.cdb_control.specs.Room.{raised, room_of, with_room}
 use Rattle.cdb_control.specs.State.{State}
 use Rattle.cdb_control.specs.declared.control.Entry.{Entry}
 use Rattle.cdb_control.proofs.control.Control.reserve.Goals as goal

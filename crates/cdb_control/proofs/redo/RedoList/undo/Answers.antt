@@ -9,6 +9,6 @@ pub returns-then-is_err-clause-after : goal.returns-then-is_err-clause-after
 returns-then-is_err-clause-after g c =
     let run = g.R.Runs.run c.args.run.now in
     elim c.match-refuses_undo.branch [
-      | in-Some w ↦ rw w.result-is (sym (ap (with_history run) (refused_leaves (undo_in run (name_given c.args.name)) run.history w.in-Some.refusal (sym w.in-Some.is ∙ c.refuses_undo.ensures))))
+      | in-Some w ↦ rw w.result-is (sym (ap (with_history run) (refused_leaves (undo_in run (name_given c.args.event)) run.history w.in-Some.refusal (sym w.in-Some.is ∙ c.refuses_undo.ensures))))
       | in-None w ↦ rw w.result-is tt
     ]

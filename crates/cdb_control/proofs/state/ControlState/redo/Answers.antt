@@ -5,7 +5,7 @@ use Rattle.cdb_base.specs.Positions.{without_last}
 use Rattle.cdb_base.specs.declared.event.Event.{Event}
 use Rattle.cdb_rules.proofs.Alls.{all-get_or, all-slice_get}
 use Rattle.cdb_control.proofs.Room.{swap}
-use Rattle.cdb_control.proofs.Steps.{redone-as, redo_taken}
+use Rattle.cdb_control.proofs.Steps.{redone-as, redo_granted}
 use Rattle.cdb_control.specs.Commands.{decides}
 use Rattle.cdb_control.specs.Room.{StoredState, StoredList}
 use Rattle.cdb_control.specs.State.{State, redo_of, last_of}
@@ -30,7 +30,7 @@ returns-in-Ok-clause-ok g c =
     let did = c.in_ok-event.ensures in
     let event = c.in-Ok.event in
     let last = c.in-Some.ensures ∙ ap last_of (sym w.at) in
-    let answer = did.answer ∙ ap (λ (v : StoredState). (g.R.Runs.rules v.state.setup).again v.state.history c.in-Some.undone) c.self.view_is in
+    let returned = did.returns ∙ ap (λ (v : StoredState). (g.R.Runs.rules v.state.setup).again v.state.history c.in-Some.undone) c.self.view_is in
     let list = w.put ∙ ap (λ (l : StoredList). set now.state.redo (c.args.seat - 1) l.events) c.drop_last.ensures ∙ ap (λ (l : List Event). set now.state.redo (c.args.seat - 1) (without_last l)) (sym w.at) in
     let after =
     (λ j. let u : State = record { setup = (did.after j).setup; history = (did.after j).history; stops = c.self.inside.breakpoints.stops; next = c.self.inside.breakpoints.next; pause = c.self.inside.pause; redo = list j } in u)
@@ -39,7 +39,7 @@ returns-in-Ok-clause-ok g c =
     c.decides-decides.ensures
     ∙ (λ j. decides (g.R.Runs.rules (did.after j).setup) (did.after j).history event)
     ∙ ap (λ (v : StoredState). decides (g.R.Runs.rules v.state.setup) (with_taken v.state.history r) event) c.self.view_is in
-    redone-as rules now.state _ c.args.seat c.in-Some.undone event c.decides-decides.result r last answer after tells c.in-Ok.is
+    redone-as rules now.state _ c.args.seat c.in-Some.undone event c.decides-decides.result r last returned after tells c.in-Ok.is
 
 pub returns-in-Ok-clause-capacities : goal.returns-in-Ok-clause-capacities
 returns-in-Ok-clause-capacities g c =
@@ -54,6 +54,6 @@ returns-in_err-event-clause-memory g c =
     let w = swap now c.self.inside.redo.items c.args.seat c.index_mut-list.result.now c.index_mut-list.result.now (ap (λ (v : StoredState). v.state.redo) c.self.view_is) (ap (λ (v : StoredState). v.capacities) c.self.view_is) c.requires.from_one c.requires.to_last c.index_mut-list.ensures.value in
     let last = c.in-Some.ensures ∙ ap last_of (sym w.at) in
     let taken =
-    redo_taken (g.R.Runs.rules now.state.setup) now.state c.args.seat c.in-Some.undone last
+    redo_granted (g.R.Runs.rules now.state.setup) now.state c.args.seat c.in-Some.undone last
     (subst (λ (v : StoredState). IsOk ((g.R.Runs.rules v.state.setup).again v.state.history c.in-Some.undone)) c.self.view_is c.in_err-event.ensures.memory) in
     first_of (search (rules, taken), grind (arith, common_steps, taken))

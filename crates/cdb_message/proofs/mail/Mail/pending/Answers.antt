@@ -2,7 +2,7 @@ use Rattle.std.proofs.Common.{◌≡◌, ◌≤◌, ◌∙◌, length, sym, ap, 
 use Rattle.std.specs.Prelude.{MatchOption}
 use Rattle.std.proofs.lemmas.Grind.{common_steps}
 use Rattle.cdb_base.specs.declared.name.MsgName.{MsgName}
-use Rattle.cdb_message.specs.Mail.{MailState, messages_of, is_open, stands_above, next_pending, HasNonePending, IsLeastPending}
+use Rattle.cdb_message.specs.Mail.{MailState, messages_of, is_open, is_above, next_pending, HasNonePending, IsLeastPending}
 use Rattle.cdb_message.proofs.Pending.{first-senders}
 use Rattle.cdb_message.proofs.Least.{least_pending}
 use Rattle.cdb_message.proofs.mail.Mail.pending.Goals as goal
@@ -11,7 +11,7 @@ pub returns-in-Some-clause-value : goal.returns-in-Some-clause-value
 returns-in-Some-clause-value c =
     let i = c.loop-sender.sender-index in
     let d = c.sender-item.result in
-    sym (first-senders (stands_above c.args.after) (is_open c.args.self.now c.args.p) (messages_of c.args.self.now) i
+    sym (first-senders (is_above c.args.after) (is_open c.args.self.now c.args.p) (messages_of c.args.self.now) i
     (get_or c.all-sender-items.result i d) d (Some c.in-Some.name) c.loop-sender-test.true (ap (λ xs. get_or xs i d) c.all-sender-items.ensures)
     (sym c.in-Some.is ∙ c.pending_from.ensures))
     ∙ c.loop-sender.invariant
@@ -35,7 +35,7 @@ pub loop-sender-preserved : goal.loop-sender-preserved
 loop-sender-preserved c =
     let i = c.loop-sender.sender-index in
     let d = c.sender-item.result in
-    sym (first-senders (stands_above c.args.after) (is_open c.args.self.now c.args.p) (messages_of c.args.self.now) i
+    sym (first-senders (is_above c.args.after) (is_open c.args.self.now c.args.p) (messages_of c.args.self.now) i
     (get_or c.all-sender-items.result i d) d None c.loop-sender-test.true (ap (λ xs. get_or xs i d) c.all-sender-items.ensures)
     (sym c.in_default.is ∙ c.pending_from.ensures))
     ∙ c.loop-sender.invariant

@@ -1,6 +1,6 @@
 use Rattle.std.proofs.Common.{subst, sym, take, drop, ◌+◌}
 use Rattle.std.proofs.lemmas.Result.{err_from_is_err_and}
-use Rattle.cdb_control.specs.Answer.{told}
+use Rattle.cdb_control.specs.ToldReply.{told}
 use Rattle.cdb_text.specs.Texts.{text_of}
 use Rattle.cdb_play.specs.Buffers.{IsPut}
 use Rattle.cdb_play.proofs.Putting.{put_nothing, put_more, cut_short}

@@ -1,6 +1,6 @@
 use Rattle.std.proofs.Common.{subst, sym, take, drop, ◌+◌, map, arith}
 use Rattle.std.proofs.lemmas.Result.{err_from_is_err_and}
-use Rattle.cdb_control.specs.Answer.{told}
+use Rattle.cdb_control.specs.ToldReply.{told}
 use Rattle.cdb_race.specs.Races.{all_told}
 use Rattle.cdb_play.specs.Buffers.{IsPut}
 use Rattle.cdb_play.specs.Races.{seat_text, seats_text}

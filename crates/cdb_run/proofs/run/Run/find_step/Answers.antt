@@ -4,7 +4,7 @@ use Rattle.cdb_base.specs.declared.name.StepId.TheVariants as named
 use Rattle.cdb_causal.specs.Names.{IsNewName, IsPositionOf}
 use Rattle.cdb_rules.specs.Machines.{machine_of}
 use Rattle.cdb_rules.specs.Undo.{event_named, found_at}
-use Rattle.cdb_rules.proofs.Finding.{among_is, beyond, none_named, too_great, found_answer, found_within}
+use Rattle.cdb_rules.proofs.Finding.{among_is, beyond, none_named, too_great, found_result, found_within}
 use Rattle.cdb_run.proofs.run.Run.find_step.Goals as goal
 
 abbrev step_name : ℕ → ℕ → StepId
@@ -31,7 +31,7 @@ returns-clause-found g c =
     subst (λ h. MatchOption c.position.result (IsNewName h name) (IsPositionOf h name)) c.history.ensures.events
     (subst (λ (n : StepId). MatchOption c.position.result (IsNewName c.history.result.now n) (IsPositionOf c.history.result.now n)) (ap₂ step_name there.0 number.1) c.position.ensures) in
     subst (λ r. MatchResult r (λ at. event_named standing.setup.processes standing.history name ≡ found_at standing.history (at - 1)) (λ why. event_named standing.setup.processes standing.history name ≡ Err why)) (sym c.ok_or.ensures.value)
-    (found_answer standing.history name c.position.result found standing.setup.processes (among_is standing.setup.processes c.args.p there.2 there.1))
+    (found_result standing.history name c.position.result found standing.setup.processes (among_is standing.setup.processes c.args.p there.2 there.1))
 
 pub returns-clause-within : goal.returns-clause-within
 returns-clause-within g c =

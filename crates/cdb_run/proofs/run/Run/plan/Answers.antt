@@ -1,23 +1,23 @@
 use Rattle.std.proofs.Common.{rules, ◌≡◌, ◌<◌, ◌≤◌, length, false, Result, Ok, Err, ap, ◌∙◌, sym, subst, refl, IfOk, arith}
 use Rattle.std.proofs.lemmas.Grind.{common_steps}
 use Rattle.cdb_rules.specs.RunView.{RunView}
-use Rattle.cdb_rules.specs.Runs.{IsNext, answer_to_step}
+use Rattle.cdb_rules.specs.Runs.{IsNext, result_of_step}
 use Rattle.cdb_rules.specs.Machines.{machine_of}
 use Rattle.cdb_rules.specs.Step.{is_among}
 use Rattle.cdb_rules.proofs.Granted.{IsLawful}
 use Rattle.cdb_rules.proofs.FirstStates.{length-first_states}
-use Rattle.cdb_run.proofs.Views.{index_below, receives_shown, queries_shown, plan_shown, plan_absent, answer_enabled}
+use Rattle.cdb_run.proofs.Views.{index_below, receives_shown, queries_shown, plan_shown, plan_absent, result_enabled}
 use Rattle.cdb_run.proofs.run.Run.plan.Goals as goal
 
-pub returns-in_default-clause-answer : goal.returns-in_default-clause-answer
-returns-in_default-clause-answer g c =
+pub returns-in_default-clause-returns : goal.returns-in_default-clause-returns
+returns-in_default-clause-returns g c =
     let process = g.P.Process in
     let setup = c.self.inside.setup in
     let inputs : length setup.inputs ≡ setup.processes = c.n-ranges.ensures.ranges.an_input_each in
     let number = length-first_states process.table.first 1 setup.processes setup.quorum setup.inputs ∙ inputs in
     let none = subst (λ (s : RunView). is_among s.setup.processes c.args.p ≡ false) (sym c.self.view_is) c.in_default.ensures.number in
     plan_absent c.self.invariant setup.processes number c.args.p setup c.args.act none
-    ∙ ap (λ (s : RunView). answer_to_step process.table s c.args.p c.args.act) c.self.view_is
+    ∙ ap (λ (s : RunView). result_of_step process.table s c.args.p c.args.act) c.self.view_is
 
 pub index-progress-requires : goal.index-progress-requires
 index-progress-requires g c =
@@ -53,8 +53,8 @@ plan-requires-clause-queries g c =
     subst (λ q. q ≤ setup.processes) (sym c.in-Some.ensures.number.0) shown) in
     queries_shown c.self.invariant setup.processes number c.index.result c.in-Some.process c.index-progress.result.now c.index.ensures.value last c.index-progress.ensures
 
-pub returns-clause-answer : goal.returns-clause-answer
-returns-clause-answer g c =
+pub returns-clause-returns : goal.returns-clause-returns
+returns-clause-returns g c =
     let process = g.P.Process in
     let setup = c.self.inside.setup in
     let inputs : length setup.inputs ≡ setup.processes = c.n-ranges.ensures.ranges.an_input_each in
@@ -63,8 +63,8 @@ returns-clause-answer g c =
     let shown : c.args.p ≤ setup.processes = subst (λ (s : RunView). c.args.p ≤ s.setup.processes) (sym c.self.view_is) c.in-Some.ensures.number.1 in
     subst (λ q. q ≤ setup.processes) (sym c.in-Some.ensures.number.0) shown) in
     plan_shown c.self.invariant setup.processes number c.index.result c.in-Some.process c.index-progress.result.now c.index.ensures.value last c.index-progress.ensures setup c.args.act c.plan.result c.plan.ensures
-    ∙ ap (λ (s : RunView). answer_to_step process.table s c.in-Some.process c.args.act) c.self.view_is
-    ∙ ap (λ p. answer_to_step process.table c.args.self.now p c.args.act) c.in-Some.ensures.number.0
+    ∙ ap (λ (s : RunView). result_of_step process.table s c.in-Some.process c.args.act) c.self.view_is
+    ∙ ap (λ p. result_of_step process.table c.args.self.now p c.args.act) c.in-Some.ensures.number.0
 
 if_ok : {A E : Type 0} (r : Result A E) (P : A → Type 0) → ((a : A) → r ≡ Ok a → P a) → IfOk r P
 if_ok (Ok a) P h = h a refl
@@ -78,8 +78,8 @@ returns-clause-enabled g c =
     let number = length-first_states process.table.first 1 setup.processes setup.quorum setup.inputs ∙ inputs in
     let laws = g.met.P.Process in
     let lawful : IsLawful (machine_of process.table setup) = record { query = laws.query_by_state; recv = laws.recv_by_state; send = laws.wish_send; write = laws.wish_write } in
-    let answered = returns-clause-answer g c in
+    let answered = returns-clause-returns g c in
     if_ok c.plan.result _ (λ event is.
     subst (λ (s : RunView). IsNext process.table s event) c.self.view_is
-    (answer_enabled c.self.invariant setup number c.n-ranges.ensures.ranges lawful c.args.p c.args.act event
-    (ap (λ (s : RunView). answer_to_step process.table s c.args.p c.args.act) c.self.view_is ∙ sym answered ∙ is)))
+    (result_enabled c.self.invariant setup number c.n-ranges.ensures.ranges lawful c.args.p c.args.act event
+    (ap (λ (s : RunView). result_of_step process.table s c.args.p c.args.act) c.self.view_is ∙ sym answered ∙ is)))

@@ -3,7 +3,7 @@ use Rattle.std.proofs.lemmas.Grind.{common_steps}
 use Rattle.cdb_base.specs.declared.event.Event.TheVariants.{Step, Lost}
 use Rattle.cdb_record.specs.Recorded.{events_of}
 use Rattle.cdb_rules.specs.RunView.{RunView}
-use Rattle.cdb_rules.specs.Runs.{answer_to_again}
+use Rattle.cdb_rules.specs.Runs.{result_of_again}
 use Rattle.cdb_rules.specs.Machines.{machine_of}
 use Rattle.cdb_rules.specs.Refusals.{IsOfRun}
 use Rattle.cdb_rules.specs.Step.{after, state_of}
@@ -73,8 +73,8 @@ plan_loss_again-requires-clause-receivers g c =
     let number = length-first_states process.table.first 1 setup.processes setup.quorum setup.inputs ∙ inputs in
     receivers_shown c.self.invariant ∙ number
 
-pub returns-in-Step-clause-answer : goal.returns-in-Step-clause-answer
-returns-in-Step-clause-answer g c =
+pub returns-in-Step-clause-returns : goal.returns-in-Step-clause-returns
+returns-in-Step-clause-returns g c =
     let process = g.P.Process in
     let setup = c.self.inside.setup in
     let inputs : length setup.inputs ≡ setup.processes = c.n-ranges.ensures.ranges.an_input_each in
@@ -83,19 +83,19 @@ returns-in-Step-clause-answer g c =
     let p = c.in-Step.p in
     let last = (subst (IsOfRun setup) c.in-Step.is of_run).0 in
     again_shown c.self.invariant setup.processes number c.index.result p c.index-progress.result.now c.index.ensures.value last c.index-progress.ensures setup c.in-Step.k c.in-Step.kind c.plan_again.result c.plan_again.ensures
-    ∙ ap (λ (s : RunView). answer_to_again process.table s (Step p c.in-Step.k c.in-Step.kind)) c.self.view_is
-    ∙ ap (λ event. answer_to_again process.table c.args.self.now event) (sym c.in-Step.is)
+    ∙ ap (λ (s : RunView). result_of_again process.table s (Step p c.in-Step.k c.in-Step.kind)) c.self.view_is
+    ∙ ap (λ event. result_of_again process.table c.args.self.now event) (sym c.in-Step.is)
 
-pub returns-in-Lost-clause-answer : goal.returns-in-Lost-clause-answer
-returns-in-Lost-clause-answer g c =
+pub returns-in-Lost-clause-returns : goal.returns-in-Lost-clause-returns
+returns-in-Lost-clause-returns g c =
     let process = g.P.Process in
     let setup = c.self.inside.setup in
     let inputs : length setup.inputs ≡ setup.processes = c.n-ranges.ensures.ranges.an_input_each in
     let number = length-first_states process.table.first 1 setup.processes setup.quorum setup.inputs ∙ inputs in
     let copy = c.in-Lost.copy in
     loss_shown c.self.invariant setup copy.msg copy.to c.plan_loss_again.result c.plan_loss_again.ensures
-    ∙ ap (λ (s : RunView). answer_to_again process.table s (Lost copy)) c.self.view_is
-    ∙ ap (λ event. answer_to_again process.table c.args.self.now event) (sym c.in-Lost.is)
+    ∙ ap (λ (s : RunView). result_of_again process.table s (Lost copy)) c.self.view_is
+    ∙ ap (λ event. result_of_again process.table c.args.self.now event) (sym c.in-Lost.is)
 
 pub returns-in-Step-clause-taken : goal.returns-in-Step-clause-taken
 returns-in-Step-clause-taken g c =
@@ -107,17 +107,17 @@ returns-in-Step-clause-taken g c =
     let laws = g.met.P.Process in
     let machine = machine_of process.table setup in
     let lawful : IsLawful machine = record { query = laws.query_by_state; recv = laws.recv_by_state; send = laws.wish_send; write = laws.wish_write } in
-    let answer = returns-in-Step-clause-answer g c in
+    let returned = returns-in-Step-clause-returns g c in
     subst (λ (s : RunView). let machine = machine_of process.table s.setup in IsOk c.plan_again.result ↔ IsSome (after machine (state_of machine s.history) c.args.event.now)) c.self.view_is
     (again_exact machine lawful setup number refl (state_of machine (events_of c.self.inside.records)) c.args.event.now of_run c.plan_again.result
-    (answer ∙ ap (λ (s : RunView). answer_to_again process.table s c.args.event.now) (sym c.self.view_is)))
+    (returned ∙ ap (λ (s : RunView). result_of_again process.table s c.args.event.now) (sym c.self.view_is)))
 
 pub returns-in-Step-clause-same : goal.returns-in-Step-clause-same
 returns-in-Step-clause-same g c =
     let process = g.P.Process in
     let setup = c.args.self.now.setup in
     let machine = machine_of process.table setup in
-    subst (λ answer. IfOk answer (λ taken. taken ≡ c.args.event.now)) (sym (returns-in-Step-clause-answer g c)) (again_same machine setup (state_of machine c.args.self.now.history) c.args.event.now)
+    subst (λ returned. IfOk returned (λ taken. taken ≡ c.args.event.now)) (sym (returns-in-Step-clause-returns g c)) (again_same machine setup (state_of machine c.args.self.now.history) c.args.event.now)
 
 pub returns-in-Lost-clause-taken : goal.returns-in-Lost-clause-taken
 returns-in-Lost-clause-taken g c =
@@ -129,14 +129,14 @@ returns-in-Lost-clause-taken g c =
     let laws = g.met.P.Process in
     let machine = machine_of process.table setup in
     let lawful : IsLawful machine = record { query = laws.query_by_state; recv = laws.recv_by_state; send = laws.wish_send; write = laws.wish_write } in
-    let answer = returns-in-Lost-clause-answer g c in
+    let returned = returns-in-Lost-clause-returns g c in
     subst (λ (s : RunView). let machine = machine_of process.table s.setup in IsOk c.plan_loss_again.result ↔ IsSome (after machine (state_of machine s.history) c.args.event.now)) c.self.view_is
     (again_exact machine lawful setup number refl (state_of machine (events_of c.self.inside.records)) c.args.event.now of_run c.plan_loss_again.result
-    (answer ∙ ap (λ (s : RunView). answer_to_again process.table s c.args.event.now) (sym c.self.view_is)))
+    (returned ∙ ap (λ (s : RunView). result_of_again process.table s c.args.event.now) (sym c.self.view_is)))
 
 pub returns-in-Lost-clause-same : goal.returns-in-Lost-clause-same
 returns-in-Lost-clause-same g c =
     let process = g.P.Process in
     let setup = c.args.self.now.setup in
     let machine = machine_of process.table setup in
-    subst (λ answer. IfOk answer (λ taken. taken ≡ c.args.event.now)) (sym (returns-in-Lost-clause-answer g c)) (again_same machine setup (state_of machine c.args.self.now.history) c.args.event.now)
+    subst (λ returned. IfOk returned (λ taken. taken ≡ c.args.event.now)) (sym (returns-in-Lost-clause-returns g c)) (again_same machine setup (state_of machine c.args.self.now.history) c.args.event.now)

@@ -3,7 +3,7 @@ use Rattle.cdb_message.specs.Mail.{message_name}
 use Rattle.cdb_record.specs.Recorded.{events_of}
 use Rattle.cdb_rules.specs.RunView.{RunView}
 use Rattle.cdb_rules.specs.Machines.{machine_of}
-use Rattle.cdb_rules.specs.Refusals.{lose_answer}
+use Rattle.cdb_rules.specs.Refusals.{loss_result}
 use Rattle.cdb_rules.specs.Step.{after, state_of}
 use Rattle.cdb_rules.proofs.Again.{lose_enabled}
 use Rattle.cdb_rules.proofs.FirstStates.{length-first_states}
@@ -17,11 +17,11 @@ plan_loss-requires g c =
     let inputs : length setup.inputs ≡ setup.processes = c.n-ranges.ensures.ranges.an_input_each in
     receivers_shown c.self.invariant ∙ length-first_states process.table.first 1 setup.processes setup.quorum setup.inputs ∙ inputs
 
-pub returns-clause-answer : goal.returns-clause-answer
-returns-clause-answer g c =
+pub returns-clause-returns : goal.returns-clause-returns
+returns-clause-returns g c =
     let process = g.P.Process in
     loss_shown c.self.invariant c.self.inside.setup (message_name c.args.s c.args.m) c.args.p c.plan_loss.result c.plan_loss.ensures
-    ∙ ap (λ (s : RunView). let machine = machine_of process.table s.setup in lose_answer s.setup (state_of machine s.history) (message_name c.args.s c.args.m) c.args.p) c.self.view_is
+    ∙ ap (λ (s : RunView). let machine = machine_of process.table s.setup in loss_result s.setup (state_of machine s.history) (message_name c.args.s c.args.m) c.args.p) c.self.view_is
 
 pub returns-clause-enabled : goal.returns-clause-enabled
 returns-clause-enabled g c =
@@ -31,6 +31,6 @@ returns-clause-enabled g c =
     let number = length-first_states process.table.first 1 setup.processes setup.quorum setup.inputs ∙ inputs in
     let machine = machine_of process.table setup in
     subst (λ (s : RunView). let machine = machine_of process.table s.setup in IfOk c.plan_loss.result (λ event. IsSome (after machine (state_of machine s.history) event))) c.self.view_is
-    (subst (λ answer. IfOk answer (λ event. IsSome (after machine (state_of machine (events_of c.self.inside.records)) event)))
+    (subst (λ returned. IfOk returned (λ event. IsSome (after machine (state_of machine (events_of c.self.inside.records)) event)))
     (sym (loss_shown c.self.invariant setup (message_name c.args.s c.args.m) c.args.p c.plan_loss.result c.plan_loss.ensures))
     (lose_enabled machine setup number refl (state_of machine (events_of c.self.inside.records)) (message_name c.args.s c.args.m) c.args.p))

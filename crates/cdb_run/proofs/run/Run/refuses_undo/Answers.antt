@@ -3,8 +3,8 @@ use Rattle.std.specs.Result.{result_err}
 use Rattle.cdb_causal.specs.Causality.{IsFree}
 use Rattle.cdb_causal.specs.Dependence.{depends}
 use Rattle.cdb_causal.specs.Names.{IsFirstDependent}
-use Rattle.cdb_rules.specs.Undo.{answered, for_standing, undo_found}
-use Rattle.cdb_rules.proofs.Answering.{free_unrefused, needed_refused}
+use Rattle.cdb_rules.specs.Undo.{result_alone, for_standing, undo_found}
+use Rattle.cdb_rules.proofs.Results.{free_unrefused, needed_refused}
 use Rattle.cdb_run.proofs.run.Run.refuses_undo.Goals as goal
 
 pub returns-in_err-first_dependent-in-Ok : goal.returns-in_err-first_dependent-in-Ok
@@ -15,7 +15,7 @@ returns-in_err-first_dependent-in-Ok g c =
     let within : c.in-Ok.at - 1 < length history = omega (arith, first, last) in
     c.from_residual.ensures
     ∙ free_unrefused history (c.in-Ok.at - 1) within (subst (λ h. IsFree depends h (c.in-Ok.at - 1)) c.history.ensures.events c.in_err-first_dependent-in-Ok.ensures)
-    ∙ sym (ap (λ f. result_err (answered (for_standing f (undo_found history)))) c.in-Ok.ensures.found)
+    ∙ sym (ap (λ f. result_err (result_alone (for_standing f (undo_found history)))) c.in-Ok.ensures.found)
 
 pub returns-in_ok-first_dependent-in-Ok : goal.returns-in_ok-first_dependent-in-Ok
 returns-in_ok-first_dependent-in-Ok g c =
@@ -25,4 +25,4 @@ returns-in_ok-first_dependent-in-Ok g c =
     let within : c.in-Ok.at - 1 < length history = omega (arith, first, last) in
     needed_refused history (c.in-Ok.at - 1) within c.in_ok-first_dependent-in-Ok.field-0
     (subst (λ h. IsFirstDependent h (c.in-Ok.at - 1) c.in_ok-first_dependent-in-Ok.field-0) c.history.ensures.events c.in_ok-first_dependent-in-Ok.ensures)
-    ∙ sym (ap (λ f. result_err (answered (for_standing f (undo_found history)))) c.in-Ok.ensures.found)
+    ∙ sym (ap (λ f. result_err (result_alone (for_standing f (undo_found history)))) c.in-Ok.ensures.found)

@@ -14,7 +14,7 @@ pub loop-name-init : goal.loop-name-init
 loop-name-init g c =
     let history = c.args.self.now.history in
     let i = c.args.at - 1 in
-    let into = c.args.taken.now.items in
+    let into = c.args.removed.now.items in
     let first = c.requires.from_one in
     let last = c.requires.to_len in
     let stands = stands_at history i (omega (arith, first, last)) in
@@ -27,27 +27,27 @@ loop-name-init g c =
       setup = refl;
       left =
           subst (λ (names : List StepId). IsLeft history i into history names c.reserve.new.self.items) (sym names_are)
-          (subst (λ (taken : List Event). IsLeft history i into history (map event_name (consequences depends history i)) taken) (sym made.items) (left_first history i into stands.0 stands.1));
+          (subst (λ (removed : List Event). IsLeft history i into history (map event_name (consequences depends history i)) removed) (sym made.items) (left_first history i into stands.0 stands.1));
       kept = made.capacity;
       room = omega (arith, enough, number, long);
     }
 
-pub take_back_named-event-requires : goal.take_back_named-event-requires
-take_back_named-event-requires g c =
-    let left = subst (λ (names : List StepId). IsLeft c.args.self.now.history (c.args.at - 1) c.args.taken.now.items c.loop-name.self.history names c.loop-name.taken.items) c.in-Some.ensures.items c.loop-name.invariant.left in
-    let next = next_free c.args.self.now.history (c.args.at - 1) c.args.taken.now.items c.pop.new.self.items c.in-Some.name left in
+pub restore_named-event-requires : goal.restore_named-event-requires
+restore_named-event-requires g c =
+    let left = subst (λ (names : List StepId). IsLeft c.args.self.now.history (c.args.at - 1) c.args.removed.now.items c.loop-name.self.history names c.loop-name.removed.items) c.in-Some.ensures.items c.loop-name.invariant.left in
+    let next = next_free c.args.self.now.history (c.args.at - 1) c.args.removed.now.items c.pop.new.self.items c.in-Some.name left in
     (next.0, next.1, next.2)
 
 pub loop-name-preserved : goal.loop-name-preserved
 loop-name-preserved g c =
     let history = c.args.self.now.history in
     let i = c.args.at - 1 in
-    let into = c.args.taken.now.items in
+    let into = c.args.removed.now.items in
     let names = c.pop.new.self.items in
-    let left = subst (λ (names : List StepId). IsLeft history i into c.loop-name.self.history names c.loop-name.taken.items) c.in-Some.ensures.items c.loop-name.invariant.left in
+    let left = subst (λ (names : List StepId). IsLeft history i into c.loop-name.self.history names c.loop-name.removed.items) c.in-Some.ensures.items c.loop-name.invariant.left in
     let next = next_free history i into names c.in-Some.name left in
-    let taken = c.take_back_named-event.ensures in
-    let after = taken.after next.0 next.1 in
+    let removed = c.restore_named-event.ensures in
+    let after = removed.after next.0 next.1 in
     let pushed = c.push_reserved.ensures in
     let longer = pushed.len in
     let same_room = pushed.capacity in
@@ -58,21 +58,21 @@ loop-name-preserved g c =
       setup = ap (λ (s : RunView). s.setup) after ∙ c.loop-name.invariant.setup;
       left =
           subst (λ (h : List Event). IsLeft history i into h names c.push_reserved.new.events.items) (sym (ap (λ (s : RunView). s.history) after))
-          (subst (λ (l : List Event). IsLeft history i into (without c.loop-name.self.history next.0) names l) (sym pushed.items) (next.3 c.take_back_named-event.result (taken.event next.0 next.1)));
+          (subst (λ (l : List Event). IsLeft history i into (without c.loop-name.self.history next.0) names l) (sym pushed.items) (next.3 c.restore_named-event.result (removed.event next.0 next.1)));
       kept = omega (arith, same_room, kept);
       room = omega (arith, longer, same_room, fewer, room, length-append names (c.in-Some.name ∷ []));
     }
 
-pub take_back-event-requires-clause-to_len : goal.take_back-event-requires-clause-to_len
-take_back-event-requires-clause-to_len g c =
-    let one = alone_left c.args.self.now.history (c.args.at - 1) c.args.taken.now.items c.loop-name.names.items (c.loop-name.names.ok.0) c.in_default.ensures.cases.0 c.loop-name.invariant.left in
+pub restore_at-event-requires-clause-to_len : goal.restore_at-event-requires-clause-to_len
+restore_at-event-requires-clause-to_len g c =
+    let one = alone_left c.args.self.now.history (c.args.at - 1) c.args.removed.now.items c.loop-name.names.items (c.loop-name.names.ok.0) c.in_default.ensures.cases.0 c.loop-name.invariant.left in
     let below = slice_get_within c.loop-name.self.history (c.args.at - 1) one.event one.at in
     let first = c.requires.from_one in
     omega (arith, below, first)
 
-pub take_back-event-requires-clause-free : goal.take_back-event-requires-clause-free
-take_back-event-requires-clause-free g c =
-    (alone_left c.args.self.now.history (c.args.at - 1) c.args.taken.now.items c.loop-name.names.items (c.loop-name.names.ok.0) c.in_default.ensures.cases.0 c.loop-name.invariant.left).free
+pub restore_at-event-requires-clause-free : goal.restore_at-event-requires-clause-free
+restore_at-event-requires-clause-free g c =
+    (alone_left c.args.self.now.history (c.args.at - 1) c.args.removed.now.items c.loop-name.names.items (c.loop-name.names.ok.0) c.in_default.ensures.cases.0 c.loop-name.invariant.left).free
 
 pub returns-clause-number : goal.returns-clause-number
 returns-clause-number g c =
@@ -85,17 +85,17 @@ returns-clause-number g c =
     let number = c.len-number.ensures in
     let long = c.in_ok-names.names.ok.0 in
     let names = ap (λ (l : List StepId). length l) names_are in
-    let all = number_left history i c.args.taken.now.items stands.0 stands.1 in
+    let all = number_left history i c.args.removed.now.items stands.0 stands.1 in
     omega (arith, number, long, names, all)
 
 pub returns-clause-after : goal.returns-clause-after
 returns-clause-after g c =
-    let one = alone_left c.args.self.now.history (c.args.at - 1) c.args.taken.now.items c.loop-name.names.items (c.loop-name.names.ok.0) c.in_default.ensures.cases.0 c.loop-name.invariant.left in
-    c.take_back-event.ensures.after ∙ (λ j. record { setup = c.loop-name.invariant.setup j; history = one.remains j })
+    let one = alone_left c.args.self.now.history (c.args.at - 1) c.args.removed.now.items c.loop-name.names.items (c.loop-name.names.ok.0) c.in_default.ensures.cases.0 c.loop-name.invariant.left in
+    c.restore_at-event.ensures.after ∙ (λ j. record { setup = c.loop-name.invariant.setup j; history = one.remains j })
 
 pub returns-clause-list : goal.returns-clause-list
 returns-clause-list g c =
-    let one = alone_left c.args.self.now.history (c.args.at - 1) c.args.taken.now.items c.loop-name.names.items (c.loop-name.names.ok.0) c.in_default.ensures.cases.0 c.loop-name.invariant.left in
-    let at = position_before c.loop-name.self.history c.args.at c.take_back-event.result c.requires.from_one c.take_back-event.ensures.event in
-    let same = same_Some c.take_back-event.result one.event (sym at ∙ one.at) in
-    c.push_reserved-2.ensures.items ∙ ap (λ (e : Event). c.loop-name.taken.items ++ e ∷ []) same ∙ one.went
+    let one = alone_left c.args.self.now.history (c.args.at - 1) c.args.removed.now.items c.loop-name.names.items (c.loop-name.names.ok.0) c.in_default.ensures.cases.0 c.loop-name.invariant.left in
+    let at = position_before c.loop-name.self.history c.args.at c.restore_at-event.result c.requires.from_one c.restore_at-event.ensures.event in
+    let same = same_Some c.restore_at-event.result one.event (sym at ∙ one.at) in
+    c.push_reserved-2.ensures.items ∙ ap (λ (e : Event). c.loop-name.removed.items ++ e ∷ []) same ∙ one.went

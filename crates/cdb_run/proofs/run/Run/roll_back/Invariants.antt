@@ -6,9 +6,9 @@ abbrev pub invariant-loop-name : goal.invariant-loop-name
 invariant-loop-name g l =
     record {
       setup : l.self.setup ≡ l.fn.self.setup;
-      left : IsLeft l.fn.self.history (l.at - 1) l.fn.taken.items l.self.history l.names.items l.taken.items;
-      kept : vec_capacity l.fn.taken ≤ vec_capacity l.taken;
-      room : vec_len l.taken + length l.names.items < vec_capacity l.taken;
+      left : IsLeft l.fn.self.history (l.at - 1) l.fn.removed.items l.self.history l.names.items l.removed.items;
+      kept : vec_capacity l.fn.removed ≤ vec_capacity l.removed;
+      room : vec_len l.removed + length l.names.items < vec_capacity l.removed;
     }
 
 abbrev pub decreases-loop-name : goal.decreases-loop-name

@@ -6,7 +6,7 @@ use Rattle.cdb_rules.specs.Runs.{with_history, removed_by_rollback, IsExactRollb
 use Rattle.cdb_rules.proofs.FirstStates.{length-first_states}
 use Rattle.cdb_rules.proofs.TakenBack.{exact_rollback, rollback_leads_back}
 use Rattle.cdb_setup.specs.Parts.{AreInRange}
-use Rattle.cdb_run.proofs.RollingBack.{number_answer, history_answer, list_answer, refused_answer}
+use Rattle.cdb_run.proofs.RollingBack.{number_result, history_result, list_result, refused_result}
 use Rattle.cdb_run.proofs.run.Run.rollback_event.Goals as goal
 
 pub returns-in_ok-roll_back-in-Ok-clause-rolled_back : goal.returns-in_ok-roll_back-in-Ok-clause-rolled_back
@@ -16,11 +16,11 @@ returns-in_ok-roll_back-in-Ok-clause-rolled_back g c =
     let found = c.in-Ok.ensures in
     let rolled = c.in_ok-roll_back-in-Ok.ensures in
     record {
-      answer = number_answer standing.setup.processes standing.history name c.in-Ok.at found.found found.within _ rolled.number;
+      returns = number_result standing.setup.processes standing.history name c.in-Ok.at found.found found.within _ rolled.number;
       after =
           rolled.after
-          ∙ ap (with_history standing) (history_answer standing.setup.processes standing.history name c.in-Ok.at found.found found.within _ refl);
-      list = list_answer standing.setup.processes standing.history name c.in-Ok.at found.found found.within c.args.taken.now.items _ rolled.list;
+          ∙ ap (with_history standing) (history_result standing.setup.processes standing.history name c.in-Ok.at found.found found.within _ refl);
+      list = list_result standing.setup.processes standing.history name c.in-Ok.at found.found found.within c.args.removed.now.items _ rolled.list;
       err = tt;
       list_err = tt;
       memory = tt;
@@ -47,7 +47,7 @@ pub returns-in-Err-clause-exact : goal.returns-in-Err-clause-exact
 returns-in-Err-clause-exact g c =
     let name = name_given c.args.event in
     let run = c.args.self.now in
-    subst (λ (v : RunView). IsExactRollback run name v) (refused_answer run name c.in-Err.refusal c.in-Err.ensures.found) (exact_rollback run name)
+    subst (λ (v : RunView). IsExactRollback run name v) (refused_result run name c.in-Err.refusal c.in-Err.ensures.found) (exact_rollback run name)
 
 pub returns-in-Err-clause-again : goal.returns-in-Err-clause-again
 returns-in-Err-clause-again g c =
@@ -57,5 +57,5 @@ returns-in-Err-clause-again g c =
     let number =
     length-first_states table.first 1 setup.processes setup.quorum setup.inputs ∙ (subst AreInRange c.setup.ensures c.n-ranges.ensures.ranges).an_input_each in
     let name = name_given c.args.event in
-    subst (λ (v : RunView). AllLeadTo table v (reverse (removed_by_rollback run name)) run) (refused_answer run name c.in-Err.refusal c.in-Err.ensures.found)
+    subst (λ (v : RunView). AllLeadTo table v (reverse (removed_by_rollback run name)) run) (refused_result run name c.in-Err.refusal c.in-Err.ensures.found)
     (rollback_leads_back (machine_of table setup) setup.processes number run.history c.history-valid.ensures.valid name)

@@ -3,7 +3,7 @@ use Rattle.std.proofs.lemmas.List.{drop_all}
 use Rattle.std.specs.List.{list_all}
 use Rattle.cdb_base.specs.declared.event.Event.{Event}
 use Rattle.cdb_causal.proofs.Lists.{drop_from}
-use Rattle.cdb_rules.specs.OwnSteps.{is_lost_too}
+use Rattle.cdb_rules.specs.Comparing.{is_lost_too}
 use Rattle.cdb_run.proofs.run.same.losses_are_lost.Goals as goal
 
 pub loop-i-preserved : goal.loop-i-preserved

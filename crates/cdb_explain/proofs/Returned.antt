@@ -1,0 +1,65 @@
+-- A step that was asked for, and what was answered.
+use Rattle.std.proofs.Common.{◌≡◌, ◌∙◌, ℕ, List, Option, Result, Ok, Err, ap, sym, subst}
+use Rattle.std.specs.Prelude.{[], IfErr}
+use Rattle.cdb_base.specs.declared.name.StepId.{StepId}
+use Rattle.cdb_base.specs.declared.refusal.Refusal.{Refusal}
+use Rattle.cdb_explain.specs.Explanations.{because_text}
+use Rattle.cdb_control.specs.Journal.{Journaled, control_state}
+use Rattle.cdb_play.specs.Faults.{IsFaultOfPlay, IsSetup, of_output}
+use Rattle.cdb_play.specs.Left.{Leaves, run_of}
+use Rattle.cdb_play.specs.Streams.{Stream}
+use Rattle.cdb_play.specs.declared.buffer.OutputFault.{OutputFault}
+use Rattle.cdb_play.specs.declared.buffer.OutputFault.TheVariants as output
+use Rattle.cdb_play.specs.declared.fault.PlayFault.TheVariants as play
+use Rattle.cdb_explain.specs.declared.fault.ExplainFault.{ExplainFault}
+use Rattle.cdb_explain.specs.declared.fault.ExplainFault.TheVariants.{NoStep, Play}
+use Rattle.cdb_explain.specs.Asked.{StandsNoStep}
+use Rattle.cdb_explain.specs.Explained.{IsFaultOfExplain}
+use Rattle.cdb_explain.specs.StepFaults.{IsFaultOfStep}
+use Rattle.cdb_setup.specs.declared.fault.SetupFault.{SetupFault}
+use Rattle.cdb_rules.specs.RunView.{RunView}
+use Rattle.cdb_rules.specs.Runs.{Tells}
+use Rattle.cdb_rules.specs.Rules.{Rules}
+use Rattle.cdb_setup.specs.Parts.{Parts}
+
+-- the run of a control
+pub same_run : (rules : Parts → Rules) (run : RunView) (control : Journaled) → run.setup ≡ control.setup → run.history ≡ (control_state rules control).history → run ≡ run_of rules control
+same_run rules run control setup history =
+    ap (λ s. let view : RunView = record { setup = s; history = run.history } in view) setup
+    ∙ ap (λ h. let view : RunView = record { setup = control.setup; history = h } in view) history
+
+-- ---- the step of the run that a script left
+
+pub output_fault : (why : OutputFault) (json : List ℕ) (old new : Stream) → IsSetup json → IsFaultOfPlay json old new (of_output why)
+output_fault output.Write json old new setup = setup
+output_fault output.NoMemory json old new setup = setup.1.0
+
+pub fault_left : (rules : Parts → Rules) (json : List ℕ) (p : ℕ) (k : Option ℕ) (old new : Stream) (run : RunView) → Leaves rules json old new run
+    → (result : Result (Unit {0}) ExplainFault) → IfErr result (IsFaultOfStep (StandsNoStep run.history p k)) → IfErr result (IsFaultOfExplain rules json p k old new)
+fault_left rules json p k old new run left (Ok done) none = tt
+fault_left rules json p k old new run left (Err NoStep) none = (run, left, none)
+fault_left rules json p k old new run left (Err (Play fault)) (why, is) =
+    subst (IsFaultOfPlay json old new) (sym is) (output_fault why json old new (left.2.setup, left.2.encodes))
+
+-- what is said of a fault after the run stood: it is none of reading
+module _ (Missing : Type 0) where
+  pub is_no_setup : (result : Result (Unit {0}) ExplainFault) (fault : SetupFault) → IfErr result (IsFaultOfStep Missing) → result ≡ Err (Play (play.Setup fault)) → ⊥
+  is_no_setup (Ok done) fault is same = cc
+  is_no_setup (Err NoStep) fault is same = cc
+  is_no_setup (Err (Play made)) fault (output.Write, is) same = cc
+  is_no_setup (Err (Play made)) fault (output.NoMemory, is) same = cc
+
+  pub reads_none : (result : Result (Unit {0}) ExplainFault) → IfErr result (IsFaultOfStep Missing) → result ≡ Err (Play play.Read) → ⊥
+  reads_none (Ok done) is same = cc
+  reads_none (Err NoStep) is same = cc
+  reads_none (Err (Play made)) (output.Write, is) same = cc
+  reads_none (Err (Play made)) (output.NoMemory, is) same = cc
+
+pub no_err : {A E : Type 0} (value : A) (error : E) → (let result : Result A E = Ok value in result) ≡ Err error → ⊥
+no_err value error same = cc
+
+-- a refused look for causes adds nothing
+pub no_because : (returned : Result (List StepId) Refusal) {A : Type 0} (view : A → List StepId) (result : Result A Refusal) (why : Refusal)
+    → Tells view result returned → result ≡ Err why → because_text returned ≡ []
+no_because returned view (Ok found) why tells is = cc
+no_because returned view (Err refusal) why tells is = ap because_text tells

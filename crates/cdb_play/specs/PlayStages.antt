@@ -1,0 +1,19 @@
+-- What a fault says of a stage of a play.
+use Rattle.std.specs.Prelude.{◌≡◌, ℕ, List}
+use Rattle.std.specs.Io.KnownBytes.{Consumes}
+use Rattle.cdb_play.specs.Scripts.{IsFaultOfScript}
+use Rattle.cdb_play.specs.Streams.{IsReadToEnd, Stream}
+use Rattle.cdb_play.specs.declared.fault.PlayFault.{PlayFault}
+use Rattle.cdb_play.specs.declared.fault.PlayFault.TheVariants.{Setup, Line, ScriptTooLong, Read, Write, NoMemory}
+use Rattle.cdb_play.specs.declared.script.ScriptFault.TheVariants as script
+
+-- what a fault says that comes from reading a script and its lines; the setup was read before, and nothing is written yet
+abbrev pub IsFaultOfReading : Stream → Stream → PlayFault → Type 0
+IsFaultOfReading old new (Setup fault) = ⊥
+IsFaultOfReading old new (Line number line fault) =
+    (number ≡ 1) × ((bytes : List ℕ) × IsReadToEnd old bytes new × IsFaultOfScript (script.Line line fault) bytes)
+IsFaultOfReading old new (ScriptTooLong number) =
+    (number ≡ 1) × ((bytes : List ℕ) × Consumes old.bytes new.bytes bytes × IsFaultOfScript script.TooLong bytes)
+IsFaultOfReading old new Read = Unit {0}
+IsFaultOfReading old new Write = ⊥
+IsFaultOfReading old new NoMemory = Unit {0}

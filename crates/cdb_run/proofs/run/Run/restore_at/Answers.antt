@@ -1,0 +1,176 @@
+use Rattle.std.proofs.Common.{rules, ◌≡◌, ◌-◌, ◌<◌, ◌≤◌, length, Some, List, sym, ap, ap₂, ◌∙◌, subst, arith}
+use Rattle.std.proofs.lemmas.List.{length-map}
+use Rattle.std.proofs.lemmas.Grind.{common_steps}
+use Rattle.cdb_base.specs.Positions.{nth}
+use Rattle.cdb_causal.specs.Causality.{IsFree}
+use Rattle.cdb_causal.specs.Dependence.{depends}
+use Rattle.cdb_causal.specs.Rollback.{without}
+use Rattle.cdb_base.specs.declared.event.Event.{Event}
+use Rattle.cdb_record.specs.Recorded.{events_of}
+use Rattle.cdb_record.proofs.Seams.{before_nth, events_without}
+use Rattle.cdb_rules.specs.RunView.{RunView}
+use Rattle.cdb_setup.specs.Parts.{Parts}
+use Rattle.cdb_run.proofs.Admitting.{nth_events}
+use Rattle.cdb_run.proofs.Restoring.{stepped_within, stepped_there, may_unpost, may_restore, may_count_back, current_undone, is_lost_now, current_found}
+use Rattle.cdb_run.proofs.run.Run.restore_at.Goals as goal
+use Rattle.cdb_run.proofs.run.Run.restore_at.Goals.{in-Some-1, in-None-1}
+
+pub take_out-back-requires-clause-to_len : goal.take_out-back-requires-clause-to_len
+take_out-back-requires-clause-to_len g c =
+    let same = ap (λ (s : RunView). s.history) c.self.view_is in
+    let to_len = subst (λ h. c.args.at ≤ length h) (sym same) c.requires.to_len in
+    let mapped = length-map c.self.inside.records (λ entry. entry.event) in
+    omega (arith, to_len, mapped)
+
+pub take_out-back-requires-clause-free : goal.take_out-back-requires-clause-free
+take_out-back-requires-clause-free g c = subst (λ (s : RunView). IsFree depends s.history (c.args.at - 1)) (sym c.self.view_is) c.requires.free
+
+pub index_mut-progress-requires : goal.index_mut-progress-requires
+index_mut-progress-requires g c =
+    let i = c.args.at - 1 in
+    let same = ap (λ (s : RunView). s.history) c.self.view_is in
+    let first = c.requires.from_one in
+    let free = subst (λ h. IsFree depends h i) (sym same) c.requires.free in
+    let entry = c.take_out-back.result in
+    let at = before_nth c.self.inside.records c.args.at entry first c.take_out-back.ensures.recorded in
+    let p = c.in-Step.p in
+    let k = c.in-Step.k in
+    let kind = c.in-Step.kind in
+    let is = c.in-Step.is in
+    let here_within = stepped_within c.self.invariant i entry at free p k kind is in
+    let position = c.index.ensures.value in
+    let below_len : c.index.result < length c.self.inside.state.processes.items = omega (arith, here_within, position) in
+    first_of (search (rules, below_len), grind (arith, below_len, common_steps))
+
+pub restore_change-requires-clause-countable : goal.restore_change-requires-clause-countable
+restore_change-requires-clause-countable g c =
+    let i = c.args.at - 1 in
+    let same = ap (λ (s : RunView). s.history) c.self.view_is in
+    let first = c.requires.from_one in
+    let free = subst (λ h. IsFree depends h i) (sym same) c.requires.free in
+    let entry = c.take_out-back.result in
+    let at = before_nth c.self.inside.records c.args.at entry first c.take_out-back.ensures.recorded in
+    let p = c.in-Step.p in
+    let k = c.in-Step.k in
+    let kind = c.in-Step.kind in
+    let is = c.in-Step.is in
+    let progress = c.index_mut-progress.result.now in
+    let held = stepped_there c.self.invariant i entry at free p k kind is c.index.result progress c.index.ensures.value c.index_mut-progress.ensures.value in
+    may_count_back c.self.invariant i entry at free p k kind is progress held
+
+pub restore_change-requires-clause-unpostable : goal.restore_change-requires-clause-unpostable
+restore_change-requires-clause-unpostable g c =
+    let i = c.args.at - 1 in
+    let same = ap (λ (s : RunView). s.history) c.self.view_is in
+    let first = c.requires.from_one in
+    let free = subst (λ h. IsFree depends h i) (sym same) c.requires.free in
+    let entry = c.take_out-back.result in
+    let at = before_nth c.self.inside.records c.args.at entry first c.take_out-back.ensures.recorded in
+    let p = c.in-Step.p in
+    let k = c.in-Step.k in
+    let kind = c.in-Step.kind in
+    let is = c.in-Step.is in
+    may_unpost c.self.invariant i entry at free p k kind is
+
+pub restore_change-requires-clause-restorable : goal.restore_change-requires-clause-restorable
+restore_change-requires-clause-restorable g c =
+    let i = c.args.at - 1 in
+    let same = ap (λ (s : RunView). s.history) c.self.view_is in
+    let first = c.requires.from_one in
+    let free = subst (λ h. IsFree depends h i) (sym same) c.requires.free in
+    let entry = c.take_out-back.result in
+    let at = before_nth c.self.inside.records c.args.at entry first c.take_out-back.ensures.recorded in
+    let p = c.in-Step.p in
+    let k = c.in-Step.k in
+    let kind = c.in-Step.kind in
+    let is = c.in-Step.is in
+    may_restore c.self.invariant i entry at free p k kind is
+
+pub invariant_of-self : goal.invariant_of-self
+invariant_of-self g c =
+    let i = c.args.at - 1 in
+    let same = ap (λ (s : RunView). s.history) c.self.view_is in
+    let first = c.requires.from_one in
+    let free = subst (λ h. IsFree depends h i) (sym same) c.requires.free in
+    let entry = c.take_out-back.result in
+    let at = before_nth c.self.inside.records c.args.at entry first c.take_out-back.ensures.recorded in
+    let p = c.in-Step.p in
+    let k = c.in-Step.k in
+    let kind = c.in-Step.kind in
+    let is = c.in-Step.is in
+    let progress = c.index_mut-progress.result.now in
+    let held = stepped_there c.self.invariant i entry at free p k kind is c.index.result progress c.index.ensures.value c.index_mut-progress.ensures.value in
+    current_undone c.self.invariant i entry at free p k kind is progress held c.restore_change.new.progress c.index.result c.index.ensures.value
+    c.restore_change.ensures.progress c.restore_change.ensures.mail c.restore_change.ensures.registers
+    (ap events_of c.take_out-back.ensures.rest ∙ events_without c.self.inside.records i)
+    c.take_out-back.ensures.rest
+
+pub take_back_lose-requires : goal.take_back_lose-requires
+take_back_lose-requires g c =
+    let i = c.args.at - 1 in
+    let same = ap (λ (s : RunView). s.history) c.self.view_is in
+    let first = c.requires.from_one in
+    let free = subst (λ h. IsFree depends h i) (sym same) c.requires.free in
+    let entry = c.take_out-back.result in
+    let at = before_nth c.self.inside.records c.args.at entry first c.take_out-back.ensures.recorded in
+    let copy = c.in-Lost.copy in
+    let is = c.in-Lost.is in
+    record { lost = is_lost_now c.self.invariant i entry at free copy is }
+
+pub invariant_of-self-in-Lost : goal.invariant_of-self-in-Lost
+invariant_of-self-in-Lost g c =
+    let i = c.args.at - 1 in
+    let same = ap (λ (s : RunView). s.history) c.self.view_is in
+    let first = c.requires.from_one in
+    let free = subst (λ h. IsFree depends h i) (sym same) c.requires.free in
+    let entry = c.take_out-back.result in
+    let at = before_nth c.self.inside.records c.args.at entry first c.take_out-back.ensures.recorded in
+    let copy = c.in-Lost.copy in
+    let is = c.in-Lost.is in
+    current_found c.self.invariant i entry at free copy is c.take_back_lose.ensures.after
+    (ap events_of c.take_out-back.ensures.rest ∙ events_without c.self.inside.records i)
+    c.take_out-back.ensures.rest
+
+pub invariant_of-self-in-Lost-2 : goal.invariant_of-self-in-Lost-2
+invariant_of-self-in-Lost-2 g c =
+    let i = c.args.at - 1 in
+    let same = ap (λ (s : RunView). s.history) c.self.view_is in
+    let first = c.requires.from_one in
+    let free = subst (λ h. IsFree depends h i) (sym same) c.requires.free in
+    let entry = c.take_out-back.result in
+    let at = before_nth c.self.inside.records c.args.at entry first c.take_out-back.ensures.recorded in
+    let copy = c.in-Lost.copy in
+    let is = c.in-Lost.is in
+    current_found c.self.invariant i entry at free copy is c.take_back_lose.ensures.after
+    (ap events_of c.take_out-back.ensures.rest ∙ events_without c.self.inside.records i)
+    c.take_out-back.ensures.rest
+
+pub returns-in-Step-clause-event : goal.returns-in-Step-clause-event
+returns-in-Step-clause-event g c =
+    let same = ap (λ (s : RunView). s.history) c.self.view_is in
+    subst (λ h. nth h c.args.at ≡ Some c.take_out-back.result.event) same (nth_events c.self.inside.records c.args.at c.take_out-back.result c.take_out-back.ensures.recorded)
+
+pub returns-in-Step-clause-after : goal.returns-in-Step-clause-after
+returns-in-Step-clause-after g c =
+    let i = c.args.at - 1 in
+    let view = c.self.view_is in
+    λ j.
+    record {
+      setup = ap (λ (s : RunView). s.setup) view j;
+      history = (ap events_of c.take_out-back.ensures.rest ∙ events_without c.self.inside.records i ∙ ap (λ (s : RunView). without s.history i) view) j;
+    }
+
+pub returns-in-Lost-clause-event : goal.returns-in-Lost-clause-event
+returns-in-Lost-clause-event g c =
+    let same = ap (λ (s : RunView). s.history) c.self.view_is in
+    subst (λ h. nth h c.args.at ≡ Some c.take_out-back.result.event) same (nth_events c.self.inside.records c.args.at c.take_out-back.result c.take_out-back.ensures.recorded)
+
+pub returns-in-Lost-clause-after : goal.returns-in-Lost-clause-after
+returns-in-Lost-clause-after g c =
+    let i = c.args.at - 1 in
+    let view = c.self.view_is in
+    let left =
+    ap₂ (λ (setup : Parts) (history : List Event). let standing : RunView = record { setup = setup; history = history } in standing)
+    (ap (λ (s : RunView). s.setup) view)
+    (ap events_of c.take_out-back.ensures.rest ∙ events_without c.self.inside.records i ∙ ap (λ (s : RunView). without s.history i) view) in
+    elim c.match-back.branch [ in-Some-1 w ↦ w.self-is ∙ left | in-None-1 w ↦ w.self-is ∙ left ]
