@@ -10,6 +10,7 @@ use std::marker::Model;
 pub struct Val(u32);
 
 impl Model for Val {
+    ghost use Rattle.std.specs.Prelude.{ℕ, ◌≤◌};
     ghost use Rattle.cdb_base.specs.declared.limits.TheConstants.{MAX_VALUE};
 
     ghost Value = { ℕ };
