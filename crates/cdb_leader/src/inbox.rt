@@ -93,7 +93,7 @@ impl Received {
 pub(crate) fn entry_at(entries: &[Received], position: Option<Position>) -> Option<&Received>
     ensures { option_copied result ≡ option_and_then (slice_get entries.now) position }
 {
-    entries.get(position? as usize)
+    entries.get(position?)
 }
 
 /// The messages that a process has received. A contract sees the list of them, in the order of

@@ -70,17 +70,13 @@ impl Index {
         self.decisions.get(sender)
     }
 
-    /// Notes the entry that comes after those. Where an allocation fails, the index is as it was. An entry
-    /// beyond position `u32::MAX` is refused in the same way.
+    /// Notes the entry that comes after those. Where an allocation fails, the index is as it was.
     pub(crate) fn note(&mut self, entries: &[Received], entry: &Received) -> Result<(), NoMemory>
         ensures ok { IsIndexOf self.old entries.now
             → OnOk result (IsIndexOf self.new (entries.now ++ entry.now ∷ [])) }
         ensures err { IsIndexOf self.old entries.now
             → OnErr result (IsIndexOf self.new entries.now) }
     {
-        if entries.len() > Position::MAX as usize {
-            return Err(NoMemory);
-        }
         match entry.round() {
             Some(round) => {
                 if let Some(row) = self.rows.get_mut(&round) {
@@ -91,7 +87,7 @@ impl Index {
                 row.note(round, entries, entry);
                 self.rows.insert(round, row)?;
             }
-            None => self.decisions.note(entry.from, entries.len() as Position),
+            None => self.decisions.note(entry.from, entries.len()),
         }
         Ok(())
     }

@@ -68,7 +68,7 @@ impl Row {
         }
     }
 
-    fn forget_answer(&mut self, sender: Proc, position: usize)
+    fn forget_answer(&mut self, sender: Proc, position: Position)
         ensures first_phases { self.new.first_phases ≡ self.old.first_phases }
         ensures second_phases { ChangesFrom sender
             (forgotten position) self.old.second_phases self.new.second_phases }
@@ -82,11 +82,10 @@ impl Row {
 
     /// Notes an entry of the round, which comes after those.
     pub(crate) fn note(&mut self, round: u32, entries: &[Received], entry: &Received)
-        requires { length entries.now ≤ u32.MAX }
         ensures { message_round entry.now.payload ≡ Some round → IsRowOf round self.old entries.now
             → IsRowOf round self.new (entries.now ++ entry.now ∷ []) }
     {
-        let position = entries.len() as Position;
+        let position = entries.len();
         match entry.payload {
             Payload::P1 { .. } => self.first_phases.note(entry.from, position),
             Payload::P2 { aux, .. } => {
