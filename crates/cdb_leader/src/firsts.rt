@@ -6,8 +6,8 @@ ghost use Rattle.cdb_leader.specs.Index.{position_from, noted, forgotten, Change
 
 use cdb_base::Proc;
 
-/// Where in an inbox a message stands. It has 32 bits, since an index keeps many.
-pub(crate) type Position = u32;
+/// Where in an inbox a message stands, from 0.
+pub(crate) type Position = usize;
 
 /// The position that is kept, or that one where none is.
 pub(crate) fn noted(kept: Option<Position>, position: Position) -> Option<Position>
@@ -17,10 +17,10 @@ pub(crate) fn noted(kept: Option<Position>, position: Position) -> Option<Positi
 }
 
 /// The position that is kept, unless it is that one.
-pub(crate) fn forgotten(kept: Option<Position>, position: usize) -> Option<Position>
+pub(crate) fn forgotten(kept: Option<Position>, position: Position) -> Option<Position>
     ensures { result ≡ forgotten position kept }
 {
-    kept.filter(|i| *i as usize != position)
+    kept.filter(|i| *i != position)
 }
 
 /// For each sender where in an inbox its first message of one kind stands.
@@ -74,7 +74,7 @@ impl Firsts {
     }
 
     /// Keeps that position no longer for that sender.
-    pub(crate) fn forget(&mut self, sender: Proc, position: usize)
+    pub(crate) fn forget(&mut self, sender: Proc, position: Position)
         ensures { ChangesFrom sender (forgotten position) self.old self.new }
     {
         let kept = self.get(sender);

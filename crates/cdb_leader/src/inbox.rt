@@ -93,7 +93,7 @@ impl Received {
 pub(crate) fn message_at(messages: &[Received], position: Option<Position>) -> Option<&Received>
     ensures { option_copied result ≡ option_and_then (slice_get messages.now) position }
 {
-    messages.get(position? as usize)
+    messages.get(position?)
 }
 
 /// The messages that a process has received. A contract sees the list of them, in the order of

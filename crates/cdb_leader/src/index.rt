@@ -70,17 +70,13 @@ impl Index {
         self.decisions.get(sender)
     }
 
-    /// Notes the message that comes after those. Where an allocation fails, the index is as it was. A message
-    /// beyond position `u32::MAX` is refused in the same way.
+    /// Notes the message that comes after those. Where an allocation fails, the index is as it was.
     pub(crate) fn note(&mut self, messages: &[Received], message: &Received) -> Result<(), NoMemory>
         ensures ok { IsIndexOf self.old messages.now
             → OnOk result (IsIndexOf self.new (messages.now ++ message.now ∷ [])) }
         ensures err { IsIndexOf self.old messages.now
             → OnErr result (IsIndexOf self.new messages.now) }
     {
-        if messages.len() > Position::MAX as usize {
-            return Err(NoMemory);
-        }
         match message.round() {
             Some(round) => {
                 if let Some(row) = self.rows.get_mut(&round) {
@@ -91,9 +87,7 @@ impl Index {
                 row.note(round, messages, message);
                 self.rows.insert(round, row)?;
             }
-            None => self
-                .decisions
-                .note(message.from, messages.len() as Position),
+            None => self.decisions.note(message.from, messages.len()),
         }
         Ok(())
     }

@@ -68,7 +68,7 @@ impl Row {
         }
     }
 
-    fn forget_vote(&mut self, sender: Proc, position: usize)
+    fn forget_vote(&mut self, sender: Proc, position: Position)
         ensures first_phases { self.new.first_phases ≡ self.old.first_phases }
         ensures second_phases { ChangesFrom sender
             (forgotten position) self.old.second_phases self.new.second_phases }
@@ -82,12 +82,11 @@ impl Row {
 
     /// Notes a message of the round, which comes after those.
     pub(crate) fn note(&mut self, round: u32, messages: &[Received], message: &Received)
-        requires { length messages.now ≤ u32.MAX }
         ensures { message_round message.now.payload ≡ Some round
             → IsRowOf round self.old messages.now
             → IsRowOf round self.new (messages.now ++ message.now ∷ []) }
     {
-        let position = messages.len() as Position;
+        let position = messages.len();
         match message.payload {
             Payload::P1 { .. } => self.first_phases.note(message.from, position),
             Payload::P2 { aux, .. } => {
