@@ -110,7 +110,8 @@ fn play_by<T: Runs, R: Source, W: Sink>(
 /// The setup is read first, then the whole script, then all its lines: so after `Setup` the script is not read,
 /// and after `Setup`, `Read`, `ScriptTooLong` and `Line` nothing was written. After `Write` what was written is a
 /// beginning of the transcript, and after `NoMemory` one of whole pieces of 65,536 bytes. `Read` and `Write` come
-/// only where the reader or the writer failed in this call.
+/// only where the reader or the writer failed in this call. A setup that is too long is refused as such, and never as
+/// out of memory.
 ///
 /// The replies in the transcript are those to a journal of which the headline holds.
 pub fn play<T: Runs, R: Source, W: Sink>(

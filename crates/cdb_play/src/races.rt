@@ -177,7 +177,8 @@ fn run_race<T: Runs + Send, G: Gate + Drop + Send, R: Threads + Wait + Sync, W: 
 /// Each script is read first, by order, where `ScriptTooLong` is looked for before the first bad line: so after
 /// `ScriptTooLong` and `Line` nothing was written, nor after `JournalFull`, `Spawn` and `Stopped`, which come from the
 /// threads. After `Write` what was written is a beginning of the text, and after `NoMemory` one of whole pieces of
-/// 65,536 bytes. `Write` comes only where the writer failed in this call, and `Setup` never.
+/// 65,536 bytes. `Write` comes only where the writer failed in this call, and `Setup` never. `NoMemory` comes only
+/// where the first script is not too long.
 ///
 /// With a majority, or in Alpha, the last line of a race that ended well is `decisions agree`. Of several faults of
 /// sessions that of the least seat is reported; `JournalFull` comes only where processes times turns and the commands

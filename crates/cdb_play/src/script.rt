@@ -69,7 +69,7 @@ fn push_command(commands: &mut Vec<Command>, command: Command) -> Result<(), All
 }
 
 /// The commands of the lines of a script, in their order. Where a line is no command, the first such line is
-/// named with its first fault.
+/// named with its first fault. A script that is too long is refused as such, and never as out of memory.
 pub fn commands_of(alloc: Global, script: &[u8]) -> Result<Vec<Command>, ScriptFault>
     ensures commands { IfOk result
         (λ commands. AreCommandsOf commands.items (lines_of script.now)) }
