@@ -504,8 +504,26 @@ impl Bounds {
         self.end(event, ABOVE_ALL, slot)
     }
 
-    /// The same in all slots.
-    fn end_in_slots(&self, event: &Event) -> Mark
+    /// Above all events on which the loss of the copy depends: the sends of its message, and its receives.
+    fn end_for_lost(&self, copy: &CopyName) -> Mark
+        ensures { (slot : ℕ) → slot < 10 → IsAboveForLoss self.now copy.now slot result }
+    {
+        let sent = self.end_of_sends(copy.msg.s, copy.msg.m);
+        sent.max(self.end_of_receives(copy.msg.s, copy.msg.m, copy.to.index()))
+    }
+
+    /// Above all events that depend on the receive of a message by process `p`, but for those of its process: the
+    /// sends of the message, and the losses of the copy.
+    fn end_for_receive(&self, p: Proc, s: Proc, m: u16) -> Mark
+        ensures { (k slot : ℕ) → slot < 10 →
+            IsAboveInSlot self.now (Step p k (Recv s m)) slot result }
+    {
+        let sent = self.end_of_sends(s, m);
+        sent.max(self.end_of_losses(s, m, p.index()))
+    }
+
+    /// The same as `end_in_slot` in all slots, looked for in each.
+    fn highest_in_slots(&self, event: &Event) -> Mark
         ensures { (slot : ℕ) → slot < 10 → IsAboveInSlot self.now event.now slot result }
     {
         let mut end = 0;
@@ -513,6 +531,20 @@ impl Bounds {
             end = end.max(self.end_in_slot(event, slot));
         }
         end
+    }
+
+    /// The same as `end_in_slot` in all slots: no other event depends on a query, a local step, a step that learns, or a crash.
+    fn end_in_slots(&self, event: &Event) -> Mark
+        ensures { (slot : ℕ) → slot < 10 → IsAboveInSlot self.now event.now slot result }
+    {
+        match event {
+            Event::Lost(copy) => self.end_for_lost(copy),
+            Event::Step { p, kind, .. } => match kind {
+                Kind::Recv(s, m) => self.end_for_receive(*p, *s, *m),
+                Kind::Send(_) | Kind::Read(_) | Kind::Write(_) => self.highest_in_slots(event),
+                _ => 0,
+            },
+        }
     }
 
     /// Above all losses of copies of the m-th message of process `p`.

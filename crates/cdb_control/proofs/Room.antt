@@ -63,15 +63,15 @@ swap t lists seat old new events capacities from_one to_last is =
       grown = λ more i. subst (λ (e : List ℕ). get_or e i 0 ≤ get_or (map (λ l. l.capacity) (set lists (seat - 1) new)) i 0) capacities (capacities-set lists (seat - 1) old new low (sym is) more i);
     }
 
--- ---- marks and rooms
+-- ---- ends of rooms, and rooms
 
-all-lowered : (marks : List ℕ) (n : ℕ) → map (λ r. r - 1) (map (λ m. m - n) marks) ≡ map (λ m. m - (n + 1)) marks
+all-lowered : (room_ends : List ℕ) (n : ℕ) → map (λ r. r - 1) (map (λ m. m - n) room_ends) ≡ map (λ m. m - (n + 1)) room_ends
 all-lowered [] n = refl
 all-lowered (m ∷ ms) n = (let head : m - n - 1 ≡ m - (n + 1) = omega arith in ap (λ (x : ℕ). x ∷ map (λ r. r - 1) (map (λ m. m - n) ms)) head ∙ ap (λ (xs : List ℕ). (m - (n + 1)) ∷ xs) (all-lowered ms n))
 
--- a mark is lowered by all but one of what a command takes, and the journal gets its entry
-pub rooms-lowered : (marks : List ℕ) (i n c : ℕ) → 1 ≤ c → i < length marks
-    → set (map (λ r. r - 1) (map (λ m. m - n) marks)) i (get_or (map (λ m. m - n) marks) i 0 - c) ≡ map (λ m. m - (n + 1)) (set marks i (get_or marks i 0 - (c - 1)))
+-- the end of a room is lowered by all but one of what a command takes, and the journal gets its entry
+pub rooms-lowered : (room_ends : List ℕ) (i n c : ℕ) → 1 ≤ c → i < length room_ends
+    → set (map (λ r. r - 1) (map (λ m. m - n) room_ends)) i (get_or (map (λ m. m - n) room_ends) i 0 - c) ≡ map (λ m. m - (n + 1)) (set room_ends i (get_or room_ends i 0 - (c - 1)))
 rooms-lowered [] i n c one low = absurd (omega (arith, low))
 rooms-lowered (m ∷ ms) zero n c one low =
     let head : m - n - c ≡ m - (c - 1) - (n + 1) = omega (arith, one) in
@@ -81,8 +81,8 @@ rooms-lowered (m ∷ ms) (suc i) n c one low =
     let rest = rooms-lowered ms i n c one (omega (arith, low)) in
     ap (λ (x : ℕ). x ∷ set (map (λ r. r - 1) (map (λ m. m - n) ms)) i (get_or (map (λ m. m - n) ms) i 0 - c)) head ∙ ap (λ (xs : List ℕ). (m - (n + 1)) ∷ xs) rest
 
-pub rooms-raised : (marks : List ℕ) (i n count : ℕ) → i < length marks
-    → map (λ m. m - n) (set marks i (max (n + count) (get_or marks i 0))) ≡ set (map (λ m. m - n) marks) i (max count (get_or (map (λ m. m - n) marks) i 0))
+pub rooms-raised : (room_ends : List ℕ) (i n count : ℕ) → i < length room_ends
+    → map (λ m. m - n) (set room_ends i (max (n + count) (get_or room_ends i 0))) ≡ set (map (λ m. m - n) room_ends) i (max count (get_or (map (λ m. m - n) room_ends) i 0))
 rooms-raised [] i n count low = absurd (omega (arith, low))
 rooms-raised (m ∷ ms) zero n count low =
     let head : max (n + count) m - n ≡ max count (m - n) = omega arith in ap (λ (x : ℕ). x ∷ map (λ m. m - n) ms) head
@@ -294,7 +294,7 @@ HoldsRooms-raised n space space' rooms seat count was next room low same journal
 pub HoldsRooms-first : (space seats : ℕ) (stored : StoredState) → length stored.state.redo ≡ seats → HoldsRooms 0 space (rooms_at 0 (replicate seats 0)) stored
 HoldsRooms-first space seats stored long =
     record {
-      seats = length-map (replicate seats 0) (λ mark. mark - 0) ∙ length-replicate seats 0 ∙ sym long;
+      seats = length-map (replicate seats 0) (λ room_end. room_end - 0) ∙ length-replicate seats 0 ∙ sym long;
       journal = λ i some. absurd (let none = no-rooms seats i in omega (arith, none, some));
       lists = λ i some. absurd (let none = no-rooms seats i in omega (arith, none, some));
     }

@@ -37,9 +37,9 @@ with_stop b stop = record { stops = b.stops ++ (b.next, stop) ∷ []; next = b.n
 abbrev pub without_stop : Numbered → ℕ → Numbered
 without_stop b number = record { stops = remove_entry (nat_eq number) b.stops; next = b.next }
 
--- the rooms at a length of the journal, where for each seat a mark says up to which length it has room
+-- the rooms at a length of the journal, where each seat has room up to a length of its own
 abbrev pub rooms_at : ℕ → List ℕ → List ℕ
-rooms_at entries marks = map (λ mark. mark - entries) marks
+rooms_at entries room_ends = map (λ room_end. room_end - entries) room_ends
 
 -- how many events the redo list of a seat can hold without more memory
 abbrev pub capacity_of : StoredState → ℕ → ℕ

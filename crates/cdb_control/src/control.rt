@@ -82,7 +82,7 @@ pub struct Control<R: Runs> {
     state: ControlState<R>,
     journal: Vec<Entry>,
     // For each seat the length of the journal up to which the seat has room.
-    marks: Vec<u32>,
+    room_ends: Vec<u32>,
 }
 
 impl<R: Runs> Model for Control<R> {
@@ -96,13 +96,13 @@ impl<R: Runs> Model for Control<R> {
       setup = c.state.state.setup;
       seats = c.seats;
       journal = c.journal.items;
-      rooms = rooms_at (vec_len c.journal) c.marks.items;
+      rooms = rooms_at (vec_len c.journal) c.room_ends.items;
     } };
 
     ghost invariant = { λ c. IsReplayed (R.rules c.state.state.setup)
         c.state.state.setup c.seats c.journal.items c.state.state
         × HoldsRooms (vec_len c.journal) (vec_capacity c.journal)
-        (rooms_at (vec_len c.journal) c.marks.items) c.state };
+        (rooms_at (vec_len c.journal) c.room_ends.items) c.state };
 }
 
 impl<R: Runs> Control<R> {
@@ -122,14 +122,14 @@ impl<R: Runs> Control<R> {
         let Ok(state) = ControlState::open(alloc, setup, seats) else {
             return Err(OpenFault::NoMemory);
         };
-        let Ok(marks) = no_marks(alloc, seats) else {
+        let Ok(room_ends) = no_room_ends(alloc, seats) else {
             return Err(OpenFault::NoMemory);
         };
         Ok(Control {
             seats,
             state,
             journal: Vec::new(alloc),
-            marks,
+            room_ends,
         })
     }
 
@@ -161,7 +161,7 @@ impl<R: Runs> Control<R> {
         let Ok(reply) = self.state.perform(alloc, seat, again) else {
             return Err(CallFault::NoMemory);
         };
-        lower(&mut self.marks, seat, &reply);
+        lower(&mut self.room_ends, seat, &reply);
         push_entry(&mut self.journal, seat, command);
         Ok(reply)
     }
@@ -178,7 +178,7 @@ impl<R: Runs> Control<R> {
     {
         self.journal.reserve(count as usize)?;
         self.state.reserve(seat, count as usize)?;
-        raise(&mut self.marks, seat, self.journal.len() as u32 + count);
+        raise(&mut self.room_ends, seat, self.journal.len() as u32 + count);
         Ok(())
     }
 
@@ -189,7 +189,7 @@ impl<R: Runs> Control<R> {
         requires to_last { seat ≤ self.now.seats }
         ensures { result ≡ room_of self.now.rooms seat }
     {
-        self.marks[seat as usize - 1].saturating_sub(self.journal.len() as u32)
+        self.room_ends[seat as usize - 1].saturating_sub(self.journal.len() as u32)
     }
 
     /// What `auto` would do for a process, whether or not a pause stands; nothing where it would be refused.
@@ -237,35 +237,35 @@ impl<R: Runs> Control<R> {
 }
 
 /// No seat has room.
-fn no_marks(alloc: Global, seats: u8) -> Result<Vec<u32>, NoMemory>
-    ensures { IfOk result (λ marks. marks.items ≡ replicate seats 0) }
+fn no_room_ends(alloc: Global, seats: u8) -> Result<Vec<u32>, NoMemory>
+    ensures { IfOk result (λ room_ends. room_ends.items ≡ replicate seats 0) }
 {
     Ok(Vec::from_elem(alloc, 0, seats as usize)?)
 }
 
-/// Lowers the mark of the seat of a command by what the command takes of its room, save the one that its entry takes.
-fn lower(marks: &mut Vec<u32>, seat: u8, reply: &Reply)
+/// Lowers the end of the room of the seat of a command by what the command takes of its room, save the one that its entry takes.
+fn lower(room_ends: &mut Vec<u32>, seat: u8, reply: &Reply)
     requires from_one { 1 ≤ seat }
-    requires to_last { seat ≤ length marks.old.items }
-    ensures { marks.new.items
-        ≡ with_room marks.old.items seat
-        (room_of marks.old.items seat - (cost (told reply.now) - 1)) }
+    requires to_last { seat ≤ length room_ends.old.items }
+    ensures { room_ends.new.items
+        ≡ with_room room_ends.old.items seat
+        (room_of room_ends.old.items seat - (cost (told reply.now) - 1)) }
 {
     if let Reply::RolledBack(count) = reply {
-        let mark = &mut marks[seat as usize - 1];
-        *mark = mark.saturating_sub(count.saturating_sub(1));
+        let room_end = &mut room_ends[seat as usize - 1];
+        *room_end = room_end.saturating_sub(count.saturating_sub(1));
     }
 }
 
-/// Raises the mark of a seat, where it is lower.
-fn raise(marks: &mut Vec<u32>, seat: u8, mark: u32)
+/// Raises the end of the room of a seat, where it is lower.
+fn raise(room_ends: &mut Vec<u32>, seat: u8, room_end: u32)
     requires from_one { 1 ≤ seat }
-    requires to_last { seat ≤ length marks.old.items }
-    ensures { marks.new.items
-        ≡ with_room marks.old.items seat (max mark (room_of marks.old.items seat)) }
+    requires to_last { seat ≤ length room_ends.old.items }
+    ensures { room_ends.new.items
+        ≡ with_room room_ends.old.items seat (max room_end (room_of room_ends.old.items seat)) }
 {
-    let old = &mut marks[seat as usize - 1];
-    *old = mark.max(*old);
+    let old = &mut room_ends[seat as usize - 1];
+    *old = room_end.max(*old);
 }
 
 /// Adds an entry where there is room for it.

@@ -123,6 +123,7 @@ impl<R: Runs> ControlState<R> {
     }
 
     /// Ends the pause.
+    #[inline(never)]
     #[tactic(auto, unfolding(crate::specs::Commands::outcome))]
     pub fn resume(&mut self) -> Reply
         ensures table { IsCarriedOutForAny R.rules self.old.state Command.Resume
@@ -134,6 +135,7 @@ impl<R: Runs> ControlState<R> {
     }
 
     /// Takes a breakpoint away.
+    #[inline(never)]
     #[tactic(auto, unfolding(crate::specs::Commands::outcome))]
     pub fn unbreak(&mut self, number: u32) -> Reply
         ensures table { IsCarriedOutForAny R.rules self.old.state (Command.Unbreak number)
@@ -170,6 +172,7 @@ impl<R: Runs> ControlState<R> {
     }
 
     /// Empties the redo list of a seat.
+    #[inline(never)]
     #[tactic(auto, unfolding(crate::specs::Commands::outcome))]
     pub fn forget(&mut self, seat: u8) -> Reply
         requires from_one { 1 ≤ seat }
@@ -346,6 +349,7 @@ impl<R: Runs> ControlState<R> {
     }
 
     /// Takes a step.
+    #[inline(never)]
     pub fn step(&mut self, alloc: Global, p: u32, act: Act) -> Result<Reply, NoMemory>
         ensures ok { IfOk result
             (CameOutAs (step (R.rules self.old.state.setup) self.old.state p act) self.new.state) }
@@ -421,6 +425,7 @@ impl<R: Runs> ControlState<R> {
     }
 
     /// Takes the first step that is possible for a process.
+    #[inline(never)]
     #[tactic(auto, unfolding(crate::specs::Commands::outcome))]
     pub fn auto(&mut self, alloc: Global, p: u32) -> Result<Reply, NoMemory>
         requires { AreInRange self.old.state.setup }

@@ -4,7 +4,7 @@ use Rattle.cdb_base.specs.declared.event.Event.{Event}
 use Rattle.cdb_causal.specs.Standing.{IsStanding}
 use Rattle.cdb_control.specs.Commands.{decides}
 use Rattle.cdb_explain.specs.Explanations.{run_after}
-use Rattle.cdb_explain.specs.Marked.{is_marked}
+use Rattle.cdb_explain.specs.Flagged.{is_flagged}
 use Rattle.cdb_explain.proofs.Along.{whole_of_last}
 use Rattle.cdb_rules.specs.Lawful.{KeepHistories}
 use Rattle.cdb_rules.specs.Rules.{Rules}
@@ -14,10 +14,10 @@ use Rattle.cdb_rules.specs.Runs.{with_history}
 use Rattle.cdb_draw.specs.Arrows.{spot_text}
 use Rattle.cdb_draw.specs.EventMarks.{body_text, decided_text, lane_of, mark_at, mark_close, mark_text, open_text, title_text}
 
-pub mark_of_last : (rules : Parts → Rules) (SameState : Parts → List Event → List Event → Type 0) (kept : (setup : Parts) → AreInRange setup → KeepHistories (rules setup) (SameState setup) setup) (run : RunView) (marks : List Bool) (position : ℕ) (event : Event) → IsStanding run.history → slice_get run.history position ≡ Some event
-    → (after : RunView) → after ≡ run_after run position → (full : Bool) → is_marked marks position ≡ full
-    → mark_text rules after after full position event ≡ mark_at rules run marks position
-mark_of_last rules SameState kept run marks position event standing at after is full marked =
+pub mark_of_last : (rules : Parts → Rules) (SameState : Parts → List Event → List Event → Type 0) (kept : (setup : Parts) → AreInRange setup → KeepHistories (rules setup) (SameState setup) setup) (run : RunView) (flags : List Bool) (position : ℕ) (event : Event) → IsStanding run.history → slice_get run.history position ≡ Some event
+    → (after : RunView) → after ≡ run_after run position → (full : Bool) → is_flagged flags position ≡ full
+    → mark_text rules after after full position event ≡ mark_at rules run flags position
+mark_of_last rules SameState kept run flags position event standing at after is full marked =
     ap (λ r. mark_text rules r r full position event) is ∙ ap with_title (sym (whole_of_last rules SameState kept run position event at (with_history run (take position run.history)) refl standing))
     ∙ ap (λ b. mark_text rules run (run_after run position) b position event) (sym marked) ∙ sym stands
   where
@@ -27,5 +27,5 @@ mark_of_last rules SameState kept run marks position event standing at after is 
         open_text full (spot_text run.setup position (lane_of event)) ++ title_text whole
         ++ decided_text (decides (rules last.setup) last.history event) ++ body_text event ++ mark_close
 
-    stands : mark_at rules run marks position ≡ mark_text rules run (run_after run position) (is_marked marks position) position event
+    stands : mark_at rules run flags position ≡ mark_text rules run (run_after run position) (is_flagged flags position) position event
     stands = rw at refl

@@ -7,14 +7,14 @@ use Rattle.cdb_base.specs.declared.event.Kind.{Kind}
 use Rattle.cdb_base.specs.declared.event.Kind.TheVariants.{Recv, Read, Write}
 use Rattle.cdb_base.specs.declared.name.MsgName.{MsgName}
 use Rattle.cdb_base.specs.declared.register.Reg.{Reg}
-use Rattle.cdb_explain.specs.Marked.{is_marked}
+use Rattle.cdb_explain.specs.Flagged.{is_flagged}
 use Rattle.cdb_message.specs.Mail.{message_name}
 use Rattle.cdb_rules.specs.RunView.{RunView}
 use Rattle.cdb_setup.specs.Parts.{Parts}
 use Rattle.cdb_draw.specs.Layout.{x_of, lane_y, register_y}
 use Rattle.cdb_draw.specs.Positions.{sent_at}
 
--- how what is marked is drawn, and the rest
+-- how what is flagged is drawn, and the rest
 unfoldable pub weight_text : Bool → List ℕ
 weight_text full = if full then codes "full" else codes "pale"
 
@@ -90,5 +90,5 @@ event_arrow run full position (Step p k kind) = step_arrow run full position p k
 event_arrow run full position (Lost copy) = arrow_from_send run (codes "lost") full copy.msg position copy.to
 
 abbrev pub arrow_at : RunView → List Bool → ℕ → List ℕ
-arrow_at run marks position =
-    option_map_or (event_arrow run (is_marked marks position) position) (slice_get run.history position) []
+arrow_at run flags position =
+    option_map_or (event_arrow run (is_flagged flags position) position) (slice_get run.history position) []

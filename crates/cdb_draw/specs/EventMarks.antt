@@ -7,7 +7,7 @@ use Rattle.cdb_base.specs.declared.event.Kind.{Kind}
 use Rattle.cdb_base.specs.declared.event.Kind.TheVariants.{Query, Send, Recv, Read, Write, Local, Learn, Crash}
 use Rattle.cdb_control.specs.Commands.{decides}
 use Rattle.cdb_explain.specs.Explanations.{run_after, whole_text}
-use Rattle.cdb_explain.specs.Marked.{is_marked}
+use Rattle.cdb_explain.specs.Flagged.{is_flagged}
 use Rattle.cdb_rules.specs.RunView.{RunView}
 use Rattle.cdb_rules.specs.Rules.{Rules}
 use Rattle.cdb_setup.specs.Parts.{Parts}
@@ -96,5 +96,5 @@ mark_text rules run after full position event =
     ++ decided_text (decides (rules after.setup) after.history event) ++ body_text event ++ mark_close
 
 abbrev pub mark_at : (Parts → Rules) → RunView → List Bool → ℕ → List ℕ
-mark_at rules run marks position =
-    option_map_or (mark_text rules run (run_after run position) (is_marked marks position) position) (slice_get run.history position) []
+mark_at rules run flags position =
+    option_map_or (mark_text rules run (run_after run position) (is_flagged flags position) position) (slice_get run.history position) []

@@ -3,7 +3,7 @@
 use Rattle.std.specs.Prelude.{◌≡◌, ℕ, ◌*◌, Bool, true, List, ◌++◌, codes, decimal, length, replicate, Option, None, Some}
 use Rattle.std.specs.List.{flat_map, range_with_len}
 use Rattle.cdb_base.specs.declared.event.Event.{Event}
-use Rattle.cdb_past.specs.Marks.{MarkPast}
+use Rattle.cdb_past.specs.Flags.{FlagsPast}
 use Rattle.cdb_rules.specs.RunView.{RunView}
 use Rattle.cdb_rules.specs.Rules.{Rules}
 use Rattle.cdb_setup.specs.Parts.{Parts}
@@ -58,23 +58,23 @@ foot = codes "</svg>\n"
 
 -- the arrows of all events, and their marks, each in the order of the history
 abbrev pub arrows_text : RunView → List Bool → List ℕ
-arrows_text run marks = flat_map (arrow_at run marks) (positions run.history)
+arrows_text run flags = flat_map (arrow_at run flags) (positions run.history)
 
 abbrev pub marks_text : (Parts → Rules) → RunView → List Bool → List ℕ
-marks_text rules run marks = flat_map (mark_at rules run marks) (positions run.history)
+marks_text rules run flags = flat_map (mark_at rules run flags) (positions run.history)
 
--- Lanes first, then the arrows, and then the marks, so that no arrow hides one; what is marked is drawn in full, the
+-- Lanes first, then the arrows, and then the marks, so that no arrow hides one; what is flagged is drawn in full, the
 -- rest pale.
 abbrev pub picture_text : (Parts → Rules) → RunView → List Bool → List ℕ
-picture_text rules run marks =
-    head_text run ++ lanes_text run ++ arrows_text run marks ++ marks_text rules run marks ++ foot
+picture_text rules run flags =
+    head_text run ++ lanes_text run ++ arrows_text run flags ++ marks_text rules run flags ++ foot
 
 -- everything is in full, or exactly what led to the event at that position
 abbrev pub AreInFull : Option ℕ → List Event → List Bool → Type 0
-AreInFull None history marks = marks ≡ replicate (length history) true
-AreInFull (Some position) history marks = MarkPast history position marks
+AreInFull None history flags = flags ≡ replicate (length history) true
+AreInFull (Some position) history flags = FlagsPast history position flags
 
 -- the text is the picture of the run; with a position, that of what led to the event there
 abbrev pub IsPicture : (Parts → Rules) → RunView → Option ℕ → List ℕ → Type 0
 IsPicture rules run position text =
-    (marks : List Bool) × AreInFull position run.history marks × (text ≡ picture_text rules run marks)
+    (flags : List Bool) × AreInFull position run.history flags × (text ≡ picture_text rules run flags)

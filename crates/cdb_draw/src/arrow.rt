@@ -15,7 +15,7 @@ use cdb_rules::Chronicle;
 use cdb_setup::Setup;
 use std::alloc::AllocError;
 
-/// Adds how what is marked is drawn, and the rest.
+/// Adds how what is flagged is drawn, and the rest.
 #[tactic(auto, unfolding(crate::specs::Arrows::weight_text))]
 pub(crate) fn push_weight(text: &mut String, full: bool) -> Result<(), AllocError>
     ensures { Pushes result text.old text.new (weight_text full) }

@@ -15,10 +15,10 @@ use cdb_rules::{Chronicle, Runs};
 use std::alloc::Global;
 
 /// Marks what is drawn in full: everything, or what led to the event at a position.
-fn marks_of(alloc: Global, run: &Chronicle, position: Option<usize>) -> Result<Vec<bool>, NoMemory>
+fn flags_of(alloc: Global, run: &Chronicle, position: Option<usize>) -> Result<Vec<bool>, NoMemory>
     requires { IfSome position (λ position. position < length run.now.history) }
-    ensures full { IfOk result (λ marks. AreInFull position run.now.history marks.items) }
-    ensures each { IfOk result (λ marks. length marks.items ≡ length run.now.history) }
+    ensures full { IfOk result (λ flags. AreInFull position run.now.history flags.items) }
+    ensures each { IfOk result (λ flags. length flags.items ≡ length run.now.history) }
 {
     match position {
         Some(position) => past_of(alloc, run.history(), position),
@@ -43,7 +43,7 @@ pub fn draw_run<T: Runs, W: Sink>(
     ensures { IsWritten W.stream (pieces_ending result) out.old out.new
         (IsPicture T.rules run.now position) }
 {
-    let marks = marks_of(alloc, run, position)?;
-    write_picture::<T, W>(alloc, run, marks.as_slice(), out)?;
+    let flags = flags_of(alloc, run, position)?;
+    write_picture::<T, W>(alloc, run, flags.as_slice(), out)?;
     Ok(())
 }

@@ -149,19 +149,19 @@ fn arrow_of(
     alloc: Global,
     run: &Chronicle,
     sends: &Sends,
-    marks: &[bool],
+    flags: &[bool],
     position: usize,
 ) -> Result<String, AllocError>
     requires few { length run.now.history ≤ MAX_ENTRIES }
-    requires a_mark_each { length marks.now ≡ length run.now.history }
+    requires a_flag_each { length flags.now ≡ length run.now.history }
     requires within { position < length run.now.history }
     requires sends { AreSendsOf sends.now run.now.history }
-    ensures { IfOk result (λ text. string_bytes text ≡ arrow_at run.now marks.now position) }
+    ensures { IfOk result (λ text. string_bytes text ≡ arrow_at run.now flags.now position) }
 {
     let mut text = String::new(alloc);
     let history = run.history();
     let event = history.event(position);
-    push_arrow(&mut text, run, sends, marks[position], position, event)?;
+    push_arrow(&mut text, run, sends, flags[position], position, event)?;
     Ok(text)
 }
 
@@ -170,20 +170,20 @@ fn mark_of<T: Runs>(
     alloc: Global,
     run: &Chronicle,
     after: &T,
-    marks: &[bool],
+    flags: &[bool],
     position: usize,
 ) -> Result<String, AllocError>
     requires few { length run.now.history ≤ MAX_ENTRIES }
-    requires a_mark_each { length marks.now ≡ length run.now.history }
+    requires a_flag_each { length flags.now ≡ length run.now.history }
     requires within { position < length run.now.history }
     requires after { T.run after.now ≡ run_after run.now position }
-    ensures { IfOk result (λ text. string_bytes text ≡ mark_at T.rules run.now marks.now position) }
+    ensures { IfOk result (λ text. string_bytes text ≡ mark_at T.rules run.now flags.now position) }
 {
     let mut text = String::new(alloc);
     let history = run.history();
     let _standing = history.len();
     let event = history.event(position);
-    push_mark(alloc, &mut text, after, marks[position], position, event)?;
+    push_mark(alloc, &mut text, after, flags[position], position, event)?;
     Ok(text)
 }
 
@@ -201,19 +201,19 @@ fn put_arrow<W: Sink>(
     alloc: Global,
     run: &Chronicle,
     sends: &Sends,
-    marks: &[bool],
+    flags: &[bool],
     position: usize,
     buffer: &mut Buffer,
     out: &mut W,
 ) -> Result<(), OutputFault>
     requires few { length run.now.history ≤ MAX_ENTRIES }
-    requires a_mark_each { length marks.now ≡ length run.now.history }
+    requires a_flag_each { length flags.now ≡ length run.now.history }
     requires within { position < length run.now.history }
     requires sends { AreSendsOf sends.now run.now.history }
     ensures { Puts W.stream result out.old buffer.old out.new buffer.new
-        (arrow_at run.now marks.now position) }
+        (arrow_at run.now flags.now position) }
 {
-    let text = arrow_of(alloc, run, sends, marks, position)?;
+    let text = arrow_of(alloc, run, sends, flags, position)?;
     put_text(&text, buffer, out)
 }
 
@@ -221,19 +221,19 @@ fn put_arrow<W: Sink>(
 fn put_arrows<W: Sink>(
     alloc: Global,
     run: &Chronicle,
-    marks: &[bool],
+    flags: &[bool],
     buffer: &mut Buffer,
     out: &mut W,
 ) -> Result<(), OutputFault>
     requires few { length run.now.history ≤ MAX_ENTRIES }
-    requires a_mark_each { length marks.now ≡ length run.now.history }
+    requires a_flag_each { length flags.now ≡ length run.now.history }
     ensures { Puts W.stream result out.old buffer.old out.new buffer.new
-        (arrows_text run.now marks.now) }
+        (arrows_text run.now flags.now) }
 {
     let history = run.history();
     let sends = sends_of(alloc, history)?;
     for position in 0..history.len() {
-        put_arrow(alloc, run, &sends, marks, position, buffer, out)?;
+        put_arrow(alloc, run, &sends, flags, position, buffer, out)?;
     }
     Ok(())
 }
@@ -243,19 +243,19 @@ fn put_mark<T: Runs, W: Sink>(
     alloc: Global,
     run: &Chronicle,
     after: &T,
-    marks: &[bool],
+    flags: &[bool],
     position: usize,
     buffer: &mut Buffer,
     out: &mut W,
 ) -> Result<(), OutputFault>
     requires few { length run.now.history ≤ MAX_ENTRIES }
-    requires a_mark_each { length marks.now ≡ length run.now.history }
+    requires a_flag_each { length flags.now ≡ length run.now.history }
     requires within { position < length run.now.history }
     requires after { T.run after.now ≡ run_after run.now position }
     ensures { Puts W.stream result out.old buffer.old out.new buffer.new
-        (mark_at T.rules run.now marks.now position) }
+        (mark_at T.rules run.now flags.now position) }
 {
-    let text = mark_of(alloc, run, after, marks, position)?;
+    let text = mark_of(alloc, run, after, flags, position)?;
     put_text(&text, buffer, out)
 }
 
@@ -264,15 +264,15 @@ fn put_mark<T: Runs, W: Sink>(
 fn put_marks<T: Runs, W: Sink>(
     alloc: Global,
     run: &Chronicle,
-    marks: &[bool],
+    flags: &[bool],
     buffer: &mut Buffer,
     out: &mut W,
 ) -> Result<(), OutputFault>
     requires valid { IsInOrder T.rules run.now }
     requires few { length run.now.history ≤ MAX_ENTRIES }
-    requires a_mark_each { length marks.now ≡ length run.now.history }
+    requires a_flag_each { length flags.now ≡ length run.now.history }
     ensures { Puts W.stream result out.old buffer.old out.new buffer.new
-        (marks_text T.rules run.now marks.now) }
+        (marks_text T.rules run.now flags.now) }
 {
     let mut again = fresh::<T>(alloc, run)?;
     // Its clause says that the parts of the setup are in range.
@@ -281,7 +281,7 @@ fn put_marks<T: Runs, W: Sink>(
     for position in 0..history.len() {
         let event = history.event(position);
         take_next(alloc, &mut again, event)?;
-        put_mark(alloc, run, &again, marks, position, buffer, out)?;
+        put_mark(alloc, run, &again, flags, position, buffer, out)?;
     }
     Ok(())
 }
@@ -314,38 +314,38 @@ fn put_foot<W: Sink>(buffer: &mut Buffer, out: &mut W) -> Result<(), OutputFault
 fn put_picture<T: Runs, W: Sink>(
     alloc: Global,
     run: &Chronicle,
-    marks: &[bool],
+    flags: &[bool],
     buffer: &mut Buffer,
     out: &mut W,
 ) -> Result<(), OutputFault>
     requires valid { IsInOrder T.rules run.now }
     requires few { length run.now.history ≤ MAX_ENTRIES }
-    requires a_mark_each { length marks.now ≡ length run.now.history }
+    requires a_flag_each { length flags.now ≡ length run.now.history }
     ensures { Puts W.stream result out.old buffer.old out.new buffer.new
-        (picture_text T.rules run.now marks.now) }
+        (picture_text T.rules run.now flags.now) }
 {
     put_front(alloc, run, buffer, out)?;
-    put_arrows(alloc, run, marks, buffer, out)?;
-    put_marks::<T, W>(alloc, run, marks, buffer, out)?;
+    put_arrows(alloc, run, flags, buffer, out)?;
+    put_marks::<T, W>(alloc, run, flags, buffer, out)?;
     put_foot(buffer, out)
 }
 
-/// Writes the picture in which the marked events are drawn in full, and the rest pale. After `Write` what was
+/// Writes the picture in which the flagged events are drawn in full, and the rest pale. After `Write` what was
 /// written is a beginning of the picture, and after `NoMemory` one of whole pieces of 65,536 bytes.
 pub(crate) fn write_picture<T: Runs, W: Sink>(
     alloc: Global,
     run: &Chronicle,
-    marks: &[bool],
+    flags: &[bool],
     out: &mut W,
 ) -> Result<(), OutputFault>
     requires valid { IsInOrder T.rules run.now }
     requires few { length run.now.history ≤ MAX_ENTRIES }
-    requires a_mark_each { length marks.now ≡ length run.now.history }
+    requires a_flag_each { length flags.now ≡ length run.now.history }
     ensures { IsWritten W.stream (pieces_ending result) out.old out.new
-        (Only (picture_text T.rules run.now marks.now)) }
+        (Only (picture_text T.rules run.now flags.now)) }
 {
     let mut buffer = Buffer::new(alloc)?;
-    put_picture::<T, W>(alloc, run, marks, &mut buffer, out)?;
+    put_picture::<T, W>(alloc, run, flags, &mut buffer, out)?;
     buffer.flush(out)?;
     Ok(())
 }

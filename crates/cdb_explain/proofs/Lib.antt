@@ -1,5 +1,5 @@
 pub mod Returned
-pub mod Marking
+pub mod Flagging
 pub mod Causes
 pub mod Along
 pub mod Bounded

@@ -16,9 +16,9 @@ use Rattle.cdb_base.specs.declared.register.Reg.{Reg}
 use Rattle.cdb_base.specs.declared.register.Reg.TheVariants.{R, Dec}
 use Rattle.cdb_control.specs.Commands.{decides}
 use Rattle.cdb_explain.specs.Asked.{IsStepAsked, StandsNoStep}
-use Rattle.cdb_explain.specs.Marked.{marked_of_first}
+use Rattle.cdb_explain.specs.Flagged.{flagged_of_first}
 use Rattle.cdb_message.specs.Mail.{message_name, payload_of}
-use Rattle.cdb_past.specs.Marks.{MarkPast}
+use Rattle.cdb_past.specs.Flags.{FlagsPast}
 use Rattle.cdb_rules.specs.ByRules.{cell_in, mail_in}
 use Rattle.cdb_rules.specs.RunView.{RunView}
 use Rattle.cdb_rules.specs.Rules.{Rules}
@@ -87,17 +87,17 @@ abbrev pub count_text : ℕ → ℕ → List ℕ
 count_text count all =
     decimal count ++ codes " of " ++ decimal all ++ codes " standing" ++ codes " events\n"
 
--- the lines of the marked events, in the order of the history, and then how many they are of how many
+-- the lines of the flagged events, in the order of the history, and then how many they are of how many
 abbrev pub lines_text : (Parts → Rules) → RunView → List Bool → List ℕ
-lines_text rules run marks =
-    let positions = marked_of_first (length run.history) marks in
+lines_text rules run flags =
+    let positions = flagged_of_first (length run.history) flags in
     flat_map (line_at rules run) positions ++ count_text (length positions) (length run.history)
 
 -- The text is that of what led to the event at position j, from 0: of that event, and of each from which a
 -- chain of dependences leads to it.
 abbrev pub IsExplanation : (Parts → Rules) → RunView → ℕ → List ℕ → Type 0
 IsExplanation rules run j text =
-    (marks : List Bool) × MarkPast run.history j marks × (text ≡ lines_text rules run marks)
+    (flags : List Bool) × FlagsPast run.history j flags × (text ≡ lines_text rules run flags)
 
 -- the text is the explanation of that step: of p.k, or without k of the last standing step of p
 abbrev pub IsStepExplained : (Parts → Rules) → RunView → ℕ → Option ℕ → List ℕ → Type 0

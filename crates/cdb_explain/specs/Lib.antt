@@ -1,6 +1,6 @@
 -- ---- what the public contracts name
 pub mod Asked
-pub mod Marked
+pub mod Flagged
 pub mod Explanations
 pub mod Explained
 pub mod FaultTexts

@@ -1,7 +1,7 @@
-//! The lines of the marked events.
+//! The lines of the flagged events.
 
 ghost use Rattle.cdb_explain.specs.Explanations.{count_text, line_at, lines_text, IsExplanation};
-ghost use Rattle.cdb_explain.specs.Marked.{marked_of_first};
+ghost use Rattle.cdb_explain.specs.Flagged.{flagged_of_first};
 ghost use Rattle.cdb_rules.specs.ByRules.{IsInOrder};
 ghost use Rattle.cdb_text.specs.Pushes.{Pushes};
 ghost use Rattle.std.specs.List.{flat_map};
@@ -14,20 +14,20 @@ use cdb_base::NoMemory;
 use cdb_rules::{Chronicle, Runs};
 use std::alloc::{AllocError, Global};
 
-/// Adds the lines of the marked events, in the order of the history, and returns how many they are.
+/// Adds the lines of the flagged events, in the order of the history, and returns how many they are.
 /// It plays the run again, event by event, and asks it after each one, when that is soonest answered.
 fn push_lines<T: Runs>(
     alloc: Global,
     text: &mut String,
     run: &Chronicle,
-    marks: &[bool],
+    flags: &[bool],
 ) -> Result<usize, NoMemory>
     requires valid { IsInOrder T.rules run.now }
-    requires a_mark_each { length marks.now ≡ length run.now.history }
+    requires a_flag_each { length flags.now ≡ length run.now.history }
     ensures lines { Pushes result text.old text.new
-        (flat_map (line_at T.rules run.now) (marked_of_first (length run.now.history) marks.now)) }
+        (flat_map (line_at T.rules run.now) (flagged_of_first (length run.now.history) flags.now)) }
     ensures count { IfOk result (λ count.
-        count ≡ length (marked_of_first (length run.now.history) marks.now)) }
+        count ≡ length (flagged_of_first (length run.now.history) flags.now)) }
 {
     let mut again = fresh::<T>(alloc, run)?;
     // Its clause says that the parts of the setup are in range.
@@ -37,7 +37,7 @@ fn push_lines<T: Runs>(
     for i in 0..history.len() {
         let event = history.event(i);
         take_next(alloc, &mut again, event)?;
-        if marks[i] {
+        if flags[i] {
             push_line(alloc, text, &again, event)?;
             count += 1;
         }
@@ -55,35 +55,35 @@ fn push_count(text: &mut String, count: usize, all: usize) -> Result<(), AllocEr
     text.push_str(" events\n")
 }
 
-/// Adds the lines of the marked events, and then how many they are of how many.
+/// Adds the lines of the flagged events, and then how many they are of how many.
 fn push_all<T: Runs>(
     alloc: Global,
     text: &mut String,
     run: &Chronicle,
-    marks: &[bool],
+    flags: &[bool],
 ) -> Result<(), NoMemory>
     requires valid { IsInOrder T.rules run.now }
-    requires a_mark_each { length marks.now ≡ length run.now.history }
-    ensures { Pushes result text.old text.new (lines_text T.rules run.now marks.now) }
+    requires a_flag_each { length flags.now ≡ length run.now.history }
+    ensures { Pushes result text.old text.new (lines_text T.rules run.now flags.now) }
 {
-    let count = push_lines::<T>(alloc, text, run, marks)?;
+    let count = push_lines::<T>(alloc, text, run, flags)?;
     let history = run.history();
     push_count(text, count, history.len())?;
     Ok(())
 }
 
-/// The lines of the marked events, and then how many they are of how many.
-fn text_of_marked<T: Runs>(
+/// The lines of the flagged events, and then how many they are of how many.
+fn text_of_flagged<T: Runs>(
     alloc: Global,
     run: &Chronicle,
-    marks: &[bool],
+    flags: &[bool],
 ) -> Result<Vec<u8>, NoMemory>
     requires valid { IsInOrder T.rules run.now }
-    requires a_mark_each { length marks.now ≡ length run.now.history }
-    ensures { IfOk result (λ text. text.items ≡ lines_text T.rules run.now marks.now) }
+    requires a_flag_each { length flags.now ≡ length run.now.history }
+    ensures { IfOk result (λ text. text.items ≡ lines_text T.rules run.now flags.now) }
 {
     let mut text = String::new(alloc);
-    push_all::<T>(alloc, &mut text, run, marks)?;
+    push_all::<T>(alloc, &mut text, run, flags)?;
     Ok(text.into_bytes())
 }
 
@@ -98,7 +98,7 @@ pub fn explanation<T: Runs>(
     requires within { position < length run.now.history }
     ensures { IfOk result (λ text. IsExplanation T.rules run.now position text.items) }
 {
-    let marks = past_of(alloc, run.history(), position)?;
-    let text = text_of_marked::<T>(alloc, run, marks.as_slice())?;
+    let flags = past_of(alloc, run.history(), position)?;
+    let text = text_of_flagged::<T>(alloc, run, flags.as_slice())?;
     Ok(text)
 }

@@ -110,6 +110,9 @@ impl<T: Drop> Log<T> {
         if k >= self.ends.len() {
             return self.len();
         }
+        if bound == 0 {
+            return 0;
+        }
         let offsets = &self.offsets[k];
         start_of(&self.ends, k) + count_below(offsets, bound % PIECE)
     }

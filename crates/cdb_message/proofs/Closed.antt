@@ -1,6 +1,6 @@
--- Which copies are received or lost after a receive, a loss, or one that was taken back, and so where marks may stand.
-use Rattle.std.proofs.Common.{◌≡◌, ◌≢◌, ℕ, zero, suc, ◌-◌, ◌≤◌, min, Bool, true, false, not, ◌&&◌, ◌||◌, List, [], ◌∷◌, Some, set, arith, refl, ap, sym, ◌∙◌, inl, inr, eqb-true, eq-eqb, subst}
-use Rattle.std.specs.Prelude.{◌==◌, ◌⊎◌, if◌then◌else◌, slice_get, unwrap_or}
+-- Which copies are received or lost after a receive, a loss, or one that was taken back, and so what may be passed over.
+use Rattle.std.proofs.Common.{◌≡◌, ◌≢◌, ℕ, zero, suc, ◌≤◌, Bool, true, false, not, ◌&&◌, ◌||◌, List, [], ◌∷◌, Some, set, refl, ap, sym, ◌∙◌, inl, inr}
+use Rattle.std.specs.Prelude.{◌⊎◌, slice_get, unwrap_or}
 use Rattle.std.specs.Ordering.{eq_by_cmp}
 use Rattle.std.specs.Cmp.{IsTotalOrder, Equal-is}
 use Rattle.std.specs.declared.cmp.Ordering.{Ordering}
@@ -9,8 +9,8 @@ use Rattle.cdb_base.specs.Positions.{nth, set_nth}
 use Rattle.cdb_base.specs.declared.name.MsgName.{MsgName}
 use Rattle.cdb_base.specs.declared.name.CopyName.{CopyName}
 use Rattle.cdb_message.specs.Names.{NameSet}
-use Rattle.cdb_message.specs.declared.marks.Marks.{Marks}
-use Rattle.cdb_message.specs.Marks.{mark_of, AreBelowOpenCopies}
+use Rattle.cdb_message.specs.declared.floors.Passed.{Passed}
+use Rattle.cdb_message.specs.Passed.{IsPassed, AreClosed, LeavesOut, RaisesFloor}
 use Rattle.cdb_message.specs.Mail.{MailState, message_name, copy_name, received_by, is_received, is_open, add_receive, add_loss, remove_receive, remove_loss}
 use Rattle.cdb_message.proofs.Sets.{name_cmp_total, name_cmp-IsAntisymmetric, copy_cmp_total, copy_cmp-IsAntisymmetric}
 
@@ -90,66 +90,40 @@ still_closed false true true lost' r l h = refl
 still_closed false true false lost' r l h = ap not (l refl)
 still_closed false false received' lost' r l h = absurd (cc)
 
-module _ (marks : Marks) (mail : MailState) (below : AreBelowOpenCopies marks mail) where
-  pub below-add_receive : (p : ℕ) (name : MsgName) → AreBelowOpenCopies marks (add_receive mail p name)
-  below-add_receive p name q t m from to =
-      still_closed _ _ _ _ (stays-add_receive mail p q name (message_name t m)) (λ h. h) (below q t m from to)
+module _ (passed : Passed) (mail : MailState) (closed : AreClosed passed mail) where
+  pub closed-add_receive : (p : ℕ) (name : MsgName) → AreClosed passed (add_receive mail p name)
+  closed-add_receive p name q t m from is =
+      still_closed _ _ _ _ (stays-add_receive mail p q name (message_name t m)) (λ h. h) (closed q t m from is)
 
-  pub below-add_loss : (copy : CopyName) → AreBelowOpenCopies marks (add_loss mail copy)
-  below-add_loss copy q t m from to =
-      still_closed _ _ _ _ (λ h. h) (stays-insert copy_cmp_total copy_cmp-IsAntisymmetric mail.lost copy (copy_name (message_name t m) q)) (below q t m from to)
+  pub closed-add_loss : (copy : CopyName) → AreClosed passed (add_loss mail copy)
+  closed-add_loss copy q t m from is =
+      still_closed _ _ _ _ (λ h. h) (stays-insert copy_cmp_total copy_cmp-IsAntisymmetric mail.lost copy (copy_name (message_name t m) q)) (closed q t m from is)
 
-  -- a mark that was lowered, and the others, stand below where they stood, and that of p and s below the number
-  module _ (lowered : Marks) (p s number : ℕ)
-      (lowers : (q t : ℕ) → mark_of lowered q t ≡ (if q == p && t == s then min (mark_of marks q t) (number - 1) else mark_of marks q t)) where
-    lower_by : (b : Bool) (at number : ℕ) → (if b then min at (number - 1) else at) ≤ at
-    lower_by true at number = omega arith
-    lower_by false at number = omega arith
+  -- one copy was left out
+  module _ (left : Passed) (p s number : ℕ) (leaves : LeavesOut passed left p s number) where
+    differs : (q t m : ℕ) → 1 ≤ m → IsPassed left q t m → q ≡ p → message_name t m ≢ message_name s number
+    differs q t m from is same_p same = (leaves q t m from is).1 same_p (ap (λ name. name.s) same) (ap (λ name. name.m) same)
 
-    lower_at : (b : Bool) (at number : ℕ) → b ≡ true → (if b then min at (number - 1) else at) ≤ number - 1
-    lower_at true at number h = omega arith
-    lower_at false at number h = absurd (cc)
-
-    was_below : (q t m : ℕ) → m ≤ mark_of lowered q t → m ≤ mark_of marks q t
-    was_below q t m to =
-        let lower = lower_by (q == p && t == s) (mark_of marks q t) number in
-        let is = lowers q t in
-        omega arith
-
-    is_another : (q t m : ℕ) → 1 ≤ m → m ≤ mark_of lowered q t → q ≡ p → t ≡ s → m ≢ number
-    is_another q t m from to same_p same_s same_m =
-        let here : (q == p && t == s) ≡ true = (λ k. eq-eqb q p same_p k && t == s) ∙ eq-eqb t s same_s in
-        let low = lower_at (q == p && t == s) (mark_of marks q t) number here in
-        let is = lowers q t in
-        omega arith
-
-    differs : (q t m : ℕ) → 1 ≤ m → m ≤ mark_of lowered q t → q ≡ p → message_name t m ≢ message_name s number
-    differs q t m from to same_p same = is_another q t m from to same_p (ap (λ name. name.s) same) (ap (λ name. name.m) same)
-
-    pub below-remove_receive : AreBelowOpenCopies lowered (remove_receive mail p (message_name s number))
-    below-remove_receive q t m from to =
+    pub closed-remove_receive : AreClosed left (remove_receive mail p (message_name s number))
+    closed-remove_receive q t m from is =
         still_closed _ _ _ _
-        (stays-remove_receive mail p q (message_name s number) (message_name t m) (differs q t m from to)) (λ h. h)
-        (below q t m from (was_below q t m to))
+        (stays-remove_receive mail p q (message_name s number) (message_name t m) (differs q t m from is)) (λ h. h)
+        (closed q t m from (leaves q t m from is).0)
 
-    pub below-remove_loss : AreBelowOpenCopies lowered (remove_loss mail (copy_name (message_name s number) p))
-    below-remove_loss q t m from to =
+    pub closed-remove_loss : AreClosed left (remove_loss mail (copy_name (message_name s number) p))
+    closed-remove_loss q t m from is =
         still_closed _ _ _ _ (λ h. h)
         (stays-remove copy_cmp_total copy_cmp-IsAntisymmetric mail.lost (copy_name (message_name s number) p) (copy_name (message_name t m) q)
-        (λ same. differs q t m from to (ap (λ copy. copy.to) same) (ap (λ copy. copy.msg) same)))
-        (below q t m from (was_below q t m to))
+        (λ same. differs q t m from is (ap (λ copy. copy.to) same) (ap (λ copy. copy.msg) same)))
+        (closed q t m from (leaves q t m from is).0)
 
-  -- a mark that moved on to a number up to which no copy is open
-  module _ (raised : Marks) (p s number : ℕ)
-      (closed : (m : ℕ) → 1 ≤ m → m ≤ number → is_open mail p (message_name s m) ≡ false)
-      (raises : (q t : ℕ) → mark_of raised q t ≡ (if q == p && t == s then number else mark_of marks q t)) where
-    by_mark : (b : Bool) (q t m : ℕ) → (q == p && t == s) ≡ b → 1 ≤ m → m ≤ (if b then number else mark_of marks q t)
-        → is_open mail q (message_name t m) ≡ false
-    by_mark true q t m e from to =
-        let parts = both-parts (q == p) (t == s) e in
-        (λ k. is_open mail (eqb-true q p parts.0 k) (message_name (eqb-true t s parts.1 k) m)) ∙ closed m from to
-    by_mark false q t m e from to = below q t m from to
-
-    pub below-raised : AreBelowOpenCopies raised mail
-    below-raised q t m from to =
-        by_mark (q == p && t == s) q t m refl from (subst (λ n. m ≤ n) (raises q t) to)
+  -- a floor that moved on to a number up to which no copy is open
+  module _ (raised : Passed) (p s number : ℕ)
+      (none : (m : ℕ) → 1 ≤ m → m ≤ number → is_open mail p (message_name s m) ≡ false)
+      (raises : RaisesFloor passed raised p s number) where
+    pub closed-raised : AreClosed raised mail
+    closed-raised q t m from is =
+        elim (raises q t m is) [
+          | inl h ↦ closed q t m from h
+          | inr h ↦ (λ k. is_open mail (h.0 k) (message_name (h.1 k) m)) ∙ none m from h.2
+        ]

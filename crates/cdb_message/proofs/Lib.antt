@@ -1,4 +1,4 @@
-pub mod MarkLaws
+pub mod FloorLaws
 pub mod Closed
 pub mod Tables
 pub mod Pending

@@ -90,10 +90,10 @@ module _ (above is_open : MsgName → Bool) where
       first-below (is_open (name m)) (name m) _ (below m) ∙ first-none name (m + 1) k below
 
   -- the look may begin behind a number up to which none is open
-  pub first-behind : (name : ℕ → MsgName) (low mark start count : ℕ) → ((j : ℕ) → above (name j) ≡ nat_le low j)
-      → ((j : ℕ) → 1 ≤ j → j ≤ mark → is_open (name j) ≡ false) → start ≡ max low (mark + 1)
+  pub first-behind : (name : ℕ → MsgName) (low floor start count : ℕ) → ((j : ℕ) → above (name j) ≡ nat_le low j)
+      → ((j : ℕ) → 1 ≤ j → j ≤ floor → is_open (name j) ≡ false) → start ≡ max low (floor + 1)
       → find is_open (map name (range_with_len start (count + 1 - start))) ≡ first_pending (map name (range_with_len 1 count))
-  first-behind name low mark start count stands closed s =
+  first-behind name low floor start count stands closed s =
       let lowest = max low 1 in
       let passed = start - lowest in
       let ends : lowest + passed ≡ start = omega arith in

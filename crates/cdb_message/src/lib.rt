@@ -10,8 +10,8 @@
 
 mod copies;
 mod flags;
+mod floors;
 pub mod mail;
-mod marks;
 mod names;
 mod outbox;
 

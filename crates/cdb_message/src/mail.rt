@@ -6,7 +6,7 @@ ghost use Rattle.std.specs.Option.{option_copied};
 ghost use Rattle.cdb_message.specs.Search.{IsLowestAbove, HasNoneAbove};
 
 use crate::copies::Copies;
-use crate::marks::Marks;
+use crate::floors::Passed;
 use crate::names::Names;
 use crate::outbox::Outbox;
 use cdb_base::{CopyName, MsgName, NoMemory, Payload, Proc};
@@ -20,8 +20,8 @@ pub struct Mail {
     sent: Vec<Outbox>,
     received: Vec<Names>,
     lost: Copies,
-    // Where the look for a pending copy begins: below a mark every copy was received or lost.
-    marks: Marks,
+    // What the look for a pending copy passes over: copies that were received or lost.
+    passed: Passed,
 }
 
 impl Model for Mail {
@@ -29,7 +29,7 @@ impl Model for Mail {
     ghost use Rattle.cdb_base.specs.declared.limits.TheConstants.{MAX_PROCESSES};
     ghost use Rattle.cdb_message.specs.Codes.{mail_code};
     ghost use Rattle.cdb_message.specs.Mail.{MailState};
-    ghost use Rattle.cdb_message.specs.Marks.{AreBelowOpenCopies};
+    ghost use Rattle.cdb_message.specs.Passed.{AreClosed};
 
     ghost Value = { MailState };
 
@@ -43,7 +43,7 @@ impl Model for Mail {
 
     ghost invariant = { λ x. (length x.sent.items ≡ length x.received.items)
         × (length x.sent.items ≤ MAX_PROCESSES)
-        × AreBelowOpenCopies x.marks (record {
+        × AreClosed x.passed (record {
           sent = x.sent.items;
           received = x.received.items;
           lost = x.lost;
@@ -61,7 +61,7 @@ impl Mail {
     ghost use Rattle.cdb_message.specs.Mail.{remove_send, remove_receive, remove_loss};
     ghost use Rattle.cdb_message.specs.Mail.{TakesBackSend, TakesBackReceive, TakesBackLoss};
     ghost use Rattle.cdb_message.specs.Mail.{next_pending, HasNonePending, IsLeastPending};
-    ghost use Rattle.cdb_message.specs.Marks.{HasNoneOpen};
+    ghost use Rattle.cdb_message.specs.Floors.{HasNoneOpen};
     ghost use Rattle.cdb_message.specs.Search.{first_of_sender, messages_from};
 
     /// The mail of `n` processes, at most 9, none of which has sent or received anything. `NoMemory` if
@@ -77,12 +77,12 @@ impl Mail {
             received.push(Names::new(alloc))?;
         }
         let lost = Copies::new(alloc);
-        let marks = Marks::new();
+        let passed = Passed::new();
         Ok(Mail {
             sent,
             received,
             lost,
-            marks,
+            passed,
         })
     }
 
@@ -141,7 +141,7 @@ impl Mail {
         ensures after { self.new ≡ remove_receive self.old p name }
         ensures undoes { TakesBackReceive self.old p name self.new }
     {
-        self.marks.lower(p, name.s, name.m);
+        self.passed.leave_out(p, name.s, name.m);
         let names = &mut self.received[p.index()];
         names.remove(name);
     }
@@ -168,7 +168,7 @@ impl Mail {
         ensures after { self.new ≡ remove_loss self.old (copy_name name p) }
         ensures undoes { TakesBackLoss self.old (copy_name name p) self.new }
     {
-        self.marks.lower(p, name.s, name.m);
+        self.passed.leave_out(p, name.s, name.m);
         self.lost.remove(CopyName { msg: name, to: p });
     }
 
@@ -259,7 +259,7 @@ impl Mail {
         ensures { result ≡ first_of_sender self.now p s after }
     {
         let low = lowest_above(after, s)?;
-        let behind = u32::from(self.mark(p, s)) + 1;
+        let behind = u32::from(self.floor(p, s)) + 1;
         self.first_open(p, s, low.max(behind))
     }
 
@@ -280,32 +280,41 @@ impl Mail {
     }
 
     /// A number up to which process `p` has received or lost each message of `s`.
-    fn mark(&self, p: Proc, s: Proc) -> u16
+    fn floor(&self, p: Proc, s: Proc) -> u16
         ensures { HasNoneOpen self.now p s result }
     {
-        self.marks.get(p, s)
+        self.passed.floor(p, s)
     }
 
-    /// The greatest such number, among the messages that were sent.
-    fn farthest_mark(&self, p: Proc, s: Proc) -> u16
+    /// A number at least as high as the one given, up to which `p` has received or lost each message of `s` too.
+    fn behind(&self, p: Proc, s: Proc, number: u16) -> u16
+        requires { HasNoneOpen self.now p s number }
+        ensures from { number ≤ result }
+        ensures closed { HasNoneOpen self.now p s result }
+    {
+        self.passed.behind(p, s, number)
+    }
+
+    /// The greatest number of that kind, among the messages that were sent.
+    fn highest_floor(&self, p: Proc, s: Proc) -> u16
         requires among { p ≤ length self.now.received }
         ensures { HasNoneOpen self.now p s result }
     {
         let count = self.count_sent(s);
-        let mut mark = self.mark(p, s);
-        while mark < count && !self.is_open(p, MsgName { s, m: mark + 1 }) {
-            mark += 1;
+        let mut floor = self.floor(p, s);
+        while floor < count && !self.is_open(p, MsgName { s, m: floor + 1 }) {
+            floor = self.behind(p, s, floor + 1);
         }
-        mark
+        floor
     }
 
-    /// Moves the mark of receiver `p` and sender `s` on as far as it goes.
+    /// Moves the floor of receiver `p` and sender `s` on as far as it goes.
     fn pass_over(&mut self, p: Proc, s: Proc)
         requires among { p ≤ length self.old.received }
         ensures { self.new ≡ self.old }
     {
-        let mark = self.farthest_mark(p, s);
-        self.marks.set(p, s, mark);
+        let floor = self.highest_floor(p, s);
+        self.passed.set_floor(p, s, floor);
     }
 
     /// How many messages process `s` sent: at most 9,999.

@@ -1,4 +1,4 @@
 -- ---- what the public contracts name
-pub mod Marks
+pub mod Flags
 -- ---- what the code keeps for itself
 pub mod Pairs

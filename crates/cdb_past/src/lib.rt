@@ -1,12 +1,12 @@
-//! The past of an event: all that led to it, marked by position in the history.
+//! The past of an event: all that led to it, flagged by position in the history.
 //!
 //! ```text
-//! let marks = mark_past(alloc, history, 4)?;
-//! let led_to_it = marks[0];
+//! let flags = flag_past(alloc, history, 4)?;
+//! let led_to_it = flags[0];
 //! ```
 #![tactic(auto)]
 
 mod pairs;
 mod past;
 
-pub use past::mark_past;
+pub use past::flag_past;

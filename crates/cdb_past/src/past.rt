@@ -1,29 +1,29 @@
-//! The past of an event, by marks that are set from the event back to the start of the history.
+//! The past of an event, by flags that are set from the event back to the start of the history.
 
 ghost use Rattle.std.specs.Prelude.{◌≡◌, ◌-◌, ◌≤◌, length, IfOk};
-ghost use Rattle.cdb_past.specs.Marks.{MarkPast};
+ghost use Rattle.cdb_past.specs.Flags.{FlagsPast};
 
 use crate::pairs::pairs_of_first;
 use cdb_base::NoMemory;
 use cdb_causal::History;
 use std::alloc::Global;
 
-/// Marks what led to the event at a position, from 1 to the number of events: the event itself, and each
+/// Flags what led to the event at a position, from 1 to the number of events: the event itself, and each
 /// from which a chain of dependences leads to it. It looks for the direct causes of the events up to
 /// that position, and goes over them once, from the last back. It can fail only out of memory.
-pub fn mark_past(alloc: Global, history: &History, at: usize) -> Result<Vec<bool>, NoMemory>
+pub fn flag_past(alloc: Global, history: &History, at: usize) -> Result<Vec<bool>, NoMemory>
     requires from_one { 1 ≤ at }
     requires to_len { at ≤ length history.now }
-    ensures { IfOk result (λ marks. MarkPast history.now (at - 1) marks.items) }
+    ensures { IfOk result (λ flags. FlagsPast history.now (at - 1) flags.items) }
 {
     let pairs = pairs_of_first(alloc, history, at)?;
-    let mut marks = Vec::from_elem(alloc, false, history.len())?;
-    marks[at - 1] = true;
+    let mut flags = Vec::from_elem(alloc, false, history.len())?;
+    flags[at - 1] = true;
     for i in (0..pairs.len()).rev() {
         let pair = pairs[i];
-        if marks[pair.effect] {
-            marks[pair.cause] = true;
+        if flags[pair.effect] {
+            flags[pair.cause] = true;
         }
     }
-    Ok(marks)
+    Ok(flags)
 }

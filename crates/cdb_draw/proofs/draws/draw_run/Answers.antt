@@ -5,22 +5,22 @@ use Rattle.cdb_play.specs.Endings.{Complete, pieces_ending}
 use Rattle.cdb_draw.specs.Picture.{picture_text}
 use Rattle.cdb_draw.proofs.draws.draw_run.Goals as goal
 
-pub returns-in_err-marks : goal.returns-in_err-marks
-returns-in_err-marks g c =
+pub returns-in_err-flags : goal.returns-in_err-flags
+returns-in_err-flags g c =
     let p = err_from_is_err_and c.from_residual.result c.from_residual.ensures.1 in
     rw (p.1, p.2) (inl refl)
 
 pub returns-in_err-write_picture : goal.returns-in_err-write_picture
 returns-in_err-write_picture g c =
     let p = err_from_is_err_and c.from_residual-in_err-write_picture.result c.from_residual-in_err-write_picture.ensures.1 in
-    let marks = c.in_ok-marks.marks.items in
-    let text = picture_text g.T.Runs.rules c.args.run.now marks in
+    let flags = c.in_ok-flags.flags.items in
+    let text = picture_text g.T.Runs.rules c.args.run.now flags in
     rw (p.1, p.2)
-    (only_as g.W.Sink.stream (pieces_ending {A = Unit {0}} (Err c.in_err-write_picture.field-0.0)) c.args.out.now c.write_picture.new.out text _ (marks, c.in_ok-marks.ensures.full, refl)
+    (only_as g.W.Sink.stream (pieces_ending {A = Unit {0}} (Err c.in_err-write_picture.field-0.0)) c.args.out.now c.write_picture.new.out text _ (flags, c.in_ok-flags.ensures.full, refl)
     (rw c.as_slice.ensures.value at c.in_err-write_picture.ensures))
 
 pub returns : goal.returns
 returns g c =
-    let marks = c.in_ok-marks.marks.items in
-    let text = picture_text g.T.Runs.rules c.args.run.now marks in
-    only_as g.W.Sink.stream Complete c.args.out.now c.write_picture.new.out text _ (marks, c.in_ok-marks.ensures.full, refl) (rw c.as_slice.ensures.value at c.in_ok-write_picture.ensures)
+    let flags = c.in_ok-flags.flags.items in
+    let text = picture_text g.T.Runs.rules c.args.run.now flags in
+    only_as g.W.Sink.stream Complete c.args.out.now c.write_picture.new.out text _ (flags, c.in_ok-flags.ensures.full, refl) (rw c.as_slice.ensures.value at c.in_ok-write_picture.ensures)

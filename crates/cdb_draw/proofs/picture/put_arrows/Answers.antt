@@ -16,7 +16,7 @@ loop-position-init g c = put_nothing g.W.Sink.stream c.args.out.now c.args.buffe
 
 pub loop-position-preserved : goal.loop-position-preserved
 loop-position-preserved g c =
-    put_one g.W.Sink.stream (arrow_at c.args.run.now c.args.marks.now) c.args.out.now c.loop-position.out c.put_arrow.new.out c.args.buffer.now c.loop-position.buffer c.put_arrow.new.buffer c.loop-position.position c.loop-position.invariant c.in_ok-put_arrow.ensures
+    put_one g.W.Sink.stream (arrow_at c.args.run.now c.args.flags.now) c.args.out.now c.loop-position.out c.put_arrow.new.out c.args.buffer.now c.loop-position.buffer c.put_arrow.new.buffer c.loop-position.position c.loop-position.invariant c.in_ok-put_arrow.ensures
 
 pub returns-in_err-put_arrow : goal.returns-in_err-put_arrow
 returns-in_err-put_arrow g c =
@@ -25,4 +25,4 @@ returns-in_err-put_arrow g c =
     let same : c.history-history.result.now ≡ c.args.run.now.history = c.history-history.ensures in
     let below : i < length c.args.run.now.history = subst (λ (h : List Event). i < length h) same (subst (λ (n : ℕ). i < n) c.len-position-end.ensures.count c.loop-position-test.true) in
     rw (p.1, p.2)
-    (cut_one g.W.Sink.stream (Unit {0}) c.in_err-put_arrow.field-0.0 (arrow_at c.args.run.now c.args.marks.now) c.args.out.now c.loop-position.out c.put_arrow.new.out c.args.buffer.now c.loop-position.buffer c.put_arrow.new.buffer (length c.args.run.now.history) i below c.loop-position.invariant c.in_err-put_arrow.ensures)
+    (cut_one g.W.Sink.stream (Unit {0}) c.in_err-put_arrow.field-0.0 (arrow_at c.args.run.now c.args.flags.now) c.args.out.now c.loop-position.out c.put_arrow.new.out c.args.buffer.now c.loop-position.buffer c.put_arrow.new.buffer (length c.args.run.now.history) i below c.loop-position.invariant c.in_err-put_arrow.ensures)

@@ -52,7 +52,7 @@ loop-position-preserved g c =
     let at : slice_get run.history i ≡ Some event = subst (λ (h : List Event). slice_get h i ≡ Some event) same c.event-event.ensures in
     record {
       again = next_along g.T.Runs.rules g.T.Runs.same_state g.met.T.Runs.histories run i event at (g.T.Runs.run c.loop-position.again) c.loop-position.invariant.again (g.T.Runs.run c.take_next.new.again) c.in_ok-take_next.ensures;
-      put = put_one g.W.Sink.stream (mark_at g.T.Runs.rules c.args.run.now c.args.marks.now) c.args.out.now c.loop-position.out c.put_mark.new.out c.args.buffer.now c.loop-position.buffer c.put_mark.new.buffer i c.loop-position.invariant.put c.in_ok-put_mark.ensures;
+      put = put_one g.W.Sink.stream (mark_at g.T.Runs.rules c.args.run.now c.args.flags.now) c.args.out.now c.loop-position.out c.put_mark.new.out c.args.buffer.now c.loop-position.buffer c.put_mark.new.buffer i c.loop-position.invariant.put c.in_ok-put_mark.ensures;
     }
 
 pub returns-in_err-take_next : goal.returns-in_err-take_next
@@ -62,8 +62,8 @@ returns-in_err-take_next g c =
     let same : c.history-history.result.now ≡ c.args.run.now.history = c.history-history.ensures in
     let below : i < length c.args.run.now.history = subst (λ (h : List Event). i < length h) same (subst (λ (n : ℕ). i < n) c.len-position-end.ensures.count c.loop-position-test.true) in
     rw (p.1, p.2)
-    (cut_one g.W.Sink.stream (Unit {0}) NoMemory (mark_at g.T.Runs.rules c.args.run.now c.args.marks.now) c.args.out.now c.loop-position.out c.loop-position.out c.args.buffer.now c.loop-position.buffer c.loop-position.buffer (length c.args.run.now.history) i below c.loop-position.invariant.put
-    (puts_nothing g.W.Sink.stream c.loop-position.out c.loop-position.buffer (mark_at g.T.Runs.rules c.args.run.now c.args.marks.now i)))
+    (cut_one g.W.Sink.stream (Unit {0}) NoMemory (mark_at g.T.Runs.rules c.args.run.now c.args.flags.now) c.args.out.now c.loop-position.out c.loop-position.out c.args.buffer.now c.loop-position.buffer c.loop-position.buffer (length c.args.run.now.history) i below c.loop-position.invariant.put
+    (puts_nothing g.W.Sink.stream c.loop-position.out c.loop-position.buffer (mark_at g.T.Runs.rules c.args.run.now c.args.flags.now i)))
 
 pub returns-in_err-put_mark : goal.returns-in_err-put_mark
 returns-in_err-put_mark g c =
@@ -72,7 +72,7 @@ returns-in_err-put_mark g c =
     let same : c.history-history.result.now ≡ c.args.run.now.history = c.history-history.ensures in
     let below : i < length c.args.run.now.history = subst (λ (h : List Event). i < length h) same (subst (λ (n : ℕ). i < n) c.len-position-end.ensures.count c.loop-position-test.true) in
     rw (p.1, p.2)
-    (cut_one g.W.Sink.stream (Unit {0}) c.in_err-put_mark.field-0.0 (mark_at g.T.Runs.rules c.args.run.now c.args.marks.now) c.args.out.now c.loop-position.out c.put_mark.new.out c.args.buffer.now c.loop-position.buffer c.put_mark.new.buffer (length c.args.run.now.history) i below c.loop-position.invariant.put c.in_err-put_mark.ensures)
+    (cut_one g.W.Sink.stream (Unit {0}) c.in_err-put_mark.field-0.0 (mark_at g.T.Runs.rules c.args.run.now c.args.flags.now) c.args.out.now c.loop-position.out c.put_mark.new.out c.args.buffer.now c.loop-position.buffer c.put_mark.new.buffer (length c.args.run.now.history) i below c.loop-position.invariant.put c.in_err-put_mark.ensures)
 
 pub returns : goal.returns
 returns g c =
@@ -83,4 +83,4 @@ returns g c =
     let counted = c.len-position-end.ensures.count in
     let most = c.loop-position.auto.position-end in
     let all : c.loop-position.position ≡ length run.history = omega (arith, test, most, counted, sizes) in
-    subst (λ (n : ℕ). IsPut g.W.Sink.stream c.args.out.now c.args.buffer.now c.loop-position.out c.loop-position.buffer (flat_map (mark_at g.T.Runs.rules run c.args.marks.now) (range_with_len 0 n))) all c.loop-position.invariant.put
+    subst (λ (n : ℕ). IsPut g.W.Sink.stream c.args.out.now c.args.buffer.now c.loop-position.out c.loop-position.buffer (flat_map (mark_at g.T.Runs.rules run c.args.flags.now) (range_with_len 0 n))) all c.loop-position.invariant.put

@@ -8,5 +8,5 @@ use Rattle.cdb_draw.proofs.picture.put_marks.Given as goal
 abbrev pub invariant-loop-position : goal.invariant-loop-position
 invariant-loop-position g l = record {
   again : g.T.Runs.run l.again ≡ with_history l.run (take l.position l.run.history);
-  put : IsPut g.W.Sink.stream l.initial.out l.initial.buffer l.out l.buffer (flat_map (mark_at g.T.Runs.rules l.run l.marks) (range_with_len 0 l.position));
+  put : IsPut g.W.Sink.stream l.initial.out l.initial.buffer l.out l.buffer (flat_map (mark_at g.T.Runs.rules l.run l.flags) (range_with_len 0 l.position));
 }

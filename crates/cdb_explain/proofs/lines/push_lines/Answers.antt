@@ -5,9 +5,9 @@ use Rattle.cdb_rules.specs.RunView.{RunView}
 use Rattle.cdb_setup.specs.Parts.{AreInRange}
 use Rattle.cdb_explain.specs.Explanations.{line_at, line_text}
 use Rattle.cdb_explain.proofs.Along.{next_valid, next_along, its_line}
-use Rattle.cdb_explain.proofs.Marking.{count_more, mark_read, text_more, text_same, unmarked_more}
+use Rattle.cdb_explain.proofs.Flagging.{count_more, flag_read, text_more, text_same, unflagged_more}
 use Rattle.cdb_explain.proofs.lines.push_lines.Goals as goal
-use Rattle.cdb_explain.proofs.lines.push_lines.Goals.{then-marks-i+in_ok-push_line, else-marks-i}
+use Rattle.cdb_explain.proofs.lines.push_lines.Goals.{then-flags-i+in_ok-push_line, else-flags-i}
 
 pub take_next-requires : goal.take_next-requires
 take_next-requires g c =
@@ -24,7 +24,7 @@ pub loop-i-preserved : goal.loop-i-preserved
 loop-i-preserved g c =
     let run : RunView = c.args.run.now in
     let history : List Event = c.history-history.result.now in
-    let marks = c.args.marks.now in
+    let flags = c.args.flags.now in
     let i : ℕ = c.loop-i.i in
     let event : Event = c.event-event.result.now in
     let so = c.loop-i.invariant in
@@ -35,30 +35,30 @@ loop-i-preserved g c =
     let test = c.loop-i-test.true in
     let counted_all = c.len-i-end.ensures.count in
     let sizes = ap length same in
-    let number = c.requires.a_mark_each in
-    let within : i < length marks = omega (arith, test, counted_all, sizes, number) in
+    let number = c.requires.a_flag_each in
+    let within : i < length flags = omega (arith, test, counted_all, sizes, number) in
     let standing = subst IsStanding same c.len-i-end.ensures.standing in
     let along = next_along g.T.Runs.rules g.T.Runs.same_state g.met.T.Runs.histories run i event at (g.T.Runs.run c.loop-i.again) so.again later c.in_ok-take_next.ensures in
-    elim c.if-marks-i.branch [
-      | then-marks-i+in_ok-push_line w ↦
+    elim c.if-flags-i.branch [
+      | then-flags-i+in_ok-push_line w ↦
           let line = its_line g.T.Runs.rules g.T.Runs.same_state g.met.T.Runs.histories run i event at (g.T.Runs.run c.loop-i.again) so.again standing later c.in_ok-take_next.ensures in
-          let is = mark_read marks i _ true within w.if-marks-i.true in
+          let is = flag_read flags i _ true within w.if-flags-i.true in
           let counted = w.count-is in
           let few = so.few in
           record {
             again = along;
-            text = text_more (line_at g.T.Runs.rules run) marks i (string_bytes c.args.text.now) (string_bytes c.loop-i.text) (string_bytes c.if-marks-i.text) (line_text g.T.Runs.rules later later event) so.text (ap string_bytes w.text-is ∙ w.in_ok-push_line.ensures) line is;
-            count = w.count-is ∙ ap (λ (n : ℕ). n + 1) so.count ∙ sym (count_more marks i is);
+            text = text_more (line_at g.T.Runs.rules run) flags i (string_bytes c.args.text.now) (string_bytes c.loop-i.text) (string_bytes c.if-flags-i.text) (line_text g.T.Runs.rules later later event) so.text (ap string_bytes w.text-is ∙ w.in_ok-push_line.ensures) line is;
+            count = w.count-is ∙ ap (λ (n : ℕ). n + 1) so.count ∙ sym (count_more flags i is);
             few = omega (arith, counted, few);
           }
-      | else-marks-i w ↦
-          let is = mark_read marks i _ false within w.if-marks-i.false in
+      | else-flags-i w ↦
+          let is = flag_read flags i _ false within w.if-flags-i.false in
           let counted = w.count-is in
           let few = so.few in
           record {
             again = along;
-            text = ap string_bytes w.text-is ∙ text_same (line_at g.T.Runs.rules run) marks i (string_bytes c.args.text.now) (string_bytes c.loop-i.text) so.text is;
-            count = w.count-is ∙ so.count ∙ ap length (sym (unmarked_more marks i is));
+            text = ap string_bytes w.text-is ∙ text_same (line_at g.T.Runs.rules run) flags i (string_bytes c.args.text.now) (string_bytes c.loop-i.text) so.text is;
+            count = w.count-is ∙ so.count ∙ ap length (sym (unflagged_more flags i is));
             few = omega (arith, counted, few);
           }
     ]

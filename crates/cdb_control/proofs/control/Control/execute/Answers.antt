@@ -30,25 +30,25 @@ invariant_of-self-2 g c =
     added was.0 c.requires.from_one (omega (arith, high, to_last)) (omega arith) after in
     let from_one = c.requires.from_one in
     let low : seat - 1 < length i.state.state.redo = omega (arith, high, to_last, from_one, lists) in
-    let marks = i.marks.items in
+    let room_ends = i.room_ends.items in
     let n = vec_len i.journal in
-    let many = length-map marks (λ mark. mark - n) in
+    let many = length-map room_ends (λ room_end. room_end - n) in
     let seats = was.1.seats in
     let done = outcome rules i.state.state seat c.args.command in
     let spent = spends rules i.state.state seat low c.args.command in
     let one_at_least = subst (λ (o : Outcome). 1 ≤ cost o.reply) (sym c.in-Ok.ensures.ok) spent.one in
     let rooms =
     ap (λ (l : List ℕ). rooms_at (n + 1) l) c.lower.ensures
-    ∙ sym (rooms-lowered marks (seat - 1) n (cost (told c.in-Ok.reply)) one_at_least (omega (arith, many, seats, low)))
-    ∙ ap (λ (o : Outcome). lowered (rooms_at n marks) seat o.reply) c.in-Ok.ensures.ok in
+    ∙ sym (rooms-lowered room_ends (seat - 1) n (cost (told c.in-Ok.reply)) one_at_least (omega (arith, many, seats, low)))
+    ∙ ap (λ (o : Outcome). lowered (rooms_at n room_ends) seat o.reply) c.in-Ok.ensures.ok in
     let more = c.reserve.ensures.capacity in
     let room =
-    HoldsRooms-next n (vec_capacity i.journal) (vec_capacity c.reserve.new.self) (rooms_at n marks) seat i.state next done was.1 low
+    HoldsRooms-next n (vec_capacity i.journal) (vec_capacity c.reserve.new.self) (rooms_at n room_ends) seat i.state next done was.1 low
     spent (sym after) (replayed.lists ∙ sym lists) c.perform.ensures.capacities more in
     let long = c.push_entry.ensures.len ∙ ap (λ (m : ℕ). m + 1) c.reserve.ensures.len in (
       replayed,
-      subst (λ (m : ℕ). HoldsRooms m (vec_capacity c.push_entry.new.journal) (rooms_at m c.lower.new.marks.items) next) (sym long)
-          (subst (λ (space : ℕ). HoldsRooms (n + 1) space (rooms_at (n + 1) c.lower.new.marks.items) next) (sym c.push_entry.ensures.capacity)
+      subst (λ (m : ℕ). HoldsRooms m (vec_capacity c.push_entry.new.journal) (rooms_at m c.lower.new.room_ends.items) next) (sym long)
+          (subst (λ (space : ℕ). HoldsRooms (n + 1) space (rooms_at (n + 1) c.lower.new.room_ends.items) next) (sym c.push_entry.ensures.capacity)
           (subst (λ (l : List ℕ). HoldsRooms (n + 1) (vec_capacity c.reserve.new.self) l next) (sym rooms) room)),
     )
 
@@ -65,20 +65,20 @@ returns-clause-journal g c =
     let from_one = c.requires.from_one in
     let lists = was.0.lists in
     let same = obey-setup rules i.state.state c.perform.new.self.state (g.met.R.Runs.lawful i.state.state.setup was.0.in_range) seat c.args.command from_one (omega (arith, high, to_last, lists)) after in
-    let marks = i.marks.items in
+    let room_ends = i.room_ends.items in
     let n = vec_len i.journal in
-    let many = length-map marks (λ mark. mark - n) in
+    let many = length-map room_ends (λ room_end. room_end - n) in
     let seats = was.1.seats in
     let long = c.push_entry.ensures.len ∙ ap (λ (m : ℕ). m + 1) c.reserve.ensures.len in
     let low : seat - 1 < length i.state.state.redo = omega (arith, high, to_last, from_one, lists) in
     let spent = spends rules i.state.state seat low c.args.command in
     let one_at_least = subst (λ (o : Outcome). 1 ≤ cost o.reply) (sym c.in-Ok.ensures.ok) spent.one in
     let rooms =
-    ap (λ (m : ℕ). rooms_at m c.lower.new.marks.items) long
+    ap (λ (m : ℕ). rooms_at m c.lower.new.room_ends.items) long
     ∙ ap (λ (l : List ℕ). rooms_at (n + 1) l) c.lower.ensures
-    ∙ sym (rooms-lowered marks (seat - 1) n (cost (told c.in-Ok.reply)) one_at_least (omega (arith, many, seats, high, to_last, from_one, lists)))
-    ∙ ap (λ (o : Outcome). lowered (rooms_at n marks) seat o.reply) c.in-Ok.ensures.ok
-    ∙ ap (λ (t : State). lowered (rooms_at n marks) seat (reply_of rules t seat c.args.command)) (sym was.0.replayed) in
+    ∙ sym (rooms-lowered room_ends (seat - 1) n (cost (told c.in-Ok.reply)) one_at_least (omega (arith, many, seats, high, to_last, from_one, lists)))
+    ∙ ap (λ (o : Outcome). lowered (rooms_at n room_ends) seat o.reply) c.in-Ok.ensures.ok
+    ∙ ap (λ (t : State). lowered (rooms_at n room_ends) seat (reply_of rules t seat c.args.command)) (sym was.0.replayed) in
     (λ j. let v : Journaled = record { setup = same j; seats = i.seats; journal = added j; rooms = rooms j } in v)
     ∙ ap (λ (v : Journaled). extended g.R.Runs.rules v seat c.args.command) c.self.view_is
 
@@ -91,13 +91,13 @@ invariant_of-self-in_default g c =
     let i = c.self.inside in
     let was = c.self.invariant in
     let next = c.perform.new.self in
-    let marks = i.marks.items in
+    let room_ends = i.room_ends.items in
     let n = vec_len i.journal in
     let same = c.in_default.ensures.err in
-    let room = HoldsRooms-kept n (vec_capacity i.journal) (vec_capacity c.reserve.new.self) (rooms_at n marks) i.state next was.1 c.reserve.ensures.capacity same c.perform.ensures.capacities in (
+    let room = HoldsRooms-kept n (vec_capacity i.journal) (vec_capacity c.reserve.new.self) (rooms_at n room_ends) i.state next was.1 c.reserve.ensures.capacity same c.perform.ensures.capacities in (
       subst (λ (t : State). IsReplayed (rules t.setup) t.setup i.seats c.reserve.new.self.items t) (sym same)
           (subst (λ (l : List Entry). IsReplayed (rules i.state.state.setup) i.state.state.setup i.seats l i.state.state) (sym c.reserve.ensures.items) was.0),
-      subst (λ (m : ℕ). HoldsRooms m (vec_capacity c.reserve.new.self) (rooms_at m marks) next) (sym c.reserve.ensures.len) room,
+      subst (λ (m : ℕ). HoldsRooms m (vec_capacity c.reserve.new.self) (rooms_at m room_ends) next) (sym c.reserve.ensures.len) room,
     )
 
 pub returns-then-len-clause-headline : goal.returns-then-len-clause-headline
@@ -136,7 +136,7 @@ returns-in_default-clause-spared g c = λ needs same.
     let rules = g.R.Runs.rules in
     let seat = c.args.seat in
     let command = c.args.command in
-    let some : 0 < room_of (rooms_at (vec_len i.journal) i.marks.items) seat = subst (λ (v : Journaled). 0 < room_of v.rooms seat) (sym c.self.view_is) needs.0 in
+    let some : 0 < room_of (rooms_at (vec_len i.journal) i.room_ends.items) seat = subst (λ (v : Journaled). 0 < room_of v.rooms seat) (sym c.self.view_is) needs.0 in
     let events_kept = c.self.invariant.1.lists (seat - 1) some in
     let as_shown =
     ap (λ (t : State). is_refused (reply_of (rules i.state.state.setup) t seat command)) (sym c.self.invariant.0.replayed)

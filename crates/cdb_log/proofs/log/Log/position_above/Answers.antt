@@ -115,3 +115,9 @@ returns-clause-small g c =
     λ i less.
     subst (λ log. mark log i < ABOVE_ALL) c.self.view_is
     (marks_small c.self.inside.pieces.items c.self.inside.offsets.items c.self.inside.ends.items c.self.invariant i (subst (λ log. i < length (items_of log)) (sym c.self.view_is) less))
+
+pub returns-then-bound-eq0-clause-small : goal.returns-then-bound-eq0-clause-small
+returns-then-bound-eq0-clause-small g c =
+    λ i less.
+    subst (λ log. mark log i < ABOVE_ALL) c.self.view_is
+    (marks_small c.self.inside.pieces.items c.self.inside.offsets.items c.self.inside.ends.items c.self.invariant i (subst (λ log. i < length (items_of log)) (sym c.self.view_is) less))

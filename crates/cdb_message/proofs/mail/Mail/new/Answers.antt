@@ -6,5 +6,5 @@ pub invariant_of-result : goal.invariant_of-result
 invariant_of-result c = (
   first_of (search rules, grind (arith, common_steps)),
   first_of (search rules, grind (arith, common_steps)),
-  first_of (search rules, grind (arith, common_steps)),
+  λ p s m from is. absurd (c.new-passed.ensures p s m from is),
 )

@@ -1,6 +1,6 @@
 use Rattle.std.proofs.Common.{rules, ap, ◌∙◌}
 use Rattle.cdb_message.specs.Mail.{MailState, copy_name, remove_loss}
-use Rattle.cdb_message.proofs.Closed.{below-remove_loss}
+use Rattle.cdb_message.proofs.Closed.{closed-remove_loss}
 use Rattle.cdb_message.proofs.TakenBack.{remove_loss-add_loss}
 use Rattle.cdb_message.proofs.mail.Mail.take_back_lose.Goals as goal
 
@@ -8,7 +8,7 @@ pub invariant_of-self : goal.invariant_of-self
 invariant_of-self c =
     let kept = c.self.invariant in
     let mail : MailState = record { sent = c.self.inside.sent.items; received = c.self.inside.received.items; lost = c.self.inside.lost } in
-    (kept.0, kept.1, rw c.remove.ensures (below-remove_loss c.self.inside.marks mail kept.2 c.lower.new.self c.args.p c.args.name.s c.args.name.m c.lower.ensures))
+    (kept.0, kept.1, rw c.remove.ensures (closed-remove_loss c.self.inside.passed mail kept.2 c.leave_out.new.self c.args.p c.args.name.s c.args.name.m c.leave_out.ensures))
 
 pub returns-clause-undoes : goal.returns-clause-undoes
 returns-clause-undoes c = λ mail fresh was.

@@ -4,7 +4,7 @@ use Rattle.std.specs.FinSet as finite
 use Rattle.std.proofs.lemmas.Grind.{common_steps}
 use Rattle.cdb_base.specs.Positions.{set_nth}
 use Rattle.cdb_message.specs.Mail.{MailState, received_by, remove_receive}
-use Rattle.cdb_message.proofs.Closed.{below-remove_receive}
+use Rattle.cdb_message.proofs.Closed.{closed-remove_receive}
 use Rattle.cdb_message.proofs.TakenBack.{remove_receive-add_receive}
 use Rattle.cdb_message.proofs.mail.Mail.take_back_recv.Goals as goal
 
@@ -16,7 +16,7 @@ invariant_of-self c =
     grind (arith, common_steps) in (
       search rules,
       kept.1,
-      rw set_by (below-remove_receive c.self.inside.marks mail kept.2 c.lower.new.self c.args.p c.args.name.s c.args.name.m c.lower.ensures),
+      rw set_by (closed-remove_receive c.self.inside.passed mail kept.2 c.leave_out.new.self c.args.p c.args.name.s c.args.name.m c.leave_out.ensures),
     )
 
 pub returns-clause-undoes : goal.returns-clause-undoes

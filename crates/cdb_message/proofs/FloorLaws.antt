@@ -1,12 +1,12 @@
--- How the marks change.
+-- How the floors change.
 use Rattle.std.proofs.Common.{◌≡◌, ◌≢◌, ℕ, zero, suc, ◌+◌, ◌<◌, Bool, true, false, ◌&&◌, List, [], ◌∷◌, Option, Some, length, get_or, set, arith, refl, ap, sym, ◌∙◌, eqb-true}
 use Rattle.std.specs.Prelude.{◌==◌, if◌then◌else◌, slice_get, unwrap_or}
 use Rattle.std.specs.Option.{option_map}
 use Rattle.std.proofs.lemmas.Bool.{eqb-false}
 use Rattle.std.proofs.lemmas.Option.{slice_get-get_or}
 use Rattle.cdb_base.specs.Positions.{nth}
-use Rattle.cdb_message.specs.declared.marks.Row.{Row}
-use Rattle.cdb_message.specs.Marks.{number_up_to, mark_of}
+use Rattle.cdb_message.specs.declared.floors.Row.{Row}
+use Rattle.cdb_message.specs.Floors.{number_up_to, floor_of}
 
 -- what stands at a position of a list in which one position was set
 slice_get-same : {A : Type 0} (xs : List A) (i : ℕ) (y : A) → i < length xs → slice_get (set xs i y) i ≡ Some y
@@ -42,6 +42,6 @@ module _ (rows : List Row) (i p s number : ℕ) (d row changed : Row) (at : i + 
       let other : j ≢ i = λ same. eqb-false (suc j) p e ((λ k. suc (same k)) ∙ sym position) in
       ap (λ found. numbers found t) (slice_get-other rows i j changed other)
 
-  pub mark_of-set : (q t : ℕ)
-      → mark_of (record { rows = after }) q t ≡ (if q == p && t == s then number else mark_of (record { rows = rows }) q t)
-  mark_of-set q t = there (q == p) q t refl
+  pub floor_of-set : (q t : ℕ)
+      → floor_of (record { rows = after }) q t ≡ (if q == p && t == s then number else floor_of (record { rows = rows }) q t)
+  floor_of-set q t = there (q == p) q t refl
