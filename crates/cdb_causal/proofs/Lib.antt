@@ -2,6 +2,7 @@
 pub mod Lists
 pub mod Symmetry
 pub mod Walks
+pub mod Searching
 pub mod Chains
 pub mod LeastSet
 pub mod Exchanges

@@ -52,11 +52,15 @@ fn rolled_back_events(alloc: Global, history: &History, i: usize) -> Result<Vec<
     let mut causes = Vec::new(alloc);
     append(&mut causes, *history.event(i))?;
     let count = history.len();
-    for j in i + 1..count {
+    let mut end = history.end_of_dependents(i);
+    let mut j = i + 1;
+    while j < count && j < end {
         let event = history.event(j);
         if depends_on_one(&causes, event) {
             append(&mut causes, *event)?;
+            end = end.max(history.end_of_dependents(j));
         }
+        j += 1;
     }
     Ok(causes)
 }
