@@ -14,6 +14,7 @@ pub mod Undone
 pub mod PastLaws
 -- direct causes and direct dependents
 pub mod Effects
+pub mod Flagging
 pub mod Counting
 pub mod Dependents
 pub mod DirectByList

@@ -1,0 +1,183 @@
+-- Whether an event depends on one of a list, by the flags of what these do.
+use Rattle.std.proofs.Common.{◌≡◌, ℕ, Bool, true, false, ◌&&◌, ◌||◌, nat_eq, List, [], ◌∷◌, Option, Some, None, IfSome, refl, sym, ap, ap₂, subst, ◌∙◌, true≢false, eqb-true, eq-eqb}
+use Rattle.std.specs.List.{list_any}
+use Rattle.std.proofs.lemmas.Bool.{or_from, or_parts}
+use Rattle.cdb_base.specs.Event.{is_step_of}
+use Rattle.cdb_base.specs.Registers.{same_register}
+use Rattle.cdb_base.specs.declared.event.Event.{Event}
+use Rattle.cdb_base.specs.declared.event.Event.TheVariants.{Step, Lost}
+use Rattle.cdb_base.specs.declared.event.Kind.{Kind}
+use Rattle.cdb_base.specs.declared.event.Kind.TheVariants.{Send, Recv, Read, Write}
+use Rattle.cdb_base.specs.declared.name.CopyName.{CopyName}
+use Rattle.cdb_base.specs.declared.register.Reg.{Reg}
+use Rattle.cdb_base.specs.declared.register.Reg.TheVariants.{R, Dec}
+use Rattle.cdb_causal.specs.Dependence.{sends, receives, accesses, same_process, loss_and_receive, depends}
+use Rattle.cdb_causal.specs.Effects.{affects}
+use Rattle.cdb_causal.specs.Flagged.{writes, does, loses}
+use Rattle.cdb_causal.specs.Rollback.{depends_on_one}
+use Rattle.cdb_causal.proofs.Effects.{by_effect}
+
+-- ---- tests of a list
+
+any_same : (test other : Event → Bool) (events : List Event) → ((e : Event) → test e ≡ other e) → list_any test events ≡ list_any other events
+any_same test other [] same = refl
+any_same test other (e ∷ es) same = ap₂ (λ a b. a || b) (same e) (any_same test other es same)
+
+regrouped : (a b c d : Bool) → ((a || b) || (c || d)) ≡ ((a || c) || (b || d))
+regrouped true b c d = refl
+regrouped false true true d = refl
+regrouped false true false d = refl
+regrouped false false c d = refl
+
+any_either : (test other : Event → Bool) (events : List Event) → list_any (λ e. test e || other e) events ≡ (list_any test events || list_any other events)
+any_either test other [] = refl
+any_either test other (e ∷ es) = ap (λ b. (test e || other e) || b) (any_either test other es) ∙ regrouped (test e) (other e) (list_any test es) (list_any other es)
+
+-- where none passes the wider test, none passes the narrower
+any_narrower : (narrow wide : Event → Bool) (events : List Event) → ((e : Event) → narrow e ≡ true → wide e ≡ true) → list_any wide events ≡ false → list_any narrow events ≡ false
+any_narrower narrow wide [] within none = refl
+any_narrower narrow wide (e ∷ es) within none =
+    let parts = or_parts (wide e) (list_any wide es) none in
+    or_from (narrow e) (list_any narrow es) (fails (narrow e) (wide e) (within e) parts.0) (any_narrower narrow wide es within parts.1)
+  where
+    fails : (a b : Bool) → (a ≡ true → b ≡ true) → b ≡ false → a ≡ false
+    fails true b h none = absurd (true≢false (sym (h refl) ∙ none))
+    fails false b h none = refl
+
+-- ---- on which events another one depends
+
+and_parts : (a b : Bool) → (a && b) ≡ true → (a ≡ true) × (b ≡ true)
+and_parts true b h = (refl, h)
+and_parts false b h = absurd (true≢false (sym h))
+
+no_and : (b : Bool) → (b && false) ≡ false
+no_and true = refl
+no_and false = refl
+
+or_none : (b : Bool) → (b || false) ≡ b
+or_none true = refl
+or_none false = refl
+
+same_register-turned : (x y : Reg) → same_register x y ≡ same_register y x
+same_register-turned (R p) (R q) = turned p q
+  where
+    turned : (p q : ℕ) → nat_eq p q ≡ nat_eq q p
+    turned p q =
+        elim (nat_eq p q) as (λ b. nat_eq p q ≡ b → b ≡ nat_eq q p) [
+          | true ↦ λ e. sym (eq-eqb q p (sym (eqb-true p q e)))
+          | false ↦ λ e. go (nat_eq q p) refl e
+        ] refl
+      where
+        go : (b : Bool) → nat_eq q p ≡ b → nat_eq p q ≡ false → false ≡ nat_eq q p
+        go true is e = absurd (true≢false (sym (eq-eqb p q (sym (eqb-true q p is))) ∙ e))
+        go false is e = sym is
+same_register-turned (R p) Dec = refl
+same_register-turned Dec (R q) = refl
+same_register-turned Dec Dec = refl
+
+either : (b : Bool) → (b || b) ≡ b
+either true = refl
+either false = refl
+
+by_read : (p k : ℕ) (x : Reg) (c : Event) → (affects c (Step p k (Read x)) || affects (Step p k (Read x)) c) ≡ does (λ q. writes x) c
+by_read p k x (Step q l (Write y)) = or_none (same_register y x) ∙ same_register-turned y x
+by_read p k x (Step q l _) = refl
+by_read p k x (Lost copy) = or_none _ ∙ no_and (nat_eq p copy.to)
+
+by_write : (p k : ℕ) (x : Reg) (c : Event) → (affects c (Step p k (Write x)) || affects (Step p k (Write x)) c) ≡ does (λ q. accesses x) c
+by_write p k x (Step q l (Write y)) = ap (λ b. b || same_register x y) (same_register-turned y x) ∙ either (same_register x y)
+by_write p k x (Step q l _) = refl
+by_write p k x (Lost copy) = or_none _ ∙ no_and (nat_eq p copy.to)
+
+by_send : (p k m : ℕ) (c : Event) → (affects c (Step p k (Send m)) || affects (Step p k (Send m)) c) ≡ (does (λ q. receives p m) c || loses p m c)
+by_send p k m (Step q l kind) = of_kind kind
+  where
+    of_kind : (kind : Kind) → (affects (Step q l kind) (Step p k (Send m)) || affects (Step p k (Send m)) (Step q l kind)) ≡ (receives p m kind || false)
+    of_kind (Recv s n) = sym (or_none _)
+    of_kind _ = refl
+by_send p k m (Lost copy) = ap (λ b. b || (nat_eq p copy.msg.s && nat_eq m copy.msg.m)) (no_and (nat_eq p copy.to))
+
+by_receive : (p k s m : ℕ) (c : Event) → (affects c (Step p k (Recv s m)) || affects (Step p k (Recv s m)) c) ≡ (does (sends s m) c || loss_and_receive c (Step p k (Recv s m)))
+by_receive p k s m (Step q l (Send n)) = refl
+by_receive p k s m (Step q l (Write y)) = refl
+by_receive p k s m (Step q l _) = refl
+by_receive p k s m (Lost copy) = or_none _
+
+by_loss : (copy : CopyName) (c : Event) → (affects c (Lost copy) || affects (Lost copy) c) ≡ (does (sends copy.msg.s copy.msg.m) c || loss_and_receive (Lost copy) c)
+by_loss copy (Step q l kind) = refl
+by_loss copy (Lost other) = refl
+
+first_settles : (a b : Bool) → (a ≡ false → b ≡ false) → a ≡ (a || b)
+first_settles true b h = refl
+first_settles false b h = sym (h refl)
+
+no_step : (c : Event) (copy : CopyName) → same_process c (Lost copy) ≡ false
+no_step (Step q l kind) copy = refl
+no_step (Lost other) copy = refl
+
+-- a copy received is one of its message
+found_lost : (p k s m : ℕ) (c : Event) → loss_and_receive c (Step p k (Recv s m)) ≡ true → loses s m c ≡ true
+found_lost p k s m (Step q l kind) h = absurd (true≢false (sym h))
+found_lost p k s m (Lost copy) h =
+    let both = and_parts (nat_eq p copy.to) _ h in
+    let parts = and_parts (nat_eq copy.msg.s s) (nat_eq copy.msg.m m) both.1 in
+    ap₂ (λ a b. a && b) (eq-eqb s copy.msg.s (sym (eqb-true copy.msg.s s parts.0))) (eq-eqb m copy.msg.m (sym (eqb-true copy.msg.m m parts.1)))
+
+lost_received : (copy : CopyName) (c : Event) → loss_and_receive (Lost copy) c ≡ true → does (λ q. receives copy.msg.s copy.msg.m) c ≡ true
+lost_received copy (Step q l kind) h = (and_parts (nat_eq q copy.to) _ h).1
+lost_received copy (Lost other) h = h
+
+-- ---- lists of which another event depends
+
+own_step : (p k : ℕ) (kind : Kind) (c : Event) → same_process c (Step p k kind) ≡ is_step_of p c
+own_step p k kind (Step q l other) = refl
+own_step p k kind (Lost copy) = refl
+
+-- a step depends on a step of its process, and else by what that does
+pub on_step : (p k : ℕ) (kind : Kind) (test : Event → Bool) (events : List Event) → ((c : Event) → (affects c (Step p k kind) || affects (Step p k kind) c) ≡ test c)
+    → depends_on_one depends events (Step p k kind) ≡ (list_any (is_step_of p) events || list_any test events)
+on_step p k kind test events same =
+    any_same (λ c. depends c (Step p k kind)) (λ c. is_step_of p c || test c) events (λ c. by_effect c (Step p k kind) ∙ ap₂ (λ a b. a || b) (own_step p k kind c) (same c))
+    ∙ any_either (is_step_of p) test events
+
+pub on_own : (p k : ℕ) (kind : Kind) (events : List Event) → list_any (is_step_of p) events ≡ true → true ≡ depends_on_one depends events (Step p k kind)
+on_own p k kind events own =
+    sym
+    (on_step p k kind (λ c. affects c (Step p k kind) || affects (Step p k kind) c) events (λ c. refl)
+    ∙ ap (λ b. b || list_any (λ c. affects c (Step p k kind) || affects (Step p k kind) c) events) own)
+
+-- of no own steps
+module _ (p k : ℕ) (events : List Event) (apart : list_any (is_step_of p) events ≡ false) where
+  on_other : (kind : Kind) (test : Event → Bool) → ((c : Event) → (affects c (Step p k kind) || affects (Step p k kind) c) ≡ test c)
+      → list_any test events ≡ depends_on_one depends events (Step p k kind)
+  on_other kind test same = sym (on_step p k kind test events same ∙ ap (λ b. b || list_any test events) apart)
+
+  pub on_read : (x : Reg) → list_any (does (λ q. writes x)) events ≡ depends_on_one depends events (Step p k (Read x))
+  on_read x = on_other (Read x) _ (by_read p k x)
+
+  pub on_write : (x : Reg) → list_any (does (λ q. accesses x)) events ≡ depends_on_one depends events (Step p k (Write x))
+  on_write x = on_other (Write x) _ (by_write p k x)
+
+  pub on_send : (m : ℕ) → (list_any (does (λ q. receives p m)) events || list_any (loses p m) events) ≡ depends_on_one depends events (Step p k (Send m))
+  on_send m = sym (any_either (does (λ q. receives p m)) (loses p m) events) ∙ on_other (Send m) _ (by_send p k m)
+
+  pub on_receive : (s m : ℕ) → (list_any (does (sends s m)) events ≡ false → list_any (loses s m) events ≡ false)
+      → list_any (does (sends s m)) events ≡ depends_on_one depends events (Step p k (Recv s m))
+  on_receive s m settled =
+      first_settles (list_any (does (sends s m)) events) _
+      (λ none. any_narrower (λ c. loss_and_receive c (Step p k (Recv s m))) (loses s m) events (found_lost p k s m) (settled none))
+      ∙ sym (any_either (does (sends s m)) (λ c. loss_and_receive c (Step p k (Recv s m))) events)
+      ∙ on_other (Recv s m) _ (by_receive p k s m)
+
+-- a loss depends on the send of its message, and on receives of its copy
+pub on_loss : (copy : CopyName) (events : List Event) → (list_any (does (sends copy.msg.s copy.msg.m)) events ≡ false → list_any (does (λ q. receives copy.msg.s copy.msg.m)) events ≡ false)
+    → list_any (does (sends copy.msg.s copy.msg.m)) events ≡ depends_on_one depends events (Lost copy)
+on_loss copy events settled =
+    first_settles (list_any (does (sends copy.msg.s copy.msg.m)) events) _
+    (λ none. any_narrower (loss_and_receive (Lost copy)) (does (λ q. receives copy.msg.s copy.msg.m)) events (lost_received copy) (settled none))
+    ∙ sym (any_either (does (sends copy.msg.s copy.msg.m)) (loss_and_receive (Lost copy)) events)
+    ∙ sym (any_same (λ c. depends c (Lost copy)) _ events (λ c. by_effect c (Lost copy) ∙ ap (λ b. b || (affects c (Lost copy) || affects (Lost copy) c)) (no_step c copy) ∙ by_loss copy c))
+
+pub if_some : {A : Type 0} (P Q : A → Type 0) (given : Option A) → ((a : A) → P a → Q a) → IfSome given P → IfSome given Q
+if_some P Q (Some a) f h = f a h
+if_some P Q None f h = tt

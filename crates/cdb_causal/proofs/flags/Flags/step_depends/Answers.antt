@@ -1,0 +1,36 @@
+use Rattle.std.proofs.Common.{◌≡◌, ℕ, ◌-◌, ◌≤◌, Bool, false, IfSome, sym, ap, ◌∙◌, arith}
+use Rattle.std.specs.List.{list_any}
+use Rattle.cdb_base.specs.Event.{is_step_of}
+use Rattle.cdb_base.specs.declared.event.Event.{Event}
+use Rattle.cdb_base.specs.declared.event.Event.TheVariants.{Step, Lost}
+use Rattle.cdb_base.specs.declared.event.Kind.{Kind}
+use Rattle.cdb_base.specs.declared.event.Kind.TheVariants.{Send, Recv, Read, Write}
+use Rattle.cdb_causal.specs.Dependence.{sends, receives, depends}
+use Rattle.cdb_causal.specs.Flagged.{flag_in, does, loses}
+use Rattle.cdb_causal.specs.Rollback.{depends_on_one}
+use Rattle.cdb_causal.proofs.Flagging.{on_own}
+use Rattle.cdb_causal.proofs.flags.Flags.step_depends.Goals as goal
+
+pub returns-then-is_set : goal.returns-then-is_set
+returns-then-is_set c = λ k events flagged.
+    let value = c.index.ensures.value in
+    let low = c.index.ensures.below_nine in
+    let p : ℕ = c.args.p in
+    let cell : c.index.result ≡ p - 1 = omega arith in
+    let one : 1 ≤ p = omega arith in
+    let nine : p ≤ 9 = omega arith in
+    let stepped = flagged.stepped p (one, nine) in
+    let is = c.is_set.ensures ∙ ap (flag_in c.args.self.now.stepped) cell ∙ stepped in
+    on_own p k c.args.kind events (sym is ∙ c.if-is_set.true)
+
+pub returns-else-is_set : goal.returns-else-is_set
+returns-else-is_set c = λ k events flagged.
+    let value = c.index.ensures.value in
+    let low = c.index.ensures.below_nine in
+    let p : ℕ = c.args.p in
+    let cell : c.index.result ≡ p - 1 = omega arith in
+    let one : 1 ≤ p = omega arith in
+    let nine : p ≤ 9 = omega arith in
+    let stepped = flagged.stepped p (one, nine) in
+    let is = c.is_set.ensures ∙ ap (flag_in c.args.self.now.stepped) cell ∙ stepped in
+    c.kind_depends.ensures events k flagged (sym is ∙ c.if-is_set.false)
