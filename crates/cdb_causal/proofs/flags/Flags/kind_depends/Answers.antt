@@ -1,12 +1,9 @@
-use Rattle.std.proofs.Common.{◌≡◌, ℕ, Bool, true, false, ◌||◌, List, IfSome, sym, ap, ap₂, subst, ◌∙◌}
+use Rattle.std.proofs.Common.{◌≡◌, ℕ, ◌||◌, IfSome, sym, ap, ap₂, subst, ◌∙◌}
 use Rattle.std.specs.List.{list_any}
-use Rattle.cdb_base.specs.Event.{is_step_of}
-use Rattle.cdb_base.specs.declared.event.Event.{Event}
-use Rattle.cdb_base.specs.declared.event.Event.TheVariants.{Step, Lost}
+use Rattle.cdb_base.specs.declared.event.Event.TheVariants.{Step}
 use Rattle.cdb_base.specs.declared.event.Kind.{Kind}
-use Rattle.cdb_base.specs.declared.event.Kind.TheVariants.{Send, Recv, Read, Write}
-use Rattle.cdb_causal.specs.Dependence.{sends, receives, depends}
-use Rattle.cdb_causal.specs.Flagged.{flag_in, does, loses}
+use Rattle.cdb_causal.specs.Dependence.{depends}
+use Rattle.cdb_causal.specs.Flagged.{flag_in, loses}
 use Rattle.cdb_causal.specs.Rollback.{depends_on_one}
 use Rattle.cdb_causal.proofs.Flagging.{on_send, on_receive, on_read, on_write, if_some}
 use Rattle.cdb_causal.proofs.flags.Flags.kind_depends.Goals as goal

@@ -1,13 +1,5 @@
-use Rattle.std.proofs.Common.{◌≡◌, ℕ, Bool, false, IfSome, sym, ap₂, ◌∙◌}
-use Rattle.std.specs.List.{list_any}
-use Rattle.cdb_base.specs.Event.{is_step_of}
-use Rattle.cdb_base.specs.declared.event.Event.{Event}
-use Rattle.cdb_base.specs.declared.event.Event.TheVariants.{Step, Lost}
-use Rattle.cdb_base.specs.declared.event.Kind.{Kind}
-use Rattle.cdb_base.specs.declared.event.Kind.TheVariants.{Send, Recv, Read, Write}
-use Rattle.cdb_causal.specs.Dependence.{sends, receives, depends}
-use Rattle.cdb_causal.specs.Flagged.{flag_in, does, loses}
-use Rattle.cdb_causal.specs.Rollback.{depends_on_one}
+use Rattle.std.proofs.Common.{sym, ap₂, ◌∙◌}
+use Rattle.cdb_causal.specs.Flagged.{flag_in}
 use Rattle.cdb_causal.proofs.Flagging.{on_loss, if_some}
 use Rattle.cdb_causal.proofs.flags.Flags.loss_depends.Goals as goal
 

@@ -1,7 +1,5 @@
-use Rattle.std.proofs.Common.{◌≡◌, ℕ, zero, suc, ◌-◌, false, List, [], replicate, refl, ap}
-use Rattle.cdb_base.specs.declared.register.Reg.{Reg}
-use Rattle.cdb_base.specs.declared.register.Reg.TheVariants.{R, Dec}
-use Rattle.cdb_causal.specs.Cells.{row, named_cell, IsProcess, IsRegister}
+use Rattle.std.proofs.Common.{◌≡◌, ℕ, zero, suc, ◌-◌, false, replicate, refl, ap}
+use Rattle.cdb_causal.specs.Cells.{row, named_cell}
 use Rattle.cdb_causal.specs.Flagged.{flag_in}
 use Rattle.cdb_causal.proofs.flags.Flags.new.Goals as goal
 
