@@ -1,7 +1,10 @@
 -- Whether an event depends on one of a list, by the flags of what these do.
-use Rattle.std.proofs.Common.{◌≡◌, ℕ, Bool, true, false, ◌&&◌, ◌||◌, nat_eq, List, [], ◌∷◌, Option, Some, None, IfSome, refl, sym, ap, ap₂, ◌∙◌, true≢false, eqb-true, eq-eqb}
+use Rattle.std.proofs.Common.{◌≡◌, ℕ, Bool, true, false, ◌&&◌, ◌||◌, nat_eq, List, [], ◌∷◌, Option, Some, None, IfSome, refl, sym, ap, ap₂, ◌∙◌, true≢false, eqb-true, eq-eqb, zero, suc, ◌+◌, ◌-◌, ◌++◌, take, drop, slice_get, add-one}
 use Rattle.std.specs.List.{list_any}
 use Rattle.std.proofs.lemmas.Bool.{or_from, or_parts}
+use Rattle.std.proofs.lemmas.List.{take-append-drop}
+use Rattle.std.proofs.lemmas.List.Folds.{list_any-append}
+use Rattle.std.proofs.lemmas.Option.{same_Some, none-some}
 use Rattle.cdb_base.specs.Event.{is_step_of}
 use Rattle.cdb_base.specs.Registers.{same_register}
 use Rattle.cdb_base.specs.declared.event.Event.{Event}
@@ -13,8 +16,10 @@ use Rattle.cdb_base.specs.declared.register.Reg.{Reg}
 use Rattle.cdb_base.specs.declared.register.Reg.TheVariants.{R, Dec}
 use Rattle.cdb_causal.specs.Dependence.{sends, receives, accesses, same_process, loss_and_receive, depends}
 use Rattle.cdb_causal.specs.Effects.{affects}
-use Rattle.cdb_causal.specs.Flagged.{writes, does, loses}
+use Rattle.cdb_causal.specs.Cells.{row, named_cell}
+use Rattle.cdb_causal.specs.Flagged.{flag_in, writes, does, loses, AreFlagged, HasSameFlags}
 use Rattle.cdb_causal.specs.Rollback.{depends_on_one}
+use Rattle.cdb_causal.specs.declared.flags.Flags.{Flags}
 use Rattle.cdb_causal.proofs.Effects.{by_effect}
 
 -- ---- tests of a list
@@ -107,6 +112,10 @@ by_loss : (copy : CopyName) (c : Event) → (affects c (Lost copy) || affects (L
 by_loss copy (Step q l kind) = refl
 by_loss copy (Lost other) = refl
 
+lost_for : (copy : CopyName) (c : Event) → loss_and_receive (Lost copy) c ≡ true → is_step_of copy.to c ≡ true
+lost_for copy (Step q l kind) h = (and_parts (nat_eq q copy.to) _ h).0
+lost_for copy (Lost other) h = h
+
 first_settles : (a b : Bool) → (a ≡ false → b ≡ false) → a ≡ (a || b)
 first_settles true b h = refl
 first_settles false b h = sym (h refl)
@@ -169,15 +178,41 @@ module _ (p k : ℕ) (events : List Event) (apart : list_any (is_step_of p) even
       ∙ sym (any_either (does (sends s m)) (λ c. loss_and_receive c (Step p k (Recv s m))) events)
       ∙ on_other (Recv s m) _ (by_receive p k s m)
 
+neither : (copy : CopyName) (events : List Event) → (list_any (does (λ q. receives copy.msg.s copy.msg.m)) events && list_any (is_step_of copy.to) events) ≡ false
+    → list_any (loss_and_receive (Lost copy)) events ≡ false
+neither copy events h = go (list_any (does (λ q. receives copy.msg.s copy.msg.m)) events) refl
+  where
+    go : (b : Bool) → list_any (does (λ q. receives copy.msg.s copy.msg.m)) events ≡ b → list_any (loss_and_receive (Lost copy)) events ≡ false
+    go true some = any_narrower (loss_and_receive (Lost copy)) (is_step_of copy.to) events (lost_for copy) (sym (ap (λ b. b && list_any (is_step_of copy.to) events) some) ∙ h)
+    go false none = any_narrower (loss_and_receive (Lost copy)) (does (λ q. receives copy.msg.s copy.msg.m)) events (lost_received copy) none
+
 -- a loss depends on the send of its message, and on receives of its copy
-pub on_loss : (copy : CopyName) (events : List Event) → (list_any (does (sends copy.msg.s copy.msg.m)) events ≡ false → list_any (does (λ q. receives copy.msg.s copy.msg.m)) events ≡ false)
+pub on_loss : (copy : CopyName) (events : List Event) → (list_any (does (sends copy.msg.s copy.msg.m)) events ≡ false → (list_any (does (λ q. receives copy.msg.s copy.msg.m)) events && list_any (is_step_of copy.to) events) ≡ false)
     → list_any (does (sends copy.msg.s copy.msg.m)) events ≡ depends_on_one depends events (Lost copy)
 on_loss copy events settled =
     first_settles (list_any (does (sends copy.msg.s copy.msg.m)) events) _
-    (λ none. any_narrower (loss_and_receive (Lost copy)) (does (λ q. receives copy.msg.s copy.msg.m)) events (lost_received copy) (settled none))
+    (λ none. neither copy events (settled none))
     ∙ sym (any_either (does (sends copy.msg.s copy.msg.m)) (loss_and_receive (Lost copy)) events)
     ∙ sym (any_same (λ c. depends c (Lost copy)) _ events (λ c. by_effect c (Lost copy) ∙ ap (λ b. b || (affects c (Lost copy) || affects (Lost copy) c)) (no_step c copy) ∙ by_loss copy c))
 
 pub if_some : {A : Type 0} (P Q : A → Type 0) (given : Option A) → ((a : A) → P a → Q a) → IfSome given P → IfSome given Q
 if_some P Q (Some a) f h = f a h
 if_some P Q None f h = tt
+
+-- ---- lists of which the first events are flagged
+
+pub on_parts : (events : List Event) (count : ℕ) (event : Event) → (depends_on_one depends (take count events) event || depends_on_one depends (drop count events) event) ≡ depends_on_one depends events event
+on_parts events count event =
+    sym (list_any-append (λ c. depends c event) (take count events) (drop count events))
+    ∙ ap (λ l. depends_on_one depends l event) (take-append-drop count events)
+
+pub flagged_same : (old new : Flags) (events : List Event) → HasSameFlags old new → AreFlagged old events → AreFlagged new events
+flagged_same old new events same flagged =
+    record {
+      stepped = λ p h. ap (λ l. flag_in l (p - 1)) same.stepped ∙ flagged.stepped p h;
+      written = λ x h. ap (λ l. flag_in l (row x)) same.written ∙ flagged.written x h;
+      accessed = λ x h. ap (λ l. flag_in l (row x)) same.accessed ∙ flagged.accessed x h;
+      sent = λ s m h. same.sent (named_cell s m) ∙ flagged.sent s m h;
+      received = λ s m h. same.received (named_cell s m) ∙ flagged.received s m h;
+      lost = λ s m h. same.lost (named_cell s m) ∙ flagged.lost s m h;
+    }

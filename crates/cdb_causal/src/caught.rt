@@ -11,15 +11,20 @@ use cdb_base::{Event, NoMemory};
 use std::alloc::Global;
 use std::marker::Model;
 
+/// As long as there are fewer events, none is flagged: flags take memory for all messages up to the highest.
+const FEW: usize = 32;
+
 /// The events found, in order, with flags of what they do. A contract sees their list.
 #[derive(Drop)]
 pub(crate) struct Caught {
     events: Vec<Event>,
+    /// Of the first events, as many as `flagged` says.
     flags: Flags,
+    flagged: usize,
 }
 
 impl Model for Caught {
-    ghost use Rattle.std.specs.Prelude.{List};
+    ghost use Rattle.std.specs.Prelude.{List, ◌≤◌, length, take};
     ghost use Rattle.cdb_base.specs.declared.event.Event.{Event};
     ghost use Rattle.cdb_causal.specs.Flagged.{AreFlagged};
 
@@ -27,7 +32,7 @@ impl Model for Caught {
 
     ghost view = { λ c. c.events.items };
 
-    ghost invariant = { λ c. AreFlagged c.flags c.events.items };
+    ghost invariant = { λ c. (c.flagged ≤ length c.events.items) × AreFlagged c.flags (take c.flagged c.events.items) };
 }
 
 /// Whether the event depends on one of the causes.
@@ -45,17 +50,33 @@ impl Caught {
         Caught {
             events: Vec::new(alloc),
             flags: Flags::new(alloc),
+            flagged: 0,
         }
     }
 
-    /// Whether the event depends on one of those found. Where the flags leave that open, each is asked.
+    /// Whether the event depends on one of those found. Each is asked that is not flagged, and all where the flags leave it open.
     pub(crate) fn has_cause_of(&self, event: &Event) -> bool
         ensures { result ≡ depends_on_one_of depends_of self.now event.now }
     {
         match self.flags.depends(event) {
-            Some(answer) => answer,
+            Some(answer) => answer || depends_on_one(&self.events[self.flagged..], event),
             None => depends_on_one(&self.events, event),
         }
+    }
+
+    /// Flags the first event that is not flagged, where there are more than few. Called twice for each event that is added, it
+    /// leaves none but the last.
+    fn flag_next(&mut self) -> Result<(), NoMemory>
+        ensures { self.new ≡ self.old }
+    {
+        if self.events.len() < FEW || self.flagged == self.events.len() {
+            return Ok(());
+        }
+        let event = self.events[self.flagged];
+        self.flags.reserve(&event)?;
+        self.flags.note(&event);
+        self.flagged += 1;
+        Ok(())
     }
 
     /// Adds an event at the end. Without memory nothing is added.
@@ -63,11 +84,9 @@ impl Caught {
         ensures ok { OnOk result (self.new ≡ self.old ++ event ∷ []) }
         ensures err { OnErr result (self.new ≡ self.old) }
     {
-        self.flags.reserve(&event)?;
-        let added = event;
-        append(&mut self.events, added)?;
-        self.flags.note(&event);
-        Ok(())
+        self.flag_next()?;
+        self.flag_next()?;
+        append(&mut self.events, event)
     }
 
     /// The events, in order.

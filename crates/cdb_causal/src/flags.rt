@@ -171,7 +171,9 @@ impl Flags {
         ensures { IsAnswer self.now (Lost copy.now) result }
     {
         let cell = named_cell(copy.msg.s, copy.msg.m);
-        answer(is_set(&self.sent, cell), is_set(&self.received, cell))
+        let received = is_set(&self.received, cell);
+        let stepped = is_set(&self.stepped, copy.to.index());
+        answer(is_set(&self.sent, cell), received && stepped)
     }
 
     /// Whether the event depends on one of the events, where the flags answer that: not where a copy was received or lost
