@@ -16,8 +16,8 @@ use Rattle.cdb_base.specs.declared.register.Reg.{Reg}
 use Rattle.cdb_base.specs.declared.register.Reg.TheVariants.{R, Dec}
 use Rattle.cdb_causal.specs.Dependence.{sends, receives, accesses, same_process, loss_and_receive, depends}
 use Rattle.cdb_causal.specs.Effects.{affects}
-use Rattle.cdb_causal.specs.Cells.{row, named_cell}
-use Rattle.cdb_causal.specs.Flagged.{flag_in, writes, does, loses, AreFlagged, HasSameFlags}
+use Rattle.cdb_causal.specs.Cells.{row, named_cell, named_copy_cell}
+use Rattle.cdb_causal.specs.Flagged.{flag_in, writes, does, loses, takes, AreFlagged, HasSameFlags}
 use Rattle.cdb_causal.specs.Rollback.{depends_on_one}
 use Rattle.cdb_causal.specs.declared.flags.Flags.{Flags}
 use Rattle.cdb_causal.proofs.Effects.{by_effect}
@@ -108,13 +108,9 @@ by_receive p k s m (Step q l (Write y)) = refl
 by_receive p k s m (Step q l _) = refl
 by_receive p k s m (Lost copy) = or_none _
 
-by_loss : (copy : CopyName) (c : Event) → (affects c (Lost copy) || affects (Lost copy) c) ≡ (does (sends copy.msg.s copy.msg.m) c || loss_and_receive (Lost copy) c)
+by_loss : (copy : CopyName) (c : Event) → (affects c (Lost copy) || affects (Lost copy) c) ≡ (does (sends copy.msg.s copy.msg.m) c || takes copy.msg.s copy.msg.m copy.to c)
 by_loss copy (Step q l kind) = refl
 by_loss copy (Lost other) = refl
-
-lost_for : (copy : CopyName) (c : Event) → loss_and_receive (Lost copy) c ≡ true → is_step_of copy.to c ≡ true
-lost_for copy (Step q l kind) h = (and_parts (nat_eq q copy.to) _ h).0
-lost_for copy (Lost other) h = h
 
 first_settles : (a b : Bool) → (a ≡ false → b ≡ false) → a ≡ (a || b)
 first_settles true b h = refl
@@ -124,17 +120,13 @@ no_step : (c : Event) (copy : CopyName) → same_process c (Lost copy) ≡ false
 no_step (Step q l kind) copy = refl
 no_step (Lost other) copy = refl
 
--- a copy received is one of its message
+-- where a copy is lost, one of its message is
 found_lost : (p k s m : ℕ) (c : Event) → loss_and_receive c (Step p k (Recv s m)) ≡ true → loses s m c ≡ true
 found_lost p k s m (Step q l kind) h = absurd (true≢false (sym h))
 found_lost p k s m (Lost copy) h =
     let both = and_parts (nat_eq p copy.to) _ h in
     let parts = and_parts (nat_eq copy.msg.s s) (nat_eq copy.msg.m m) both.1 in
     ap₂ (λ a b. a && b) (eq-eqb s copy.msg.s (sym (eqb-true copy.msg.s s parts.0))) (eq-eqb m copy.msg.m (sym (eqb-true copy.msg.m m parts.1)))
-
-lost_received : (copy : CopyName) (c : Event) → loss_and_receive (Lost copy) c ≡ true → does (λ q. receives copy.msg.s copy.msg.m) c ≡ true
-lost_received copy (Step q l kind) h = (and_parts (nat_eq q copy.to) _ h).1
-lost_received copy (Lost other) h = h
 
 -- ---- lists of which another event depends
 
@@ -178,21 +170,10 @@ module _ (p k : ℕ) (events : List Event) (apart : list_any (is_step_of p) even
       ∙ sym (any_either (does (sends s m)) (λ c. loss_and_receive c (Step p k (Recv s m))) events)
       ∙ on_other (Recv s m) _ (by_receive p k s m)
 
-neither : (copy : CopyName) (events : List Event) → (list_any (does (λ q. receives copy.msg.s copy.msg.m)) events && list_any (is_step_of copy.to) events) ≡ false
-    → list_any (loss_and_receive (Lost copy)) events ≡ false
-neither copy events h = go (list_any (does (λ q. receives copy.msg.s copy.msg.m)) events) refl
-  where
-    go : (b : Bool) → list_any (does (λ q. receives copy.msg.s copy.msg.m)) events ≡ b → list_any (loss_and_receive (Lost copy)) events ≡ false
-    go true some = any_narrower (loss_and_receive (Lost copy)) (is_step_of copy.to) events (lost_for copy) (sym (ap (λ b. b && list_any (is_step_of copy.to) events) some) ∙ h)
-    go false none = any_narrower (loss_and_receive (Lost copy)) (does (λ q. receives copy.msg.s copy.msg.m)) events (lost_received copy) none
-
 -- a loss depends on the send of its message, and on receives of its copy
-pub on_loss : (copy : CopyName) (events : List Event) → (list_any (does (sends copy.msg.s copy.msg.m)) events ≡ false → (list_any (does (λ q. receives copy.msg.s copy.msg.m)) events && list_any (is_step_of copy.to) events) ≡ false)
-    → list_any (does (sends copy.msg.s copy.msg.m)) events ≡ depends_on_one depends events (Lost copy)
-on_loss copy events settled =
-    first_settles (list_any (does (sends copy.msg.s copy.msg.m)) events) _
-    (λ none. neither copy events (settled none))
-    ∙ sym (any_either (does (sends copy.msg.s copy.msg.m)) (loss_and_receive (Lost copy)) events)
+pub on_loss : (copy : CopyName) (events : List Event) → (list_any (does (sends copy.msg.s copy.msg.m)) events || list_any (takes copy.msg.s copy.msg.m copy.to) events) ≡ depends_on_one depends events (Lost copy)
+on_loss copy events =
+    sym (any_either (does (sends copy.msg.s copy.msg.m)) (takes copy.msg.s copy.msg.m copy.to) events)
     ∙ sym (any_same (λ c. depends c (Lost copy)) _ events (λ c. by_effect c (Lost copy) ∙ ap (λ b. b || (affects c (Lost copy) || affects (Lost copy) c)) (no_step c copy) ∙ by_loss copy c))
 
 pub if_some : {A : Type 0} (P Q : A → Type 0) (given : Option A) → ((a : A) → P a → Q a) → IfSome given P → IfSome given Q
@@ -215,4 +196,5 @@ flagged_same old new events same flagged =
       sent = λ s m h. same.sent (named_cell s m) ∙ flagged.sent s m h;
       received = λ s m h. same.received (named_cell s m) ∙ flagged.received s m h;
       lost = λ s m h. same.lost (named_cell s m) ∙ flagged.lost s m h;
+      copies = λ s m q h k. same.copies (named_copy_cell s m (q - 1)) ∙ flagged.copies s m q h k;
     }

@@ -8,7 +8,7 @@ use Rattle.cdb_base.specs.declared.event.Event.TheVariants.{Step, Lost}
 use Rattle.cdb_base.specs.declared.event.Kind.{Kind}
 use Rattle.cdb_base.specs.declared.event.Kind.TheVariants.{Send, Recv, Write}
 use Rattle.cdb_base.specs.declared.register.Reg.{Reg}
-use Rattle.cdb_causal.specs.Cells.{row, named_cell, IsProcess, IsRegister}
+use Rattle.cdb_causal.specs.Cells.{row, named_cell, named_copy_cell, IsProcess, IsRegister}
 use Rattle.cdb_causal.specs.Dependence.{sends, receives, accesses, depends}
 use Rattle.cdb_causal.specs.Rollback.{depends_on_one}
 use Rattle.cdb_causal.specs.declared.flags.Flags.{Flags}
@@ -36,6 +36,10 @@ abbrev pub loses : ℕ → ℕ → Event → Bool
 loses s m (Step p k kind) = false
 loses s m (Lost copy) = nat_eq s copy.msg.s && nat_eq m copy.msg.m
 
+-- whether the event receives the copy of that message for process q
+abbrev pub takes : ℕ → ℕ → ℕ → Event → Bool
+takes s m q = does (λ p kind. nat_eq p q && receives s m kind)
+
 -- each flag says whether one of the events does what the flag is of
 pub record AreFlagged (flags : Flags) (events : List Event) : Type 0 where
   pub stepped : (p : ℕ) → IsProcess p → flag_in flags.stepped (p - 1) ≡ list_any (is_step_of p) events
@@ -44,6 +48,7 @@ pub record AreFlagged (flags : Flags) (events : List Event) : Type 0 where
   pub sent : (s m : ℕ) → IsProcess s → flag_in flags.sent.items (named_cell s m) ≡ list_any (does (sends s m)) events
   pub received : (s m : ℕ) → IsProcess s → flag_in flags.received.items (named_cell s m) ≡ list_any (does (λ p. receives s m)) events
   pub lost : (s m : ℕ) → IsProcess s → flag_in flags.lost.items (named_cell s m) ≡ list_any (loses s m) events
+  pub copies : (s m q : ℕ) → IsProcess s → IsProcess q → flag_in flags.copies.items (named_copy_cell s m (q - 1)) ≡ list_any (takes s m q) events
 
 -- an answer, if there is one, says whether the event depends on one of the events that are flagged
 abbrev pub IsAnswer : Flags → Event → Option Bool → Type 0
@@ -58,7 +63,7 @@ IsKindAnswer flags p kind answer =
 -- the tables that grow have a cell for what a step of process p of that kind does
 abbrev pub HasFlagForKind : Flags → ℕ → Kind → Type 0
 HasFlagForKind flags p (Send m) = named_cell p m < vec_len flags.sent
-HasFlagForKind flags p (Recv s m) = named_cell s m < vec_len flags.received
+HasFlagForKind flags p (Recv s m) = (named_cell s m < vec_len flags.received) × (named_copy_cell s m (p - 1) < vec_len flags.copies)
 HasFlagForKind flags p _ = ⊤
 
 -- and for the event
@@ -74,14 +79,20 @@ pub record HasSameFlags (old new : Flags) : Type 0 where
   pub sent : (n : ℕ) → flag_in new.sent.items n ≡ flag_in old.sent.items n
   pub received : (n : ℕ) → flag_in new.received.items n ≡ flag_in old.received.items n
   pub lost : (n : ℕ) → flag_in new.lost.items n ≡ flag_in old.lost.items n
+  pub copies : (n : ℕ) → flag_in new.copies.items n ≡ flag_in old.copies.items n
 
--- the flags of registers, or of messages, that pass the test are set now, and all others are as they were
+-- the flags of registers, of messages, or of copies, that pass the test are set now, and all others are as they were
 abbrev pub AddsRegisters : List Bool → List Bool → (Reg → Bool) → Type 0
 AddsRegisters old new test = (x : Reg) → IsRegister x → flag_in new (row x) ≡ (test x || flag_in old (row x))
 
 abbrev pub AddsMessages : List Bool → List Bool → (ℕ → ℕ → Bool) → Type 0
 AddsMessages old new test =
     (s m : ℕ) → IsProcess s → flag_in new (named_cell s m) ≡ (test s m || flag_in old (named_cell s m))
+
+abbrev pub AddsCopies : List Bool → List Bool → (ℕ → ℕ → ℕ → Bool) → Type 0
+AddsCopies old new test =
+    (s m q : ℕ) → IsProcess s → IsProcess q
+    → flag_in new (named_copy_cell s m (q - 1)) ≡ (test s m q || flag_in old (named_copy_cell s m (q - 1)))
 
 -- what a step of process p of that kind does is flagged, but whose step it is
 pub record IsKindNoted (old new : Flags) (p : ℕ) (kind : Kind) : Type 0 where
@@ -91,3 +102,4 @@ pub record IsKindNoted (old new : Flags) (p : ℕ) (kind : Kind) : Type 0 where
   pub sent : AddsMessages old.sent.items new.sent.items (λ s m. sends s m p kind)
   pub received : AddsMessages old.received.items new.received.items (λ s m. receives s m kind)
   pub lost : new.lost ≡ old.lost
+  pub copies : AddsCopies old.copies.items new.copies.items (λ s m q. nat_eq p q && receives s m kind)

@@ -78,10 +78,11 @@ pub(crate) fn named_cell(p: Proc, k: u16) -> usize
 }
 
 /// The cell of a copy, for the process of a slot, of the m-th message of process s.
-fn copy_cell(s: Proc, m: u16, slot: usize) -> usize
+pub(crate) fn copy_cell(s: Proc, m: u16, slot: usize) -> usize
     requires { slot < 9 }
     ensures value { result ≡ named_copy_cell s m slot }
     ensures small { result < copy_cells }
+    ensures process { IsProcess s }
 {
     named_cell(s, m) * 9 + slot
 }

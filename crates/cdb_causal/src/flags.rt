@@ -1,14 +1,14 @@
 //! Flags that say what the events of a list do: whose steps they are, and what they send, receive, lose, read and
-//! write. They answer at once whether another event depends on one of the list, but for a copy of which the
-//! message alone is known.
+//! write. They answer at once whether another event depends on one of the list, but for a receive of a message of
+//! which some copy was lost.
 
-ghost use Rattle.std.specs.Prelude.{◌≡◌, ℕ, ◌<◌, ◌≤◌, List, [], ◌∷◌, ◌++◌, false, vec_len, OnOk, IfSome};
+ghost use Rattle.std.specs.Prelude.{◌≡◌, ℕ, ◌<◌, ◌≤◌, List, [], ◌∷◌, ◌++◌, false, vec_len, Some, OnOk, IfSome};
 ghost use Rattle.cdb_base.specs.declared.event.Event.{Event as AnEvent};
 ghost use Rattle.cdb_base.specs.declared.event.Event.TheVariants.{Step, Lost};
-ghost use Rattle.cdb_causal.specs.Cells.{named_cells};
+ghost use Rattle.cdb_causal.specs.Cells.{copy_cells};
 ghost use Rattle.cdb_causal.specs.Flagged.{flag_in, SetsFlag};
 
-use crate::bounds::{named_cell, register_row};
+use crate::bounds::{copy_cell, named_cell, register_row};
 use cdb_base::{CopyName, Event, Kind, NoMemory, Proc};
 use std::alloc::Global;
 
@@ -27,6 +27,8 @@ pub(crate) struct Flags {
     received: Vec<bool>,
     /// In the same way: the loss of a copy of it.
     lost: Vec<bool>,
+    /// By copy: a receive of it.
+    copies: Vec<bool>,
 }
 
 /// Whether the flag in a cell is set; beyond the end of the table none is.
@@ -38,7 +40,7 @@ fn is_set(flags: &[bool], cell: usize) -> bool
 
 /// Makes room for a cell. The new flags are not set.
 fn grow(flags: &mut Vec<bool>, cell: usize) -> Result<(), NoMemory>
-    requires { cell < named_cells }
+    requires { cell < copy_cells }
     ensures others { (n : ℕ) → flag_in flags.new.items n ≡ flag_in flags.old.items n }
     ensures room { OnOk result (cell < vec_len flags.new) }
 {
@@ -78,6 +80,7 @@ impl Flags {
             sent: Vec::new(alloc),
             received: Vec::new(alloc),
             lost: Vec::new(alloc),
+            copies: Vec::new(alloc),
         }
     }
 
@@ -88,7 +91,10 @@ impl Flags {
     {
         match kind {
             Kind::Send(m) => grow(&mut self.sent, named_cell(p, m)),
-            Kind::Recv(s, m) => grow(&mut self.received, named_cell(s, m)),
+            Kind::Recv(s, m) => {
+                grow(&mut self.received, named_cell(s, m))?;
+                grow(&mut self.copies, copy_cell(s, m, p.index()))
+            }
             _ => Ok(()),
         }
     }
@@ -111,7 +117,10 @@ impl Flags {
     {
         match kind {
             Kind::Send(m) => set(&mut self.sent, named_cell(p, m)),
-            Kind::Recv(s, m) => set(&mut self.received, named_cell(s, m)),
+            Kind::Recv(s, m) => {
+                set(&mut self.received, named_cell(s, m));
+                set(&mut self.copies, copy_cell(s, m, p.index()));
+            }
             Kind::Read(register) => self.accessed[register_row(register)] = true,
             Kind::Write(register) => {
                 let row = register_row(register);
@@ -167,23 +176,22 @@ impl Flags {
     }
 
     /// Whether the loss of the copy depends on one of the events.
-    fn loss_depends(&self, copy: &CopyName) -> Option<bool>
-        ensures { IsAnswer self.now (Lost copy.now) result }
+    fn loss_depends(&self, copy: &CopyName) -> bool
+        ensures { IsAnswer self.now (Lost copy.now) (Some result) }
     {
-        let cell = named_cell(copy.msg.s, copy.msg.m);
-        let received = is_set(&self.received, cell);
-        let stepped = is_set(&self.stepped, copy.to.index());
-        answer(is_set(&self.sent, cell), received && stepped)
+        let message = named_cell(copy.msg.s, copy.msg.m);
+        let received = copy_cell(copy.msg.s, copy.msg.m, copy.to.index());
+        is_set(&self.sent, message) || is_set(&self.copies, received)
     }
 
-    /// Whether the event depends on one of the events, where the flags answer that: not where a copy was received or lost
-    /// of the message that the event loses or receives, and its send is not among the events.
+    /// Whether the event depends on one of the events, where the flags answer that: not where it receives a message of which
+    /// one of the events is the loss of a copy, and none the send.
     pub(crate) fn depends(&self, event: &Event) -> Option<bool>
         ensures { IsAnswer self.now event.now result }
     {
         match event {
             Event::Step { p, kind, .. } => self.step_depends(*p, *kind),
-            Event::Lost(copy) => self.loss_depends(copy),
+            Event::Lost(copy) => Some(self.loss_depends(copy)),
         }
     }
 }

@@ -1,5 +1,5 @@
 use Rattle.std.proofs.Common.{◌≡◌, ℕ, zero, suc, ◌-◌, false, replicate, refl, ap}
-use Rattle.cdb_causal.specs.Cells.{row, named_cell}
+use Rattle.cdb_causal.specs.Cells.{row, named_cell, named_copy_cell}
 use Rattle.cdb_causal.specs.Flagged.{flag_in}
 use Rattle.cdb_causal.proofs.flags.Flags.new.Goals as goal
 
@@ -12,6 +12,7 @@ returns c =
       sent = λ s m h. ap (λ l. flag_in l (named_cell s m)) c.new.ensures.items;
       received = λ s m h. ap (λ l. flag_in l (named_cell s m)) c.new-2.ensures.items;
       lost = λ s m h. ap (λ l. flag_in l (named_cell s m)) c.new-3.ensures.items;
+      copies = λ s m q h k. ap (λ l. flag_in l (named_copy_cell s m (q - 1))) c.new-4.ensures.items;
     }
   where
     none : (count n : ℕ) → flag_in (replicate count false) n ≡ false
