@@ -1,5 +1,5 @@
 -- Whether an event depends on one of a list, by the flags of what these do.
-use Rattle.std.proofs.Common.{◌≡◌, ℕ, Bool, true, false, ◌&&◌, ◌||◌, nat_eq, List, [], ◌∷◌, Option, Some, None, IfSome, refl, sym, ap, ap₂, ◌∙◌, true≢false, eqb-true, eq-eqb, zero, suc, ◌+◌, ◌-◌, ◌++◌, take, drop, slice_get, add-one}
+use Rattle.std.proofs.Common.{◌≡◌, ℕ, Bool, true, false, ◌&&◌, ◌||◌, nat_eq, List, [], ◌∷◌, Some, refl, sym, ap, ap₂, ◌∙◌, true≢false, eqb-true, eq-eqb, zero, suc, ◌+◌, ◌-◌, ◌++◌, take, drop, slice_get, add-one}
 use Rattle.std.specs.List.{list_any}
 use Rattle.std.proofs.lemmas.Bool.{or_from, or_parts}
 use Rattle.std.proofs.lemmas.List.{take-append-drop}
@@ -17,7 +17,7 @@ use Rattle.cdb_base.specs.declared.register.Reg.TheVariants.{R, Dec}
 use Rattle.cdb_causal.specs.Dependence.{sends, receives, accesses, same_process, loss_and_receive, depends}
 use Rattle.cdb_causal.specs.Effects.{affects}
 use Rattle.cdb_causal.specs.Cells.{row, named_cell, named_copy_cell}
-use Rattle.cdb_causal.specs.Flagged.{flag_in, writes, does, loses, takes, AreFlagged, HasSameFlags}
+use Rattle.cdb_causal.specs.Flagged.{flag_in, writes, does, loses, loses_copy, takes, AreFlagged, HasSameFlags}
 use Rattle.cdb_causal.specs.Rollback.{depends_on_one}
 use Rattle.cdb_causal.specs.declared.flags.Flags.{Flags}
 use Rattle.cdb_causal.proofs.Effects.{by_effect}
@@ -38,22 +38,7 @@ any_either : (test other : Event → Bool) (events : List Event) → list_any (�
 any_either test other [] = refl
 any_either test other (e ∷ es) = ap (λ b. (test e || other e) || b) (any_either test other es) ∙ regrouped (test e) (other e) (list_any test es) (list_any other es)
 
--- where none passes the wider test, none passes the narrower
-any_narrower : (narrow wide : Event → Bool) (events : List Event) → ((e : Event) → narrow e ≡ true → wide e ≡ true) → list_any wide events ≡ false → list_any narrow events ≡ false
-any_narrower narrow wide [] within none = refl
-any_narrower narrow wide (e ∷ es) within none =
-    let parts = or_parts (wide e) (list_any wide es) none in
-    or_from (narrow e) (list_any narrow es) (fails (narrow e) (wide e) (within e) parts.0) (any_narrower narrow wide es within parts.1)
-  where
-    fails : (a b : Bool) → (a ≡ true → b ≡ true) → b ≡ false → a ≡ false
-    fails true b h none = absurd (true≢false (sym (h refl) ∙ none))
-    fails false b h none = refl
-
 -- ---- on which events another one depends
-
-and_parts : (a b : Bool) → (a && b) ≡ true → (a ≡ true) × (b ≡ true)
-and_parts true b h = (refl, h)
-and_parts false b h = absurd (true≢false (sym h))
 
 no_and : (b : Bool) → (b && false) ≡ false
 no_and true = refl
@@ -63,19 +48,19 @@ or_none : (b : Bool) → (b || false) ≡ b
 or_none true = refl
 or_none false = refl
 
-same_register-turned : (x y : Reg) → same_register x y ≡ same_register y x
-same_register-turned (R p) (R q) = turned p q
+same_number : (p q : ℕ) → nat_eq p q ≡ nat_eq q p
+same_number p q =
+    elim (nat_eq p q) as (λ b. nat_eq p q ≡ b → b ≡ nat_eq q p) [
+      | true ↦ λ e. sym (eq-eqb q p (sym (eqb-true p q e)))
+      | false ↦ λ e. go (nat_eq q p) refl e
+    ] refl
   where
-    turned : (p q : ℕ) → nat_eq p q ≡ nat_eq q p
-    turned p q =
-        elim (nat_eq p q) as (λ b. nat_eq p q ≡ b → b ≡ nat_eq q p) [
-          | true ↦ λ e. sym (eq-eqb q p (sym (eqb-true p q e)))
-          | false ↦ λ e. go (nat_eq q p) refl e
-        ] refl
-      where
-        go : (b : Bool) → nat_eq q p ≡ b → nat_eq p q ≡ false → false ≡ nat_eq q p
-        go true is e = absurd (true≢false (sym (eq-eqb p q (sym (eqb-true q p is))) ∙ e))
-        go false is e = sym is
+    go : (b : Bool) → nat_eq q p ≡ b → nat_eq p q ≡ false → false ≡ nat_eq q p
+    go true is e = absurd (true≢false (sym (eq-eqb p q (sym (eqb-true q p is))) ∙ e))
+    go false is e = sym is
+
+same_register-turned : (x y : Reg) → same_register x y ≡ same_register y x
+same_register-turned (R p) (R q) = same_number p q
 same_register-turned (R p) Dec = refl
 same_register-turned Dec (R q) = refl
 same_register-turned Dec Dec = refl
@@ -102,31 +87,19 @@ by_send p k m (Step q l kind) = of_kind kind
     of_kind _ = refl
 by_send p k m (Lost copy) = ap (λ b. b || (nat_eq p copy.msg.s && nat_eq m copy.msg.m)) (no_and (nat_eq p copy.to))
 
-by_receive : (p k s m : ℕ) (c : Event) → (affects c (Step p k (Recv s m)) || affects (Step p k (Recv s m)) c) ≡ (does (sends s m) c || loss_and_receive c (Step p k (Recv s m)))
+by_receive : (p k s m : ℕ) (c : Event) → (affects c (Step p k (Recv s m)) || affects (Step p k (Recv s m)) c) ≡ (does (sends s m) c || loses_copy s m p c)
 by_receive p k s m (Step q l (Send n)) = refl
 by_receive p k s m (Step q l (Write y)) = refl
 by_receive p k s m (Step q l _) = refl
-by_receive p k s m (Lost copy) = or_none _
+by_receive p k s m (Lost copy) = or_none _ ∙ ap (λ b. nat_eq p copy.to && b) (ap₂ (λ a b. a && b) (same_number copy.msg.s s) (same_number copy.msg.m m))
 
 by_loss : (copy : CopyName) (c : Event) → (affects c (Lost copy) || affects (Lost copy) c) ≡ (does (sends copy.msg.s copy.msg.m) c || takes copy.msg.s copy.msg.m copy.to c)
 by_loss copy (Step q l kind) = refl
 by_loss copy (Lost other) = refl
 
-first_settles : (a b : Bool) → (a ≡ false → b ≡ false) → a ≡ (a || b)
-first_settles true b h = refl
-first_settles false b h = sym (h refl)
-
 no_step : (c : Event) (copy : CopyName) → same_process c (Lost copy) ≡ false
 no_step (Step q l kind) copy = refl
 no_step (Lost other) copy = refl
-
--- where a copy is lost, one of its message is
-found_lost : (p k s m : ℕ) (c : Event) → loss_and_receive c (Step p k (Recv s m)) ≡ true → loses s m c ≡ true
-found_lost p k s m (Step q l kind) h = absurd (true≢false (sym h))
-found_lost p k s m (Lost copy) h =
-    let both = and_parts (nat_eq p copy.to) _ h in
-    let parts = and_parts (nat_eq copy.msg.s s) (nat_eq copy.msg.m m) both.1 in
-    ap₂ (λ a b. a && b) (eq-eqb s copy.msg.s (sym (eqb-true copy.msg.s s parts.0))) (eq-eqb m copy.msg.m (sym (eqb-true copy.msg.m m parts.1)))
 
 -- ---- lists of which another event depends
 
@@ -162,13 +135,8 @@ module _ (p k : ℕ) (events : List Event) (apart : list_any (is_step_of p) even
   pub on_send : (m : ℕ) → (list_any (does (λ q. receives p m)) events || list_any (loses p m) events) ≡ depends_on_one depends events (Step p k (Send m))
   on_send m = sym (any_either (does (λ q. receives p m)) (loses p m) events) ∙ on_other (Send m) _ (by_send p k m)
 
-  pub on_receive : (s m : ℕ) → (list_any (does (sends s m)) events ≡ false → list_any (loses s m) events ≡ false)
-      → list_any (does (sends s m)) events ≡ depends_on_one depends events (Step p k (Recv s m))
-  on_receive s m settled =
-      first_settles (list_any (does (sends s m)) events) _
-      (λ none. any_narrower (λ c. loss_and_receive c (Step p k (Recv s m))) (loses s m) events (found_lost p k s m) (settled none))
-      ∙ sym (any_either (does (sends s m)) (λ c. loss_and_receive c (Step p k (Recv s m))) events)
-      ∙ on_other (Recv s m) _ (by_receive p k s m)
+  pub on_receive : (s m : ℕ) → (list_any (does (sends s m)) events || list_any (loses_copy s m p) events) ≡ depends_on_one depends events (Step p k (Recv s m))
+  on_receive s m = sym (any_either (does (sends s m)) (loses_copy s m p) events) ∙ on_other (Recv s m) _ (by_receive p k s m)
 
 -- a loss depends on the send of its message, and on receives of its copy
 pub on_loss : (copy : CopyName) (events : List Event) → (list_any (does (sends copy.msg.s copy.msg.m)) events || list_any (takes copy.msg.s copy.msg.m copy.to) events) ≡ depends_on_one depends events (Lost copy)
@@ -176,9 +144,13 @@ on_loss copy events =
     sym (any_either (does (sends copy.msg.s copy.msg.m)) (takes copy.msg.s copy.msg.m copy.to) events)
     ∙ sym (any_same (λ c. depends c (Lost copy)) _ events (λ c. by_effect c (Lost copy) ∙ ap (λ b. b || (affects c (Lost copy) || affects (Lost copy) c)) (no_step c copy) ∙ by_loss copy c))
 
-pub if_some : {A : Type 0} (P Q : A → Type 0) (given : Option A) → ((a : A) → P a → Q a) → IfSome given P → IfSome given Q
-if_some P Q (Some a) f h = f a h
-if_some P Q None f h = tt
+-- ---- a test, and a second one where that fails
+
+pub by_first : (a b : Bool) {r dep : Bool} → r ≡ a → r ≡ true → (a || b) ≡ dep → r ≡ dep
+by_first a b same is h = is ∙ ap (λ x. x || b) (sym is ∙ same) ∙ h
+
+pub by_second : (a b : Bool) {r s dep : Bool} → r ≡ a → r ≡ false → s ≡ b → (a || b) ≡ dep → s ≡ dep
+by_second a b same is other h = other ∙ ap (λ x. x || b) (sym is ∙ same) ∙ h
 
 -- ---- lists of which the first events are flagged
 
@@ -196,5 +168,6 @@ flagged_same old new events same flagged =
       sent = λ s m h. same.sent (named_cell s m) ∙ flagged.sent s m h;
       received = λ s m h. same.received (named_cell s m) ∙ flagged.received s m h;
       lost = λ s m h. same.lost (named_cell s m) ∙ flagged.lost s m h;
-      copies = λ s m q h k. same.copies (named_copy_cell s m (q - 1)) ∙ flagged.copies s m q h k;
+      received_copies = λ s m q h k. same.received_copies (named_copy_cell s m (q - 1)) ∙ flagged.received_copies s m q h k;
+      lost_copies = λ s m q h k. same.lost_copies (named_copy_cell s m (q - 1)) ∙ flagged.lost_copies s m q h k;
     }

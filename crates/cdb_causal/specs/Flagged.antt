@@ -1,5 +1,5 @@
 -- Flags that say what the events of a list do, by which it shows at once whether another event depends on one of them.
-use Rattle.std.specs.Prelude.{◌≡◌, ℕ, ◌-◌, ◌<◌, ◌==◌, ◌&&◌, ◌||◌, Bool, true, false, nat_eq, ⊤, List, slice_index_or, vec_len, if◌then◌else◌, Option, IfSome}
+use Rattle.std.specs.Prelude.{◌≡◌, ℕ, ◌-◌, ◌<◌, ◌==◌, ◌&&◌, ◌||◌, Bool, true, false, nat_eq, ⊤, List, slice_index_or, vec_len, if◌then◌else◌}
 use Rattle.std.specs.List.{list_any}
 use Rattle.cdb_base.specs.Event.{is_step_of}
 use Rattle.cdb_base.specs.Registers.{same_register}
@@ -40,6 +40,11 @@ loses s m (Lost copy) = nat_eq s copy.msg.s && nat_eq m copy.msg.m
 abbrev pub takes : ℕ → ℕ → ℕ → Event → Bool
 takes s m q = does (λ p kind. nat_eq p q && receives s m kind)
 
+-- whether the event is the loss of that copy
+abbrev pub loses_copy : ℕ → ℕ → ℕ → Event → Bool
+loses_copy s m q (Step p k kind) = false
+loses_copy s m q (Lost copy) = nat_eq q copy.to && (nat_eq s copy.msg.s && nat_eq m copy.msg.m)
+
 -- each flag says whether one of the events does what the flag is of
 pub record AreFlagged (flags : Flags) (events : List Event) : Type 0 where
   pub stepped : (p : ℕ) → IsProcess p → flag_in flags.stepped (p - 1) ≡ list_any (is_step_of p) events
@@ -48,28 +53,30 @@ pub record AreFlagged (flags : Flags) (events : List Event) : Type 0 where
   pub sent : (s m : ℕ) → IsProcess s → flag_in flags.sent.items (named_cell s m) ≡ list_any (does (sends s m)) events
   pub received : (s m : ℕ) → IsProcess s → flag_in flags.received.items (named_cell s m) ≡ list_any (does (λ p. receives s m)) events
   pub lost : (s m : ℕ) → IsProcess s → flag_in flags.lost.items (named_cell s m) ≡ list_any (loses s m) events
-  pub copies : (s m q : ℕ) → IsProcess s → IsProcess q → flag_in flags.copies.items (named_copy_cell s m (q - 1)) ≡ list_any (takes s m q) events
+  pub received_copies : (s m q : ℕ) → IsProcess s → IsProcess q → flag_in flags.received_copies.items (named_copy_cell s m (q - 1)) ≡ list_any (takes s m q) events
+  pub lost_copies : (s m q : ℕ) → IsProcess s → IsProcess q → flag_in flags.lost_copies.items (named_copy_cell s m (q - 1)) ≡ list_any (loses_copy s m q) events
 
--- an answer, if there is one, says whether the event depends on one of the events that are flagged
-abbrev pub IsAnswer : Flags → Event → Option Bool → Type 0
-IsAnswer flags event answer = (events : List Event) → AreFlagged flags events → IfSome answer (λ answer. answer ≡ depends_on_one depends events event)
+-- the answer says whether the event depends on one of the events that are flagged
+abbrev pub IsAnswer : Flags → Event → Bool → Type 0
+IsAnswer flags event answer = (events : List Event) → AreFlagged flags events → answer ≡ depends_on_one depends events event
 
 -- the same of a step of process p of that kind, where no step of that process is flagged
-abbrev pub IsKindAnswer : Flags → ℕ → Kind → Option Bool → Type 0
+abbrev pub IsKindAnswer : Flags → ℕ → Kind → Bool → Type 0
 IsKindAnswer flags p kind answer =
     (events : List Event) (k : ℕ) → AreFlagged flags events → list_any (is_step_of p) events ≡ false
-    → IfSome answer (λ answer. answer ≡ depends_on_one depends events (Step p k kind))
+    → answer ≡ depends_on_one depends events (Step p k kind)
 
 -- the tables that grow have a cell for what a step of process p of that kind does
 abbrev pub HasFlagForKind : Flags → ℕ → Kind → Type 0
 HasFlagForKind flags p (Send m) = named_cell p m < vec_len flags.sent
-HasFlagForKind flags p (Recv s m) = (named_cell s m < vec_len flags.received) × (named_copy_cell s m (p - 1) < vec_len flags.copies)
+HasFlagForKind flags p (Recv s m) = (named_cell s m < vec_len flags.received) × (named_copy_cell s m (p - 1) < vec_len flags.received_copies)
 HasFlagForKind flags p _ = ⊤
 
 -- and for the event
 abbrev pub HasFlagFor : Flags → Event → Type 0
 HasFlagFor flags (Step p k kind) = HasFlagForKind flags p kind
-HasFlagFor flags (Lost copy) = named_cell copy.msg.s copy.msg.m < vec_len flags.lost
+HasFlagFor flags (Lost copy) =
+    (named_cell copy.msg.s copy.msg.m < vec_len flags.lost) × (named_copy_cell copy.msg.s copy.msg.m (copy.to - 1) < vec_len flags.lost_copies)
 
 -- all flags are as they were
 pub record HasSameFlags (old new : Flags) : Type 0 where
@@ -79,7 +86,8 @@ pub record HasSameFlags (old new : Flags) : Type 0 where
   pub sent : (n : ℕ) → flag_in new.sent.items n ≡ flag_in old.sent.items n
   pub received : (n : ℕ) → flag_in new.received.items n ≡ flag_in old.received.items n
   pub lost : (n : ℕ) → flag_in new.lost.items n ≡ flag_in old.lost.items n
-  pub copies : (n : ℕ) → flag_in new.copies.items n ≡ flag_in old.copies.items n
+  pub received_copies : (n : ℕ) → flag_in new.received_copies.items n ≡ flag_in old.received_copies.items n
+  pub lost_copies : (n : ℕ) → flag_in new.lost_copies.items n ≡ flag_in old.lost_copies.items n
 
 -- the flags of registers, of messages, or of copies, that pass the test are set now, and all others are as they were
 abbrev pub AddsRegisters : List Bool → List Bool → (Reg → Bool) → Type 0
@@ -102,4 +110,5 @@ pub record IsKindNoted (old new : Flags) (p : ℕ) (kind : Kind) : Type 0 where
   pub sent : AddsMessages old.sent.items new.sent.items (λ s m. sends s m p kind)
   pub received : AddsMessages old.received.items new.received.items (λ s m. receives s m kind)
   pub lost : new.lost ≡ old.lost
-  pub copies : AddsCopies old.copies.items new.copies.items (λ s m q. nat_eq p q && receives s m kind)
+  pub received_copies : AddsCopies old.received_copies.items new.received_copies.items (λ s m q. nat_eq p q && receives s m kind)
+  pub lost_copies : new.lost_copies ≡ old.lost_copies

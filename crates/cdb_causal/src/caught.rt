@@ -54,14 +54,11 @@ impl Caught {
         }
     }
 
-    /// Whether the event depends on one of those found. Each is asked that is not flagged, and all where the flags leave it open.
+    /// Whether the event depends on one of those found. Each is asked that is not flagged.
     pub(crate) fn has_cause_of(&self, event: &Event) -> bool
         ensures { result ≡ depends_on_one_of depends_of self.now event.now }
     {
-        match self.flags.depends(event) {
-            Some(answer) => answer || depends_on_one(&self.events[self.flagged..], event),
-            None => depends_on_one(&self.events, event),
-        }
+        self.flags.depends(event) || depends_on_one(&self.events[self.flagged..], event)
     }
 
     /// Flags the first event that is not flagged, where there are more than few. Called twice for each event that is added, it

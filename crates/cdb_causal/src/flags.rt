@@ -1,11 +1,10 @@
 //! Flags that say what the events of a list do: whose steps they are, and what they send, receive, lose, read and
-//! write. They answer at once whether another event depends on one of the list, but for a receive of a message of
-//! which some copy was lost.
+//! write. They answer at once whether another event depends on one of the list.
 
-ghost use Rattle.std.specs.Prelude.{◌≡◌, ℕ, ◌<◌, ◌≤◌, List, [], ◌∷◌, ◌++◌, false, vec_len, Some, OnOk, IfSome};
+ghost use Rattle.std.specs.Prelude.{◌≡◌, ℕ, ◌-◌, ◌<◌, List, [], ◌∷◌, ◌++◌, false, vec_len, OnOk};
 ghost use Rattle.cdb_base.specs.declared.event.Event.{Event as AnEvent};
 ghost use Rattle.cdb_base.specs.declared.event.Event.TheVariants.{Step, Lost};
-ghost use Rattle.cdb_causal.specs.Cells.{copy_cells};
+ghost use Rattle.cdb_causal.specs.Cells.{copy_cells, named_copy_cell, IsProcess};
 ghost use Rattle.cdb_causal.specs.Flagged.{flag_in, SetsFlag};
 
 use crate::bounds::{copy_cell, named_cell, register_row};
@@ -28,7 +27,9 @@ pub(crate) struct Flags {
     /// In the same way: the loss of a copy of it.
     lost: Vec<bool>,
     /// By copy: a receive of it.
-    copies: Vec<bool>,
+    received_copies: Vec<bool>,
+    /// By copy: the loss of it.
+    lost_copies: Vec<bool>,
 }
 
 /// Whether the flag in a cell is set; beyond the end of the table none is.
@@ -58,11 +59,13 @@ fn set(flags: &mut Vec<bool>, cell: usize)
     flags[cell] = true;
 }
 
-/// An answer that is left open where the first test fails and the second does not.
-fn answer(found: bool, perhaps: bool) -> Option<bool>
-    ensures { IfSome result (λ answer. (answer ≡ found) × (found ≡ false → perhaps ≡ false)) }
+/// The cell of a copy.
+fn cell_of(copy: &CopyName) -> usize
+    ensures value { result ≡ named_copy_cell copy.now.msg.s copy.now.msg.m (copy.now.to - 1) }
+    ensures small { result < copy_cells }
+    ensures process { IsProcess copy.now.to }
 {
-    if !found && perhaps { None } else { Some(found) }
+    copy_cell(copy.msg.s, copy.msg.m, copy.to.index())
 }
 
 impl Flags {
@@ -80,7 +83,8 @@ impl Flags {
             sent: Vec::new(alloc),
             received: Vec::new(alloc),
             lost: Vec::new(alloc),
-            copies: Vec::new(alloc),
+            received_copies: Vec::new(alloc),
+            lost_copies: Vec::new(alloc),
         }
     }
 
@@ -93,7 +97,7 @@ impl Flags {
             Kind::Send(m) => grow(&mut self.sent, named_cell(p, m)),
             Kind::Recv(s, m) => {
                 grow(&mut self.received, named_cell(s, m))?;
-                grow(&mut self.copies, copy_cell(s, m, p.index()))
+                grow(&mut self.received_copies, copy_cell(s, m, p.index()))
             }
             _ => Ok(()),
         }
@@ -106,7 +110,10 @@ impl Flags {
     {
         match event {
             Event::Step { p, kind, .. } => self.reserve_kind(*p, *kind),
-            Event::Lost(copy) => grow(&mut self.lost, named_cell(copy.msg.s, copy.msg.m)),
+            Event::Lost(copy) => {
+                grow(&mut self.lost, named_cell(copy.msg.s, copy.msg.m))?;
+                grow(&mut self.lost_copies, cell_of(copy))
+            }
         }
     }
 
@@ -119,7 +126,7 @@ impl Flags {
             Kind::Send(m) => set(&mut self.sent, named_cell(p, m)),
             Kind::Recv(s, m) => {
                 set(&mut self.received, named_cell(s, m));
-                set(&mut self.copies, copy_cell(s, m, p.index()));
+                set(&mut self.received_copies, copy_cell(s, m, p.index()));
             }
             Kind::Read(register) => self.accessed[register_row(register)] = true,
             Kind::Write(register) => {
@@ -141,57 +148,54 @@ impl Flags {
                 self.stepped[p.index()] = true;
                 self.note_kind(*p, *kind);
             }
-            Event::Lost(copy) => set(&mut self.lost, named_cell(copy.msg.s, copy.msg.m)),
+            Event::Lost(copy) => {
+                set(&mut self.lost, named_cell(copy.msg.s, copy.msg.m));
+                set(&mut self.lost_copies, cell_of(copy));
+            }
         }
     }
 
     /// Whether a step of that process and kind depends on one of the events, none of which is a step of that process.
-    fn kind_depends(&self, p: Proc, kind: Kind) -> Option<bool>
+    fn kind_depends(&self, p: Proc, kind: Kind) -> bool
         ensures { IsKindAnswer self.now p kind result }
     {
         match kind {
             Kind::Send(m) => {
                 let cell = named_cell(p, m);
-                Some(is_set(&self.received, cell) || is_set(&self.lost, cell))
+                is_set(&self.received, cell) || is_set(&self.lost, cell)
             }
             Kind::Recv(s, m) => {
-                let cell = named_cell(s, m);
-                answer(is_set(&self.sent, cell), is_set(&self.lost, cell))
+                let copy = copy_cell(s, m, p.index());
+                is_set(&self.sent, named_cell(s, m)) || is_set(&self.lost_copies, copy)
             }
-            Kind::Read(register) => Some(is_set(&self.written, register_row(register))),
-            Kind::Write(register) => Some(is_set(&self.accessed, register_row(register))),
-            _ => Some(false),
+            Kind::Read(register) => is_set(&self.written, register_row(register)),
+            Kind::Write(register) => is_set(&self.accessed, register_row(register)),
+            _ => false,
         }
     }
 
     /// Whether a step of that process and kind depends on one of the events.
-    fn step_depends(&self, p: Proc, kind: Kind) -> Option<bool>
+    fn step_depends(&self, p: Proc, kind: Kind) -> bool
         ensures { (k : ℕ) → IsAnswer self.now (Step p k kind) result }
     {
-        if is_set(&self.stepped, p.index()) {
-            Some(true)
-        } else {
-            self.kind_depends(p, kind)
-        }
+        is_set(&self.stepped, p.index()) || self.kind_depends(p, kind)
     }
 
     /// Whether the loss of the copy depends on one of the events.
     fn loss_depends(&self, copy: &CopyName) -> bool
-        ensures { IsAnswer self.now (Lost copy.now) (Some result) }
+        ensures { IsAnswer self.now (Lost copy.now) result }
     {
         let message = named_cell(copy.msg.s, copy.msg.m);
-        let received = copy_cell(copy.msg.s, copy.msg.m, copy.to.index());
-        is_set(&self.sent, message) || is_set(&self.copies, received)
+        is_set(&self.sent, message) || is_set(&self.received_copies, cell_of(copy))
     }
 
-    /// Whether the event depends on one of the events, where the flags answer that: not where it receives a message of which
-    /// one of the events is the loss of a copy, and none the send.
-    pub(crate) fn depends(&self, event: &Event) -> Option<bool>
+    /// Whether the event depends on one of the events.
+    pub(crate) fn depends(&self, event: &Event) -> bool
         ensures { IsAnswer self.now event.now result }
     {
         match event {
             Event::Step { p, kind, .. } => self.step_depends(*p, *kind),
-            Event::Lost(copy) => Some(self.loss_depends(copy)),
+            Event::Lost(copy) => self.loss_depends(copy),
         }
     }
 }

@@ -1,46 +1,58 @@
-use Rattle.std.proofs.Common.{◌≡◌, ℕ, ◌||◌, IfSome, sym, ap, ap₂, subst, ◌∙◌}
-use Rattle.std.specs.List.{list_any}
+use Rattle.std.proofs.Common.{◌≡◌, ℕ, ◌+◌, ◌-◌, ◌*◌, ◌≤◌, sym, ap, ap₂, subst, ◌∙◌, arith}
 use Rattle.cdb_base.specs.declared.event.Event.TheVariants.{Step}
 use Rattle.cdb_base.specs.declared.event.Kind.{Kind}
+use Rattle.cdb_causal.specs.Cells.{named_cell}
 use Rattle.cdb_causal.specs.Dependence.{depends}
-use Rattle.cdb_causal.specs.Flagged.{flag_in, loses}
+use Rattle.cdb_causal.specs.Flagged.{flag_in}
 use Rattle.cdb_causal.specs.Rollback.{depends_on_one}
-use Rattle.cdb_causal.proofs.Flagging.{on_send, on_receive, on_read, on_write, if_some}
+use Rattle.cdb_causal.proofs.Flagging.{on_send, on_receive, on_read, on_write, by_first, by_second}
 use Rattle.cdb_causal.proofs.flags.Flags.kind_depends.Goals as goal
 
 pub returns-then-is_set : goal.returns-then-is_set
 returns-then-is_set c = λ events k flagged apart.
     let p : ℕ = c.args.p in
     let m : ℕ = c.in-Send.m in
-    let received = c.is_set.ensures ∙ ap₂ flag_in c.deref.ensures.value c.named_cell-cell.ensures.value ∙ flagged.received p m c.named_cell-cell.ensures.process in
+    let cell = c.named_cell-cell.ensures in
+    let received = c.is_set.ensures ∙ ap₂ flag_in c.deref.ensures.value cell.value ∙ flagged.received p m cell.process in
     subst (λ (kind : Kind). c.is_set.result ≡ depends_on_one depends events (Step p k kind)) (sym c.in-Send.is)
-    (c.if-is_set.true
-    ∙ ap (λ b. b || list_any (loses p m) events) (sym c.if-is_set.true ∙ received)
-    ∙ on_send p k events apart m)
+    (by_first _ _ received c.if-is_set.true (on_send p k events apart m))
 
 pub returns-else-is_set : goal.returns-else-is_set
 returns-else-is_set c = λ events k flagged apart.
     let p : ℕ = c.args.p in
     let m : ℕ = c.in-Send.m in
-    let received = c.is_set.ensures ∙ ap₂ flag_in c.deref.ensures.value c.named_cell-cell.ensures.value ∙ flagged.received p m c.named_cell-cell.ensures.process in
-    let lost = c.is_set-else-is_set.ensures ∙ ap₂ flag_in c.deref-else-is_set.ensures.value c.named_cell-cell.ensures.value ∙ flagged.lost p m c.named_cell-cell.ensures.process in
+    let cell = c.named_cell-cell.ensures in
+    let received = c.is_set.ensures ∙ ap₂ flag_in c.deref.ensures.value cell.value ∙ flagged.received p m cell.process in
+    let lost = c.is_set-else-is_set.ensures ∙ ap₂ flag_in c.deref-else-is_set.ensures.value cell.value ∙ flagged.lost p m cell.process in
     subst (λ (kind : Kind). c.is_set-else-is_set.result ≡ depends_on_one depends events (Step p k kind)) (sym c.in-Send.is)
-    (lost
-    ∙ ap (λ b. b || list_any (loses p m) events) (sym c.if-is_set.false ∙ received)
-    ∙ on_send p k events apart m)
+    (by_second _ _ received c.if-is_set.false lost (on_send p k events apart m))
 
-pub returns-in-Recv : goal.returns-in-Recv
-returns-in-Recv c = λ events k flagged apart.
+pub returns-then-is_set-2 : goal.returns-then-is_set-2
+returns-then-is_set-2 c = λ events k flagged apart.
     let p : ℕ = c.args.p in
     let s : ℕ = c.in-Recv.s in
     let m : ℕ = c.in-Recv.m in
-    let cell = c.named_cell-cell-in-Recv.ensures in
-    let sent = c.is_set-in-Recv.ensures ∙ ap₂ flag_in c.deref-in-Recv.ensures.value cell.value ∙ flagged.sent s m cell.process in
-    let lost = c.is_set-in-Recv-2.ensures ∙ ap₂ flag_in c.deref-in-Recv-2.ensures.value cell.value ∙ flagged.lost s m cell.process in
-    subst (λ (kind : Kind). IfSome c.answer.result (λ answer. answer ≡ depends_on_one depends events (Step p k kind))) (sym c.in-Recv.is)
-    (if_some _ _ c.answer.result
-    (λ answer given. given.0 ∙ sent ∙ on_receive p k events apart s m (λ none. sym lost ∙ given.1 (sent ∙ none)))
-    c.answer.ensures)
+    let message = c.named_cell.ensures in
+    let sent = c.is_set-in-Recv.ensures ∙ ap₂ flag_in c.deref-in-Recv.ensures.value message.value ∙ flagged.sent s m message.process in
+    subst (λ (kind : Kind). c.is_set-in-Recv.result ≡ depends_on_one depends events (Step p k kind)) (sym c.in-Recv.is)
+    (by_first _ _ sent c.if-is_set-2.true (on_receive p k events apart s m))
+
+pub returns-else-is_set-2 : goal.returns-else-is_set-2
+returns-else-is_set-2 c = λ events k flagged apart.
+    let p : ℕ = c.args.p in
+    let s : ℕ = c.in-Recv.s in
+    let m : ℕ = c.in-Recv.m in
+    let value = c.index.ensures.value in
+    let low = c.index.ensures.below_nine in
+    let slot : c.index.result ≡ p - 1 = omega arith in
+    let one : 1 ≤ p = omega arith in
+    let nine : p ≤ 9 = omega arith in
+    let message = c.named_cell.ensures in
+    let copy = c.copy_cell-copy.ensures.value ∙ ap (λ n. named_cell s m * 9 + n) slot in
+    let sent = c.is_set-in-Recv.ensures ∙ ap₂ flag_in c.deref-in-Recv.ensures.value message.value ∙ flagged.sent s m message.process in
+    let lost = c.is_set-else-is_set-2.ensures ∙ ap₂ flag_in c.deref-else-is_set-2.ensures.value copy ∙ flagged.lost_copies s m p message.process (one, nine) in
+    subst (λ (kind : Kind). c.is_set-else-is_set-2.result ≡ depends_on_one depends events (Step p k kind)) (sym c.in-Recv.is)
+    (by_second _ _ sent c.if-is_set-2.false lost (on_receive p k events apart s m))
 
 pub returns-in-Read : goal.returns-in-Read
 returns-in-Read c = λ events k flagged apart.

@@ -12,7 +12,8 @@ returns c =
       sent = λ s m h. ap (λ l. flag_in l (named_cell s m)) c.new.ensures.items;
       received = λ s m h. ap (λ l. flag_in l (named_cell s m)) c.new-2.ensures.items;
       lost = λ s m h. ap (λ l. flag_in l (named_cell s m)) c.new-3.ensures.items;
-      copies = λ s m q h k. ap (λ l. flag_in l (named_copy_cell s m (q - 1))) c.new-4.ensures.items;
+      received_copies = λ s m q h k. ap (λ l. flag_in l (named_copy_cell s m (q - 1))) c.new-4.ensures.items;
+      lost_copies = λ s m q h k. ap (λ l. flag_in l (named_copy_cell s m (q - 1))) c.new-5.ensures.items;
     }
   where
     none : (count n : ℕ) → flag_in (replicate count false) n ≡ false
