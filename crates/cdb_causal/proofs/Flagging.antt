@@ -1,10 +1,8 @@
 -- Whether an event depends on one of a list, by the flags of what these do.
-use Rattle.std.proofs.Common.{◌≡◌, ℕ, Bool, true, false, ◌&&◌, ◌||◌, nat_eq, List, [], ◌∷◌, Some, refl, sym, ap, ap₂, ◌∙◌, true≢false, eqb-true, eq-eqb, zero, suc, ◌+◌, ◌-◌, ◌++◌, take, drop, slice_get, add-one}
+use Rattle.std.proofs.Common.{◌≡◌, ℕ, Bool, true, false, ◌&&◌, ◌||◌, nat_eq, List, [], ◌∷◌, refl, sym, ap, ap₂, ◌∙◌, true≢false, eqb-true, eq-eqb, ◌-◌, take, drop}
 use Rattle.std.specs.List.{list_any}
-use Rattle.std.proofs.lemmas.Bool.{or_from, or_parts}
 use Rattle.std.proofs.lemmas.List.{take-append-drop}
 use Rattle.std.proofs.lemmas.List.Folds.{list_any-append}
-use Rattle.std.proofs.lemmas.Option.{same_Some, none-some}
 use Rattle.cdb_base.specs.Event.{is_step_of}
 use Rattle.cdb_base.specs.Registers.{same_register}
 use Rattle.cdb_base.specs.declared.event.Event.{Event}
@@ -14,7 +12,7 @@ use Rattle.cdb_base.specs.declared.event.Kind.TheVariants.{Send, Recv, Read, Wri
 use Rattle.cdb_base.specs.declared.name.CopyName.{CopyName}
 use Rattle.cdb_base.specs.declared.register.Reg.{Reg}
 use Rattle.cdb_base.specs.declared.register.Reg.TheVariants.{R, Dec}
-use Rattle.cdb_causal.specs.Dependence.{sends, receives, accesses, same_process, loss_and_receive, depends}
+use Rattle.cdb_causal.specs.Dependence.{sends, receives, accesses, same_process, depends}
 use Rattle.cdb_causal.specs.Effects.{affects}
 use Rattle.cdb_causal.specs.Cells.{row, named_cell, named_copy_cell}
 use Rattle.cdb_causal.specs.Flagged.{flag_in, writes, does, loses, loses_copy, takes, AreFlagged, HasSameFlags}

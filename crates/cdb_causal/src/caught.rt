@@ -11,7 +11,8 @@ use cdb_base::{Event, NoMemory};
 use std::alloc::Global;
 use std::marker::Model;
 
-/// As long as there are fewer events, none is flagged: flags take memory for all messages up to the highest.
+/// As long as there are fewer events, none is flagged: flags take memory for all messages up to the
+/// highest.
 const FEW: usize = 32;
 
 /// The events found, in order, with flags of what they do. A contract sees their list.
@@ -32,7 +33,8 @@ impl Model for Caught {
 
     ghost view = { λ c. c.events.items };
 
-    ghost invariant = { λ c. (c.flagged ≤ length c.events.items) × AreFlagged c.flags (take c.flagged c.events.items) };
+    ghost invariant = { λ c. (c.flagged ≤ length c.events.items) ×
+        AreFlagged c.flags (take c.flagged c.events.items) };
 }
 
 /// Whether the event depends on one of the causes.
@@ -61,8 +63,8 @@ impl Caught {
         self.flags.depends(event) || depends_on_one(&self.events[self.flagged..], event)
     }
 
-    /// Flags the first event that is not flagged, where there are more than few. Called twice for each event that is added, it
-    /// leaves none but the last.
+    /// Flags the first event that is not flagged, where there are more than few. Called twice for each
+    /// event that is added, it soon leaves none but the last.
     fn flag_next(&mut self) -> Result<(), NoMemory>
         ensures { self.new ≡ self.old }
     {

@@ -1,5 +1,5 @@
-//! Flags that say what the events of a list do: whose steps they are, and what they send, receive, lose, read and
-//! write. They answer at once whether another event depends on one of the list.
+//! Flags that say what the events of a list do: whose steps they are, and what they send, receive,
+//! lose, read and write. They answer at once whether another event depends on one of the list.
 
 ghost use Rattle.std.specs.Prelude.{◌≡◌, ℕ, ◌-◌, ◌<◌, List, [], ◌∷◌, ◌++◌, false, vec_len, OnOk};
 ghost use Rattle.cdb_base.specs.declared.event.Event.{Event as AnEvent};
@@ -141,7 +141,8 @@ impl Flags {
     /// Sets the flags of an event, for which there is room.
     pub(crate) fn note(&mut self, event: &Event)
         requires { HasFlagFor self.old event.now }
-        ensures { (events : List AnEvent) → AreFlagged self.old events → AreFlagged self.new (events ++ event.now ∷ []) }
+        ensures { (events : List AnEvent) → AreFlagged self.old events →
+            AreFlagged self.new (events ++ event.now ∷ []) }
     {
         match event {
             Event::Step { p, kind, .. } => {
@@ -155,7 +156,8 @@ impl Flags {
         }
     }
 
-    /// Whether a step of that process and kind depends on one of the events, none of which is a step of that process.
+    /// Whether a step of that process and kind depends on one of the events, none of which is a step of
+    /// that process.
     fn kind_depends(&self, p: Proc, kind: Kind) -> bool
         ensures { IsKindAnswer self.now p kind result }
     {
