@@ -26,9 +26,9 @@ def alpha_setup():
     return setup("alpha", 5, lambda p: [p] * 1_500)
 
 
-def leader_steps(count):
-    """Steps of a leader run, as (process, number), made by `auto`, none refused."""
-    steps, waiting, sent = [0] * 10, {p: [] for p in range(1, 10)}, [0] * 10
+def leader_steps(count, last=9):
+    """Steps of a leader run of processes 1 to `last`, as (process, number), made by `auto`, none refused."""
+    steps, waiting, sent = [0] * 10, {p: [] for p in range(1, last + 1)}, [0] * 10
 
     def step(p):
         steps[p] += 1
@@ -41,13 +41,13 @@ def leader_steps(count):
 
     def all_steps():
         for kind in itertools.cycle(["query", "send", "phase", "local", "send", "phase", "local", "phase"]):
-            for p in range(1, 10):
+            for p in waiting:
                 yield from received(p)
                 if kind != "phase":
                     yield step(p)
                 if kind == "send":
                     sent[p] += 1
-                    for other in range(1, 10):
+                    for other in waiting:
                         waiting[other].append(p)
 
     return list(itertools.islice(itertools.takewhile(lambda it: it[1] <= STEPS, all_steps()), count))
@@ -115,6 +115,20 @@ def rollback_alpha(scale):
     return alpha_setup(), filled(autos(steps), ["rollback 1 3", *["redo"] * (len(steps) - 30)], scale)
 
 
+def rollback_apart(scale):
+    """An early step of a process that runs alone rolled back and redone, among three times as many steps of others that do."""
+    rounds = int(1_400 * scale)
+    steps = [line for lines in zip(*(alone(p, rounds) for p in (1, 2, 3, 4))) for line in lines]
+    return alone_setup(), filled(steps, ["rollback 1 3", *["redo"] * (7 * rounds - 2)], scale)
+
+
+def rollback_few(scale):
+    """An early send, of which each copy is lost, rolled back and redone in a long run of the others."""
+    first = ["auto 9", "auto 9", *(f"lose 9 1 {p}" for p in range(1, 9))]
+    steps = autos(leader_steps(int(45_000 * scale), 8))
+    return leader_setup(2), filled(first + steps, ["rollback 9 2", *["redo"] * 9], scale)
+
+
 def losses(scale):
     """Copies lost, found again from the first on, and lost again."""
     rounds = int(1_200 * scale)
@@ -153,6 +167,8 @@ WORKLOADS = {
     "early-steps": early_steps,
     "rollback-leader": rollback_leader,
     "rollback-alpha": rollback_alpha,
+    "rollback-apart": rollback_apart,
+    "rollback-few": rollback_few,
     "losses": losses,
     "losses-in-the-middle": losses_in_the_middle,
     "waiting-copies": waiting_copies,

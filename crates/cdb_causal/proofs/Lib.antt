@@ -2,6 +2,7 @@
 pub mod Lists
 pub mod Symmetry
 pub mod Walks
+pub mod Searching
 pub mod Chains
 pub mod LeastSet
 pub mod Exchanges
@@ -13,6 +14,7 @@ pub mod Undone
 pub mod PastLaws
 -- direct causes and direct dependents
 pub mod Effects
+pub mod Flagging
 pub mod Counting
 pub mod Dependents
 pub mod DirectByList

@@ -1,5 +1,5 @@
 -- Where tables have their cells.
-use Rattle.std.specs.Prelude.{ℕ, ◌+◌, ◌-◌, ◌*◌}
+use Rattle.std.specs.Prelude.{ℕ, ◌+◌, ◌-◌, ◌*◌, ◌≤◌, ⊤}
 use Rattle.cdb_base.specs.declared.register.Reg.{Reg}
 use Rattle.cdb_base.specs.declared.register.Reg.TheVariants.{R, Dec}
 
@@ -25,3 +25,11 @@ named_cells = 1048576
 
 abbrev pub copy_cells : ℕ
 copy_cells = 9437184
+
+-- a process, and a register, that there can be
+abbrev pub IsProcess : ℕ → Type 0
+IsProcess p = (1 ≤ p) × (p ≤ 9)
+
+abbrev pub IsRegister : Reg → Type 0
+IsRegister (R p) = IsProcess p
+IsRegister Dec = ⊤

@@ -20,6 +20,7 @@ pub mod Between
 pub mod Bounds
 pub mod Cells
 pub mod Effects
+pub mod Flagged
 pub mod Indexed
 pub mod LastCauses
 pub mod Named

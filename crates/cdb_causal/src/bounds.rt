@@ -10,7 +10,7 @@ ghost use Rattle.cdb_base.specs.declared.event.Event.TheVariants.{Step, Lost};
 ghost use Rattle.cdb_base.specs.declared.event.Kind.{Kind as AKind};
 ghost use Rattle.cdb_base.specs.declared.event.Kind.TheVariants.{Recv, Read, Write};
 ghost use Rattle.cdb_base.specs.declared.name.CopyName.{CopyName as ACopy};
-ghost use Rattle.cdb_causal.specs.Cells.{row, register_cell as register_cell_of, named_cell as named_cell_of, named_copy_cell, copy_cells, named_cells};
+ghost use Rattle.cdb_causal.specs.Cells.{row, register_cell as register_cell_of, named_cell as named_cell_of, named_copy_cell, copy_cells, named_cells, IsProcess, IsRegister};
 ghost use Rattle.cdb_causal.specs.Dependence.{accesses as accesses_of, same_process};
 ghost use Rattle.cdb_causal.specs.LastCauses.{IsSlot};
 ghost use Rattle.cdb_causal.specs.Raised.{IsRaised, ChangesCell, after_joining, after_leaving};
@@ -48,9 +48,10 @@ pub struct Bounds {
 }
 
 /// The row of a register in a table.
-fn register_row(register: Reg) -> usize
+pub(crate) fn register_row(register: Reg) -> usize
     ensures value { result ≡ row register }
     ensures within { result ≤ 9 }
+    ensures register { IsRegister register }
 {
     match register {
         Reg::R(p) => p.index(),
@@ -68,18 +69,20 @@ fn register_cell(register: Reg, slot: usize) -> usize
 }
 
 /// The cell of the k-th step, or message, of a process.
-fn named_cell(p: Proc, k: u16) -> usize
+pub(crate) fn named_cell(p: Proc, k: u16) -> usize
     ensures value { result ≡ named_cell_of p k }
     ensures small { result < named_cells }
+    ensures process { IsProcess p }
 {
     k as usize * 9 + p.index()
 }
 
 /// The cell of a copy, for the process of a slot, of the m-th message of process s.
-fn copy_cell(s: Proc, m: u16, slot: usize) -> usize
+pub(crate) fn copy_cell(s: Proc, m: u16, slot: usize) -> usize
     requires { slot < 9 }
     ensures value { result ≡ named_copy_cell s m slot }
     ensures small { result < copy_cells }
+    ensures process { IsProcess s }
 {
     named_cell(s, m) * 9 + slot
 }

@@ -4,10 +4,11 @@ ghost use Rattle.std.specs.Prelude.{◌≡◌, ◌-◌, ◌<◌, ◌≤◌, leng
 ghost use Rattle.cdb_base.specs.Event.{event_name};
 ghost use Rattle.cdb_causal.specs.Dependence.{depends as depends_of};
 ghost use Rattle.cdb_causal.specs.Names.{IsFirstDependentOrFree, consequence_names};
-ghost use Rattle.cdb_causal.specs.Rollback.{depends_on_one as depends_on_one_of, rolled_back};
+ghost use Rattle.cdb_causal.specs.Rollback.{rolled_back};
 
+use crate::caught::Caught;
 use crate::dependence::depends;
-use crate::history::{History, append};
+use crate::history::History;
 use cdb_base::{Event, NoMemory, StepId};
 use std::alloc::Global;
 
@@ -37,28 +38,25 @@ pub fn first_dependent(history: &History, at: usize) -> Option<StepId>
     first_linked(history, at - 1)
 }
 
-/// Whether the event depends on one of the causes.
-fn depends_on_one(causes: &[Event], event: &Event) -> bool
-    ensures { result ≡ depends_on_one_of depends_of causes.now event.now }
-{
-    causes.iter().any(|cause| depends(cause, event))
-}
-
 /// The event at a position, from 0, with its consequences, in order.
 fn rolled_back_events(alloc: Global, history: &History, i: usize) -> Result<Vec<Event>, NoMemory>
     requires { i < length history.now }
     ensures { IfOk result (λ removed. removed.items ≡ rolled_back depends_of history.now i) }
 {
-    let mut causes = Vec::new(alloc);
-    append(&mut causes, *history.event(i))?;
+    let mut causes = Caught::new(alloc);
+    causes.push(*history.event(i))?;
     let count = history.len();
-    for j in i + 1..count {
+    let mut end = history.end_of_dependents(i);
+    let mut j = i + 1;
+    while j < count && j < end {
         let event = history.event(j);
-        if depends_on_one(&causes, event) {
-            append(&mut causes, *event)?;
+        if causes.has_cause_of(event) {
+            causes.push(*event)?;
+            end = end.max(history.end_of_dependents(j));
         }
+        j += 1;
     }
-    Ok(causes)
+    Ok(causes.into_events())
 }
 
 /// The names of the events, in order.

@@ -8,10 +8,12 @@
 #![tactic(auto)]
 
 mod bounds;
+mod caught;
 pub mod causes;
 pub mod counts;
 pub mod dependence;
 pub mod direct;
+mod flags;
 pub mod history;
 pub mod laws;
 pub mod past;

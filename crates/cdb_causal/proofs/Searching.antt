@@ -1,0 +1,42 @@
+-- The search for consequences: what one more event adds, and where it may end.
+use Rattle.std.proofs.Common.{◌≡◌, ℕ, zero, suc, ◌+◌, ◌<◌, ◌≤◌, Bool, true, false, cond, ◌||◌, List, [], ◌∷◌, ◌++◌, Some, slice_get, drop, refl, sym, ap, ap₂, ◌∙◌, append_assoc, arith}
+use Rattle.std.proofs.lemmas.List.Folds.{list_any-append}
+use Rattle.cdb_causal.specs.Causality.{IsLink}
+use Rattle.cdb_causal.specs.Rollback.{caught, depends_on_one}
+use Rattle.cdb_causal.proofs.Lists.{drop_from}
+use Rattle.cdb_causal.proofs.Walks.{link_at}
+
+module _ {E : Type 0} (depends : E → E → Bool) where
+  -- what is caught from one event on, by what is caught from the next on
+  pub caught_more : (history causes : List E) (j : ℕ) (event : E) (b : Bool) → slice_get history j ≡ Some event → depends_on_one depends causes event ≡ b
+      → causes ++ caught depends causes (drop j history)
+      ≡ cond b ((causes ++ event ∷ []) ++ caught depends (causes ++ event ∷ []) (drop (j + 1) history)) (causes ++ caught depends causes (drop (j + 1) history))
+  caught_more history causes j event b at is =
+      ap (λ l. causes ++ caught depends causes l) (drop_from history j event at ∙ ap (λ n. event ∷ drop n history) (let e : suc j ≡ j + 1 = omega arith in e))
+      ∙ ap (λ (c : Bool). causes ++ cond c (event ∷ caught depends (causes ++ event ∷ []) (drop (j + 1) history)) (caught depends causes (drop (j + 1) history))) is
+      ∙ elim b as (λ c. causes ++ cond c (event ∷ caught depends (causes ++ event ∷ []) (drop (j + 1) history)) (caught depends causes (drop (j + 1) history))
+      ≡ cond c ((causes ++ event ∷ []) ++ caught depends (causes ++ event ∷ []) (drop (j + 1) history)) (causes ++ caught depends causes (drop (j + 1) history))) [
+        | true ↦ sym (append_assoc causes (event ∷ []) (caught depends (causes ++ event ∷ []) (drop (j + 1) history)))
+        | false ↦ refl
+      ]
+
+  -- nothing is caught where none depends on a cause
+  pub none_caught : (history causes : List E) (j : ℕ) → ((k : ℕ) (event : E) → j ≤ k → slice_get history k ≡ Some event → depends_on_one depends causes event ≡ false)
+      → caught depends causes (drop j history) ≡ []
+  none_caught [] causes zero h = refl
+  none_caught [] causes (suc j) h = refl
+  none_caught (x ∷ xs) causes zero h =
+      ap (λ (c : Bool). cond c (x ∷ caught depends (causes ++ x ∷ []) xs) (caught depends causes xs)) (h 0 x (omega arith) refl)
+      ∙ none_caught xs causes zero (λ k event more at. h (suc k) event (omega arith) at)
+  none_caught (x ∷ xs) causes (suc j) h = none_caught xs causes j (λ k event more at. h (suc k) event (omega arith) at)
+
+  pub unlinked : (history : List E) (i k : ℕ) (cause effect : E) → i < k → slice_get history i ≡ Some cause → slice_get history k ≡ Some effect → (IsLink depends history i k → ⊥) → depends cause effect ≡ false
+  unlinked history i k cause effect later at_cause at_effect none =
+      elim (depends cause effect) as (λ b. depends cause effect ≡ b → depends cause effect ≡ false) [
+        | true ↦ λ linked. absurd (none (link_at depends history i k cause effect later at_cause at_effect linked))
+        | false ↦ λ e. e
+      ] refl
+
+  pub none_of_more : (causes : List E) (cause event : E) → depends_on_one depends causes event ≡ false → depends cause event ≡ false → depends_on_one depends (causes ++ cause ∷ []) event ≡ false
+  none_of_more causes cause event none last =
+      list_any-append (λ c. depends c event) causes (cause ∷ []) ∙ ap₂ (λ a b. a || (b || false)) none last
