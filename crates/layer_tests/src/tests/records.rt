@@ -1,95 +1,76 @@
-//! A worked example: the start of a run in which a copy is lost. What depends on what is read off it.
+//! The calls of records that no run makes.
 
-use super::entries::ExampleRecords;
-use super::events::{copy, name, receive, step};
-use cdb_base::{Cell, Event, Kind, NoMemory, Proc, Reg, StepId, Val};
+use super::dependence::{copy, may_follow, step};
+use cdb_base::{Cell, Event, Kind, NoMemory, Proc, Reg, StepId, StepName, Val};
+use cdb_record::{Left, Records};
 use std::alloc::Global;
+use std::process::Abort;
 use std::test::Fail;
 
-fn example(alloc: Global) -> Result<ExampleRecords, NoMemory> {
-    let mut records = ExampleRecords::new(alloc);
-    records.add(step(1, 1, Kind::Query(Proc::new(1))))?;
-    records.add(step(1, 2, Kind::Send(1)))?;
-    records.add(Event::Lost(copy(1, 1, 2)))?;
-    records.add(step(2, 1, Kind::Query(Proc::new(1))))?;
+const CELL: Cell = Cell {
+    lre: 4,
+    lrww: 2,
+    val: None,
+};
+
+/// The start of a run in which the first message of process 1 is lost for process 2, and received by 1 and 3. Each
+/// event leaves its position from 0 and a cell.
+fn example(rt: &impl Abort, alloc: Global) -> Result<Records<usize>, NoMemory> {
+    let (one, two, three) = (Proc::new(1), Proc::new(2), Proc::new(3));
+    let events = [
+        step(one, 1, Kind::Query(one)),
+        step(one, 2, Kind::Send(1)),
+        Event::Lost(copy(one, 1, two)),
+        step(two, 1, Kind::Query(one)),
+        step(one, 3, Kind::Recv(one, 1)),
+        step(three, 1, Kind::Recv(one, 1)),
+        step(two, 2, Kind::Write(Reg::Dec)),
+    ];
+    let mut records = Records::new(alloc);
+    for (i, event) in events.iter().enumerate() {
+        assert!(rt; may_follow(records.history(), event));
+        let left = Left {
+            back: Some(i),
+            overwritten: Some(CELL),
+        };
+        records.push(*event, left)?;
+    }
     Ok(records)
 }
 
 #[test]
-fn counts_of_a_lost_copy(rt: HostRuntime) -> Result<(), Fail> {
-    let mut records = example(rt.alloc())?;
-    assert_eq!(rt; records.len(), 4);
-    assert_eq!(rt; records.count_of(name(1, 1)), 1);
-    assert_eq!(rt; records.count_of(name(1, 2)), 1);
-    assert_eq!(rt; records.count_of(StepId::Lost(copy(1, 1, 2))), 0);
-    assert_eq!(rt; records.count_of(name(2, 1)), 0);
-    assert_eq!(rt; records.count_of(name(3, 1)), 0);
-
-    // The send is needed by the loss; without the loss it is free.
-    assert_eq!(rt; records.take_last_of(Proc::new(1)), None);
-    assert_eq!(rt;
-        records.take_lost(copy(1, 1, 2)),
-        Some(Event::Lost(copy(1, 1, 2)))
-    );
-    assert_eq!(rt; records.take_lost(copy(1, 1, 2)), None);
-    assert_eq!(rt; records.count_of(name(1, 2)), 0);
-    assert_eq!(rt;
-        records.take_last_of(Proc::new(1)),
-        Some(step(1, 2, Kind::Send(1)))
-    );
-    assert_eq!(rt; records.count_of(name(1, 1)), 0);
-    assert_eq!(rt; records.take_last_of(Proc::new(3)), None);
-    assert_eq!(rt; records.len(), 2);
-    Ok(())
-}
-
-/// Receives of one message do not need each other, and both need its send.
-#[test]
-fn counts_of_two_receives(rt: HostRuntime) -> Result<(), Fail> {
-    let mut records = example(rt.alloc())?;
-    let to_itself = receive(1, 3, 1, 1);
-    let to_another = receive(3, 1, 1, 1);
-    assert!(rt; records.add(to_itself)?);
-    assert!(rt; records.add(to_another)?);
-    assert!(rt; !records.add(step(3, 1, Kind::Local))?);
-    assert_eq!(rt; records.count_of(name(1, 2)), 3);
-    assert_eq!(rt; records.count_of(name(1, 1)), 1);
-    assert_eq!(rt;
-        records.take_last_of(Proc::new(1)),
-        Some(receive(1, 3, 1, 1))
-    );
-    assert_eq!(rt; records.count_of(name(1, 2)), 2);
+fn counts_of_direct_dependents(rt: HostRuntime) -> Result<(), Fail> {
+    let (one, two, three) = (Proc::new(1), Proc::new(2), Proc::new(3));
+    let records = example(&rt, rt.alloc())?;
+    let counts = [
+        (StepName { p: one, k: 1 }, 1),
+        (StepName { p: one, k: 2 }, 3),
+        (StepName { p: one, k: 3 }, 0),
+        (StepName { p: two, k: 1 }, 1),
+        (StepName { p: two, k: 2 }, 0),
+        (StepName { p: three, k: 2 }, 0),
+    ];
+    for (name, count) in counts {
+        assert_eq!(rt; records.count_of(StepId::Step(name)), count);
+    }
+    assert_eq!(rt; records.count_of(StepId::Lost(copy(one, 1, two))), 0);
     Ok(())
 }
 
 #[test]
-fn what_it_takes_to_go_back(rt: HostRuntime) -> Result<(), Fail> {
-    let mut records = example(rt.alloc())?;
-    let cell = Cell {
-        lre: 0,
-        lrww: 0,
-        val: Some(Val::new(7)),
-    };
-    let write = step(2, 2, Kind::Write(Reg::Dec));
-    assert!(rt; records.add_with(write, Some(12), Some(cell))?);
-    assert_eq!(rt; records.len(), 5);
-    assert_eq!(rt; records.count_of(name(2, 2)), 0);
-    let entry = records
-        .take_recorded_of(Proc::new(2))
-        .expect(&rt, "the write");
-    assert_eq!(rt; entry.event, step(2, 2, Kind::Write(Reg::Dec)));
-    assert_eq!(rt; entry.back, Some(12));
-    assert_eq!(rt; entry.overwritten, Some(cell));
-    assert_eq!(rt; records.count_of(name(2, 1)), 0);
-    Ok(())
-}
-
-/// Where the change of an event fails, the event is not added.
-#[test]
-fn a_failed_change_is_not_recorded(rt: HostRuntime) -> Result<(), Fail> {
-    let mut records = example(rt.alloc())?;
-    assert!(rt; records.add_without_memory(step(2, 2, Kind::Local)));
-    assert_eq!(rt; records.len(), 4);
-    assert_eq!(rt; records.count_of(name(2, 1)), 0);
+fn a_free_event_is_taken_with_what_it_left(rt: HostRuntime) -> Result<(), Fail> {
+    let (one, two) = (Proc::new(1), Proc::new(2));
+    let mut records = example(&rt, rt.alloc())?;
+    let received = records.take_last_of(one).expect(&rt, "a receive");
+    assert_eq!(rt; received.event, step(one, 3, Kind::Recv(one, 1)));
+    assert_eq!(rt; received.back, Some(4));
+    assert_eq!(rt; received.overwritten, Some(CELL));
+    // The send is needed by the loss and by the other receive.
+    assert!(rt; records.take_last_of(one).is_none());
+    let lost = records.take_lost(copy(one, 1, two)).expect(&rt, "a loss");
+    assert_eq!(rt; lost.back, Some(2));
+    assert!(rt; records.take_lost(copy(one, 1, two)).is_none());
+    assert!(rt; records.take_last_of(Proc::new(4)).is_none());
+    assert_eq!(rt; records.history().len(), 5);
     Ok(())
 }
