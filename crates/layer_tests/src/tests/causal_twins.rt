@@ -25,20 +25,24 @@ fn is_direct(history: &History, i: usize, j: usize) -> bool {
     is_linked(history, i, j)
 }
 
+fn is_linked_to_one(history: &History, causes: &[usize], j: usize) -> bool {
+    for i in causes {
+        if is_linked(history, *i, j) {
+            return true;
+        }
+    }
+    false
+}
+
 /// The least set that has the position and each position linked to one that it has: it grows until nothing
 /// is left to add.
 fn rolled_back(alloc: Global, history: &History, i: usize) -> Result<Vec<usize>, NoMemory> {
     let mut positions = Vec::new(alloc);
     positions.push(i)?;
     for _ in 0..history.len() {
-        for j in 0..history.len() {
-            for cause in 0..history.len() {
-                if positions.contains(&cause)
-                    && !positions.contains(&j)
-                    && is_linked(history, cause, j)
-                {
-                    positions.push(j)?;
-                }
+        for j in (0..history.len()).rev() {
+            if !positions.contains(&j) && is_linked_to_one(history, &positions, j) {
+                positions.push(j)?;
             }
         }
     }

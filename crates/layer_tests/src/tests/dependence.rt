@@ -27,34 +27,40 @@ fn what_depends_on_what(rt: HostRuntime) {
     let crash = step(one, 3, Kind::Crash);
     let received = step(two, 1, Kind::Recv(one, 1));
     let by_another = step(three, 1, Kind::Recv(one, 1));
+    let from_another = step(two, 1, Kind::Recv(three, 1));
+    let next_received = step(two, 1, Kind::Recv(one, 2));
     let lost = Event::Lost(copy(one, 1, two));
+    let lost_to_another = Event::Lost(copy(one, 1, three));
     let read = step(two, 1, Kind::Read(Reg::Dec));
+    let read_too = step(three, 1, Kind::Read(Reg::Dec));
     let write = step(one, 9, Kind::Write(Reg::Dec));
+    let write_too = step(two, 9, Kind::Write(Reg::Dec));
+    let elsewhere = step(three, 1, Kind::Write(Reg::R(one)));
     let pairs = [
         // A message and its receives.
-        (send, received, true),
-        (send, by_another, true),
-        (received, by_another, false),
-        (send, step(two, 1, Kind::Recv(three, 1)), false),
-        (send, step(two, 1, Kind::Recv(one, 2)), false),
+        (&send, &received, true),
+        (&send, &by_another, true),
+        (&received, &by_another, false),
+        (&send, &from_another, false),
+        (&send, &next_received, false),
         // Two steps of one process.
-        (send, crash, true),
-        (crash, received, false),
+        (&send, &crash, true),
+        (&crash, &received, false),
         // Two accesses of one register, of which one is a write.
-        (read, write, true),
-        (write, step(two, 9, Kind::Write(Reg::Dec)), true),
-        (read, step(three, 1, Kind::Read(Reg::Dec)), false),
-        (write, step(three, 1, Kind::Write(Reg::R(one))), false),
+        (&read, &write, true),
+        (&write, &write_too, true),
+        (&read, &read_too, false),
+        (&write, &elsewhere, false),
         // A loss, its send and its receive.
-        (lost, send, true),
-        (lost, received, true),
-        (lost, by_another, false),
-        (lost, Event::Lost(copy(one, 1, three)), false),
-        (lost, crash, false),
+        (&lost, &send, true),
+        (&lost, &received, true),
+        (&lost, &by_another, false),
+        (&lost, &lost_to_another, false),
+        (&lost, &crash, false),
     ];
-    for (event, other, does) in &pairs {
-        assert_eq!(rt; depends(event, other), *does);
-        assert_eq!(rt; depends(other, event), *does);
+    for (event, other, does) in pairs {
+        assert_eq!(rt; depends(event, other), does);
+        assert_eq!(rt; depends(other, event), does);
     }
 }
 

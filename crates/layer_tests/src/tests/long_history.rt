@@ -12,10 +12,10 @@ fn nth(n: u16) -> Event {
 }
 
 /// Takes an event out of both, of which the number says where it stands.
-fn take_out(rt: &impl Abort, history: &mut History, plain: &mut Vec<u16>, n: usize) {
+fn take_out(rt: &impl Abort, history: &mut History, plain: &mut Vec<u16>, n: u16) {
     let count = plain.len();
     assert!(rt; 0 < count && count == history.len());
-    let i = n * 7919 % count;
+    let i = n as usize * 7919 % count;
     let gone = nth(plain.remove(i));
     assert_eq!(rt; history.remove(i + 1), gone);
     assert_eq!(rt; history.position(gone.name()), None);
@@ -40,8 +40,8 @@ fn a_long_history_is_a_plain_list(rt: HostRuntime) -> Result<(), Fail> {
     }
     compare(&rt, &history, &plain);
     for n in 700..1300 {
-        take_out(&rt, &mut history, &mut plain, n as usize);
-        take_out(&rt, &mut history, &mut plain, n as usize);
+        take_out(&rt, &mut history, &mut plain, n);
+        take_out(&rt, &mut history, &mut plain, n);
         add(&mut history, nth(n))?;
         plain.push(n)?;
         if n % 60 == 0 {

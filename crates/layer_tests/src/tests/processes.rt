@@ -30,8 +30,10 @@ fn goes_and_goes_back<P: SameState>(
     }
     assert_eq!(rt; process.decision(), decided);
     assert!(rt; !process.has_same_state(&first));
-    while let Some(back) = backs.pop() {
-        process.put_back(back);
+    for _ in 0..backs.len() {
+        if let Some(back) = backs.pop() {
+            process.put_back(back);
+        }
     }
     assert!(rt; process.has_same_state(&first));
     Ok(())
