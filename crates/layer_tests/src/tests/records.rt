@@ -24,17 +24,23 @@ fn add(records: &mut Records<u32>, event: Event, number: u32) -> Result<(), NoMe
     Ok(())
 }
 
-/// The start of a run in which the first message of process 1 is lost for process 2, and received by 1 and 3.
+/// The start of a run in which the first message of process 1 is lost for process 2, and received by 1 and 3. Each event
+/// leaves its position.
 fn example(alloc: Global) -> Result<Records<u32>, NoMemory> {
     let (one, two, three) = (Proc::new(1), Proc::new(2), Proc::new(3));
+    let events = [
+        step(one, 1, Kind::Query(one)),
+        step(one, 2, Kind::Send(1)),
+        Event::Lost(copy(one, 1, two)),
+        step(two, 1, Kind::Query(one)),
+        step(one, 3, Kind::Recv(one, 1)),
+        step(three, 1, Kind::Recv(one, 1)),
+        step(two, 2, Kind::Local),
+    ];
     let mut records = Records::new(alloc);
-    add(&mut records, step(one, 1, Kind::Query(one)), 10)?;
-    add(&mut records, step(one, 2, Kind::Send(1)), 11)?;
-    add(&mut records, Event::Lost(copy(one, 1, two)), 12)?;
-    add(&mut records, step(two, 1, Kind::Query(one)), 13)?;
-    add(&mut records, step(one, 3, Kind::Recv(one, 1)), 14)?;
-    add(&mut records, step(three, 1, Kind::Recv(one, 1)), 15)?;
-    add(&mut records, step(two, 2, Kind::Local), 16)?;
+    for (i, event) in events.iter().enumerate() {
+        add(&mut records, *event, i as u32 + 1)?;
+    }
     Ok(records)
 }
 
@@ -57,12 +63,12 @@ fn records_are_counted_and_taken_out(rt: HostRuntime) -> Result<(), Fail> {
     assert_eq!(rt; records.count_of(StepId::Lost(copy(one, 1, two))), 0);
     let received = records.take_last_of(one).expect(&rt, "a receive");
     assert_eq!(rt; received.event, step(one, 3, Kind::Recv(one, 1)));
-    assert_eq!(rt; received.back, Some(14));
+    assert_eq!(rt; received.back, Some(5));
     assert_eq!(rt; received.overwritten, Some(CELL));
     // The send is needed by the loss and by the other receive.
     assert!(rt; records.take_last_of(one).is_none());
     let lost = records.take_lost(copy(one, 1, two)).expect(&rt, "a loss");
-    assert_eq!(rt; lost.back, Some(12));
+    assert_eq!(rt; lost.back, Some(3));
     assert!(rt; records.take_lost(copy(one, 1, two)).is_none());
     assert!(rt; records.take_last_of(Proc::new(4)).is_none());
     assert_eq!(rt; records.history().len(), 5);
