@@ -1,7 +1,7 @@
 //! Setups as values: their parts, which of them are equal, and refused memory. Their faults are rows of tests/setups.txt.
 
 use cdb_base::{NoMemory, Proc, Val};
-use cdb_setup::{Algorithm, Key, Setup, SetupFault};
+use cdb_setup::{Algorithm, Setup, SetupFault};
 use std::alloc::Global;
 use std::test::Fail;
 
@@ -122,13 +122,6 @@ fn each_beginning_is_no_json(rt: HostRuntime) {
         let fault = Setup::read(rt.alloc(), &ONE.as_bytes()[..end]).err();
         assert_eq!(rt; fault, Some(SetupFault::NotJson), "{end} bytes");
     }
-}
-
-/// What no text of a fault shows.
-#[test]
-fn names_without_a_text(rt: HostRuntime) {
-    assert_eq!(rt; SetupFault::NoMemory.number(), None);
-    assert_eq!(rt; Key::Version.name(), "version");
 }
 
 /// Where an allocation fails, the call says so, and made again it does its work. To see it, let each allocation of
