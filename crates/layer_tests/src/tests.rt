@@ -1,18 +1,9 @@
 //! Tests.
 
-mod alpha;
-mod causal;
 mod causal_twins;
-mod entries;
-mod events;
-mod history;
+mod dependence;
 mod laws;
-mod leader;
 mod long_history;
-mod machine;
-mod mail;
-mod mailbox;
-mod reading;
+mod processes;
 mod records;
-mod registers;
 mod setups;

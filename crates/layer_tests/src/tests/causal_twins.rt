@@ -1,44 +1,47 @@
 //! The plain, slow program of each definition, compared with the crate's on many small histories.
 
-ghost use Rattle.std.specs.Prelude.{◌<◌, ◌≤◌};
+ghost use Rattle.std.specs.Prelude.{◌<◌};
 
-use super::events::{are_dependent, copy, register, step};
-use super::history::ExampleHistory;
+use super::dependence::{add, copy, step};
 use cdb_base::{Event, Kind, NoMemory, Proc, Reg, StepId};
+use cdb_causal::{History, consequences, depends, direct_causes, first_dependent};
 use std::alloc::Global;
 use std::process::Abort;
 use std::test::Fail;
 
-/// Whether there are events at both positions, the first before the second, and the second depends on
+/// Whether there are events at both positions, from 0, the first before the second, and the second depends on
 /// the first.
-fn is_linked(events: &[Event], i: usize, j: usize) -> bool {
-    match (events.get(i), events.get(j)) {
-        (Some(cause), Some(effect)) => i < j && are_dependent(cause, effect),
-        _ => false,
-    }
+fn is_linked(history: &History, i: usize, j: usize) -> bool {
+    i < j && j < history.len() && depends(history.event(i), history.event(j))
 }
 
-fn plain_first_dependent(events: &[Event], i: usize) -> Option<StepId> {
-    for (j, event) in events.iter().enumerate() {
-        if is_linked(events, i, j) {
-            return Some(event.name());
+/// Whether they are linked, and by no event between.
+fn is_direct(history: &History, i: usize, j: usize) -> bool {
+    for k in 0..history.len() {
+        if is_linked(history, i, k) && is_linked(history, k, j) {
+            return false;
         }
     }
-    None
+    is_linked(history, i, j)
 }
 
-fn is_linked_to_one(events: &[Event], causes: &[usize], j: usize) -> bool {
-    causes.iter().any(|cause| is_linked(events, *cause, j))
+fn is_linked_to_one(history: &History, causes: &[usize], j: usize) -> bool {
+    for i in causes {
+        if is_linked(history, *i, j) {
+            return true;
+        }
+    }
+    false
 }
 
 /// The least set that has the position and each position linked to one that it has: it grows until nothing
 /// is left to add.
-fn plain_rolled_back(alloc: Global, events: &[Event], i: usize) -> Result<Vec<usize>, NoMemory> {
+fn rolled_back(alloc: Global, history: &History, i: usize) -> Result<Vec<usize>, NoMemory> {
     let mut positions = Vec::new(alloc);
     positions.push(i)?;
-    for _ in 0..events.len() {
-        for j in (0..events.len()).rev() {
-            if !positions.contains(&j) && is_linked_to_one(events, &positions, j) {
+    for _ in 0..history.len() {
+        for j in (0..history.len()).rev() {
+            if !positions.contains(&j) && is_linked_to_one(history, &positions, j) {
                 positions.push(j)?;
             }
         }
@@ -46,31 +49,42 @@ fn plain_rolled_back(alloc: Global, events: &[Event], i: usize) -> Result<Vec<us
     Ok(positions)
 }
 
-fn plain_consequences(alloc: Global, events: &[Event], i: usize) -> Result<Vec<StepId>, NoMemory> {
-    let positions = plain_rolled_back(alloc, events, i)?;
-    let mut names = Vec::new(alloc);
-    for (j, event) in events.iter().enumerate() {
-        if j != i && positions.contains(&j) {
-            names.push(event.name())?;
+/// Compares what comes after each event.
+fn compare_effects(rt: &impl Abort, alloc: Global, history: &History) -> Result<(), NoMemory> {
+    for i in 0..history.len() {
+        let positions = rolled_back(alloc, history, i)?;
+        let mut first = None;
+        let mut names = Vec::new(alloc);
+        for j in i + 1..history.len() {
+            if first.is_none() && is_linked(history, i, j) {
+                first = Some(history.event(j).name());
+            }
+            if positions.contains(&j) {
+                names.push(history.event(j).name())?;
+            }
         }
+        assert_eq!(rt; first_dependent(history, i + 1), first);
+        let found = consequences(alloc, history, i + 1)?;
+        assert_eq!(rt; found.as_slice(), names.as_slice());
     }
-    Ok(names)
+    Ok(())
 }
 
-fn is_direct_cause(events: &[Event], i: usize, j: usize) -> bool {
-    is_linked(events, i, j)
-        && !(0..events.len()).any(|k| is_linked(events, i, k) && is_linked(events, k, j))
-}
-
-fn plain_direct_causes(alloc: Global, events: &[Event], j: usize) -> Result<Vec<StepId>, NoMemory> {
-    let mut names = Vec::new(alloc);
-    for (i, event) in events.iter().enumerate() {
-        if is_direct_cause(events, i, j) {
-            names.push(event.name())?;
+/// Compares what comes before each event.
+fn compare_causes(rt: &impl Abort, alloc: Global, history: &History) -> Result<(), NoMemory> {
+    for j in 0..history.len() {
+        assert_eq!(rt; history.position(history.event(j).name()), Some(j + 1));
+        let mut names = Vec::new(alloc);
+        for i in 0..j {
+            if is_direct(history, i, j) {
+                names.push(history.event(i).name())?;
+            }
         }
+        names.sort()?;
+        let found = direct_causes(alloc, history, j + 1);
+        assert_eq!(rt; found.as_slice(), names.as_slice());
     }
-    names.sort()?;
-    Ok(names)
+    Ok(())
 }
 
 /// A number below `n`, and the next seed.
@@ -84,18 +98,16 @@ fn draw(seed: &mut u64, n: u64) -> u64
     (*seed >> 33) % n
 }
 
-fn draw_process(seed: &mut u64) -> u8
-    ensures from_one { 1 ≤ result }
-    ensures to_three { result ≤ 3 }
-{
-    draw(seed, 3) as u8 + 1
+/// One of the first three processes.
+fn draw_process(seed: &mut u64) -> Proc {
+    Proc::all()[draw(seed, 3) as usize]
 }
 
 fn draw_register(seed: &mut u64) -> Reg {
     match draw(seed, 3) {
         0 => Reg::Dec,
-        1 => register(1),
-        _ => register(2),
+        1 => Reg::R(Proc::new(1)),
+        _ => Reg::R(Proc::new(2)),
     }
 }
 
@@ -104,7 +116,7 @@ fn draw_kind(seed: &mut u64) -> Kind {
         0 => Kind::Query(Proc::new(1)),
         1 | 2 => Kind::Send(draw(seed, 2) as u16 + 1),
         3 | 4 => {
-            let s = Proc::new(draw_process(seed));
+            let s = draw_process(seed);
             Kind::Recv(s, draw(seed, 2) as u16 + 1)
         }
         5 => Kind::Write(draw_register(seed)),
@@ -128,72 +140,29 @@ fn draw_event(seed: &mut u64) -> Event {
     }
 }
 
-fn draw_history(alloc: Global, seed: &mut u64) -> Result<ExampleHistory, NoMemory> {
-    let mut history = ExampleHistory::new(alloc);
+fn draw_history(alloc: Global, seed: &mut u64) -> Result<History, NoMemory> {
+    let mut history = History::new(alloc);
     for _ in 0..draw(seed, 13) {
-        history.add(draw_event(seed))?;
+        add(&mut history, draw_event(seed))?;
     }
     Ok(history)
 }
 
-/// All events but the one at position `i`, in order.
-fn plain_without(alloc: Global, events: &[Event], i: usize) -> Result<Vec<StepId>, NoMemory> {
-    let mut names = Vec::new(alloc);
-    for (j, event) in events.iter().enumerate() {
-        if j != i {
-            names.push(event.name())?;
-        }
-    }
-    Ok(names)
-}
-
-fn compare(rt: &impl Abort, alloc: Global, history: &ExampleHistory) -> Result<(), NoMemory> {
-    let events = history.to_vec(alloc)?;
-    for (i, event) in events.iter().enumerate() {
-        let at = i + 1;
-        assert_eq!(rt; history.position(event.name()), Some(at));
-        assert_eq!(rt;
-            history.first_dependent(rt, at),
-            plain_first_dependent(&events, i)
-        );
-        let names = history.consequences(rt, alloc, at)?;
-        assert_eq!(rt;
-            names.as_slice(),
-            plain_consequences(alloc, &events, i)?.as_slice()
-        );
-        let causes = history.direct_causes(rt, alloc, at);
-        assert_eq!(rt;
-            causes.as_slice(),
-            plain_direct_causes(alloc, &events, i)?.as_slice()
-        );
-    }
-    Ok(())
-}
-
-/// Takes events out, one after the other, until none stands.
-fn compare_removals(
+/// Takes an event out, after which the others stand in order.
+fn take_one_out(
     rt: &impl Abort,
     alloc: Global,
-    history: &mut ExampleHistory,
+    history: &mut History,
     seed: &mut u64,
 ) -> Result<(), NoMemory> {
-    for _ in 0..history.len() {
-        assert!(rt; !history.is_empty());
-        let len = history.len() as u64;
-        assert!(rt; 0 < len);
-        let i = draw(seed, len) as usize;
-        let events = history.to_vec(alloc)?;
-        let rest = plain_without(alloc, &events, i)?;
-        let gone = history.get(rt, i + 1);
-        assert_eq!(rt; history.remove(rt, i + 1), gone);
-        assert_eq!(rt; history.position(gone.name()), None);
-        assert_eq!(rt; history.len(), rest.len());
-        for (j, name) in rest.iter().enumerate() {
-            assert_eq!(rt; history.position(*name), Some(j + 1));
-        }
-        compare(rt, alloc, history)?;
-    }
-    assert!(rt; history.is_empty());
+    let mut rest = history.to_vec(alloc)?;
+    let count = rest.len() as u64;
+    assert!(rt; 0 < count);
+    let i = draw(seed, count) as usize;
+    let gone = rest.remove(i);
+    assert_eq!(rt; history.remove(i + 1), gone);
+    assert_eq!(rt; history.position(gone.name()), None);
+    assert_eq!(rt; history.to_vec(alloc)?.as_slice(), rest.as_slice());
     Ok(())
 }
 
@@ -203,9 +172,14 @@ fn the_same_as_the_plain_programs(rt: HostRuntime) -> Result<(), Fail> {
     let mut longest = 0;
     for _ in 0..1000 {
         let mut history = draw_history(rt.alloc(), &mut seed)?;
-        longest = longest.max(history.len());
-        compare(&rt, rt.alloc(), &history)?;
-        compare_removals(&rt, rt.alloc(), &mut history, &mut seed)?;
+        let count = history.len();
+        longest = longest.max(count);
+        for _ in 0..count {
+            compare_effects(&rt, rt.alloc(), &history)?;
+            compare_causes(&rt, rt.alloc(), &history)?;
+            take_one_out(&rt, rt.alloc(), &mut history, &mut seed)?;
+        }
+        assert!(rt; history.is_empty());
     }
     assert!(rt; longest > 8);
     Ok(())

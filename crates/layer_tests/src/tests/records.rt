@@ -1,95 +1,76 @@
-//! A worked example: the start of a run in which a copy is lost. What depends on what is read off it.
+//! The calls of records that no run makes.
 
-use super::entries::ExampleRecords;
-use super::events::{copy, name, receive, step};
-use cdb_base::{Cell, Event, Kind, NoMemory, Proc, Reg, StepId, Val};
+use super::dependence::{copy, may_follow, step};
+use cdb_base::{Cell, Event, Kind, NoMemory, Proc, Reg, StepId, StepName, Val};
+use cdb_record::{Left, Records};
 use std::alloc::Global;
 use std::test::Fail;
 
-fn example(alloc: Global) -> Result<ExampleRecords, NoMemory> {
-    let mut records = ExampleRecords::new(alloc);
-    records.add(step(1, 1, Kind::Query(Proc::new(1))))?;
-    records.add(step(1, 2, Kind::Send(1)))?;
-    records.add(Event::Lost(copy(1, 1, 2)))?;
-    records.add(step(2, 1, Kind::Query(Proc::new(1))))?;
+const CELL: Cell = Cell {
+    lre: 4,
+    lrww: 2,
+    val: None,
+};
+
+/// Adds an event, with a number and a cell that it left, where the records may have it.
+fn add(records: &mut Records<u32>, event: Event, number: u32) -> Result<(), NoMemory> {
+    if may_follow(records.history(), &event) {
+        let left = Left {
+            back: Some(number),
+            overwritten: Some(CELL),
+        };
+        records.push(event, left)?;
+    }
+    Ok(())
+}
+
+/// The start of a run in which the first message of process 1 is lost for process 2, and received by 1 and 3. Each event
+/// leaves its position.
+fn example(alloc: Global) -> Result<Records<u32>, NoMemory> {
+    let (one, two, three) = (Proc::new(1), Proc::new(2), Proc::new(3));
+    let events = [
+        step(one, 1, Kind::Query(one)),
+        step(one, 2, Kind::Send(1)),
+        Event::Lost(copy(one, 1, two)),
+        step(two, 1, Kind::Query(one)),
+        step(one, 3, Kind::Recv(one, 1)),
+        step(three, 1, Kind::Recv(one, 1)),
+        step(two, 2, Kind::Local),
+    ];
+    let mut records = Records::new(alloc);
+    for (i, event) in events.iter().enumerate() {
+        add(&mut records, *event, i as u32 + 1)?;
+    }
     Ok(records)
 }
 
 #[test]
-fn counts_of_a_lost_copy(rt: HostRuntime) -> Result<(), Fail> {
+fn records_are_counted_and_taken_out(rt: HostRuntime) -> Result<(), Fail> {
+    // Names the types inside a recorded event, which the check finds in no other part of the function.
+    let _parts: (Option<Reg>, Option<Val>) = (None, None);
+    let (one, two, three) = (Proc::new(1), Proc::new(2), Proc::new(3));
     let mut records = example(rt.alloc())?;
-    assert_eq!(rt; records.len(), 4);
-    assert_eq!(rt; records.count_of(name(1, 1)), 1);
-    assert_eq!(rt; records.count_of(name(1, 2)), 1);
-    assert_eq!(rt; records.count_of(StepId::Lost(copy(1, 1, 2))), 0);
-    assert_eq!(rt; records.count_of(name(2, 1)), 0);
-    assert_eq!(rt; records.count_of(name(3, 1)), 0);
-
-    // The send is needed by the loss; without the loss it is free.
-    assert_eq!(rt; records.take_last_of(Proc::new(1)), None);
-    assert_eq!(rt;
-        records.take_lost(copy(1, 1, 2)),
-        Some(Event::Lost(copy(1, 1, 2)))
-    );
-    assert_eq!(rt; records.take_lost(copy(1, 1, 2)), None);
-    assert_eq!(rt; records.count_of(name(1, 2)), 0);
-    assert_eq!(rt;
-        records.take_last_of(Proc::new(1)),
-        Some(step(1, 2, Kind::Send(1)))
-    );
-    assert_eq!(rt; records.count_of(name(1, 1)), 0);
-    assert_eq!(rt; records.take_last_of(Proc::new(3)), None);
-    assert_eq!(rt; records.len(), 2);
-    Ok(())
-}
-
-/// Receives of one message do not need each other, and both need its send.
-#[test]
-fn counts_of_two_receives(rt: HostRuntime) -> Result<(), Fail> {
-    let mut records = example(rt.alloc())?;
-    let to_itself = receive(1, 3, 1, 1);
-    let to_another = receive(3, 1, 1, 1);
-    assert!(rt; records.add(to_itself)?);
-    assert!(rt; records.add(to_another)?);
-    assert!(rt; !records.add(step(3, 1, Kind::Local))?);
-    assert_eq!(rt; records.count_of(name(1, 2)), 3);
-    assert_eq!(rt; records.count_of(name(1, 1)), 1);
-    assert_eq!(rt;
-        records.take_last_of(Proc::new(1)),
-        Some(receive(1, 3, 1, 1))
-    );
-    assert_eq!(rt; records.count_of(name(1, 2)), 2);
-    Ok(())
-}
-
-#[test]
-fn what_it_takes_to_go_back(rt: HostRuntime) -> Result<(), Fail> {
-    let mut records = example(rt.alloc())?;
-    let cell = Cell {
-        lre: 0,
-        lrww: 0,
-        val: Some(Val::new(7)),
-    };
-    let write = step(2, 2, Kind::Write(Reg::Dec));
-    assert!(rt; records.add_with(write, Some(12), Some(cell))?);
-    assert_eq!(rt; records.len(), 5);
-    assert_eq!(rt; records.count_of(name(2, 2)), 0);
-    let entry = records
-        .take_recorded_of(Proc::new(2))
-        .expect(&rt, "the write");
-    assert_eq!(rt; entry.event, step(2, 2, Kind::Write(Reg::Dec)));
-    assert_eq!(rt; entry.back, Some(12));
-    assert_eq!(rt; entry.overwritten, Some(cell));
-    assert_eq!(rt; records.count_of(name(2, 1)), 0);
-    Ok(())
-}
-
-/// Where the change of an event fails, the event is not added.
-#[test]
-fn a_failed_change_is_not_recorded(rt: HostRuntime) -> Result<(), Fail> {
-    let mut records = example(rt.alloc())?;
-    assert!(rt; records.add_without_memory(step(2, 2, Kind::Local)));
-    assert_eq!(rt; records.len(), 4);
-    assert_eq!(rt; records.count_of(name(2, 1)), 0);
+    let counts = [
+        (one, 1, 1),
+        (one, 2, 3),
+        (one, 3, 0),
+        (two, 1, 1),
+        (three, 2, 0),
+    ];
+    for (p, k, count) in counts {
+        assert_eq!(rt; records.count_of(StepId::Step(StepName { p, k })), count);
+    }
+    assert_eq!(rt; records.count_of(StepId::Lost(copy(one, 1, two))), 0);
+    let received = records.take_last_of(one).expect(&rt, "a receive");
+    assert_eq!(rt; received.event, step(one, 3, Kind::Recv(one, 1)));
+    assert_eq!(rt; received.back, Some(5));
+    assert_eq!(rt; received.overwritten, Some(CELL));
+    // The send is needed by the loss and by the other receive.
+    assert!(rt; records.take_last_of(one).is_none());
+    let lost = records.take_lost(copy(one, 1, two)).expect(&rt, "a loss");
+    assert_eq!(rt; lost.back, Some(3));
+    assert!(rt; records.take_lost(copy(one, 1, two)).is_none());
+    assert!(rt; records.take_last_of(Proc::new(4)).is_none());
+    assert_eq!(rt; records.history().len(), 5);
     Ok(())
 }

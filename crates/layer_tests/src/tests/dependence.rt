@@ -1,0 +1,127 @@
+//! Which events depend on each other, and which may follow on a history.
+
+ghost use Rattle.std.specs.Prelude.{◌≡◌, IsTrue, false};
+ghost use Rattle.cdb_base.specs.Event.{event_name};
+ghost use Rattle.cdb_base.specs.declared.event.Event.TheVariants.{Lost};
+ghost use Rattle.cdb_base.specs.declared.name.CopyName.{CopyName as ACopy};
+ghost use Rattle.cdb_causal.specs.Dependence.{send_and_loss};
+ghost use Rattle.cdb_causal.specs.Names.{IsNewName};
+ghost use Rattle.cdb_causal.specs.Standing.{HasNoLostCopy};
+
+use cdb_base::{CopyName, Event, Kind, MsgName, NoMemory, Proc, Reg};
+use cdb_causal::{History, depends};
+
+pub fn step(p: Proc, k: u16, kind: Kind) -> Event {
+    Event::Step { p, k, kind }
+}
+
+pub fn copy(s: Proc, m: u16, to: Proc) -> CopyName {
+    let msg = MsgName { s, m };
+    CopyName { msg, to }
+}
+
+#[test]
+fn what_depends_on_what(rt: HostRuntime) {
+    let (one, two, three) = (Proc::new(1), Proc::new(2), Proc::new(3));
+    let send = step(one, 2, Kind::Send(1));
+    let crash = step(one, 3, Kind::Crash);
+    let received = step(two, 1, Kind::Recv(one, 1));
+    let by_another = step(three, 1, Kind::Recv(one, 1));
+    let from_another = step(two, 1, Kind::Recv(three, 1));
+    let next_received = step(two, 1, Kind::Recv(one, 2));
+    let lost = Event::Lost(copy(one, 1, two));
+    let lost_to_another = Event::Lost(copy(one, 1, three));
+    let read = step(two, 1, Kind::Read(Reg::Dec));
+    let read_too = step(three, 1, Kind::Read(Reg::Dec));
+    let write = step(one, 9, Kind::Write(Reg::Dec));
+    let write_too = step(two, 9, Kind::Write(Reg::Dec));
+    let elsewhere = step(three, 1, Kind::Write(Reg::R(one)));
+    let pairs = [
+        // A message and its receives.
+        (&send, &received, true),
+        (&send, &by_another, true),
+        (&received, &by_another, false),
+        (&send, &from_another, false),
+        (&send, &next_received, false),
+        // Two steps of one process.
+        (&send, &crash, true),
+        (&crash, &received, false),
+        // Two accesses of one register, of which one is a write.
+        (&read, &write, true),
+        (&write, &write_too, true),
+        (&read, &read_too, false),
+        (&write, &elsewhere, false),
+        // A loss, its send and its receive.
+        (&lost, &send, true),
+        (&lost, &received, true),
+        (&lost, &by_another, false),
+        (&lost, &lost_to_another, false),
+        (&lost, &crash, false),
+    ];
+    for (event, other, does) in pairs {
+        assert_eq!(rt; depends(event, other), does);
+        assert_eq!(rt; depends(other, event), does);
+    }
+}
+
+/// False where the event is no send.
+fn may_send(event: &Event) -> bool
+    ensures { (copy : ACopy) → result ≡ false → send_and_loss event.now (Lost copy) ≡ false }
+{
+    match event {
+        Event::Lost(_) => false,
+        Event::Step { kind, .. } => match kind {
+            Kind::Send(_) => true,
+            _ => false,
+        },
+    }
+}
+
+/// False where the earlier event is not the loss of a copy of what the event sends.
+fn has_lost(event: &Event, earlier: &Event) -> bool
+    ensures { (copy : ACopy) → earlier.now ≡ Lost copy → result ≡ false →
+        send_and_loss event.now (Lost copy) ≡ false }
+{
+    match earlier {
+        Event::Step { .. } => false,
+        Event::Lost(_) => may_send(event) && depends(event, earlier),
+    }
+}
+
+fn has_no_lost_copy(history: &History, event: &Event) -> bool
+    ensures { IsTrue result → HasNoLostCopy history.now event.now }
+{
+    for i in 0..history.len() {
+        let earlier = history.event(i);
+        if has_lost(event, earlier) {
+            return false;
+        }
+    }
+    true
+}
+
+fn has_new_name(history: &History, event: &Event) -> bool
+    ensures { IsTrue result → IsNewName history.now (event_name event.now) }
+{
+    let name = event.name();
+    match history.position(name) {
+        Some(_) => false,
+        None => true,
+    }
+}
+
+/// Whether a history may have the event next.
+pub fn may_follow(history: &History, event: &Event) -> bool
+    ensures new_name { IsTrue result → IsNewName history.now (event_name event.now) }
+    ensures not_lost { IsTrue result → HasNoLostCopy history.now event.now }
+{
+    has_new_name(history, event) && has_no_lost_copy(history, event)
+}
+
+/// Adds an event where the history may have it.
+pub fn add(history: &mut History, event: Event) -> Result<(), NoMemory> {
+    if may_follow(history, &event) {
+        history.push(event)?;
+    }
+    Ok(())
+}

@@ -1,0 +1,200 @@
+//! Machines that take inputs, some of which no run has, and go back.
+
+ghost use Rattle.std.specs.Prelude.{◌≤◌};
+
+use cdb_alpha::Alpha;
+use cdb_base::{Cell, Payload, Proc, Reg, Val};
+use cdb_leader::Leader;
+use cdb_process::{Input, SameState, Wish};
+use std::process::Abort;
+use std::test::Fail;
+
+/// Has process 1 of `n`, with all of them as its quorum, take each input, before which it wishes for what stands
+/// beside it, and go back.
+fn goes_and_goes_back<P: SameState>(
+    rt: &(impl Abort + AllocGlobal),
+    n: u8,
+    input: Val,
+    steps: &[(Option<Wish>, Input)],
+    decided: Option<Val>,
+) -> Result<(), Fail>
+    requires { (1 ≤ n) × (n ≤ 9) }
+{
+    let mut process = P::first(rt.alloc(), Proc::new(1), n, n, input)?;
+    let first = P::first(rt.alloc(), Proc::new(1), n, n, input)?;
+    let mut backs = Vec::new(rt.alloc());
+    for (wish, i) in steps {
+        assert_eq!(rt; process.wish(), *wish);
+        assert!(rt; process.accepts(i));
+        backs.push(process.take(rt.alloc(), *i)?)?;
+    }
+    assert_eq!(rt; process.decision(), decided);
+    assert!(rt; !process.has_same_state(&first));
+    for _ in 0..backs.len() {
+        if let Some(back) = backs.pop() {
+            process.put_back(back);
+        }
+    }
+    assert!(rt; process.has_same_state(&first));
+    Ok(())
+}
+
+/// What a process that names process 1 and has the value 7 sends in the first phase of a round.
+fn first_phase(round: u32) -> Payload {
+    let est = Val::new(7);
+    let lead = Proc::new(1);
+    Payload::P1 { round, est, lead }
+}
+
+/// And in the second phase of round 1.
+fn second_phase() -> Payload {
+    let aux = Some(Val::new(7));
+    Payload::P2 { round: 1, aux }
+}
+
+#[test]
+fn a_leader_machine_decides_alone(rt: HostRuntime) -> Result<(), Fail> {
+    let one = Proc::new(1);
+    let seven = Val::new(7);
+    let steps = [
+        (None, Input::Query(one)),
+        (Some(Wish::Send(first_phase(1))), Input::Send),
+        (None, Input::Recv(one, first_phase(1))),
+        (Some(Wish::Local), Input::Local),
+        (Some(Wish::Send(second_phase())), Input::Send),
+        (None, Input::Recv(one, second_phase())),
+        (Some(Wish::Local), Input::Local),
+        (Some(Wish::Send(Payload::D { est: seven })), Input::Send),
+    ];
+    goes_and_goes_back::<Leader>(&rt, 1, seven, &steps, Some(seven))
+}
+
+/// No run sends two first phases of one round.
+#[test]
+fn a_quorum_is_of_different_senders(rt: HostRuntime) -> Result<(), Fail> {
+    let one = Proc::new(1);
+    let two = Proc::new(2);
+    let steps = [
+        (None, Input::Query(one)),
+        (Some(Wish::Send(first_phase(1))), Input::Send),
+        (None, Input::Recv(one, first_phase(1))),
+        (None, Input::Recv(one, first_phase(1))),
+        (None, Input::Recv(Proc::new(3), first_phase(1))),
+        (None, Input::Recv(two, first_phase(2))),
+        (None, Input::Recv(two, first_phase(1))),
+        (Some(Wish::Local), Input::Local),
+        (Some(Wish::Send(second_phase())), Input::Send),
+    ];
+    goes_and_goes_back::<Leader>(&rt, 3, Val::new(7), &steps, None)
+}
+
+/// The register of process 1.
+fn own() -> Reg {
+    Reg::R(Proc::new(1))
+}
+
+fn cell(lre: u32, lrww: u32, val: Option<Val>) -> Cell {
+    Cell { lre, lrww, val }
+}
+
+#[test]
+fn an_alpha_machine_decides_alone(rt: HostRuntime) -> Result<(), Fail> {
+    let one = Proc::new(1);
+    let seven = Val::new(7);
+    let steps = [
+        (
+            Some(Wish::Read(Reg::Dec)),
+            Input::Read(Reg::Dec, cell(0, 0, None)),
+        ),
+        (None, Input::Query(one)),
+        (
+            Some(Wish::Write(own(), cell(1, 0, None))),
+            Input::Write(own()),
+        ),
+        (
+            Some(Wish::Read(own())),
+            Input::Read(own(), cell(1, 0, None)),
+        ),
+        (Some(Wish::Local), Input::Local),
+        (
+            Some(Wish::Write(own(), cell(1, 1, Some(seven)))),
+            Input::Write(own()),
+        ),
+        (
+            Some(Wish::Read(own())),
+            Input::Read(own(), cell(1, 1, Some(seven))),
+        ),
+        (Some(Wish::Local), Input::Local),
+        (
+            Some(Wish::Write(Reg::Dec, cell(0, 0, Some(seven)))),
+            Input::Write(Reg::Dec),
+        ),
+        (
+            Some(Wish::Read(Reg::Dec)),
+            Input::Read(Reg::Dec, cell(0, 0, Some(seven))),
+        ),
+    ];
+    goes_and_goes_back::<Alpha>(&rt, 1, seven, &steps, Some(seven))
+}
+
+/// Process 1 of 3 with input 9: what it writes where its first pass shows these cells. Most of them no run has.
+#[test]
+fn the_latest_write_of_the_least_register_is_adopted(rt: HostRuntime) -> Result<(), Fail> {
+    let one = Proc::new(1);
+    let (five, six, nine) = (Val::new(5), Val::new(6), Val::new(9));
+    let rows = [
+        (
+            cell(1, 0, None),
+            cell(1, 0, Some(five)),
+            cell(1, 1, Some(six)),
+            Some(six),
+        ),
+        (
+            cell(1, 0, None),
+            cell(1, 1, Some(five)),
+            cell(1, 1, Some(six)),
+            Some(five),
+        ),
+        (
+            cell(1, 0, None),
+            cell(1, 0, Some(five)),
+            cell(1, 0, None),
+            Some(nine),
+        ),
+        (
+            cell(1, 1, None),
+            cell(1, 0, Some(five)),
+            cell(1, 0, None),
+            Some(nine),
+        ),
+    ];
+    for (first, second, third, adopted) in rows {
+        let steps = [
+            (
+                Some(Wish::Read(Reg::Dec)),
+                Input::Read(Reg::Dec, cell(0, 0, None)),
+            ),
+            (None, Input::Query(one)),
+            (
+                Some(Wish::Write(own(), cell(1, 0, None))),
+                Input::Write(own()),
+            ),
+            (Some(Wish::Read(own())), Input::Read(own(), first)),
+            (
+                Some(Wish::Read(Reg::R(Proc::new(2)))),
+                Input::Read(Reg::R(Proc::new(2)), second),
+            ),
+            (
+                Some(Wish::Read(Reg::R(Proc::new(3)))),
+                Input::Read(Reg::R(Proc::new(3)), third),
+            ),
+            (Some(Wish::Local), Input::Local),
+            (
+                Some(Wish::Write(own(), cell(1, 1, adopted))),
+                Input::Write(own()),
+            ),
+        ];
+        goes_and_goes_back::<Alpha>(&rt, 3, nine, &steps, None)?;
+    }
+    Ok(())
+}
