@@ -1,23 +1,40 @@
-//! Sessions: how they end, and two that cross.
+//! Sessions of two seats, how they end, and a race of a process and a script.
 
-use super::gates::{Crossing, OPEN};
-use super::opening::{ALONE, ONE_LEADER, say};
-use super::pair::Pair;
-use cdb_control::Command;
+use super::pair::{ALONE, Before, OPEN, Pair, compare_seats, say};
+use cdb_any_run::RunOfSetup;
+use cdb_base::{Proc, Val};
+use cdb_control::{Act, Command};
+use cdb_race::{Script, race};
+use cdb_rules::Runs;
+use cdb_setup::Setup;
 use cdb_shared::End;
-use std::sync::Wait;
-use std::sync::atomic::AtomicBool;
 use std::test::Fail;
-use std::thread::Threads;
 
-/// How many calls a driven process makes, and how that ends.
-fn driven<R: Wait + AllocGlobal>(rt: &R, turns: u32, stop: u32) -> Result<(u32, End), Fail> {
-    let (_, count, end) = Pair::of(rt, ALONE)?.drive(rt, stop, turns);
-    Ok((count, end))
+#[test]
+fn each_seat_redoes_what_it_undid(rt: HostRuntime) -> Result<(), Fail> {
+    let mut pair = Pair::after(&rt, 0)?;
+    let calls = [
+        (Command::Step(1, Act::Query(None)), "1.1 query 1\n"),
+        (Command::Undo(1, 1), "undone 1.1 query 1\n"),
+        (Command::Redo, "refused 14 NothingToRedo\n"),
+        (Command::Redo, "redone 1.1 query 1\n"),
+    ];
+    // The seats take turns.
+    for (command, text) in calls {
+        let (served, replies, end) = pair.serve(&rt, OPEN, &[command]);
+        say(&rt, &replies, &[text])?;
+        assert_eq!(rt; end, End::All);
+        pair = served.meet(&rt).exchanged();
+    }
+    assert_eq!(rt; pair.numbers(), (1, 2));
+    compare_seats(&rt, &pair.finish(&rt)?, 0, &[1, 2, 1, 2]);
+    Ok(())
 }
 
 #[test]
-fn driven_processes_end(rt: HostRuntime) -> Result<(), Fail> {
+fn a_driven_process_ends_done_or_after_its_turns_or_at_the_gate(
+    rt: HostRuntime,
+) -> Result<(), Fail> {
     let cases = [
         (50, OPEN, (9, End::Done)),
         (9, OPEN, (9, End::Done)),
@@ -25,42 +42,64 @@ fn driven_processes_end(rt: HostRuntime) -> Result<(), Fail> {
         (8, 2, (1, End::Stopped)),
     ];
     for (turns, stop, expected) in cases {
-        assert_eq!(rt;
-            driven(&rt, turns, stop)?,
-            expected,
-            "at {turns} and {stop}"
-        );
+        let (_, count, end) = Pair::after(&rt, 0)?.drive(&rt, stop, turns);
+        assert_eq!(rt; (count, end), expected, "at {turns} and {stop}");
     }
     Ok(())
 }
 
 #[test]
-fn a_gate_stops_a_session(rt: HostRuntime) -> Result<(), Fail> {
+fn a_gate_stops_one_session_alone(rt: HostRuntime) -> Result<(), Fail> {
     let commands = [Command::Auto(1), Command::Decisions];
-    let (pair, replies, end) = Pair::of(&rt, ALONE)?.serve(&rt, 2, &commands);
-    say(&rt, &replies, "1.1 query 1\n")?;
+    let (pair, replies, end) = Pair::after(&rt, 0)?.serve(&rt, 2, &commands);
+    say(&rt, &replies, &["1.1 query 1\n"])?;
     assert_eq!(rt; end, End::Stopped);
     let (_, replies, end) = pair.exchanged().serve(&rt, OPEN, &commands);
-    say(&rt, &replies, "1.2 send 1#1\ndecisions none\n")?;
+    say(&rt, &replies, &["1.2 send 1#1\n", "decisions none\n"])?;
     assert_eq!(rt; end, End::All);
     Ok(())
 }
 
-/// Two sessions, each of which waits for the other between its calls.
-fn crossed<R: Threads + Wait + Sync + AllocGlobal>(rt: &R) -> Result<(End, End), Fail> {
-    let pair = Pair::of(rt, ONE_LEADER)?;
-    let (one, other) = (AtomicBool::new(false), AtomicBool::new(false));
-    let first = Crossing {
-        flags: Some((&one, &other)),
-    };
-    let second = Crossing {
-        flags: Some((&other, &one)),
-    };
-    Ok(pair.cross(rt, first, second))
+#[test]
+fn a_session_ends_where_the_journal_is_full(rt: HostRuntime) -> Result<(), Fail> {
+    let cases = [
+        (Command::Auto(1), "1.1 query 1\n", 1),
+        (Command::Forget, "forgot 0\n", 0),
+    ];
+    // The journal has room for one command.
+    for (command, text, events) in cases {
+        let pair = Pair::after(&rt, 999_998)?.exchanged();
+        let (pair, replies, end) = pair.serve(&rt, OPEN, &[command, command]);
+        say(&rt, &replies, &[text])?;
+        assert_eq!(rt; end, End::JournalFull);
+        let (pair, count, end) = pair.drive(&rt, OPEN, 8);
+        assert_eq!(rt; (count, end), (0, End::JournalFull));
+        let control = pair.finish(&rt)?;
+        compare_seats(&rt, &control, 999_997, &[1, 2]);
+        assert_eq!(rt; control.run().any().history().len(), events);
+    }
+    Ok(())
 }
 
 #[test]
-fn two_serves_cross(rt: HostRuntime) -> Result<(), Fail> {
-    assert_eq!(rt; crossed(&rt)?, (End::All, End::All));
+fn a_race_leaves_the_final_journal_and_the_replies(rt: HostRuntime) -> Result<(), Fail> {
+    let alloc = rt.alloc();
+    let setup = Setup::read(alloc, ALONE.as_bytes())?;
+    let commands = Vec::from_slice(alloc, &[Command::Decisions])?;
+    let scripts = [Script::new(commands)];
+    let mut gates = Vec::new(alloc);
+    gates.push(Before(OPEN))?;
+    gates.push(Before(OPEN))?;
+    assert!(rt; setup.n() == 1 && gates.len() == 2);
+    let raced = race::<RunOfSetup, _, _>(&rt, alloc, setup, 8, &scripts, gates)?;
+    assert_eq!(rt; raced.control.journal().len(), 9);
+    let decisions = raced.control.run().decisions(alloc)?;
+    let decided = [(Proc::new(1), Val::new(7))];
+    assert_eq!(rt; decisions.as_slice(), decided.as_slice());
+    let mut counts = [0; 2];
+    for (count, replies) in counts.iter_mut().zip(raced.replies.iter()) {
+        *count = replies.len();
+    }
+    assert_eq!(rt; (raced.replies.len(), counts), (2, [0, 1]));
     Ok(())
 }
