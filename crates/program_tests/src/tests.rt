@@ -78,21 +78,16 @@ fn performed<R: Threads + Wait + Sync + Abort + AllocGlobal>(
         error,
     } = outside;
     let Streams { input, output } = streams;
-    let failures = [
-        files.failures,
-        input.failures,
-        output.failures,
-        error.failures,
-    ];
-    let mut sum = 0u64;
-    for count in failures {
-        sum = sum.wrapping_add(count);
-    }
+    let failures = files
+        .failures
+        .wrapping_add(input.failures)
+        .wrapping_add(output.failures)
+        .wrapping_add(error.failures);
     Ended {
         status,
         output: output.held,
         error: error.held,
         opened: files.opened.len(),
-        failures: sum,
+        failures,
     }
 }

@@ -157,11 +157,11 @@ fn play_longest(rt: &impl AllocGlobal, out: &mut Memory) -> Result<(), PlayFault
 
 #[test]
 fn a_writer_fails_or_takes_none_at_each_call(rt: HostRuntime) {
-    for takes_none in [false, true] {
+    for takes_none in &[false, true] {
         // Of 1,049 bytes, seven are taken a call.
         for good_calls in 0..150 {
             let mut out = writer(&rt, 7, good_calls);
-            out.takes_none = takes_none;
+            out.takes_none = *takes_none;
             let played = play_longest(&rt, &mut out);
             assert_eq!(rt; played, Err(PlayFault::Write), "after {good_calls} calls");
             assert_eq!(rt; out.failures, 1);
@@ -173,8 +173,8 @@ fn a_writer_fails_or_takes_none_at_each_call(rt: HostRuntime) {
 
 #[test]
 fn a_writer_may_take_few_bytes_a_call(rt: HostRuntime) {
-    for most in [1, 2, 7] {
-        let mut out = writer(&rt, most, usize::MAX);
+    for most in &[1, 2, 7] {
+        let mut out = writer(&rt, *most, usize::MAX);
         assert_eq!(rt; play_longest(&rt, &mut out), Ok(()), "{most} bytes a call");
         assert_eq!(rt; out.held.as_slice(), TRANSCRIPT.as_bytes());
     }

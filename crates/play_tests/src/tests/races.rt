@@ -106,16 +106,16 @@ fn gates<'a>(
     first: bool,
 ) -> Result<Vec<Crossing<'a>>, AllocError> {
     let mut gates = Vec::new(alloc);
-    for holds in [first, !first] {
+    for holds in &[first, !first] {
         gates.push(Crossing {
             mine: one,
             other,
-            holds,
+            holds: *holds,
         })?;
         gates.push(Crossing {
             mine: other,
             other: one,
-            holds,
+            holds: *holds,
         })?;
     }
     Ok(gates)
@@ -147,8 +147,8 @@ fn two_sessions_cross(rt: HostRuntime) -> Result<(), Fail> {
     let text = "seat 3\ndecisions none\ndecisions none\nseat 4\ndecisions none\ndecisions none
 decisions none\ndecisions agree\n";
     // Two turns of each process are too few for a decision.
-    for (turns, first) in [(0, false), (2, true)] {
-        let written = do_cross(&rt, turns, first)?;
+    for (turns, first) in &[(0, false), (2, true)] {
+        let written = do_cross(&rt, *turns, *first)?;
         assert_eq!(rt;
             str::from_utf8(written.as_slice()),
             Ok(text),
@@ -169,8 +169,8 @@ fn a_race_that_a_gate_stopped_has_no_thread(rt: HostRuntime) {
 #[test]
 fn a_race_has_64_seats_at_most(rt: HostRuntime) -> Result<(), Fail> {
     let setup = Setup::read(rt.alloc(), ONE_PROCESS.as_bytes())?;
-    for (scripts, enough) in [(63, true), (64, false), (usize::MAX, false)] {
-        assert_eq!(rt; fits(&setup, scripts), enough, "{scripts} scripts");
+    for (scripts, enough) in &[(63, true), (64, false), (usize::MAX, false)] {
+        assert_eq!(rt; fits(&setup, *scripts), *enough, "{scripts} scripts");
     }
     Ok(())
 }

@@ -53,16 +53,16 @@ fn each_write_of_output_fails_in_turn(rt: HostRuntime) {
         (DRAW, 3_819),
         (Request::Print("help\n"), 5),
     ];
-    for (request, length) in requests {
-        let whole = performed(&rt, request, ALL_GOOD);
-        assert_eq!(rt; (whole.status, whole.output.len()), (0, length));
+    for (request, length) in &requests {
+        let whole = performed(&rt, *request, ALL_GOOD);
+        assert_eq!(rt; (whole.status, whole.output.len()), (0, *length));
         // A call takes five bytes.
         for good in 0..length.div_ceil(5) {
             let calls = GoodCalls {
                 output: good,
                 ..ALL_GOOD
             };
-            let ended = performed(&rt, request, calls);
+            let ended = performed(&rt, *request, calls);
             check(&rt, &ended, 7, "output failed\n");
             assert_eq!(rt; ended.output.len(), 5 * good);
             assert!(rt; whole.output.as_slice().starts_with(ended.output.as_slice()));
@@ -111,19 +111,19 @@ fn each_write_of_error_fails_in_turn(rt: HostRuntime) {
         ),
         (Request::Refuse(Fault::Refused("what is wrong\n")), 3),
     ];
-    for (request, writes) in requests {
-        let whole = performed(&rt, request, ALL_GOOD);
-        for good in 0..=writes {
+    for (request, writes) in &requests {
+        let whole = performed(&rt, *request, ALL_GOOD);
+        for good in 0..=*writes {
             let calls = GoodCalls {
                 error: good,
                 ..ALL_GOOD
             };
-            let ended = performed(&rt, request, calls);
+            let ended = performed(&rt, *request, calls);
             assert_eq!(rt; ended.status, whole.status);
             assert_eq!(rt; ended.output.len(), 0);
             assert!(rt; whole.error.as_slice().starts_with(ended.error.as_slice()));
             let is_whole = ended.error.len() == whole.error.len();
-            assert_eq!(rt; is_whole, good == writes);
+            assert_eq!(rt; is_whole, good == *writes);
         }
     }
 }
@@ -143,13 +143,13 @@ fn each_file_can_not_be_read_in_turn(rt: HostRuntime) {
         (DEBUG, &files[..1]),
         (RACE, &of_race),
     ];
-    for (request, texts) in requests {
+    for (request, texts) in &requests {
         for (good, text) in texts.iter().enumerate() {
             let calls = GoodCalls {
                 files: good,
                 ..ALL_GOOD
             };
-            let ended = performed(&rt, request, calls);
+            let ended = performed(&rt, *request, calls);
             check(&rt, &ended, 3, text);
             assert_eq!(rt; ended.output.len(), 0);
             assert_eq!(rt; ended.opened, good + 1);
@@ -158,7 +158,7 @@ fn each_file_can_not_be_read_in_turn(rt: HostRuntime) {
             files: texts.len(),
             ..ALL_GOOD
         };
-        assert_eq!(rt; performed(&rt, request, calls).status, 0);
+        assert_eq!(rt; performed(&rt, *request, calls).status, 0);
     }
 }
 
@@ -181,13 +181,13 @@ fn each_read_of_input_fails_in_turn(rt: HostRuntime) {
             ],
         ),
     ];
-    for (request, texts) in requests {
+    for (request, texts) in &requests {
         for (good, text) in texts.iter().enumerate() {
             let calls = GoodCalls {
                 input: good,
                 ..ALL_GOOD
             };
-            let ended = performed(&rt, request, calls);
+            let ended = performed(&rt, *request, calls);
             if good < 4 {
                 check(&rt, &ended, 3, "cannot read standard input\n");
             } else {
@@ -207,8 +207,8 @@ fn the_kth_session_is_that_of_the_kth_name(rt: HostRuntime) -> Result<(), Fail> 
     let ended = performed(&rt, hall, ALL_GOOD);
     let journal = str::from_utf8(ended.output.as_slice())?;
     // In which order the seats come is not known.
-    for line in ["1 decisions\n", "2 redo\n", "3 decisions\n"] {
-        assert!(rt; journal.contains(line));
+    for line in &["1 decisions\n", "2 redo\n", "3 decisions\n"] {
+        assert!(rt; journal.contains(*line));
     }
     assert_eq!(rt; journal.len(), 31);
     assert_eq!(rt; (ended.status, ended.error.len()), (0, 0));

@@ -10,7 +10,7 @@ use std::alloc::Global;
 type Named = (&'static str, &'static [u8]);
 
 /// The files of the tests.
-const FILES: [Named; 7] = [
+const FILES: &[Named] = &[
     (
         "one.json",
         b"{\"algorithm\":\"leader\",\"processes\":1,\"quorum\":1,\"inputs\":[7],\"oracle\":[[1]]}",
@@ -51,8 +51,8 @@ impl Folder {
 /// The bytes of the file of this name.
 fn content_of(name: &str) -> Option<&'static [u8]> {
     for (named, content) in FILES {
-        if named == name {
-            return Some(content);
+        if *named == name {
+            return Some(*content);
         }
     }
     None

@@ -17,7 +17,7 @@ use std::sync::Wait;
 use std::test::Fail;
 
 /// One process, which is its own leader.
-pub const ALONE: &str =
+const ALONE: &str =
     r#"{"algorithm":"leader","processes":1,"quorum":1,"inputs":[7],"oracle":[[1]]}"#;
 
 /// A gate that passes all calls before this one.
@@ -35,9 +35,14 @@ impl Gate for Before {
 /// The gate that always passes.
 pub const OPEN: u32 = 4_000_000_000;
 
+/// The setup of one process.
+pub fn try_setup(alloc: Global) -> Option<Setup> {
+    Setup::read(alloc, ALONE.as_bytes()).ok()
+}
+
 /// A control of one process in which nothing has happened, for two seats.
 fn try_control(alloc: Global) -> Option<Control<RunOfSetup>> {
-    let setup = Setup::read(alloc, ALONE.as_bytes()).ok()?;
+    let setup = try_setup(alloc)?;
     Control::open(alloc, setup, 2).ok()
 }
 
@@ -49,6 +54,45 @@ fn fill(alloc: Global, control: &mut Control<RunOfSetup>, count: u32) -> Result<
         let _forgot = control.execute(alloc, 1, Command::Forget)?;
     }
     Ok(())
+}
+
+/// A control of one process, after this many commands of the first seat that change nothing.
+fn filled(alloc: Global, forgets: u32) -> Result<Control<RunOfSetup>, Fail> {
+    let mut control = match try_control(alloc) {
+        Some(control) => control,
+        None => try_control(alloc).ok_or("no control")?,
+    };
+    fill(alloc, &mut control, forgets)?;
+    Ok(control)
+}
+
+/// The control as one that is shared, with its seats, or the control handed back.
+fn try_share<R: Wait + AllocGlobal>(
+    rt: &R,
+    control: Control<RunOfSetup>,
+) -> Result<(Shared<RunOfSetup>, Vec<Seat<RunOfSetup>>), Control<RunOfSetup>>
+    ensures { IfOk result (λ r. All (λ seat. RestsAt r.0 seat) r.1.items) }
+{
+    match Shared::open(rt, rt.alloc(), control) {
+        Ok(shared) => Ok(shared),
+        Err((control, _)) => Err(control),
+    }
+}
+
+/// The control as one that is shared, with its seats.
+fn share<R: Wait + AllocGlobal>(
+    rt: &R,
+    control: Control<RunOfSetup>,
+) -> Result<(Shared<RunOfSetup>, Vec<Seat<RunOfSetup>>), Fail>
+    ensures { IfOk result (λ r. All (λ seat. RestsAt r.0 seat) r.1.items) }
+{
+    match try_share(rt, control) {
+        Ok(shared) => Ok(shared),
+        Err(control) => match try_share(rt, control) {
+            Ok(shared) => Ok(shared),
+            Err(_) => Err(Fail::from("no memory")),
+        },
+    }
 }
 
 /// Room for both seats.
@@ -83,18 +127,8 @@ impl Model for Pair {
 impl Pair {
     /// A run of one process, after this many commands of the first seat that change nothing.
     pub fn after<R: Wait + AllocGlobal>(rt: &R, forgets: u32) -> Result<Pair, Fail> {
-        let mut control = match try_control(rt.alloc()) {
-            Some(control) => control,
-            None => try_control(rt.alloc()).ok_or("no control")?,
-        };
-        fill(rt.alloc(), &mut control, forgets)?;
-        match Shared::open(rt, rt.alloc(), control) {
-            Ok((shared, seats)) => seated(shared, seats),
-            Err((control, _)) => match Shared::open(rt, rt.alloc(), control) {
-                Ok((shared, seats)) => seated(shared, seats),
-                Err(_) => Err(Fail::from("no memory")),
-            },
-        }
+        let (shared, seats) = share(rt, filled(rt.alloc(), forgets)?)?;
+        seated(shared, seats)
     }
 
     /// The numbers of the seats.
