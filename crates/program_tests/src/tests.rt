@@ -46,7 +46,7 @@ struct Ended {
 
 /// Whether a race has no more turns than it may have, and sessions have a seat.
 fn has_turns(request: Request<'_>) -> bool
-    ensures { IsTrue result → HasTurns request }
+    ensures { IsTrue result → HasTurns request.entry }
 {
     match request {
         Request::Race { turns, .. } => turns <= MAX_TURNS,

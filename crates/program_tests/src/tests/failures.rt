@@ -128,22 +128,28 @@ fn each_write_of_error_fails_in_turn(rt: HostRuntime) {
     }
 }
 
+/// What is reported where the first file of a request can't be read, and then where the next can't.
+const UNREAD: &[(Request<'static>, &'static [&'static str])] = &[
+    (PLAY, &["cannot read one.json\n", "cannot read eight.txt\n"]),
+    (
+        EXPLAIN,
+        &["cannot read one.json\n", "cannot read eight.txt\n"],
+    ),
+    (DRAW, &["cannot read one.json\n", "cannot read eight.txt\n"]),
+    (DEBUG, &["cannot read one.json\n"]),
+    (
+        RACE,
+        &[
+            "cannot read two.json\n",
+            "cannot read undo.txt\n",
+            "cannot read redo.txt\n",
+        ],
+    ),
+];
+
 #[test]
 fn each_file_can_not_be_read_in_turn(rt: HostRuntime) {
-    let files = ["cannot read one.json\n", "cannot read eight.txt\n"];
-    let of_race = [
-        "cannot read two.json\n",
-        "cannot read undo.txt\n",
-        "cannot read redo.txt\n",
-    ];
-    let requests: [(Request, &[&str]); 5] = [
-        (PLAY, &files),
-        (EXPLAIN, &files),
-        (DRAW, &files),
-        (DEBUG, &files[..1]),
-        (RACE, &of_race),
-    ];
-    for (request, texts) in &requests {
+    for (request, texts) in UNREAD {
         for (good, text) in texts.iter().enumerate() {
             let calls = GoodCalls {
                 files: good,
