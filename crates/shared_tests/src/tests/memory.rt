@@ -1,36 +1,62 @@
 //! Out of memory in a session: it ends there, with what came before, and its next calls have the replies as
 //! if nothing had happened. To see it, let each allocation of this test fail in turn.
 
-use super::pair::{OPEN, Pair, compare_seats, say};
-use cdb_control::Command;
+use super::pair::{OPEN, Pair, ends_with_seats, say};
+use cdb_control::{Command, Reply};
 use cdb_shared::End;
+use std::alloc::AllocError;
+use std::sync::Wait;
 use std::test::Fail;
+
+/// Drives the process for eight turns, and for what is left of them if an allocation failed.
+fn drive_at_last<R: Wait + AllocGlobal>(rt: &R, pair: Pair) -> (Pair, u32, End) {
+    let (pair, count, end) = pair.drive(rt, OPEN, 8);
+    if end != End::NoMemory {
+        return (pair, count, end);
+    }
+    let (pair, more, end) = pair.drive(rt, OPEN, 8u32.saturating_sub(count));
+    (pair, count.saturating_add(more), end)
+}
+
+/// The commands behind the first that were answered.
+fn left(commands: &[Command], answered: usize) -> &[Command] {
+    commands.get(answered..).unwrap_or(&[])
+}
+
+/// Serves the commands, and those that are left if an allocation failed.
+fn serve_at_last<R: Wait + AllocGlobal>(
+    rt: &R,
+    pair: Pair,
+    commands: &[Command],
+) -> Result<(Pair, Vec<Reply>, End), AllocError> {
+    let (pair, mut replies, end) = pair.serve(rt, OPEN, commands);
+    if end != End::NoMemory {
+        return Ok((pair, replies, end));
+    }
+    let (pair, more, end) = pair.serve(rt, OPEN, left(commands, replies.len()));
+    append(&mut replies, more)?;
+    Ok((pair, replies, end))
+}
+
+fn append(replies: &mut Vec<Reply>, more: Vec<Reply>) -> Result<(), AllocError> {
+    for reply in more {
+        replies.push(reply)?;
+    }
+    Ok(())
+}
 
 #[test]
 fn sessions_without_memory(rt: HostRuntime) -> Result<(), Fail> {
-    // What is left of a session is done in a second one.
-    let (pair, count, end) = Pair::after(&rt, 0)?.drive(&rt, OPEN, 8);
-    let (pair, more, end_of_rest) = pair.drive(&rt, OPEN, 8u32.saturating_sub(count));
-    assert!(rt; count == 8 || end == End::NoMemory);
-    assert_eq!(rt; (count.saturating_add(more), end_of_rest), (8, End::All));
+    let (pair, count, end) = drive_at_last(&rt, Pair::after(&rt, 0)?);
+    assert_eq!(rt; (count, end), (8, End::All));
     let commands = [Command::Undo(1, 8), Command::Redo, Command::Decisions];
-    let (pair, replies, end) = pair.exchanged().serve(&rt, OPEN, &commands);
-    let rest = commands.get(replies.len()..).unwrap_or(&[]);
-    let (pair, replies_of_rest, end_of_rest) = pair.serve(&rt, OPEN, rest);
-    assert!(rt; rest.is_empty() || end == End::NoMemory);
-    assert_eq!(rt; end_of_rest, End::All);
-    let texts = [
-        "undone 1.8 send 1#3\n",
-        "redone 1.8 send 1#3 decides 7\n",
-        "decisions 1=7\n",
-    ];
-    say(&rt, &replies, texts.get(..replies.len()).unwrap_or(&[]))?;
-    say(
-        &rt,
-        &replies_of_rest,
-        texts.get(replies.len()..).unwrap_or(&[]),
-    )?;
+    let (pair, replies, end) = serve_at_last(&rt, pair.exchanged(), &commands)?;
+    assert_eq!(rt; end, End::All);
+    let text = "undone 1.8 send 1#3\nredone 1.8 send 1#3 decides 7\ndecisions 1=7\n";
+    say(&rt, &replies, text)?;
+    let control = pair.finish(&rt)?;
     let seats = [1, 1, 1, 1, 1, 1, 1, 1, 2, 2, 2];
-    compare_seats(&rt, &pair.finish(&rt)?, 0, &seats);
+    assert_eq!(rt; control.journal().len(), 11);
+    assert!(rt; ends_with_seats(control.journal(), &seats));
     Ok(())
 }

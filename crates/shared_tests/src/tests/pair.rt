@@ -5,7 +5,7 @@ ghost use Rattle.std.specs.Prelude.{◌≡◌, ◌<◌, ◌≤◌, [], All, IfOk
 ghost use Rattle.cdb_shared.specs.Seats.{RestsAt};
 
 use cdb_any_run::RunOfSetup;
-use cdb_control::{CallFault, Command, Control, Reply};
+use cdb_control::{CallFault, Command, Control, Entry, Reply};
 use cdb_rules::Runs;
 use cdb_setup::Setup;
 use cdb_shared::{End, Gate, Seat, Shared, drive, serve};
@@ -56,12 +56,17 @@ fn fill(alloc: Global, control: &mut Control<RunOfSetup>, count: u32) -> Result<
     Ok(())
 }
 
+/// A control of one process in which nothing has happened, for two seats.
+fn control_at_last(alloc: Global) -> Result<Control<RunOfSetup>, Fail> {
+    match try_control(alloc) {
+        Some(control) => Ok(control),
+        None => Ok(try_control(alloc).ok_or("no control")?),
+    }
+}
+
 /// A control of one process, after this many commands of the first seat that change nothing.
 fn filled(alloc: Global, forgets: u32) -> Result<Control<RunOfSetup>, Fail> {
-    let mut control = match try_control(alloc) {
-        Some(control) => control,
-        None => try_control(alloc).ok_or("no control")?,
-    };
+    let mut control = control_at_last(alloc)?;
     fill(alloc, &mut control, forgets)?;
     Ok(control)
 }
@@ -253,28 +258,35 @@ fn gathered(
     both
 }
 
-/// Compares the texts of replies with what is expected.
-pub fn say<R: Abort + AllocGlobal>(
-    rt: &R,
-    replies: &[Reply],
-    expected: &[&str],
-) -> Result<(), Fail> {
-    assert_eq!(rt; replies.len(), expected.len());
-    for (reply, text) in replies.iter().zip(expected.iter()) {
-        let told = match reply_text(rt.alloc(), reply) {
-            Ok(told) => told,
-            Err(_) => reply_text(rt.alloc(), reply)?,
-        };
-        assert_eq!(rt; told.as_slice(), text.as_bytes());
+/// The texts of replies, one after the other.
+fn try_texts(alloc: Global, replies: &[Reply]) -> Option<Vec<u8>> {
+    let mut texts = Vec::new(alloc);
+    for reply in replies {
+        let text = reply_text(alloc, reply).ok()?;
+        texts.extend_from_slice(text.as_slice()).ok()?;
     }
+    Some(texts)
+}
+
+/// Compares the texts of replies, one after the other, with what is expected.
+pub fn say<R: Abort + AllocGlobal>(rt: &R, replies: &[Reply], expected: &str) -> Result<(), Fail> {
+    let texts = match try_texts(rt.alloc(), replies) {
+        Some(texts) => texts,
+        None => try_texts(rt.alloc(), replies).ok_or("no texts")?,
+    };
+    assert_eq!(rt; texts.as_slice(), expected.as_bytes());
     Ok(())
 }
 
-/// Compares the seats of the entries of a journal, from this one on, with what is expected.
-pub fn compare_seats<R: Abort>(rt: &R, control: &Control<RunOfSetup>, from: usize, seats: &[u8]) {
-    let journal = control.journal();
-    assert_eq!(rt; journal.len(), from.saturating_add(seats.len()));
-    for (entry, seat) in journal.iter().skip(from).zip(seats.iter()) {
-        assert_eq!(rt; entry.seat, *seat);
+/// Whether the last entries of a journal are of these seats.
+pub fn ends_with_seats(journal: &[Entry], seats: &[u8]) -> bool {
+    let Some(from) = journal.len().checked_sub(seats.len()) else {
+        return false;
+    };
+    for at in 0..seats.len() {
+        if journal[from + at].seat != seats[at] {
+            return false;
+        }
     }
+    true
 }

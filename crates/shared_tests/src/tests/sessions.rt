@@ -1,11 +1,9 @@
 //! Sessions of two seats, how they end, and a race of a process and a script.
 
-use super::pair::{Before, OPEN, Pair, compare_seats, say, try_setup};
+use super::pair::{Before, OPEN, Pair, ends_with_seats, say, try_setup};
 use cdb_any_run::RunOfSetup;
-use cdb_base::{Proc, Val};
 use cdb_control::{Act, Command};
 use cdb_race::{RaceFault, Raced, Script, race};
-use cdb_rules::Runs;
 use cdb_setup::Setup;
 use cdb_shared::End;
 use std::process::Abort;
@@ -13,41 +11,48 @@ use std::sync::Wait;
 use std::test::Fail;
 use std::thread::Threads;
 
+/// Serves the first seat with a command, compares the text of the reply, and exchanges the seats once they met.
+fn told<R: Wait + Abort + AllocGlobal>(
+    rt: &R,
+    pair: Pair,
+    command: Command,
+    text: &str,
+) -> Result<Pair, Fail> {
+    let (pair, replies, end) = pair.serve(rt, OPEN, &[command]);
+    assert_eq!(rt; end, End::All);
+    say(rt, &replies, text)?;
+    Ok(pair.meet(rt).exchanged())
+}
+
 #[test]
 fn each_seat_redoes_what_it_undid(rt: HostRuntime) -> Result<(), Fail> {
-    let mut pair = Pair::after(&rt, 0)?;
-    let calls = [
-        (Command::Step(1, Act::Query(None)), "1.1 query 1\n"),
-        (Command::Undo(1, 1), "undone 1.1 query 1\n"),
-        (Command::Redo, "refused 14 NothingToRedo\n"),
-        (Command::Redo, "redone 1.1 query 1\n"),
-    ];
-    // The seats take turns.
-    for (command, text) in &calls {
-        let (served, replies, end) = pair.serve(&rt, OPEN, &[*command]);
-        say(&rt, &replies, &[text])?;
-        assert_eq!(rt; end, End::All);
-        pair = served.meet(&rt).exchanged();
-    }
+    let pair = Pair::after(&rt, 0)?;
+    let query = Command::Step(1, Act::Query(None));
+    let pair = told(&rt, pair, query, "1.1 query 1\n")?;
+    let pair = told(&rt, pair, Command::Undo(1, 1), "undone 1.1 query 1\n")?;
+    let pair = told(&rt, pair, Command::Redo, "refused 14 NothingToRedo\n")?;
+    let pair = told(&rt, pair, Command::Redo, "redone 1.1 query 1\n")?;
     assert_eq!(rt; pair.numbers(), (1, 2));
-    compare_seats(&rt, &pair.finish(&rt)?, 0, &[1, 2, 1, 2]);
+    let control = pair.finish(&rt)?;
+    assert_eq!(rt; control.journal().len(), 4);
+    assert!(rt; ends_with_seats(control.journal(), &[1, 2, 1, 2]));
     Ok(())
+}
+
+/// How many calls a driven process makes, and how that ends.
+fn driven<R: Wait + AllocGlobal>(rt: &R, turns: u32, stop: u32) -> Result<(u32, End), Fail> {
+    let (_, count, end) = Pair::after(rt, 0)?.drive(rt, stop, turns);
+    Ok((count, end))
 }
 
 #[test]
 fn a_driven_process_ends_done_or_after_its_turns_or_at_the_gate(
     rt: HostRuntime,
 ) -> Result<(), Fail> {
-    let cases = [
-        (50, OPEN, (9, End::Done)),
-        (9, OPEN, (9, End::Done)),
-        (8, OPEN, (8, End::All)),
-        (8, 2, (1, End::Stopped)),
-    ];
-    for (turns, stop, expected) in &cases {
-        let (_, count, end) = Pair::after(&rt, 0)?.drive(&rt, *stop, *turns);
-        assert_eq!(rt; (count, end), *expected, "at {turns} and {stop}");
-    }
+    assert_eq!(rt; driven(&rt, 50, OPEN)?, (9, End::Done));
+    assert_eq!(rt; driven(&rt, 9, OPEN)?, (9, End::Done));
+    assert_eq!(rt; driven(&rt, 8, OPEN)?, (8, End::All));
+    assert_eq!(rt; driven(&rt, 8, 2)?, (1, End::Stopped));
     Ok(())
 }
 
@@ -55,33 +60,45 @@ fn a_driven_process_ends_done_or_after_its_turns_or_at_the_gate(
 fn a_gate_stops_one_session_alone(rt: HostRuntime) -> Result<(), Fail> {
     let commands = [Command::Auto(1), Command::Decisions];
     let (pair, replies, end) = Pair::after(&rt, 0)?.serve(&rt, 2, &commands);
-    say(&rt, &replies, &["1.1 query 1\n"])?;
+    say(&rt, &replies, "1.1 query 1\n")?;
     assert_eq!(rt; end, End::Stopped);
     let (_, replies, end) = pair.exchanged().serve(&rt, OPEN, &commands);
-    say(&rt, &replies, &["1.2 send 1#1\n", "decisions none\n"])?;
+    say(&rt, &replies, "1.2 send 1#1\ndecisions none\n")?;
     assert_eq!(rt; end, End::All);
+    Ok(())
+}
+
+/// Gives a command twice from the second seat where the journal has room for one entry, and then drives the process from
+/// there. The pair is left.
+fn overfilled<R: Wait + Abort + AllocGlobal>(
+    rt: &R,
+    command: Command,
+    text: &str,
+) -> Result<Pair, Fail> {
+    let pair = Pair::after(rt, 999_998)?.exchanged();
+    let (pair, replies, end) = pair.serve(rt, OPEN, &[command, command]);
+    say(rt, &replies, text)?;
+    assert_eq!(rt; end, End::JournalFull);
+    let (pair, count, end) = pair.drive(rt, OPEN, 8);
+    assert_eq!(rt; (count, end), (0, End::JournalFull));
+    Ok(pair)
+}
+
+/// Compares how many events stand where the journal is full and its last entry is of the second seat.
+fn compare<R: Wait + Abort + AllocGlobal>(rt: &R, pair: Pair, events: usize) -> Result<(), Fail> {
+    let control = pair.finish(rt)?;
+    assert_eq!(rt; control.journal().len(), 999_999);
+    assert!(rt; ends_with_seats(control.journal(), &[1, 2]));
+    assert_eq!(rt; control.run().any().history().len(), events);
     Ok(())
 }
 
 #[test]
 fn a_session_ends_where_the_journal_is_full(rt: HostRuntime) -> Result<(), Fail> {
-    let cases = [
-        (Command::Auto(1), "1.1 query 1\n", 1),
-        (Command::Forget, "forgot 0\n", 0),
-    ];
-    // The journal has room for one command.
-    for (command, text, events) in &cases {
-        let pair = Pair::after(&rt, 999_998)?.exchanged();
-        let (pair, replies, end) = pair.serve(&rt, OPEN, &[*command, *command]);
-        say(&rt, &replies, &[text])?;
-        assert_eq!(rt; end, End::JournalFull);
-        let (pair, count, end) = pair.drive(&rt, OPEN, 8);
-        assert_eq!(rt; (count, end), (0, End::JournalFull));
-        let control = pair.finish(&rt)?;
-        compare_seats(&rt, &control, 999_997, &[1, 2]);
-        assert_eq!(rt; control.run().any().history().len(), *events);
-    }
-    Ok(())
+    let pair = overfilled(&rt, Command::Auto(1), "1.1 query 1\n")?;
+    compare(&rt, pair, 1)?;
+    let pair = overfilled(&rt, Command::Forget, "forgot 0\n")?;
+    compare(&rt, pair, 0)
 }
 
 /// Races a process for eight turns and a script of one command. Both gates pass all calls.
@@ -97,17 +114,14 @@ fn raced<R: Threads + Wait + Sync + Abort + AllocGlobal>(
 
 #[test]
 fn a_race_leaves_the_final_journal_and_the_replies(rt: HostRuntime) -> Result<(), Fail> {
-    let alloc = rt.alloc();
-    let setup = try_setup(alloc).ok_or("no setup")?;
-    let script = Script::new(Vec::from_slice(alloc, &[Command::Decisions])?);
-    let gates = vec![in alloc; Before(OPEN), Before(OPEN)]?;
+    let setup = try_setup(rt.alloc()).ok_or("no setup")?;
+    let script = Script::new(Vec::from_slice(rt.alloc(), &[Command::Decisions])?);
+    let gates = vec![in rt.alloc(); Before(OPEN), Before(OPEN)]?;
     let raced = raced(&rt, setup, script, gates)?;
     assert_eq!(rt; raced.control.journal().len(), 9);
-    let decisions = raced.control.run().decisions(alloc)?;
-    let decided = [(Proc::new(1), Val::new(7))];
-    assert_eq!(rt; decisions.as_slice(), decided.as_slice());
-    for (replies, count) in raced.replies.iter().zip([0, 1].iter()) {
-        assert_eq!(rt; replies.len(), *count);
-    }
+    assert_eq!(rt; raced.control.run().any().history().len(), 8);
+    assert_eq!(rt; raced.replies.len(), 2);
+    assert!(rt; raced.replies[0].is_empty());
+    assert_eq!(rt; raced.replies[1].len(), 1);
     Ok(())
 }
