@@ -6,6 +6,7 @@ use cdb_control::{Act, Command};
 use cdb_race::{RaceFault, Raced, Script, race};
 use cdb_setup::Setup;
 use cdb_shared::End;
+use std::alloc::{AllocError, Global};
 use std::process::Abort;
 use std::sync::Wait;
 use std::test::Fail;
@@ -101,27 +102,39 @@ fn a_session_ends_where_the_journal_is_full(rt: HostRuntime) -> Result<(), Fail>
     compare(&rt, pair, 0)
 }
 
-/// Races a process for eight turns and a script of one command. Both gates pass all calls.
+/// How many entries the journal of a race has, how many events stand, and how many replies there are to scripts.
+fn counts(raced: &Raced<RunOfSetup>) -> (usize, usize, usize) {
+    let mut replies = 0usize;
+    for of_seat in raced.replies.as_slice() {
+        replies = replies.saturating_add(of_seat.len());
+    }
+    let events = raced.control.run().any().history().len();
+    (raced.control.journal().len(), events, replies)
+}
+
+/// Races a process for eight turns and a script. Both gates pass all calls.
 fn raced<R: Threads + Wait + Sync + Abort + AllocGlobal>(
     rt: &R,
     setup: Setup,
     script: Script,
     gates: Vec<Before>,
-) -> Result<Raced<RunOfSetup>, RaceFault> {
+) -> Result<(usize, usize, usize), RaceFault> {
     assert!(rt; setup.n() == 1 && gates.len() == 2);
-    race(rt, rt.alloc(), setup, 8, &[script], gates)
+    let raced = race::<RunOfSetup, _, _>(rt, rt.alloc(), setup, 8, &[script], gates)?;
+    Ok(counts(&raced))
+}
+
+/// A script of one command.
+fn script(alloc: Global) -> Result<Script, AllocError> {
+    let commands = Vec::from_slice(alloc, &[Command::Decisions])?;
+    Ok(Script::new(commands))
 }
 
 #[test]
 fn a_race_leaves_the_final_journal_and_the_replies(rt: HostRuntime) -> Result<(), Fail> {
     let setup = try_setup(rt.alloc()).ok_or("no setup")?;
-    let script = Script::new(Vec::from_slice(rt.alloc(), &[Command::Decisions])?);
+    let script = script(rt.alloc())?;
     let gates = vec![in rt.alloc(); Before(OPEN), Before(OPEN)]?;
-    let raced = raced(&rt, setup, script, gates)?;
-    assert_eq!(rt; raced.control.journal().len(), 9);
-    assert_eq!(rt; raced.control.run().any().history().len(), 8);
-    assert_eq!(rt; raced.replies.len(), 2);
-    assert!(rt; raced.replies[0].is_empty());
-    assert_eq!(rt; raced.replies[1].len(), 1);
+    assert_eq!(rt; raced(&rt, setup, script, gates)?, (9, 8, 1));
     Ok(())
 }
