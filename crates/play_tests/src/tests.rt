@@ -1,23 +1,16 @@
-//! Worked examples as scripts, and readers and writers of the tests.
+//! A reader and a writer over memory that fail, and the setups.
 
-mod breakpoints;
-mod failures;
-mod faults;
-mod leader;
-mod limits;
-mod long;
-mod losses;
 mod out_of_memory;
+mod plays;
 mod races;
-mod rollback;
-mod setups;
-mod undo;
 
-use cdb_any_run::RunOfSetup;
-use cdb_play::{Bytes, Failed, PlayFault, Sink, Source, play};
-use setups::ONE_PROCESS;
-use std::process::Abort;
-use std::test::Fail;
+use cdb_play::{Failed, Sink, Source};
+
+const ONE_PROCESS: &str =
+    r#"{"algorithm":"leader","processes":1,"quorum":1,"inputs":[7],"oracle":[[1]]}"#;
+
+const MAJORITY: &str =
+    r#"{"algorithm":"leader","processes":2,"quorum":2,"inputs":[5,6],"oracle":[[1],[1]]}"#;
 
 /// A writer over memory that takes `most` bytes a call. After this many good calls one takes none, or fails.
 #[derive(Drop)]
@@ -50,7 +43,7 @@ impl Sink for Memory {
     }
 }
 
-/// A reader over memory that gives 5 bytes a call, and whose calls fail from this one on, counted from 0.
+/// A reader over memory that gives 5 bytes a call, and fails after this many good calls.
 #[derive(Drop)]
 struct Halting<'a> {
     rest: &'a [u8],
@@ -79,56 +72,13 @@ impl<'a> Source for Halting<'a> {
     }
 }
 
-/// A writer that takes this many bytes a call, and never fails.
-fn writer(rt: &impl AllocGlobal, most: usize) -> Memory {
+/// A writer that takes this many bytes a call, and fails after this many good calls.
+fn writer(rt: &impl AllocGlobal, most: usize, good_calls: usize) -> Memory {
     Memory {
         held: Vec::new(rt.alloc()),
         most,
-        good_calls: usize::MAX,
+        good_calls,
         takes_none: false,
         failures: 0,
     }
-}
-
-/// Plays a script, and compares what it wrote.
-fn check(
-    rt: &(impl Abort + AllocGlobal),
-    setup: &str,
-    script: &str,
-    transcript: &str,
-) -> Result<(), Fail> {
-    let mut out = writer(rt, 1_000);
-    let mut source = Bytes::new(script.as_bytes());
-    assert_eq!(rt;
-        play::<RunOfSetup, _, _>(rt.alloc(), setup.as_bytes(), &mut source, &mut out),
-        Ok(())
-    );
-    assert_eq!(rt; str::from_utf8(out.held.as_slice()), Ok(transcript));
-    Ok(())
-}
-
-/// Plays a script that has a fault, which writes nothing.
-fn check_fault(rt: &(impl Abort + AllocGlobal), setup: &str, script: &[u8], fault: PlayFault) {
-    let mut out = writer(rt, 1_000);
-    let mut source = Bytes::new(script);
-    assert_eq!(rt;
-        play::<RunOfSetup, _, _>(rt.alloc(), setup.as_bytes(), &mut source, &mut out),
-        Err(fault)
-    );
-    assert_eq!(rt; out.held.len(), 0);
-}
-
-#[test]
-fn an_empty_script_writes_nothing(rt: HostRuntime) -> Result<(), Fail> {
-    check(&rt, ONE_PROCESS, "", "")
-}
-
-#[test]
-fn the_last_line_may_lack_its_end(rt: HostRuntime) -> Result<(), Fail> {
-    check(
-        &rt,
-        ONE_PROCESS,
-        "auto 1\nauto 1",
-        "1.1 query 1\n1.2 send 1#1\n",
-    )
 }

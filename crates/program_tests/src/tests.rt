@@ -1,22 +1,22 @@
-//! An outside in memory: files, readers and writers, any of which may fail.
+//! Requests over files and streams in memory, each call of which fails in turn.
 
+ghost use Rattle.std.specs.Prelude.{IsTrue};
 ghost use Rattle.cdb_program.specs.Requests.{HasTurns};
 
 mod failures;
 mod files;
-mod requests;
 mod streams;
 
 use cdb_debug::Streams;
-use cdb_program::{Outside, Request, perform};
-use files::{FILES, Folder};
-use std::alloc::AllocError;
+use cdb_program::{MAX_TURNS, Outside, Request, perform};
+use files::Folder;
+use std::process::Abort;
 use std::sync::Wait;
 use std::thread::Threads;
 use streams::{Reader, Writer};
 
-/// Every call goes well.
-const ENOUGH: usize = usize::MAX;
+/// Standard input: two lines, of which the last has no end.
+const INPUT: &[u8] = b"auto 1\nredo";
 
 /// How many calls go well: reads of files, reads of standard input, and writes of standard output and standard error.
 #[derive(Clone, Copy)]
@@ -28,36 +28,45 @@ struct GoodCalls {
 }
 
 const ALL_GOOD: GoodCalls = GoodCalls {
-    files: ENOUGH,
-    input: ENOUGH,
-    output: ENOUGH,
-    error: ENOUGH,
+    files: usize::MAX,
+    input: usize::MAX,
+    output: usize::MAX,
+    error: usize::MAX,
 };
 
-/// How a request ended: the status, what was written, the files that were opened, and how many calls failed.
+/// How a request ended: the status, what was written, how many files were opened, and how many calls failed.
 #[derive(Drop)]
 struct Ended {
     status: u8,
     output: Vec<u8>,
     error: Vec<u8>,
-    opened: Vec<Vec<u8>>,
+    opened: usize,
     failures: u64,
 }
 
-/// Performs a request over the files of the tests and this standard input, with this many good calls.
-fn performed<R: Threads + Wait + Sync + AllocGlobal>(
+/// Whether a race has no more turns than it may have, and sessions have a seat.
+fn has_turns(request: Request<'_>) -> bool
+    ensures { IsTrue result → HasTurns request.entry }
+{
+    match request {
+        Request::Race { turns, .. } => turns <= MAX_TURNS,
+        Request::Hall { seats, .. } => !seats.is_empty(),
+        _ => true,
+    }
+}
+
+/// Performs a request over the files of the tests and standard input, with this many good calls.
+fn performed<R: Threads + Wait + Sync + Abort + AllocGlobal>(
     rt: &R,
     request: Request<'_>,
-    input: &str,
     good: GoodCalls,
-) -> Ended
-    requires { HasTurns request }
-{
+) -> Ended {
+    assert!(rt; has_turns(request));
     let alloc = rt.alloc();
     let mut outside = Outside {
-        files: Folder::new(alloc, FILES, good.files),
+        files: Folder::new(alloc, good.files),
         streams: Streams::new(
-            Reader::new(input.as_bytes(), good.input),
+            Reader::new(INPUT, good.input),
             Writer::new(alloc, good.output),
         ),
         error: Writer::new(alloc, good.error),
@@ -69,19 +78,16 @@ fn performed<R: Threads + Wait + Sync + AllocGlobal>(
         error,
     } = outside;
     let Streams { input, output } = streams;
-    let failures = [
-        files.failures,
-        input.failures,
-        output.failures,
-        error.failures,
-    ];
+    let failures = files
+        .failures
+        .wrapping_add(input.failures)
+        .wrapping_add(output.failures)
+        .wrapping_add(error.failures);
     Ended {
         status,
         output: output.held,
         error: error.held,
-        opened: files.opened,
-        failures: failures
-            .iter()
-            .fold(0, |sum: u64, it| sum.wrapping_add(*it)),
+        opened: files.opened.len(),
+        failures,
     }
 }

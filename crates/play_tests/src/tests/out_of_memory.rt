@@ -4,8 +4,7 @@
 ghost use Rattle.std.specs.Prelude.{IfOk};
 ghost use Rattle.cdb_setup.specs.Format.{Encodes};
 
-use super::Memory;
-use super::setups::{MAJORITY, ONE_PROCESS};
+use super::{MAJORITY, Memory, ONE_PROCESS};
 use cdb_any_run::RunOfSetup;
 use cdb_play::{Bytes, PlayFault, RaceFault, fits, play, race};
 use cdb_setup::{Setup, SetupFault};

@@ -2,10 +2,10 @@
 
 ghost use Rattle.std.specs.Prelude.{◌≡◌, ◌≤◌, IfOk, vec_len};
 
-use super::setups::{MAJORITY, ONE_PROCESS};
-use super::writer;
+use super::plays::{SCRIPT, TRANSCRIPT};
+use super::{MAJORITY, Memory, ONE_PROCESS, writer};
 use cdb_any_run::RunOfSetup;
-use cdb_play::{fits, race, race_with};
+use cdb_play::{RaceFault, fits, race_on, race_status_of, race_with, write_race_fault};
 use cdb_rules::Runs;
 use cdb_setup::Setup;
 use cdb_shared::{Gate, Seat};
@@ -16,8 +16,6 @@ use std::sync::atomic::{AtomicBool, Ordering};
 use std::test::Fail;
 use std::thread::{self, Threads};
 
-const AGREE: &str = "decisions agree\n";
-
 /// This many scripts of this text.
 fn scripts(alloc: Global, text: &str, count: usize) -> Result<Vec<Vec<u8>>, AllocError> {
     let mut scripts = Vec::new(alloc);
@@ -27,92 +25,65 @@ fn scripts(alloc: Global, text: &str, count: usize) -> Result<Vec<Vec<u8>>, Allo
     Ok(scripts)
 }
 
-/// The text of a race, where it has seats enough.
-fn text_of_race<R: Threads + Wait + Sync + AllocGlobal>(
+/// Runs a race of two processes and one script.
+fn race_of_one_script<R: Threads + Wait + Sync + AllocGlobal>(
     rt: &R,
-    setup: &str,
-    turns: u32,
-    scripts: &[Vec<u8>],
-) -> Result<Vec<u8>, Fail>
-    requires { turns ≤ 99999 }
-{
-    let mut out = writer(rt, 1_000);
-    let setup = setup.as_bytes();
-    let parts = Setup::read(rt.alloc(), setup)?;
-    if fits(&parts, scripts.len()) {
-        race::<RunOfSetup, _, _>(rt, rt.alloc(), setup, turns, scripts, &mut out)?;
-    }
-    Ok(out.held)
-}
-
-/// Whether the text of a race of one script ends so.
-fn ends_with<R: Threads + Wait + Sync + AllocGlobal>(
-    rt: &R,
-    setup: &str,
     turns: u32,
     script: &str,
-    end: &str,
-) -> Result<bool, Fail>
-    requires { turns ≤ 99999 }
-{
+    out: &mut Memory,
+) -> Result<Result<(), RaceFault>, Fail> {
     let scripts = scripts(rt.alloc(), script, 1)?;
-    let text = text_of_race(rt, setup, turns, scripts.as_slice())?;
-    Ok(text.as_slice().ends_with(end.as_bytes()))
+    let setup = Setup::read(rt.alloc(), MAJORITY.as_bytes())?;
+    if !fits(&setup, scripts.len()) {
+        return Err(Fail::from("it has no seats enough"));
+    }
+    let raced = race_on::<RunOfSetup, _, _>(rt, rt.alloc(), setup, turns, &scripts, out);
+    Ok(raced)
 }
 
 #[test]
-fn races_with_a_majority_agree(rt: HostRuntime) -> Result<(), Fail> {
-    assert!(rt; ends_with(&rt, MAJORITY, 50, "undo 2 1\nredo\n", AGREE)?);
-    Ok(())
-}
-
-#[test]
-fn a_race_of_one_process_decides(rt: HostRuntime) -> Result<(), Fail> {
-    let end = "decisions 1=7\ndecisions agree\n";
-    assert!(rt; ends_with(&rt, ONE_PROCESS, 8, "decisions\n", end)?);
+fn a_writer_fails_at_each_call_of_a_race(rt: HostRuntime) -> Result<(), Fail> {
+    let text = format!(in rt.alloc(); "seat 3\n{TRANSCRIPT}decisions 1=5 2=5\ndecisions agree\n")?;
+    // Of 1,090 bytes, seven are taken a call.
+    for good_calls in 0..156 {
+        let mut out = writer(&rt, 7, good_calls);
+        let raced = race_of_one_script(&rt, 0, SCRIPT, &mut out)?;
+        assert_eq!(rt; raced, Err(RaceFault::Write), "after {good_calls} calls");
+        assert_eq!(rt; out.failures, 1);
+        assert_eq!(rt; out.held.len(), 7 * good_calls);
+        assert!(rt; text.as_bytes().starts_with(out.held.as_slice()));
+    }
     Ok(())
 }
 
 #[test]
 fn two_hundred_races_agree(rt: HostRuntime) -> Result<(), Fail> {
     for _ in 0..200 {
-        assert!(rt; ends_with(&rt, MAJORITY, 50, "undo 2 1\nredo\n", AGREE)?);
+        let mut out = writer(&rt, 1_000, usize::MAX);
+        assert_eq!(rt;
+            race_of_one_script(&rt, 50, "undo 2 1\nredo\n", &mut out)?,
+            Ok(())
+        );
+        assert!(rt; out.held.as_slice().ends_with(b"decisions agree\n"));
     }
     Ok(())
 }
 
-#[test]
-fn sixty_four_seats_are_accepted(rt: HostRuntime) -> Result<(), Fail> {
-    let scripts = scripts(rt.alloc(), "decisions\n", 63)?;
-    let text = text_of_race(&rt, ONE_PROCESS, 0, scripts.as_slice())?;
-    let end = "seat 64\ndecisions none\ndecisions none\ndecisions agree\n";
-    assert!(rt; text.as_slice().ends_with(end.as_bytes()));
-    Ok(())
-}
-
-#[test]
-fn sixty_five_seats_do_not_fit(rt: HostRuntime) -> Result<(), Fail> {
-    let parts = Setup::read(rt.alloc(), ONE_PROCESS.as_bytes())?;
-    assert!(rt; !fits(&parts, 64));
-    Ok(())
-}
-
-/// A gate that holds call 2 until the other seat's call 1 is answered, or one that always passes.
+/// A gate that, where it holds, lets call 2 go on only once the other seat's call 1 is answered.
 #[derive(Drop)]
 struct Crossing<'a> {
-    flags: Option<(&'a AtomicBool, &'a AtomicBool)>,
+    mine: &'a AtomicBool,
+    other: &'a AtomicBool,
+    holds: bool,
 }
 
 impl Gate for Crossing<'_> {
     fn before<T: Runs>(&mut self, call: u32, _seat: &Seat<T>) -> bool {
-        let Some((_, other)) = self.flags else {
-            return true;
-        };
-        if call != 2 {
+        if !self.holds || call != 2 {
             return true;
         }
         for _ in 0..1_000_000_000u32 {
-            if other.load(Ordering::SeqCst) {
+            if self.other.load(Ordering::SeqCst) {
                 return true;
             }
             thread::yield_now();
@@ -121,60 +92,85 @@ impl Gate for Crossing<'_> {
     }
 
     fn after<T: Runs>(&mut self, call: u32, _seat: &Seat<T>) {
-        if let Some((mine, _)) = self.flags
-            && call == 1
-        {
-            mine.store(true, Ordering::SeqCst);
+        if self.holds && call == 1 {
+            self.mine.store(true, Ordering::SeqCst);
         }
     }
 }
 
-/// Four gates, of which two hold each other up: those of the first two seats or those of the last two.
+/// Four gates, of which those of the first two seats hold each other up, or those of the last two.
 fn gates<'a>(
     alloc: Global,
     one: &'a AtomicBool,
     other: &'a AtomicBool,
     first: bool,
 ) -> Result<Vec<Crossing<'a>>, AllocError> {
-    let (here, there) = (Some((one, other)), Some((other, one)));
-    let flags = if first {
-        [here, there, None, None]
-    } else {
-        [None, None, here, there]
-    };
     let mut gates = Vec::new(alloc);
-    for flags in flags {
-        gates.push(Crossing { flags })?;
+    for holds in &[first, !first] {
+        gates.push(Crossing {
+            mine: one,
+            other,
+            holds: *holds,
+        })?;
+        gates.push(Crossing {
+            mine: other,
+            other: one,
+            holds: *holds,
+        })?;
     }
     Ok(gates)
 }
 
-/// Whether a race of two processes and two scripts ends well, where the sessions of the first two seats or of
-/// the last two hold each other up.
+/// The text of a race of two processes and two scripts, where the sessions of the first two seats or of the last two hold
+/// each other up.
 fn do_cross<R: Threads + Wait + Sync + AllocGlobal>(
     rt: &R,
     turns: u32,
     first: bool,
-) -> Result<bool, Fail>
-    requires { turns ≤ 99999 }
-{
+) -> Result<Vec<u8>, Fail> {
     let alloc = rt.alloc();
     let scripts = scripts(alloc, "decisions\ndecisions\n", 2)?;
     let (one, other) = (AtomicBool::new(false), AtomicBool::new(false));
     let gates = gates(alloc, &one, &other, first)?;
     let setup = MAJORITY.as_bytes();
     let parts = Setup::read(alloc, setup)?;
+    let mut out = writer(rt, 1_000, usize::MAX);
     if !fits(&parts, scripts.len()) || gates.len() != usize::from(parts.n()) + scripts.len() {
-        return Ok(false);
+        return Err(Fail::from("it has no seats enough"));
     }
-    let mut out = writer(rt, 1_000);
     race_with::<RunOfSetup, _, _, _>(rt, alloc, setup, turns, scripts.as_slice(), gates, &mut out)?;
-    Ok(out.held.as_slice().ends_with(AGREE.as_bytes()))
+    Ok(out.held)
 }
 
 #[test]
 fn two_sessions_cross(rt: HostRuntime) -> Result<(), Fail> {
-    assert!(rt; do_cross(&rt, 0, false)?);
-    assert!(rt; do_cross(&rt, 2, true)?);
+    let text = "seat 3\ndecisions none\ndecisions none\nseat 4\ndecisions none\ndecisions none
+decisions none\ndecisions agree\n";
+    // Two turns of each process are too few for a decision.
+    for (turns, first) in &[(0, false), (2, true)] {
+        let written = do_cross(&rt, *turns, *first)?;
+        assert_eq!(rt;
+            str::from_utf8(written.as_slice()),
+            Ok(text),
+            "with {turns} turns"
+        );
+    }
+    Ok(())
+}
+
+#[test]
+fn a_race_that_a_gate_stopped_has_no_thread(rt: HostRuntime) {
+    let mut err = writer(&rt, 3, usize::MAX);
+    assert_eq!(rt; write_race_fault(&RaceFault::Stopped(3), &mut err), Ok(()));
+    assert_eq!(rt; err.held.as_slice(), b"no thread\n".as_slice());
+    assert_eq!(rt; race_status_of(&RaceFault::Stopped(3)), 9);
+}
+
+#[test]
+fn a_race_has_64_seats_at_most(rt: HostRuntime) -> Result<(), Fail> {
+    let setup = Setup::read(rt.alloc(), ONE_PROCESS.as_bytes())?;
+    for (scripts, enough) in &[(63, true), (64, false), (usize::MAX, false)] {
+        assert_eq!(rt; fits(&setup, *scripts), *enough, "{scripts} scripts");
+    }
     Ok(())
 }

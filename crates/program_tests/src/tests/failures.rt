@@ -1,121 +1,87 @@
 //! Each read and each write fails in turn.
 
-ghost use Rattle.cdb_program.specs.Requests.{HasTurns};
-
-use super::requests::{DEBUG, DRAW, EXPLAIN, PLAY, RACE};
 use super::{ALL_GOOD, Ended, GoodCalls, performed};
+use cdb_draw::StepAsked;
 use cdb_program::{Fault, Request};
 use std::process::Abort;
-use std::sync::Wait;
 use std::test::Fail;
-use std::thread::Threads;
 
-/// More calls than any request makes.
-const MANY: usize = 1_000;
+const PLAY: Request<'static> = Request::Play {
+    setup: "one.json",
+    script: "eight.txt",
+};
 
-const INPUT: &str = "auto 1\nredo";
+const RACE: Request<'static> = Request::Race {
+    setup: "two.json",
+    turns: 0,
+    scripts: &["undo.txt", "redo.txt"],
+};
 
-/// Compares how a request ended.
-fn check<R: Abort>(rt: &R, ended: &Ended, status: u8, error: &[u8]) {
+const EXPLAIN: Request<'static> = Request::Explain {
+    setup: "one.json",
+    script: "eight.txt",
+    p: 1,
+    k: Some(2),
+};
+
+const DRAW: Request<'static> = Request::Draw {
+    setup: "one.json",
+    script: "eight.txt",
+    step: Some(StepAsked { p: 1, k: Some(2) }),
+};
+
+const DEBUG: Request<'static> = Request::Debug {
+    setup: "one.json",
+    prompt: "> ",
+};
+
+/// Compares how a request ended of which one call failed.
+fn check<R: Abort>(rt: &R, ended: &Ended, status: u8, error: &str) {
     assert_eq!(rt; ended.status, status);
-    assert_eq!(rt; ended.error.as_slice(), error);
+    assert_eq!(rt; ended.error.as_slice(), error.as_bytes());
     assert_eq!(rt; ended.failures, 1);
-}
-
-/// Lets each write of standard output fail in turn, and returns how many there are.
-fn fail_output<R: Threads + Wait + Sync + Abort + AllocGlobal>(
-    rt: &R,
-    request: Request<'_>,
-) -> usize
-    requires { HasTurns request }
-{
-    let whole = performed(rt, request, INPUT, ALL_GOOD);
-    for good in 0..MANY {
-        let calls = GoodCalls {
-            output: good,
-            ..ALL_GOOD
-        };
-        let ended = performed(rt, request, INPUT, calls);
-        if ended.failures == 0 {
-            assert_eq!(rt; ended.output.as_slice(), whole.output.as_slice());
-            return good;
-        }
-        check(rt, &ended, 7, b"output failed\n");
-        assert_eq!(rt; ended.output.len(), 5 * good);
-        assert!(rt; whole.output.as_slice().starts_with(ended.output.as_slice()));
-    }
-    MANY
-}
-
-/// Lets each write of standard error fail in turn, and returns how many there are.
-fn fail_error<R: Threads + Wait + Sync + Abort + AllocGlobal>(rt: &R, request: Request<'_>) -> usize
-    requires { HasTurns request }
-{
-    let whole = performed(rt, request, INPUT, ALL_GOOD);
-    for good in 0..MANY {
-        let calls = GoodCalls {
-            error: good,
-            ..ALL_GOOD
-        };
-        let ended = performed(rt, request, INPUT, calls);
-        assert_eq!(rt; ended.status, whole.status);
-        assert_eq!(rt; ended.output.len(), 0);
-        assert!(rt; whole.error.as_slice().starts_with(ended.error.as_slice()));
-        if ended.error.len() == whole.error.len() {
-            return good;
-        }
-    }
-    MANY
-}
-
-/// Lets the reads of files fail from each one on, where these are their names.
-fn fail_files<R: Threads + Wait + Sync + Abort + AllocGlobal>(
-    rt: &R,
-    request: Request<'_>,
-    texts: &[&str],
-)
-    requires { HasTurns request }
-{
-    for (good, text) in texts.iter().enumerate() {
-        let calls = GoodCalls {
-            files: good,
-            ..ALL_GOOD
-        };
-        let ended = performed(rt, request, INPUT, calls);
-        check(rt, &ended, 3, text.as_bytes());
-        assert_eq!(rt; ended.output.len(), 0);
-        assert_eq!(rt; ended.opened.len().saturating_sub(1), good);
-    }
-    let calls = GoodCalls {
-        files: texts.len(),
-        ..ALL_GOOD
-    };
-    assert_eq!(rt; performed(rt, request, INPUT, calls).status, 0);
 }
 
 #[test]
 fn each_write_of_output_fails_in_turn(rt: HostRuntime) {
-    // Texts of 37, 107, 90, 82, 3,819 and 5 bytes, 5 a call.
-    assert_eq!(rt; fail_output(&rt, Request::Script), 8);
-    assert_eq!(rt; fail_output(&rt, PLAY), 22);
-    assert_eq!(rt; fail_output(&rt, RACE), 18);
-    assert_eq!(rt; fail_output(&rt, EXPLAIN), 17);
-    assert_eq!(rt; fail_output(&rt, DRAW), 764);
-    assert_eq!(rt; fail_output(&rt, Request::Print("help\n")), 1);
+    // Each with the length of its text.
+    let requests = [
+        (Request::Script, 37),
+        (PLAY, 107),
+        (RACE, 90),
+        (EXPLAIN, 82),
+        (DRAW, 3_819),
+        (Request::Print("help\n"), 5),
+    ];
+    for (request, length) in &requests {
+        let whole = performed(&rt, *request, ALL_GOOD);
+        assert_eq!(rt; (whole.status, whole.output.len()), (0, *length));
+        // A call takes five bytes.
+        for good in 0..length.div_ceil(5) {
+            let calls = GoodCalls {
+                output: good,
+                ..ALL_GOOD
+            };
+            let ended = performed(&rt, *request, calls);
+            check(&rt, &ended, 7, "output failed\n");
+            assert_eq!(rt; ended.output.len(), 5 * good);
+            assert!(rt; whole.output.as_slice().starts_with(ended.output.as_slice()));
+        }
+    }
 }
 
 #[test]
 fn each_write_of_a_session_fails_in_turn(rt: HostRuntime) {
     // The prompt, and then answers of 12 and 25 bytes, each with the prompt, 5 bytes a call.
     let written = [0, 2, 7, 12, 16, 21, 26, 31, 36, 41];
-    let whole = performed(&rt, DEBUG, INPUT, ALL_GOOD);
+    let whole = performed(&rt, DEBUG, ALL_GOOD);
     for (good, length) in written.iter().enumerate() {
         let calls = GoodCalls {
             output: good,
             ..ALL_GOOD
         };
-        let ended = performed(&rt, DEBUG, INPUT, calls);
-        check(&rt, &ended, 7, b"output failed\n");
+        let ended = performed(&rt, DEBUG, calls);
+        check(&rt, &ended, 7, "output failed\n");
         assert_eq!(rt; ended.output.len(), *length);
         assert!(rt; whole.output.as_slice().starts_with(ended.output.as_slice()));
     }
@@ -124,77 +90,133 @@ fn each_write_of_a_session_fails_in_turn(rt: HostRuntime) {
 
 #[test]
 fn each_write_of_error_fails_in_turn(rt: HostRuntime) {
-    let unread = Request::Play {
-        setup: "one.json",
-        script: "nowhere.txt",
-    };
-    // Each piece of a text is written for itself: of 12, 11 and 1 bytes.
-    assert_eq!(rt; fail_error(&rt, unread), 7);
-    let race = Request::Race {
-        setup: "one.json",
-        turns: 0,
-        scripts: &["redo.txt", "number.txt"],
-    };
-    // Pieces of 7, 1, 6, 1, 7, 1, 1, 6 and 1 bytes.
-    assert_eq!(rt; fail_error(&rt, race), 13);
-    let refused = Request::Refuse(Fault::Refused("what is wrong\n"));
-    assert_eq!(rt; fail_error(&rt, refused), 3);
+    // Each piece of a text is written for itself, 5 bytes a call.
+    let requests = [
+        (
+            // Pieces of 12, 11 and 1 bytes.
+            Request::Play {
+                setup: "one.json",
+                script: "nowhere.txt",
+            },
+            7,
+        ),
+        (
+            // Pieces of 7, 1, 6, 1, 7, 1, 1, 6 and 1 bytes.
+            Request::Race {
+                setup: "one.json",
+                turns: 0,
+                scripts: &["redo.txt", "number.txt"],
+            },
+            13,
+        ),
+        (Request::Refuse(Fault::Refused("what is wrong\n")), 3),
+    ];
+    for (request, writes) in &requests {
+        let whole = performed(&rt, *request, ALL_GOOD);
+        for good in 0..=*writes {
+            let calls = GoodCalls {
+                error: good,
+                ..ALL_GOOD
+            };
+            let ended = performed(&rt, *request, calls);
+            assert_eq!(rt; ended.status, whole.status);
+            assert_eq!(rt; ended.output.len(), 0);
+            assert!(rt; whole.error.as_slice().starts_with(ended.error.as_slice()));
+            let is_whole = ended.error.len() == whole.error.len();
+            assert_eq!(rt; is_whole, good == *writes);
+        }
+    }
 }
+
+/// What is reported where the first file of a request can't be read, and then where the next can't.
+const UNREAD: &[(Request<'static>, &'static [&'static str])] = &[
+    (PLAY, &["cannot read one.json\n", "cannot read eight.txt\n"]),
+    (
+        EXPLAIN,
+        &["cannot read one.json\n", "cannot read eight.txt\n"],
+    ),
+    (DRAW, &["cannot read one.json\n", "cannot read eight.txt\n"]),
+    (DEBUG, &["cannot read one.json\n"]),
+    (
+        RACE,
+        &[
+            "cannot read two.json\n",
+            "cannot read undo.txt\n",
+            "cannot read redo.txt\n",
+        ],
+    ),
+];
 
 #[test]
 fn each_file_can_not_be_read_in_turn(rt: HostRuntime) {
-    let texts = ["cannot read one.json\n", "cannot read eight.txt\n"];
-    fail_files(&rt, PLAY, &texts);
-    fail_files(&rt, EXPLAIN, &texts);
-    fail_files(&rt, DRAW, &texts);
-    fail_files(&rt, DEBUG, &texts[..1]);
-    let texts = [
-        "cannot read two.json\n",
-        "cannot read undo.txt\n",
-        "cannot read redo.txt\n",
+    for (request, texts) in UNREAD {
+        for (good, text) in texts.iter().enumerate() {
+            let calls = GoodCalls {
+                files: good,
+                ..ALL_GOOD
+            };
+            let ended = performed(&rt, *request, calls);
+            check(&rt, &ended, 3, text);
+            assert_eq!(rt; ended.output.len(), 0);
+            assert_eq!(rt; ended.opened, good + 1);
+        }
+        let calls = GoodCalls {
+            files: texts.len(),
+            ..ALL_GOOD
+        };
+        assert_eq!(rt; performed(&rt, *request, calls).status, 0);
+    }
+}
+
+#[test]
+fn each_read_of_input_fails_in_turn(rt: HostRuntime) {
+    // The 11 bytes come in three calls, of which the second ends the first line, and a fourth finds the end.
+    let requests = [
+        (
+            Request::Script,
+            ["", "", "", "", "1.1 query 1\nrefused 14 NothingToRedo\n"],
+        ),
+        (
+            DEBUG,
+            [
+                "> ",
+                "> ",
+                "> 1.1 query 1\n> ",
+                "> 1.1 query 1\n> ",
+                "> 1.1 query 1\n> refused 14 NothingToRedo\n> ",
+            ],
+        ),
     ];
-    fail_files(&rt, RACE, &texts);
+    for (request, texts) in &requests {
+        for (good, text) in texts.iter().enumerate() {
+            let calls = GoodCalls {
+                input: good,
+                ..ALL_GOOD
+            };
+            let ended = performed(&rt, *request, calls);
+            if good < 4 {
+                check(&rt, &ended, 3, "cannot read standard input\n");
+            } else {
+                assert_eq!(rt; (ended.status, ended.failures), (0, 0));
+            }
+            assert_eq!(rt; ended.output.as_slice(), text.as_bytes());
+        }
+    }
 }
 
 #[test]
-fn each_read_of_input_fails_in_turn(rt: HostRuntime) -> Result<(), Fail> {
-    // The script's 11 bytes come in three calls, and a fourth finds the end.
-    for good in 0..4 {
-        let calls = GoodCalls {
-            input: good,
-            ..ALL_GOOD
-        };
-        let ended = performed(&rt, Request::Script, INPUT, calls);
-        check(&rt, &ended, 3, b"cannot read standard input\n");
-        assert_eq!(rt; ended.output.len(), 0);
-    }
-    let calls = GoodCalls {
-        input: 4,
-        ..ALL_GOOD
+fn the_kth_session_is_that_of_the_kth_name(rt: HostRuntime) -> Result<(), Fail> {
+    let hall = Request::Hall {
+        setup: "two.json",
+        seats: &["decisions.txt", "redo.txt", "decisions.txt"],
     };
-    let ended = performed(&rt, Request::Script, INPUT, calls);
-    assert_eq!(rt; ended.status, 0);
-    let text = "1.1 query 1\nrefused 14 NothingToRedo\n";
-    assert_eq!(rt; str::from_utf8(ended.output.as_slice()), Ok(text));
-    Ok(())
-}
-
-#[test]
-fn each_read_of_a_session_fails_in_turn(rt: HostRuntime) -> Result<(), Fail> {
-    // The first line ends in the second call, and the last has no end.
-    let texts = ["> ", "> ", "> 1.1 query 1\n> ", "> 1.1 query 1\n> "];
-    for (good, text) in texts.iter().enumerate() {
-        let calls = GoodCalls {
-            input: good,
-            ..ALL_GOOD
-        };
-        let ended = performed(&rt, DEBUG, INPUT, calls);
-        check(&rt, &ended, 3, b"cannot read standard input\n");
-        assert_eq!(rt; str::from_utf8(ended.output.as_slice()), Ok(*text));
+    let ended = performed(&rt, hall, ALL_GOOD);
+    let journal = str::from_utf8(ended.output.as_slice())?;
+    // In which order the seats come is not known.
+    for line in &["1 decisions\n", "2 redo\n", "3 decisions\n"] {
+        assert!(rt; journal.contains(*line));
     }
-    let ended = performed(&rt, DEBUG, INPUT, ALL_GOOD);
-    let text = "> 1.1 query 1\n> refused 14 NothingToRedo\n> ";
-    assert_eq!(rt; str::from_utf8(ended.output.as_slice()), Ok(text));
-    assert_eq!(rt; ended.status, 0);
+    assert_eq!(rt; journal.len(), 31);
+    assert_eq!(rt; (ended.status, ended.error.len()), (0, 0));
     Ok(())
 }

@@ -10,7 +10,7 @@ use std::alloc::Global;
 type Named = (&'static str, &'static [u8]);
 
 /// The files of the tests.
-pub const FILES: &[Named] = &[
+const FILES: &[Named] = &[
     (
         "one.json",
         b"{\"algorithm\":\"leader\",\"processes\":1,\"quorum\":1,\"inputs\":[7],\"oracle\":[[1]]}",
@@ -27,23 +27,20 @@ pub const FILES: &[Named] = &[
     ("redo.txt", b"redo"),
     ("decisions.txt", b"decisions\n"),
     ("number.txt", b"auto 1\nstep 01 go\n"),
-    ("list.json", b"[]"),
 ];
 
 /// Files in memory, the names of those that were opened, and how many more can be read. No contract knows their bytes.
 #[derive(Drop)]
 pub struct Folder {
-    files: &'static [Named],
     pub opened: Vec<Vec<u8>>,
     good_reads: usize,
     pub failures: u64,
 }
 
 impl Folder {
-    /// These files, of which none was opened.
-    pub fn new(alloc: Global, files: &'static [Named], good_reads: usize) -> Self {
+    /// None of the files was opened, and this many reads go well.
+    pub fn new(alloc: Global, good_reads: usize) -> Self {
         Folder {
-            files,
             opened: Vec::new(alloc),
             good_reads,
             failures: 0,
@@ -52,8 +49,13 @@ impl Folder {
 }
 
 /// The bytes of the file of this name.
-fn content_of(files: &[Named], name: &str) -> Option<&'static [u8]> {
-    files.iter().find(|file| file.0 == name).map(|file| file.1)
+fn content_of(name: &str) -> Option<&'static [u8]> {
+    for (named, content) in FILES {
+        if *named == name {
+            return Some(*content);
+        }
+    }
+    None
 }
 
 impl Files for Folder {
@@ -71,7 +73,7 @@ impl Files for Folder {
 
     fn read(&mut self, alloc: Global, name: &str, most: usize) -> Result<Vec<u8>, ReadFault> {
         let copy = Vec::from_slice(alloc, name.as_bytes())?;
-        let content = content_of(self.files, name);
+        let content = content_of(name);
         let content = if self.good_reads == 0 { None } else { content };
         let all = content.unwrap_or(&[]);
         let bytes = Vec::from_slice(alloc, &all[..most.min(all.len())])?;
@@ -89,7 +91,7 @@ impl Files for Folder {
     /// A seat's input is the file of its name, and its output is lost.
     fn open_seat(&mut self, alloc: Global, name: &str) -> Result<Station<Self::Seat>, ReadFault> {
         let copy = Vec::from_slice(alloc, name.as_bytes())?;
-        let content = content_of(self.files, name);
+        let content = content_of(name);
         let lines = Vec::from_slice(alloc, content.unwrap_or(b""))?;
         if self.opened.push(copy).is_err() {
             return Err(ReadFault::NoMemory);

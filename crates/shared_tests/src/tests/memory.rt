@@ -1,16 +1,14 @@
 //! Out of memory in a session: it ends there, with what came before, and its next calls have the replies as
-//! if nothing had happened. To see it, let each allocation of these tests fail in turn.
+//! if nothing had happened. To see it, let each allocation of this test fail in turn.
 
-use super::gates::OPEN;
-use super::opening::{ALONE, say};
-use super::pair::Pair;
+use super::pair::{OPEN, Pair, ends_with_seats, say};
 use cdb_control::{Command, Reply};
 use cdb_shared::End;
 use std::alloc::AllocError;
 use std::sync::Wait;
 use std::test::Fail;
 
-/// Drives process 1 for eight turns, and for what is left of them if an allocation failed.
+/// Drives the process for eight turns, and for what is left of them if an allocation failed.
 fn drive_at_last<R: Wait + AllocGlobal>(rt: &R, pair: Pair) -> (Pair, u32, End) {
     let (pair, count, end) = pair.drive(rt, OPEN, 8);
     if end != End::NoMemory {
@@ -49,20 +47,16 @@ fn append(replies: &mut Vec<Reply>, more: Vec<Reply>) -> Result<(), AllocError> 
 
 #[test]
 fn sessions_without_memory(rt: HostRuntime) -> Result<(), Fail> {
-    let (pair, count, end) = drive_at_last(&rt, Pair::of(&rt, ALONE)?);
+    let (pair, count, end) = drive_at_last(&rt, Pair::after(&rt, 0)?);
     assert_eq!(rt; (count, end), (8, End::All));
     let commands = [Command::Undo(1, 8), Command::Redo, Command::Decisions];
     let (pair, replies, end) = serve_at_last(&rt, pair.exchanged(), &commands)?;
     assert_eq!(rt; end, End::All);
-    say(
-        &rt,
-        &replies,
-        "undone 1.8 send 1#3\nredone 1.8 send 1#3 decides 7\ndecisions 1=7\n",
-    )?;
-    let seats = pair.finish(&rt)?;
-    assert_eq!(rt;
-        seats.as_slice(),
-        [1u8, 1, 1, 1, 1, 1, 1, 1, 2, 2, 2].as_slice()
-    );
+    let text = "undone 1.8 send 1#3\nredone 1.8 send 1#3 decides 7\ndecisions 1=7\n";
+    say(&rt, &replies, text)?;
+    let control = pair.finish(&rt)?;
+    let seats = [1, 1, 1, 1, 1, 1, 1, 1, 2, 2, 2];
+    assert_eq!(rt; control.journal().len(), 11);
+    assert!(rt; ends_with_seats(control.journal(), &seats));
     Ok(())
 }

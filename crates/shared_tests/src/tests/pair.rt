@@ -1,21 +1,116 @@
 //! A shared control with both its seats. A contract sees nothing of it, so that what a test proves does not
-//! grow with what the control holds.
+//! grow with what the control holds. What allocates here is tried a second time.
 
 ghost use Rattle.std.specs.Prelude.{◌≡◌, ◌<◌, ◌≤◌, [], All, IfOk, vec_len, vec_capacity};
 ghost use Rattle.cdb_shared.specs.Seats.{RestsAt};
 
-use super::gates::{Before, Crossing};
-use super::opening::{control_of, seats_of, share};
 use cdb_any_run::RunOfSetup;
-use cdb_control::{CallFault, Command, Control, Reply};
-use cdb_shared::{End, Seat, Shared, drive, serve};
+use cdb_control::{CallFault, Command, Control, Entry, Reply};
+use cdb_rules::Runs;
+use cdb_setup::Setup;
+use cdb_shared::{End, Gate, Seat, Shared, drive, serve};
+use cdb_text::reply_text;
 use std::alloc::Global;
 use std::marker::Model;
+use std::process::Abort;
 use std::sync::Wait;
 use std::test::Fail;
-use std::thread::{self, Threads};
 
-/// A shared control and its two seats, which rest. Its calls are those of the shared control that it holds.
+/// One process, which is its own leader.
+const ALONE: &str =
+    r#"{"algorithm":"leader","processes":1,"quorum":1,"inputs":[7],"oracle":[[1]]}"#;
+
+/// A gate that passes all calls before this one.
+#[derive(Drop)]
+pub struct Before(pub u32);
+
+impl Gate for Before {
+    fn before<T: Runs>(&mut self, call: u32, _seat: &Seat<T>) -> bool {
+        call < self.0
+    }
+
+    fn after<T: Runs>(&mut self, _call: u32, _seat: &Seat<T>) {}
+}
+
+/// The gate that always passes.
+pub const OPEN: u32 = 4_000_000_000;
+
+/// The setup of one process.
+pub fn try_setup(alloc: Global) -> Option<Setup> {
+    Setup::read(alloc, ALONE.as_bytes()).ok()
+}
+
+/// A control of one process in which nothing has happened, for two seats.
+fn try_control(alloc: Global) -> Option<Control<RunOfSetup>> {
+    let setup = try_setup(alloc)?;
+    Control::open(alloc, setup, 2).ok()
+}
+
+/// Gives this many commands that change nothing.
+fn fill(alloc: Global, control: &mut Control<RunOfSetup>, count: u32) -> Result<(), CallFault> {
+    for _ in 0..count {
+        // For its clause: there is a first seat.
+        control.seats();
+        let _forgot = control.execute(alloc, 1, Command::Forget)?;
+    }
+    Ok(())
+}
+
+/// A control of one process in which nothing has happened, for two seats.
+fn control_at_last(alloc: Global) -> Result<Control<RunOfSetup>, Fail> {
+    match try_control(alloc) {
+        Some(control) => Ok(control),
+        None => Ok(try_control(alloc).ok_or("no control")?),
+    }
+}
+
+/// A control of one process, after this many commands of the first seat that change nothing.
+fn filled(alloc: Global, forgets: u32) -> Result<Control<RunOfSetup>, Fail> {
+    let mut control = control_at_last(alloc)?;
+    fill(alloc, &mut control, forgets)?;
+    Ok(control)
+}
+
+/// The control as one that is shared, with its seats, or the control handed back.
+fn try_share<R: Wait + AllocGlobal>(
+    rt: &R,
+    control: Control<RunOfSetup>,
+) -> Result<(Shared<RunOfSetup>, Vec<Seat<RunOfSetup>>), Control<RunOfSetup>>
+    ensures { IfOk result (λ r. All (λ seat. RestsAt r.0 seat) r.1.items) }
+{
+    match Shared::open(rt, rt.alloc(), control) {
+        Ok(shared) => Ok(shared),
+        Err((control, _)) => Err(control),
+    }
+}
+
+/// The control as one that is shared, with its seats.
+fn share<R: Wait + AllocGlobal>(
+    rt: &R,
+    control: Control<RunOfSetup>,
+) -> Result<(Shared<RunOfSetup>, Vec<Seat<RunOfSetup>>), Fail>
+    ensures { IfOk result (λ r. All (λ seat. RestsAt r.0 seat) r.1.items) }
+{
+    match try_share(rt, control) {
+        Ok(shared) => Ok(shared),
+        Err(control) => match try_share(rt, control) {
+            Ok(shared) => Ok(shared),
+            Err(_) => Err(Fail::from("no memory")),
+        },
+    }
+}
+
+/// Room for both seats.
+fn room_for_two(alloc: Global) -> Result<Vec<Seat<RunOfSetup>>, Fail>
+    ensures { IfOk result (λ seats. (seats.items ≡ []) × (2 ≤ vec_capacity seats)) }
+{
+    match Vec::with_capacity(alloc, 2) {
+        Ok(seats) => Ok(seats),
+        Err(_) => Ok(Vec::with_capacity(alloc, 2)?),
+    }
+}
+
+/// A shared control and its two seats, which rest.
 #[derive(Drop)]
 pub struct Pair {
     shared: Shared<RunOfSetup>,
@@ -35,38 +130,15 @@ impl Model for Pair {
 }
 
 impl Pair {
-    /// The control as one that is shared, with its two seats.
-    pub fn over<R: Wait + AllocGlobal>(rt: &R, control: Control<RunOfSetup>) -> Result<Pair, Fail> {
-        let (shared, seats) = share(rt, control)?;
+    /// A run of one process, after this many commands of the first seat that change nothing.
+    pub fn after<R: Wait + AllocGlobal>(rt: &R, forgets: u32) -> Result<Pair, Fail> {
+        let (shared, seats) = share(rt, filled(rt.alloc(), forgets)?)?;
         seated(shared, seats)
-    }
-
-    /// A shared control of a setup in which nothing has happened, with two seats.
-    pub fn of<R: Wait + AllocGlobal>(rt: &R, setup: &str) -> Result<Pair, Fail> {
-        Pair::over(rt, control_of(rt, setup)?)
     }
 
     /// The numbers of the seats.
     pub fn numbers(&self) -> (u8, u8) {
         (self.first.number(), self.second.number())
-    }
-
-    /// A call of the first seat.
-    pub fn first<R: Wait + AllocGlobal>(
-        &mut self,
-        rt: &R,
-        command: Command,
-    ) -> Result<Reply, CallFault> {
-        self.shared.call(rt, rt.alloc(), &mut self.first, command)
-    }
-
-    /// A call of the second seat.
-    pub fn second<R: Wait + AllocGlobal>(
-        &mut self,
-        rt: &R,
-        command: Command,
-    ) -> Result<Reply, CallFault> {
-        self.shared.call(rt, rt.alloc(), &mut self.second, command)
     }
 
     /// The pair whose first seat is the second of this one.
@@ -98,7 +170,7 @@ impl Pair {
         }
     }
 
-    /// Drives process 1 from the first seat for this many turns, up to the call at which the gate stops it.
+    /// Drives the process from the first seat for this many turns, up to the call at which the gate stops it.
     pub fn drive<R: Wait + AllocGlobal>(self, rt: &R, stop: u32, turns: u32) -> (Pair, u32, End) {
         let Pair {
             shared,
@@ -137,53 +209,16 @@ impl Pair {
         (pair, replies, end)
     }
 
-    /// Both seats ask twice for the decisions, each in a thread of its own behind its gate.
-    pub fn cross<R: Threads + Wait + Sync + AllocGlobal>(
-        self,
-        rt: &R,
-        one: Crossing,
-        other: Crossing,
-    ) -> (End, End) {
-        let Pair {
-            shared,
-            first,
-            second,
-        } = self;
-        let home = &shared;
-        let alloc = rt.alloc();
-        thread::join(
-            rt,
-            move || -> End
-                requires { RestsAt home.now first }
-            { ask_twice(home, rt, alloc, first, one) },
-            move || -> End
-                requires { RestsAt home.now second }
-            { ask_twice(home, rt, alloc, second, other) },
-        )
-    }
-
     /// Ends the sharing, and gives the control.
-    fn end<R: Wait>(self, rt: &R, room: Vec<Seat<RunOfSetup>>) -> Control<RunOfSetup>
-        requires { (room.items ≡ []) × (2 ≤ vec_capacity room) }
-    {
+    pub fn finish<R: Wait + AllocGlobal>(self, rt: &R) -> Result<Control<RunOfSetup>, Fail> {
+        let room = room_for_two(rt.alloc())?;
         let Pair {
             shared,
             first,
             second,
         } = self;
         let seats = gathered(&shared, first, second, room);
-        shared.finish(rt, seats)
-    }
-
-    /// Ends the sharing, and gives the control.
-    pub fn unshared<R: Wait + AllocGlobal>(self, rt: &R) -> Result<Control<RunOfSetup>, Fail> {
-        let room = room_for_two(rt)?;
-        Ok(self.end(rt, room))
-    }
-
-    /// Ends the sharing, and gives the seat of each entry of the journal.
-    pub fn finish<R: Wait + AllocGlobal>(self, rt: &R) -> Result<Vec<u8>, Fail> {
-        seats_of(rt, &self.unshared(rt)?)
+        Ok(shared.finish(rt, seats))
     }
 }
 
@@ -204,31 +239,6 @@ fn seated(shared: Shared<RunOfSetup>, mut seats: Vec<Seat<RunOfSetup>>) -> Resul
     })
 }
 
-/// Asks twice for the decisions, behind a gate.
-fn ask_twice<R: Wait>(
-    shared: &Shared<RunOfSetup>,
-    rt: &R,
-    alloc: Global,
-    seat: Seat<RunOfSetup>,
-    gate: Crossing,
-) -> End
-    requires { RestsAt shared.now seat }
-{
-    let commands = [Command::Decisions, Command::Decisions];
-    let (_, _, end) = serve(shared, rt, alloc, seat, gate, &commands);
-    end
-}
-
-/// Room for both seats, at the second try if an allocation fails in the first.
-fn room_for_two<R: AllocGlobal>(rt: &R) -> Result<Vec<Seat<RunOfSetup>>, Fail>
-    ensures { IfOk result (λ seats. (seats.items ≡ []) × (2 ≤ vec_capacity seats)) }
-{
-    match Vec::with_capacity(rt.alloc(), 2) {
-        Ok(seats) => Ok(seats),
-        Err(_) => Ok(Vec::with_capacity(rt.alloc(), 2)?),
-    }
-}
-
 /// Both seats, which rest.
 fn gathered(
     shared: &Shared<RunOfSetup>,
@@ -246,4 +256,37 @@ fn gathered(
     both.push_reserved(first);
     both.push_reserved(second);
     both
+}
+
+/// The texts of replies, one after the other.
+fn try_texts(alloc: Global, replies: &[Reply]) -> Option<Vec<u8>> {
+    let mut texts = Vec::new(alloc);
+    for reply in replies {
+        let text = reply_text(alloc, reply).ok()?;
+        texts.extend_from_slice(text.as_slice()).ok()?;
+    }
+    Some(texts)
+}
+
+/// Compares the texts of replies, one after the other, with what is expected.
+pub fn say<R: Abort + AllocGlobal>(rt: &R, replies: &[Reply], expected: &str) -> Result<(), Fail> {
+    let texts = match try_texts(rt.alloc(), replies) {
+        Some(texts) => texts,
+        None => try_texts(rt.alloc(), replies).ok_or("no texts")?,
+    };
+    assert_eq!(rt; texts.as_slice(), expected.as_bytes());
+    Ok(())
+}
+
+/// Whether the last entries of a journal are of these seats.
+pub fn ends_with_seats(journal: &[Entry], seats: &[u8]) -> bool {
+    let Some(from) = journal.len().checked_sub(seats.len()) else {
+        return false;
+    };
+    for at in 0..seats.len() {
+        if journal[from + at].seat != seats[at] {
+            return false;
+        }
+    }
+    true
 }

@@ -1,4 +1,0 @@
-//! Worked runs, explained and drawn.
-
-mod explanations;
-mod pictures;
