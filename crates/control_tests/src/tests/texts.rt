@@ -1,10 +1,10 @@
 //! The line of each form of command, and the texts of replies that no short script has.
 
-use cdb_base::{CopyName, MsgName, Payload, Proc, Refusal, StepId, StepName};
+use cdb_base::{CopyName, MsgName, NoMemory, Payload, Proc, Refusal, StepId, StepName};
 use cdb_control::Reply;
 use cdb_text::{parse_line, push_command, reply_text};
 use smallvec::SmallVec;
-use std::test::Fail;
+use std::alloc::{AllocError, Global};
 
 const LINES: &str = "step 1 go
 step 2 learn
@@ -37,42 +37,74 @@ show mail
 show history
 decisions";
 
+/// Whether the line is that of its command.
+fn is_line(alloc: Global, line: &str) -> Result<bool, AllocError> {
+    let Ok(command) = parse_line(line.as_bytes()) else {
+        return Ok(false);
+    };
+    let mut text = String::new(alloc);
+    push_command(&mut text, &command)?;
+    Ok(text.as_str() == line)
+}
+
 #[test]
-fn each_command_has_its_line(rt: HostRuntime) -> Result<(), Fail> {
+fn each_command_has_its_line(rt: HostRuntime) {
     for line in LINES.lines() {
-        let command = parse_line(line.as_bytes()).expect(&rt, line);
-        let mut text = String::new(rt.alloc());
-        push_command(&mut text, &command)?;
-        assert_eq!(rt; text.as_str(), line);
+        assert!(rt; is_line(rt.alloc(), line) == Ok(true), "{line}");
     }
+}
+
+/// Whether the text of the reply is this one.
+fn is_text(alloc: Global, reply: &Reply, text: &str) -> Result<bool, NoMemory> {
+    Ok(reply_text(alloc, reply)?.as_slice() == text.as_bytes())
+}
+
+/// A loss is a direct cause of a later receive in no run.
+#[test]
+fn a_loss_among_causes(rt: HostRuntime) -> Result<(), AllocError> {
+    let loss = StepId::Lost(CopyName {
+        msg: MsgName {
+            s: Proc::new(1),
+            m: 1,
+        },
+        to: Proc::new(2),
+    });
+    let first = StepId::Step(StepName {
+        p: Proc::new(1),
+        k: 1,
+    });
+    let second = StepId::Step(StepName {
+        p: Proc::new(1),
+        k: 2,
+    });
+    let causes = SmallVec::from_slice(rt.alloc(), &[first, loss])?;
+    let reply = Reply::Because(second, causes);
+    let text = "1.2 because 1.1 lost 1#1 to 2\n";
+    assert!(rt; is_text(rt.alloc(), &reply, text) == Ok(true));
     Ok(())
 }
 
-/// A loss is a direct cause of a later receive in no run, a twelfth round without a value is far away, and so is the
-/// last step that a process may take.
+/// No short script comes to a twelfth round.
 #[test]
-fn replies_that_no_short_script_has(rt: HostRuntime) -> Result<(), Fail> {
-    let (one, two) = (Proc::new(1), Proc::new(2));
-    let loss = StepId::Lost(CopyName {
-        msg: MsgName { s: one, m: 1 },
-        to: two,
-    });
-    let causes = [StepId::Step(StepName { p: one, k: 1 }), loss];
-    let because = Reply::Because(
-        StepId::Step(StepName { p: one, k: 2 }),
-        SmallVec::from_slice(rt.alloc(), &causes)?,
-    );
-    let text = reply_text(rt.alloc(), &because)?;
-    assert!(rt; text.as_slice() == b"1.2 because 1.1 lost 1#1 to 2\n".as_slice());
-    let mut copies = Vec::new(rt.alloc());
+fn mail_of_a_late_round(rt: HostRuntime) -> Result<(), AllocError> {
+    let name = MsgName {
+        s: Proc::new(2),
+        m: 10,
+    };
     let payload = Payload::P2 {
         round: 12,
         aux: None,
     };
-    copies.push((one, MsgName { s: two, m: 10 }, payload))?;
-    let text = reply_text(rt.alloc(), &Reply::Mail(copies))?;
-    assert!(rt; text.as_slice() == b"to 1 2#10 p2 12 none\n".as_slice());
-    let text = reply_text(rt.alloc(), &Reply::Refused(Refusal::StepLimit))?;
-    assert!(rt; text.as_slice() == b"refused 9 StepLimit\n".as_slice());
+    let mut copies = Vec::new(rt.alloc());
+    copies.push((Proc::new(1), name, payload))?;
+    let text = "to 1 2#10 p2 12 none\n";
+    assert!(rt; is_text(rt.alloc(), &Reply::Mail(copies), text) == Ok(true));
     Ok(())
+}
+
+/// No short script takes 9,999 steps.
+#[test]
+fn the_refusal_of_a_step_past_the_last(rt: HostRuntime) {
+    let reply = Reply::Refused(Refusal::StepLimit);
+    assert!(rt; is_text(rt.alloc(), &reply, "refused 9 StepLimit\n") == Ok(true));
 }
