@@ -1,10 +1,13 @@
 //! Sessions of several seats at once, a thread each.
 
-use super::with_lines;
+use super::{Person, with_lines};
 use cdb_any_run::RunOfSetup;
-use cdb_hall::{Station, debug_seats, journal_text, status_after, write_failures};
+use cdb_control::Entry;
+use cdb_hall::{Attended, Station, debug_seats, journal_text, status_after, write_failures};
 use cdb_play::{Output, PlayFault};
 use cdb_setup::Setup;
+use std::alloc::{AllocError, Global};
+use std::process::Abort;
 use std::test::Fail;
 
 const THREE: &[u8] =
@@ -12,53 +15,67 @@ const THREE: &[u8] =
 
 /// Each seat drives a process of its own, and nothing is sent, so that what it is answered depends on no other. The
 /// first can't be written to after its prompt, and the third can't be read from after its first line.
-#[test]
-fn a_seat_that_fails_ends_alone(rt: HostRuntime) -> Result<(), Fail> {
-    let mut unwritten = with_lines(rt.alloc(), b"auto 1\nauto 1\n", 7);
+fn three_seats(alloc: Global) -> Result<Vec<Station<Person>>, AllocError> {
+    let mut unwritten = with_lines(alloc, b"auto 1\nauto 1\n", 7);
     unwritten.good_writes = 1;
-    let good = with_lines(rt.alloc(), b"auto 2\nwhy 2 1\n", 7);
-    let mut unread = with_lines(rt.alloc(), b"auto 3\nauto 3\n", 7);
+    let good = with_lines(alloc, b"auto 2\nwhy 2 1\n", 7);
+    let mut unread = with_lines(alloc, b"auto 3\nauto 3\n", 7);
     unread.good_reads = 1;
-    let mut stations = Vec::new(rt.alloc());
+    let mut stations = Vec::new(alloc);
     for talk in [unwritten, good, unread] {
         stations.push(Station {
             talk,
             prompt: b"> ",
         })?;
     }
+    Ok(stations)
+}
+
+fn check_ends<R: Abort>(rt: &R, seats: &[Attended<Person>]) {
+    let ends = [
+        (Err(PlayFault::Write), "> "),
+        (Ok(()), "> 2.1 query 1\n> 2.1 because none\n> "),
+        (Err(PlayFault::Read), "> 3.1 query 1\n> "),
+    ];
+    assert!(rt; seats.len() == 3);
+    for at in 0..3 {
+        assert_eq!(rt; seats[at].outcome, ends[at].0);
+        assert!(rt; seats[at].talk.said.as_slice() == ends[at].1.as_bytes());
+    }
+}
+
+/// The command whose response could not be written is in the journal. In which order the seats come is not known.
+fn check_journal<R: Abort + AllocGlobal>(rt: &R, journal: &[Entry]) {
+    let text = journal_text(rt.alloc(), journal).expect(rt, "a text");
+    let text = str::from_utf8(text.as_slice()).expect(rt, "a text");
+    for line in ["1 auto 1\n", "2 auto 2\n", "2 why 2 1\n", "3 auto 3\n"] {
+        assert!(rt; text.contains(line), "{line}");
+    }
+    assert_eq!(rt; text.len(), 37);
+}
+
+/// The status is that of the least seat that failed.
+fn check_report<R: Abort + AllocGlobal>(rt: &R, seats: &[Attended<Person>]) {
+    assert!(rt; seats.len() == 3);
+    let mut error = Output::new(Vec::new(rt.alloc()));
+    let written = write_failures(rt.alloc(), seats, &Ok(()), &mut error);
+    assert_eq!(rt; written, Ok(()));
+    let text = "seat 1: output failed\nseat 3: cannot read the input\n";
+    assert!(rt; error.into_inner().as_slice() == text.as_bytes());
+    assert_eq!(rt; status_after(seats, &Ok(())), 7);
+}
+
+#[test]
+fn a_seat_that_fails_ends_alone(rt: HostRuntime) -> Result<(), Fail> {
+    let stations = three_seats(rt.alloc())?;
     assert!(rt; stations.len() == 3);
     let setup = Setup::read(rt.alloc(), THREE)?;
     let held = debug_seats::<RunOfSetup, _, _>(&rt, rt.alloc(), setup, stations);
     let Ok((control, attended)) = held else {
         return Err("no sessions".into());
     };
-    let seats = attended.as_slice();
-    assert!(rt; seats.len() == 3);
-    let ends = [
-        (Err(PlayFault::Write), "> "),
-        (Ok(()), "> 2.1 query 1\n> 2.1 because none\n> "),
-        (Err(PlayFault::Read), "> 3.1 query 1\n> "),
-    ];
-    for at in 0..3 {
-        let (outcome, said) = ends[at];
-        assert_eq!(rt; seats[at].outcome, outcome);
-        assert_eq!(rt; str::from_utf8(seats[at].talk.said.as_slice()), Ok(said));
-    }
-    // The command whose response could not be written is in the journal. In which order the seats come is not known.
-    let journal = journal_text(rt.alloc(), control.journal())?;
-    let journal = str::from_utf8(journal.as_slice())?;
-    for line in ["1 auto 1\n", "2 auto 2\n", "2 why 2 1\n", "3 auto 3\n"] {
-        assert!(rt; journal.contains(line), "{line}");
-    }
-    assert_eq!(rt; journal.len(), 37);
-    // The status is that of the least seat that failed.
-    let mut error = Output::new(Vec::new(rt.alloc()));
-    let written = write_failures(rt.alloc(), seats, &Ok(()), &mut error);
-    assert_eq!(rt; written, Ok(()));
-    assert_eq!(rt;
-        str::from_utf8(error.into_inner().as_slice()),
-        Ok("seat 1: output failed\nseat 3: cannot read the input\n")
-    );
-    assert_eq!(rt; status_after(seats, &Ok(())), 7);
+    check_ends(&rt, attended.as_slice());
+    check_journal(&rt, control.journal());
+    check_report(&rt, attended.as_slice());
     Ok(())
 }
