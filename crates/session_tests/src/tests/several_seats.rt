@@ -16,17 +16,18 @@ const THREE: &[u8] =
 /// Each seat drives a process of its own, and nothing is sent, so that what it is answered depends on no other. The
 /// first can't be written to after its prompt, and the third can't be read from after its first line.
 fn three_seats(alloc: Global) -> Result<Vec<Station<Person>>, AllocError> {
-    let mut unwritten = with_lines(alloc, b"auto 1\nauto 1\n", 7);
-    unwritten.good_writes = 1;
-    let good = with_lines(alloc, b"auto 2\nwhy 2 1\n", 7);
-    let mut unread = with_lines(alloc, b"auto 3\nauto 3\n", 7);
-    unread.good_reads = 1;
+    let seats: [(&[u8], usize, usize); 3] = [
+        (b"auto 1\nauto 1\n", usize::MAX, 1),
+        (b"auto 2\nwhy 2 1\n", usize::MAX, usize::MAX),
+        (b"auto 3\nauto 3\n", 1, usize::MAX),
+    ];
     let mut stations = Vec::new(alloc);
-    for talk in [unwritten, good, unread] {
-        stations.push(Station {
-            talk,
-            prompt: b"> ",
-        })?;
+    for (lines, good_reads, good_writes) in seats {
+        let mut talk = with_lines(alloc, lines, 7);
+        talk.good_reads = good_reads;
+        talk.good_writes = good_writes;
+        let prompt = b"> ";
+        stations.push(Station { talk, prompt })?;
     }
     Ok(stations)
 }
