@@ -1,6 +1,6 @@
 //! The line of each form of command, and the texts of replies that no short script has.
 
-use cdb_base::{CopyName, MsgName, NoMemory, Payload, Proc, Refusal, StepId, StepName};
+use cdb_base::{CopyName, MsgName, NoMemory, Payload, Proc, StepId, StepName};
 use cdb_control::Reply;
 use cdb_text::{parse_line, push_command, reply_text};
 use smallvec::SmallVec;
@@ -100,11 +100,4 @@ fn mail_of_a_late_round(rt: HostRuntime) -> Result<(), AllocError> {
     let text = "to 1 2#10 p2 12 none\n";
     assert!(rt; is_text(rt.alloc(), &Reply::Mail(copies), text) == Ok(true));
     Ok(())
-}
-
-/// No short script takes 9,999 steps.
-#[test]
-fn the_refusal_of_a_step_past_the_last(rt: HostRuntime) {
-    let reply = Reply::Refused(Refusal::StepLimit);
-    assert!(rt; is_text(rt.alloc(), &reply, "refused 9 StepLimit\n") == Ok(true));
 }
