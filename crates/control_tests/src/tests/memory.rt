@@ -331,8 +331,8 @@ fn commands_without_memory(rt: HostRuntime) {
 fn many_steps_without_memory(rt: HostRuntime) {
     let mut session = Session::open(&rt, ALPHA_PAIR);
     for _ in 0..70 {
-        let _read = session.give(&rt, 1, "step 1 go");
-        let _query = session.give(&rt, 1, "step 1 query 2");
+        session.repeat(&rt, 1, "step 1 go");
+        session.repeat(&rt, 1, "step 1 query 2");
     }
     let reply = session.give(&rt, 1, "step 1 go");
     assert!(rt; text_of(&rt, &reply).as_slice() == b"1.141 read dec\n".as_slice());

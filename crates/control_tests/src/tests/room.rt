@@ -80,9 +80,7 @@ fn rooms_are_made_and_taken(rt: HostRuntime) {
 /// A session that has decided, with room for three undos.
 fn with_room<R: Abort + AllocGlobal>(rt: &R) -> Session {
     let mut session = Session::open(rt, ALONE);
-    for _ in 0..8 {
-        let _step = session.give(rt, 1, "auto 1");
-    }
+    session.repeat(rt, 8, "auto 1");
     make_room(rt, &mut session, 1, 3);
     session
 }

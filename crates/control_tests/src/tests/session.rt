@@ -17,6 +17,11 @@ pub const ALONE: &str =
 pub const LOSSY: &str =
     r#"{"version":2,"algorithm":"leader","processes":2,"quorum":2,"inputs":[5,6],"oracle":[[1],[1]]}"#;
 
+/// A setup, or none where an allocation failed.
+fn setup_of(alloc: Global, setup: &str) -> Option<Setup> {
+    Setup::read(alloc, setup.as_bytes()).ok()
+}
+
 /// A control with two seats. What its calls answer is seen when the tests run: their contracts say nothing of it, so
 /// that the proof of a test does not read what a control is.
 #[derive(Drop)]
@@ -35,7 +40,7 @@ impl Model for Session {
 impl Session {
     /// A session of a setup in which nothing has happened, or none where an allocation failed.
     fn open_once(alloc: Global, setup: &str) -> Option<Session> {
-        let setup = Setup::read(alloc, setup.as_bytes()).ok()?;
+        let setup = setup_of(alloc, setup)?;
         let control = Control::open(alloc, setup, 2).ok()?;
         Some(Session { control })
     }
@@ -65,6 +70,13 @@ impl Session {
         match self.try_line(rt, seat, line) {
             Ok(reply) => reply,
             Err(_) => self.try_line(rt, seat, line).expect(rt, line),
+        }
+    }
+
+    /// Gives a line of the first seat this many times.
+    pub fn repeat<R: Abort + AllocGlobal>(&mut self, rt: &R, times: u32, line: &str) {
+        for _ in 0..times {
+            let _reply = self.give(rt, 1, line);
         }
     }
 

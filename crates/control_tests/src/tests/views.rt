@@ -13,9 +13,7 @@ fn what_auto_would_do_is_picked(rt: HostRuntime) {
 #[test]
 fn a_full_journal_takes_no_more(rt: HostRuntime) {
     let mut session = Session::open(&rt, ALONE);
-    for _ in 0..999_999 {
-        let _nothing = session.give(&rt, 1, "forget");
-    }
+    session.repeat(&rt, 999_999, "forget");
     for line in ["forget", "auto 1"] {
         let answer = session.try_line(&rt, 1, line);
         assert!(rt; matches!(answer, Err(CallFault::JournalFull)), "{line}");
