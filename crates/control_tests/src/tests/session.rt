@@ -98,6 +98,12 @@ impl Session {
         [self.control.room(1), self.control.room(2)]
     }
 
+    /// How many entries the journal has, and how many events stand.
+    pub fn lengths(&self) -> (usize, usize) {
+        let history = self.control.run().any().history();
+        (self.control.journal().len(), history.len())
+    }
+
     /// Whether the same events stand in both, and both have the same journal.
     pub fn shows_same(&self, other: &Session) -> bool {
         let (one, two) = (

@@ -17,7 +17,6 @@ fn a_full_journal_takes_no_more(rt: HostRuntime) {
     for line in ["forget", "auto 1"] {
         let answer = session.try_line(&rt, 1, line);
         assert!(rt; matches!(answer, Err(CallFault::JournalFull)), "{line}");
-        assert_eq!(rt; session.control.journal().len(), 999_999);
-        assert_eq!(rt; session.control.run().any().history().len(), 0);
+        assert_eq!(rt; session.lengths(), (999_999, 0));
     }
 }
