@@ -1,5 +1,5 @@
-//! Worked examples as commands of sessions, with ample memory and where allocations fail; examples of lines and of the
-//! texts of replies.
+//! What no script shows of a control and of its texts: allocations that fail, room, a full journal, and the calls that no
+//! command makes.
 #![tactic(auto)]
 
 #[cfg(test)]

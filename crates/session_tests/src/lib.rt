@@ -1,4 +1,5 @@
-//! Worked sessions of one seat and of several, on the public calls of `cdb_debug` and `cdb_hall`.
+//! What no lines from outside show of sessions: bytes that come one at a time, when more is asked for, and reads and
+//! writes that fail.
 #![tactic(auto)]
 
 #[cfg(test)]

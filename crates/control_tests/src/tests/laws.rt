@@ -6,7 +6,7 @@ use cdb_text::laws as lines;
 
 /// Each law holds of the runs of every setup.
 #[test]
-fn laws_of_commands() {
+fn laws_of_commands_and_lines() {
     laws::refused_changes_nothing();
     laws::other_lists_stay();
     laws::numbers_rise();
@@ -14,10 +14,5 @@ fn laws_of_commands() {
     laws::others_add_no_reply();
     laws::headline::<RunOfSetup>();
     laws::worked_journals();
-}
-
-/// A command and its line are one and the same.
-#[test]
-fn laws_of_lines() {
     lines::each_command_has_one_line();
 }

@@ -1,167 +1,339 @@
-//! Out of memory: a command whose allocation fails changes nothing, and has its usual reply when it is given
-//! again. To see it, let each allocation of these tests fail in turn.
+//! Out of memory: a command whose allocation fails changes nothing, and has its usual reply when it is given again.
+//! To see it, let each allocation of these tests fail in turn.
 
-use super::pair::{Line, check_in_pair};
-use super::setups::{ALONE, ALPHA_ALONE, LOSSY, NO_MAJORITY};
-use cdb_base::Reg;
-use cdb_control::{Act, Command, Stop, View};
+use super::session::{ALONE, LOSSY, Session, text_of};
+use cdb_control::Reply;
+use std::process::Abort;
 
-const NO_MORE: [Line; 0] = [];
+/// Two processes with a quorum of one, each its own leader.
+const NO_MAJORITY: &str =
+    r#"{"algorithm":"leader","processes":2,"quorum":1,"inputs":[5,6],"oracle":[[1],[2]]}"#;
 
-const A_LOSS: [Line; 8] = [
-    (Command::Step(1, Act::Query(None)), "1.1 query 1"),
-    (Command::Step(1, Act::Go), "1.2 send 1#1"),
-    (Command::Lose(1, 1, 2), "lost 1#1 to 2"),
-    (Command::Step(2, Act::Recv(1, 1)), "refused 19 Lost"),
-    (Command::Show(View::Mail), "to 1 1#1 p1 1 5 1"),
-    (Command::Undo(1, 2), "refused 11 NeededBy lost 1#1 to 2"),
-    (Command::WhyLost(1, 1, 2), "lost 1#1 to 2 because 1.2"),
-    (Command::Auto(2), "2.1 query 1"),
+/// One process of Alpha.
+const ALPHA_ALONE: &str =
+    r#"{"algorithm":"alpha","processes":1,"quorum":1,"inputs":[7],"oracle":[[1]]}"#;
+
+/// Two processes of Alpha, each its own leader.
+const ALPHA_PAIR: &str =
+    r#"{"algorithm":"alpha","processes":2,"quorum":2,"inputs":[7,8],"oracle":[[1],[2]]}"#;
+
+const LOSSES: &str = "\
+step 1 query
+  1.1 query 1
+
+step 1 go
+  1.2 send 1#1
+
+lose 1 1 2
+  lost 1#1 to 2
+
+step 2 recv 1 1
+  refused 19 Lost
+
+show mail
+  to 1 1#1 p1 1 5 1
+
+undo 1 2
+  refused 11 NeededBy lost 1#1 to 2
+
+why lost 1 1 2
+  lost 1#1 to 2 because 1.2
+
+auto 2
+  2.1 query 1
+
+undo lost 1 1 2
+  undone lost 1#1 to 2
+
+step 2 recv 1 1
+  2.2 recv 1#1
+
+redo
+  refused 6 Taken
+
+undo 2 2
+  undone 2.2 recv 1#1
+
+redo
+  redone 2.2 recv 1#1
+
+forget
+  forgot 1
+
+redo
+  refused 14 NothingToRedo
+
+why 2 2
+  2.2 because 1.2 2.1";
+
+const ROLLBACKS: &str = "\
+step 1 query 1
+  1.1 query 1
+
+step 1 go
+  1.2 send 1#1
+
+lose 1 1 2
+  lost 1#1 to 2
+
+rollback lost 1 1 2
+  rolled back 1
+
+redo
+  redone lost 1#1 to 2
+
+rollback 1 1
+  rolled back 3
+
+show history
+  no steps
+
+redo
+  redone 1.1 query 1
+
+redo
+  redone 1.2 send 1#1
+
+redo
+  redone lost 1#1 to 2
+
+show history
+  1.1 query 1
+  1.2 send 1#1
+  lost 1#1 to 2";
+
+const BREAKPOINTS: &str = "\
+break recv 1
+  break 1
+
+break round 1 1
+  break 2
+
+auto 1
+  1.1 query 1 break 2
+
+auto 1
+  refused 13 Paused 2
+
+resume
+  resumed
+
+unbreak 2
+  unbreak 2
+
+auto 1
+  1.2 send 1#1
+
+auto 1
+  1.3 recv 1#1 break 1
+
+unbreak 1
+  unbreak 1
+
+break decide 1
+  break 3
+
+resume
+  resumed
+
+auto 1
+  1.4 local
+
+auto 1
+  1.5 send 1#2
+
+auto 1
+  1.6 recv 1#2
+
+auto 1
+  1.7 local
+
+auto 1
+  1.8 send 1#3 decides 7 break 3
+
+undo 1 8
+  undone 1.8 send 1#3
+
+decisions
+  decisions none
+
+redo
+  redone 1.8 send 1#3 decides 7
+
+decisions
+  decisions 1=7
+
+show 1
+  process 1 L6 round 1 alive steps 8 queries 1 decision 7
+
+rollback 1 2
+  rolled back 7
+
+redo
+  redone 1.2 send 1#1";
+
+const REGISTERS: &str = "\
+break write dec
+  break 1
+
+auto 1
+  1.1 read dec
+
+auto 1
+  1.2 query 1
+
+auto 1
+  1.3 write r1
+
+auto 1
+  1.4 read r1
+
+auto 1
+  1.5 local
+
+auto 1
+  1.6 write r1
+
+step 1 go
+  1.7 read r1
+
+step 1 go
+  1.8 local
+
+step 1 go
+  1.9 write dec break 1
+
+step 1 go
+  1.10 read dec decides 7
+
+show regs
+  r1 lre 1 lrww 1 val 7
+  dec 7
+
+rollback 1 9
+  rolled back 2
+
+show regs
+  r1 lre 1 lrww 1 val 7
+  dec none
+
+redo
+  redone 1.9 write dec
+
+redo
+  redone 1.10 read dec decides 7";
+
+const A_CRASH: &str = "\
+auto 1
+  1.1 query 1
+
+auto 1
+  1.2 send 1#1
+
+auto 1
+  1.3 recv 1#1
+
+auto 1
+  1.4 local
+
+auto 1
+  1.5 send 1#2
+
+auto 1
+  1.6 recv 1#2
+
+auto 1
+  1.7 local
+
+auto 1
+  1.8 send 1#3 decides 5
+
+step 2 learn
+  refused 4 NotNow
+
+step 2 recv 1 3
+  2.1 recv 1#3
+
+step 2 learn
+  2.2 learn
+
+step 2 crash
+  2.3 crash
+
+step 2 go
+  refused 2 Crashed
+
+undo 2 3
+  undone 2.3 crash
+
+step 2 go
+  2.3 send 2#1 decides 5";
+
+const SESSIONS: [(&str, &str); 5] = [
+    (LOSSY, LOSSES),
+    (LOSSY, ROLLBACKS),
+    (ALONE, BREAKPOINTS),
+    (ALPHA_ALONE, REGISTERS),
+    (NO_MAJORITY, A_CRASH),
 ];
 
-const LOSS_UNDONE: [Line; 8] = [
-    (Command::UndoLost(1, 1, 2), "undone lost 1#1 to 2"),
-    (Command::Step(2, Act::Recv(1, 1)), "2.2 recv 1#1"),
-    (Command::Redo, "refused 6 Taken"),
-    (Command::Undo(2, 2), "undone 2.2 recv 1#1"),
-    (Command::Redo, "redone 2.2 recv 1#1"),
-    (Command::Forget, "forgot 1"),
-    (Command::Redo, "refused 14 NothingToRedo"),
-    (Command::Why(2, 2), "2.2 because 1.2 2.1"),
-];
-
-#[test]
-fn losses_without_memory(rt: HostRuntime) {
-    check_in_pair(&rt, LOSSY, &A_LOSS, &LOSS_UNDONE, &NO_MORE);
+/// Gives a line to a session. Where an allocation fails it shows what the other shows, and is given the line again.
+fn lead<R: Abort + AllocGlobal>(
+    rt: &R,
+    session: &mut Session,
+    other: &Session,
+    line: &str,
+) -> Reply {
+    if let Ok(reply) = session.try_line(rt, 1, line) {
+        return reply;
+    }
+    assert!(rt; session.shows_same(other), "{line}");
+    session.try_line(rt, 1, line).expect(rt, line)
 }
 
-const ALONE_TAKEN_BACK: [Line; 5] = [
-    (Command::Step(1, Act::Query(Some(1))), "1.1 query 1"),
-    (Command::Step(1, Act::Go), "1.2 send 1#1"),
-    (Command::Lose(1, 1, 2), "lost 1#1 to 2"),
-    (Command::RollbackLost(1, 1, 2), "rolled back 1"),
-    (Command::Redo, "redone lost 1#1 to 2"),
-];
-
-const ALL_TAKEN_BACK: [Line; 6] = [
-    (Command::Rollback(1, 1), "rolled back 3"),
-    (Command::Show(View::History), "no steps"),
-    (Command::Redo, "redone 1.1 query 1"),
-    (Command::Redo, "redone 1.2 send 1#1"),
-    (Command::Redo, "redone lost 1#1 to 2"),
-    (
-        Command::Show(View::History),
-        "1.1 query 1\n1.2 send 1#1\nlost 1#1 to 2",
-    ),
-];
-
-#[test]
-fn rollbacks_without_memory(rt: HostRuntime) {
-    check_in_pair(&rt, LOSSY, &ALONE_TAKEN_BACK, &ALL_TAKEN_BACK, &NO_MORE);
+/// Whether a text has these lines, of which each is two spaces in.
+fn has_lines(text: &[u8], lines: &str) -> bool {
+    let mut rest = text;
+    for line in lines.lines() {
+        let Some(line) = line.strip_prefix("  ") else {
+            return false;
+        };
+        let Some(end) = rest.strip_prefix(line.as_bytes()) else {
+            return false;
+        };
+        let Some(next) = end.strip_prefix(b"\n") else {
+            return false;
+        };
+        rest = next;
+    }
+    rest.is_empty()
 }
 
-const TWO_STOPS: [Line; 8] = [
-    (Command::Break(Stop::Recv(1)), "break 1"),
-    (Command::Break(Stop::Round(1, 1)), "break 2"),
-    (Command::Auto(1), "1.1 query 1 break 2"),
-    (Command::Auto(1), "refused 13 Paused 2"),
-    (Command::Resume, "resumed"),
-    (Command::Unbreak(2), "unbreak 2"),
-    (Command::Auto(1), "1.2 send 1#1"),
-    (Command::Auto(1), "1.3 recv 1#1 break 1"),
-];
-
-const DECISION_STOPS: [Line; 8] = [
-    (Command::Unbreak(1), "unbreak 1"),
-    (Command::Break(Stop::Decide(1)), "break 3"),
-    (Command::Resume, "resumed"),
-    (Command::Auto(1), "1.4 local"),
-    (Command::Auto(1), "1.5 send 1#2"),
-    (Command::Auto(1), "1.6 recv 1#2"),
-    (Command::Auto(1), "1.7 local"),
-    (Command::Auto(1), "1.8 send 1#3 decides 7 break 3"),
-];
-
-const DECISION_SHOWN: [Line; 5] = [
-    (Command::Undo(1, 8), "undone 1.8 send 1#3"),
-    (Command::Decisions, "decisions none"),
-    (Command::Redo, "redone 1.8 send 1#3 decides 7"),
-    (Command::Decisions, "decisions 1=7"),
-    (
-        Command::Show(View::Proc(1)),
-        "process 1 L6 round 1 alive steps 8 queries 1 decision 7",
-    ),
-];
-
+/// Two sessions of each setup are given the same lines, one always a line behind the other.
 #[test]
-fn breakpoints_without_memory(rt: HostRuntime) {
-    check_in_pair(&rt, ALONE, &TWO_STOPS, &DECISION_STOPS, &DECISION_SHOWN);
+fn commands_without_memory(rt: HostRuntime) {
+    for (setup, rows) in SESSIONS {
+        let mut ahead = Session::open(&rt, setup);
+        let mut behind = Session::open(&rt, setup);
+        for row in rows.split("\n\n") {
+            let (line, lines) = row.split_once('\n').expect(&rt, row);
+            let reply = lead(&rt, &mut ahead, &behind, line);
+            assert!(rt; has_lines(text_of(&rt, &reply).as_slice(), lines), "{row}");
+            let reply = behind.give(&rt, 1, line);
+            assert!(rt; has_lines(text_of(&rt, &reply).as_slice(), lines), "{row}");
+            assert!(rt; ahead.shows_same(&behind), "{row}");
+        }
+    }
 }
 
-const FIRST_STEPS: [Line; 7] = [
-    (Command::Break(Stop::Write(Reg::Dec)), "break 1"),
-    (Command::Auto(1), "1.1 read dec"),
-    (Command::Auto(1), "1.2 query 1"),
-    (Command::Auto(1), "1.3 write r1"),
-    (Command::Auto(1), "1.4 read r1"),
-    (Command::Auto(1), "1.5 local"),
-    (Command::Auto(1), "1.6 write r1"),
-];
-
-const STEPS_TO_THE_DECISION: [Line; 5] = [
-    (Command::Step(1, Act::Go), "1.7 read r1"),
-    (Command::Step(1, Act::Go), "1.8 local"),
-    (Command::Step(1, Act::Go), "1.9 write dec break 1"),
-    (Command::Step(1, Act::Go), "1.10 read dec decides 7"),
-    (Command::Show(View::Regs), "r1 lre 1 lrww 1 val 7\ndec 7"),
-];
-
-const REGISTERS_TAKEN_BACK: [Line; 4] = [
-    (Command::Rollback(1, 9), "rolled back 2"),
-    (Command::Show(View::Regs), "r1 lre 1 lrww 1 val 7\ndec none"),
-    (Command::Redo, "redone 1.9 write dec"),
-    (Command::Redo, "redone 1.10 read dec decides 7"),
-];
-
+/// A history of more events than one piece of a log has.
 #[test]
-fn registers_without_memory(rt: HostRuntime) {
-    check_in_pair(
-        &rt,
-        ALPHA_ALONE,
-        &FIRST_STEPS,
-        &STEPS_TO_THE_DECISION,
-        &REGISTERS_TAKEN_BACK,
-    );
-}
-
-const FIRST_VALUE: [Line; 8] = [
-    (Command::Auto(1), "1.1 query 1"),
-    (Command::Auto(1), "1.2 send 1#1"),
-    (Command::Auto(1), "1.3 recv 1#1"),
-    (Command::Auto(1), "1.4 local"),
-    (Command::Auto(1), "1.5 send 1#2"),
-    (Command::Auto(1), "1.6 recv 1#2"),
-    (Command::Auto(1), "1.7 local"),
-    (Command::Auto(1), "1.8 send 1#3 decides 5"),
-];
-
-const LEARNT_AND_CRASHED: [Line; 7] = [
-    (Command::Step(2, Act::Learn), "refused 4 NotNow"),
-    (Command::Step(2, Act::Recv(1, 3)), "2.1 recv 1#3"),
-    (Command::Step(2, Act::Learn), "2.2 learn"),
-    (Command::Step(2, Act::Crash), "2.3 crash"),
-    (Command::Step(2, Act::Go), "refused 2 Crashed"),
-    (Command::Undo(2, 3), "undone 2.3 crash"),
-    (Command::Step(2, Act::Go), "2.3 send 2#1 decides 5"),
-];
-
-#[test]
-fn a_crash_without_memory(rt: HostRuntime) {
-    check_in_pair(
-        &rt,
-        NO_MAJORITY,
-        &FIRST_VALUE,
-        &LEARNT_AND_CRASHED,
-        &NO_MORE,
-    );
+fn many_steps_without_memory(rt: HostRuntime) {
+    let mut session = Session::open(&rt, ALPHA_PAIR);
+    for _ in 0..70 {
+        session.repeat(&rt, 1, "step 1 go");
+        session.repeat(&rt, 1, "step 1 query 2");
+    }
+    let reply = session.give(&rt, 1, "step 1 go");
+    assert!(rt; text_of(&rt, &reply).as_slice() == b"1.141 read dec\n".as_slice());
 }

@@ -1,77 +1,103 @@
 //! Room: what goes back needs no memory where its seat has room.
 
-use super::session::{Turn, check};
-use super::setups::{ALONE, LOSSY};
-use cdb_control::{Act, Command, Stop};
+use super::session::{ALONE, LOSSY, Session, text_of};
+use cdb_base::Event;
+use cdb_control::Reply;
+use std::process::Abort;
 
-const DECIDE: Turn = Turn::Repeat(8, Command::Auto(1), "1.8 send 1#3 decides 7");
+/// The seat of a line, the rooms that are made before it, the line, its reply, and the rooms after it.
+type Row = (u8, [u32; 2], &'static str, &'static str, [u32; 2]);
 
-const THREE_UNDOS: [Turn; 8] = [
-    DECIDE,
-    Turn::Rooms(0, 0),
-    Turn::Reserve(1, 3),
-    Turn::Rooms(3, 0),
-    Turn::Give(Command::Undo(1, 8), "undone 1.8 send 1#3"),
-    Turn::Give(Command::Undo(1, 2), "refused 11 NeededBy 1.3"),
-    Turn::Give(Command::Undo(1, 7), "undone 1.7 local"),
-    Turn::Rooms(0, 0),
+/// Rooms are made of nothing, where the seat has less, and not where it has more. Each command takes of both, and a
+/// rollback of its own seat's as many as it takes back.
+const OF_BOTH_SEATS: [Row; 20] = [
+    (1, [0, 0], "auto 1", "1.1 query 1\n", [0, 0]),
+    (1, [0, 0], "auto 1", "1.2 send 1#1\n", [0, 0]),
+    (1, [0, 0], "auto 1", "1.3 recv 1#1\n", [0, 0]),
+    (1, [0, 0], "auto 1", "1.4 local\n", [0, 0]),
+    (1, [0, 0], "auto 1", "1.5 send 1#2\n", [0, 0]),
+    (1, [0, 0], "auto 1", "1.6 recv 1#2\n", [0, 0]),
+    (1, [0, 0], "auto 1", "1.7 local\n", [0, 0]),
+    (1, [0, 0], "auto 1", "1.8 send 1#3 decides 7\n", [0, 0]),
+    (1, [3, 0], "undo 1 8", "undone 1.8 send 1#3\n", [2, 0]),
+    (1, [0, 0], "undo 1 2", "refused 11 NeededBy 1.3\n", [1, 0]),
+    (1, [0, 0], "undo 1 7", "undone 1.7 local\n", [0, 0]),
+    (1, [0, 0], "redo", "redone 1.7 local\n", [0, 0]),
+    (1, [0, 0], "redo", "redone 1.8 send 1#3 decides 7\n", [0, 0]),
+    (2, [5, 1], "undo 1 8", "undone 1.8 send 1#3\n", [4, 0]),
+    (2, [0, 0], "undo 1 9", "refused 10 NoStep\n", [3, 0]),
+    (1, [2, 7], "redo", "refused 14 NothingToRedo\n", [2, 6]),
+    (2, [0, 0], "redo", "redone 1.8 send 1#3 decides 7\n", [1, 5]),
+    (1, [9, 9], "rollback 1 2", "rolled back 7\n", [2, 8]),
+    (1, [0, 0], "redo", "redone 1.2 send 1#1\n", [1, 7]),
+    (1, [0, 0], "rollback 1 1", "rolled back 2\n", [0, 6]),
 ];
 
-#[test]
-fn room_for_three_undos(rt: HostRuntime) {
-    check(&rt, ALONE, 2, &THREE_UNDOS);
+const OF_ALL_THAT_GOES_BACK: [Row; 9] = [
+    (1, [0, 0], "auto 1", "1.1 query 1\n", [0, 0]),
+    (1, [0, 0], "auto 1", "1.2 send 1#1\n", [0, 0]),
+    (1, [0, 0], "lose 1 1 2", "lost 1#1 to 2\n", [0, 0]),
+    (1, [0, 0], "break round 2 1", "break 1\n", [0, 0]),
+    (1, [0, 0], "step 2 query", "2.1 query 1 break 1\n", [0, 0]),
+    (
+        1,
+        [4, 0],
+        "undo lost 1 1 2",
+        "undone lost 1#1 to 2\n",
+        [3, 0],
+    ),
+    (1, [0, 0], "unbreak 1", "unbreak 1\n", [2, 0]),
+    (1, [0, 0], "resume", "resumed\n", [1, 0]),
+    (1, [0, 0], "forget", "forgot 1\n", [0, 0]),
+];
+
+/// Makes room for this many commands of a seat, at the second try where an allocation failed, which has changed no room.
+fn make_room<R: Abort + AllocGlobal>(rt: &R, session: &mut Session, seat: u8, count: u32) {
+    let before = session.rooms(rt);
+    if session.reserve(rt, seat, count).is_err() {
+        assert_eq!(rt; session.rooms(rt), before);
+        assert!(rt; session.reserve(rt, seat, count).is_ok());
+    }
 }
 
-const OF_EVERY_SEAT: [Turn; 10] = [
-    DECIDE,
-    Turn::Reserve(1, 5),
-    Turn::Reserve(2, 1),
-    Turn::GiveAs(2, Command::Undo(1, 8), "undone 1.8 send 1#3"),
-    Turn::Rooms(4, 0),
-    Turn::GiveAs(2, Command::Undo(1, 9), "refused 10 NoStep"),
-    Turn::Rooms(3, 0),
-    Turn::Reserve(1, 2),
-    Turn::Reserve(2, 7),
-    Turn::Rooms(3, 7),
-];
-
-#[test]
-fn each_command_takes_of_every_seats_room(rt: HostRuntime) {
-    check(&rt, ALONE, 2, &OF_EVERY_SEAT);
+fn check<R: Abort + AllocGlobal>(rt: &R, setup: &str, rows: &[Row]) {
+    let mut session = Session::open(rt, setup);
+    for (seat, made, line, text, rooms) in rows {
+        make_room(rt, &mut session, 1, made[0]);
+        make_room(rt, &mut session, 2, made[1]);
+        let reply = session.give(rt, *seat, line);
+        assert!(rt; text_of(rt, &reply).as_slice() == text.as_bytes(), "{text}");
+        assert_eq!(rt; session.rooms(rt), *rooms, "{text}");
+    }
 }
 
-const ROLLED_BACK: [Turn; 9] = [
-    DECIDE,
-    Turn::Reserve(1, 9),
-    Turn::Reserve(2, 9),
-    Turn::Give(Command::Rollback(1, 2), "rolled back 7"),
-    Turn::Rooms(2, 8),
-    Turn::Give(Command::Redo, "redone 1.2 send 1#1"),
-    Turn::Rooms(1, 7),
-    Turn::Give(Command::Rollback(1, 1), "rolled back 2"),
-    Turn::Rooms(0, 6),
-];
-
 #[test]
-fn a_rollback_takes_as_much_as_it_takes_back(rt: HostRuntime) {
-    check(&rt, ALONE, 2, &ROLLED_BACK);
+fn rooms_are_made_and_taken(rt: HostRuntime) {
+    check(&rt, ALONE, &OF_BOTH_SEATS);
+    check(&rt, LOSSY, &OF_ALL_THAT_GOES_BACK);
 }
 
-const BACK: [Turn; 11] = [
-    Turn::Give(Command::Auto(1), "1.1 query 1"),
-    Turn::Give(Command::Auto(1), "1.2 send 1#1"),
-    Turn::Give(Command::Lose(1, 1, 2), "lost 1#1 to 2"),
-    Turn::Give(Command::Break(Stop::Round(2, 1)), "break 1"),
-    Turn::Give(Command::Step(2, Act::Query(None)), "2.1 query 1 break 1"),
-    Turn::Reserve(1, 4),
-    Turn::Give(Command::UndoLost(1, 1, 2), "undone lost 1#1 to 2"),
-    Turn::Give(Command::Unbreak(1), "unbreak 1"),
-    Turn::Give(Command::Resume, "resumed"),
-    Turn::Give(Command::Forget, "forgot 1"),
-    Turn::Rooms(0, 0),
-];
+/// A session that has decided, with room for three undos.
+fn with_room<R: Abort + AllocGlobal>(rt: &R) -> Session {
+    let mut session = Session::open(rt, ALONE);
+    session.repeat(rt, 8, "auto 1");
+    make_room(rt, &mut session, 1, 3);
+    session
+}
+
+/// The beginning of the next test, from whose end on each request is refused there.
+#[test]
+fn room_is_made(rt: HostRuntime) {
+    let _session = with_room(&rt);
+}
 
 #[test]
-fn room_for_all_that_goes_back(rt: HostRuntime) {
-    check(&rt, LOSSY, 2, &BACK);
+fn three_undos_without_memory(rt: HostRuntime) {
+    let mut session = with_room(&rt);
+    for (line, step) in [("undo 1 8", 8), ("undo 1 7", 7), ("undo 1 6", 6)] {
+        let Ok(Reply::Undone(Event::Step { k, .. })) = session.try_line(&rt, 1, line) else {
+            panic!(rt; "{line}");
+        };
+        assert_eq!(rt; k, step);
+    }
 }

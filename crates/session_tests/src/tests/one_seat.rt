@@ -1,95 +1,107 @@
-//! Worked sessions of one seat, and whom they talk with.
+//! Sessions of one seat.
 
-mod dialogues;
-mod failures;
-
+use super::with_lines;
 use cdb_any_run::RunOfSetup;
-use cdb_debug::{Talk, debug};
-use cdb_play::{Failed, PlayFault};
-use std::process::Abort;
-use std::test::Fail;
+use cdb_debug::debug;
+use cdb_play::PlayFault;
+use cdb_setup::SetupFault;
 
-pub const ONE_PROCESS: &[u8] =
+const ONE_PROCESS: &[u8] =
     b"{\"algorithm\":\"leader\",\"processes\":1,\"quorum\":1,\"inputs\":[7],\"oracle\":[[1]]}";
 
-pub const TWO: &[u8] =
-    b"{\"algorithm\":\"leader\",\"processes\":2,\"quorum\":2,\"inputs\":[5,6],\"oracle\":[[1],[1]]}";
+/// Lines with their responses.
+const DIALOGUES: [(&[u8], &str); 4] = [
+    (b"", ""),
+    (b"quit", ""),
+    (b"auto 1\nauto 1", "1.1 query 1\n1.2 send 1#1\n"),
+    (
+        b"auto 1\n\njump\nauto x\nredo 1\nundo 1\nauto 1\r\nauto 1\n",
+        "1.1 query 1
+line 2 fault 1 Empty
+line 3 fault 2 Word
+line 4 fault 3 Number
+line 5 fault 4 Extra
+line 6 fault 5 Missing
+line 7 fault 3 Number
+1.2 send 1#1
+",
+    ),
+];
 
-/// Someone who gives at most `most` bytes when asked, takes at most `most`, and keeps what was written, with its length
-/// at each time when more was asked for. After this many good reads or writes the next one fails.
-#[derive(Drop)]
-struct Person<'a> {
-    rest: &'a [u8],
-    most: usize,
-    said: Vec<u8>,
-    asked_at: Vec<usize>,
-    good_reads: usize,
-    good_writes: usize,
-    failed_reads: u64,
-    failed_writes: u64,
-}
-
-impl<'a> Talk for Person<'a> {
-    ghost use Rattle.std.specs.Prelude.{None};
-
-    ghost known = { λ person. record {
-      moves = None;
-      left = None;
-      held = None;
-      failed_reads = person.failed_reads;
-      failed_writes = person.failed_writes;
-    } };
-
-    fn read(&mut self, buffer: &mut [u8]) -> Result<usize, Failed> {
-        if self.asked_at.push(self.said.len()).is_err() || self.good_reads == 0 {
-            self.failed_reads = self.failed_reads.wrapping_add(1);
-            return Err(Failed);
+#[test]
+fn responses_are_the_same_however_few_bytes_come(rt: HostRuntime) {
+    for (lines, said) in DIALOGUES {
+        for most in [1, 3, 7, 10_000] {
+            let mut talk = with_lines(rt.alloc(), lines, most);
+            let outcome = debug::<RunOfSetup, _>(rt.alloc(), ONE_PROCESS, b"", &mut talk);
+            assert_eq!(rt; outcome, Ok(()));
+            assert_eq!(rt; str::from_utf8(talk.said.as_slice()), Ok(said));
         }
-        self.good_reads -= 1;
-        let count = buffer.len().min(self.rest.len()).min(self.most);
-        buffer[..count].copy_from_slice(&self.rest[..count]);
-        self.rest = &self.rest[count..];
-        Ok(count)
-    }
-
-    fn write(&mut self, piece: &[u8]) -> Result<usize, Failed> {
-        let count = piece.len().min(self.most);
-        let is_good = self.good_writes > 0 && count > 0;
-        if !is_good || self.said.extend_from_slice(&piece[..count]).is_err() {
-            self.failed_writes = self.failed_writes.wrapping_add(1);
-            return Err(Failed);
-        }
-        self.good_writes -= 1;
-        Ok(count)
     }
 }
 
-/// Someone with these lines, whose reads and writes are all good.
-fn at_prompt<'a>(rt: &impl AllocGlobal, lines: &'a [u8], most: usize) -> Person<'a> {
-    Person {
-        rest: lines,
-        most,
-        said: Vec::new(rt.alloc()),
-        asked_at: Vec::new(rt.alloc()),
-        good_reads: usize::MAX,
-        good_writes: usize::MAX,
-        failed_reads: 0,
-        failed_writes: 0,
+/// 7 bytes a time are one line each; the responses have 12, 13 and twice 20 bytes, and the prompt has 2.
+#[test]
+fn each_line_is_answered_before_more_is_asked_for(rt: HostRuntime) {
+    let mut talk = with_lines(rt.alloc(), b"auto 1\nauto 1\njump 1\nquit..\n", 7);
+    let outcome = debug::<RunOfSetup, _>(rt.alloc(), ONE_PROCESS, b"> ", &mut talk);
+    assert_eq!(rt; outcome, Ok(()));
+    assert_eq!(rt;
+        str::from_utf8(talk.said.as_slice()),
+        Ok("> 1.1 query 1\n> 1.2 send 1#1\n> line 3 fault 2 Word\n> line 4 fault 2 Word\n> ")
+    );
+    assert_eq!(rt; talk.asked_at.as_slice(), [2, 16, 31, 53, 75].as_slice());
+}
+
+/// There are 12 bytes up to the end of the line `quit`.
+#[test]
+fn after_quit_no_more_is_asked_for(rt: HostRuntime) {
+    let mut talk = with_lines(rt.alloc(), b"auto 1\nquit\nauto 1\n", 1);
+    let outcome = debug::<RunOfSetup, _>(rt.alloc(), ONE_PROCESS, b"> ", &mut talk);
+    assert_eq!(rt; outcome, Ok(()));
+    assert_eq!(rt;
+        str::from_utf8(talk.said.as_slice()),
+        Ok("> 1.1 query 1\n> ")
+    );
+    assert_eq!(rt; talk.asked_at.len(), 12);
+    assert_eq!(rt; talk.rest, b"auto 1\n".as_slice());
+}
+
+#[test]
+fn a_bad_setup_is_found_before_all_else(rt: HostRuntime) {
+    let mut talk = with_lines(rt.alloc(), b"auto 1\n", 7);
+    let outcome = debug::<RunOfSetup, _>(rt.alloc(), b"[]", b"> ", &mut talk);
+    assert_eq!(rt; outcome, Err(PlayFault::Setup(SetupFault::NotObject)));
+    assert_eq!(rt; (talk.said.len(), talk.asked_at.len()), (0, 0));
+}
+
+const LINES: &[u8] = b"auto 1\njump 1\nauto 1\n";
+
+const RESPONSES: &[u8] = b"> 1.1 query 1\n> line 2 fault 2 Word\n> 1.2 send 1#1\n> ";
+
+/// A line is read at a time, and beside the number of good reads stands how many bytes of the responses are written then.
+#[test]
+fn a_read_that_fails_ends_the_session(rt: HostRuntime) {
+    for (good_reads, length) in [(0, 2), (1, 16), (2, 38), (3, 53)] {
+        let mut talk = with_lines(rt.alloc(), LINES, 7);
+        talk.good_reads = good_reads;
+        let outcome = debug::<RunOfSetup, _>(rt.alloc(), ONE_PROCESS, b"> ", &mut talk);
+        assert_eq!(rt; outcome, Err(PlayFault::Read));
+        assert_eq!(rt; talk.said.len(), length);
+        assert!(rt; RESPONSES.starts_with(talk.said.as_slice()));
+        assert_eq!(rt; talk.asked_at.len(), good_reads + 1);
     }
 }
 
-/// A session without a prompt in which these lines have these answers, however many bytes come at a time.
-fn check(
-    rt: &(impl Abort + AllocGlobal),
-    setup: &[u8],
-    lines: &str,
-    answers: &str,
-) -> Result<(), Fail> {
-    for most in [1, 3, 7, 10_000] {
-        let mut talk = at_prompt(rt, lines.as_bytes(), most);
-        let outcome = debug::<RunOfSetup, _>(rt.alloc(), setup, b"", &mut talk);
-        assert_eq!(rt; outcome, Ok(()));
-        assert_eq!(rt; str::from_utf8(talk.said.as_slice()), Ok(answers));
+/// A byte is written at a time.
+#[test]
+fn a_write_that_fails_ends_the_session(rt: HostRuntime) {
+    for good_writes in 0..53 {
+        let mut talk = with_lines(rt.alloc(), LINES, 1);
+        talk.good_writes = good_writes;
+        let outcome = debug::<RunOfSetup, _>(rt.alloc(), ONE_PROCESS, b"> ", &mut talk);
+        assert_eq!(rt; outcome, Err(PlayFault::Write));
+        assert_eq!(rt; talk.said.len(), good_writes);
+        assert!(rt; RESPONSES.starts_with(talk.said.as_slice()));
     }
-    Ok(())
 }

@@ -1,109 +1,82 @@
-//! Worked sessions of several seats, and whom they talk with.
+//! Sessions of several seats at once, a thread each.
 
-mod failures;
-mod halls;
-mod reports;
-
+use super::{Person, with_lines};
 use cdb_any_run::RunOfSetup;
-use cdb_debug::Talk;
-use cdb_hall::{Attended, Station, debug_seats, journal_text};
-use cdb_play::Failed;
+use cdb_control::Entry;
+use cdb_hall::{Attended, Station, debug_seats, journal_text, status_after, write_failures};
+use cdb_play::{Output, PlayFault};
 use cdb_setup::Setup;
+use std::alloc::{AllocError, Global};
 use std::process::Abort;
-use std::sync::Wait;
 use std::test::Fail;
-use std::thread::Threads;
 
-pub const THREE: &[u8] =
+const THREE: &[u8] =
     b"{\"algorithm\":\"leader\",\"processes\":3,\"quorum\":2,\"inputs\":[5,6,7],\"oracle\":[[1],[1],[1]]}";
 
-/// Someone who gives a line at a time, and keeps what was written. After this many good reads or writes the next one
-/// fails.
-#[derive(Drop)]
-pub struct Person {
-    rest: &'static [u8],
-    said: Vec<u8>,
-    good_reads: usize,
-    good_writes: usize,
-    failed_reads: u64,
-    failed_writes: u64,
+/// Each seat drives a process of its own, and nothing is sent, so that what it is answered depends on no other. The
+/// first can't be written to after its prompt, and the third can't be read from after its first line.
+fn three_seats(alloc: Global) -> Result<Vec<Station<Person>>, AllocError> {
+    let seats: [(&[u8], usize, usize); 3] = [
+        (b"auto 1\nauto 1\n", usize::MAX, 1),
+        (b"auto 2\nwhy 2 1\n", usize::MAX, usize::MAX),
+        (b"auto 3\nauto 3\n", 1, usize::MAX),
+    ];
+    let mut stations = Vec::new(alloc);
+    for (lines, good_reads, good_writes) in seats {
+        let mut talk = with_lines(alloc, lines, 7);
+        talk.good_reads = good_reads;
+        talk.good_writes = good_writes;
+        let prompt = b"> ";
+        stations.push(Station { talk, prompt })?;
+    }
+    Ok(stations)
 }
 
-impl Talk for Person {
-    ghost use Rattle.std.specs.Prelude.{None};
-
-    ghost known = { λ person. record {
-      moves = None;
-      left = None;
-      held = None;
-      failed_reads = person.failed_reads;
-      failed_writes = person.failed_writes;
-    } };
-
-    fn read(&mut self, buffer: &mut [u8]) -> Result<usize, Failed> {
-        if self.good_reads == 0 {
-            self.failed_reads = self.failed_reads.wrapping_add(1);
-            return Err(Failed);
-        }
-        self.good_reads -= 1;
-        let line = match self.rest.iter().position(|byte| *byte == b'\n') {
-            Some(end) => end + 1,
-            None => self.rest.len(),
-        };
-        let count = buffer.len().min(line);
-        buffer[..count].copy_from_slice(&self.rest[..count]);
-        self.rest = &self.rest[count..];
-        Ok(count)
-    }
-
-    fn write(&mut self, piece: &[u8]) -> Result<usize, Failed> {
-        if self.good_writes == 0 || self.said.extend_from_slice(piece).is_err() {
-            self.failed_writes = self.failed_writes.wrapping_add(1);
-            return Err(Failed);
-        }
-        self.good_writes -= 1;
-        Ok(piece.len())
+fn check_ends<R: Abort>(rt: &R, seats: &[Attended<Person>]) {
+    let ends = [
+        (Err(PlayFault::Write), "> "),
+        (Ok(()), "> 2.1 query 1\n> 2.1 because none\n> "),
+        (Err(PlayFault::Read), "> 3.1 query 1\n> "),
+    ];
+    assert!(rt; seats.len() == 3);
+    for at in 0..3 {
+        assert_eq!(rt; seats[at].outcome, ends[at].0);
+        assert!(rt; seats[at].talk.said.as_slice() == ends[at].1.as_bytes());
     }
 }
 
-/// Someone with these lines, whose reads and writes are all good.
-pub fn with_lines(rt: &impl AllocGlobal, lines: &'static [u8]) -> Person {
-    Person {
-        rest: lines,
-        said: Vec::new(rt.alloc()),
-        good_reads: usize::MAX,
-        good_writes: usize::MAX,
-        failed_reads: 0,
-        failed_writes: 0,
+/// The command whose response could not be written is in the journal. In which order the seats come is not known.
+fn check_journal<R: Abort + AllocGlobal>(rt: &R, journal: &[Entry]) {
+    let text = journal_text(rt.alloc(), journal).expect(rt, "a text");
+    let text = str::from_utf8(text.as_slice()).expect(rt, "a text");
+    for line in ["1 auto 1\n", "2 auto 2\n", "2 why 2 1\n", "3 auto 3\n"] {
+        assert!(rt; text.contains(line), "{line}");
     }
+    assert_eq!(rt; text.len(), 37);
 }
 
-/// What a hall has left: the journal's text, and the seats.
-#[derive(Drop)]
-pub struct Record {
-    pub journal: Vec<u8>,
-    pub attended: Vec<Attended<Person>>,
+/// The status is that of the least seat that failed.
+fn check_report<R: Abort + AllocGlobal>(rt: &R, seats: &[Attended<Person>]) {
+    assert!(rt; seats.len() == 3);
+    let mut error = Output::new(Vec::new(rt.alloc()));
+    let written = write_failures(rt.alloc(), seats, &Ok(()), &mut error);
+    assert_eq!(rt; written, Ok(()));
+    let text = "seat 1: output failed\nseat 3: cannot read the input\n";
+    assert!(rt; error.into_inner().as_slice() == text.as_bytes());
+    assert_eq!(rt; status_after(seats, &Ok(())), 7);
 }
 
-/// Sessions of these people over one run of the setup.
-pub fn hold<R: Threads + Wait + Sync + Abort + AllocGlobal>(
-    rt: &R,
-    setup: &[u8],
-    people: Vec<Person>,
-) -> Result<Record, Fail> {
-    let setup = Setup::read(rt.alloc(), setup)?;
-    let mut stations = Vec::new(rt.alloc());
-    for talk in people {
-        stations.push(Station {
-            talk,
-            prompt: b"> ",
-        })?;
-    }
-    assert!(rt; 1 <= stations.len() && stations.len() <= 64);
-    let held = debug_seats::<RunOfSetup, _, _>(rt, rt.alloc(), setup, stations);
+#[test]
+fn a_seat_that_fails_ends_alone(rt: HostRuntime) -> Result<(), Fail> {
+    let stations = three_seats(rt.alloc())?;
+    assert!(rt; stations.len() == 3);
+    let setup = Setup::read(rt.alloc(), THREE)?;
+    let held = debug_seats::<RunOfSetup, _, _>(&rt, rt.alloc(), setup, stations);
     let Ok((control, attended)) = held else {
-        return Err("no hall".into());
+        return Err("no sessions".into());
     };
-    let journal = journal_text(rt.alloc(), control.journal())?;
-    Ok(Record { journal, attended })
+    check_ends(&rt, attended.as_slice());
+    check_journal(&rt, control.journal());
+    check_report(&rt, attended.as_slice());
+    Ok(())
 }
