@@ -1,5 +1,6 @@
 //! Calls that no command makes, each once where it succeeds.
 
+ghost use Rattle.std.specs.Prelude.{◌≤◌};
 ghost use Rattle.cdb_any_run.specs.Any.{IsTrueToSetup};
 
 use super::example::{after, read};
@@ -22,6 +23,21 @@ fn begun<R: Abort + AllocGlobal>(rt: &R) -> AnyRun
     }
     assert!(rt; matches!(run.lose(rt.alloc(), 1, 1, 2), Ok(Ok(_))));
     run
+}
+
+/// The copy of the first message of process 1 for a process from 1 to 9.
+fn first_copy_for(receiver: u8) -> CopyName
+    requires from_one { 1 ≤ receiver }
+    requires to_nine { receiver ≤ 9 }
+{
+    let msg = MsgName {
+        s: Proc::new(1),
+        m: 1,
+    };
+    CopyName {
+        msg,
+        to: Proc::new(receiver),
+    }
 }
 
 #[test]
@@ -50,14 +66,7 @@ fn causes_and_lost_copies_are_found_by_plain_numbers(rt: HostRuntime) {
         k: 1,
     };
     assert!(&rt; causes.as_slice() == [StepId::Step(query)].as_slice());
-    let msg = MsgName {
-        s: Proc::new(1),
-        m: 1,
-    };
-    for (receiver, is_lost) in [(1, false), (2, true)] {
-        let to = Proc::new(receiver);
-        assert_eq!(&rt; run.lost(CopyName { msg, to }), is_lost);
-    }
+    assert!(&rt; !run.lost(first_copy_for(1)) && run.lost(first_copy_for(2)));
 }
 
 /// Scripts of two processes of Alpha, and how many writes then stand of the registers of both and of the decision's.

@@ -53,8 +53,9 @@ pub fn copy_of<R: Abort + AllocGlobal>(rt: &R, setup: &str, run: &Example) -> Ex
 fn first_needing(history: &History, i: usize) -> Option<StepId>
     requires { i < length history.now }
 {
+    let count = history.len();
     let event = history.event(i);
-    for j in i + 1..history.len() {
+    for j in i + 1..count {
         let later = history.event(j);
         if depends(event, later) {
             return Some(later.name());
@@ -78,9 +79,10 @@ fn with_consequences(alloc: Global, history: &History, i: usize) -> Result<Vec<E
     requires { i < length history.now }
 {
     let _parts: (Option<Kind>, Option<Reg>) = (None, None);
+    let count = history.len();
     let mut found = Vec::new(alloc);
     found.push(*history.event(i))?;
-    for j in i + 1..history.len() {
+    for j in i + 1..count {
         let later = history.event(j);
         if depends_on_one(found.as_slice(), later) {
             found.push(*later)?;
