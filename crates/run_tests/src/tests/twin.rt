@@ -159,8 +159,9 @@ fn redo<R: Abort + AllocGlobal>(rt: &R, run: &mut Example, undone: &[Event]) {
 fn undo_and_redo<R: Abort + AllocGlobal>(rt: &R, setup: &str, run: &Example, i: usize) {
     let mut twin = copy_of(rt, setup, run);
     if undo(rt, setup, run, &mut twin, i) {
-        assert!(rt; i < run.history().len());
-        redo(rt, &mut twin, &[*run.history().event(i)]);
+        let history = run.history();
+        assert!(rt; i < history.len());
+        redo(rt, &mut twin, &[*history.event(i)]);
         assert!(rt; twin.is_same(rt, run));
     }
 }
