@@ -1,57 +1,72 @@
 //! Calls that no command makes, each once where it succeeds.
 
-use super::example::after;
+ghost use Rattle.std.specs.Prelude.{◌≤◌};
+ghost use Rattle.cdb_any_run.specs.Any.{IsTrueToSetup};
+
+use super::example::{after, read};
 use super::scripts::{RACE, TWELVE_STEPS};
 use super::setups::{ALPHA_PAIR, LOSSY};
 use cdb_agreement::{agreement, laws};
 use cdb_any_run::AnyRun;
-use cdb_base::{Act, CopyName, Event, MsgName, Proc, Reg, StepId, StepName};
+use cdb_base::{Act, CopyName, MsgName, Proc, Reg, StepId, StepName};
 use cdb_leader::{Back, Leader};
-use cdb_setup::Setup;
-use std::test::Fail;
+use std::process::Abort;
+
+/// A run in which process 1 has asked and sent, and its copy for process 2 is lost.
+fn begun<R: Abort + AllocGlobal>(rt: &R) -> AnyRun
+    ensures { IsTrueToSetup result }
+{
+    let setup = read(rt.alloc(), LOSSY).ok().expect(rt, "a setup");
+    let mut run = AnyRun::start(rt.alloc(), setup).expect(rt, "a run");
+    for act in [Act::Query(None), Act::Go] {
+        assert!(rt; matches!(run.step(rt.alloc(), 1, act), Ok(Ok(_))));
+    }
+    assert!(rt; matches!(run.lose(rt.alloc(), 1, 1, 2), Ok(Ok(_))));
+    run
+}
+
+/// The copy of the first message of process 1 for a process from 1 to 9.
+fn first_copy_for(receiver: u8) -> CopyName
+    requires from_one { 1 ≤ receiver }
+    requires to_nine { receiver ≤ 9 }
+{
+    let msg = MsgName {
+        s: Proc::new(1),
+        m: 1,
+    };
+    CopyName {
+        msg,
+        to: Proc::new(receiver),
+    }
+}
 
 #[test]
-fn calls_by_plain_numbers_succeed(rt: HostRuntime) -> Result<(), Fail> {
-    let setup = Setup::read(rt.alloc(), LOSSY.as_bytes())
-        .ok()
-        .ok_or("no setup")?;
-    let mut run = AnyRun::start(rt.alloc(), setup)?;
-    assert!(&rt; run.step(rt.alloc(), 1, Act::Query(None))?.is_ok());
-    assert!(&rt; run.step(rt.alloc(), 1, Act::Go)?.is_ok());
-    let lost = run.lose(rt.alloc(), 1, 1, 2)?;
-    let causes = run.causes(rt.alloc(), 1, 2).ok().ok_or("no causes")?;
+fn events_are_undone_by_plain_numbers(rt: HostRuntime) {
+    let mut run = begun(&rt);
+    assert!(&rt; run.undo_lost(1, 1, 2).is_ok());
+    assert!(&rt; run.undo(1, 2).is_ok());
+    assert_eq!(&rt; run.history().len(), 1);
+}
+
+#[test]
+fn events_are_rolled_back_by_plain_numbers(rt: HostRuntime) {
+    let mut run = begun(&rt);
+    assert!(&rt; matches!(run.rollback_lost(rt.alloc(), 1, 1, 2), Ok(Ok(_))));
+    assert_eq!(&rt; run.history().len(), 2);
+    assert!(&rt; matches!(run.rollback(rt.alloc(), 1, 1), Ok(Ok(_))));
+    assert!(&rt; run.history().is_empty());
+}
+
+#[test]
+fn causes_and_lost_copies_are_found_by_plain_numbers(rt: HostRuntime) {
+    let run = begun(&rt);
+    let causes = run.causes(rt.alloc(), 1, 2).ok().expect(&rt, "causes");
     let query = StepName {
         p: Proc::new(1),
         k: 1,
     };
     assert!(&rt; causes.as_slice() == [StepId::Step(query)].as_slice());
-    let msg = MsgName {
-        s: Proc::new(1),
-        m: 1,
-    };
-    let (kept, other) = (
-        CopyName {
-            msg,
-            to: Proc::new(1),
-        },
-        CopyName {
-            msg,
-            to: Proc::new(2),
-        },
-    );
-    assert!(&rt; !run.lost(kept) && run.lost(other));
-    assert!(&rt; run.undo_lost(1, 1, 2) == lost);
-    assert!(&rt; run.lose(rt.alloc(), 1, 1, 2)? == lost);
-    let undone = run
-        .rollback_lost(rt.alloc(), 1, 1, 2)?
-        .ok()
-        .ok_or("no loss")?;
-    assert_eq!(&rt; undone.len(), 1);
-    let undone = run.rollback(rt.alloc(), 1, 2)?.ok().ok_or("no step")?;
-    assert_eq!(&rt; undone.len(), 1);
-    assert!(&rt; run.undo(1, 1).is_ok());
-    assert!(&rt; run.history().is_empty());
-    Ok(())
+    assert!(&rt; !run.lost(first_copy_for(1)) && run.lost(first_copy_for(2)));
 }
 
 /// Scripts of two processes of Alpha, and how many writes then stand of the registers of both and of the decision's.

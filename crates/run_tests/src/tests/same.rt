@@ -2,6 +2,7 @@
 
 use super::example::after;
 use super::setups::{ALONE, ALPHA_PAIR, LOSSY, NO_MAJORITY};
+use std::process::Abort;
 
 const FIRST_WRITES_FIRST: &str = "auto 1
 auto 1
@@ -97,58 +98,30 @@ auto 1
 auto 2
 auto 1";
 
-/// A setup, and two scripts that lead to one state.
-const SAME: [(&str, &str, &str); 2] = [
-    (
-        NO_MAJORITY,
-        "step 1 query
-step 2 query",
-        "step 2 query
-step 1 query",
-    ),
-    (
-        LOSSY,
-        "auto 1
+const BOTH_LOST: &str = "auto 1
 auto 1
 lose 1 1 2
-lose 1 1 1",
-        "auto 1
+lose 1 1 1";
+
+const BOTH_LOST_IN_OTHER_ORDER: &str = "auto 1
 auto 1
 lose 1 1 1
-lose 1 1 2",
-    ),
-];
+lose 1 1 2";
 
-/// A setup, and two scripts that lead to different states.
-const DIFFERENT: [(&str, &str, &str); 6] = [
-    (
-        NO_MAJORITY,
-        "step 1 query
-step 2 query",
-        "step 2 query",
-    ),
-    (NO_MAJORITY, "step 1 query", "step 1 query 2"),
-    (
-        LOSSY,
-        "auto 1
+const ONE_LOST: &str = "auto 1
 auto 1
-lose 1 1 2
-lose 1 1 1",
-        "auto 1
-auto 1
-lose 1 1 1",
-    ),
-    (
-        ALONE,
-        "auto 1
+lose 1 1 1";
+
+const DECIDED: &str = "auto 1
 auto 1
 auto 1
 auto 1
 auto 1
 auto 1
 auto 1
-auto 1",
-        "auto 1
+auto 1";
+
+const UNDONE: &str = "auto 1
 auto 1
 auto 1
 auto 1
@@ -156,23 +129,42 @@ auto 1
 auto 1
 auto 1
 auto 1
-undo 1 8",
-    ),
-    // Both write 7: nothing that is shown differs, and yet one write stood before the other.
-    (ALPHA_PAIR, FIRST_WRITES_FIRST, SECOND_WRITES_FIRST),
-    // The first process reads 7 behind one write or behind two.
-    (ALPHA_PAIR, BEHIND_ONE_WRITE, BEHIND_TWO_WRITES),
-];
+undo 1 8";
+
+const BOTH_ASK: &str = "step 1 query
+step 2 query";
+
+const BOTH_ASK_IN_OTHER_ORDER: &str = "step 2 query
+step 1 query";
+
+/// Two scripts lead to one state of a setup, or to two, whichever is compared with the other.
+fn compare<R: Abort + AllocGlobal>(rt: &R, setup: &str, script: &str, other: &str, is_same: bool) {
+    let run = after(rt, setup, script);
+    let other = after(rt, setup, other);
+    assert_eq!(rt; run.is_same(rt, &other), is_same, "{script}");
+    assert_eq!(rt; other.is_same(rt, &run), is_same, "{script}");
+}
 
 #[test]
-fn runs_are_in_the_same_state_or_not(rt: HostRuntime) {
-    for (setup, script, other) in &SAME {
-        let run = after(&rt, setup, script);
-        assert!(&rt; run.is_same(&rt, &after(&rt, setup, other)), "{script}");
-    }
-    for (setup, script, other) in &DIFFERENT {
-        let (run, other) = (after(&rt, setup, script), after(&rt, setup, other));
-        assert!(&rt; !run.is_same(&rt, &other), "{script}");
-        assert!(&rt; !other.is_same(&rt, &run), "{script}");
-    }
+fn runs_are_in_the_same_state(rt: HostRuntime) {
+    compare(&rt, NO_MAJORITY, BOTH_ASK, BOTH_ASK_IN_OTHER_ORDER, true);
+    compare(&rt, LOSSY, BOTH_LOST, BOTH_LOST_IN_OTHER_ORDER, true);
+}
+
+#[test]
+fn runs_are_in_different_states(rt: HostRuntime) {
+    compare(&rt, NO_MAJORITY, BOTH_ASK, "step 2 query", false);
+    compare(&rt, NO_MAJORITY, "step 1 query", "step 1 query 2", false);
+    compare(&rt, LOSSY, BOTH_LOST, ONE_LOST, false);
+    compare(&rt, ALONE, DECIDED, UNDONE, false);
+    // Both write 7: nothing that is shown differs, and yet one write stood before the other.
+    compare(
+        &rt,
+        ALPHA_PAIR,
+        FIRST_WRITES_FIRST,
+        SECOND_WRITES_FIRST,
+        false,
+    );
+    // The first process reads 7 behind one write or behind two.
+    compare(&rt, ALPHA_PAIR, BEHIND_ONE_WRITE, BEHIND_TWO_WRITES, false);
 }

@@ -1,9 +1,7 @@
 //! Scripts, a command a line as in the files of scripts.
 
-use super::setups::{ALONE, ALPHA_ALONE, ALPHA_PAIR, LOSSY, NO_MAJORITY, ONE_LEADER};
-
 /// One process decides.
-const ONE_DECIDES: &str = "auto 1
+pub const ONE_DECIDES: &str = "auto 1
 auto 1
 auto 1
 auto 1
@@ -13,7 +11,7 @@ auto 1
 auto 1";
 
 /// Each of two processes decides by itself.
-const TWO_VALUES: &str = "auto 1
+pub const TWO_VALUES: &str = "auto 1
 auto 1
 auto 1
 auto 1
@@ -31,7 +29,7 @@ step 2 go
 step 2 go";
 
 /// Two processes decide what their leader proposed.
-const BOTH_DECIDE: &str = "auto 1
+pub const BOTH_DECIDE: &str = "auto 1
 auto 1
 auto 1
 auto 2
@@ -54,7 +52,7 @@ auto 2
 auto 2";
 
 /// A process has crashed, and what it sent arrives.
-const A_CRASH: &str = "auto 2
+pub const A_CRASH: &str = "auto 2
 auto 2
 auto 2
 step 2 crash
@@ -65,7 +63,7 @@ auto 1
 auto 1";
 
 /// A decision is received first, and taken over.
-const LEARNT: &str = "auto 1
+pub const LEARNT: &str = "auto 1
 auto 1
 auto 1
 auto 1
@@ -80,7 +78,7 @@ auto 2
 auto 2";
 
 /// Two copies are lost.
-const LOST: &str = "auto 1
+pub const LOST: &str = "auto 1
 auto 1
 lose 1 1 2
 auto 1
@@ -91,7 +89,7 @@ auto 2
 step 1 crash";
 
 /// One process of Alpha decides.
-const ALPHA_DECIDES: &str = "auto 1
+pub const ALPHA_DECIDES: &str = "auto 1
 auto 1
 auto 1
 auto 1
@@ -103,7 +101,7 @@ auto 1
 auto 1";
 
 /// The second process enters a later round before the first has read its register.
-const CONTENTION: &str = "auto 1
+pub const CONTENTION: &str = "auto 1
 auto 1
 auto 1
 auto 2
@@ -164,16 +162,3 @@ auto 1
 auto 1
 auto 1
 auto 1";
-
-/// Worked runs: a setup, and a script of which no command is refused.
-pub const WORKED: [(&str, &str); 9] = [
-    (ALONE, ONE_DECIDES),
-    (NO_MAJORITY, TWO_VALUES),
-    (ONE_LEADER, BOTH_DECIDE),
-    (NO_MAJORITY, A_CRASH),
-    (NO_MAJORITY, LEARNT),
-    (LOSSY, LOST),
-    (ALPHA_ALONE, ALPHA_DECIDES),
-    (ALPHA_PAIR, CONTENTION),
-    (ALPHA_PAIR, RACE),
-];

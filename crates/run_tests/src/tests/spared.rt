@@ -2,7 +2,6 @@
 
 use super::example::{Example, after, command_of};
 use super::setups::LOSSY;
-use cdb_base::Event;
 use cdb_rules::EventRef;
 use std::process::Abort;
 
@@ -12,22 +11,20 @@ lose 1 1 2
 auto 1
 auto 2";
 
-/// Commands that are refused after the beginning, each with the number of its refusal.
-const REFUSED: [(&str, u8); 13] = [
-    ("step 3 go", 1),
-    ("step 1 go", 4),
-    ("auto 1", 12),
-    ("auto 3", 1),
-    ("step 1 recv 1 1", 6),
-    ("step 2 recv 1 1", 19),
-    ("step 2 recv 2 1", 5),
-    ("lose 1 1 1", 6),
-    ("lose 1 1 2", 19),
-    ("lose 2 1 1", 5),
-    ("undo 1 2", 11),
-    ("undo 2 2", 10),
-    ("undo lost 1 1 1", 10),
-];
+/// Commands that are refused after the beginning.
+const REFUSED: &str = "step 3 go
+step 1 go
+auto 1
+auto 3
+step 1 recv 1 1
+step 2 recv 1 1
+step 2 recv 2 1
+lose 1 1 1
+lose 1 1 2
+lose 2 1 1
+undo 1 2
+undo 2 2
+undo lost 1 1 1";
 
 const UNDONE: &str = "undo lost 1 1 2
 undo 2 1
@@ -35,13 +32,19 @@ undo 1 3
 undo 1 2
 undo 1 1";
 
-/// Gives a command that is refused.
-fn find_refused<R: Abort + AllocGlobal>(rt: &R, run: &mut Example, line: &str, number: u8) {
-    let answer = run.give(rt, &command_of(rt, line));
-    let Ok(Err(refusal)) = answer else {
-        panic!(rt; "it is refused: {line}");
-    };
-    assert_eq!(rt; refusal.number(), number, "{line}");
+/// Gives each command of a script, and each is refused, or none.
+fn give_each<R: Abort + AllocGlobal>(rt: &R, run: &mut Example, script: &str, is_refused: bool) {
+    for line in script.lines() {
+        let answer = run.give(rt, &command_of(rt, line)).expect(rt, "an answer");
+        assert_eq!(rt; answer.is_err(), is_refused, "{line}");
+    }
+}
+
+/// Asks for the rollback of a step that does not stand.
+fn find_no_step<R: Abort + AllocGlobal>(rt: &R, run: &mut Example) {
+    let mut undone = Vec::new(rt.alloc());
+    let answer = run.roll_back(rt, EventRef::Step(1, 9), &mut undone);
+    assert!(rt; answer.expect(rt, "an answer").is_err());
 }
 
 #[test]
@@ -52,20 +55,7 @@ fn a_run_begins(rt: HostRuntime) {
 #[test]
 fn undos_and_refusals_take_no_memory(rt: HostRuntime) {
     let mut run = after(&rt, LOSSY, BEGINNING);
-    for (line, number) in REFUSED {
-        find_refused(&rt, &mut run, line, number);
-    }
-    let mut undone: Vec<Event> = Vec::new(rt.alloc());
-    assert!(&rt;
-        matches!(
-            run.roll_back(&rt, EventRef::Step(1, 9), &mut undone),
-            Ok(Err(_))
-        )
-    );
-    for line in UNDONE.lines() {
-        assert!(&rt;
-            matches!(run.give(&rt, &command_of(&rt, line)), Ok(Ok(_))),
-            "{line}"
-        );
-    }
+    give_each(&rt, &mut run, REFUSED, true);
+    find_no_step(&rt, &mut run);
+    give_each(&rt, &mut run, UNDONE, false);
 }

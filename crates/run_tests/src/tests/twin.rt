@@ -4,7 +4,10 @@
 ghost use Rattle.std.specs.Prelude.{◌<◌, length};
 
 use super::example::{Example, after};
-use super::scripts::WORKED;
+use super::scripts::{
+    A_CRASH, ALPHA_DECIDES, BOTH_DECIDE, CONTENTION, LEARNT, LOST, ONE_DECIDES, RACE, TWO_VALUES,
+};
+use super::setups::{ALONE, ALPHA_ALONE, ALPHA_PAIR, LOSSY, NO_MAJORITY, ONE_LEADER};
 use cdb_base::{CopyName, Event, Kind, MsgName, NoMemory, Refusal, Reg, StepId};
 use cdb_causal::{History, depends};
 use cdb_rules::EventRef;
@@ -180,12 +183,23 @@ pub fn take_back<R: Abort + AllocGlobal>(rt: &R, setup: &str, run: &Example, i: 
     roll_back_and_redo(rt, setup, run, i);
 }
 
+/// Takes each event of the run of a setup after a script back.
+fn take_each_back<R: Abort + AllocGlobal>(rt: &R, setup: &str, script: &str) {
+    let run = after(rt, setup, script);
+    for i in 0..run.history().len() {
+        take_back(rt, setup, &run, i);
+    }
+}
+
 #[test]
 fn each_event_of_a_worked_run_is_taken_back_as_by_replay(rt: HostRuntime) {
-    for (setup, script) in &WORKED {
-        let run = after(&rt, setup, script);
-        for i in 0..run.history().len() {
-            take_back(&rt, setup, &run, i);
-        }
-    }
+    take_each_back(&rt, ALONE, ONE_DECIDES);
+    take_each_back(&rt, NO_MAJORITY, TWO_VALUES);
+    take_each_back(&rt, ONE_LEADER, BOTH_DECIDE);
+    take_each_back(&rt, NO_MAJORITY, A_CRASH);
+    take_each_back(&rt, NO_MAJORITY, LEARNT);
+    take_each_back(&rt, LOSSY, LOST);
+    take_each_back(&rt, ALPHA_ALONE, ALPHA_DECIDES);
+    take_each_back(&rt, ALPHA_PAIR, CONTENTION);
+    take_each_back(&rt, ALPHA_PAIR, RACE);
 }
