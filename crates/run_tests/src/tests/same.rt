@@ -1,6 +1,6 @@
 //! Two runs that are in the same state, and two that are not.
 
-use super::example::after;
+use super::example::{Example, after};
 use super::setups::{ALONE, ALPHA_PAIR, LOSSY, NO_MAJORITY};
 use std::process::Abort;
 
@@ -137,12 +137,18 @@ step 2 query";
 const BOTH_ASK_IN_OTHER_ORDER: &str = "step 2 query
 step 1 query";
 
-/// Two scripts lead to one state of a setup, or to two, whichever is compared with the other.
+/// Whether two runs are in one state, whichever is compared with the other.
+fn are_same<R: Abort>(rt: &R, run: &Example, other: &Example) -> bool {
+    let is_same = run.is_same(rt, other);
+    assert!(rt; other.is_same(rt, run) == is_same);
+    is_same
+}
+
+/// Compares the states of two runs of a setup, each after a script.
 fn compare<R: Abort + AllocGlobal>(rt: &R, setup: &str, script: &str, other: &str, is_same: bool) {
     let run = after(rt, setup, script);
-    let other = after(rt, setup, other);
-    assert_eq!(rt; run.is_same(rt, &other), is_same, "{script}");
-    assert_eq!(rt; other.is_same(rt, &run), is_same, "{script}");
+    let other_run = after(rt, setup, other);
+    assert!(rt; are_same(rt, &run, &other_run) == is_same);
 }
 
 #[test]
