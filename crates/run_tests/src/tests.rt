@@ -1,21 +1,12 @@
 //! What the calls of a run return and show.
 
-mod alpha;
-mod causes;
+mod calls;
 mod example;
 mod generated;
-mod laws;
-mod leader;
 mod long_run;
-mod losses;
 mod memory;
-mod moves;
-mod rollback;
 mod same;
-mod script;
+mod scripts;
 mod setups;
+mod spared;
 mod twin;
-mod undo;
-mod views;
-mod words;
-mod worked;

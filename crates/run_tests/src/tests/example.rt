@@ -1,21 +1,19 @@
-//! The run of an example. A contract sees nothing of it, so that what a test proves does not grow with
-//! what the run holds.
+//! The run of an example. A contract sees nothing of it, so that what a test proves does not grow with what the run
+//! holds.
 
 ghost use Rattle.std.specs.Prelude.{◌≡◌, IsTrue};
 ghost use Rattle.cdb_rules.specs.Refusals.{IsOfRun};
 
-use cdb_any_run::AnyRun;
-use cdb_base::{
-    Act, Cell, CopyName, Event, Kind, MsgName, NoMemory, Payload, Proc, Refusal, Reg, StepId, Val,
-};
+use cdb_any_run::RunOfSetup;
+use cdb_base::{Event, Kind, MsgName, NoMemory, Proc, Refusal, Reg};
 use cdb_causal::History;
-use cdb_rules::EventRef;
-use cdb_setup::{Algorithm, Setup, SetupFault};
-use smallvec::SmallVec;
+use cdb_control::Command;
+use cdb_rules::{EventRef, Runs};
+use cdb_setup::{Setup, SetupFault};
+use cdb_text::parse_line;
 use std::alloc::Global;
 use std::marker::Model;
 use std::process::Abort;
-use std::test::Fail;
 
 /// Whether a run of the setup can have the event.
 fn is_of_run(setup: &Setup, event: &Event) -> bool
@@ -33,10 +31,6 @@ fn is_of_run(setup: &Setup, event: &Event) -> bool
     }
 }
 
-fn read(alloc: Global, setup: &str) -> Result<Setup, SetupFault> {
-    Setup::read(alloc, setup.as_bytes())
-}
-
 /// Whether two setups are equal.
 fn is_equal(setup: &Setup, other: &Setup) -> bool
     ensures { IsTrue result → setup.now ≡ other.now }
@@ -44,70 +38,105 @@ fn is_equal(setup: &Setup, other: &Setup) -> bool
     setup.eq(other)
 }
 
-/// The run of an example. Its calls are those of the run that it holds, with plain numbers for processes.
+/// The setup of a text.
+pub fn read(alloc: Global, setup: &str) -> Result<Setup, SetupFault> {
+    Setup::read(alloc, setup.as_bytes())
+}
+
+/// The run of a setup in which nothing has happened, or none where an allocation failed.
+fn run_of(alloc: Global, setup: &str) -> Option<RunOfSetup> {
+    let setup = read(alloc, setup).ok()?;
+    RunOfSetup::start(alloc, setup).ok()
+}
+
+/// The least copy that process `p` can still receive.
+fn next_copy(run: &RunOfSetup, p: u32) -> Option<MsgName> {
+    let run = run.any();
+    run.pending(run.process(p)?, None)
+}
+
+/// How many writes of the register stand, where the run has it.
+fn writes(run: &RunOfSetup, register: Reg) -> Option<u32> {
+    let again = register;
+    let run = run.any();
+    if !run.has(again) {
+        return None;
+    }
+    Some(run.writes(register))
+}
+
+/// Whether process `p` and its register show the same in both runs.
+fn is_as_far(one: &RunOfSetup, other: &RunOfSetup, p: u32) -> bool {
+    one.view(p) == other.view(p) && next_copy(one, p) == next_copy(other, p)
+}
+
+/// Whether the register shows the same in both runs.
+fn is_same_register(one: &RunOfSetup, other: &RunOfSetup, register: Reg) -> bool {
+    let (again, once_more, last) = (register, register, register);
+    one.cell(register) == other.cell(again) && writes(one, once_more) == writes(other, last)
+}
+
+/// Whether the same events stand in both, in the same order.
+fn has_same_events(one: &History, other: &History) -> bool {
+    if one.len() != other.len() {
+        return false;
+    }
+    for i in 0..one.len() {
+        if one.event(i) != other.event(i) {
+            return false;
+        }
+    }
+    true
+}
+
+/// The run of an example.
 #[derive(Drop)]
 pub struct Example {
-    run: AnyRun,
+    run: RunOfSetup,
 }
 
 impl Model for Example {
     ghost use Rattle.std.specs.Prelude.{⊤};
-    ghost use Rattle.cdb_any_run.specs.Any.{IsTrueToSetup};
 
     ghost Value = { ⊤ };
 
     ghost view = { λ _. tt };
-
-    ghost invariant = { λ fields. IsTrueToSetup fields.run };
 }
 
 impl Example {
     /// The run of a setup in which nothing has happened, at the second try where an allocation failed.
     pub fn start<R: Abort + AllocGlobal>(rt: &R, setup: &str) -> Example {
-        match Example::try_start(rt.alloc(), setup) {
-            Some(run) => run,
-            None => Example::try_start(rt.alloc(), setup).expect(rt, "a run"),
+        if let Some(run) = run_of(rt.alloc(), setup) {
+            return Example { run };
+        }
+        let run = run_of(rt.alloc(), setup).expect(rt, "a run");
+        Example { run }
+    }
+
+    /// Takes a step, loses a copy or undoes an event, as a command says.
+    pub fn give<R: Abort + AllocGlobal>(
+        &mut self,
+        rt: &R,
+        command: &Command,
+    ) -> Result<Result<Event, Refusal>, NoMemory> {
+        match *command {
+            Command::Step(p, act) => self.run.step(rt.alloc(), p, act),
+            Command::Auto(p) => {
+                if self.run.any().process(p).is_none() {
+                    return Ok(Err(Refusal::NoProcess));
+                }
+                self.run.step_first(rt.alloc(), p)
+            }
+            Command::Lose(s, m, p) => self.run.lose(rt.alloc(), s, m, p),
+            Command::Undo(p, k) => Ok(self.run.undo(EventRef::Step(p, k))),
+            Command::UndoLost(s, m, p) => Ok(self.run.undo(EventRef::Lost(s, m, p))),
+            _ => panic!(rt; "a step, a loss or an undo"),
         }
     }
 
-    /// The same, or none where it is no setup or an allocation failed.
-    fn try_start(alloc: Global, setup: &str) -> Option<Example> {
-        let setup = read(alloc, setup).ok()?;
-        Example::of(alloc, setup).ok()
-    }
-
-    fn of(alloc: Global, setup: Setup) -> Result<Example, NoMemory> {
-        let run = AnyRun::start(alloc, setup)?;
-        Ok(Example { run })
-    }
-
-    /// A run of the same setup in which nothing has happened.
-    pub fn anew<R: Abort + AllocGlobal>(&self, rt: &R) -> Example {
-        let setup = self.run.setup().copy(rt.alloc());
-        Example::of(rt.alloc(), setup.expect(rt, "a setup")).expect(rt, "a run")
-    }
-
-    pub fn step(
-        &mut self,
-        alloc: Global,
-        p: u32,
-        act: Act,
-    ) -> Result<Result<Event, Refusal>, NoMemory> {
-        self.run.step(alloc, p, act)
-    }
-
-    pub fn refuses(&self, p: u32, act: Act) -> Option<Refusal> {
-        self.run.refuses(p, act)
-    }
-
-    pub fn lose(
-        &mut self,
-        alloc: Global,
-        s: u32,
-        m: u32,
-        p: u32,
-    ) -> Result<Result<Event, Refusal>, NoMemory> {
-        self.run.lose(alloc, s, m, p)
+    /// Undoes an event.
+    pub fn undo(&mut self, event: EventRef) -> Result<Event, Refusal> {
+        self.run.undo(event)
     }
 
     /// Takes an event again, which has to be one that a run of the setup can have.
@@ -120,131 +149,76 @@ impl Example {
         self.run.again(rt.alloc(), event)
     }
 
-    pub fn undo(&mut self, p: u32, k: u32) -> Result<Event, Refusal> {
-        self.run.undo(p, k)
-    }
-
-    pub fn undo_lost(&mut self, s: u32, m: u32, p: u32) -> Result<Event, Refusal> {
-        self.run.undo_lost(s, m, p)
-    }
-
-    pub fn rollback(
+    /// Rolls an event back, and adds what is undone to a list.
+    pub fn roll_back<R: Abort + AllocGlobal>(
         &mut self,
-        alloc: Global,
-        p: u32,
-        k: u32,
-    ) -> Result<Result<Vec<Event>, Refusal>, NoMemory> {
-        self.run.rollback(alloc, p, k)
-    }
-
-    pub fn rollback_lost(
-        &mut self,
-        alloc: Global,
-        s: u32,
-        m: u32,
-        p: u32,
-    ) -> Result<Result<Vec<Event>, Refusal>, NoMemory> {
-        self.run.rollback_lost(alloc, s, m, p)
-    }
-
-    pub fn rollback_event(
-        &mut self,
-        alloc: Global,
+        rt: &R,
         event: EventRef,
-        taken: &mut Vec<Event>,
-    ) -> Result<Result<usize, Refusal>, NoMemory> {
-        self.run.rollback_event(alloc, event, taken)
+        undone: &mut Vec<Event>,
+    ) -> Result<Result<u32, Refusal>, NoMemory> {
+        assert!(rt; self.run.any().history().len() <= 999_999);
+        self.run.rollback(rt.alloc(), event, undone)
     }
 
-    pub fn causes(&self, alloc: Global, p: u32, k: u32) -> Result<SmallVec<StepId, 9>, Refusal> {
-        self.run.causes(alloc, p, k)
-    }
-
-    pub fn causes_of(
-        &self,
-        alloc: Global,
-        event: EventRef,
-    ) -> Result<SmallVec<StepId, 9>, Refusal> {
-        self.run.causes_of(alloc, event)
-    }
-
-    /// Whether the processes follow Alpha.
-    pub fn is_alpha(&self) -> bool {
-        self.run.setup().algorithm() == Algorithm::Alpha
-    }
-
+    /// The standing events.
     pub fn history(&self) -> &History {
-        self.run.history()
-    }
-
-    pub fn place(&self, p: u32) -> Option<u8> {
-        let process = self.run.process(p)?;
-        Some(self.run.place(process))
-    }
-
-    pub fn round(&self, p: u32) -> Option<u32> {
-        let process = self.run.process(p)?;
-        Some(self.run.round(process))
-    }
-
-    pub fn alive(&self, p: u32) -> Option<bool> {
-        let process = self.run.process(p)?;
-        Some(self.run.alive(process))
-    }
-
-    pub fn steps(&self, p: u32) -> Option<u32> {
-        let process = self.run.process(p)?;
-        Some(self.run.steps(process))
-    }
-
-    pub fn queries(&self, p: u32) -> Option<u32> {
-        let process = self.run.process(p)?;
-        Some(self.run.queries(process))
-    }
-
-    pub fn decision(&self, p: u32) -> Option<Val> {
-        let process = self.run.process(p)?;
-        self.run.decision(process)
-    }
-
-    pub fn decisions(&self, alloc: Global) -> Result<Vec<(Proc, Val)>, NoMemory> {
-        self.run.decisions(alloc)
-    }
-
-    /// What the register holds, where the run has it.
-    pub fn cell(&self, register: Reg) -> Option<Cell> {
-        let again = register;
-        if !self.run.has(again) {
-            return None;
-        }
-        Some(self.run.cell(register))
+        self.run.any().history()
     }
 
     /// How many writes of the register stand, where the run has it.
     pub fn writes(&self, register: Reg) -> Option<u32> {
-        let again = register;
-        if !self.run.has(again) {
-            return None;
+        writes(&self.run, register)
+    }
+
+    /// Whether there is a decision; no two of them may differ.
+    pub fn has_one_value<R: Abort + AllocGlobal>(&self, rt: &R) -> bool {
+        let decisions = self.run.decisions(rt.alloc()).expect(rt, "a list");
+        let mut found: Option<u32> = None;
+        for (_, value) in &decisions {
+            let number = value.number();
+            assert!(rt; found.is_none() || found == Some(number));
+            found = Some(number);
         }
-        Some(self.run.writes(register))
-    }
-
-    pub fn pending(&self, p: u32, after: Option<MsgName>) -> Option<MsgName> {
-        let process = self.run.process(p)?;
-        self.run.pending(process, after)
-    }
-
-    pub fn payload(&self, name: &MsgName) -> Option<Payload> {
-        self.run.payload(*name).copied()
-    }
-
-    pub fn lost(&self, copy: &CopyName) -> bool {
-        self.run.lost(*copy)
+        found.is_some()
     }
 
     /// Whether two runs of one setup are in the same state.
     pub fn is_same<R: Abort>(&self, rt: &R, other: &Example) -> bool {
         assert!(rt; is_equal(self.run.setup(), other.run.setup()));
-        self.run.same_run(&other.run)
+        self.run.any().same_run(other.run.any())
     }
+
+    /// Whether both show the same of all processes and registers, and of what has happened.
+    pub fn looks_as(&self, other: &Example) -> bool {
+        for p in &Proc::all() {
+            if !is_as_far(&self.run, &other.run, u32::from(p.number())) {
+                return false;
+            }
+            if !is_same_register(&self.run, &other.run, Reg::R(*p)) {
+                return false;
+            }
+        }
+        is_same_register(&self.run, &other.run, Reg::Dec)
+            && has_same_events(self.history(), other.history())
+    }
+}
+
+/// The command of a line.
+pub fn command_of<R: Abort>(rt: &R, line: &str) -> Command {
+    parse_line(line.as_bytes()).ok().expect(rt, "a command")
+}
+
+/// Gives each command of a script, none of which is refused.
+fn give_all<R: Abort + AllocGlobal>(rt: &R, run: &mut Example, script: &str) {
+    for line in script.lines() {
+        let answer = run.give(rt, &command_of(rt, line)).expect(rt, "an answer");
+        assert!(rt; answer.is_ok(), "{line}");
+    }
+}
+
+/// The run of a setup after a script.
+pub fn after<R: Abort + AllocGlobal>(rt: &R, setup: &str, script: &str) -> Example {
+    let mut run = Example::start(rt, setup);
+    give_all(rt, &mut run, script);
+    run
 }

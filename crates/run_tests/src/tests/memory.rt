@@ -1,152 +1,164 @@
 //! Out of memory: a run is as it was, and returns the same when it is asked again. To see it, let each
 //! allocation of these tests fail in turn.
 
-use super::example::Example;
-use super::moves::{Move, look_same, make};
+use super::example::{Example, command_of};
+use super::scripts::{TWELVE_STEPS, WITH_LOSSES};
 use super::setups::{ALPHA_PAIR, LOSSY};
-use cdb_base::{Act, Event, NoMemory, Refusal};
+use cdb_base::{Event, Refusal};
 use cdb_causal::History;
+use cdb_control::Command;
+use cdb_rules::EventRef;
 use std::process::Abort;
 
-/// Makes the move, and makes it again where an allocation failed, after which the run shows what the one
-/// behind it shows.
-fn make_at_last<R: Abort + AllocGlobal>(
+/// Gives a command, and gives it again where an allocation failed, after which the run looks like the one behind it.
+fn give_at_last<R: Abort + AllocGlobal>(
     rt: &R,
     run: &mut Example,
     behind: &Example,
-    asked: &Move,
+    command: &Command,
 ) -> Result<Event, Refusal> {
-    if let Ok(answer) = make(rt.alloc(), run, asked) {
+    if let Ok(answer) = run.give(rt, command) {
         return answer;
     }
-    assert!(rt; look_same(run, behind));
-    make(rt.alloc(), run, asked).expect(rt, "an answer")
+    assert!(rt; run.looks_as(behind));
+    run.give(rt, command).expect(rt, "an answer")
 }
 
-/// Makes the move in the run that is behind, and again where an allocation failed.
+/// Gives a command to the run that is behind, and gives it again where an allocation failed.
 fn catch_up<R: Abort + AllocGlobal>(
     rt: &R,
     behind: &mut Example,
-    asked: &Move,
+    command: &Command,
 ) -> Result<Event, Refusal> {
-    if let Ok(answer) = make(rt.alloc(), behind, asked) {
+    if let Ok(answer) = behind.give(rt, command) {
         return answer;
     }
-    make(rt.alloc(), behind, asked).expect(rt, "an answer")
+    behind.give(rt, command).expect(rt, "an answer")
 }
 
-/// Whether two moves were answered the same.
+/// Whether two calls have the same answer.
 fn is_same_answer(one: &Result<Event, Refusal>, other: &Result<Event, Refusal>) -> bool {
-    one == other
+    match (one, other) {
+        (Ok(event), Ok(other)) => event == other,
+        (Err(refusal), Err(other)) => refusal == other,
+        _ => false,
+    }
 }
 
-/// Makes the move in a run and in the one behind it, and compares the answers and what both show then.
-fn make_in_both<R: Abort + AllocGlobal>(
+/// Gives a command to two runs that look the same, and compares their answers and what both show then.
+fn give<R: Abort + AllocGlobal>(
     rt: &R,
     run: &mut Example,
     behind: &mut Example,
-    asked: &Move,
+    command: &Command,
 ) {
-    let answer = make_at_last(rt, run, behind, asked);
-    let expected = catch_up(rt, behind, asked);
+    let answer = give_at_last(rt, run, behind, command);
+    let expected = catch_up(rt, behind, command);
     assert!(rt; is_same_answer(&answer, &expected));
-    assert!(rt; look_same(run, behind));
+    assert!(rt; run.looks_as(behind));
 }
 
-/// Makes the moves in a run, and in another that is always a move behind it, and asks again where an allocation
-/// failed.
-fn make_moves<R: Abort + AllocGlobal>(rt: &R, run: &mut Example, setup: &str, moves: &[Move]) {
-    let mut behind = Example::start(rt, setup);
-    for asked in moves {
-        make_in_both(rt, run, &mut behind, asked);
+/// Gives the commands of a script so.
+fn give_all<R: Abort + AllocGlobal>(rt: &R, run: &mut Example, behind: &mut Example, script: &str) {
+    for line in script.lines() {
+        give(rt, run, behind, &command_of(rt, line));
     }
 }
 
-/// Takes the event again, and says whether it was not refused.
-fn take_event<R: Abort + AllocGlobal>(
-    rt: &R,
-    run: &mut Example,
-    event: &Event,
-) -> Result<bool, NoMemory> {
-    Ok(run.again(rt, event)?.is_ok())
+/// Takes an event again, and returns whether there was memory.
+fn take<R: Abort + AllocGlobal>(rt: &R, run: &mut Example, event: &Event) -> bool {
+    run.again(rt, event).is_ok()
 }
 
-/// Takes the event again, and once more where an allocation failed, after which the run shows what the
-/// one behind it shows.
-fn take_event_at_last<R: Abort + AllocGlobal>(
+/// Takes an event again in two runs that look the same, and once more where an allocation failed.
+fn take_again<R: Abort + AllocGlobal>(
+    rt: &R,
+    run: &mut Example,
+    behind: &mut Example,
+    event: &Event,
+) {
+    if !take(rt, run, event) {
+        assert!(rt; run.looks_as(behind));
+        assert!(rt; take(rt, run, event));
+    }
+    if !take(rt, behind, event) {
+        assert!(rt; take(rt, behind, event));
+    }
+    assert!(rt; run.looks_as(behind));
+}
+
+/// Takes the events of a history again so.
+fn take_all_again<R: Abort + AllocGlobal>(
+    rt: &R,
+    run: &mut Example,
+    behind: &mut Example,
+    history: &History,
+) {
+    for i in 0..history.len() {
+        take_again(rt, run, behind, history.event(i));
+    }
+}
+
+/// Rolls an event back in one of two runs that look the same, and again where an allocation failed.
+fn roll_back<R: Abort + AllocGlobal>(
     rt: &R,
     run: &mut Example,
     behind: &Example,
-    event: &Event,
-) -> bool {
-    if let Ok(is_taken) = take_event(rt, run, event) {
-        return is_taken;
+    event: EventRef,
+    undone: &mut Vec<Event>,
+) {
+    let before = undone.len();
+    if run.roll_back(rt, event, undone).is_err() {
+        assert!(rt; undone.len() == before && run.looks_as(behind));
+        assert!(rt; run.roll_back(rt, event, undone).is_ok());
     }
-    assert!(rt; look_same(run, behind));
-    take_event(rt, run, event).expect(rt, "an answer")
+    assert!(rt; undone.len() > before);
 }
 
-/// Takes the event again in a run and in the one behind it, and compares what both show then.
-fn take_event_in_both<R: Abort + AllocGlobal>(
+/// Takes the events of a list again, the last first, and once more where an allocation failed.
+fn redo<R: Abort + AllocGlobal>(rt: &R, run: &mut Example, undone: &[Event]) {
+    for event in undone.iter().rev() {
+        if !take(rt, run, event) {
+            assert!(rt; take(rt, run, event));
+        }
+    }
+}
+
+/// Rolls the last step of process 1 back, and then all that needs its first, onto one list, and takes them again.
+fn roll_back_and_redo<R: Abort + AllocGlobal>(
     rt: &R,
     run: &mut Example,
     behind: &mut Example,
-    event: &Event,
+    last: u32,
 ) {
-    assert!(rt; take_event_at_last(rt, run, behind, event));
-    if take_event(rt, behind, event).is_err() {
-        assert!(rt; take_event(rt, behind, event).is_ok());
-    }
-    assert!(rt; look_same(run, behind));
+    let mut undone = Vec::new(rt.alloc());
+    roll_back(rt, run, behind, EventRef::Step(1, last), &mut undone);
+    assert!(rt; behind.undo(EventRef::Step(1, last)).is_ok());
+    roll_back(rt, run, behind, EventRef::Step(1, 1), &mut undone);
+    redo(rt, run, undone.as_slice());
 }
 
-/// Takes the events again in a run, and in another that is always an event behind it, as `make_moves` makes
-/// moves.
-fn take_events<R: Abort + AllocGlobal>(rt: &R, run: &mut Example, setup: &str, history: &History) {
-    let mut behind = Example::start(rt, setup);
-    for i in 0..history.len() {
-        let event = history.event(i);
-        take_event_in_both(rt, run, &mut behind, event);
-    }
-}
-
-/// Takes the events of a run again in another.
-fn repeat<R: Abort + AllocGlobal>(rt: &R, run: &Example, setup: &str) {
-    let mut again = Example::start(rt, setup);
-    take_events(rt, &mut again, setup, run.history());
-    assert!(rt; look_same(&again, run));
-}
-
-/// Makes the moves in a run of the setup, of which this many events then stand, and takes these again in
-/// another; asks again where an allocation failed.
-fn check<R: Abort + AllocGlobal>(rt: &R, setup: &str, moves: &[Move], standing: usize) {
+/// Makes each call that takes memory on runs of a setup: of a script of steps and losses, after which this many events
+/// stand, the last of process 1 its step `last`.
+fn check<R: Abort + AllocGlobal>(rt: &R, setup: &str, script: &str, standing: usize, last: u32) {
     let mut run = Example::start(rt, setup);
-    make_moves(rt, &mut run, setup, moves);
+    let mut behind = Example::start(rt, setup);
+    give_all(rt, &mut run, &mut behind, script);
     assert_eq!(rt; run.history().len(), standing);
-    repeat(rt, &run, setup);
-}
-
-const WITH_LOSSES: [Move; 10] = [
-    Move::Auto(1),
-    Move::Auto(1),
-    Move::Lose(1, 1, 2),
-    Move::Step(2, Act::Recv(1, 1)),
-    Move::Auto(1),
-    Move::Auto(2),
-    Move::Auto(2),
-    Move::Lose(2, 1, 1),
-    Move::Auto(2),
-    Move::Step(1, Act::Crash),
-];
-
-const TWELVE_STEPS: [Move; 12] = [Move::Auto(1); 12];
-
-#[test]
-fn messages_without_memory(rt: HostRuntime) {
-    check(&rt, LOSSY, &WITH_LOSSES, 9);
+    let mut again = Example::start(rt, setup);
+    let mut again_behind = Example::start(rt, setup);
+    take_all_again(rt, &mut again, &mut again_behind, run.history());
+    assert!(rt; again.looks_as(&run));
+    roll_back_and_redo(rt, &mut run, &mut behind, last);
+    assert!(rt; run.is_same(rt, &again));
 }
 
 #[test]
-fn registers_without_memory(rt: HostRuntime) {
-    check(&rt, ALPHA_PAIR, &TWELVE_STEPS, 12);
+fn calls_about_messages_are_made_again(rt: HostRuntime) {
+    check(&rt, LOSSY, WITH_LOSSES, 9, 4);
+}
+
+#[test]
+fn calls_about_registers_are_made_again(rt: HostRuntime) {
+    check(&rt, ALPHA_PAIR, TWELVE_STEPS, 12, 12);
 }

@@ -16,10 +16,6 @@ pub const ONE_LEADER: &str =
 pub const LOSSY: &str =
     r#"{"version":2,"algorithm":"leader","processes":2,"quorum":2,"inputs":[5,6],"oracle":[[1],[1]]}"#;
 
-/// Three processes, where the oracle has no answer for the first.
-pub const NO_ANSWER: &str =
-    r#"{"algorithm":"leader","processes":3,"quorum":2,"inputs":[1,2,3],"oracle":[[],[1],[1]]}"#;
-
 /// One process of Alpha.
 pub const ALPHA_ALONE: &str =
     r#"{"algorithm":"alpha","processes":1,"quorum":1,"inputs":[7],"oracle":[[1]]}"#;

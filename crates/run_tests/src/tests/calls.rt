@@ -1,0 +1,110 @@
+//! Calls that no command makes, each once where it succeeds.
+
+ghost use Rattle.std.specs.Prelude.{◌≤◌};
+ghost use Rattle.cdb_any_run.specs.Any.{IsTrueToSetup};
+
+use super::example::{after, read};
+use super::scripts::{RACE, TWELVE_STEPS};
+use super::setups::{ALPHA_PAIR, LOSSY};
+use cdb_agreement::{agreement, laws};
+use cdb_any_run::AnyRun;
+use cdb_base::{Act, CopyName, MsgName, Proc, Reg, StepId, StepName};
+use cdb_leader::{Back, Leader};
+use std::process::Abort;
+
+/// A run in which process 1 has asked and sent, and its copy for process 2 is lost.
+fn begun<R: Abort + AllocGlobal>(rt: &R) -> AnyRun
+    ensures { IsTrueToSetup result }
+{
+    let setup = read(rt.alloc(), LOSSY).ok().expect(rt, "a setup");
+    let mut run = AnyRun::start(rt.alloc(), setup).expect(rt, "a run");
+    for act in [Act::Query(None), Act::Go] {
+        assert!(rt; matches!(run.step(rt.alloc(), 1, act), Ok(Ok(_))));
+    }
+    assert!(rt; matches!(run.lose(rt.alloc(), 1, 1, 2), Ok(Ok(_))));
+    run
+}
+
+/// The copy of the first message of process 1 for a process from 1 to 9.
+fn first_copy_for(receiver: u8) -> CopyName
+    requires from_one { 1 ≤ receiver }
+    requires to_nine { receiver ≤ 9 }
+{
+    let msg = MsgName {
+        s: Proc::new(1),
+        m: 1,
+    };
+    CopyName {
+        msg,
+        to: Proc::new(receiver),
+    }
+}
+
+#[test]
+fn events_are_undone_by_plain_numbers(rt: HostRuntime) {
+    let mut run = begun(&rt);
+    assert!(&rt; run.undo_lost(1, 1, 2).is_ok());
+    assert!(&rt; run.undo(1, 2).is_ok());
+    assert_eq!(&rt; run.history().len(), 1);
+}
+
+#[test]
+fn events_are_rolled_back_by_plain_numbers(rt: HostRuntime) {
+    let mut run = begun(&rt);
+    assert!(&rt; matches!(run.rollback_lost(rt.alloc(), 1, 1, 2), Ok(Ok(_))));
+    assert_eq!(&rt; run.history().len(), 2);
+    assert!(&rt; matches!(run.rollback(rt.alloc(), 1, 1), Ok(Ok(_))));
+    assert!(&rt; run.history().is_empty());
+}
+
+#[test]
+fn causes_and_lost_copies_are_found_by_plain_numbers(rt: HostRuntime) {
+    let run = begun(&rt);
+    let causes = run.causes(rt.alloc(), 1, 2).ok().expect(&rt, "causes");
+    let query = StepName {
+        p: Proc::new(1),
+        k: 1,
+    };
+    assert!(&rt; causes.as_slice() == [StepId::Step(query)].as_slice());
+    assert!(&rt; !run.lost(first_copy_for(1)) && run.lost(first_copy_for(2)));
+}
+
+/// Scripts of two processes of Alpha, and how many writes then stand of the registers of both and of the decision's.
+const WRITES: [(&str, u32, u32, u32); 2] = [(TWELVE_STEPS, 2, 0, 1), (RACE, 2, 2, 1)];
+
+#[test]
+fn writes_that_stand_are_counted(rt: HostRuntime) {
+    for (script, first, second, of_decision) in WRITES {
+        let run = after(&rt, ALPHA_PAIR, script);
+        assert_eq!(&rt; run.writes(Reg::R(Proc::new(1))), Some(first), "{script}");
+        assert_eq!(&rt; run.writes(Reg::R(Proc::new(2))), Some(second), "{script}");
+        assert_eq!(&rt; run.writes(Reg::Dec), Some(of_decision), "{script}");
+        assert_eq!(&rt; run.writes(Reg::R(Proc::new(3))), None, "{script}");
+    }
+}
+
+#[test]
+fn laws_can_be_called() {
+    laws::independent_events_commute::<Leader>();
+    laws::exchange::<Leader>();
+    laws::exchanged_histories::<Leader>();
+    laws::undo::<Leader>();
+    laws::granted_undo::<Leader>();
+    laws::rollback::<Leader>();
+    laws::granted_rollback::<Leader>();
+    laws::step_then_undo();
+    laws::names::<Leader>();
+    laws::numbers::<Leader>();
+    laws::valid_histories_stand::<Leader>();
+    laws::losses::<Leader>();
+    laws::same_state_exchanged::<Leader>();
+    laws::own_events::<Leader>();
+    laws::rules_keep_histories();
+    cdb_run::laws::undo_with_records::<Leader, Back>();
+    agreement::leader_decisions_agree();
+    agreement::alpha_decisions_agree();
+    agreement::shown_decisions_agree();
+    agreement::worked_runs();
+    agreement::leader_rounds();
+    agreement::alpha_rounds();
+}
