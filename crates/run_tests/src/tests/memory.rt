@@ -4,65 +4,74 @@
 use super::example::{Example, command_of};
 use super::scripts::{TWELVE_STEPS, WITH_LOSSES};
 use super::setups::{ALPHA_PAIR, LOSSY};
-use cdb_base::{Event, Refusal};
+use cdb_base::Event;
 use cdb_causal::History;
 use cdb_control::Command;
 use cdb_rules::EventRef;
 use std::process::Abort;
 
-/// Gives a command, and gives it again where an allocation failed, after which the run looks like the one behind it.
-fn give_at_last<R: Abort + AllocGlobal>(
-    rt: &R,
-    run: &mut Example,
-    behind: &Example,
-    command: &Command,
-) -> Result<Event, Refusal> {
-    if let Ok(answer) = run.give(rt, command) {
-        return answer;
-    }
-    assert!(rt; run.looks_as(behind));
-    run.give(rt, command).expect(rt, "an answer")
+/// Two runs of one setup that look the same: one that is led, and one behind it, which shows how the first was.
+#[derive(Drop)]
+struct Pair {
+    run: Example,
+    behind: Example,
 }
 
-/// Gives a command to the run that is behind, and gives it again where an allocation failed.
-fn catch_up<R: Abort + AllocGlobal>(
-    rt: &R,
-    behind: &mut Example,
-    command: &Command,
-) -> Result<Event, Refusal> {
-    if let Ok(answer) = behind.give(rt, command) {
-        return answer;
+impl Pair {
+    /// Two runs in which nothing has happened.
+    fn start<R: Abort + AllocGlobal>(rt: &R, setup: &str) -> Pair {
+        Pair {
+            run: Example::start(rt, setup),
+            behind: Example::start(rt, setup),
+        }
     }
-    behind.give(rt, command).expect(rt, "an answer")
-}
 
-/// Whether two calls have the same answer.
-fn is_same_answer(one: &Result<Event, Refusal>, other: &Result<Event, Refusal>) -> bool {
-    match (one, other) {
-        (Ok(event), Ok(other)) => event == other,
-        (Err(refusal), Err(other)) => refusal == other,
-        _ => false,
+    /// Whether both show the same.
+    fn is_alike(&self) -> bool {
+        self.run.looks_as(&self.behind)
     }
 }
 
-/// Gives a command to two runs that look the same, and compares their answers and what both show then.
-fn give<R: Abort + AllocGlobal>(
-    rt: &R,
-    run: &mut Example,
-    behind: &mut Example,
-    command: &Command,
-) {
-    let answer = give_at_last(rt, run, behind, command);
-    let expected = catch_up(rt, behind, command);
-    assert!(rt; is_same_answer(&answer, &expected));
-    assert!(rt; run.looks_as(behind));
+/// Gives a command, and returns the number of the refusal, 0 where it is granted; or nothing where an allocation failed.
+fn give_once<R: Abort + AllocGlobal>(rt: &R, run: &mut Example, command: &Command) -> Option<u8> {
+    match run.give(rt, command) {
+        Ok(Ok(_)) => Some(0),
+        Ok(Err(refusal)) => Some(refusal.number()),
+        Err(_) => None,
+    }
 }
 
-/// Gives the commands of a script so.
-fn give_all<R: Abort + AllocGlobal>(rt: &R, run: &mut Example, behind: &mut Example, script: &str) {
+/// The same, and once more where an allocation failed.
+fn give_at_last<R: Abort + AllocGlobal>(rt: &R, run: &mut Example, command: &Command) -> u8 {
+    match give_once(rt, run, command) {
+        Some(number) => number,
+        None => give_once(rt, run, command).expect(rt, "an answer"),
+    }
+}
+
+/// Gives a command to the run that is led. Where an allocation failed it looks like the one behind it, and is asked again.
+fn lead<R: Abort + AllocGlobal>(rt: &R, pair: &mut Pair, command: &Command) -> u8 {
+    if let Some(number) = give_once(rt, &mut pair.run, command) {
+        return number;
+    }
+    assert!(rt; pair.is_alike());
+    give_at_last(rt, &mut pair.run, command)
+}
+
+/// Gives a command to both runs, which return the same.
+fn give<R: Abort + AllocGlobal>(rt: &R, pair: &mut Pair, command: &Command) {
+    let number = lead(rt, pair, command);
+    assert_eq!(rt; number, give_at_last(rt, &mut pair.behind, command));
+}
+
+/// Two runs that were given the commands of a script.
+fn led<R: Abort + AllocGlobal>(rt: &R, setup: &str, script: &str) -> Pair {
+    let mut pair = Pair::start(rt, setup);
     for line in script.lines() {
-        give(rt, run, behind, &command_of(rt, line));
+        give(rt, &mut pair, &command_of(rt, line));
+        assert!(rt; pair.is_alike());
     }
+    pair
 }
 
 /// Takes an event again, and returns whether there was memory.
@@ -70,87 +79,85 @@ fn take<R: Abort + AllocGlobal>(rt: &R, run: &mut Example, event: &Event) -> boo
     run.again(rt, event).is_ok()
 }
 
-/// Takes an event again in two runs that look the same, and once more where an allocation failed.
-fn take_again<R: Abort + AllocGlobal>(
-    rt: &R,
-    run: &mut Example,
-    behind: &mut Example,
-    event: &Event,
-) {
+/// Takes an event again, and once more where an allocation failed.
+fn take_at_last<R: Abort + AllocGlobal>(rt: &R, run: &mut Example, event: &Event) {
     if !take(rt, run, event) {
-        assert!(rt; run.looks_as(behind));
         assert!(rt; take(rt, run, event));
     }
-    if !take(rt, behind, event) {
-        assert!(rt; take(rt, behind, event));
-    }
-    assert!(rt; run.looks_as(behind));
 }
 
-/// Takes the events of a history again so.
-fn take_all_again<R: Abort + AllocGlobal>(
+/// Takes an event again in both runs.
+fn take_again<R: Abort + AllocGlobal>(rt: &R, pair: &mut Pair, event: &Event) {
+    if !take(rt, &mut pair.run, event) {
+        assert!(rt; pair.is_alike());
+        take_at_last(rt, &mut pair.run, event);
+    }
+    take_at_last(rt, &mut pair.behind, event);
+    assert!(rt; pair.is_alike());
+}
+
+/// Two runs in which the events of a history were taken again.
+fn taken_again<R: Abort + AllocGlobal>(rt: &R, setup: &str, history: &History) -> Pair {
+    let mut pair = Pair::start(rt, setup);
+    for i in 0..history.len() {
+        take_again(rt, &mut pair, history.event(i));
+    }
+    pair
+}
+
+/// Rolls a step back, adds what is removed to a list, and returns whether there was memory.
+fn roll_back_once<R: Abort + AllocGlobal>(
     rt: &R,
     run: &mut Example,
-    behind: &mut Example,
-    history: &History,
-) {
-    for i in 0..history.len() {
-        take_again(rt, run, behind, history.event(i));
-    }
+    p: u32,
+    k: u32,
+    undone: &mut Vec<Event>,
+) -> bool {
+    run.roll_back(rt, EventRef::Step(p, k), undone).is_ok()
 }
 
-/// Rolls an event back in one of two runs that look the same, and again where an allocation failed.
+/// Rolls a step back in the run that is led. Where an allocation failed run and list are as before, and it is asked again.
 fn roll_back<R: Abort + AllocGlobal>(
     rt: &R,
-    run: &mut Example,
-    behind: &Example,
-    event: EventRef,
+    pair: &mut Pair,
+    p: u32,
+    k: u32,
     undone: &mut Vec<Event>,
 ) {
     let before = undone.len();
-    if run.roll_back(rt, event, undone).is_err() {
-        assert!(rt; undone.len() == before && run.looks_as(behind));
-        assert!(rt; run.roll_back(rt, event, undone).is_ok());
+    if !roll_back_once(rt, &mut pair.run, p, k, undone) {
+        assert_eq!(rt; undone.len(), before);
+        assert!(rt; pair.is_alike());
+        assert!(rt; roll_back_once(rt, &mut pair.run, p, k, undone));
     }
     assert!(rt; undone.len() > before);
 }
 
-/// Takes the events of a list again, the last first, and once more where an allocation failed.
+/// Takes the events of a list again, the last first.
 fn redo<R: Abort + AllocGlobal>(rt: &R, run: &mut Example, undone: &[Event]) {
-    for event in undone.iter().rev() {
-        if !take(rt, run, event) {
-            assert!(rt; take(rt, run, event));
-        }
+    for i in (0..undone.len()).rev() {
+        take_at_last(rt, run, &undone[i]);
     }
 }
 
 /// Rolls the last step of process 1 back, and then all that needs its first, onto one list, and takes them again.
-fn roll_back_and_redo<R: Abort + AllocGlobal>(
-    rt: &R,
-    run: &mut Example,
-    behind: &mut Example,
-    last: u32,
-) {
+fn roll_back_and_redo<R: Abort + AllocGlobal>(rt: &R, pair: &mut Pair, last: u32) {
     let mut undone = Vec::new(rt.alloc());
-    roll_back(rt, run, behind, EventRef::Step(1, last), &mut undone);
-    assert!(rt; behind.undo(EventRef::Step(1, last)).is_ok());
-    roll_back(rt, run, behind, EventRef::Step(1, 1), &mut undone);
-    redo(rt, run, undone.as_slice());
+    roll_back(rt, pair, 1, last, &mut undone);
+    assert!(rt; pair.behind.undo(EventRef::Step(1, last)).is_ok());
+    roll_back(rt, pair, 1, 1, &mut undone);
+    redo(rt, &mut pair.run, undone.as_slice());
 }
 
 /// Makes each call that takes memory on runs of a setup: of a script of steps and losses, after which this many events
 /// stand, the last of process 1 its step `last`.
 fn check<R: Abort + AllocGlobal>(rt: &R, setup: &str, script: &str, standing: usize, last: u32) {
-    let mut run = Example::start(rt, setup);
-    let mut behind = Example::start(rt, setup);
-    give_all(rt, &mut run, &mut behind, script);
-    assert_eq!(rt; run.history().len(), standing);
-    let mut again = Example::start(rt, setup);
-    let mut again_behind = Example::start(rt, setup);
-    take_all_again(rt, &mut again, &mut again_behind, run.history());
-    assert!(rt; again.looks_as(&run));
-    roll_back_and_redo(rt, &mut run, &mut behind, last);
-    assert!(rt; run.is_same(rt, &again));
+    let mut pair = led(rt, setup, script);
+    assert_eq!(rt; pair.run.history().len(), standing);
+    let again = taken_again(rt, setup, pair.run.history());
+    assert!(rt; again.run.looks_as(&pair.run));
+    roll_back_and_redo(rt, &mut pair, last);
+    assert!(rt; pair.run.is_same(rt, &again.run));
 }
 
 #[test]
