@@ -12,15 +12,22 @@ use cdb_base::{Act, CopyName, MsgName, Proc, Reg, StepId, StepName};
 use cdb_leader::{Back, Leader};
 use std::process::Abort;
 
+/// Takes a step of process 1.
+fn step<R: Abort + AllocGlobal>(rt: &R, run: &mut AnyRun, act: Act)
+    requires { IsTrueToSetup run.old }
+    ensures { IsTrueToSetup run.new }
+{
+    assert!(rt; matches!(run.step(rt.alloc(), 1, act), Ok(Ok(_))));
+}
+
 /// A run in which process 1 has asked and sent, and its copy for process 2 is lost.
 fn begun<R: Abort + AllocGlobal>(rt: &R) -> AnyRun
     ensures { IsTrueToSetup result }
 {
     let setup = read(rt.alloc(), LOSSY).ok().expect(rt, "a setup");
     let mut run = AnyRun::start(rt.alloc(), setup).expect(rt, "a run");
-    for act in [Act::Query(None), Act::Go] {
-        assert!(rt; matches!(run.step(rt.alloc(), 1, act), Ok(Ok(_))));
-    }
+    step(rt, &mut run, Act::Query(None));
+    step(rt, &mut run, Act::Go);
     assert!(rt; matches!(run.lose(rt.alloc(), 1, 1, 2), Ok(Ok(_))));
     run
 }
