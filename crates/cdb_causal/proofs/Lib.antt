@@ -30,5 +30,6 @@ pub mod Indexing
 pub mod LastPositions
 pub mod Ends
 pub mod AboveDependents
+pub mod Starting
 pub mod Accessing
 pub mod Waiting

@@ -26,4 +26,5 @@ pub mod LastCauses
 pub mod Named
 pub mod Own
 pub mod Raised
+pub mod Starts
 pub mod Exchanging

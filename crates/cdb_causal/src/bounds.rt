@@ -177,7 +177,7 @@ impl Bounds {
     ghost use Rattle.cdb_causal.specs.Between.{IsAboveWrites, IsAboveAccesses, IsAboveAccessesBy};
     ghost use Rattle.cdb_causal.specs.Bounds.{IsEventWithin, IsKindWithin, AreRaised, HasCellsFor, HasCellsForKind};
     ghost use Rattle.cdb_causal.specs.Named.{IsRanged, IsNameForgotten};
-    ghost use Rattle.cdb_causal.specs.Own.{own_bound, bound_of_slot, IsOwnNoted, IsOwnForgotten};
+    ghost use Rattle.cdb_causal.specs.Own.{own_bound, bound_before, bound_of_slot, IsOwnNoted, IsOwnForgotten};
     ghost use Rattle.cdb_causal.specs.Alone.{receive_bound, JoinsCell, LeavesCell, KeepsReceives};
 
     /// The bounds of a history without events.
@@ -402,7 +402,7 @@ impl Bounds {
     }
 
     /// The bound of the losses of a copy for the slot's process.
-    fn end_of_losses(&self, s: Proc, m: u16, slot: usize) -> Mark
+    pub fn end_of_losses(&self, s: Proc, m: u16, slot: usize) -> Mark
         requires { slot < 9 }
         ensures { result ≡ slice_index self.now.losses.items (named_copy_cell s m slot) }
     {
@@ -468,6 +468,13 @@ impl Bounds {
         }
     }
 
+    /// The bound of the steps of a process before its `k`-th.
+    pub fn end_before_step(&self, p: Proc, k: u16) -> Mark
+        ensures { result ≡ bound_before self.now p k }
+    {
+        bound_in(&self.before, named_cell(p, k))
+    }
+
     /// Above all steps of the slot's process that stand before the effect, where it is a step of that
     /// process; else above all marks.
     pub fn end_before(&self, effect: &Event, slot: usize) -> Mark
@@ -475,9 +482,7 @@ impl Bounds {
         ensures { result ≡ bound_of_slot self.now effect.now slot }
     {
         match effect {
-            Event::Step { p, k, .. } if p.index() == slot => {
-                bound_in(&self.before, named_cell(*p, *k))
-            }
+            Event::Step { p, k, .. } if p.index() == slot => self.end_before_step(*p, *k),
             _ => ABOVE_ALL,
         }
     }
@@ -576,14 +581,20 @@ impl Bounds {
         }
     }
 
+    /// Above all events that depend on the event, but for those of its process.
+    pub fn end_of_others(&self, event: &Event) -> Mark
+        ensures { IsAboveOthers self.now event.now result }
+    {
+        self.end_in_slots(event).max(self.end_of_lost_copies(event))
+    }
+
     /// Above all events that depend on the event, its process's own steps among them.
     pub fn end_of_dependents(&self, event: &Event) -> Mark
         ensures others { IsAboveOthers self.now event.now result }
         ensures own { (p k : ℕ) (kind : AKind) → event.now ≡ Step p k kind →
             own_bound self.now p ≤ result }
     {
-        let others = self.end_in_slots(event).max(self.end_of_lost_copies(event));
-        self.end_of_own(event).max(others)
+        self.end_of_own(event).max(self.end_of_others(event))
     }
 
     /// Above all receives by process `p` of the m-th message of process `q`, but for the receive of the

@@ -5,6 +5,7 @@ ghost use Rattle.cdb_base.specs.Event.{event_name};
 ghost use Rattle.cdb_causal.specs.Dependence.{depends as depends_of};
 ghost use Rattle.cdb_causal.specs.Names.{IsFirstDependentOrFree, consequence_names};
 ghost use Rattle.cdb_causal.specs.Rollback.{rolled_back};
+ghost use Rattle.cdb_causal.specs.Starts.{IsFirstAmong};
 
 use crate::caught::Caught;
 use crate::dependence::depends;
@@ -12,20 +13,41 @@ use crate::history::History;
 use cdb_base::{Event, NoMemory, StepId};
 use std::alloc::Global;
 
-/// The first event that depends on the one at position `i`, from 0.
-fn first_linked(history: &History, i: usize) -> Option<StepId>
-    requires { i < length history.now }
-    ensures { IsFirstDependentOrFree history.now i result }
+/// How many later events are looked at before it is found out where the first dependent may stand.
+const NEAR: usize = 16;
+
+/// The first event from position `from` on that depends on the one at position `i`, where it stands before the end.
+fn first_among(history: &History, i: usize, from: usize, end: usize) -> Option<StepId>
+    requires order { i < from }
+    requires within { i < length history.now }
+    requires end { end ≤ length history.now }
+    ensures { IsFirstAmong history.now i from end result }
 {
     let cause = history.event(i);
-    let end = history.len().min(history.end_of_dependents(i));
-    for j in i + 1..end {
+    for j in from..end {
         let event = history.event(j);
         if depends(cause, event) {
             return Some(event.name());
         }
     }
     None
+}
+
+/// The first event that depends on the one at position `i`, from 0: mostly one of the next.
+fn first_linked(history: &History, i: usize) -> Option<StepId>
+    requires { i < length history.now }
+    ensures { IsFirstDependentOrFree history.now i result }
+{
+    let end = history.len().min(history.end_of_dependents(i));
+    let near = end.min((i + 1).saturating_add(NEAR));
+    if let Some(name) = first_among(history, i, i + 1, near) {
+        return Some(name);
+    }
+    if near == end {
+        return None;
+    }
+    let start = near.max(history.start_of_dependents(i));
+    first_among(history, i, start, end)
 }
 
 /// The name of the first later event that depends on the one at a position, from 1 to the number of

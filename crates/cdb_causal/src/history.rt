@@ -25,6 +25,8 @@ use cdb_log::{ABOVE_ALL, Log, Mark};
 use std::alloc::Global;
 use std::marker::Model;
 
+mod starts;
+
 /// The standing events, each under a name of its own. A contract sees their list. Positions count
 /// from 1.
 #[derive(Drop)]

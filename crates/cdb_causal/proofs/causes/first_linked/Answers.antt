@@ -1,34 +1,42 @@
-use Rattle.std.proofs.Common.{◌<◌, sym, ◌∙◌, below_more, arith}
+use Rattle.std.proofs.Common.{ℕ, ◌+◌, ◌<◌, ◌≤◌, ⊎_elim, sym, subst, arith}
 use Rattle.std.proofs.lemmas.Option.{slice_get_within}
+use Rattle.cdb_causal.specs.Causality.{IsLink}
 use Rattle.cdb_causal.specs.Dependence.{depends}
-use Rattle.cdb_causal.proofs.Walks.{link_at, no_link_at, above_suc}
+use Rattle.cdb_causal.specs.Starts.{IsFirstAmong}
+use Rattle.cdb_causal.proofs.Starting.{first_or_free, below_or_above}
 use Rattle.cdb_causal.proofs.causes.first_linked.Goals as goal
 
-pub returns-then-depends : goal.returns-then-depends
-returns-then-depends c =
-    let events = c.args.history.now in
-    let at_i = c.event-cause.ensures in
-    let at_j = c.event-event.ensures in
-    let later : c.args.i < c.loop-j.j = omega arith in
+pub returns-in-Some : goal.returns-in-Some
+returns-in-Some c =
+    let found = c.in-Some.ensures in
     record {
-      position = c.loop-j.j;
-      named = (c.event-event.result.now, at_j, sym c.name.ensures);
-      link = link_at depends events c.args.i c.loop-j.j c.event-cause.result.now c.event-event.result.now later at_i at_j (sym c.depends.ensures ∙ c.if-depends.true);
-      first = λ k l. above_suc k c.loop-j.j (λ less. c.loop-j.invariant k less l);
+      position = found.position;
+      named = found.named;
+      link = found.link;
+      first = λ j l. found.first j (let later = l.later in omega (arith, later)) l;
     }
 
-pub loop-j-preserved : goal.loop-j-preserved
-loop-j-preserved c =
-    let events = c.args.history.now in
-    let at_i = c.event-cause.ensures in
-    let at_j = c.event-event.ensures in
-    below_more _ _ c.loop-j.invariant
-    (no_link_at depends events c.args.i c.loop-j.j c.event-cause.result.now c.event-event.result.now at_i at_j (sym c.depends.ensures ∙ c.if-depends.false))
-
-pub returns : goal.returns
-returns c =
+pub returns-then-near-end : goal.returns-then-near-end
+returns-then-near-end c =
     λ j l.
     let within = slice_get_within c.args.history.now j l.effect l.at_effect in
     let linked = c.end_of_dependents.ensures j l in
-    let below : j < c.loop-j.j = omega arith in
-    c.loop-j.invariant j below l
+    let later = l.later in
+    let same = c.if-near-end.true in
+    let least = c.min-end.ensures in
+    c.in_default.ensures j (omega (arith, later)) (omega (arith, within, linked, same, least)) l
+
+pub returns : goal.returns
+returns c =
+    first_or_free c.args.history.now c.args.i c.max-start.result c.min-end.result
+    (λ j less l.
+    ⊎_elim
+    (λ near. c.in_default.ensures j (let later = l.later in omega (arith, later)) near l)
+    (λ far. let start = c.start_of_dependents.ensures j l in let most = c.max-start.ensures in omega (arith, less, far, start, most))
+    (below_or_above j c.min-near.result))
+    (λ j l.
+    let within = slice_get_within c.args.history.now j l.effect l.at_effect in
+    let linked = c.end_of_dependents.ensures j l in
+    let least = c.min-end.ensures in
+    omega (arith, within, linked, least))
+    c.first_among-2.result c.first_among-2.ensures
