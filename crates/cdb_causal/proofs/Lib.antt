@@ -31,5 +31,6 @@ pub mod LastPositions
 pub mod Ends
 pub mod AboveDependents
 pub mod Starting
+pub mod Listing
 pub mod Accessing
 pub mod Waiting

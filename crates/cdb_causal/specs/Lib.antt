@@ -23,6 +23,7 @@ pub mod Effects
 pub mod Flagged
 pub mod Indexed
 pub mod LastCauses
+pub mod Listed
 pub mod Named
 pub mod Own
 pub mod Raised

@@ -7,6 +7,7 @@
 //! ```
 #![tactic(auto)]
 
+mod accesses;
 mod bounds;
 mod caught;
 pub mod causes;

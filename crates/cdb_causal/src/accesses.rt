@@ -1,0 +1,224 @@
+//! The bounds of the standing writes of each register, and of its reads, in order: so the first of them behind a
+//! position is found by a binary search.
+
+ghost use Rattle.std.specs.Prelude.{◌≡◌, ℕ, ◌+◌, ◌-◌, ◌<◌, ◌≤◌, ◌↔◌, [], IsTrue, OnOk, IfSome, MatchOption, length, slice_index, vec_len, vec_capacity};
+ghost use Rattle.cdb_causal.specs.Cells.{row};
+ghost use Rattle.cdb_causal.specs.Listed.{list_at, HasRoomAt, HasRoomFor, IsListedIn, IsRising, AreRising, HasBound};
+ghost use Rattle.cdb_causal.specs.Listed.{KeepsBelow, KeepsOthers, KeepsLists, KeepBelow, KeepOthers, AreAtMostMarks, IsStartIn};
+ghost use Rattle.cdb_log.specs.Marks.{mark};
+
+use crate::bounds::register_row;
+use cdb_base::{Event, Kind, NoMemory, Reg};
+use cdb_log::{ABOVE_ALL, Log, Mark};
+use std::alloc::Global;
+
+/// The lists, by number: first those of the writes of each register, then those of its reads.
+#[derive(Drop)]
+pub struct Accesses {
+    lists: Vec<Vec<Mark>>,
+    alloc: Global,
+}
+
+/// The number of the list of the writes of a register.
+pub(crate) fn writes_of(register: Reg) -> usize
+    ensures value { result ≡ row register }
+    ensures within { result < 20 }
+{
+    register_row(register)
+}
+
+/// The number of the list of the reads of a register.
+pub(crate) fn reads_of(register: Reg) -> usize
+    ensures value { result ≡ 10 + row register }
+    ensures within { result < 20 }
+{
+    10 + register_row(register)
+}
+
+/// Whether the last bound of a list is as high as another one.
+fn is_last_from(bounds: &[Mark], bound: Mark) -> bool
+    ensures { IsTrue result ↔
+        ((0 < length bounds.now) × (bound ≤ slice_index bounds.now (length bounds.now - 1))) }
+{
+    let count = bounds.len();
+    count > 0 && bounds[count - 1] >= bound
+}
+
+/// Drops the bounds of a list that are as high as another one: no standing event has them.
+fn drop_from(bounds: &mut Vec<Mark>, bound: Mark)
+    requires { IsRising bounds.old.items }
+    ensures rising { IsRising bounds.new.items }
+    ensures below { (k : ℕ) → k < length bounds.new.items → slice_index bounds.new.items k < bound }
+    ensures kept { KeepsBelow bound bounds.old.items bounds.new.items }
+    ensures len { vec_len bounds.new ≤ vec_len bounds.old }
+    ensures capacity { vec_capacity bounds.new ≡ vec_capacity bounds.old }
+{
+    while is_last_from(bounds, bound) {
+        bounds.pop();
+    }
+}
+
+/// Adds a bound at the end of a list, for which there is room.
+fn join(bounds: &mut Vec<Mark>, bound: Mark)
+    requires rising { IsRising bounds.old.items }
+    requires room { vec_len bounds.old < vec_capacity bounds.old }
+    ensures rising { IsRising bounds.new.items }
+    ensures joined { HasBound bounds.new.items bound }
+    ensures kept { KeepsBelow bound bounds.old.items bounds.new.items }
+{
+    drop_from(bounds, bound);
+    bounds.push_reserved(bound);
+}
+
+/// How many bounds of a list are those of events before a position.
+fn count_before(log: &Log<Event>, bounds: &[Mark], from: usize) -> usize
+    requires { IsRising bounds.now }
+    ensures within { result ≤ length bounds.now }
+    ensures before { AreAtMostMarks log.now bounds.now from result }
+{
+    let mut low = 0;
+    let mut high = bounds.len();
+    while low < high {
+        let middle = low + (high - low) / 2;
+        if log.position_above(bounds[middle]) <= from {
+            low = middle + 1;
+        } else {
+            high = middle;
+        }
+    }
+    low
+}
+
+/// A position below which, from position `from` on, no event has a bound in the list.
+fn start_in(log: &Log<Event>, bounds: &[Mark], from: usize) -> usize
+    requires { IsRising bounds.now }
+    ensures { IsStartIn log.now bounds.now from result }
+{
+    let n = count_before(log, bounds, from);
+    if n >= bounds.len() {
+        return log.len();
+    }
+    log.position_above(bounds[n].saturating_sub(1))
+}
+
+/// Whether the bound can be of no event but the one at position `i`.
+fn is_of_none_but(log: &Log<Event>, bound: Mark, i: usize) -> bool
+    ensures { IsTrue result → (j : ℕ) → j < length log.now.items → mark log.now j + 1 ≡ bound → j ≡ i }
+{
+    let start = log.position_above(bound.saturating_sub(1));
+    let end = log.position_above(bound);
+    start >= i && end.saturating_sub(1) <= i
+}
+
+/// Takes the bound of the event at position `i` out of a list.
+fn leave(log: &Log<Event>, bounds: &mut Vec<Mark>, i: usize)
+    requires { IsRising bounds.old.items }
+    ensures rising { IsRising bounds.new.items }
+    ensures kept { KeepsOthers log.now i bounds.old.items bounds.new.items }
+{
+    let n = count_before(log, bounds, i);
+    if n < bounds.len() && is_of_none_but(log, bounds[n], i) {
+        bounds.remove(n);
+    }
+}
+
+/// The number of the list in which an event has its bound.
+fn list_of(event: &Event) -> Option<usize>
+    ensures within { IfSome result (λ n. n < 20) }
+    ensures found { MatchOption result ((n : ℕ) → IsListedIn event.now n → ⊥)
+        (λ n. IsListedIn event.now n) }
+{
+    match event {
+        Event::Step { kind, .. } => match kind {
+            Kind::Write(register) => Some(writes_of(*register)),
+            Kind::Read(register) => Some(reads_of(*register)),
+            _ => None,
+        },
+        Event::Lost(_) => None,
+    }
+}
+
+impl Accesses {
+    /// The lists of a history without events.
+    pub fn new(alloc: Global) -> Self
+        ensures { result.lists.items ≡ [] }
+    {
+        Accesses {
+            lists: Vec::new(alloc),
+            alloc,
+        }
+    }
+
+    /// Makes lists up to the n-th.
+    fn add_lists(&mut self, n: usize) -> Result<(), NoMemory>
+        requires { n < 20 }
+        ensures same { KeepsLists self.old.lists.items self.new.lists.items }
+        ensures within { OnOk result (n < length self.new.lists.items) }
+    {
+        while self.lists.len() <= n {
+            self.lists.push(Vec::new(self.alloc))?;
+        }
+        Ok(())
+    }
+
+    /// Makes room in the n-th list.
+    fn reserve_in(&mut self, n: usize) -> Result<(), NoMemory>
+        requires { n < 20 }
+        ensures same { KeepsLists self.old.lists.items self.new.lists.items }
+        ensures room { OnOk result (HasRoomAt self.new.lists.items n) }
+    {
+        self.add_lists(n)?;
+        self.lists[n].reserve(1)?;
+        Ok(())
+    }
+
+    /// Makes room for an event.
+    pub fn reserve(&mut self, event: &Event) -> Result<(), NoMemory>
+        ensures same { KeepsLists self.old.lists.items self.new.lists.items }
+        ensures room { OnOk result (HasRoomFor self.new.lists.items event.now) }
+    {
+        match list_of(event) {
+            Some(n) => self.reserve_in(n),
+            None => Ok(()),
+        }
+    }
+
+    /// Adds the bound of an event under that mark, for which there is room.
+    pub fn note(&mut self, mark: Mark, event: &Event)
+        requires mark { mark < ABOVE_ALL }
+        requires room { HasRoomFor self.old.lists.items event.now }
+        requires rising { AreRising self.old.lists.items }
+        ensures rising { AreRising self.new.lists.items }
+        ensures joined { (n : ℕ) → IsListedIn event.now n → HasBound (list_at self.new.lists.items n) (mark + 1) }
+        ensures kept { KeepBelow (mark + 1) self.old.lists.items self.new.lists.items }
+    {
+        if let Some(n) = list_of(event) {
+            join(&mut self.lists[n], mark + 1);
+        }
+    }
+
+    /// Takes out the bound of an event that stands at position `i`.
+    pub fn forget(&mut self, log: &Log<Event>, event: &Event, i: usize)
+        requires { AreRising self.old.lists.items }
+        ensures rising { AreRising self.new.lists.items }
+        ensures kept { KeepOthers log.now i self.old.lists.items self.new.lists.items }
+    {
+        if let Some(n) = list_of(event) {
+            if n < self.lists.len() {
+                leave(log, &mut self.lists[n], i);
+            }
+        }
+    }
+
+    /// A position below which, from position `from` on, no event has a bound in the n-th list.
+    pub fn start_of(&self, log: &Log<Event>, n: usize, from: usize) -> usize
+        requires { AreRising self.now.lists.items }
+        ensures { IsStartIn log.now (list_at self.now.lists.items n) from result }
+    {
+        if n < self.lists.len() {
+            start_in(log, &self.lists[n], from)
+        } else {
+            log.len()
+        }
+    }
+}
