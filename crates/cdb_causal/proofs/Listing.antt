@@ -1,11 +1,17 @@
 -- Lists of bounds in order, and tables of such lists.
-use Rattle.std.proofs.Common.{◌≡◌, ◌≢◌, ℕ, zero, suc, ◌+◌, ◌-◌, ◌<◌, ◌≤◌, ◌⊎◌, inl, inr, ⊎_elim, List, [], ◌∷◌, ◌++◌, Vec, vec_len, vec_capacity, length, get_or, slice_index, take, set, remove, ◌↔◌, refl, sym, ap, ◌∙◌, subst, arith}
+use Rattle.std.proofs.Common.{◌≡◌, ◌≢◌, ℕ, zero, suc, ◌+◌, ◌-◌, ◌<◌, ◌≤◌, ◌⊎◌, inl, inr, ⊎_elim, List, [], ◌∷◌, ◌++◌, Vec, vec_len, vec_capacity, length, get_or, slice_index, take, set, remove, refl, sym, ap, ◌∙◌, subst, arith}
 use Rattle.std.proofs.lemmas.List.{length-take-le, get_or-take, get_or_append_left, get_or_push, length_push}
+use Rattle.std.proofs.lemmas.Option.{slice_get_within}
 use Rattle.std.proofs.lemmas.List.Edits.{get_or-remove_below, get_or-remove_above, length-remove}
 use Rattle.cdb_base.specs.declared.event.Event.{Event}
-use Rattle.cdb_base.specs.declared.event.Event.TheVariants.{Step, Lost}
+use Rattle.cdb_base.specs.declared.event.Event.TheVariants.{Step}
 use Rattle.cdb_base.specs.declared.event.Kind.TheVariants.{Read, Write}
-use Rattle.cdb_causal.specs.Listed.{list_at, HasRoomAt, IsListedIn, IsRising, HasBound}
+use Rattle.cdb_causal.specs.Listed.{list_at, HasRoomAt, IsListedIn, IsRising, AreRising, HasBound, AreListed, KeepBelow, KeepOthers}
+use Rattle.cdb_causal.specs.Rollback.{without, position_before}
+use Rattle.cdb_causal.proofs.Bounding.{position_not_gone}
+use Rattle.cdb_causal.proofs.Counting.{slice_get-without}
+use Rattle.cdb_causal.proofs.Lists.{push_cases}
+use Rattle.cdb_log.specs.Marks.{Marked, mark}
 
 pub same_number_or_not : (k n : ℕ) → (k ≡ n) ⊎ (k ≢ n)
 same_number_or_not k n = grind arith
@@ -163,3 +169,32 @@ bound_remove bounds n b within other (k, less, is) =
 
 pub none_in_nothing : (bound : ℕ) → HasBound [] bound → ⊥
 none_in_nothing bound (k, within, is) = omega (arith, within)
+
+-- the lists stay right where an event is added, and where one is taken out
+module _ {Z : Type 0} where
+  pub listed_push : (old new : List (Vec ℕ Z)) (old_marks marks : ℕ → ℕ) (top : ℕ) (history : List Event) (event : Event) → AreListed old old_marks history → AreRising new → KeepBelow (top + 1) old new → ((n : ℕ) → IsListedIn event n → HasBound (list_at new n) (top + 1))
+      → ((i : ℕ) → i < length history → old_marks i < top) → ((i : ℕ) → i < length history → marks i ≡ old_marks i) → marks (length history) ≡ top → AreListed new marks (history ++ event ∷ [])
+  listed_push old new old_marks marks top history event listed rising kept joined below stay last =
+      record {
+        rising = rising;
+        each = λ i n one at is.
+            ⊎_elim
+            (λ before.
+            let low = below i before.1 in
+            subst (λ m. HasBound (list_at new n) (m + 1)) (sym (stay i before.1)) (kept n (old_marks i + 1) (omega (arith, low)) (listed.each i n one before.0 is)))
+            (λ here.
+            subst (λ m. HasBound (list_at new n) (m + 1)) (sym (ap marks here.1 ∙ last)) (joined n (subst (λ e. IsListedIn e n) (sym here.0) is)))
+            (push_cases history event one i at);
+      }
+
+  pub listed_without : (log : Marked Event) (marks : ℕ → ℕ) (gone : ℕ) (old new : List (Vec ℕ Z)) → AreListed old (mark log) log.items → AreRising new → KeepOthers log gone old new
+      → ((i : ℕ) → i < length (without log.items gone) → marks i ≡ mark log (position_before gone i)) → AreListed new marks (without log.items gone)
+  listed_without log marks gone old new listed rising kept stay =
+      record {
+        rising = rising;
+        each = λ i n one at is.
+            let position = position_before gone i in
+            let stood = sym (slice_get-without log.items gone i) ∙ at in
+            subst (λ m. HasBound (list_at new n) (m + 1)) (sym (stay i (slice_get_within (without log.items gone) i one at)))
+            (kept n position (slice_get_within log.items position one stood) (position_not_gone gone i) (listed.each position n one stood is));
+      }

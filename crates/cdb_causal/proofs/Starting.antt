@@ -1,10 +1,8 @@
 -- Where the first dependent of an event may stand: what stands below a bound, and which events can depend on a send.
 use Rattle.std.proofs.Common.{◌≡◌, ◌≢◌, ℕ, ◌+◌, ◌-◌, ◌<◌, ◌≤◌, ◌↔◌, ◌⊎◌, ⊎_elim, Bool, true, false, ◌&&◌, ◌||◌, nat_eq, List, Option, None, Some, length, slice_get, slice_index, refl, sym, ap, ◌∙◌, subst, true≢false, eqb-true, eq-eqb, arith}
 use Rattle.std.proofs.lemmas.Option.{slice_get_within, same_Some}
-use Rattle.cdb_base.specs.Event.{is_step_of}
 use Rattle.cdb_base.specs.declared.event.Event.{Event}
 use Rattle.cdb_base.specs.declared.event.Event.TheVariants.{Step, Lost}
-use Rattle.cdb_base.specs.declared.event.Kind.{Kind}
 use Rattle.cdb_base.specs.declared.event.Kind.TheVariants.{Send, Recv}
 use Rattle.cdb_base.specs.declared.name.CopyName.{CopyName}
 use Rattle.cdb_causal.specs.AboveDependents.{IsAboveOthers}
@@ -12,7 +10,7 @@ use Rattle.cdb_causal.specs.Alone.{receive_bound, IsReceiveIn}
 use Rattle.cdb_causal.specs.Bounds.{IsEventWithin, AreWithin}
 use Rattle.cdb_causal.specs.Causality.{IsLink}
 use Rattle.cdb_causal.specs.Cells.{named_copy_cell}
-use Rattle.cdb_causal.specs.Dependence.{same_process, sends, depends}
+use Rattle.cdb_causal.specs.Dependence.{same_process, depends}
 use Rattle.cdb_base.specs.declared.name.StepId.{StepId}
 use Rattle.cdb_causal.specs.Names.{IsFirstDependentOrFree}
 use Rattle.cdb_causal.specs.Named.{AreRanged, IsLossIn}

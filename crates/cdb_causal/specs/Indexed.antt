@@ -1,16 +1,19 @@
--- A log of events, with the bounds from which they are sought.
+-- A log of events, with the bounds from which they are sought, and the lists of accesses.
 use Rattle.cdb_base.specs.declared.event.Event.{Event}
 use Rattle.cdb_causal.specs.Alone.{AreAlone}
 use Rattle.cdb_causal.specs.Bounds.{AreWithin}
+use Rattle.cdb_causal.specs.Listed.{AreListed}
 use Rattle.cdb_causal.specs.Named.{AreRanged}
 use Rattle.cdb_causal.specs.Own.{AreOwn}
 use Rattle.cdb_causal.specs.Standing.{IsStanding}
+use Rattle.cdb_causal.specs.declared.accesses.Accesses.{Accesses}
 use Rattle.cdb_causal.specs.declared.bounds.Bounds.{Bounds}
 use Rattle.cdb_log.specs.Marks.{Marked, mark}
 
-pub record IsIndexed (log : Marked Event) (bounds : Bounds) : Type 0 where
+pub record IsIndexed (log : Marked Event) (bounds : Bounds) (accesses : Accesses) : Type 0 where
   pub standing : IsStanding log.items
   pub within : AreWithin bounds (mark log) log.items
   pub alone : AreAlone bounds log.items
   pub own : AreOwn bounds (mark log) log.items
   pub ranged : AreRanged log.items
+  pub listed : AreListed accesses.lists.items (mark log) log.items

@@ -1,7 +1,7 @@
 -- Lists of the bounds of standing accesses of registers, in order. The bound of an event is one above its mark.
 use Rattle.std.specs.Prelude.{◌≡◌, ℕ, zero, suc, ◌+◌, ◌<◌, ◌≤◌, List, [], ◌∷◌, Some, Vec, length, slice_get, slice_index, vec_len, vec_capacity}
 use Rattle.cdb_base.specs.declared.event.Event.{Event}
-use Rattle.cdb_base.specs.declared.event.Event.TheVariants.{Step, Lost}
+use Rattle.cdb_base.specs.declared.event.Event.TheVariants.{Step}
 use Rattle.cdb_base.specs.declared.event.Kind.TheVariants.{Read, Write}
 use Rattle.cdb_causal.specs.Cells.{row}
 use Rattle.cdb_log.specs.Marks.{Marked, mark}

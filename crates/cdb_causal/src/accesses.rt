@@ -20,19 +20,19 @@ pub struct Accesses {
 }
 
 /// The number of the list of the writes of a register.
-pub(crate) fn writes_of(register: Reg) -> usize
-    ensures value { result ≡ row register }
+pub(crate) fn writes_of(register: &Reg) -> usize
+    ensures value { result ≡ row register.now }
     ensures within { result < 20 }
 {
-    register_row(register)
+    register_row(*register)
 }
 
 /// The number of the list of the reads of a register.
-pub(crate) fn reads_of(register: Reg) -> usize
-    ensures value { result ≡ 10 + row register }
+pub(crate) fn reads_of(register: &Reg) -> usize
+    ensures value { result ≡ 10 + row register.now }
     ensures within { result < 20 }
 {
-    10 + register_row(register)
+    10 + register_row(*register)
 }
 
 /// Whether the last bound of a list is as high as another one.
@@ -130,8 +130,8 @@ fn list_of(event: &Event) -> Option<usize>
 {
     match event {
         Event::Step { kind, .. } => match kind {
-            Kind::Write(register) => Some(writes_of(*register)),
-            Kind::Read(register) => Some(reads_of(*register)),
+            Kind::Write(register) => Some(writes_of(register)),
+            Kind::Read(register) => Some(reads_of(register)),
             _ => None,
         },
         Event::Lost(_) => None,
@@ -184,7 +184,7 @@ impl Accesses {
     }
 
     /// Adds the bound of an event under that mark, for which there is room.
-    pub fn note(&mut self, mark: Mark, event: &Event)
+    pub fn note_access(&mut self, mark: Mark, event: &Event)
         requires mark { mark < ABOVE_ALL }
         requires room { HasRoomFor self.old.lists.items event.now }
         requires rising { AreRising self.old.lists.items }
@@ -198,7 +198,7 @@ impl Accesses {
     }
 
     /// Takes out the bound of an event that stands at position `i`.
-    pub fn forget(&mut self, log: &Log<Event>, event: &Event, i: usize)
+    pub fn forget_access(&mut self, log: &Log<Event>, event: &Event, i: usize)
         requires { AreRising self.old.lists.items }
         ensures rising { AreRising self.new.lists.items }
         ensures kept { KeepOthers log.now i self.old.lists.items self.new.lists.items }

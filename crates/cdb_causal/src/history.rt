@@ -13,12 +13,14 @@ ghost use Rattle.cdb_causal.specs.Cells.{named_copy_cell};
 ghost use Rattle.cdb_causal.specs.Changing.{HasFailed};
 ghost use Rattle.cdb_causal.specs.Indexed.{IsIndexed};
 ghost use Rattle.cdb_causal.specs.LastCauses.{IsNoCause, HasNoCauseAsStep, IsEndOfCauses, IsEndBetween};
+ghost use Rattle.cdb_causal.specs.Listed.{HasRoomFor};
 ghost use Rattle.cdb_causal.specs.Names.{IsNamedAt, IsNewName, IsPositionOf, IsEndOfSteps};
 ghost use Rattle.cdb_causal.specs.Own.{IsLastOfItsProcess};
 ghost use Rattle.cdb_causal.specs.Rollback.{without};
 ghost use Rattle.cdb_causal.specs.Standing.{IsStanding, HasNoLostCopy};
 ghost use Rattle.cdb_log.specs.Marks.{HasRoom, IsPushed};
 
+use crate::accesses::Accesses;
 use crate::bounds::Bounds;
 use cdb_base::{Event, Kind, NoMemory, Proc, Reg, StepId};
 use cdb_log::{ABOVE_ALL, Log, Mark};
@@ -33,6 +35,7 @@ mod starts;
 pub struct History {
     events: Log<Event>,
     bounds: Bounds,
+    accesses: Accesses,
 }
 
 impl Model for History {
@@ -44,7 +47,7 @@ impl Model for History {
 
     ghost view = { λ h. h.events.items };
 
-    ghost invariant = { λ h. IsIndexed h.events h.bounds };
+    ghost invariant = { λ h. IsIndexed h.events h.bounds h.accesses };
 }
 
 /// Adds an event at the end of a list.
@@ -71,32 +74,42 @@ fn append_to_log(log: &mut Log<Event>, event: Event) -> Mark
     log.push_reserved(event)
 }
 
-/// Makes room for an event in a log and in its bounds. No more changes, whatever is returned.
-fn make_room(events: &mut Log<Event>, bounds: &mut Bounds, event: &Event) -> Result<(), NoMemory>
-    requires { IsIndexed events.old bounds.old }
+/// Makes room for an event in a log, in its bounds and in its accesses. No more changes, whatever is
+/// returned.
+fn make_room(
+    events: &mut Log<Event>,
+    bounds: &mut Bounds,
+    accesses: &mut Accesses,
+    event: &Event,
+) -> Result<(), NoMemory>
+    requires { IsIndexed events.old bounds.old accesses.old }
     ensures same { events.new.items ≡ events.old.items }
-    ensures indexed { IsIndexed events.new bounds.new }
+    ensures indexed { IsIndexed events.new bounds.new accesses.new }
     ensures room { OnOk result (HasRoom events.new) }
     ensures bounds { OnOk result (HasCellsFor bounds.new event.now) }
+    ensures accesses { OnOk result (HasRoomFor accesses.new.lists.items event.now) }
 {
     events.reserve()?;
-    bounds.reserve(event)
+    bounds.reserve(event)?;
+    accesses.reserve(event)
 }
 
-/// Adds an event at the end of a log, where there is room for it, with its bounds. It takes no
-/// memory.
-fn add(events: &mut Log<Event>, bounds: &mut Bounds, event: Event)
-    requires indexed { IsIndexed events.old bounds.old }
+/// Adds an event at the end of a log, where there is room for it, with its bounds and in its accesses. It
+/// takes no memory.
+fn add(events: &mut Log<Event>, bounds: &mut Bounds, accesses: &mut Accesses, event: Event)
+    requires indexed { IsIndexed events.old bounds.old accesses.old }
     requires room { HasRoom events.old }
     requires bounds { HasCellsFor bounds.old event }
+    requires accesses { HasRoomFor accesses.old.lists.items event }
     requires new_name { IsNewName events.old.items (event_name event) }
     requires not_lost { HasNoLostCopy events.old.items event }
     ensures added { events.new.items ≡ events.old.items ++ event ∷ [] }
-    ensures indexed { IsIndexed events.new bounds.new }
+    ensures indexed { IsIndexed events.new bounds.new accesses.new }
 {
     let added = event;
     let mark = append_to_log(events, added);
     bounds.note(mark, &event);
+    accesses.note_access(mark, &event);
 }
 
 /// Whether the event is the receive of the m-th message of process s by the slot's process.
@@ -146,6 +159,7 @@ impl History {
         History {
             events: Log::new(alloc),
             bounds: Bounds::new(alloc),
+            accesses: Accesses::new(alloc),
         }
     }
 
@@ -304,8 +318,18 @@ impl History {
         ensures ok { OnOk result (self.new ≡ self.old ++ event ∷ []) }
         ensures err { OnErr result (self.new ≡ self.old) }
     {
-        make_room(&mut self.events, &mut self.bounds, &event)?;
-        add(&mut self.events, &mut self.bounds, event);
+        make_room(
+            &mut self.events,
+            &mut self.bounds,
+            &mut self.accesses,
+            &event,
+        )?;
+        add(
+            &mut self.events,
+            &mut self.bounds,
+            &mut self.accesses,
+            event,
+        );
         Ok(())
     }
 
@@ -327,9 +351,19 @@ impl History {
         ensures failed { IfErr result (λ e. HasFailed F.FnOnce change state.old e state.new) }
         ensures err { OnErr result (self.new ≡ self.old) }
     {
-        make_room(&mut self.events, &mut self.bounds, &event)?;
+        make_room(
+            &mut self.events,
+            &mut self.bounds,
+            &mut self.accesses,
+            &event,
+        )?;
         let left = change(state)?;
-        add(&mut self.events, &mut self.bounds, event);
+        add(
+            &mut self.events,
+            &mut self.bounds,
+            &mut self.accesses,
+            event,
+        );
         Ok(left)
     }
 
@@ -351,6 +385,8 @@ impl History {
         ensures rest { self.new ≡ without self.old (at - 1) }
     {
         let last = self.last_of_its_process(at);
+        let gone = self.get(at);
+        self.accesses.forget_access(&self.events, &gone, at - 1);
         let event = self.events.take_out(at - 1);
         self.bounds.forget_own(&event, last);
         self.bounds.forget(&event);

@@ -8,8 +8,10 @@ ghost use Rattle.cdb_causal.specs.Dependence.{depends as depends_of};
 ghost use Rattle.cdb_causal.specs.Starts.{IsStartOf, IsStartOfReceives, IsStartOfLosses, IsEndBeforeStep};
 ghost use Rattle.cdb_causal.specs.Starts.{IsEndOfOthers, IsStartOfOthers, IsStartOfOwn};
 ghost use Rattle.cdb_causal.specs.Cells.{named_copy_cell};
+ghost use Rattle.cdb_causal.specs.Listed.{IsListedIn};
 ghost use Rattle.cdb_causal.specs.Named.{IsLossIn};
 
+use crate::accesses::{reads_of, writes_of};
 use crate::history::{History, is_receive_of};
 use cdb_base::{Event, Kind, Proc, StepId, StepName};
 
@@ -74,6 +76,13 @@ impl History {
         start
     }
 
+    /// A position below which, from position `from` on, no access stands that has its bound in the n-th list.
+    fn start_of_accesses(&self, n: usize, from: usize) -> usize
+        ensures { IsStartOf (λ event. IsListedIn event n) self.now from result }
+    {
+        self.accesses.start_of(&self.events, n, from)
+    }
+
     /// A position above all events that depend on the one at position `i`, but for steps of its process.
     fn end_of_others(&self, i: usize) -> usize
         requires { i < length self.now }
@@ -108,6 +117,10 @@ impl History {
         let _within = self.len();
         match kind {
             Kind::Send(m) => self.start_of_copies(p, m, i + 1),
+            Kind::Read(register) => self.start_of_accesses(writes_of(&register), i + 1),
+            Kind::Write(register) => self
+                .start_of_accesses(writes_of(&register), i + 1)
+                .min(self.start_of_accesses(reads_of(&register), i + 1)),
             _ => self.start_by_end(i),
         }
     }

@@ -1,4 +1,4 @@
-use Rattle.std.proofs.Common.{◌≡◌, ◌-◌, ◌<◌, ◌≤◌, List, length, slice_index, take, sym, ap, ◌∙◌, subst, arith}
+use Rattle.std.proofs.Common.{◌-◌, ◌<◌, ◌≤◌, length, slice_index, take, sym, ap, ◌∙◌, subst, arith}
 use Rattle.cdb_causal.specs.Listed.{IsRising, HasBound}
 use Rattle.cdb_causal.proofs.Listing.{rising_take, bound_take}
 use Rattle.cdb_causal.proofs.accesses.drop_from.Goals as goal

@@ -1,8 +1,5 @@
-use Rattle.std.proofs.Common.{ℕ, ◌+◌, ◌<◌, ◌≤◌, ⊎_elim, sym, subst, arith}
+use Rattle.std.proofs.Common.{⊎_elim, arith}
 use Rattle.std.proofs.lemmas.Option.{slice_get_within}
-use Rattle.cdb_causal.specs.Causality.{IsLink}
-use Rattle.cdb_causal.specs.Dependence.{depends}
-use Rattle.cdb_causal.specs.Starts.{IsFirstAmong}
 use Rattle.cdb_causal.proofs.Starting.{first_or_free, below_or_above}
 use Rattle.cdb_causal.proofs.causes.first_linked.Goals as goal
 

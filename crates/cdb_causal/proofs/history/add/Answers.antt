@@ -2,11 +2,13 @@ use Rattle.std.proofs.Common.{◌+◌, List, refl, sym, subst, arith}
 use Rattle.cdb_base.specs.declared.event.Event.{Event}
 use Rattle.cdb_causal.specs.Alone.{AreAlone}
 use Rattle.cdb_causal.specs.Bounds.{IsEventWithin, AreWithin}
+use Rattle.cdb_causal.specs.Listed.{AreListed}
 use Rattle.cdb_causal.specs.Named.{AreRanged}
 use Rattle.cdb_causal.specs.Own.{AreOwn, IsOwnNoted}
 use Rattle.cdb_causal.specs.Standing.{IsStanding}
 use Rattle.cdb_causal.proofs.Bounding.{within_push}
 use Rattle.cdb_causal.proofs.Keeping.{standing_push}
+use Rattle.cdb_causal.proofs.Listing.{listed_push}
 use Rattle.cdb_causal.proofs.Naming.{ranged_push}
 use Rattle.cdb_causal.proofs.Owning.{own_push}
 use Rattle.cdb_causal.proofs.Receives.{alone_push}
@@ -38,4 +40,7 @@ returns-clause-indexed c =
           (own_push top bounds noted (mark old) (mark log) items event c.note.ensures.others (λ i less. let above = pushed.above i less in omega arith) indexed.own pushed.marks
           (subst (λ n. IsOwnNoted bounds noted n event) (sym pushed.last) c.note.ensures.own));
       ranged = subst AreRanged (sym pushed.items) (ranged_push items event indexed.ranged c.note.ensures.copy);
+      listed =
+          subst (AreListed c.note_access.new.self.lists.items (mark log)) (sym pushed.items)
+          (listed_push c.args.accesses.now.lists.items c.note_access.new.self.lists.items (mark old) (mark log) c.append_to_log-mark.result items event indexed.listed c.note_access.ensures.rising c.note_access.ensures.kept c.note_access.ensures.joined pushed.above pushed.marks pushed.last);
     }

@@ -1,4 +1,4 @@
-use Rattle.std.proofs.Common.{◌≡◌, ◌<◌, length, sym, ap, ◌∙◌, arith}
+use Rattle.std.proofs.Common.{◌≡◌, sym, ap, ◌∙◌, arith}
 use Rattle.cdb_causal.specs.Listed.{list_at}
 use Rattle.cdb_causal.proofs.Listing.{list_is, each_set, room_set}
 use Rattle.cdb_causal.proofs.accesses.Accesses.reserve_in.Goals as goal

@@ -1,4 +1,4 @@
-use Rattle.std.proofs.Common.{◌+◌, ◌<◌, [], length, sym, ◌∙◌, subst, arith}
+use Rattle.std.proofs.Common.{◌+◌, ◌<◌, length, sym, ◌∙◌, subst, arith}
 use Rattle.cdb_causal.specs.Listed.{IsRising, IsStartIn, HasBound}
 use Rattle.cdb_causal.proofs.Listing.{list_is, list_past, none_in_nothing}
 use Rattle.cdb_log.specs.Marks.{mark}

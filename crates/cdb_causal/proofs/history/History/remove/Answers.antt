@@ -3,25 +3,27 @@ use Rattle.cdb_base.specs.declared.event.Event.{Event}
 use Rattle.cdb_causal.specs.Alone.{AreAlone}
 use Rattle.cdb_causal.specs.Bounds.{AreWithin}
 use Rattle.cdb_base.specs.declared.event.Event.TheVariants.{Step}
+use Rattle.cdb_causal.specs.Listed.{AreListed}
 use Rattle.cdb_causal.specs.Named.{AreRanged}
 use Rattle.cdb_causal.specs.Own.{AreOwn}
 use Rattle.cdb_causal.specs.Rollback.{without, position_before}
 use Rattle.cdb_causal.specs.Standing.{IsStanding}
 use Rattle.cdb_causal.proofs.Bounding.{within_without, position_before_low, position_before_high}
 use Rattle.cdb_causal.proofs.Keeping.{standing_without}
-use Rattle.cdb_causal.proofs.Lists.{remove-without}
+use Rattle.cdb_causal.proofs.Lists.{remove-without, nth_before}
+use Rattle.cdb_causal.proofs.Listing.{listed_without}
 use Rattle.cdb_causal.proofs.Naming.{ranged_without, within_named}
 use Rattle.cdb_causal.proofs.Owning.{leaves_then, own_same, own_without}
 use Rattle.cdb_causal.proofs.Receives.{alone_kept, alone_without}
 use Rattle.cdb_log.specs.Marks.{Marked, mark, IsTakenOut}
 use Rattle.cdb_causal.proofs.history.History.remove.Goals as goal
 
--- no mark has risen
-marks_fall : (old new : Marked Event) (gone : ℕ) (event : Event) → IsTakenOut old gone event new → (i : ℕ) → i < length new.items → mark new i ≤ mark old (position_before gone i)
-marks_fall old new gone event removed i less =
+-- each item that is left has the mark that it had
+marks_stay : (old new : Marked Event) (gone : ℕ) (event : Event) → IsTakenOut old gone event new → (i : ℕ) → i < length new.items → mark new i ≡ mark old (position_before gone i)
+marks_stay old new gone event removed i less =
     ⊎_elim
-    (λ before. let e = removed.earlier i before in let f = ap (mark old) (position_before_low gone i before) in omega arith)
-    (λ behind. let e = removed.later i behind less in let f = ap (mark old) (position_before_high gone i behind) in omega arith)
+    (λ before. removed.earlier i before ∙ ap (mark old) (sym (position_before_low gone i before)))
+    (λ behind. removed.later i behind less ∙ ap (mark old) (sym (position_before_high gone i behind)))
     (below_or_above i gone)
   where
     below_or_above : (i n : ℕ) → (i < n) ⊎ (n ≤ i)
@@ -39,7 +41,8 @@ invariant_of-self c =
     let forgotten = c.forget_own.ensures in
     let unnamed = c.forget_name.ensures in
     let leaves = leaves_then c.self.inside.bounds c.forget_own.new.self c.forget.new.self c.last_of_its_process-last.result event forgotten c.forget.ensures.leaves in
-    let fall : (i : ℕ) → i < length (without items gone) → mark new i ≤ mark old (position_before gone i) = λ i less. marks_fall old new gone event removed i (subst (λ l. i < length l) (sym left) less) in
+    let stay : (i : ℕ) → i < length (without items gone) → mark new i ≡ mark old (position_before gone i) = λ i less. marks_stay old new gone event removed i (subst (λ l. i < length l) (sym left) less) in
+    let fall : (i : ℕ) → i < length (without items gone) → mark new i ≤ mark old (position_before gone i) = λ i less. (let same = stay i less in omega (arith, same)) in
     record {
       standing = subst IsStanding (sym left) (standing_without items gone c.self.invariant.standing);
       within =
@@ -51,6 +54,9 @@ invariant_of-self c =
           (alone_kept c.forget.new.self c.forget_name.new.self (without items gone) (λ n. ap (λ t. slice_index t.items n) unnamed.receives)
           (alone_without c.self.inside.bounds c.forget.new.self items gone event removed.stood leaves c.self.invariant.alone));
       ranged = subst AreRanged (sym left) (ranged_without items gone c.self.invariant.ranged);
+      listed =
+          subst (AreListed c.forget_access.new.self.lists.items (mark new)) (sym left)
+          (listed_without old (mark new) gone c.self.inside.accesses.lists.items c.forget_access.new.self.lists.items c.self.invariant.listed c.forget_access.ensures.rising c.forget_access.ensures.kept stay);
       own =
           subst (AreOwn c.forget_name.new.self (mark new)) (sym left)
           (own_same c.forget.new.self c.forget_name.new.self (mark new) (without items gone) unnamed.own unnamed.before
@@ -66,3 +72,6 @@ invariant_of-self c =
 pub returns-clause-rest : goal.returns-clause-rest
 returns-clause-rest c =
     c.take_out-event.ensures.items ∙ remove-without c.self.inside.events.items (c.args.at - 1) ∙ ap (λ l. without l (c.args.at - 1)) c.self.view_is
+
+pub returns-clause-event : goal.returns-clause-event
+returns-clause-event c = nth_before c.args.self.now c.args.at c.take_out-event.result c.requires.from_one (subst (λ l. slice_get l (c.args.at - 1) ≡ Some c.take_out-event.result) c.self.view_is c.take_out-event.ensures.stood)

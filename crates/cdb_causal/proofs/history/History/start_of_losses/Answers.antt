@@ -1,4 +1,4 @@
-use Rattle.std.proofs.Common.{◌≡◌, ◌-◌, ◌<◌, sym, subst, arith}
+use Rattle.std.proofs.Common.{◌-◌, ◌<◌, sym, subst, arith}
 use Rattle.cdb_causal.specs.Cells.{named_copy_cell}
 use Rattle.cdb_causal.specs.Starts.{IsStartOfLosses}
 use Rattle.cdb_causal.proofs.Starting.{stands_below, loss_below, one_loss_in}

@@ -1,7 +1,7 @@
-use Rattle.std.proofs.Common.{◌≡◌, ◌+◌, ◌<◌, length, sym, subst, ap, ◌∙◌, arith}
+use Rattle.std.proofs.Common.{◌+◌, subst, ap, ◌∙◌, arith}
 use Rattle.cdb_causal.specs.Listed.{list_at, IsRising, HasBound}
 use Rattle.cdb_causal.proofs.Listing.{list_is, each_set, listed_once, room_is, room_within}
-use Rattle.cdb_causal.proofs.accesses.Accesses.note.Goals as goal
+use Rattle.cdb_causal.proofs.accesses.Accesses.note_access.Goals as goal
 
 pub index_mut-requires : goal.index_mut-requires
 index_mut-requires c =
