@@ -104,6 +104,22 @@ def early_steps(scale):
     return leader_setup(), filled(autos(steps), [f"{act} {p} {k}" for k in (20, 3, 11) for p in (1, 5, 9) for act in ("undo", "why")], scale)
 
 
+def far_dependents(scale):
+    """Sends of processes that then idle, which another one receives only many steps later: undos of the sends, refused."""
+    rounds = int(1_400 * scale)
+    early = [line for p in (6, 7, 8, 9) for line in itertools.islice(alone(p, 1), 2)]
+    steps = [line for lines in zip(*(alone(p, rounds) for p in (1, 2, 3, 4))) for line in lines]
+    late = [f"step 5 recv {p} 1" for p in (6, 7, 8, 9)]
+    return alone_setup(), filled([*early, *steps, *late], [f"undo {p} 2" for p in (6, 7, 8, 9)], scale)
+
+
+def far_dependents_alpha(scale):
+    """Reads of a register by processes that then idle, which its process writes only many steps later: undos of the reads, refused."""
+    early = [f"auto {p}" for p in (7, 8, 9) for _ in range(4)]
+    steps = [f"auto {k % 5 + 2}" for k in range(int(40_000 * scale))]
+    return alpha_setup(), filled([*early, *steps, *["auto 1"] * 3], [f"undo {p} 4" for p in (7, 8, 9)], scale)
+
+
 def rollback_leader(scale):
     steps = leader_steps(int(20_000 * scale))
     p, k = steps[len(steps) // 4]
@@ -165,6 +181,8 @@ WORKLOADS = {
     "alpha-long": alpha_long,
     "last-step": last_step,
     "early-steps": early_steps,
+    "far-dependents": far_dependents,
+    "far-dependents-alpha": far_dependents_alpha,
     "rollback-leader": rollback_leader,
     "rollback-alpha": rollback_alpha,
     "rollback-apart": rollback_apart,
