@@ -9,6 +9,7 @@ use Rattle.cdb_base.specs.declared.name.StepId.TheVariants as named
 use Rattle.cdb_causal.specs.Bounds.{IsKindWithin, IsEventWithin, AreWithin}
 use Rattle.cdb_causal.specs.Cells.{register_cell, named_cell, named_copy_cell}
 use Rattle.cdb_causal.specs.Named.{IsRanged, AreRanged, IsStepIn, IsLossIn, IsNameForgotten}
+use Rattle.cdb_causal.specs.Own.{AreOwn}
 use Rattle.cdb_causal.specs.Rollback.{without, position_before}
 use Rattle.cdb_causal.specs.Standing.{IsStanding}
 use Rattle.cdb_causal.specs.declared.bounds.Bounds.{Bounds}
@@ -93,3 +94,15 @@ within_named old new marks history standing ranged gone event at_gone forgotten 
     go (Lost copy) stood inside =
         let cell : ℕ = named_copy_cell copy.msg.s copy.msg.m (copy.to - 1) in
         subst (λ b. marks i < b) (sym (forgotten.losses cell (λ is. other_loss history standing ranged gone (position_before gone i) event (Lost copy) at_gone stood (position_not_gone gone i) cell refl is))) inside
+
+-- the bounds of a process's steps stay right too
+pub own_named : (old new : Bounds) (marks : ℕ → ℕ) (history : List Event) → IsStanding history → AreRanged history → (gone : ℕ) (event : Event) → slice_get history gone ≡ Some event → IsNameForgotten old new event → AreOwn old marks (without history gone) → AreOwn new marks (without history gone)
+own_named old new marks history standing ranged gone event at_gone forgotten own =
+    record {
+      all = λ i p k kind at. subst (λ t. marks i < slice_index t (p - 1)) (sym forgotten.own) (own.all i p k kind at);
+      earlier = λ h i p k l kind other less at_h at_i.
+          let stood = sym (slice_get-without history gone i) ∙ at_i in
+          subst (λ b. marks h < b)
+          (sym (forgotten.before (named_cell p l) (λ is. other_step history standing ranged gone (position_before gone i) event (Step p l other) at_gone stood (position_not_gone gone i) (named_cell p l) refl is)))
+          (own.earlier h i p k l kind other less at_h at_i);
+    }

@@ -30,6 +30,21 @@ module _ {E : Type 0} (depends : E → E → Bool) where
       ∙ none_caught xs causes zero (λ k event more at. h (suc k) event (omega arith) at)
   none_caught (x ∷ xs) causes (suc j) h = none_caught xs causes j (λ k event more at. h (suc k) event (omega arith) at)
 
+  -- what does not depend on a cause may be left out at the front
+  pub caught_from : (history causes : List E) (from start : ℕ) → from ≤ start → ((k : ℕ) (event : E) → from ≤ k → k < start → slice_get history k ≡ Some event → depends_on_one depends causes event ≡ false)
+      → caught depends causes (drop from history) ≡ caught depends causes (drop start history)
+  caught_from [] causes zero zero le none = refl
+  caught_from [] causes zero (suc start) le none = refl
+  caught_from [] causes (suc from) zero le none = refl
+  caught_from [] causes (suc from) (suc start) le none = refl
+  caught_from (x ∷ xs) causes zero zero le none = refl
+  caught_from (x ∷ xs) causes zero (suc start) le none =
+      ap (λ (c : Bool). cond c (x ∷ caught depends (causes ++ x ∷ []) xs) (caught depends causes xs)) (none 0 x (omega arith) (omega arith) refl)
+      ∙ caught_from xs causes zero start (omega arith) (λ k event more less at. none (suc k) event (omega arith) (omega arith) at)
+  caught_from (x ∷ xs) causes (suc from) zero le none = absurd (omega arith)
+  caught_from (x ∷ xs) causes (suc from) (suc start) le none =
+      caught_from xs causes from start (omega arith) (λ k event more less at. none (suc k) event (omega arith) (omega arith) at)
+
   pub unlinked : (history : List E) (i k : ℕ) (cause effect : E) → i < k → slice_get history i ≡ Some cause → slice_get history k ≡ Some effect → (IsLink depends history i k → ⊥) → depends cause effect ≡ false
   unlinked history i k cause effect later at_cause at_effect none =
       elim (depends cause effect) as (λ b. depends cause effect ≡ b → depends cause effect ≡ false) [

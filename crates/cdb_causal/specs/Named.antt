@@ -29,6 +29,6 @@ pub record IsNameForgotten (old new : Bounds) (event : Event) : Type 0 where
   pub writes : new.writes ≡ old.writes
   pub accesses : new.accesses ≡ old.accesses
   pub own : new.own ≡ old.own
-  pub before : new.before ≡ old.before
   pub steps : (n : ℕ) → (IsStepIn event n → ⊥) → slice_index new.steps.items n ≡ slice_index old.steps.items n
+  pub before : (n : ℕ) → (IsStepIn event n → ⊥) → slice_index new.before.items n ≡ slice_index old.before.items n
   pub losses : (n : ℕ) → (IsLossIn event n → ⊥) → slice_index new.losses.items n ≡ slice_index old.losses.items n

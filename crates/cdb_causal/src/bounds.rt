@@ -343,12 +343,15 @@ impl Bounds {
         }
     }
 
-    /// Takes away the bound of an event's name, under which none stands any more.
+    /// Takes away the bounds of an event's name, under which none stands any more.
     pub fn forget_name(&mut self, event: &Event)
         ensures { IsNameForgotten self.old self.new event.now }
     {
         match event {
-            Event::Step { p, k, .. } => clear(&mut self.steps, named_cell(*p, *k)),
+            Event::Step { p, k, .. } => {
+                clear(&mut self.steps, named_cell(*p, *k));
+                clear(&mut self.before, named_cell(*p, *k));
+            }
             Event::Lost(copy) => clear(
                 &mut self.losses,
                 copy_cell(copy.msg.s, copy.msg.m, copy.to.index()),

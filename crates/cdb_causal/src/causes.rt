@@ -69,7 +69,8 @@ fn rolled_back_events(alloc: Global, history: &History, i: usize) -> Result<Vec<
     causes.push(*history.event(i))?;
     let count = history.len();
     let mut end = history.end_of_dependents(i);
-    let mut j = i + 1;
+    let start = history.start_of_dependents(i).max(i + 1);
+    let mut j = start.min(count);
     while j < count && j < end {
         let event = history.event(j);
         if causes.has_cause_of(event) {

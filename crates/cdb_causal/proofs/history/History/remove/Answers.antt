@@ -12,7 +12,7 @@ use Rattle.cdb_causal.proofs.Bounding.{within_without, position_before_low, posi
 use Rattle.cdb_causal.proofs.Keeping.{standing_without}
 use Rattle.cdb_causal.proofs.Lists.{remove-without, nth_before}
 use Rattle.cdb_causal.proofs.Listing.{listed_without}
-use Rattle.cdb_causal.proofs.Naming.{ranged_without, within_named}
+use Rattle.cdb_causal.proofs.Naming.{ranged_without, within_named, own_named}
 use Rattle.cdb_causal.proofs.Owning.{leaves_then, own_same, own_without}
 use Rattle.cdb_causal.proofs.Receives.{alone_kept, alone_without}
 use Rattle.cdb_log.specs.Marks.{Marked, mark, IsTakenOut}
@@ -59,7 +59,7 @@ invariant_of-self c =
           (listed_without old (mark new) gone c.self.inside.accesses.lists.items c.forget_access.new.self.lists.items c.self.invariant.listed c.forget_access.ensures.rising c.forget_access.ensures.kept stay);
       own =
           subst (AreOwn c.forget_name.new.self (mark new)) (sym left)
-          (own_same c.forget.new.self c.forget_name.new.self (mark new) (without items gone) unnamed.own unnamed.before
+          (own_named c.forget.new.self c.forget_name.new.self (mark new) items c.self.invariant.standing c.self.invariant.ranged gone event removed.stood unnamed
           (own_same c.forget_own.new.self c.forget.new.self (mark new) (without items gone) c.forget.ensures.own c.forget.ensures.leaves.before
           (own_without c.self.inside.bounds c.forget_own.new.self (mark old) (mark new) items gone event c.last_of_its_process-last.result c.self.invariant.standing c.self.invariant.own removed.stood forgotten
           (λ is p k l kind other i is_step at.
