@@ -6,7 +6,7 @@ use Rattle.std.proofs.lemmas.List.Edits.{get_or-remove_below, get_or-remove_abov
 use Rattle.cdb_base.specs.declared.event.Event.{Event}
 use Rattle.cdb_base.specs.declared.event.Event.TheVariants.{Step}
 use Rattle.cdb_base.specs.declared.event.Kind.TheVariants.{Read, Write}
-use Rattle.cdb_causal.specs.Listed.{list_at, HasRoomAt, IsListedIn, IsRising, AreRising, HasBound, AreListed, KeepBelow, KeepOthers}
+use Rattle.cdb_causal.specs.Listed.{list_at, HasRoomAt, IsListedIn, IsRising, AreRising, HasBound, AreListed, AllKeepBelow, AllKeepOthers}
 use Rattle.cdb_causal.specs.Rollback.{without, position_before}
 use Rattle.cdb_causal.proofs.Bounding.{position_not_gone}
 use Rattle.cdb_causal.proofs.Counting.{slice_get-without}
@@ -172,7 +172,7 @@ none_in_nothing bound (k, within, is) = omega (arith, within)
 
 -- the lists stay right where an event is added, and where one is taken out
 module _ {Z : Type 0} where
-  pub listed_push : (old new : List (Vec ℕ Z)) (old_marks marks : ℕ → ℕ) (top : ℕ) (history : List Event) (event : Event) → AreListed old old_marks history → AreRising new → KeepBelow (top + 1) old new → ((n : ℕ) → IsListedIn event n → HasBound (list_at new n) (top + 1))
+  pub listed_push : (old new : List (Vec ℕ Z)) (old_marks marks : ℕ → ℕ) (top : ℕ) (history : List Event) (event : Event) → AreListed old old_marks history → AreRising new → AllKeepBelow (top + 1) old new → ((n : ℕ) → IsListedIn event n → HasBound (list_at new n) (top + 1))
       → ((i : ℕ) → i < length history → old_marks i < top) → ((i : ℕ) → i < length history → marks i ≡ old_marks i) → marks (length history) ≡ top → AreListed new marks (history ++ event ∷ [])
   listed_push old new old_marks marks top history event listed rising kept joined below stay last =
       record {
@@ -187,7 +187,7 @@ module _ {Z : Type 0} where
             (push_cases history event one i at);
       }
 
-  pub listed_without : (log : Marked Event) (marks : ℕ → ℕ) (gone : ℕ) (old new : List (Vec ℕ Z)) → AreListed old (mark log) log.items → AreRising new → KeepOthers log gone old new
+  pub listed_without : (log : Marked Event) (marks : ℕ → ℕ) (gone : ℕ) (old new : List (Vec ℕ Z)) → AreListed old (mark log) log.items → AreRising new → AllKeepOthers log gone old new
       → ((i : ℕ) → i < length (without log.items gone) → marks i ≡ mark log (position_before gone i)) → AreListed new marks (without log.items gone)
   listed_without log marks gone old new listed rising kept stay =
       record {

@@ -24,17 +24,20 @@ IsListedIn (Step p k (Write register)) n = row register ≡ n
 IsListedIn (Step p k (Read register)) n = 10 + row register ≡ n
 IsListedIn _ n = ⊥
 
+-- and in that of the event
 abbrev pub HasRoomFor : {Z : Type 0} → List (Vec ℕ Z) → Event → Type 0
 HasRoomFor lists event = (n : ℕ) → IsListedIn event n → HasRoomAt lists n
 
+-- the bounds are in order
 abbrev pub IsRising : List ℕ → Type 0
 IsRising bounds = (k l : ℕ) → k ≤ l → l < length bounds → slice_index bounds k ≤ slice_index bounds l
 
-abbrev pub HasBound : List ℕ → ℕ → Type 0
-HasBound bounds bound = (k : ℕ) × (k < length bounds) × (slice_index bounds k ≡ bound)
-
 abbrev pub AreRising : {Z : Type 0} → List (Vec ℕ Z) → Type 0
 AreRising lists = (n : ℕ) → IsRising (list_at lists n)
+
+-- the bound is one of them
+abbrev pub HasBound : List ℕ → ℕ → Type 0
+HasBound bounds bound = (k : ℕ) × (k < length bounds) × (slice_index bounds k ≡ bound)
 
 -- the bound of each standing access is in its list, and the lists are in order
 pub record AreListed {Z : Type 0} (lists : List (Vec ℕ Z)) (marks : ℕ → ℕ) (history : List Event) : Type 0 where
@@ -53,17 +56,16 @@ IsStartIn log bounds from start = (j : ℕ) → from ≤ j → j < length log.it
 abbrev pub KeepsOthers : {T : Type 0} → Marked T → ℕ → List ℕ → List ℕ → Type 0
 KeepsOthers log i old new = (j : ℕ) → j < length log.items → (j ≡ i → ⊥) → HasBound old (mark log j + 1) → HasBound new (mark log j + 1)
 
+abbrev pub AllKeepOthers : {T Z : Type 0} → Marked T → ℕ → List (Vec ℕ Z) → List (Vec ℕ Z) → Type 0
+AllKeepOthers log i old new = (n : ℕ) → KeepsOthers log i (list_at old n) (list_at new n)
+
 -- the bounds below one have been kept
 abbrev pub KeepsBelow : ℕ → List ℕ → List ℕ → Type 0
 KeepsBelow bound old new = (b : ℕ) → b < bound → HasBound old b → HasBound new b
 
--- the lists have the bounds that they had
+abbrev pub AllKeepBelow : {Z : Type 0} → ℕ → List (Vec ℕ Z) → List (Vec ℕ Z) → Type 0
+AllKeepBelow bound old new = (n : ℕ) → KeepsBelow bound (list_at old n) (list_at new n)
+
+-- the lists are as they were
 abbrev pub KeepsLists : {Z : Type 0} → List (Vec ℕ Z) → List (Vec ℕ Z) → Type 0
 KeepsLists old new = (n : ℕ) → list_at new n ≡ list_at old n
-
--- and so for each list
-abbrev pub KeepOthers : {T Z : Type 0} → Marked T → ℕ → List (Vec ℕ Z) → List (Vec ℕ Z) → Type 0
-KeepOthers log i old new = (n : ℕ) → KeepsOthers log i (list_at old n) (list_at new n)
-
-abbrev pub KeepBelow : {Z : Type 0} → ℕ → List (Vec ℕ Z) → List (Vec ℕ Z) → Type 0
-KeepBelow bound old new = (n : ℕ) → KeepsBelow bound (list_at old n) (list_at new n)

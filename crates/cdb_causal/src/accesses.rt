@@ -4,7 +4,7 @@
 ghost use Rattle.std.specs.Prelude.{◌≡◌, ℕ, ◌+◌, ◌-◌, ◌<◌, ◌≤◌, ◌↔◌, [], IsTrue, OnOk, IfSome, MatchOption, length, slice_index, vec_len, vec_capacity};
 ghost use Rattle.cdb_causal.specs.Cells.{row};
 ghost use Rattle.cdb_causal.specs.Listed.{list_at, HasRoomAt, HasRoomFor, IsListedIn, IsRising, AreRising, HasBound};
-ghost use Rattle.cdb_causal.specs.Listed.{KeepsBelow, KeepsOthers, KeepsLists, KeepBelow, KeepOthers, AreAtMostMarks, IsStartIn};
+ghost use Rattle.cdb_causal.specs.Listed.{KeepsBelow, KeepsOthers, KeepsLists, AllKeepBelow, AllKeepOthers, AreAtMostMarks, IsStartIn};
 ghost use Rattle.cdb_log.specs.Marks.{mark};
 
 use crate::bounds::register_row;
@@ -110,13 +110,24 @@ fn is_of_none_but(log: &Log<Event>, bound: Mark, i: usize) -> bool
     start >= i && end.saturating_sub(1) <= i
 }
 
+/// Where in a list the bound of the event at position `i` may be: mostly it is the last.
+fn place_of(log: &Log<Event>, bounds: &[Mark], i: usize) -> usize
+    requires { IsRising bounds.now }
+{
+    let count = bounds.len();
+    if count > 0 && is_of_none_but(log, bounds[count - 1], i) {
+        return count - 1;
+    }
+    count_before(log, bounds, i)
+}
+
 /// Takes the bound of the event at position `i` out of a list.
 fn leave(log: &Log<Event>, bounds: &mut Vec<Mark>, i: usize)
     requires { IsRising bounds.old.items }
     ensures rising { IsRising bounds.new.items }
     ensures kept { KeepsOthers log.now i bounds.old.items bounds.new.items }
 {
-    let n = count_before(log, bounds, i);
+    let n = place_of(log, bounds, i);
     if n < bounds.len() && is_of_none_but(log, bounds[n], i) {
         bounds.remove(n);
     }
@@ -190,7 +201,7 @@ impl Accesses {
         requires rising { AreRising self.old.lists.items }
         ensures rising { AreRising self.new.lists.items }
         ensures joined { (n : ℕ) → IsListedIn event.now n → HasBound (list_at self.new.lists.items n) (mark + 1) }
-        ensures kept { KeepBelow (mark + 1) self.old.lists.items self.new.lists.items }
+        ensures kept { AllKeepBelow (mark + 1) self.old.lists.items self.new.lists.items }
     {
         if let Some(n) = list_of(event) {
             join(&mut self.lists[n], mark + 1);
@@ -201,7 +212,7 @@ impl Accesses {
     pub fn forget_access(&mut self, log: &Log<Event>, event: &Event, i: usize)
         requires { AreRising self.old.lists.items }
         ensures rising { AreRising self.new.lists.items }
-        ensures kept { KeepOthers log.now i self.old.lists.items self.new.lists.items }
+        ensures kept { AllKeepOthers log.now i self.old.lists.items self.new.lists.items }
     {
         if let Some(n) = list_of(event) {
             if n < self.lists.len() {

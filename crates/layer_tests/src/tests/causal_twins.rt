@@ -184,3 +184,48 @@ fn the_same_as_the_plain_programs(rt: HostRuntime) -> Result<(), Fail> {
     assert!(rt; longest > 8);
     Ok(())
 }
+
+/// A history in which up to 39 steps of a process that does nothing else stand behind each event.
+fn draw_long_history(alloc: Global, seed: &mut u64) -> Result<History, NoMemory> {
+    let idle = Proc::new(4);
+    let mut history = History::new(alloc);
+    for round in 0..10u16 {
+        add(&mut history, draw_event(seed))?;
+        for n in 0..draw(seed, 40) as u16 {
+            add(&mut history, step(idle, round * 40 + n, Kind::Local))?;
+        }
+    }
+    Ok(history)
+}
+
+/// Compares the first event that depends on each, and returns how many events are between where that is most.
+fn compare_firsts(rt: &impl Abort, history: &History) -> usize {
+    let mut farthest = 0;
+    for i in 0..history.len() {
+        let mut first = None;
+        for j in i + 1..history.len() {
+            if first.is_none() && is_linked(history, i, j) {
+                first = Some(history.event(j).name());
+                farthest = farthest.max(j - i);
+            }
+        }
+        assert_eq!(rt; first_dependent(history, i + 1), first);
+    }
+    farthest
+}
+
+#[test]
+fn first_dependents_far_away(rt: HostRuntime) -> Result<(), Fail> {
+    let mut seed = 1;
+    let mut farthest = 0;
+    for _ in 0..100 {
+        let mut history = draw_long_history(rt.alloc(), &mut seed)?;
+        for _ in 0..10 {
+            farthest = farthest.max(compare_firsts(&rt, &history));
+            take_one_out(&rt, rt.alloc(), &mut history, &mut seed)?;
+            add(&mut history, draw_event(&mut seed))?;
+        }
+    }
+    assert!(rt; farthest > 100);
+    Ok(())
+}

@@ -11,14 +11,14 @@ returns-then-is_of_none_but-clause-rising c =
     let ok = c.args.bounds.now.ok.0 in
     let len = c.len.ensures in
     let test = c.if-n-len.true in
-    let within : c.count_before-n.result < length bounds = omega (arith, ok, len, test) in
-    subst IsRising (sym c.remove.ensures.items) (rising_remove bounds c.count_before-n.result within c.requires)
+    let within : c.place_of-n.result < length bounds = omega (arith, ok, len, test) in
+    subst IsRising (sym c.remove.ensures.items) (rising_remove bounds c.place_of-n.result within c.requires)
 
 pub returns-then-is_of_none_but-clause-kept : goal.returns-then-is_of_none_but-clause-kept
 returns-then-is_of_none_but-clause-kept c =
     λ j inside other has.
     let bounds = c.args.bounds.now.items in
-    let n = c.count_before-n.result in
+    let n = c.place_of-n.result in
     let ok = c.args.bounds.now.ok.0 in
     let len = c.len.ensures in
     let test = c.if-n-len.true in
