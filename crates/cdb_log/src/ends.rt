@@ -21,14 +21,31 @@ fn is_in_piece(ends: &[usize], position: usize, k: usize) -> bool
     k < ends.len() && start_of(ends, k) <= position && position < ends[k]
 }
 
+/// The piece in which an item would stand if all pieces behind it were full, but for the last. A guess: it is
+/// looked at before it is believed.
+fn piece_from_the_end(ends: &[usize], position: usize) -> usize
+    requires { 0 < length ends.now }
+{
+    let last = ends.len() - 1;
+    let start = start_of(ends, last);
+    if position >= start {
+        return last;
+    }
+    last.saturating_sub(1 + (start - 1 - position) / PIECE)
+}
+
 /// The piece in which the item at a position stands: mostly the one that it would be with all pieces
-/// before it full.
+/// before it full, or with all behind it.
 fn piece_of(ends: &[usize], position: usize) -> usize
     requires ends { AreEnds ends.now }
     requires within { position < slice_index ends.now (length ends.now - 1) }
     ensures { IsInPiece ends.now position result }
 {
     let near = position / PIECE;
+    if is_in_piece(ends, position, near) {
+        return near;
+    }
+    let near = piece_from_the_end(ends, position);
     if is_in_piece(ends, position, near) {
         return near;
     }
