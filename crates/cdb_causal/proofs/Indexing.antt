@@ -5,10 +5,10 @@ use Rattle.cdb_base.specs.declared.event.Event.{Event}
 use Rattle.cdb_base.specs.declared.event.Event.TheVariants.{Step}
 use Rattle.cdb_causal.specs.Alone.{AreAlone, KeepsReceives}
 use Rattle.cdb_causal.specs.Bounds.{IsEventWithin, AreRaised}
+use Rattle.cdb_causal.specs.FromZero.{IsStanding}
 use Rattle.cdb_causal.specs.Indexed.{IsIndexed}
 use Rattle.cdb_causal.specs.Named.{AreRanged}
 use Rattle.cdb_causal.specs.Own.{own_bound, bound_before}
-use Rattle.cdb_causal.specs.Standing.{IsStanding}
 use Rattle.cdb_causal.specs.declared.bounds.Bounds.{Bounds}
 use Rattle.cdb_causal.proofs.Bounding.{all_raised}
 use Rattle.cdb_causal.proofs.Owning.{own_raised}

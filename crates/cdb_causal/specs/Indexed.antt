@@ -2,9 +2,9 @@
 use Rattle.cdb_base.specs.declared.event.Event.{Event}
 use Rattle.cdb_causal.specs.Alone.{AreAlone}
 use Rattle.cdb_causal.specs.Bounds.{AreWithin}
+use Rattle.cdb_causal.specs.FromZero.{IsStanding}
 use Rattle.cdb_causal.specs.Named.{AreRanged}
 use Rattle.cdb_causal.specs.Own.{AreOwn}
-use Rattle.cdb_causal.specs.Standing.{IsStanding}
 use Rattle.cdb_causal.specs.declared.bounds.Bounds.{Bounds}
 use Rattle.cdb_log.specs.Marks.{Marked, mark}
 
