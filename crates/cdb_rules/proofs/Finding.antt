@@ -1,6 +1,6 @@
 -- A process is found by its number, and an event by its name.
 use Rattle.std.proofs.Common.{◌≡◌, ℕ, zero, suc, ◌+◌, ◌-◌, ◌<◌, ◌≤◌, Bool, true, false, not, ◌&&◌, ◌==◌, List, [], ◌∷◌, length, Option, Some, None, option_map, Err, MatchOption, MatchResult, IfOk, IfNone, cond, nat_lt, slice_get, if◌then◌else◌, refl, sym, ap, ap₂, ◌∙◌, subst, true≢false, arith}
-use Rattle.std.proofs.lemmas.Option.{none-some, same_Some, slice_get_within}
+use Rattle.std.proofs.lemmas.Option.{none-some, same_Some}
 use Rattle.std.proofs.lemmas.Bool.Decides.{nat_tests}
 use Rattle.std.specs.List.{position, position_or_len}
 use Rattle.std.specs.Option.{option_map_or}
@@ -19,7 +19,7 @@ use Rattle.cdb_rules.specs.Undo.{is_named, names_processes, position_of, found_a
 use Rattle.cdb_rules.proofs.Kept.{is_false}
 use Rattle.cdb_rules.proofs.Limits.{step_within, loss_within}
 use Rattle.cdb_rules.proofs.Naming.{in_position}
-use Rattle.cdb_rules.proofs.Positions.{get_at}
+use Rattle.cdb_rules.proofs.Positions.{get_at, nth_within}
 use Rattle.cdb_rules.proofs.Taken.{both}
 
 module _ {E : Type 0} (test : E → Bool) where
@@ -110,14 +110,10 @@ module _ (history : List Event) (name : StepId) where
     pub no_process_named : names_processes n name ≡ false → event_named n history name ≡ Err refusal.NoProcess
     no_process_named absent = ap (λ b. if b then option_map_or (found_at history) (position_of name history) (Err refusal.NoStep) else Err refusal.NoProcess) absent
 
--- what stands at a position stands at one from 1 to the length
+-- what stands at a position stands at one from 1
 pub stands_from_one : {A : Type 0} (xs : List A) (at : ℕ) (x : A) → nth xs at ≡ Some x → 1 ≤ at
 stands_from_one xs zero x stands = absurd (none-some x stands)
 stands_from_one xs (suc i) x stands = omega arith
-
-nth_within : {A : Type 0} (xs : List A) (at : ℕ) (x : A) → nth xs at ≡ Some x → at ≤ length xs
-nth_within xs zero x stands = omega arith
-nth_within xs (suc i) x stands = let within = slice_get_within xs i x stands in omega (arith, within)
 
 pub position_within : (history : List Event) (name : StepId) (at : ℕ) → IsPositionOf history name at → at ≤ length history
 position_within history name at position = nth_within history at position.named.0 position.named.1
