@@ -1,5 +1,5 @@
 -- The rules of every run keep valid histories, the state that they reach, and agreement.
-use Rattle.std.proofs.Common.{◌≡◌, ◌==◌, ◌&&◌, ℕ, ◌+◌, ◌≤◌, true, not, arith, List, [], ◌∷◌, ◌++◌, length, slice_get, Some, Result, Ok, IfOk, IsSome, IsTrue, is_ok, option_and_then, refl, sym, ap, ◌∙◌, subst}
+use Rattle.std.proofs.Common.{◌≡◌, ◌==◌, ◌&&◌, ℕ, suc, ◌+◌, ◌≤◌, true, not, arith, List, [], ◌∷◌, ◌++◌, length, slice_get, Some, Result, Ok, IfOk, IsSome, IsTrue, is_ok, option_and_then, refl, sym, ap, ◌∙◌, subst}
 use Rattle.std.proofs.lemmas.Bool.Decides.{nat_tests}
 use Rattle.cdb_alpha.specs.Machine.{alpha_table}
 use Rattle.cdb_alpha.specs.TableLaws as alpha_laws
@@ -156,7 +156,7 @@ module _ {L : Type 0} (table : Table L) (setup : Parts) (range : AreInRange setu
         again = λ history valid event of_run h. pushed history valid event (again_enabled history event of_run h);
         last_again = λ history event valid. taken_again history event (last_enabled history event valid);
         of_run = λ history event valid.
-            let named = valid_named machine (history ++ event ∷ []) valid (length history) event (at_end history event) in
+            let named = valid_named machine (history ++ event ∷ []) valid (suc (length history)) event (at_end history event) in
             of_run history event valid (subst (λ (n : ℕ). names_processes n (event_name event) ≡ true) number named.among);
         standing = stands;
         exchanged = λ history other exchanged valid. subst IsSome (fold_exchanged machine history other exchanged) valid;

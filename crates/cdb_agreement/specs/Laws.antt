@@ -1,6 +1,7 @@
 -- The words of the laws: what they speak of, and what they say of it.
-use Rattle.std.specs.Prelude.{◌≡◌, ℕ, ◌<◌, ◌*◌, true, false, List, ◌++◌, reverse, Some, Ok, slice_get}
+use Rattle.std.specs.Prelude.{◌≡◌, ℕ, ◌<◌, ◌*◌, true, false, List, ◌++◌, reverse, Some, Ok}
 use Rattle.cdb_base.specs.Event.{event_name}
+use Rattle.cdb_base.specs.Positions.{nth}
 use Rattle.cdb_base.specs.declared.event.Event.{Event}
 use Rattle.cdb_base.specs.declared.event.Event.TheVariants.{Step, Lost}
 use Rattle.cdb_base.specs.declared.event.Kind.{Kind}
@@ -45,13 +46,13 @@ HasMajority setup = setup.processes < 2 * setup.quorum
 
 -- of each free event of the history, with its position
 abbrev pub ForFree : List Event → (ℕ → Event → Type 0) → Type 0
-ForFree history Holds = (i : ℕ) (event : Event) → slice_get history i ≡ Some event → IsFree depends history i → Holds i event
+ForFree history Holds = (at : ℕ) (event : Event) → nth history at ≡ Some event → IsFree depends history at → Holds at event
 
 -- among any number of processes, of each name: of one that an event has, with its position; of one that none has; of one whose
 -- processes are not all there
 abbrev pub ForNamed : (ℕ → List Event → StepId → ℕ → Event → Type 0) → Type 0
 ForNamed Holds =
-    (n : ℕ) (history : List Event) (name : StepId) (i : ℕ) (event : Event) → IsEventNamed n history name i event → Holds n history name i event
+    (n : ℕ) (history : List Event) (name : StepId) (at : ℕ) (event : Event) → IsEventNamed n history name at event → Holds n history name at event
 
 abbrev pub ForNew : (ℕ → List Event → StepId → Type 0) → Type 0
 ForNew Holds =
@@ -84,17 +85,17 @@ AllLeadBack machine left events history = fold machine (left ++ events) ≡ fold
 -- the event has the name and is free, and all others are left
 abbrev pub IsUndone : List Event → StepId → Event → List Event → Type 0
 IsUndone history name event left =
-    (i : ℕ) × (is_named name event ≡ true) × (slice_get history i ≡ Some event) × IsFree depends history i × (left ≡ without history i)
+    (at : ℕ) × (is_named name event ≡ true) × (nth history at ≡ Some event) × IsFree depends history at × (left ≡ without history at)
 
 -- an event has the name, and it is removed with its consequences, the last first; all others are left
 abbrev pub IsRolledBackTo : List Event → StepId → List Event → List Event → Type 0
 IsRolledBackTo history name removed left =
-    (i : ℕ)
+    (at : ℕ)
     × (event : Event)
     × (is_named name event ≡ true)
-    × (slice_get history i ≡ Some event)
-    × (removed ≡ reverse (rolled_back depends history i))
-    × (left ≡ remaining depends history i)
+    × (nth history at ≡ Some event)
+    × (removed ≡ reverse (rolled_back depends history at))
+    × (left ≡ remaining depends history at)
 
 -- the steps of one process stand in the order of their numbers
 abbrev pub NumbersRise : List Event → Type 0
@@ -106,7 +107,7 @@ NamesDiffer history = (i j : ℕ) (name : StepId) → IsNamedAt history i name �
 
 -- each event is the one of its name
 abbrev pub AreNamed : ℕ → List Event → Type 0
-AreNamed n history = (i : ℕ) (event : Event) → slice_get history i ≡ Some event → IsEventNamed n history (event_name event) i event
+AreNamed n history = (at : ℕ) (event : Event) → nth history at ≡ Some event → IsEventNamed n history (event_name event) at event
 
 -- each loss of a copy stands behind the send of its message
 abbrev pub LossesFollowSends : List Event → Type 0

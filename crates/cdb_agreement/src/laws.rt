@@ -1,6 +1,6 @@
 //! What holds of the histories of any machine. Each function does nothing: its contract is the law.
 
-ghost use Rattle.std.specs.Prelude.{◌≡◌, ℕ, ◌≤◌, List, [], ◌∷◌, ◌++◌, length, reverse, Ok, Err};
+ghost use Rattle.std.specs.Prelude.{◌≡◌, ℕ, ◌+◌, ◌≤◌, List, [], ◌∷◌, ◌++◌, length, reverse, Ok, Err};
 ghost use Rattle.cdb_base.specs.declared.limits.TheConstants.{MAX_PROCESSES};
 ghost use Rattle.cdb_agreement.specs.Laws.{InValid, Reaches, ForFree, ForNamed, ForNew, ForAbsent, ForUndone, ForRolledBack, LeadsBack, AllLeadBack, ReachOneState, IsUndone, IsRolledBackTo, NumbersRise, NamesDiffer, AreNamed, LossesFollowSends, LostStayUnreceived};
 ghost use Rattle.cdb_agreement.specs.Numbering.{AreStepsNumbered, AreSendsNumbered};
@@ -47,12 +47,12 @@ pub fn exchanged_histories<L>()
 /// A free event may be undone. What remains is valid, the event is enabled there, and taking it
 /// again leads back to the state that the history reached.
 pub fn undo<L>()
-    ensures valid { InValid (λ (machine : Machine L) history. ForFree history (λ i event.
-        IsValid machine (without history i))) }
-    ensures enabled { InValid (λ (machine : Machine L) history. ForFree history (λ i event.
-        IsEnabled machine (state_of machine (without history i)) event)) }
-    ensures again { InValid (λ (machine : Machine L) history. ForFree history (λ i event.
-        LeadsBack machine (without history i) event history)) }
+    ensures valid { InValid (λ (machine : Machine L) history. ForFree history (λ at event.
+        IsValid machine (without history at))) }
+    ensures enabled { InValid (λ (machine : Machine L) history. ForFree history (λ at event.
+        IsEnabled machine (state_of machine (without history at)) event)) }
+    ensures again { InValid (λ (machine : Machine L) history. ForFree history (λ at event.
+        LeadsBack machine (without history at) event history)) }
 {}
 
 /// A standing event is undone exactly where no standing event depends on it; else the first that
@@ -60,10 +60,10 @@ pub fn undo<L>()
 /// there. What a granted undo leaves is valid, and the event, taken again, leads back to the state
 /// that the history reached.
 pub fn granted_undo<L>()
-    ensures undone { ForNamed (λ n history name i event. IsFree depends history i →
-        undo_of n history name ≡ Ok (event, without history i)) }
-    ensures needed { ForNamed (λ n history name i event. (dependent : StepId) →
-        IsFirstDependent history i dependent →
+    ensures undone { ForNamed (λ n history name at event. IsFree depends history at →
+        undo_of n history name ≡ Ok (event, without history at)) }
+    ensures needed { ForNamed (λ n history name at event. (dependent : StepId) →
+        IsFirstDependent history at dependent →
         undo_of n history name ≡ Err (Refusal.NeededBy dependent)) }
     ensures no_step { ForNew (λ n history name. undo_of n history name ≡ Err Refusal.NoStep) }
     ensures no_process { ForAbsent (λ n history name.
@@ -79,18 +79,18 @@ pub fn granted_undo<L>()
 /// taken again in order, leads to the state that the history reached.
 #[tactic(auto, using(cdb_rules::proofs::Histories::rollback_redo))]
 pub fn rollback<L>()
-    ensures valid { InValid (λ (machine : Machine L) history. (i : ℕ) →
-        IsValid machine (remaining depends history i)) }
-    ensures again { (machine : Machine L) (history : List Event) (i : ℕ) →
-        AllLeadBack machine (remaining depends history i) (rolled_back depends history i) history }
+    ensures valid { InValid (λ (machine : Machine L) history. (at : ℕ) →
+        IsValid machine (remaining depends history at)) }
+    ensures again { (machine : Machine L) (history : List Event) (at : ℕ) →
+        AllLeadBack machine (remaining depends history at) (rolled_back depends history at) history }
 {}
 
 /// A rollback removes the event of the name with its consequences, the last first,
 /// and is refused where none has it. What it leaves is valid, and what it removed, taken again in order,
 /// leads back to the state that the history reached.
 pub fn granted_rollback<L>()
-    ensures rolled_back { ForNamed (λ n history name i event. rollback_of n history name
-        ≡ Ok (reverse (rolled_back depends history i), remaining depends history i)) }
+    ensures rolled_back { ForNamed (λ n history name at event. rollback_of n history name
+        ≡ Ok (reverse (rolled_back depends history at), remaining depends history at)) }
     ensures no_step { ForNew (λ n history name. rollback_of n history name ≡ Err Refusal.NoStep) }
     ensures no_process { ForAbsent (λ n history name.
         rollback_of n history name ≡ Err Refusal.NoProcess) }
@@ -103,12 +103,11 @@ pub fn granted_rollback<L>()
 
 /// An event that was just taken is free, and the history without it is the one before it: where its
 /// name is new, its undo returns just that.
-#[tactic(auto, using(cdb_causal::proofs::Dependents::last_free, cdb_causal::proofs::Dependents::without_push_back))]
 pub fn step_then_undo()
     ensures free { (history : List Event) (event : Event) →
-        IsFree depends (history ++ event ∷ []) (length history) }
+        IsFree depends (history ++ event ∷ []) (length history + 1) }
     ensures history { (history : List Event) (event : Event) →
-        without (history ++ event ∷ []) (length history) ≡ history }
+        without (history ++ event ∷ []) (length history + 1) ≡ history }
     ensures undone { ForNew (λ n history name. (event : Event) → event_name event ≡ name →
         undo_of n (history ++ event ∷ []) name ≡ Ok (event, history)) }
 {}

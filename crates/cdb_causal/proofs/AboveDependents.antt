@@ -7,11 +7,10 @@ use Rattle.cdb_base.specs.declared.event.Kind.{Kind}
 use Rattle.cdb_base.specs.declared.name.CopyName.{CopyName}
 use Rattle.cdb_causal.specs.AboveDependents.{IsAboveInSlot, IsAboveLosses, IsAboveOthers}
 use Rattle.cdb_causal.specs.Bounds.{AreWithin}
-use Rattle.cdb_causal.specs.Causality.{IsLink}
 use Rattle.cdb_causal.specs.Dependence.{same_process, send_and_loss, depends}
+use Rattle.cdb_causal.specs.FromZero.{IsLink, IsStanding}
 use Rattle.cdb_causal.specs.Named.{AreRanged}
 use Rattle.cdb_causal.specs.Own.{own_bound, AreOwn}
-use Rattle.cdb_causal.specs.Standing.{IsStanding}
 use Rattle.cdb_causal.specs.declared.bounds.Bounds.{Bounds}
 use Rattle.cdb_causal.proofs.SlotsOfCauses.{has_slot_in, slot_within}
 use Rattle.cdb_causal.proofs.Symmetry.{depends-symmetric}

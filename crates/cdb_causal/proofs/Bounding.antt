@@ -13,7 +13,8 @@ use Rattle.cdb_base.specs.declared.event.Kind.TheVariants.{Send, Recv, Read, Wri
 use Rattle.cdb_causal.specs.Alone.{AreAlone, LeavesCell}
 use Rattle.cdb_causal.specs.Bounds.{IsKindWithin, IsEventWithin, AreWithin, AreRaised}
 use Rattle.cdb_causal.specs.Cells.{register_cell, named_cell, named_copy_cell}
-use Rattle.cdb_causal.specs.Rollback.{without, position_before}
+use Rattle.cdb_causal.specs.FromZero.{without}
+use Rattle.cdb_causal.specs.Rollback.{position_before}
 use Rattle.cdb_causal.specs.declared.bounds.Bounds.{Bounds}
 use Rattle.cdb_causal.proofs.Counting.{slice_get-without}
 use Rattle.cdb_causal.proofs.Lists.{push_cases}

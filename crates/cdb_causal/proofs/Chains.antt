@@ -1,8 +1,8 @@
 -- What is rolled back, by a walk along the list, is the event with its consequences, and what remains is all else.
 use Rattle.std.proofs.Common.{◌≡◌, ℕ, zero, suc, ◌+◌, ◌<◌, Bool, true, false, cond, ◌||◌, ◌⊎◌, inl, inr, List, [], ◌∷◌, ◌++◌, Some, slice_get, refl, sym, ap, ◌∙◌, subst, true≢false, arith, lt_trans, lt_irrefl, lt-suc_self, drop}
 use Rattle.std.proofs.lemmas.Option.{same_Some}
-use Rattle.cdb_causal.specs.Causality.{IsLink, IsConsequence, direct, onward}
-use Rattle.cdb_causal.specs.Rollback.{IsParted, done, kept, gone, IsRolledBack, depends_on_one, caught, uncaught, rolled_back, remaining}
+use Rattle.cdb_causal.specs.FromZero.{IsLink, IsConsequence, direct, onward, IsRolledBack, rolled_back, remaining}
+use Rattle.cdb_causal.specs.Rollback.{IsParted, done, kept, gone, depends_on_one, caught, uncaught}
 use Rattle.cdb_causal.specs.Exchange.{IsIn, here, there}
 
 or_true : (a b : Bool) → b ≡ true → (a || b) ≡ true

@@ -1,8 +1,8 @@
 -- An event is free exactly where it is a direct cause of none, and the other events keep their direct causes when it goes.
 use Rattle.std.proofs.Common.{◌≡◌, ℕ, zero, suc, ◌<◌, ◌≤◌, ◌≢◌, Bool, true, false, ◌⊎◌, inl, inr, ⊎_elim, ◌↔◌, List, [], ◌∷◌, Option, Some, None, slice_get, refl, sym, ap, ◌∙◌, subst, arith, lt_irrefl, suc-le-suc, le_of_suc-le-suc}
 use Rattle.std.proofs.lemmas.Option.{none-some}
-use Rattle.cdb_causal.specs.Causality.{IsLink, IsFree, IsDirectCause}
-use Rattle.cdb_causal.specs.Rollback.{without, position_before}
+use Rattle.cdb_causal.specs.FromZero.{IsLink, IsFree, IsDirectCause, without}
+use Rattle.cdb_causal.specs.Rollback.{position_before}
 use Rattle.cdb_causal.proofs.Walks.{link_at, no_link_at}
 
 pub slice_get-without : {E : Type 0} (history : List E) (i k : ℕ) → slice_get (without history i) k ≡ slice_get history (position_before i k)

@@ -4,9 +4,8 @@ use Rattle.std.proofs.lemmas.Option.{same_Some, none-some, slice_get_within}
 use Rattle.std.proofs.lemmas.List.{length_push}
 use Rattle.std.proofs.lemmas.List.Folds.{list_any-append}
 use Rattle.std.specs.List.{list_any}
-use Rattle.cdb_causal.specs.Causality.{IsFree}
-use Rattle.cdb_causal.specs.Rollback.{without}
 use Rattle.cdb_causal.specs.DirectDependents.{is_direct, as_number, direct_dependents_behind, direct_dependents}
+use Rattle.cdb_causal.specs.FromZero.{IsFree, without}
 use Rattle.cdb_causal.proofs.Exchanges.{is_false}
 
 and-true_right : (a : Bool) → (a && true) ≡ a

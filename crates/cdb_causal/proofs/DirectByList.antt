@@ -2,8 +2,8 @@
 use Rattle.std.proofs.Common.{◌≡◌, ℕ, zero, suc, ◌<◌, Bool, true, false, ◌&&◌, ◌||◌, not, ◌↔◌, List, [], ◌∷◌, ◌++◌, length, Some, slice_get, drop, refl, sym, ap, ◌∙◌, true≢false, arith, suc-le-suc}
 use Rattle.std.proofs.lemmas.Option.{same_Some, none-some, slice_get_within}
 use Rattle.std.specs.List.{list_any}
-use Rattle.cdb_causal.specs.Causality.{IsDirectCause}
 use Rattle.cdb_causal.specs.DirectDependents.{is_direct}
+use Rattle.cdb_causal.specs.FromZero.{IsDirectCause}
 use Rattle.cdb_causal.proofs.Dependents.{get_append_front, get_push_back}
 use Rattle.cdb_causal.proofs.Walks.{link_at, linked_events}
 

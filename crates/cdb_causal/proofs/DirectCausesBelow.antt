@@ -13,9 +13,9 @@ use Rattle.cdb_base.specs.declared.name.StepId.TheVariants as named
 use Rattle.cdb_causal.specs.Dependence.{depends}
 use Rattle.cdb_causal.specs.Effects.{kind_affects}
 use Rattle.cdb_causal.proofs.Effects.{by_effect}
-use Rattle.cdb_causal.specs.DirectCauses.{ComesBefore, AreDirectCauses}
+use Rattle.cdb_causal.specs.DirectCauses.{ComesBefore}
+use Rattle.cdb_causal.specs.FromZero.{AreDirectCauses, IsStanding}
 use Rattle.cdb_causal.specs.LastCauses.{IsSlot, NamesDirectCauseIn}
-use Rattle.cdb_causal.specs.Standing.{IsStanding}
 use Rattle.cdb_causal.proofs.Lists.{push_cases, push_front, push_back}
 use Rattle.cdb_causal.proofs.SlotsOfCauses.{slot_within, lost_received, has_slot_in}
 

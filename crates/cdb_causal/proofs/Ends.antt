@@ -8,8 +8,7 @@ use Rattle.cdb_causal.specs.AboveCauses.{IsNoLossOfSent, IsAboveStepsFor, IsAbov
 use Rattle.cdb_causal.specs.Alone.{AreAlone}
 use Rattle.cdb_causal.specs.Between.{IsBetween}
 use Rattle.cdb_causal.specs.Bounds.{IsEventWithin, AreWithin}
-use Rattle.cdb_causal.specs.Causality.{IsLink}
-use Rattle.cdb_causal.specs.Standing.{IsStanding}
+use Rattle.cdb_causal.specs.FromZero.{IsLink, IsStanding}
 use Rattle.cdb_causal.specs.declared.bounds.Bounds.{Bounds}
 use Rattle.cdb_causal.specs.Dependence.{same_process, send_and_loss, depends}
 use Rattle.cdb_causal.specs.Effects.{kind_affects}

@@ -5,9 +5,8 @@ use Rattle.cdb_base.specs.declared.event.Event.{Event}
 use Rattle.cdb_base.specs.declared.event.Event.TheVariants.{Step, Lost}
 use Rattle.cdb_base.specs.declared.event.Kind.{Kind}
 use Rattle.cdb_causal.specs.Dependence.{send_and_loss}
-use Rattle.cdb_causal.specs.Names.{IsNewName}
-use Rattle.cdb_causal.specs.Rollback.{without, position_before}
-use Rattle.cdb_causal.specs.Standing.{HasNoLostCopy, IsStanding}
+use Rattle.cdb_causal.specs.FromZero.{IsNewName, without, HasNoLostCopy, IsStanding}
+use Rattle.cdb_causal.specs.Rollback.{position_before}
 use Rattle.cdb_causal.proofs.Counting.{slice_get-without, position_rises, same_position_before}
 use Rattle.cdb_causal.proofs.Lists.{push_cases}
 

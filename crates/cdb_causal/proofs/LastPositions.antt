@@ -2,10 +2,9 @@
 use Rattle.std.proofs.Common.{◌≡◌, ℕ, zero, suc, ◌<◌, List, Option, None, Some, get_or, replicate, refl, arith}
 use Rattle.std.proofs.lemmas.Option.{none-some, same_Some}
 use Rattle.cdb_base.specs.declared.event.Event.{Event}
-use Rattle.cdb_causal.specs.Causality.{IsLink}
 use Rattle.cdb_causal.specs.Dependence.{depends}
+use Rattle.cdb_causal.specs.FromZero.{IsLink, IsStanding}
 use Rattle.cdb_causal.specs.LastCauses.{IsSlot, IsLastOrNone, AreLastCauses}
-use Rattle.cdb_causal.specs.Standing.{IsStanding}
 use Rattle.cdb_causal.proofs.SlotsOfCauses.{slot_within, has_slot_in}
 
 pub none_at_first : (n k : ℕ) → get_or (replicate {A = Option ℕ} n None) k None ≡ None

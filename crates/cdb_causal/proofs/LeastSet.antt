@@ -1,7 +1,7 @@
 -- The consequences of an event, parted from the list by the least set.
 use Rattle.std.proofs.Common.{◌≡◌, ℕ, suc, ◌<◌, Bool, ◌⊎◌, inl, inr, ⊎_elim, List, [], ◌∷◌, drop, subst, arith, lt_irrefl}
-use Rattle.cdb_causal.specs.Causality.{IsConsequence}
-use Rattle.cdb_causal.specs.Rollback.{IsParted, done, kept, gone, IsRolledBack, consequences}
+use Rattle.cdb_causal.specs.FromZero.{IsConsequence, IsRolledBack, consequences}
+use Rattle.cdb_causal.specs.Rollback.{IsParted, done, kept, gone}
 use Rattle.cdb_causal.proofs.Chains.{later_consequence, parted}
 
 at_or_before_next : (position i : ℕ) → (position < i) ⊎ (position ≡ i) → (position ≡ i → ⊥) → (suc position < i) ⊎ (suc position ≡ i)

@@ -20,6 +20,9 @@ pub mod Dependents
 pub mod DirectByList
 pub mod SlotsOfCauses
 pub mod DirectCausesBelow
+-- positions from 1, where these count from 0
+pub mod FromOne
+pub mod LawsFromOne
 -- a history: what it keeps, and the bounds from which its events are sought
 pub mod Keeping
 pub mod Naming

@@ -7,7 +7,8 @@ use Rattle.cdb_base.specs.declared.event.Event.{Event}
 use Rattle.cdb_base.specs.declared.event.Event.TheVariants.{Step}
 use Rattle.cdb_base.specs.declared.event.Kind.TheVariants.{Read, Write}
 use Rattle.cdb_causal.specs.Listed.{list_at, HasRoomAt, IsListedIn, IsRising, AreRising, HasBound, AreListed, AllKeepBelow, AllKeepOthers}
-use Rattle.cdb_causal.specs.Rollback.{without, position_before}
+use Rattle.cdb_causal.specs.FromZero.{without}
+use Rattle.cdb_causal.specs.Rollback.{position_before}
 use Rattle.cdb_causal.proofs.Bounding.{position_not_gone}
 use Rattle.cdb_causal.proofs.Counting.{slice_get-without}
 use Rattle.cdb_causal.proofs.Lists.{push_cases}

@@ -5,8 +5,7 @@ use Rattle.cdb_base.specs.declared.event.Event.{Event}
 use Rattle.cdb_base.specs.Event.{event_name}
 use Rattle.cdb_base.specs.Positions.{nth}
 use Rattle.cdb_base.specs.declared.name.StepId.{StepId}
-use Rattle.cdb_causal.specs.Names.{IsNamedAt}
-use Rattle.cdb_causal.specs.Rollback.{without}
+use Rattle.cdb_causal.specs.FromZero.{IsNamedAt, without}
 
 pub remove-without : {E : Type 0} (events : List E) (i : ℕ) → remove events i ≡ without events i
 remove-without [] zero = refl

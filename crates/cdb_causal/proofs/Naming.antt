@@ -8,10 +8,10 @@ use Rattle.cdb_base.specs.declared.name.CopyName.{CopyName}
 use Rattle.cdb_base.specs.declared.name.StepId.TheVariants as named
 use Rattle.cdb_causal.specs.Bounds.{IsKindWithin, IsEventWithin, AreWithin}
 use Rattle.cdb_causal.specs.Cells.{register_cell, named_cell, named_copy_cell}
+use Rattle.cdb_causal.specs.FromZero.{without, IsStanding}
 use Rattle.cdb_causal.specs.Named.{IsRanged, AreRanged, IsStepIn, IsLossIn, IsNameForgotten}
 use Rattle.cdb_causal.specs.Own.{AreOwn}
-use Rattle.cdb_causal.specs.Rollback.{without, position_before}
-use Rattle.cdb_causal.specs.Standing.{IsStanding}
+use Rattle.cdb_causal.specs.Rollback.{position_before}
 use Rattle.cdb_causal.specs.declared.bounds.Bounds.{Bounds}
 use Rattle.cdb_causal.proofs.Bounding.{position_not_gone}
 use Rattle.cdb_causal.proofs.Counting.{slice_get-without}

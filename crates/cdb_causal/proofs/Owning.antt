@@ -8,10 +8,10 @@ use Rattle.cdb_base.specs.declared.event.Kind.{Kind}
 use Rattle.cdb_causal.specs.Alone.{LeavesCell}
 use Rattle.cdb_causal.specs.Bounds.{AreRaised}
 use Rattle.cdb_causal.specs.Cells.{named_cell}
+use Rattle.cdb_causal.specs.FromZero.{without, IsStanding}
 use Rattle.cdb_causal.specs.LastCauses.{IsSlot}
 use Rattle.cdb_causal.specs.Own.{own_bound, bound_before, bound_of_slot, AreOwn, IsLoweredAt, IsOwnNoted, IsOwnForgotten}
-use Rattle.cdb_causal.specs.Rollback.{without, position_before}
-use Rattle.cdb_causal.specs.Standing.{IsStanding}
+use Rattle.cdb_causal.specs.Rollback.{position_before}
 use Rattle.cdb_causal.specs.declared.bounds.Bounds.{Bounds}
 use Rattle.cdb_causal.proofs.Bounding.{position_not_gone}
 use Rattle.cdb_causal.proofs.Counting.{slice_get-without, position_rises}

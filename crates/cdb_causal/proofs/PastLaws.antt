@@ -1,8 +1,7 @@
 -- The past of an event, by its consequences turned round, and by direct causes.
 use Rattle.std.proofs.Common.{◌≡◌, ℕ, zero, suc, ◌<◌, ◌≤◌, Bool, true, false, ◌⊎◌, inl, inr, ⊎_elim, ◌↔◌, List, Option, Some, None, slice_get, refl, sym, ◌∙◌, subst, arith}
 use Rattle.std.proofs.lemmas.Option.{none-some}
-use Rattle.cdb_causal.specs.Causality.{IsLink, IsConsequence, direct, onward, IsDirectCause}
-use Rattle.cdb_causal.specs.Past.{IsInPast, one_link, link_before, HasLedTo}
+use Rattle.cdb_causal.specs.FromZero.{IsLink, IsConsequence, direct, onward, IsDirectCause, IsInPast, one_link, link_before, HasLedTo}
 use Rattle.cdb_causal.proofs.Walks.{link_at, no_link_at}
 
 module _ {E : Type 0} (depends : E → E → Bool) (history : List E) where

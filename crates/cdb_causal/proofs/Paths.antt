@@ -1,8 +1,7 @@
 -- In a list of steps a free one may be taken last.
 use Rattle.std.proofs.Common.{◌≡◌, ℕ, zero, suc, Bool, false, List, [], ◌∷◌, ◌++◌, Some, slice_get, refl, sym, subst, arith, suc-le-suc}
 use Rattle.std.proofs.lemmas.Option.{same_Some, none-some}
-use Rattle.cdb_causal.specs.Causality.{IsFree}
-use Rattle.cdb_causal.specs.Rollback.{without}
+use Rattle.cdb_causal.specs.FromZero.{IsFree, without}
 use Rattle.cdb_causal.specs.Paths.{IsPath}
 use Rattle.cdb_causal.specs.Exchanging.{IsExchangeable}
 use Rattle.cdb_causal.proofs.Exchanges.{is_false}

@@ -3,8 +3,8 @@ use Rattle.std.proofs.Common.{◌≡◌, ℕ, zero, suc, ◌+◌, ◌<◌, Bool,
 use Rattle.std.proofs.Math.Seq.{take-suc}
 use Rattle.std.proofs.lemmas.Option.{same_Some, none-some, slice_get_within, get_or_from_slice_get}
 use Rattle.std.proofs.lemmas.List.{length_push, drop-take}
-use Rattle.cdb_causal.specs.Causality.{IsLink, IsDirectCause}
 use Rattle.cdb_causal.specs.DirectDependents.{is_direct, as_number, direct_dependents}
+use Rattle.cdb_causal.specs.FromZero.{IsLink, IsDirectCause}
 use Rattle.cdb_causal.proofs.Dependents.{get_append_front, dependents_added}
 use Rattle.cdb_causal.proofs.DirectByList.{direct_between}
 

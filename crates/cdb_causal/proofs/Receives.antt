@@ -9,8 +9,9 @@ use Rattle.cdb_causal.specs.Bounds.{IsKindWithin, IsEventWithin, AreWithin}
 use Rattle.cdb_causal.specs.Cells.{register_cell, named_cell, named_copy_cell}
 use Rattle.cdb_causal.specs.Dependence.{depends}
 use Rattle.cdb_causal.specs.Effects.{kind_affects}
+use Rattle.cdb_causal.specs.FromZero.{without}
 use Rattle.cdb_causal.specs.LastCauses.{IsSlot}
-use Rattle.cdb_causal.specs.Rollback.{without, position_before}
+use Rattle.cdb_causal.specs.Rollback.{position_before}
 use Rattle.cdb_causal.specs.declared.bounds.Bounds.{Bounds}
 use Rattle.cdb_causal.specs.declared.bounds.TheConstants.{SEVERAL}
 use Rattle.cdb_causal.proofs.Counting.{slice_get-without, same_position_before}

@@ -1,7 +1,7 @@
 -- The search for consequences: what one more event adds, and where it may end.
 use Rattle.std.proofs.Common.{◌≡◌, ℕ, zero, suc, ◌+◌, ◌<◌, ◌≤◌, Bool, true, false, cond, ◌||◌, List, [], ◌∷◌, ◌++◌, Some, slice_get, drop, refl, sym, ap, ap₂, ◌∙◌, append_assoc, arith}
 use Rattle.std.proofs.lemmas.List.Folds.{list_any-append}
-use Rattle.cdb_causal.specs.Causality.{IsLink}
+use Rattle.cdb_causal.specs.FromZero.{IsLink}
 use Rattle.cdb_causal.specs.Rollback.{caught, depends_on_one}
 use Rattle.cdb_causal.proofs.Lists.{drop_from}
 use Rattle.cdb_causal.proofs.Walks.{link_at}

@@ -9,12 +9,11 @@ use Rattle.cdb_base.specs.declared.event.Kind.TheVariants.{Recv}
 use Rattle.cdb_base.specs.declared.name.CopyName.{CopyName}
 use Rattle.cdb_base.specs.declared.name.StepId.{StepId}
 use Rattle.cdb_base.specs.declared.name.StepId.TheVariants as named
-use Rattle.cdb_causal.specs.Causality.{IsLink, HasNothingBetween}
 use Rattle.cdb_causal.specs.Dependence.{same_process, sends, receives, send_and_loss, depends}
 use Rattle.cdb_causal.specs.Effects.{kind_affects}
 use Rattle.cdb_causal.proofs.Effects.{by_effect}
+use Rattle.cdb_causal.specs.FromZero.{IsLink, HasNothingBetween, IsStanding}
 use Rattle.cdb_causal.specs.LastCauses.{IsSlot, IsNoCause, IsLastCause, NamesDirectCauseIn}
-use Rattle.cdb_causal.specs.Standing.{IsStanding}
 use Rattle.cdb_causal.proofs.Exchanges.{is_false}
 use Rattle.cdb_causal.proofs.Walks.{link_at}
 

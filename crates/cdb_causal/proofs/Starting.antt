@@ -8,13 +8,11 @@ use Rattle.cdb_base.specs.declared.name.CopyName.{CopyName}
 use Rattle.cdb_causal.specs.AboveDependents.{IsAboveOthers}
 use Rattle.cdb_causal.specs.Alone.{receive_bound, IsReceiveIn}
 use Rattle.cdb_causal.specs.Bounds.{IsEventWithin, AreWithin}
-use Rattle.cdb_causal.specs.Causality.{IsLink}
 use Rattle.cdb_causal.specs.Cells.{named_copy_cell}
 use Rattle.cdb_causal.specs.Dependence.{same_process, depends}
 use Rattle.cdb_base.specs.declared.name.StepId.{StepId}
-use Rattle.cdb_causal.specs.Names.{IsFirstDependentOrFree}
 use Rattle.cdb_causal.specs.Named.{AreRanged, IsLossIn}
-use Rattle.cdb_causal.specs.Standing.{IsStanding}
+use Rattle.cdb_causal.specs.FromZero.{IsLink, IsFirstDependentOrFree, IsStanding}
 use Rattle.cdb_causal.specs.Starts.{IsStartOfReceives, IsStartOfLosses, IsStartOfOthers, IsFirstAmong}
 use Rattle.cdb_causal.specs.declared.bounds.Bounds.{Bounds}
 use Rattle.cdb_causal.proofs.Effects.{by_effect}

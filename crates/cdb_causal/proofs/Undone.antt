@@ -3,8 +3,8 @@
 use Rattle.std.proofs.Common.{◌≡◌, ℕ, zero, suc, Bool, true, false, cond, List, [], ◌∷◌, ◌++◌, Some, slice_get, refl, sym, ap, ◌∙◌, subst, arith}
 use Rattle.std.proofs.lemmas.Option.{same_Some, none-some}
 use Rattle.std.proofs.lemmas.List.Folds.{list_any-append}
-use Rattle.cdb_causal.specs.Causality.{IsFree}
-use Rattle.cdb_causal.specs.Rollback.{without, depends_on_one, caught, uncaught, rolled_back, remaining}
+use Rattle.cdb_causal.specs.FromZero.{IsFree, without, rolled_back, remaining}
+use Rattle.cdb_causal.specs.Rollback.{depends_on_one, caught, uncaught}
 use Rattle.cdb_causal.proofs.Dependents.{IsIndependentBehind, IsIndependent, free_behind}
 use Rattle.cdb_causal.proofs.Symmetry.{or-false_left, or-false_right}
 

@@ -1,8 +1,8 @@
 -- One step of a walk along a history: what a link is at two events, and what is caught from a position on.
 use Rattle.std.proofs.Common.{◌≡◌, ℕ, zero, suc, ◌+◌, ◌-◌, ◌<◌, ◌≤◌, Bool, true, false, ◌⊎◌, ⊎_elim, List, [], ◌∷◌, ◌++◌, Some, length, slice_get, drop, sym, ap, ap₂, ◌∙◌, true≢false, add-one, arith}
 use Rattle.std.proofs.lemmas.Option.{same_Some, none-some}
-use Rattle.cdb_causal.specs.Causality.{IsLink}
-use Rattle.cdb_causal.specs.Rollback.{caught, consequences, rolled_back}
+use Rattle.cdb_causal.specs.FromZero.{IsLink, consequences, rolled_back}
+use Rattle.cdb_causal.specs.Rollback.{caught}
 
 module _ {E : Type 0} (depends : E → E → Bool) where
   abbrev pub link_at : (history : List E) (i j : ℕ) (cause effect : E) → i < j → slice_get history i ≡ Some cause → slice_get history j ≡ Some effect → depends cause effect ≡ true → IsLink depends history i j

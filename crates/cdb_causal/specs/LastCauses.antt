@@ -6,8 +6,8 @@ use Rattle.cdb_base.specs.declared.event.Event.{Event}
 use Rattle.cdb_base.specs.declared.event.Event.TheVariants.{Step, Lost}
 use Rattle.cdb_base.specs.declared.event.Kind.{Kind}
 use Rattle.cdb_base.specs.declared.name.StepId.{StepId}
-use Rattle.cdb_causal.specs.Causality.{IsDirectCause, IsLink}
 use Rattle.cdb_causal.specs.Dependence.{same_process, depends}
+use Rattle.cdb_causal.specs.FromZero.{IsDirectCause, IsLink}
 
 -- slots 0 to 8 are those of processes 1 to 9, slot 9 is that of losses
 abbrev pub IsSlot : Event → ℕ → Type 0

@@ -1,26 +1,27 @@
 -- The words of the laws: of which lists they speak, under any dependence of any type of events, and what they say of these.
-use Rattle.std.specs.Prelude.{◌≡◌, ℕ, suc, ◌+◌, Bool, true, false, List, [], ◌∷◌, ◌++◌, ◌↔◌, length, Option, Some, slice_get, take, drop}
+use Rattle.std.specs.Prelude.{◌≡◌, ℕ, ◌+◌, ◌≤◌, Bool, true, false, List, [], ◌∷◌, ◌++◌, ◌↔◌, length, Option, Some}
+use Rattle.cdb_base.specs.Positions.{nth}
 use Rattle.cdb_causal.specs.Causality.{IsFree, IsDirectCause}
 use Rattle.cdb_causal.specs.DirectDependents.{is_direct, as_number, direct_dependents}
 use Rattle.cdb_causal.specs.Exchange.{IsExchanged, IsEachOnce, HaveSameEvents, KeepsOrder}
 use Rattle.cdb_causal.specs.Past.{HasLedTo}
 use Rattle.cdb_causal.specs.Reach.{reached}
-use Rattle.cdb_causal.specs.Rollback.{IsParted, IsRolledBack, without, position_before, remaining, rolled_back}
+use Rattle.cdb_causal.specs.Rollback.{IsParted, IsRolledBack, events_before, events_behind, without, position_before, remaining, rolled_back}
 
 -- ---- of what
 
--- of each position of each list
+-- of each position, from 1, of each list
 abbrev pub OfPositions : {E : Type 0} → ((E → E → Bool) → List E → ℕ → Type 0) → Type 0
-OfPositions {E} Holds = (depends : E → E → Bool) (history : List E) (i : ℕ) → Holds depends history i
+OfPositions {E} Holds = (depends : E → E → Bool) (history : List E) (at : ℕ) → 1 ≤ at → Holds depends history at
 
 -- of each event of each list, with its position
 abbrev pub OfEvents : {E : Type 0} → ((E → E → Bool) → List E → ℕ → E → Type 0) → Type 0
-OfEvents {E} Holds = (depends : E → E → Bool) (history : List E) (i : ℕ) (event : E) → slice_get history i ≡ Some event → Holds depends history i event
+OfEvents {E} Holds = (depends : E → E → Bool) (history : List E) (at : ℕ) (event : E) → nth history at ≡ Some event → Holds depends history at event
 
 -- of each free one
 abbrev pub OfFree : {E : Type 0} → ((E → E → Bool) → List E → ℕ → E → Type 0) → Type 0
 OfFree {E} Holds =
-    (depends : E → E → Bool) (history : List E) (i : ℕ) (event : E) → slice_get history i ≡ Some event → IsFree depends history i → Holds depends history i event
+    (depends : E → E → Bool) (history : List E) (at : ℕ) (event : E) → nth history at ≡ Some event → IsFree depends history at → Holds depends history at event
 
 -- of each two lists that are equal up to exchange
 abbrev pub OfExchanged : {E : Type 0} → ((E → E → Bool) → List E → List E → Type 0) → Type 0
@@ -43,26 +44,26 @@ IsTransitive {A} Holds = (one between other : A) → Holds one between → Holds
 abbrev pub IsMutual : {A : Type 0} → (A → A → Type 0) → Type 0
 IsMutual {A} Holds = (one other : A) → Holds one other → Holds other one
 
--- removed are the event at position i and exactly its consequences, left is all else, each in order
+-- removed are the event at a position and exactly its consequences, left is all else, each in order
 abbrev pub IsRollback : {E : Type 0} → (E → E → Bool) → List E → ℕ → List E → List E → Type 0
-IsRollback depends history i left removed = IsParted (IsRolledBack depends history i) 0 history left removed
+IsRollback depends history at left removed = IsParted (IsRolledBack depends history at) 1 history left removed
 
--- the event at position i is a direct cause of none
+-- the event at a position is a direct cause of none
 abbrev pub HasNoEffect : {E : Type 0} → (E → E → Bool) → List E → ℕ → Type 0
-HasNoEffect depends history i = (j : ℕ) → IsDirectCause depends history i j → ⊥
+HasNoEffect depends history at = (other : ℕ) → IsDirectCause depends history at other → ⊥
 
--- without the event at position i the others have the direct causes that they had
+-- without the event at a position the others have the direct causes that they had
 abbrev pub OthersKeepCauses : {E : Type 0} → (E → E → Bool) → List E → ℕ → Type 0
-OthersKeepCauses depends history i =
-    (k l : ℕ) → IsDirectCause depends (without history i) k l ↔ IsDirectCause depends history (position_before i k) (position_before i l)
+OthersKeepCauses depends history at =
+    (k l : ℕ) → IsDirectCause depends (without history at) k l ↔ IsDirectCause depends history (position_before at k) (position_before at l)
 
--- the event at position i is a direct cause of the one that is added at the end
+-- the event at a position is a direct cause of the one that is added at the end
 abbrev pub CausesLast : {E : Type 0} → (E → E → Bool) → List E → ℕ → E → Type 0
-CausesLast depends history i event = IsDirectCause depends (history ++ event ∷ []) i (length history)
+CausesLast depends history at event = IsDirectCause depends (history ++ event ∷ []) at (length history + 1)
 
--- the event depends on the cause at position i, and on nothing behind it that depends on the cause
+-- the event depends on the cause at a position, and on nothing behind it that depends on the cause
 abbrev pub IsDirectBehind : {E : Type 0} → (E → E → Bool) → List E → ℕ → E → E → Type 0
-IsDirectBehind depends history i cause event = is_direct depends cause (drop (suc i) history) event ≡ true
+IsDirectBehind depends history at cause event = is_direct depends cause (events_behind history at) event ≡ true
 
 -- position i is a direct cause of one that has led to position j
 abbrev pub LeadsThrough : {E : Type 0} → (E → E → Bool) → List E → ℕ → ℕ → Type 0
@@ -70,30 +71,31 @@ LeadsThrough depends history i j = (k : ℕ) × IsDirectCause depends history i 
 
 -- none of the events depends on the cause
 abbrev pub NoneDepends : {E : Type 0} → (E → E → Bool) → E → List E → Type 0
-NoneDepends {E} depends cause events = (j : ℕ) (event : E) → slice_get events j ≡ Some event → depends cause event ≡ false
+NoneDepends {E} depends cause events = (at : ℕ) (event : E) → nth events at ≡ Some event → depends cause event ≡ false
 
 -- the event that is added is one direct dependent more of the cause, if it is one
 abbrev pub CountsAdded : {E : Type 0} → (E → E → Bool) → E → List E → E → Type 0
 CountsAdded depends cause events event =
     direct_dependents depends cause (events ++ event ∷ []) ≡ direct_dependents depends cause events + as_number (is_direct depends cause events event)
 
--- without the event at position i there is one less, if it was one
+-- without the event at a position there is one less, if it was one
 abbrev pub CountsTakenOut : {E : Type 0} → (E → E → Bool) → E → List E → ℕ → E → Type 0
-CountsTakenOut depends cause events i gone =
-    direct_dependents depends cause events ≡ as_number (is_direct depends cause (take i events) gone) + direct_dependents depends cause (without events i)
+CountsTakenOut depends cause events at gone =
+    direct_dependents depends cause events
+    ≡ as_number (is_direct depends cause (events_before events at) gone) + direct_dependents depends cause (without events at)
 
--- where the event at position i is rolled back alone it is free, and all else remains
+-- where the event at a position is rolled back alone it is free, and all else remains
 abbrev pub IsFreeIfAlone : {E : Type 0} → (E → E → Bool) → List E → ℕ → Type 0
-IsFreeIfAlone {E} depends history i =
-    (event : E) → rolled_back depends history i ≡ event ∷ []
-    → (slice_get history i ≡ Some event) × IsFree depends history i × (without history i ≡ remaining depends history i)
+IsFreeIfAlone {E} depends history at =
+    (event : E) → rolled_back depends history at ≡ event ∷ []
+    → (nth history at ≡ Some event) × IsFree depends history at × (without history at ≡ remaining depends history at)
 
 -- of what is rolled back with it the last is free; without that one the others are rolled back, and the same events remain
 abbrev pub MayGoLastFirst : {E : Type 0} → (E → E → Bool) → List E → ℕ → Type 0
-MayGoLastFirst {E} depends history i =
-    (event last : E) (removed : List E) → rolled_back depends history i ≡ event ∷ (removed ++ last ∷ [])
+MayGoLastFirst {E} depends history at =
+    (event last : E) (removed : List E) → rolled_back depends history at ≡ event ∷ (removed ++ last ∷ [])
     → (j : ℕ)
-    × (slice_get history j ≡ Some last)
+    × (nth history j ≡ Some last)
     × IsFree depends history j
-    × (rolled_back depends (without history j) i ≡ event ∷ removed)
-    × (remaining depends (without history j) i ≡ remaining depends history i)
+    × (rolled_back depends (without history j) at ≡ event ∷ removed)
+    × (remaining depends (without history j) at ≡ remaining depends history at)

@@ -21,6 +21,7 @@ pub mod Bounds
 pub mod Cells
 pub mod Effects
 pub mod Flagged
+pub mod FromZero
 pub mod Indexed
 pub mod LastCauses
 pub mod Listed

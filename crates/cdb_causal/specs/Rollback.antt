@@ -1,6 +1,8 @@
 -- A list of events without one of them, and without one of them and its consequences.
-use Rattle.std.specs.Prelude.{◌≡◌, ℕ, zero, suc, Bool, List, [], ◌∷◌, ◌++◌, ◌⊎◌, cond, drop}
+use Rattle.std.specs.Prelude.{◌≡◌, ℕ, zero, suc, Bool, List, [], ◌∷◌, ◌++◌, ◌⊎◌, cond, take, drop}
 use Rattle.std.specs.List.{list_any}
+use Rattle.std.specs.Option.{option_map_or}
+use Rattle.cdb_base.specs.Positions.{nth}
 use Rattle.cdb_causal.specs.Causality.{IsConsequence}
 
 -- a list parted in two, in order, by the set of the positions that are removed; the first event has the position that is given
@@ -9,15 +11,24 @@ pub data IsParted {E : Type 0} (IsRemoved : ℕ → Type 0) : ℕ → List E →
   kept : {position : ℕ} {event : E} {events left removed : List E} → (IsRemoved position → ⊥) → IsParted IsRemoved (suc position) events left removed → IsParted IsRemoved position (event ∷ events) (event ∷ left) removed
   gone : {position : ℕ} {event : E} {events left removed : List E} → IsRemoved position → IsParted IsRemoved (suc position) events left removed → IsParted IsRemoved position (event ∷ events) left (event ∷ removed)
 
--- position i and those of its consequences
+-- a position and those of its consequences
 abbrev pub IsRolledBack : {E : Type 0} → (E → E → Bool) → List E → ℕ → ℕ → Type 0
-IsRolledBack depends history i j = (j ≡ i) ⊎ IsConsequence depends history i j
+IsRolledBack depends history at other = (other ≡ at) ⊎ IsConsequence depends history at other
 
--- the list without the event at position i
+-- what stands before a position; the event there, where one stands, alone; and what stands behind it
+abbrev pub events_before : {E : Type 0} → List E → ℕ → List E
+events_before history zero = []
+events_before history (suc i) = take i history
+
+abbrev pub event_at : {E : Type 0} → List E → ℕ → List E
+event_at history at = option_map_or (λ event. event ∷ []) (nth history at) []
+
+abbrev pub events_behind : {E : Type 0} → List E → ℕ → List E
+events_behind history at = drop at history
+
+-- the list without the event at a position
 abbrev pub without : {E : Type 0} → List E → ℕ → List E
-without [] i = []
-without (event ∷ events) zero = events
-without (event ∷ events) (suc i) = event ∷ without events i
+without history at = events_before history at ++ events_behind history at
 
 -- whether the event depends on one of the causes
 abbrev pub depends_on_one : {E : Type 0} → (E → E → Bool) → List E → E → Bool
@@ -34,24 +45,20 @@ uncaught depends causes [] = []
 uncaught depends causes (event ∷ events) =
     cond (depends_on_one depends causes event) (uncaught depends (causes ++ event ∷ []) events) (event ∷ uncaught depends causes events)
 
--- the event at position i with its consequences, in order
-abbrev pub rolled_back : {E : Type 0} → (E → E → Bool) → List E → ℕ → List E
-rolled_back depends [] i = []
-rolled_back depends (event ∷ events) zero = event ∷ caught depends (event ∷ []) events
-rolled_back depends (event ∷ events) (suc i) = rolled_back depends events i
-
--- its consequences alone, in order
+-- the consequences of the event at a position, in order
 abbrev pub consequences : {E : Type 0} → (E → E → Bool) → List E → ℕ → List E
-consequences depends history i = drop 1 (rolled_back depends history i)
+consequences depends history at = caught depends (event_at history at) (events_behind history at)
 
--- the list without the event at position i and its consequences
+-- the event with its consequences, in order
+abbrev pub rolled_back : {E : Type 0} → (E → E → Bool) → List E → ℕ → List E
+rolled_back depends history at = event_at history at ++ consequences depends history at
+
+-- the list without the event and its consequences
 abbrev pub remaining : {E : Type 0} → (E → E → Bool) → List E → ℕ → List E
-remaining depends [] i = []
-remaining depends (event ∷ events) zero = uncaught depends (event ∷ []) events
-remaining depends (event ∷ events) (suc i) = event ∷ remaining depends events i
+remaining depends history at = events_before history at ++ uncaught depends (event_at history at) (events_behind history at)
 
--- the position, in the whole list, of what stands at position k of the list without position i
+-- the position, in the whole list, of what stands at a position of the list without one
 abbrev pub position_before : ℕ → ℕ → ℕ
-position_before zero k = suc k
-position_before (suc i) zero = zero
-position_before (suc i) (suc k) = suc (position_before i k)
+position_before zero other = suc other
+position_before (suc at) zero = zero
+position_before (suc at) (suc other) = suc (position_before at other)

@@ -5,11 +5,10 @@ use Rattle.cdb_base.specs.declared.event.Event.TheVariants.{Step}
 use Rattle.cdb_base.specs.declared.event.Kind.{Kind}
 use Rattle.cdb_base.specs.declared.name.StepId.{StepId}
 use Rattle.cdb_causal.specs.Alone.{IsReceiveIn}
-use Rattle.cdb_causal.specs.Causality.{IsLink}
+use Rattle.cdb_causal.specs.FromZero.{IsLink, IsNamedAt}
 use Rattle.cdb_causal.specs.Cells.{named_copy_cell}
 use Rattle.cdb_causal.specs.Dependence.{same_process, depends}
 use Rattle.cdb_causal.specs.Named.{IsLossIn}
-use Rattle.cdb_causal.specs.Names.{IsNamedAt}
 
 -- from position `from` on, each such event stands at the start or later
 abbrev pub IsStartOf : (Event → Type 0) → List Event → ℕ → ℕ → Type 0

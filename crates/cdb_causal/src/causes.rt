@@ -1,10 +1,10 @@
 //! What depends on an event of a history.
 
-ghost use Rattle.std.specs.Prelude.{◌≡◌, ◌-◌, ◌<◌, ◌≤◌, length, map, IfOk};
+ghost use Rattle.std.specs.Prelude.{◌≡◌, ◌<◌, ◌≤◌, length, map, IfOk};
 ghost use Rattle.cdb_base.specs.Event.{event_name};
 ghost use Rattle.cdb_causal.specs.Dependence.{depends as depends_of};
+ghost use Rattle.cdb_causal.specs.FromZero.{IsFirstDependentOrFree as IsFirstLinkedOrFree, rolled_back};
 ghost use Rattle.cdb_causal.specs.Names.{IsFirstDependentOrFree, consequence_names};
-ghost use Rattle.cdb_causal.specs.Rollback.{rolled_back};
 ghost use Rattle.cdb_causal.specs.Starts.{IsFirstAmong};
 
 use crate::caught::Caught;
@@ -36,7 +36,7 @@ fn first_among(history: &History, i: usize, from: usize, end: usize) -> Option<S
 /// The first event that depends on the one at position `i`, from 0: mostly one of the next.
 fn first_linked(history: &History, i: usize) -> Option<StepId>
     requires { i < length history.now }
-    ensures { IsFirstDependentOrFree history.now i result }
+    ensures { IsFirstLinkedOrFree history.now i result }
 {
     let end = history.len().min(history.end_of_dependents(i));
     let near = end.min((i + 1).saturating_add(NEAR));
@@ -55,7 +55,7 @@ fn first_linked(history: &History, i: usize) -> Option<StepId>
 pub fn first_dependent(history: &History, at: usize) -> Option<StepId>
     requires from_one { 1 ≤ at }
     requires to_len { at ≤ length history.now }
-    ensures { IsFirstDependentOrFree history.now (at - 1) result }
+    ensures { IsFirstDependentOrFree history.now at result }
 {
     first_linked(history, at - 1)
 }
@@ -99,7 +99,7 @@ fn names(alloc: Global, events: &[Event]) -> Result<Vec<StepId>, NoMemory>
 pub fn consequences(alloc: Global, history: &History, at: usize) -> Result<Vec<StepId>, NoMemory>
     requires from_one { 1 ≤ at }
     requires to_len { at ≤ length history.now }
-    ensures { IfOk result (λ names. names.items ≡ consequence_names history.now (at - 1)) }
+    ensures { IfOk result (λ names. names.items ≡ consequence_names history.now at) }
 {
     let removed = rolled_back_events(alloc, history, at - 1)?;
     names(alloc, &removed[1..])

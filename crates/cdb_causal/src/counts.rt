@@ -1,9 +1,9 @@
 //! How many events have an event of a history as a direct cause.
 
 ghost use Rattle.std.specs.Prelude.{◌<◌, ◌≤◌, ◌↔◌, IsTrue, length};
-ghost use Rattle.cdb_causal.specs.Causality.{IsDirectCause};
 ghost use Rattle.cdb_causal.specs.Dependence.{depends as depends_of};
 ghost use Rattle.cdb_causal.specs.DirectDependents.{CountsDirectDependents};
+ghost use Rattle.cdb_causal.specs.FromZero.{IsDirectCause};
 
 use crate::dependence::depends;
 use crate::direct::is_direct;

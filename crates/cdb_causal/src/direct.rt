@@ -1,9 +1,9 @@
 //! The direct causes of an event of a history.
 
-ghost use Rattle.std.specs.Prelude.{◌≡◌, ℕ, ◌-◌, ◌<◌, ◌≤◌, ◌↔◌, None, Some, length, slice_get, get_or, MatchOption, IsTrue, true};
-ghost use Rattle.cdb_causal.specs.Causality.{IsLink, HasNothingBetween};
+ghost use Rattle.std.specs.Prelude.{◌≡◌, ℕ, ◌<◌, ◌≤◌, ◌↔◌, None, Some, length, slice_get, get_or, MatchOption, IsTrue, true};
 ghost use Rattle.cdb_causal.specs.Dependence.{depends as depends_of};
 ghost use Rattle.cdb_causal.specs.DirectCauses.{AreDirectCauses};
+ghost use Rattle.cdb_causal.specs.FromZero.{IsLink, HasNothingBetween};
 ghost use Rattle.cdb_causal.specs.LastCauses.{IsSlot, IsNoCause, IsLastCause};
 ghost use Rattle.cdb_causal.specs.LastCauses.{IsLastOrNone, AreLastCauses, IsDirectCauseOrNone};
 
@@ -152,7 +152,7 @@ fn direct_cause(
 pub fn direct_causes(alloc: Global, history: &History, at: usize) -> SmallVec<StepId, 9>
     requires from_one { 1 ≤ at }
     requires to_len { at ≤ length history.now }
-    ensures { AreDirectCauses history.now (at - 1) result.items }
+    ensures { AreDirectCauses history.now at result.items }
 {
     let _standing = history.len();
     let lasts = last_causes(history, at - 1);

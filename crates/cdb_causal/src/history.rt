@@ -1,20 +1,20 @@
 //! The standing events of a run, in the order in which they were taken.
 
-ghost use Rattle.std.specs.Prelude.{◌≡◌, ℕ, ◌-◌, ◌<◌, ◌≤◌, List, [], ◌∷◌, ◌++◌, Some, Ok, length, slice_get, MatchOption, OnOk, OnErr, IfOk, IfErr, IsTrue, ◌==◌, ◌↔◌};
+ghost use Rattle.std.specs.Prelude.{◌≡◌, ℕ, ◌<◌, ◌≤◌, List, [], ◌∷◌, ◌++◌, Some, Ok, length, slice_get, MatchOption, OnOk, OnErr, IfOk, IfErr, IsTrue, ◌==◌, ◌↔◌};
 ghost use Rattle.std.specs.Fn.{FnOnceReturnsAtMut, FnOnceTakesAtMut};
 ghost use Rattle.cdb_base.specs.Event.{event_name};
 ghost use Rattle.cdb_base.specs.declared.event.Kind.TheVariants.{Send};
 ghost use Rattle.cdb_base.specs.Positions.{nth};
-ghost use Rattle.cdb_causal.specs.Causality.{IsLink};
 ghost use Rattle.cdb_causal.specs.Dependence.{depends as depends_of};
 ghost use Rattle.cdb_causal.specs.Alone.{IsReceiveIn, HasNoReceiveBefore};
 ghost use Rattle.cdb_causal.specs.Bounds.{HasCellsFor};
 ghost use Rattle.cdb_causal.specs.Cells.{named_copy_cell};
 ghost use Rattle.cdb_causal.specs.Changing.{HasFailed};
+ghost use Rattle.cdb_causal.specs.FromZero.{IsLink, IsNamedAt};
 ghost use Rattle.cdb_causal.specs.Indexed.{IsIndexed};
 ghost use Rattle.cdb_causal.specs.LastCauses.{IsNoCause, HasNoCauseAsStep, IsEndOfCauses, IsEndBetween};
 ghost use Rattle.cdb_causal.specs.Listed.{HasRoomFor};
-ghost use Rattle.cdb_causal.specs.Names.{IsNamedAt, IsNewName, IsPositionOf, IsEndOfSteps};
+ghost use Rattle.cdb_causal.specs.Names.{IsNewName, IsPositionOf, IsEndOfSteps};
 ghost use Rattle.cdb_causal.specs.Own.{IsLastOfItsProcess};
 ghost use Rattle.cdb_causal.specs.Rollback.{without};
 ghost use Rattle.cdb_causal.specs.Standing.{IsStanding, HasNoLostCopy};
@@ -284,7 +284,7 @@ impl History {
             .position_above(self.bounds.end_of_dependents(event))
     }
 
-    /// A position, from 0, above all steps of a process.
+    /// A position, from 1, behind which no step of a process stands; 0 where none does.
     pub fn end_of_steps(&self, p: Proc) -> usize
         ensures within { result ≤ length self.now }
         ensures above { IsEndOfSteps self.now p result }
@@ -382,7 +382,7 @@ impl History {
         requires from_one { 1 ≤ at }
         requires to_len { at ≤ length self.old }
         ensures event { nth self.old at ≡ Some result }
-        ensures rest { self.new ≡ without self.old (at - 1) }
+        ensures rest { self.new ≡ without self.old at }
     {
         let last = self.last_of_its_process(at);
         let gone = self.get(at);

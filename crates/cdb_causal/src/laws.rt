@@ -17,37 +17,37 @@ pub fn dependence_is_symmetric()
 {}
 
 /// A free event reaches the end of the list by exchanges of independent neighbours alone.
-#[tactic(auto, using(crate::proofs::Exchanges::free_to_end))]
+#[tactic(auto, using(crate::proofs::LawsFromOne::free_to_end))]
 pub fn free_to_end<E>()
-    ensures { OfFree (λ (depends : E → E → Bool) history i event.
-        IsExchanged depends history (without history i ++ event ∷ [])) }
+    ensures { OfFree (λ (depends : E → E → Bool) history at event.
+        IsExchanged depends history (without history at ++ event ∷ [])) }
 {}
 
 /// An event reaches the end of the list with its consequences, in order, by exchanges of
 /// independent neighbours alone.
-#[tactic(auto, using(crate::proofs::Exchanges::rollback_to_end))]
+#[tactic(auto, using(crate::proofs::LawsFromOne::rollback_to_end))]
 pub fn rollback_to_end<E>()
-    ensures { OfPositions (λ (depends : E → E → Bool) history i.
+    ensures { OfPositions (λ (depends : E → E → Bool) history at.
         IsExchanged depends history
-        (remaining depends history i ++ rolled_back depends history i)) }
+        (remaining depends history at ++ rolled_back depends history at)) }
 {}
 
 /// What is rolled back is the event with exactly its consequences, and what remains is all else,
 /// each in the order of the list. The event itself comes first.
-#[tactic(auto, using(crate::proofs::Chains::parted, crate::proofs::Walks::rolled_back_split))]
+#[tactic(auto, using(crate::proofs::LawsFromOne::parted, crate::proofs::LawsFromOne::rolled_back_split))]
 pub fn rolled_back_exactly<E>()
-    ensures first { OfEvents (λ (depends : E → E → Bool) history i event.
-        rolled_back depends history i ≡ event ∷ consequences depends history i) }
-    ensures parted { OfPositions (λ (depends : E → E → Bool) history i.
-        IsRollback depends history i (remaining depends history i)
-        (rolled_back depends history i)) }
+    ensures first { OfEvents (λ (depends : E → E → Bool) history at event.
+        rolled_back depends history at ≡ event ∷ consequences depends history at) }
+    ensures parted { OfPositions (λ (depends : E → E → Bool) history at.
+        IsRollback depends history at (remaining depends history at)
+        (rolled_back depends history at)) }
 {}
 
 /// The consequences are exactly the events at the positions of the least set, in the order of the list.
 pub fn consequences_exactly<E>()
-    ensures { OfPositions (λ (depends : E → E → Bool) history i. (left : List E)
-        × IsParted (IsConsequence depends history i) 0 history left
-        (consequences depends history i)) }
+    ensures { OfPositions (λ (depends : E → E → Bool) history at. (left : List E)
+        × IsParted (IsConsequence depends history at) 1 history left
+        (consequences depends history at)) }
 {}
 
 /// Two lists with the same events, each once, whose dependent pairs stand in the same order, are
@@ -88,21 +88,21 @@ pub fn exchanged_reach_the_same<S, E>()
 
 /// An event is free exactly where it is a direct cause of none.
 pub fn free_without_effects<E>()
-    ensures { OfPositions (λ (depends : E → E → Bool) history i.
-        IsFree depends history i ↔ HasNoEffect depends history i) }
+    ensures { OfPositions (λ (depends : E → E → Bool) history at.
+        IsFree depends history at ↔ HasNoEffect depends history at) }
 {}
 
 /// Where a free event is taken out, the others keep their direct causes.
 pub fn direct_causes_stay<E>()
-    ensures { OfPositions (λ (depends : E → E → Bool) history i.
-        IsFree depends history i → OthersKeepCauses depends history i) }
+    ensures { OfPositions (λ (depends : E → E → Bool) history at.
+        IsFree depends history at → OthersKeepCauses depends history at) }
 {}
 
 /// The direct causes of the last event of a list are those events on which it depends directly, by
 /// the list of what stands between.
 pub fn direct_by_list<E>()
-    ensures { OfEvents (λ (depends : E → E → Bool) history i cause. (event : E) →
-        CausesLast depends history i event ↔ IsDirectBehind depends history i cause event) }
+    ensures { OfEvents (λ (depends : E → E → Bool) history at cause. (event : E) →
+        CausesLast depends history at event ↔ IsDirectBehind depends history at cause event) }
 {}
 
 /// An event that is added is one direct dependent more of each of its direct causes, and a free
@@ -111,8 +111,8 @@ pub fn direct_by_list<E>()
 pub fn direct_dependents_counted<E>()
     ensures added { (depends : E → E → Bool) (cause : E) (events : List E) (event : E) →
         CountsAdded depends cause events event }
-    ensures taken_out { OfFree (λ (depends : E → E → Bool) events i gone. (cause : E) →
-        CountsTakenOut depends cause events i gone) }
+    ensures taken_out { OfFree (λ (depends : E → E → Bool) events at gone. (cause : E) →
+        CountsTakenOut depends cause events at gone) }
 {}
 
 /// An event with no direct dependent has no dependent at all, and conversely: of the events that
@@ -126,8 +126,8 @@ pub fn no_direct_dependent<E>()
 /// consequences is free, and all else remains. Of the consequences the last is free; without it the
 /// others are what is rolled back, and the same events remain.
 pub fn rollback_by_undo<E>()
-    ensures alone { OfPositions (λ (depends : E → E → Bool) history i.
-        IsFreeIfAlone depends history i) }
-    ensures last { OfPositions (λ (depends : E → E → Bool) history i.
-        MayGoLastFirst depends history i) }
+    ensures alone { OfPositions (λ (depends : E → E → Bool) history at.
+        IsFreeIfAlone depends history at) }
+    ensures last { OfPositions (λ (depends : E → E → Bool) history at.
+        MayGoLastFirst depends history at) }
 {}

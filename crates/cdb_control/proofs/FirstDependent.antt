@@ -2,11 +2,14 @@
 use Rattle.std.proofs.Common.{◌≡◌, ℕ, zero, suc, ◌+◌, ◌-◌, ◌<◌, ◌≤◌, Bool, true, false, ◌⊎◌, inl, inr, ⊎_elim, List, [], ◌∷◌, Some, drop, slice_get, refl, sym, ap, ◌∙◌, subst, true≢false, arith}
 use Rattle.std.proofs.lemmas.Option.{none-some, same_Some}
 use Rattle.cdb_base.specs.Event.{event_name}
+use Rattle.cdb_base.specs.Positions.{nth}
 use Rattle.cdb_base.specs.declared.event.Event.{Event}
 use Rattle.cdb_base.specs.declared.name.StepId.{StepId}
-use Rattle.cdb_causal.specs.Causality.{IsLink, IsFree}
 use Rattle.cdb_causal.specs.Dependence.{depends}
-use Rattle.cdb_causal.specs.Names.{IsFirstDependent}
+use Rattle.cdb_causal.specs.FromZero.{IsLink, IsFree, IsFirstDependent}
+use Rattle.cdb_causal.specs.Causality as from_one
+use Rattle.cdb_causal.specs.Names as from_one_names
+use Rattle.cdb_causal.proofs.FromOne.{free_up, first_up}
 use Rattle.cdb_rules.proofs.Results.{get-drop}
 
 module _ (test : Event → Bool) where
@@ -84,5 +87,11 @@ module _ (history : List Event) (i : ℕ) (event : Event) (at : slice_get histor
               absurd (true≢false (sym link.linked ∙ ap (λ c. depends c link.effect) same ∙ f.before k link.effect less (at_later k j link.effect is link.at_effect)))
 
   -- no later event depends on the one at the position, or a first one does
-  pub free_or_needed : IsFree depends history i ⊎ ((later : StepId) × IsFirstDependent history i later)
+  free_or_needed : IsFree depends history i ⊎ ((later : StepId) × IsFirstDependent history i later)
   free_or_needed = ⊎_elim (λ none. inl (free_where none)) (λ f. inr (first_where f)) (first_or_none (depends event) (drop (suc i) history))
+
+-- the same by a position from 1
+pub free_or_needed_at : (history : List Event) (at : ℕ) (event : Event) → nth history at ≡ Some event → from_one.IsFree depends history at ⊎ ((later : StepId) × from_one_names.IsFirstDependent history at later)
+free_or_needed_at history zero event stands = absurd (none-some event stands)
+free_or_needed_at history (suc i) event stands =
+    ⊎_elim (λ free. inl (free_up depends history i free)) (λ needed. inr (needed.0, first_up history i needed.0 needed.1)) (free_or_needed history i event stands)

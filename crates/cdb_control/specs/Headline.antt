@@ -1,6 +1,7 @@
 -- The headline: what holds after any list of commands, of any number of sessions.
-use Rattle.std.specs.Prelude.{◌≡◌, ◌↔◌, ◌⊎◌, ℕ, List, [], ◌∷◌, Some, IsTrue, length, slice_get}
+use Rattle.std.specs.Prelude.{◌≡◌, ◌↔◌, ◌⊎◌, ℕ, List, [], ◌∷◌, Some, IsTrue, length}
 use Rattle.cdb_base.specs.Event.{event_name}
+use Rattle.cdb_base.specs.Positions.{nth}
 use Rattle.cdb_base.specs.declared.event.Event.{Event}
 use Rattle.cdb_base.specs.declared.event.Event.TheVariants.{Lost}
 use Rattle.cdb_base.specs.declared.name.CopyName.{CopyName}
@@ -60,15 +61,15 @@ TellsRedone _ taken = ⊥
 
 -- ---- the claims, of a control state t
 
--- The reply to the undo of the event at position i is Undone exactly where no standing event depends on it, and else NeededBy
+-- The reply to the undo of the event at a position is Undone exactly where no standing event depends on it, and else NeededBy
 -- the first later event that does. No event depends on a loss. After it the history is the one before without the event.
-pub record IsUndoneWhereFree (rules : Rules) (t : State) (seat i : ℕ) (event : Event) : Type 0 where
-  pub exactly : (undo_reply rules t seat event ≡ Undone event) ↔ IsFree depends t.history i
+pub record IsUndoneWhereFree (rules : Rules) (t : State) (seat at : ℕ) (event : Event) : Type 0 where
+  pub exactly : (undo_reply rules t seat event ≡ Undone event) ↔ IsFree depends t.history at
   pub needed : (later : StepId)
-      → (undo_reply rules t seat event ≡ Refused (NeededBy later)) ↔ IsFirstDependent t.history i later
-  pub either : IsFree depends t.history i ⊎ ((later : StepId) × IsFirstDependent t.history i later)
-  pub loss : (copy : CopyName) → event ≡ Lost copy → IsFree depends t.history i
-  pub left : IsFree depends t.history i → (control_after_undo rules t seat event).history ≡ without t.history i
+      → (undo_reply rules t seat event ≡ Refused (NeededBy later)) ↔ IsFirstDependent t.history at later
+  pub either : IsFree depends t.history at ⊎ ((later : StepId) × IsFirstDependent t.history at later)
+  pub loss : (copy : CopyName) → event ≡ Lost copy → IsFree depends t.history at
+  pub left : IsFree depends t.history at → (control_after_undo rules t seat event).history ≡ without t.history at
 
 -- After a command that took the event, the reply to its undo is Undone, and it leaves the history, and so the run state, from
 -- before the command.
@@ -88,12 +89,12 @@ RedosLeadBack rules SameState before seat t (event ∷ events) =
     → TellsRedone (reply_of rules now seat Redo) event
     × RedosLeadBack rules SameState before seat (obey rules now seat Redo) events
 
--- The event at position i is removed with exactly its consequences, the reply says how many events that are, and as many
+-- The event at a position is removed with exactly its consequences, the reply says how many events that are, and as many
 -- redos lead back.
-pub record IsRolledBackAndForth (rules : Rules) (SameState : List Event → List Event → Type 0) (t : State) (seat i : ℕ) (event : Event) : Type 0 where
+pub record IsRolledBackAndForth (rules : Rules) (SameState : List Event → List Event → Type 0) (t : State) (seat at : ℕ) (event : Event) : Type 0 where
   pub gone : List Event
   pub told : rollback_reply rules t seat event ≡ RolledBack (length gone)
-  pub exactly : IsParted (IsRolledBack depends t.history i) 0 t.history (control_after_rollback rules t seat event).history gone
+  pub exactly : IsParted (IsRolledBack depends t.history at) 1 t.history (control_after_rollback rules t seat event).history gone
   pub back : RedosLeadBack rules SameState t seat (control_after_rollback rules t seat event) gone
 
 -- ---- the headline
@@ -103,8 +104,8 @@ pub record HoldsAt (rules : Rules) (SameState : List Event → List Event → Ty
   -- each standing event was enabled in its turn: the run state is what the standing events alone reach from the start
   pub reached : IsTrue (rules.valid t.history)
   -- an undo is granted exactly where no standing event depends on its event
-  pub undone_where_free : (seat i : ℕ) (event : Event) → slice_get t.history i ≡ Some event
-      → IsUndoneWhereFree rules t seat i event
+  pub undone_where_free : (seat at : ℕ) (event : Event) → nth t.history at ≡ Some event
+      → IsUndoneWhereFree rules t seat at event
   -- step then undo is the identity, whoever steps and whoever undoes
   pub step_then_undo : (seat other : ℕ) (command : Command) (event : Event) → TellsTaken (reply_of rules t seat command) event
       → IsUndoneNext rules t (obey rules t seat command) event other
@@ -112,8 +113,8 @@ pub record HoldsAt (rules : Rules) (SameState : List Event → List Event → Ty
   pub undo_then_redo : (seat : ℕ) (event : Event) → IsWithin 1 seats seat → undo_reply rules t seat event ≡ Undone event
       → RedosLeadBack rules SameState t seat (control_after_undo rules t seat event) (event ∷ [])
   -- a rollback removes an event with exactly its consequences, and as many redos lead back
-  pub rolled_back : (seat i : ℕ) (event : Event) → IsWithin 1 seats seat → slice_get t.history i ≡ Some event
-      → IsRolledBackAndForth rules SameState t seat i event
+  pub rolled_back : (seat at : ℕ) (event : Event) → IsWithin 1 seats seat → nth t.history at ≡ Some event
+      → IsRolledBackAndForth rules SameState t seat at event
   -- where a quorum is a majority, or in Alpha, no two decisions that are reported differ
   pub agreement : (seat : ℕ) (pairs : List (ℕ × ℕ)) → HasMajorityIfNeeded setup
       → reply_of rules t seat Decisions ≡ reply.Decisions pairs → AllAgree pairs

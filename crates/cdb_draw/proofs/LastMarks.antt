@@ -1,5 +1,5 @@
 -- The mark of an event is that of the last event of the run once it had come to it.
-use Rattle.std.proofs.Common.{◌≡◌, ℕ, Bool, List, ◌++◌, take, Some, slice_get, refl, sym, ap, ◌∙◌}
+use Rattle.std.proofs.Common.{◌≡◌, ℕ, suc, Bool, List, ◌++◌, take, Some, slice_get, refl, sym, ap, ◌∙◌}
 use Rattle.cdb_base.specs.declared.event.Event.{Event}
 use Rattle.cdb_causal.specs.Standing.{IsStanding}
 use Rattle.cdb_control.specs.Commands.{decides}
@@ -14,18 +14,18 @@ use Rattle.cdb_rules.specs.Runs.{with_history}
 use Rattle.cdb_draw.specs.Arrows.{spot_text}
 use Rattle.cdb_draw.specs.EventMarks.{body_text, decided_text, lane_of, mark_at, mark_close, mark_text, open_text, title_text}
 
-pub mark_of_last : (rules : Parts → Rules) (SameState : Parts → List Event → List Event → Type 0) (kept : (setup : Parts) → AreInRange setup → KeepHistories (rules setup) (SameState setup) setup) (run : RunView) (flags : List Bool) (position : ℕ) (event : Event) → IsStanding run.history → slice_get run.history position ≡ Some event
-    → (after : RunView) → after ≡ run_after run position → (full : Bool) → is_flagged flags position ≡ full
-    → mark_text rules after after full position event ≡ mark_at rules run flags position
-mark_of_last rules SameState kept run flags position event standing at after is full marked =
-    ap (λ r. mark_text rules r r full position event) is ∙ ap with_title (sym (whole_of_last rules SameState kept run position event at (with_history run (take position run.history)) refl standing))
-    ∙ ap (λ b. mark_text rules run (run_after run position) b position event) (sym marked) ∙ sym stands
+pub mark_of_last : (rules : Parts → Rules) (SameState : Parts → List Event → List Event → Type 0) (kept : (setup : Parts) → AreInRange setup → KeepHistories (rules setup) (SameState setup) setup) (run : RunView) (flags : List Bool) (i : ℕ) (event : Event) → IsStanding run.history → slice_get run.history i ≡ Some event
+    → (after : RunView) → after ≡ run_after run (suc i) → (full : Bool) → is_flagged flags (suc i) ≡ full
+    → mark_text rules after after full (suc i) event ≡ mark_at rules run flags (suc i)
+mark_of_last rules SameState kept run flags i event standing at after is full marked =
+    ap (λ r. mark_text rules r r full (suc i) event) is ∙ ap with_title (sym (whole_of_last rules SameState kept run i event at (with_history run (take i run.history)) refl standing))
+    ∙ ap (λ b. mark_text rules run (run_after run (suc i)) b (suc i) event) (sym marked) ∙ sym stands
   where
     with_title : List ℕ → List ℕ
     with_title whole =
-        let last = run_after run position in
-        open_text full (spot_text run.setup position (lane_of event)) ++ title_text whole
+        let last = run_after run (suc i) in
+        open_text full (spot_text run.setup (suc i) (lane_of event)) ++ title_text whole
         ++ decided_text (decides (rules last.setup) last.history event) ++ body_text event ++ mark_close
 
-    stands : mark_at rules run flags position ≡ mark_text rules run (run_after run position) (is_flagged flags position) position event
+    stands : mark_at rules run flags (suc i) ≡ mark_text rules run (run_after run (suc i)) (is_flagged flags (suc i)) (suc i) event
     stands = rw at refl

@@ -17,24 +17,24 @@ take_range a (suc i) (suc n) h = ap (λ (xs : List ℕ). a ∷ xs) (take_range (
 
 module _ {W : Type 0} (stream : W → Stream) where
   -- the text of one position more
-  pub put_one : (texts : ℕ → List ℕ) (old now new : W) (held middle left : List ℕ) (i : ℕ) → IsPut stream old held now middle (flat_map texts (range_with_len 0 i)) → IsPut stream now middle new left (texts i)
-      → IsPut stream old held new left (flat_map texts (range_with_len 0 (i + 1)))
+  pub put_one : (texts : ℕ → List ℕ) (old now new : W) (held middle left : List ℕ) (i : ℕ) → IsPut stream old held now middle (flat_map texts (range_with_len 1 i)) → IsPut stream now middle new left (texts (i + 1))
+      → IsPut stream old held new left (flat_map texts (range_with_len 1 (i + 1)))
   put_one texts old now new held middle left i a b =
-      let here : 0 + i ≡ i = omega arith in
-      subst (IsPut stream old held new left) (sym (each_more texts 0 i ∙ ap (λ (k : ℕ). flat_map texts (range_with_len 0 i) ++ texts k) here))
-      (put_more stream old now new held middle left (flat_map texts (range_with_len 0 i)) (texts i) a b)
+      let here : 1 + i ≡ i + 1 = omega arith in
+      subst (IsPut stream old held new left) (sym (each_more texts 1 i ∙ ap (λ (k : ℕ). flat_map texts (range_with_len 1 i) ++ texts k) here))
+      (put_more stream old now new held middle left (flat_map texts (range_with_len 1 i)) (texts (i + 1)) a b)
 
   -- the text of one position is cut short
-  pub cut_one : (A : Type 0) (why : OutputFault) (texts : ℕ → List ℕ) (old now new : W) (held middle left : List ℕ) (n i : ℕ) → i < n → IsPut stream old held now middle (flat_map texts (range_with_len 0 i)) → Puts stream {A = A} (Err why) now middle new left (texts i)
-      → Puts stream {A = A} (Err why) old held new left (flat_map texts (range_with_len 0 n))
+  pub cut_one : (A : Type 0) (why : OutputFault) (texts : ℕ → List ℕ) (old now new : W) (held middle left : List ℕ) (n i : ℕ) → i < n → IsPut stream old held now middle (flat_map texts (range_with_len 1 i)) → Puts stream {A = A} (Err why) now middle new left (texts (i + 1))
+      → Puts stream {A = A} (Err why) old held new left (flat_map texts (range_with_len 1 n))
   cut_one A why texts old now new held middle left n i below a b =
-      let xs = range_with_len 0 n in
-      let here : 0 + i ≡ i = omega arith in
-      let within : i < length xs = subst (λ (m : ℕ). i < m) (sym (length-range_with_len 0 n)) below in
+      let xs = range_with_len 1 n in
+      let here : 1 + i ≡ i + 1 = omega arith in
+      let within : i < length xs = subst (λ (m : ℕ). i < m) (sym (length-range_with_len 1 n)) below in
       let most : i ≤ n = omega (arith, below) in
       cut_at_item stream A why texts old now new held middle left xs i 0 within
-      (subst (λ (ys : List ℕ). IsPut stream old held now middle (flat_map texts ys)) (sym (take_range 0 i n most)) a)
-      (subst (λ (k : ℕ). Puts stream {A = A} (Err why) now middle new left (texts k)) (sym (get_or-range_with_len 0 n i 0 below ∙ here)) b)
+      (subst (λ (ys : List ℕ). IsPut stream old held now middle (flat_map texts ys)) (sym (take_range 1 i n most)) a)
+      (subst (λ (k : ℕ). Puts stream {A = A} (Err why) now middle new left (texts k)) (sym (get_or-range_with_len 1 n i 0 below ∙ here)) b)
 
   -- what is cut short in a text is cut short before the next one
   pub cut_before : (A : Type 0) (why : OutputFault) (old new : W) (held left first second : List ℕ) → Puts stream {A = A} (Err why) old held new left first → Puts stream {A = A} (Err why) old held new left (first ++ second)

@@ -1,9 +1,10 @@
 -- The table of sends, when the history grows.
-use Rattle.std.proofs.Common.{◌≡◌, ℕ, suc, ◌+◌, ◌^◌, ◌<◌, Bool, true, false, ◌&&◌, List, [], ◌∷◌, ◌++◌, length, Option, Some, None, Result, Ok, Err, OnOk, cond, nat_eq, refl, sym, ap, ◌∙◌, arith}
+use Rattle.std.proofs.Common.{◌≡◌, ℕ, suc, ◌+◌, ◌^◌, ◌<◌, ◌≤◌, Bool, true, false, ◌&&◌, List, [], ◌∷◌, ◌++◌, length, Option, Some, None, Result, Ok, Err, OnOk, cond, nat_eq, nat_lt, option_map, refl, sym, ap, subst, ◌∙◌, arith}
 use Rattle.std.specs.HashMap.{HashMap, get}
-use Rattle.std.specs.List.{position_from}
+use Rattle.std.specs.List.{position_from, position_or_len}
 use Rattle.std.specs.Prelude.{position}
 use Rattle.std.proofs.lemmas.Bool.Decides.{nat_tests}
+use Rattle.std.proofs.lemmas.Option.{none-some, same_Some}
 use Rattle.std.proofs.lemmas.Iterator.Adapters.{position_from-zero}
 use Rattle.cdb_base.specs.declared.event.Event.{Event}
 use Rattle.cdb_base.specs.declared.event.Event.TheVariants.{Step, Lost}
@@ -31,6 +32,27 @@ position_push p xs y =
     let e : 0 + length xs ≡ length xs = omega arith in
     position_from-zero p (xs ++ y ∷ []) ∙ from_push p 0 xs y ∙ ap (λ (n : ℕ). kept_or_noted (position_from p 0 xs) (p y) n) e
     ∙ ap (λ o. kept_or_noted o (p y) (length xs)) (sym (position_from-zero p xs))
+
+-- counted from 1
+kept_next : (o : Option ℕ) (b : Bool) (n : ℕ) → kept_or_noted (option_map suc o) b (suc n) ≡ option_map suc (kept_or_noted o b n)
+kept_next (Some x) b n = refl
+kept_next None true n = refl
+kept_next None false n = refl
+
+sent_push : (name : MsgName) (before : List Event) (event : Event) → sent_at (before ++ event ∷ []) name ≡ kept_or_noted (sent_at before name) (is_send_of name event) (suc (length before))
+sent_push name before event =
+    ap (option_map suc) (position_push (is_send_of name) before event) ∙ sym (kept_next (position (is_send_of name) before) (is_send_of name event) (length before))
+
+-- a position that is found is one of the list
+pub found_within : {X : Type 0} (test : X → Bool) (xs : List X) (n : ℕ) → option_map suc (position test xs) ≡ Some n → n ≤ length xs
+found_within test xs n = go (nat_lt (position_or_len test xs) (length xs)) refl
+  where
+    is_below : (k n : ℕ) → nat_lt k n ≡ true → suc k ≤ n
+    is_below k n h = grind (arith, nat_tests, h)
+
+    go : (b : Bool) → nat_lt (position_or_len test xs) (length xs) ≡ b → option_map suc (cond b (Some (position_or_len test xs)) None) ≡ Some n → n ≤ length xs
+    go true less h = subst (λ m. m ≤ length xs) (same_Some (suc (position_or_len test xs)) n h) (is_below (position_or_len test xs) (length xs) less)
+    go false less h = absurd (none-some n h)
 
 kept_false : (o : Option ℕ) (n : ℕ) → kept_or_noted o false n ≡ o
 kept_false (Some x) n = refl
@@ -61,7 +83,7 @@ is_send name (Lost copy) = refl
 
 pub with_send : {A E S : Type 0} (result : Result A E) (old new : HashMap ℕ ℕ S) (event : Event) (name : MsgName) (code position : ℕ) → message_of event ≡ Some name → code ≡ message_code name.s name.m → name.m < 2 ^ 16
     → OnOk result ((q : ℕ) → get nat_eq new q ≡ kept_or_noted (get nat_eq old q) (nat_eq code q) position)
-    → OnOk result ((before : List Event) → length before ≡ position → AreSendsOf old before → AreSendsOf new (before ++ event ∷ []))
+    → OnOk result ((before : List Event) → suc (length before) ≡ position → AreSendsOf old before → AreSendsOf new (before ++ event ∷ []))
 unfolding sends_named
 with_send (Ok done) old new event name code position is coded small noted = λ before count so s m below.
     let other = message_name s m in
@@ -69,13 +91,13 @@ with_send (Ok done) old new event name code position is coded small noted = λ b
     let test = is_send_of other event in
     noted (message_code s m) ∙ ap (λ o. kept_or_noted o (nat_eq code (message_code s m)) position) (so s m below)
     ∙ ap (λ (b : Bool). kept_or_noted held b position) (ap (λ (n : ℕ). nat_eq n (message_code s m)) coded ∙ same_code name.s name.m s m small below ∙ sym (is_send other event ∙ ap (λ o. sends_named o other) is))
-    ∙ ap (λ (n : ℕ). kept_or_noted held test n) (sym count) ∙ sym (position_push (is_send_of other) before event)
+    ∙ ap (λ (n : ℕ). kept_or_noted held test n) (sym count) ∙ sym (sent_push other before event)
 with_send (Err why) old new event name code position is coded small noted = tt
 
 pub without_send : {S : Type 0} (table : HashMap ℕ ℕ S) (event : Event) (before : List Event) → message_of event ≡ None → AreSendsOf table before → AreSendsOf table (before ++ event ∷ [])
 unfolding sends_named
 without_send table event before is so = λ s m below.
     let other = message_name s m in
-    so s m below ∙ sym (kept_false (sent_at before other) (length before))
-    ∙ ap (λ (b : Bool). kept_or_noted (sent_at before other) b (length before)) (sym (is_send other event ∙ ap (λ o. sends_named o other) is))
-    ∙ sym (position_push (is_send_of other) before event)
+    so s m below ∙ sym (kept_false (sent_at before other) (suc (length before)))
+    ∙ ap (λ (b : Bool). kept_or_noted (sent_at before other) b (suc (length before))) (sym (is_send other event ∙ ap (λ o. sends_named o other) is))
+    ∙ sym (sent_push other before event)

@@ -1,6 +1,7 @@
 -- The arrows of a picture.
-use Rattle.std.specs.Prelude.{ℕ, ◌+◌, Bool, List, [], ◌++◌, codes, decimal, nat_eq, Option, None, Some, slice_get, if◌then◌else◌}
+use Rattle.std.specs.Prelude.{ℕ, ◌+◌, Bool, List, [], ◌++◌, codes, decimal, nat_eq, Option, None, Some, if◌then◌else◌}
 use Rattle.std.specs.Option.{option_map_or}
+use Rattle.cdb_base.specs.Positions.{nth}
 use Rattle.cdb_base.specs.declared.event.Event.{Event}
 use Rattle.cdb_base.specs.declared.event.Event.TheVariants.{Step, Lost}
 use Rattle.cdb_base.specs.declared.event.Kind.{Kind}
@@ -91,4 +92,4 @@ event_arrow run full position (Lost copy) = arrow_from_send run (codes "lost") f
 
 abbrev pub arrow_at : RunView → List Bool → ℕ → List ℕ
 arrow_at run flags position =
-    option_map_or (event_arrow run (is_flagged flags position) position) (slice_get run.history position) []
+    option_map_or (event_arrow run (is_flagged flags position) position) (nth run.history position) []

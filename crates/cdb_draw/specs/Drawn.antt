@@ -15,7 +15,7 @@ use Rattle.cdb_setup.specs.Parts.{Parts}
 use Rattle.cdb_draw.specs.Picture.{IsPicture}
 use Rattle.cdb_draw.specs.declared.script.StepAsked.{StepAsked}
 
--- the position, from 0, of the step that is asked for; none where none is
+-- the position of the step that is asked for; none where none is
 abbrev pub IsPositionFor : List Event → Option StepAsked → Option ℕ → Type 0
 IsPositionFor history None None = Unit {0}
 IsPositionFor history (Some step) (Some position) = IsStepAsked history step.p step.k position

@@ -1,6 +1,7 @@
 -- The marks of a picture: one for each event, on the lane of its process, with its name and its whole text.
-use Rattle.std.specs.Prelude.{ℕ, Bool, List, [], ◌++◌, codes, decimal, Option, None, Some, slice_get}
+use Rattle.std.specs.Prelude.{ℕ, Bool, List, [], ◌++◌, codes, decimal, Option, None, Some}
 use Rattle.std.specs.Option.{option_map_or}
+use Rattle.cdb_base.specs.Positions.{nth}
 use Rattle.cdb_base.specs.declared.event.Event.{Event}
 use Rattle.cdb_base.specs.declared.event.Event.TheVariants.{Step, Lost}
 use Rattle.cdb_base.specs.declared.event.Kind.{Kind}
@@ -97,4 +98,4 @@ mark_text rules run after full position event =
 
 abbrev pub mark_at : (Parts → Rules) → RunView → List Bool → ℕ → List ℕ
 mark_at rules run flags position =
-    option_map_or (mark_text rules run (run_after run position) (is_flagged flags position) position) (slice_get run.history position) []
+    option_map_or (mark_text rules run (run_after run position) (is_flagged flags position) position) (nth run.history position) []

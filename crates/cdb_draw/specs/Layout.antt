@@ -6,9 +6,9 @@ use Rattle.cdb_setup.specs.Parts.{Parts}
 use Rattle.cdb_setup.specs.declared.setup.Algorithm.{Algorithm}
 use Rattle.cdb_setup.specs.declared.setup.Algorithm.TheVariants.{Leader, Alpha}
 
--- an event by its position in the history, from 0: each stands 6 mm after the one before it
+-- an event by its position in the history: each stands 6 mm after the one before it
 abbrev pub x_of : ℕ → ℕ
-x_of position = 84 + 24 * position
+x_of position = 60 + 24 * position
 
 -- how far the lanes of two processes are apart: arrows between them take more room than those to registers
 abbrev pub lane_gap : Algorithm → ℕ

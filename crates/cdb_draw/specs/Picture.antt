@@ -51,7 +51,7 @@ head_text run =
 
 -- the positions of a history
 abbrev pub positions : List Event → List ℕ
-positions history = range_with_len 0 (length history)
+positions history = range_with_len 1 (length history)
 
 unfoldable pub foot : List ℕ
 foot = codes "</svg>\n"

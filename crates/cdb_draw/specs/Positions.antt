@@ -1,5 +1,5 @@
--- The positions of a history, from 0, that lanes and arrows ask for.
-use Rattle.std.specs.Prelude.{ℕ, Bool, false, List, Option, nat_eq, position}
+-- The positions of a history that lanes and arrows ask for.
+use Rattle.std.specs.Prelude.{ℕ, suc, Bool, false, List, Option, option_map, nat_eq, position}
 use Rattle.cdb_base.specs.declared.event.Event.{Event}
 use Rattle.cdb_base.specs.declared.event.Event.TheVariants.{Step, Lost}
 use Rattle.cdb_base.specs.declared.event.Kind.TheVariants.{Crash}
@@ -13,7 +13,7 @@ is_send_of name (Lost copy) = false
 
 -- where the message was sent
 abbrev pub sent_at : List Event → MsgName → Option ℕ
-sent_at history name = position (is_send_of name) history
+sent_at history name = option_map suc (position (is_send_of name) history)
 
 -- the event is a crash of process p
 abbrev pub is_crash_of : ℕ → Event → Bool
@@ -22,4 +22,4 @@ is_crash_of p _ = false
 
 -- where process p crashed
 abbrev pub crashed_at : List Event → ℕ → Option ℕ
-crashed_at history p = position (is_crash_of p) history
+crashed_at history p = option_map suc (position (is_crash_of p) history)

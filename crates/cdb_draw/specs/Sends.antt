@@ -1,6 +1,6 @@
 -- What the code keeps for itself: a table of the positions at which messages were sent.
 use Rattle.std.specs.HashMap.{HashMap, get}
-use Rattle.std.specs.Prelude.{◌≡◌, ℕ, ◌+◌, ◌*◌, ◌^◌, ◌<◌, Bool, List, [], ◌∷◌, ◌++◌, length, Option, None, Some, nat_eq, if◌then◌else◌}
+use Rattle.std.specs.Prelude.{◌≡◌, ℕ, suc, ◌+◌, ◌*◌, ◌^◌, ◌<◌, Bool, List, [], ◌∷◌, ◌++◌, length, Option, None, Some, nat_eq, if◌then◌else◌}
 use Rattle.cdb_base.specs.declared.event.Event.{Event}
 use Rattle.cdb_base.specs.declared.event.Event.TheVariants.{Step}
 use Rattle.cdb_base.specs.declared.event.Kind.TheVariants.{Send}
@@ -30,4 +30,4 @@ AreSendsOf sends history =
 -- the table got that of the next event, at this position
 abbrev pub HasNoted : {S : Type 0} → HashMap ℕ ℕ S → HashMap ℕ ℕ S → ℕ → Event → Type 0
 HasNoted old new position event =
-    (before : List Event) → length before ≡ position → AreSendsOf old before → AreSendsOf new (before ++ event ∷ [])
+    (before : List Event) → suc (length before) ≡ position → AreSendsOf old before → AreSendsOf new (before ++ event ∷ [])

@@ -36,7 +36,7 @@ fn push_point(text: &mut String, x: usize, y: usize) -> Result<(), AllocError>
     push_number(text, y)
 }
 
-/// Adds the point of an event at a position, from 0, on the lane of a process.
+/// Adds the point of an event at a position, from 1, on the lane of a process.
 pub(crate) fn push_spot(
     text: &mut String,
     setup: &Setup,
@@ -271,7 +271,7 @@ fn push_step_arrow(
     }
 }
 
-/// Adds the arrow of the event at a position, from 0, where it has one. Only out of memory is an error.
+/// Adds the arrow of the event at a position, from 1, where it has one. Only out of memory is an error.
 pub(crate) fn push_arrow(
     text: &mut String,
     run: &Chronicle,

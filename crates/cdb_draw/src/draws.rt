@@ -1,6 +1,6 @@
 //! The picture of a run, or of what led to one of its events.
 
-ghost use Rattle.std.specs.Prelude.{◌≡◌, ◌<◌, ◌≤◌, length, IfOk, IfSome};
+ghost use Rattle.std.specs.Prelude.{◌≡◌, ◌≤◌, length, IfOk, IfSome};
 ghost use Rattle.cdb_draw.specs.Picture.{AreInFull, IsPicture};
 ghost use Rattle.cdb_rules.specs.ByRules.{IsInOrder};
 ghost use Rattle.cdb_play.specs.Endings.{pieces_ending};
@@ -16,7 +16,7 @@ use std::alloc::Global;
 
 /// Marks what is drawn in full: everything, or what led to the event at a position.
 fn flags_of(alloc: Global, run: &Chronicle, position: Option<usize>) -> Result<Vec<bool>, NoMemory>
-    requires { IfSome position (λ position. position < length run.now.history) }
+    requires { IfSome position (λ at. (1 ≤ at) × (at ≤ length run.now.history)) }
     ensures full { IfOk result (λ flags. AreInFull position run.now.history flags.items) }
     ensures each { IfOk result (λ flags. length flags.items ≡ length run.now.history) }
 {
@@ -26,7 +26,7 @@ fn flags_of(alloc: Global, run: &Chronicle, position: Option<usize>) -> Result<V
     }
 }
 
-/// Writes the picture of a run of at most 999,999 events. With a position of its history, from 0, what led to the
+/// Writes the picture of a run of at most 999,999 events. With a position of its history, from 1, what led to the
 /// event there is drawn in full and the rest pale; without one everything is in full.
 ///
 /// After `Write` what was written is a beginning of the picture, and after `NoMemory` nothing, or one of whole
@@ -39,7 +39,7 @@ pub fn draw_run<T: Runs, W: Sink>(
 ) -> Result<(), OutputFault>
     requires valid { IsInOrder T.rules run.now }
     requires few { length run.now.history ≤ MAX_ENTRIES }
-    requires stands { IfSome position (λ position. position < length run.now.history) }
+    requires stands { IfSome position (λ at. (1 ≤ at) × (at ≤ length run.now.history)) }
     ensures { IsWritten W.stream (pieces_ending result) out.old out.new
         (IsPicture T.rules run.now position) }
 {

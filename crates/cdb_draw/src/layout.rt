@@ -7,12 +7,12 @@ use cdb_base::limits::MAX_ENTRIES;
 use cdb_base::{Proc, Reg};
 use cdb_setup::{Algorithm, Setup};
 
-/// The event at a position of the history, from 0.
+/// The event at a position of the history, from 1.
 pub(crate) fn x_of(position: usize) -> usize
     requires { position ≤ MAX_ENTRIES }
     ensures { result ≡ x_of position }
 {
-    84 + 24 * position
+    60 + 24 * position
 }
 
 /// Where a lane ends that no crash ends.

@@ -216,7 +216,7 @@ fn lane_of(event: &Event) -> Proc
     }
 }
 
-/// Begins the mark of an event at a position, from 0.
+/// Begins the mark of an event at a position, from 1.
 fn push_open(
     text: &mut String,
     setup: &Setup,
@@ -257,7 +257,7 @@ fn push_title<T: Runs>(
     push(text, "</title>")
 }
 
-/// Adds the mark of the last event of a run, which stands at a position, from 0. Only out of memory is an error.
+/// Adds the mark of the last event of a run, which stands at a position, from 1. Only out of memory is an error.
 pub(crate) fn push_mark<T: Runs>(
     alloc: Global,
     text: &mut String,

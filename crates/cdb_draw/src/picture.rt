@@ -1,6 +1,6 @@
 //! The picture of a run, written in pieces: lanes, the arrows of all events, and then their marks.
 
-ghost use Rattle.std.specs.Prelude.{◌≡◌, ◌<◌, ◌≤◌, ◌++◌, length, string_bytes, IfOk};
+ghost use Rattle.std.specs.Prelude.{◌≡◌, ◌≤◌, ◌++◌, length, string_bytes, IfOk};
 ghost use Rattle.cdb_draw.specs.Layout.{most_width};
 ghost use Rattle.cdb_draw.specs.Arrows.{arrow_at};
 ghost use Rattle.cdb_draw.specs.EventMarks.{mark_at};
@@ -144,7 +144,7 @@ fn front_of(alloc: Global, run: &Chronicle) -> Result<String, AllocError>
     Ok(text)
 }
 
-/// The text of the arrow of the event at a position, from 0.
+/// The text of the arrow of the event at a position, from 1.
 fn arrow_of(
     alloc: Global,
     run: &Chronicle,
@@ -154,18 +154,20 @@ fn arrow_of(
 ) -> Result<String, AllocError>
     requires few { length run.now.history ≤ MAX_ENTRIES }
     requires a_flag_each { length flags.now ≡ length run.now.history }
-    requires within { position < length run.now.history }
+    requires from_one { 1 ≤ position }
+    requires to_len { position ≤ length run.now.history }
     requires sends { AreSendsOf sends.now run.now.history }
     ensures { IfOk result (λ text. string_bytes text ≡ arrow_at run.now flags.now position) }
 {
     let mut text = String::new(alloc);
     let history = run.history();
-    let event = history.event(position);
-    push_arrow(&mut text, run, sends, flags[position], position, event)?;
+    let event = history.event(position - 1);
+    let full = flags[position - 1];
+    push_arrow(&mut text, run, sends, full, position, event)?;
     Ok(text)
 }
 
-/// The text of the mark of the event at a position, from 0, where `after` is the run once it had come to that event.
+/// The text of the mark of the event at a position, from 1, where `after` is the run once it had come to that event.
 fn mark_of<T: Runs>(
     alloc: Global,
     run: &Chronicle,
@@ -175,15 +177,17 @@ fn mark_of<T: Runs>(
 ) -> Result<String, AllocError>
     requires few { length run.now.history ≤ MAX_ENTRIES }
     requires a_flag_each { length flags.now ≡ length run.now.history }
-    requires within { position < length run.now.history }
+    requires from_one { 1 ≤ position }
+    requires to_len { position ≤ length run.now.history }
     requires after { T.run after.now ≡ run_after run.now position }
     ensures { IfOk result (λ text. string_bytes text ≡ mark_at T.rules run.now flags.now position) }
 {
     let mut text = String::new(alloc);
     let history = run.history();
     let _standing = history.len();
-    let event = history.event(position);
-    push_mark(alloc, &mut text, after, flags[position], position, event)?;
+    let event = history.event(position - 1);
+    let full = flags[position - 1];
+    push_mark(alloc, &mut text, after, full, position, event)?;
     Ok(text)
 }
 
@@ -196,7 +200,7 @@ fn put_text<W: Sink>(text: &String, buffer: &mut Buffer, out: &mut W) -> Result<
     Ok(())
 }
 
-/// Puts the arrow of the event at a position, from 0.
+/// Puts the arrow of the event at a position, from 1.
 fn put_arrow<W: Sink>(
     alloc: Global,
     run: &Chronicle,
@@ -208,7 +212,8 @@ fn put_arrow<W: Sink>(
 ) -> Result<(), OutputFault>
     requires few { length run.now.history ≤ MAX_ENTRIES }
     requires a_flag_each { length flags.now ≡ length run.now.history }
-    requires within { position < length run.now.history }
+    requires from_one { 1 ≤ position }
+    requires to_len { position ≤ length run.now.history }
     requires sends { AreSendsOf sends.now run.now.history }
     ensures { Puts W.stream result out.old buffer.old out.new buffer.new
         (arrow_at run.now flags.now position) }
@@ -232,13 +237,13 @@ fn put_arrows<W: Sink>(
 {
     let history = run.history();
     let sends = sends_of(alloc, history)?;
-    for position in 0..history.len() {
-        put_arrow(alloc, run, &sends, flags, position, buffer, out)?;
+    for i in 0..history.len() {
+        put_arrow(alloc, run, &sends, flags, i + 1, buffer, out)?;
     }
     Ok(())
 }
 
-/// Puts the mark of the event at a position, from 0, where `after` is the run once it had come to that event.
+/// Puts the mark of the event at a position, from 1, where `after` is the run once it had come to that event.
 fn put_mark<T: Runs, W: Sink>(
     alloc: Global,
     run: &Chronicle,
@@ -250,7 +255,8 @@ fn put_mark<T: Runs, W: Sink>(
 ) -> Result<(), OutputFault>
     requires few { length run.now.history ≤ MAX_ENTRIES }
     requires a_flag_each { length flags.now ≡ length run.now.history }
-    requires within { position < length run.now.history }
+    requires from_one { 1 ≤ position }
+    requires to_len { position ≤ length run.now.history }
     requires after { T.run after.now ≡ run_after run.now position }
     ensures { Puts W.stream result out.old buffer.old out.new buffer.new
         (mark_at T.rules run.now flags.now position) }
@@ -278,10 +284,10 @@ fn put_marks<T: Runs, W: Sink>(
     // Its clause says that the parts of the setup are in range.
     let _ranges = run.setup().n();
     let history = run.history();
-    for position in 0..history.len() {
-        let event = history.event(position);
+    for i in 0..history.len() {
+        let event = history.event(i);
         take_next(alloc, &mut again, event)?;
-        put_mark(alloc, run, &again, flags, position, buffer, out)?;
+        put_mark(alloc, run, &again, flags, i + 1, buffer, out)?;
     }
     Ok(())
 }

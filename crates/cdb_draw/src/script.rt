@@ -25,10 +25,10 @@ pub struct StepAsked {
     pub k: Option<u32>,
 }
 
-/// The position, from 0, of the step that is asked for, if one is. `NoStep` where none such stands.
+/// The position, from 1, of the step that is asked for, if one is. `NoStep` where none such stands.
 fn position_for(history: &History, step: Option<StepAsked>) -> Result<Option<usize>, ExplainFault>
     ensures position { IfOk result (IsPositionFor history.now step) }
-    ensures within { IfOk result (λ position. IfSome position (λ i. i < length history.now)) }
+    ensures within { IfOk result (λ position. IfSome position (λ at. (1 ≤ at) × (at ≤ length history.now))) }
     ensures missing { IfErr result (λ fault. (fault ≡ no_step) × IsMissing history.now step) }
 {
     let Some(step) = step else {

@@ -62,12 +62,12 @@ pub(crate) fn sends_of(alloc: Global, history: &History) -> Result<Sends, NoMemo
     let mut sends = HashMap::new(alloc);
     for i in 0..history.len() {
         let event = history.event(i);
-        note_event(&mut sends, event, i)?;
+        note_event(&mut sends, event, i + 1)?;
     }
     Ok(sends)
 }
 
-/// The position at which a message was sent, from 0.
+/// The position at which a message was sent, from 1.
 pub(crate) fn position_of_send(sends: &Sends, name: MsgName) -> Option<usize>
     ensures { (history : List EventName) → AreSendsOf sends.now history →
         result ≡ sent_at history name }
@@ -89,14 +89,14 @@ fn is_crash_of(event: &Event, p: Proc) -> bool
     }
 }
 
-/// The position at which a process crashed, from 0.
+/// The position at which a process crashed, from 1.
 pub(crate) fn crashed_at(history: &History, p: Proc) -> Option<usize>
     ensures { result ≡ crashed_at history.now p }
 {
     for i in 0..history.len() {
         let event = history.event(i);
         if is_crash_of(event, p) {
-            return Some(i);
+            return Some(i + 1);
         }
     }
     None

@@ -1,5 +1,5 @@
 -- A run that is played again along its history.
-use Rattle.std.proofs.Common.{◌≡◌, ℕ, suc, ◌+◌, List, [], ◌∷◌, ◌++◌, take, drop, Some, slice_get, IsTrue, codes, refl, sym, ap, ◌∙◌, subst, arith}
+use Rattle.std.proofs.Common.{◌≡◌, ℕ, suc, ◌+◌, List, [], ◌∷◌, ◌++◌, take, drop, Some, slice_get, IsTrue, codes, refl, sym, ap, ◌∙◌, subst, add-one, arith}
 use Rattle.std.proofs.lemmas.List.{take-append-drop}
 use Rattle.cdb_base.specs.Event.{event_name}
 use Rattle.cdb_base.specs.declared.event.Event.{Event}
@@ -20,7 +20,7 @@ use Rattle.cdb_explain.specs.Explanations.{because_text, detail_text, line_at, l
 parted : {A : Type 0} (xs : List A) (i : ℕ) (x : A) → slice_get xs i ≡ Some x → (take i xs ++ x ∷ []) ++ drop (i + 1) xs ≡ xs
 parted xs i x at = ap (λ front. front ++ drop (i + 1) xs) (one_more xs i x at) ∙ take-append-drop (i + 1) xs
 
--- so far, where the event at position i comes next
+-- so far, where the event at position i, from 0, comes next
 module _ (rules : Parts → Rules) (SameState : Parts → List Event → List Event → Type 0) (kept : (setup : Parts) → AreInRange setup → KeepHistories (rules setup) (SameState setup) setup) (run : RunView) (i : ℕ) (event : Event) (at : slice_get run.history i ≡ Some event) (again : RunView) (along : again ≡ with_history run (take i run.history)) where
   pub next_valid : AreInRange run.setup → IsTrue ((rules run.setup).valid run.history) → IsTrue ((rules again.setup).valid (again.history ++ event ∷ []))
   next_valid range valid =
@@ -32,16 +32,18 @@ module _ (rules : Parts → Rules) (SameState : Parts → List Event → List Ev
   next_along later is = is ∙ ap (λ r. with_event r event) along ∙ ap (with_history run) (one_more run.history i event at)
 
   -- its whole text is that of the last event of the run once it had come to it
-  pub whole_of_last : IsStanding run.history → whole_text rules run (run_after run i) event ≡ whole_text rules (run_after run i) (run_after run i) event
+  pub whole_of_last : IsStanding run.history → whole_text rules run (run_after run (suc i)) event ≡ whole_text rules (run_after run (suc i)) (run_after run (suc i)) event
   whole_of_last standing =
-      let after = run_after run i in
-      let next : suc i ≡ i + 1 = omega arith in
-      let same = ap (λ (n : ℕ). causes_of run.setup.processes (take n run.history) (event_name event)) (sym next) ∙ same_causes run.setup.processes run.history standing i event at in
+      let after = run_after run (suc i) in
+      let same = same_causes run.setup.processes run.history standing i event at in
       ap (λ causes. event_text event ++ detail_text rules after event ++ decides_text (decides (rules after.setup) after.history event) ++ because_text causes) (sym same)
 
-  pub its_line : IsStanding run.history → (later : RunView) → later ≡ with_event again event → line_at rules run i ≡ line_text rules later later event
+  pub next_is_after : (later : RunView) → later ≡ with_event again event → later ≡ run_after run (suc i)
+  next_is_after later is = next_along later is ∙ ap (λ (n : ℕ). with_history run (take n run.history)) (add-one i)
+
+  pub its_line : IsStanding run.history → (later : RunView) → later ≡ with_event again event → line_at rules run (suc i) ≡ line_text rules later later event
   its_line standing later is =
-      line_there ∙ ap (λ (t : List ℕ). t ++ codes "\n") (whole_of_last standing) ∙ ap (λ r. line_text rules r r event) (sym (next_along later is))
+      line_there ∙ ap (λ (t : List ℕ). t ++ codes "\n") (whole_of_last standing) ∙ ap (λ r. line_text rules r r event) (sym (next_is_after later is))
     where
-      line_there : line_at rules run i ≡ line_text rules run (run_after run i) event
+      line_there : line_at rules run (suc i) ≡ line_text rules run (run_after run (suc i)) event
       line_there = rw at refl

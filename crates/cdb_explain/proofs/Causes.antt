@@ -1,40 +1,39 @@
 -- The direct causes of an event are the same in the run once it had come to that event.
-use Rattle.std.proofs.Common.{◌≡◌, ℕ, zero, suc, ◌-◌, true, false, List, [], ◌∷◌, Some, Ok, Err, map, filter, take, slice_get, if◌then◌else◌, refl, sym, ap, ◌∙◌, subst, arith}
+use Rattle.std.proofs.Common.{◌≡◌, ℕ, zero, suc, true, false, List, [], ◌∷◌, Some, Ok, Err, map, filter, take, slice_get, if◌then◌else◌, refl, sym, ap, ◌∙◌, subst, arith}
 use Rattle.std.specs.List.{flat_map}
 use Rattle.cdb_base.specs.Event.{event_name, is_step_of}
+use Rattle.std.proofs.lemmas.Option.{none-some}
+use Rattle.cdb_base.specs.Positions.{nth}
 use Rattle.cdb_base.specs.Processes.{all_processes}
 use Rattle.cdb_base.specs.declared.event.Event.{Event}
 use Rattle.cdb_base.specs.declared.name.StepId.{StepId}
 use Rattle.cdb_base.specs.declared.refusal.Refusal.TheVariants as refusal
 use Rattle.cdb_causal.specs.Names.{IsNamedAt}
+use Rattle.cdb_causal.specs.Rollback.{events_before}
 use Rattle.cdb_causal.specs.Standing.{IsStanding}
 use Rattle.cdb_past.proofs.Pairing.{taken}
 use Rattle.cdb_rules.specs.Undo.{causes_of, direct_among, for_standing, found_at, names_processes}
 use Rattle.cdb_rules.proofs.Results.{found_is}
-use Rattle.cdb_rules.proofs.Finding.{no_process_named, stands_named}
+use Rattle.cdb_rules.proofs.Finding.{no_process_named, stands_from_one, stands_named}
 use Rattle.cdb_rules.proofs.ListMembers.{get-take}
 
 -- the names of the direct causes of an event, before which these stand
 abbrev names_of : List Event → Event → List StepId
 names_of earlier event = map event_name (flat_map (λ p. filter (is_step_of p) (direct_among earlier event)) all_processes)
 
-module _ (n : ℕ) (history : List Event) (i : ℕ) (event : Event) (at : slice_get history i ≡ Some event) (only : (k : ℕ) → IsNamedAt history k (event_name event) → k ≡ i) where
-  -- of the event at position i, by what stands before it
-  causes_at : causes_of n history (event_name event) ≡ (if names_processes n (event_name event) then Ok (names_of (take i history) event) else Err refusal.NoProcess)
+module _ (n : ℕ) (history : List Event) (at : ℕ) (event : Event) (stands : nth history at ≡ Some event) (only : (other : ℕ) → IsNamedAt history other (event_name event) → other ≡ at) where
+  -- of the event at a position, by what stands before it
+  causes_at : causes_of n history (event_name event) ≡ (if names_processes n (event_name event) then Ok (names_of (events_before history at) event) else Err refusal.NoProcess)
   causes_at =
-      elim (names_processes n name) as (λ b. names_processes n name ≡ b → causes_of n history name ≡ (if b then Ok (names_of (take i history) event) else Err refusal.NoProcess)) [
+      elim (names_processes n name) as (λ b. names_processes n name ≡ b → causes_of n history name ≡ (if b then Ok (names_of (events_before history at) event) else Err refusal.NoProcess)) [
         | true ↦ λ there.
             ap (λ f. for_standing f (λ found. Ok (names_of found.earlier found.event)))
-            (stands_named history name n (suc i) there (record { from_one = omega arith; named = subst (λ k. IsNamedAt history k name) before (event, at, refl); only = λ k is. only k is ∙ before })
-            ∙ sym (ap (found_at history) before) ∙ found_is history i event at)
+            (stands_named history name n at there (record { from_one = stands_from_one history at event stands; named = (event, stands, refl); only = only }) ∙ found_is history at event stands)
         | false ↦ λ absent. ap (λ f. for_standing f (λ found. Ok (names_of found.earlier found.event))) (no_process_named history name n absent)
       ] refl
     where
       name : StepId
       name = event_name event
-
-      before : i ≡ suc i - 1
-      before = omega arith
 
 first_of_first : {A : Type 0} (xs : List A) (i : ℕ) → take i (take (suc i) xs) ≡ take i xs
 first_of_first xs zero = refl
@@ -45,12 +44,13 @@ first_of_first (x ∷ xs) (suc i) = ap (λ l. x ∷ l) (first_of_first xs i)
 pub same_causes : (n : ℕ) (history : List Event) → IsStanding history → (i : ℕ) (event : Event) → slice_get history i ≡ Some event
     → causes_of n (take (suc i) history) (event_name event) ≡ causes_of n history (event_name event)
 same_causes n history standing i event at =
-    causes_at n (take (suc i) history) i event (get-take history (suc i) i (omega arith) ∙ at) only_first
+    causes_at n (take (suc i) history) (suc i) event (get-take history (suc i) i (omega arith) ∙ at) only_first
     ∙ ap (λ earlier. if names_processes n (event_name event) then Ok (names_of earlier event) else Err refusal.NoProcess) (first_of_first history i)
-    ∙ sym (causes_at n history i event at only)
+    ∙ sym (causes_at n history (suc i) event at only)
   where
-    only : (k : ℕ) → IsNamedAt history k (event_name event) → k ≡ i
-    only k is = standing.names_differ k i (event_name event) is (event, at, refl)
+    only : (k : ℕ) → IsNamedAt history k (event_name event) → k ≡ suc i
+    only k is = standing.names_differ k (suc i) (event_name event) is (event, at, refl)
 
-    only_first : (k : ℕ) → IsNamedAt (take (suc i) history) k (event_name event) → k ≡ i
-    only_first k is = only k (is.0, (taken history (suc i) k is.0 is.1).1, is.2)
+    only_first : (k : ℕ) → IsNamedAt (take (suc i) history) k (event_name event) → k ≡ suc i
+    only_first zero is = absurd (none-some is.0 is.1)
+    only_first (suc k) is = only (suc k) (is.0, (taken history (suc i) k is.0 is.1).1, is.2)

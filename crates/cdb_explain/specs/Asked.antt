@@ -1,5 +1,6 @@
 -- The step that is asked for.
-use Rattle.std.specs.Prelude.{◌≡◌, ℕ, ◌<◌, ◌&&◌, ◌==◌, Bool, true, false, List, Option, Some, None, slice_get}
+use Rattle.std.specs.Prelude.{◌≡◌, ℕ, ◌<◌, ◌&&◌, ◌==◌, Bool, true, false, List, Option, Some, None}
+use Rattle.cdb_base.specs.Positions.{nth}
 use Rattle.cdb_base.specs.declared.event.Event.{Event}
 use Rattle.cdb_base.specs.declared.event.Event.TheVariants.{Step, Lost}
 
@@ -9,15 +10,15 @@ is_asked p None (Step q number kind) = q == p
 is_asked p (Some k) (Step q number kind) = (q == p) && (number == k)
 is_asked p k (Lost copy) = false
 
--- the step stands at position i, from 0: p.k, or without k the last standing step of p
-pub record IsStepAsked (history : List Event) (p : ℕ) (k : Option ℕ) (i : ℕ) : Type 0 where
+-- the step stands at that position: p.k, or without k the last standing step of p
+pub record IsStepAsked (history : List Event) (p : ℕ) (k : Option ℕ) (position : ℕ) : Type 0 where
   pub event : Event
-  pub at : slice_get history i ≡ Some event
+  pub stands : nth history position ≡ Some event
   pub asked : is_asked p k event ≡ true
-  pub last : (j : ℕ) (later : Event) → i < j → slice_get history j ≡ Some later
+  pub last : (other : ℕ) (later : Event) → position < other → nth history other ≡ Some later
       → is_asked p k later ≡ false
 
 -- no such step stands
 abbrev pub StandsNoStep : List Event → ℕ → Option ℕ → Type 0
 StandsNoStep history p k =
-    (j : ℕ) (event : Event) → slice_get history j ≡ Some event → is_asked p k event ≡ false
+    (position : ℕ) (event : Event) → nth history position ≡ Some event → is_asked p k event ≡ false

@@ -1,9 +1,10 @@
 -- The explanation of a step: what led to it, as text.
-use Rattle.std.specs.Prelude.{◌≡◌, ℕ, ◌+◌, List, [], ◌++◌, codes, decimal, length, take, slice_get, Option, Some, None, Result, Ok, Err, Bool, Vec}
+use Rattle.std.specs.Prelude.{◌≡◌, ℕ, List, [], ◌++◌, codes, decimal, length, take, Option, Some, None, Result, Ok, Err, Bool, Vec}
 use Rattle.std.specs.Global.{Global}
 use Rattle.std.specs.List.{flat_map}
 use Rattle.std.specs.Option.{option_map_or}
 use Rattle.cdb_base.specs.Event.{event_name}
+use Rattle.cdb_base.specs.Positions.{nth}
 use Rattle.cdb_base.specs.declared.event.Event.{Event}
 use Rattle.cdb_base.specs.declared.event.Event.TheVariants.{Step, Lost}
 use Rattle.cdb_base.specs.declared.event.Kind.{Kind}
@@ -62,9 +63,9 @@ because_text (Err why) = []
 
 -- ---- a line for each event
 
--- the run once it had come to the event at position i, from 0
+-- the run once it had come to the event at that position
 abbrev pub run_after : RunView → ℕ → RunView
-run_after run i = with_history run (take (i + 1) run.history)
+run_after run position = with_history run (take position run.history)
 
 -- the whole text of an event, where the run stands so after it: as `show history` prints it, what it carries
 -- and decides, and its direct causes
@@ -78,9 +79,9 @@ whole_text rules run after event =
 abbrev pub line_text : (Parts → Rules) → RunView → RunView → Event → List ℕ
 line_text rules run after event = whole_text rules run after event ++ codes "\n"
 
--- the line of the event at position i, where one stands there
+-- the line of the event at that position, where one stands there
 abbrev pub line_at : (Parts → Rules) → RunView → ℕ → List ℕ
-line_at rules run i = option_map_or (line_text rules run (run_after run i)) (slice_get run.history i) []
+line_at rules run position = option_map_or (line_text rules run (run_after run position)) (nth run.history position) []
 
 -- `N of M standing events`
 abbrev pub count_text : ℕ → ℕ → List ℕ
@@ -93,11 +94,11 @@ lines_text rules run flags =
     let positions = flagged_of_first (length run.history) flags in
     flat_map (line_at rules run) positions ++ count_text (length positions) (length run.history)
 
--- The text is that of what led to the event at position j, from 0: of that event, and of each from which a
+-- The text is that of what led to the event at that position: of that event, and of each from which a
 -- chain of dependences leads to it.
 abbrev pub IsExplanation : (Parts → Rules) → RunView → ℕ → List ℕ → Type 0
-IsExplanation rules run j text =
-    (flags : List Bool) × FlagsPast run.history j flags × (text ≡ lines_text rules run flags)
+IsExplanation rules run position text =
+    (flags : List Bool) × FlagsPast run.history position flags × (text ≡ lines_text rules run flags)
 
 -- the text is the explanation of that step: of p.k, or without k of the last standing step of p
 abbrev pub IsStepExplained : (Parts → Rules) → RunView → ℕ → Option ℕ → List ℕ → Type 0

@@ -20,16 +20,16 @@ fn is_asked(event: &Event, p: u32, k: Option<u32>) -> bool
     }
 }
 
-/// The position, from 0, of the `k`-th standing step of process `p`; without `k` that of its last
+/// The position, from 1, of the `k`-th standing step of process `p`; without `k` that of its last
 /// standing step. Nothing where no such step stands.
 pub fn position_of_step(history: &History, p: u32, k: Option<u32>) -> Option<usize>
     ensures { MatchOption result (StandsNoStep history.now p k)
-        (λ i. IsStepAsked history.now p k i) }
+        (λ position. IsStepAsked history.now p k position) }
 {
     for i in (0..history.len()).rev() {
         let event = history.event(i);
         if is_asked(event, p, k) {
-            return Some(i);
+            return Some(i + 1);
         }
     }
     None

@@ -5,7 +5,7 @@ ghost use Rattle.cdb_explain.specs.Flagged.{flagged_of_first};
 ghost use Rattle.cdb_rules.specs.ByRules.{IsInOrder};
 ghost use Rattle.cdb_text.specs.Pushes.{Pushes};
 ghost use Rattle.std.specs.List.{flat_map};
-ghost use Rattle.std.specs.Prelude.{◌≡◌, ◌<◌, length, IfOk};
+ghost use Rattle.std.specs.Prelude.{◌≡◌, ◌≤◌, length, IfOk};
 
 use crate::line::push_line;
 use crate::past::past_of;
@@ -87,7 +87,7 @@ fn text_of_flagged<T: Runs>(
     Ok(text.into_bytes())
 }
 
-/// The explanation of the event at a position of the history, from 0: a line for each event that led to it, in
+/// The explanation of the event at a position of the history, from 1: a line for each event that led to it, in
 /// the order of the history, and then how many they are. `NoMemory` if an allocation fails.
 pub fn explanation<T: Runs>(
     alloc: Global,
@@ -95,7 +95,8 @@ pub fn explanation<T: Runs>(
     position: usize,
 ) -> Result<Vec<u8>, NoMemory>
     requires valid { IsInOrder T.rules run.now }
-    requires within { position < length run.now.history }
+    requires from_one { 1 ≤ position }
+    requires to_len { position ≤ length run.now.history }
     ensures { IfOk result (λ text. IsExplanation T.rules run.now position text.items) }
 {
     let flags = past_of(alloc, run.history(), position)?;

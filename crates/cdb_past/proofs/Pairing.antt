@@ -1,16 +1,15 @@
 -- Pairs of events with their direct causes, as the history is played again.
-use Rattle.std.proofs.Common.{◌≡◌, ℕ, zero, suc, ◌+◌, ◌<◌, ◌≤◌, ◌⊎◌, ⊎_elim, List, [], ◌∷◌, ◌++◌, Some, Result, Ok, Err, OnOk, length, take, drop, slice_get, refl, sym, ap, ◌∙◌, subst, arith}
+use Rattle.std.proofs.Common.{◌≡◌, ℕ, zero, suc, ◌+◌, ◌-◌, ◌<◌, ◌≤◌, ◌⊎◌, ⊎_elim, List, [], ◌∷◌, ◌++◌, Some, Result, Ok, Err, OnOk, length, take, drop, slice_get, refl, sym, ap, ◌∙◌, subst, arith}
 use Rattle.std.proofs.lemmas.List.{take-append-drop}
 use Rattle.std.proofs.lemmas.Option.{same_Some, none-some, slice_get_within}
 use Rattle.cdb_base.specs.Event.{event_name}
 use Rattle.cdb_base.specs.declared.event.Event.{Event}
 use Rattle.cdb_base.specs.declared.event.Event.TheVariants.{Lost}
 use Rattle.cdb_base.specs.declared.name.StepId.{StepId}
-use Rattle.cdb_causal.specs.Causality.{IsDirectCause}
 use Rattle.cdb_causal.specs.Dependence.{depends}
-use Rattle.cdb_causal.specs.DirectCauses.{AreDirectCauses, NamesDirectCause}
-use Rattle.cdb_causal.specs.Names.{IsNamedAt, IsNewName}
-use Rattle.cdb_causal.specs.Standing.{IsStanding, HasNoLostCopy}
+use Rattle.cdb_causal.specs.FromZero.{IsDirectCause, AreDirectCauses, NamesDirectCause, IsNamedAt, IsNewName, IsStanding, HasNoLostCopy}
+use Rattle.cdb_causal.specs.DirectCauses.{AreDirectCauses as direct_causes_from_one}
+use Rattle.cdb_causal.proofs.FromOne.{next_is, direct_causes_down}
 use Rattle.cdb_causal.proofs.Lists.{push_cases, push_front, push_back}
 use Rattle.cdb_causal.proofs.Prefixes.{direct_shorter, direct_longer}
 use Rattle.cdb_past.specs.Pairs.{ArePairs}
@@ -22,6 +21,11 @@ below_next m n h = grind arith
 pub on_ok : {A E : Type 0} {P Q : Type 0} (result : Result A E) → (P → Q) → OnOk result P → OnOk result Q
 on_ok (Ok done) f p = f p
 on_ok (Err why) f p = tt
+
+-- the direct causes of the event at a position from 1, by positions from 0
+pub causes_below : (history : List Event) (at : ℕ) (names : List StepId) → 1 ≤ at → direct_causes_from_one history at names → AreDirectCauses history (at - 1) names
+causes_below history at names first are =
+    direct_causes_down history (at - 1) names (subst (λ n. direct_causes_from_one history n names) (sym (next_is at first)) are)
 
 -- ---- the beginning of a history
 

@@ -1,19 +1,24 @@
 -- The walk from an event back to the start, over the pairs of the events up to it: what is flagged has led to the event,
 -- and where the effect of a pair is flagged that was looked at, its cause is too.
-use Rattle.std.proofs.Common.{◌≡◌, ◌≢◌, ℕ, zero, suc, ◌+◌, ◌-◌, ◌<◌, ◌≤◌, Bool, true, false, ◌⊎◌, inl, inr, ⊎_elim, List, [], ◌∷◌, Some, length, replicate, slice_get, slice_set, refl, sym, ap, ◌∙◌, subst, true≢false, arith}
+use Rattle.std.proofs.Common.{◌≡◌, ◌≢◌, ℕ, zero, suc, ◌+◌, ◌-◌, ◌<◌, ◌≤◌, Bool, true, false, ◌⊎◌, inl, inr, ⊎_elim, List, [], ◌∷◌, Some, ◌↔◌, length, replicate, slice_get, slice_set, refl, sym, ap, ◌∙◌, subst, true≢false, arith}
 use Rattle.std.proofs.lemmas.List.{length-set, get_or-replicate, length-replicate}
-use Rattle.std.proofs.lemmas.Option.{same_Some, slice_get_within, get_or_from_slice_get}
+use Rattle.std.proofs.lemmas.Option.{none-some, same_Some, slice_get_within, get_or_from_slice_get}
 use Rattle.cdb_base.specs.declared.event.Event.{Event}
-use Rattle.cdb_causal.specs.Causality.{IsDirectCause}
 use Rattle.cdb_causal.specs.Dependence.{depends}
-use Rattle.cdb_causal.specs.Past.{IsInPast, one_link, link_before, HasLedTo}
+use Rattle.cdb_causal.specs.Past as from_one
+use Rattle.cdb_causal.specs.FromZero.{IsDirectCause, IsInPast, one_link, link_before, HasLedTo}
 use Rattle.cdb_causal.proofs.Counting.{same_position}
+use Rattle.cdb_causal.proofs.FromOne.{led_up, led_down, not_led}
 use Rattle.cdb_causal.proofs.PastLaws.{by_direct_causes, linked_past}
-use Rattle.cdb_past.specs.Flags.{IsFlagged, FlagsPast}
+use Rattle.cdb_past.specs.Flags.{IsFlagged as is_flagged_from_one, FlagsPast}
 use Rattle.cdb_past.specs.Pairs.{ArePairs}
 use Rattle.cdb_past.specs.declared.pairs.Pair.{Pair}
 
 -- ---- one flag more
+
+-- the position, from 0, is flagged
+abbrev pub IsFlagged : List Bool → ℕ → Type 0
+IsFlagged flags i = slice_get flags i ≡ Some true
 
 flag_here : (flags : List Bool) (i : ℕ) → i < length flags → IsFlagged (slice_set flags i true) i
 flag_here [] i within = absurd (omega (arith, within))
@@ -140,5 +145,9 @@ module _ (history : List Event) (j : ℕ) (pairs : List Pair) (are : ArePairs hi
         let pair = are.each i found.0 (omega (arith, most)) found.1 in
         walked.each pair.0 _ (omega arith) pair.1 (flagged n found.0 (omega (arith, near, later)) found.2)
 
-    pub walked_past : FlagsPast history j flags
-    walked_past = (walked.a_flag_each, λ i. (walked.only i, flagged j i (omega arith)))
+    pub walked_past : FlagsPast history (suc j) flags
+    walked_past = (walked.a_flag_each, both)
+      where
+        both : (other : ℕ) → is_flagged_from_one flags other ↔ from_one.HasLedTo depends history (suc j) other
+        both zero = ((λ is. absurd (none-some true is)), (λ led. absurd (not_led depends history j led)))
+        both (suc i) = ((λ is. led_up depends history j i (walked.only i is)), (λ led. flagged j i (omega arith) (led_down depends history j i led)))

@@ -1,8 +1,8 @@
--- What the code keeps for itself: events with their direct causes, in pairs of positions.
+-- What the code keeps for itself: events with their direct causes, in pairs of positions, which count from 0 here.
 use Rattle.std.specs.Prelude.{◌≡◌, ℕ, ◌<◌, ◌≤◌, List, Some, slice_get}
 use Rattle.cdb_base.specs.declared.event.Event.{Event}
-use Rattle.cdb_causal.specs.Causality.{IsDirectCause}
 use Rattle.cdb_causal.specs.Dependence.{depends}
+use Rattle.cdb_causal.specs.FromZero.{IsDirectCause}
 use Rattle.cdb_past.specs.declared.pairs.Pair.{Pair}
 
 -- the pairs are those of the first n events with their direct causes, in the order of these events

@@ -2,7 +2,7 @@
 //! event changes none of its direct causes, and they are found soonest where nothing does.
 
 ghost use Rattle.std.specs.Prelude.{◌≡◌, ℕ, ◌+◌, ◌-◌, ◌<◌, ◌≤◌, length, take, IfOk, OnOk};
-ghost use Rattle.cdb_causal.specs.Names.{IsNamedAt};
+ghost use Rattle.cdb_causal.specs.FromZero.{IsNamedAt};
 ghost use Rattle.cdb_past.specs.Pairs.{ArePairs};
 
 use cdb_base::{NoMemory, StepId};

@@ -1,6 +1,6 @@
 //! The past of an event, by flags that are set from the event back to the start of the history.
 
-ghost use Rattle.std.specs.Prelude.{◌≡◌, ◌-◌, ◌≤◌, length, IfOk};
+ghost use Rattle.std.specs.Prelude.{◌≡◌, ◌≤◌, length, IfOk};
 ghost use Rattle.cdb_past.specs.Flags.{FlagsPast};
 
 use crate::pairs::pairs_of_first;
@@ -14,7 +14,7 @@ use std::alloc::Global;
 pub fn flag_past(alloc: Global, history: &History, at: usize) -> Result<Vec<bool>, NoMemory>
     requires from_one { 1 ≤ at }
     requires to_len { at ≤ length history.now }
-    ensures { IfOk result (λ flags. FlagsPast history.now (at - 1) flags.items) }
+    ensures { IfOk result (λ flags. FlagsPast history.now at flags.items) }
 {
     let pairs = pairs_of_first(alloc, history, at)?;
     let mut flags = Vec::from_elem(alloc, false, history.len())?;

@@ -1,9 +1,11 @@
 -- What a call says of lists, carried over to lists that are equal to them.
 use Rattle.std.proofs.Common.{◌≡◌, ℕ, zero, suc, ◌-◌, ◌≤◌, List, [], ◌∷◌, ◌++◌, length, Option, None, Some, MatchOption, slice_get, refl, sym, ap, ap₂, ◌∙◌, arith}
-use Rattle.std.proofs.lemmas.Option.{same_Some, none-some}
+use Rattle.std.proofs.lemmas.Option.{same_Some, none-some, slice_get_within}
 use Rattle.cdb_base.specs.Positions.{nth}
 use Rattle.cdb_base.specs.declared.event.Event.{Event}
-use Rattle.cdb_causal.specs.Rollback.{without}
+use Rattle.cdb_causal.specs.FromZero.{without}
+use Rattle.cdb_causal.specs.Rollback as from_one
+use Rattle.cdb_causal.proofs.FromOne.{next_is, without_is}
 use Rattle.cdb_record.specs.Recorded.{events_of, recorded_of, records_of}
 use Rattle.cdb_record.specs.declared.recorded.Recorded.{Recorded}
 use Rattle.cdb_record.specs.declared.recorded.Left.{Left}
@@ -14,6 +16,14 @@ before_nth xs (suc i) x from_one at = ap (slice_get xs) (less_one i) ∙ at
   where
     less_one : (i : ℕ) → suc i - 1 ≡ i
     less_one i = omega arith
+
+-- what stands at a position from 1 stands within the list
+pub nth_within : {A : Type 0} (xs : List A) (at : ℕ) (x : A) → nth xs at ≡ Some x → at ≤ length xs
+nth_within xs zero x stands = omega arith
+nth_within xs (suc i) x stands = let within = slice_get_within xs i x stands in omega (arith, within)
+
+pub without_below : {A : Type 0} (xs : List A) (at : ℕ) → 1 ≤ at → from_one.without xs at ≡ without xs (at - 1)
+without_below xs at first = ap (from_one.without xs) (sym (next_is at first)) ∙ without_is xs (at - 1)
 
 -- entries are put together from events and what they left, one for each
 pub events_push : {B : Type 0} (entries : List (Recorded B)) (event : Event) (left : Left B) → events_of (entries ++ recorded_of event left ∷ []) ≡ events_of entries ++ event ∷ []

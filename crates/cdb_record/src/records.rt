@@ -1,6 +1,6 @@
 //! The records of all standing events.
 
-ghost use Rattle.std.specs.Prelude.{◌≡◌, ◌-◌, ◌≤◌, [], ◌∷◌, ◌++◌, Some, length, IfErr, OnOk, OnErr};
+ghost use Rattle.std.specs.Prelude.{◌≡◌, ◌≤◌, [], ◌∷◌, ◌++◌, Some, length, IfErr, OnOk, OnErr};
 ghost use Rattle.std.specs.Fn.{FnOnceTakesAtMut};
 ghost use Rattle.cdb_base.specs.Event.{event_name};
 ghost use Rattle.cdb_base.specs.Positions.{nth};
@@ -127,9 +127,9 @@ impl<B: Drop> Records<B> {
     pub fn take_out(&mut self, at: usize) -> Recorded<B>
         requires from_one { 1 ≤ at }
         requires to_len { at ≤ length self.old }
-        requires free { IsFree depends_of (events_of self.old) (at - 1) }
+        requires free { IsFree depends_of (events_of self.old) at }
         ensures recorded { nth self.old at ≡ Some result }
-        ensures rest { self.new ≡ without self.old (at - 1) }
+        ensures rest { self.new ≡ without self.old at }
     {
         let event = self.history.remove(at);
         let Left { back, overwritten } = self.left.take_out(at - 1);
@@ -144,7 +144,7 @@ impl<B: Drop> Records<B> {
     fn take_free(&mut self, at: usize) -> Option<Recorded<B>>
         requires from_one { 1 ≤ at }
         requires to_len { at ≤ length self.old }
-        ensures { TakesFree self.old (at - 1) result self.new }
+        ensures { TakesFree self.old at result self.new }
     {
         match first_dependent(&self.history, at) {
             Some(_) => None,
@@ -155,7 +155,7 @@ impl<B: Drop> Records<B> {
     /// Takes the last step of a process out, where one stands and no event depends on it; else
     /// nothing changes. It takes no memory.
     pub fn take_last_of(&mut self, p: Proc) -> Option<Recorded<B>>
-        ensures { TakesWhereFree (λ history i. IsLastStepOf history p i) result self.old self.new }
+        ensures { TakesWhereFree (λ history at. IsLastStepOf history p at) result self.old self.new }
     {
         let at = last_of(&self.history, p)?;
         self.take_free(at)
@@ -164,7 +164,7 @@ impl<B: Drop> Records<B> {
     /// Takes the loss of a copy out, where it stands and no event depends on it; else nothing
     /// changes. It takes no memory.
     pub fn take_lost(&mut self, copy: CopyName) -> Option<Recorded<B>>
-        ensures { TakesWhereFree (λ history i. IsNamedAt history i (named.Lost copy)) result
+        ensures { TakesWhereFree (λ history at. IsNamedAt history at (named.Lost copy)) result
             self.old self.new }
     {
         let at = self.history.position(StepId::Lost(copy))?;

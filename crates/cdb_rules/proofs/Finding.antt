@@ -1,6 +1,6 @@
 -- A process is found by its number, and an event by its name.
-use Rattle.std.proofs.Common.{◌≡◌, ℕ, zero, suc, ◌+◌, ◌-◌, ◌<◌, ◌≤◌, Bool, true, false, not, ◌&&◌, ◌==◌, List, [], ◌∷◌, length, Option, Some, None, Err, MatchOption, MatchResult, IfOk, IfNone, cond, nat_lt, slice_get, if◌then◌else◌, refl, sym, ap, ap₂, ◌∙◌, subst, true≢false, arith}
-use Rattle.std.proofs.lemmas.Option.{none-some, same_Some, slice_get_within}
+use Rattle.std.proofs.Common.{◌≡◌, ℕ, zero, suc, ◌+◌, ◌-◌, ◌<◌, ◌≤◌, Bool, true, false, not, ◌&&◌, ◌==◌, List, [], ◌∷◌, length, Option, Some, None, option_map, Err, MatchOption, MatchResult, IfOk, IfNone, cond, nat_lt, slice_get, if◌then◌else◌, refl, sym, ap, ap₂, ◌∙◌, subst, true≢false, arith}
+use Rattle.std.proofs.lemmas.Option.{none-some, same_Some}
 use Rattle.std.proofs.lemmas.Bool.Decides.{nat_tests}
 use Rattle.std.specs.List.{position, position_or_len}
 use Rattle.std.specs.Option.{option_map_or}
@@ -15,11 +15,11 @@ use Rattle.cdb_base.specs.declared.refusal.Refusal.TheVariants as refusal
 use Rattle.cdb_causal.specs.Names.{IsNewName, IsPositionOf}
 use Rattle.cdb_rules.specs.State.{Machine}
 use Rattle.cdb_rules.specs.Step.{IsValid, is_among}
-use Rattle.cdb_rules.specs.Undo.{is_named, names_processes, found_at, event_named}
+use Rattle.cdb_rules.specs.Undo.{is_named, names_processes, position_of, found_at, event_named}
 use Rattle.cdb_rules.proofs.Kept.{is_false}
 use Rattle.cdb_rules.proofs.Limits.{step_within, loss_within}
 use Rattle.cdb_rules.proofs.Naming.{in_position}
-use Rattle.cdb_rules.proofs.Positions.{get_at}
+use Rattle.cdb_rules.proofs.Positions.{get_at, nth_within}
 use Rattle.cdb_rules.proofs.Taken.{both}
 
 module _ {E : Type 0} (test : E → Bool) where
@@ -87,29 +87,36 @@ named_has : (name : StepId) (event : Event) → event_name event ≡ name → is
 named_has name event is = subst (λ n. is_named n event ≡ true) is (has_own_name event)
 
 module _ (history : List Event) (name : StepId) where
-  stands_at : (at : ℕ) → IsPositionOf history name at → position (is_named name) history ≡ Some (at - 1)
-  stands_at at position =
-      position_is (is_named name) history (at - 1) position.named.0 position.named.1 (named_has name position.named.0 position.named.2)
-      (λ k y less at_k. is_false (is_named name y) (λ h. let same = position.only k (y, at_k, has_name_is name y h) in omega (arith, less, same)))
+  stands_at : (at : ℕ) → IsPositionOf history name at → position_of name history ≡ Some at
+  stands_at zero position = absurd (none-some position.named.0 position.named.1)
+  stands_at (suc i) position =
+      ap (option_map suc)
+      (position_is (is_named name) history i position.named.0 position.named.1 (named_has name position.named.0 position.named.2)
+      (λ k y less at_k. is_false (is_named name y) (λ h. let same = position.only (suc k) (y, at_k, has_name_is name y h) in omega (arith, less, same))))
 
-  new_is : IsNewName history name → position (is_named name) history ≡ None
-  new_is new = position_none (is_named name) history (λ k y at_k. is_false (is_named name y) (λ h. new k (y, at_k, has_name_is name y h)))
+  new_is : IsNewName history name → position_of name history ≡ None
+  new_is new = ap (option_map suc) (position_none (is_named name) history (λ k y at_k. is_false (is_named name y) (λ h. new (suc k) (y, at_k, has_name_is name y h))))
 
   module _ (n : ℕ) where
-    found_by : (o : Option ℕ) → names_processes n name ≡ true → position (is_named name) history ≡ o → event_named n history name ≡ option_map_or (found_at history) o (Err refusal.NoStep)
+    found_by : (o : Option ℕ) → names_processes n name ≡ true → position_of name history ≡ o → event_named n history name ≡ option_map_or (found_at history) o (Err refusal.NoStep)
     found_by o there is = ap₂ (λ b p. if b then option_map_or (found_at history) p (Err refusal.NoStep) else Err refusal.NoProcess) there is
 
-    pub stands_named : (at : ℕ) → names_processes n name ≡ true → IsPositionOf history name at → event_named n history name ≡ found_at history (at - 1)
-    stands_named at there position = found_by (Some (at - 1)) there (stands_at at position)
+    pub stands_named : (at : ℕ) → names_processes n name ≡ true → IsPositionOf history name at → event_named n history name ≡ found_at history at
+    stands_named at there position = found_by (Some at) there (stands_at at position)
 
     pub none_named : names_processes n name ≡ true → IsNewName history name → event_named n history name ≡ Err refusal.NoStep
     none_named there new = found_by None there (new_is new)
 
     pub no_process_named : names_processes n name ≡ false → event_named n history name ≡ Err refusal.NoProcess
-    no_process_named absent = ap (λ b. if b then option_map_or (found_at history) (position (is_named name) history) (Err refusal.NoStep) else Err refusal.NoProcess) absent
+    no_process_named absent = ap (λ b. if b then option_map_or (found_at history) (position_of name history) (Err refusal.NoStep) else Err refusal.NoProcess) absent
+
+-- what stands at a position stands at one from 1
+pub stands_from_one : {A : Type 0} (xs : List A) (at : ℕ) (x : A) → nth xs at ≡ Some x → 1 ≤ at
+stands_from_one xs zero x stands = absurd (none-some x stands)
+stands_from_one xs (suc i) x stands = omega arith
 
 pub position_within : (history : List Event) (name : StepId) (at : ℕ) → IsPositionOf history name at → at ≤ length history
-position_within history name at position = let below = slice_get_within history (at - 1) position.named.0 position.named.1 in let first = position.from_one in omega (arith, below, first)
+position_within history name at position = nth_within history at position.named.0 position.named.1
 
 -- In a valid history no event has a greater number.
 
@@ -129,7 +136,8 @@ module _ {L : Type 0} (machine : Machine L) (history : List Event) (valid : IsVa
       omega (arith, few, same)
 
   pub too_great : (name : StepId) → 9999 < number_of name → IsNewName history name
-  too_great name great i named_at = let few = number_few name i named_at.0 named_at.1 named_at.2 in omega (arith, great, few)
+  too_great name great zero named_at = none-some named_at.0 named_at.1
+  too_great name great (suc i) named_at = let few = number_few name i named_at.0 named_at.1 named_at.2 in omega (arith, great, few)
 
 -- A process among n.
 
@@ -160,10 +168,10 @@ module _ (n p : ℕ) where
 -- What is found, as it is answered.
 
 module _ (history : List Event) (name : StepId) (at : Option ℕ) (is : MatchOption at (IsNewName history name) (IsPositionOf history name)) where
-  pub found_result : (n : ℕ) → names_processes n name ≡ true → MatchResult (ok_or at refusal.NoStep) (λ position. event_named n history name ≡ found_at history (position - 1)) (λ why. event_named n history name ≡ Err why)
+  pub found_result : (n : ℕ) → names_processes n name ≡ true → MatchResult (ok_or at refusal.NoStep) (λ position. event_named n history name ≡ found_at history position) (λ why. event_named n history name ≡ Err why)
   found_result n there = by at is
     where
-      by : (o : Option ℕ) → MatchOption o (IsNewName history name) (IsPositionOf history name) → MatchResult (ok_or o refusal.NoStep) (λ position. event_named n history name ≡ found_at history (position - 1)) (λ why. event_named n history name ≡ Err why)
+      by : (o : Option ℕ) → MatchOption o (IsNewName history name) (IsPositionOf history name) → MatchResult (ok_or o refusal.NoStep) (λ position. event_named n history name ≡ found_at history position) (λ why. event_named n history name ≡ Err why)
       by None new = none_named history name n there new
       by (Some position) stands = stands_named history name n position there stands
 

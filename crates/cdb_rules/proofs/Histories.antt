@@ -1,10 +1,13 @@
 -- What follows for histories from that independent events commute.
-use Rattle.std.proofs.Common.{◌≡◌, ℕ, false, List, [], ◌∷◌, ◌++◌, Some, slice_get, option_and_then, Option, None, unwrap_or, IsSome, refl, ap, subst, sym, ◌∙◌, true≢false}
+use Rattle.std.proofs.Common.{◌≡◌, ℕ, zero, suc, false, List, [], ◌∷◌, ◌++◌, append-nil, Some, option_and_then, Option, None, unwrap_or, IsSome, refl, ap, ap₂, subst, sym, ◌∙◌, true≢false}
+use Rattle.std.proofs.lemmas.Option.{none-some}
+use Rattle.cdb_base.specs.Positions.{nth}
 use Rattle.cdb_base.specs.declared.event.Event.{Event}
 use Rattle.cdb_causal.specs.Causality.{IsFree}
 use Rattle.cdb_causal.specs.Dependence.{depends}
 use Rattle.cdb_causal.specs.Exchange.{IsExchanged}
-use Rattle.cdb_causal.specs.Rollback.{without, remaining, rolled_back}
+use Rattle.cdb_causal.specs.Rollback.{without, caught, uncaught, remaining, rolled_back}
+use Rattle.cdb_causal.proofs.FromOne.{free_down, without_is, rolled_back_is, remaining_is}
 use Rattle.cdb_causal.proofs.Reaches.{reached_exchange, reached_exchanged, reached_free, reached_rollback, reached_front_some, reached_push}
 use Rattle.cdb_rules.specs.State.{Machine, RunState, start}
 use Rattle.cdb_rules.specs.Step.{after, fold, IsEnabled, IsValid, state_of}
@@ -17,15 +20,18 @@ module _ {L : Type 0} (machine : Machine L) where
   pub fold_exchanged : (history other : List Event) → IsExchanged depends history other → fold machine history ≡ fold machine other
   fold_exchanged history other p = reached_exchanged (after machine) depends (after_commutes machine) (start machine) p
 
-  pub fold_free : (history : List Event) (i : ℕ) (event : Event) → slice_get history i ≡ Some event → IsFree depends history i → fold machine (without history i ++ event ∷ []) ≡ fold machine history
-  fold_free history i event at free = reached_free (after machine) depends (after_commutes machine) (start machine) history i event at free
+  pub fold_free : (history : List Event) (at : ℕ) (event : Event) → nth history at ≡ Some event → IsFree depends history at → fold machine (without history at ++ event ∷ []) ≡ fold machine history
+  fold_free history zero event stands free = absurd (none-some event stands)
+  fold_free history (suc i) event stands free =
+      ap (λ l. fold machine (l ++ event ∷ [])) (without_is history i)
+      ∙ reached_free (after machine) depends (after_commutes machine) (start machine) history i event stands (free_down depends history i free)
 
-  pub undo_valid : (history : List Event) (i : ℕ) (event : Event) → slice_get history i ≡ Some event → IsFree depends history i → IsValid machine history → IsValid machine (without history i)
-  undo_valid history i event at free valid =
-      reached_front_some (after machine) (start machine) (without history i) (event ∷ []) (subst IsSome (sym (fold_free history i event at free)) valid)
+  pub undo_valid : (history : List Event) (at : ℕ) (event : Event) → nth history at ≡ Some event → IsFree depends history at → IsValid machine history → IsValid machine (without history at)
+  undo_valid history at event stands free valid =
+      reached_front_some (after machine) (start machine) (without history at) (event ∷ []) (subst IsSome (sym (fold_free history at event stands free)) valid)
 
-  undo_redo : (history : List Event) (i : ℕ) (event : Event) → slice_get history i ≡ Some event → IsFree depends history i → option_and_then (λ state. after machine state event) (fold machine (without history i)) ≡ fold machine history
-  undo_redo history i event at free = sym (reached_push (after machine) (start machine) (without history i) event) ∙ fold_free history i event at free
+  undo_redo : (history : List Event) (at : ℕ) (event : Event) → nth history at ≡ Some event → IsFree depends history at → option_and_then (λ state. after machine state event) (fold machine (without history at)) ≡ fold machine history
+  undo_redo history at event stands free = sym (reached_push (after machine) (start machine) (without history at) event) ∙ fold_free history at event stands free
 
   pub reached_state : (history : List Event) → IsValid machine history → fold machine history ≡ Some (state_of machine history)
   reached_state history valid = is_some_of (fold machine history) valid
@@ -35,18 +41,30 @@ module _ {L : Type 0} (machine : Machine L) where
       is_some_of (Some state) h = refl
 
   -- the event, taken again last, leads to the state that the history reached
-  pub undo_again : (history : List Event) (i : ℕ) (event : Event) → slice_get history i ≡ Some event → IsFree depends history i → IsValid machine history → after machine (state_of machine (without history i)) event ≡ Some (state_of machine history)
-  undo_again history i event at free valid =
-      sym (ap (option_and_then (λ state. after machine state event)) (reached_state (without history i) (undo_valid history i event at free valid)))
-      ∙ undo_redo history i event at free
+  pub undo_again : (history : List Event) (at : ℕ) (event : Event) → nth history at ≡ Some event → IsFree depends history at → IsValid machine history → after machine (state_of machine (without history at)) event ≡ Some (state_of machine history)
+  undo_again history at event stands free valid =
+      sym (ap (option_and_then (λ state. after machine state event)) (reached_state (without history at) (undo_valid history at event stands free valid)))
+      ∙ undo_redo history at event stands free
       ∙ reached_state history valid
 
-  pub undo_enabled : (history : List Event) (i : ℕ) (event : Event) → slice_get history i ≡ Some event → IsFree depends history i → IsValid machine history → IsEnabled machine (state_of machine (without history i)) event
-  undo_enabled history i event at free valid = subst IsSome (sym (undo_again history i event at free valid)) refl
+  pub undo_enabled : (history : List Event) (at : ℕ) (event : Event) → nth history at ≡ Some event → IsFree depends history at → IsValid machine history → IsEnabled machine (state_of machine (without history at)) event
+  undo_enabled history at event stands free valid = subst IsSome (sym (undo_again history at event stands free valid)) refl
 
-  pub rollback_redo : (history : List Event) (i : ℕ) → fold machine (remaining depends history i ++ rolled_back depends history i) ≡ fold machine history
-  rollback_redo history i = reached_rollback (after machine) depends (after_commutes machine) (start machine) history i
+  -- nothing depends on an event of an empty list
+  none_caught : (events : List Event) → caught depends [] events ≡ []
+  none_caught [] = refl
+  none_caught (event ∷ events) = none_caught events
 
-  pub rollback_valid : (history : List Event) (i : ℕ) → IsValid machine history → IsValid machine (remaining depends history i)
-  rollback_valid history i valid =
-      reached_front_some (after machine) (start machine) (remaining depends history i) (rolled_back depends history i) (subst IsSome (sym (rollback_redo history i)) valid)
+  all_uncaught : (events : List Event) → uncaught depends [] events ≡ events
+  all_uncaught [] = refl
+  all_uncaught (event ∷ events) = ap (λ l. event ∷ l) (all_uncaught events)
+
+  pub rollback_redo : (history : List Event) (at : ℕ) → fold machine (remaining depends history at ++ rolled_back depends history at) ≡ fold machine history
+  rollback_redo history zero = ap (fold machine) (ap₂ (λ l r. l ++ r) (all_uncaught history) (none_caught history) ∙ append-nil history)
+  rollback_redo history (suc i) =
+      ap (fold machine) (ap₂ (λ l r. l ++ r) (remaining_is depends history i) (rolled_back_is depends history i))
+      ∙ reached_rollback (after machine) depends (after_commutes machine) (start machine) history i
+
+  pub rollback_valid : (history : List Event) (at : ℕ) → IsValid machine history → IsValid machine (remaining depends history at)
+  rollback_valid history at valid =
+      reached_front_some (after machine) (start machine) (remaining depends history at) (rolled_back depends history at) (subst IsSome (sym (rollback_redo history at)) valid)

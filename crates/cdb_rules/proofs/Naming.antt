@@ -19,6 +19,7 @@ use Rattle.cdb_causal.specs.Dependence.{depends, sends, send_and_loss}
 use Rattle.cdb_causal.specs.Exchange.{IsIn, IsBefore, IsEachOnce, here, there}
 use Rattle.cdb_causal.specs.Names.{IsNamedAt}
 use Rattle.cdb_causal.specs.Standing.{IsStanding}
+use Rattle.cdb_causal.proofs.FromOne.{free_up, standing_up}
 use Rattle.cdb_message.specs.Mail.{is_sent, payload_of}
 use Rattle.cdb_rules.specs.Mail.{mail_of}
 use Rattle.cdb_rules.specs.State.{Machine, ProcessState, RunState, fresh_process, start}
@@ -115,11 +116,13 @@ module _ {L : Type 0} (machine : Machine L) where
     names_apart (Lost copy) (Lost other) before same = in_order (Lost copy) (Lost other) before (ap (copy_of copy) same)
 
     pub names_differ : (i j : ℕ) (name : StepId) → IsNamedAt history i name → IsNamedAt history j name → i ≡ j
-    names_differ i j name a b =
+    names_differ zero j name a b = absurd (none-some a.0 a.1)
+    names_differ (suc i) zero name a b = absurd (none-some b.0 b.1)
+    names_differ (suc i) (suc j) name a b =
         ⊎_elim
         (λ less. absurd (names_apart a.0 b.0 (before_positions history i j a.0 b.0 less a.1 b.1) (a.2 ∙ sym b.2)))
         (⊎_elim
-        (λ is. is)
+        (λ is. ap suc is)
         (λ more. absurd (names_apart b.0 a.0 (before_positions history j i b.0 a.0 more b.1 a.1) (b.2 ∙ sym a.2))))
         (three_cases i j)
 
@@ -134,11 +137,12 @@ module _ {L : Type 0} (machine : Machine L) where
     -- what every history keeps
     pub valid_standing : length machine.firsts ≤ 9 → IsStanding history
     valid_standing few =
-        record {
-          names_differ = names_differ;
+        standing_up history
+        (record {
+          names_differ = λ i j name a b. let same = names_differ (suc i) (suc j) name a b in omega (arith, same);
           processes = λ i p k kind at. let within = of_processes p k kind (in_position history i (Step p k kind) at) in (within.0, let last = within.1 in omega (arith, last, few));
           lost_after_sent = λ i j copy event less at_i at_j. not_sent_later copy event (before_positions history i j (Lost copy) event less at_i at_j);
-        }
+        })
 
     -- what is lost is not received, neither before the loss nor behind it
     pub lost_unreceived : (copy : CopyName) (k : ℕ) → IsIn (Lost copy) history → IsIn (Step copy.to k (Recv copy.msg.s copy.msg.m)) history → ⊥
@@ -154,11 +158,12 @@ module _ {L : Type 0} (machine : Machine L) where
         is_no_step same = true≢false (sym same)
 
     -- no event depends on a loss
-    pub loss_free : (i : ℕ) (copy : CopyName) → slice_get history i ≡ Some (Lost copy) → IsFree depends history i
-    loss_free i copy at j link =
-        let cause = same_Some link.cause (Lost copy) (sym link.at_cause ∙ at) in
+    pub loss_free : (at : ℕ) (copy : CopyName) → nth history at ≡ Some (Lost copy) → IsFree depends history at
+    loss_free zero copy stands = absurd (none-some (Lost copy) stands)
+    loss_free (suc i) copy stands = free_up depends history i (λ j link.
+        let cause = same_Some link.cause (Lost copy) (sym link.at_cause ∙ stands) in
         unlinked link.effect (sym (ap (λ c. depends c link.effect) cause) ∙ link.linked)
-        (before_positions history i j (Lost copy) link.effect link.later at link.at_effect)
+        (before_positions history i j (Lost copy) link.effect link.later stands link.at_effect))
       where
         unlinked : (effect : Event) → depends (Lost copy) effect ≡ true → IsBefore (Lost copy) effect history → ⊥
         unlinked (Step p k kind) linked before =

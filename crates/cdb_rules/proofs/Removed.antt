@@ -3,11 +3,15 @@ use Rattle.std.proofs.Common.{◌≡◌, ℕ, zero, suc, ◌+◌, ◌≤◌, Boo
 use Rattle.std.specs.List.{AllByRecursion, position}
 use Rattle.std.proofs.lemmas.List.{length-reverse, reverse-append}
 use Rattle.std.proofs.lemmas.Option.{none-some, same_Some}
+use Rattle.cdb_base.specs.Positions.{nth}
 use Rattle.cdb_base.specs.declared.event.Event.{Event}
 use Rattle.cdb_base.specs.declared.name.StepId.{StepId}
 use Rattle.cdb_base.specs.declared.refusal.Refusal.{Refusal}
 use Rattle.cdb_causal.specs.Dependence.{depends}
-use Rattle.cdb_causal.specs.Rollback.{without, depends_on_one, caught, uncaught, rolled_back, remaining}
+use Rattle.cdb_causal.specs.FromZero.{without, rolled_back, remaining}
+use Rattle.cdb_causal.specs.Rollback as from_one
+use Rattle.cdb_causal.specs.Rollback.{depends_on_one, caught, uncaught}
+use Rattle.cdb_causal.proofs.FromOne.{without_is, rolled_back_is, remaining_is}
 use Rattle.cdb_rules.proofs.Alls.{all-append}
 use Rattle.cdb_rules.specs.Undo.{Found, is_named, names_processes, found_at, event_named, undo_of, rollback_of, result_alone, number_removed}
 
@@ -28,11 +32,11 @@ ok_same a b h = cc
 
 -- what is found stands where it was found
 abbrev IsAt : List Event → Found → Type 0
-IsAt history found = slice_get history found.position ≡ Some found.event
+IsAt history found = nth history found.position ≡ Some found.event
 
 at-position : (history : List Event) (position : ℕ) (found : Found) → found_at history position ≡ Ok found → IsAt history found
 at-position history position found h =
-    option_cases (IsAt history found) (slice_get history position)
+    option_cases (IsAt history found) (nth history position)
     (λ none. let f : found_at history position ≡ Ok found → IsAt history found = rw none (λ k. absurd (cc)) in f h)
     (λ event some. let f : found_at history position ≡ Ok found → IsAt history found = rw some (λ k. subst (IsAt history) (ok_same _ found k) some) in f h)
 
@@ -41,7 +45,7 @@ standing-at n history name found h =
     bool_cases (IsAt history found) (names_processes n name)
     (λ named. option_cases (IsAt history found) (position (is_named name) history)
     (λ none. let f : event_named n history name ≡ Ok found → IsAt history found = rw (named, none) (λ k. absurd (cc)) in f h)
-    (λ position some. let f : event_named n history name ≡ Ok found → IsAt history found = rw (named, some) (λ k. at-position history position found k) in f h))
+    (λ i some. let f : event_named n history name ≡ Ok found → IsAt history found = rw (named, some) (λ k. at-position history (suc i) found k) in f h))
     (λ unnamed. let f : event_named n history name ≡ Ok found → IsAt history found = rw unnamed (λ k. absurd (cc)) in f h)
 
 module _ (P : Event → Type 0) where
@@ -57,6 +61,10 @@ module _ (P : Event → Type 0) where
   without-parted (x ∷ xs) (suc i) event at =
       let rest = without-parted xs i event at in
       record { count = omega (arith, rest.count); gone = λ all. rest.gone all.1; left = λ all. (all.0, rest.left all.1) }
+
+  parted-at : (history : List Event) (at : ℕ) (event : Event) → nth history at ≡ Some event → Parted history (event ∷ []) (from_one.without history at)
+  parted-at history zero event stands = absurd (none-some event stands)
+  parted-at history (suc i) event stands = subst (Parted history (event ∷ [])) (sym (without_is history i)) (without-parted history i event stands)
 
   one-more : (b : Bool) (x : Event) (xs taken left_taken uncaught_ left_uncaught : List Event) → Parted xs taken left_taken → Parted xs uncaught_ left_uncaught → Parted (x ∷ xs) (cond b (x ∷ taken) uncaught_) (cond b left_taken (x ∷ left_uncaught))
   one-more true x xs taken left_taken uncaught_ left_uncaught h k =
@@ -83,7 +91,7 @@ module _ (P : Event → Type 0) where
       result_cases (Parted history (undone.0 ∷ []) undone.1) (event_named n history name)
       (λ found is. option_cases (Parted history (undone.0 ∷ []) undone.1) (find (depends found.event) found.later)
       (λ none. let f : undo_of n history name ≡ Ok undone → Parted history (undone.0 ∷ []) undone.1 =
-      rw (is, none) (λ k. subst (λ (u : Event × List Event). Parted history (u.0 ∷ []) u.1) (ok_same _ undone k) (without-parted history found.position found.event (standing-at n history name found is)))
+      rw (is, none) (λ k. subst (λ (u : Event × List Event). Parted history (u.0 ∷ []) u.1) (ok_same _ undone k) (parted-at history found.position found.event (standing-at n history name found is)))
       in
       f h)
       (λ dependent some. let f : undo_of n history name ≡ Ok undone → Parted history (undone.0 ∷ []) undone.1 = rw (is, some) (λ k. absurd (cc)) in f h))
@@ -93,31 +101,35 @@ module _ (P : Event → Type 0) where
   rolled_back-parted n history name removed h =
       result_cases (Parted history removed.0 removed.1) (event_named n history name)
       (λ found is. let f : rollback_of n history name ≡ Ok removed → Parted history removed.0 removed.1 =
-      rw is (λ k. subst (λ (r : List Event × List Event). Parted history r.0 r.1) (ok_same _ removed k) (turned history found.position)) in
+      rw is (λ k. subst (λ (r : List Event × List Event). Parted history r.0 r.1) (ok_same _ removed k) (turned history found.position found.event (standing-at n history name found is))) in
       f h)
       (λ why is. let f : rollback_of n history name ≡ Ok removed → Parted history removed.0 removed.1 = rw is (λ k. absurd (cc)) in f h)
     where
-      turned : (history : List Event) (i : ℕ) → Parted history (reverse (rolled_back depends history i)) (remaining depends history i)
-      turned history i =
+      turned : (history : List Event) (at : ℕ) (event : Event) → nth history at ≡ Some event → Parted history (reverse (from_one.rolled_back depends history at)) (from_one.remaining depends history at)
+      turned history zero event stands = absurd (none-some event stands)
+      turned history (suc i) event stands =
           let parted = rolled-parted history i in
-          record {
+          subst (λ r. Parted history (reverse r) (from_one.remaining depends history (suc i))) (sym (rolled_back_is depends history i))
+          (subst (Parted history (reverse (rolled_back depends history i))) (sym (remaining_is depends history i))
+          (record {
             count = omega (arith, parted.count, length-reverse (rolled_back depends history i));
             gone = λ all. all-reverse (rolled_back depends history i) (parted.gone all);
             left = parted.left;
-          }
+          }))
 
 -- a rollback removes one event at least
-rolled-one : (history : List Event) (i : ℕ) (event : Event) → slice_get history i ≡ Some event → 1 ≤ length (rolled_back depends history i)
-rolled-one [] i event at = absurd (none-some event at)
-rolled-one (x ∷ xs) zero event at = omega arith
-rolled-one (x ∷ xs) (suc i) event at = rolled-one xs i event at
+rolled-one : (history : List Event) (at : ℕ) (event : Event) → nth history at ≡ Some event → 1 ≤ length (from_one.rolled_back depends history at)
+rolled-one history zero event stands = absurd (none-some event stands)
+rolled-one [] (suc i) event stands = absurd (none-some event stands)
+rolled-one (x ∷ xs) (suc zero) event stands = omega arith
+rolled-one (x ∷ xs) (suc (suc i)) event stands = rolled-one xs (suc i) event stands
 
 pub removed-one : (n : ℕ) (history : List Event) (name : StepId) (removed : List Event × List Event) → rollback_of n history name ≡ Ok removed → 1 ≤ length removed.0
 removed-one n history name removed h =
     result_cases (1 ≤ length removed.0) (event_named n history name)
     (λ found is. let f : rollback_of n history name ≡ Ok removed → 1 ≤ length removed.0 =
     rw is (λ k. subst (λ (r : List Event × List Event). 1 ≤ length r.0) (ok_same _ removed k)
-    (omega (arith, length-reverse (rolled_back depends history found.position), rolled-one history found.position found.event (standing-at n history name found is)))) in
+    (omega (arith, length-reverse (from_one.rolled_back depends history found.position), rolled-one history found.position found.event (standing-at n history name found is)))) in
     f h)
     (λ why is. let f : rollback_of n history name ≡ Ok removed → 1 ≤ length removed.0 = rw is (λ k. absurd (cc)) in f h)
 

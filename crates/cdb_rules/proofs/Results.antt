@@ -1,16 +1,18 @@
 -- What an undo is answered, by what is found.
-use Rattle.std.proofs.Common.{◌≡◌, ℕ, zero, suc, ◌+◌, ◌<◌, Bool, true, false, List, [], ◌∷◌, Some, None, Ok, Err, find, drop, take, length, ◌-◌, ⊎_elim, slice_get, refl, sym, ap, ap₂, ◌∙◌, arith, cond}
+use Rattle.std.proofs.Common.{◌≡◌, ℕ, zero, suc, ◌+◌, ◌<◌, ◌≤◌, Bool, true, false, List, [], ◌∷◌, Some, None, Ok, Err, find, drop, length, ◌-◌, ⊎_elim, slice_get, refl, sym, ap, ap₂, ◌∙◌, arith, cond}
 use Rattle.std.proofs.lemmas.Option.{none-some, same_Some, slice_get_cases}
 use Rattle.std.specs.Option.{option_map_or}
 use Rattle.std.specs.Result.{result_err}
 use Rattle.cdb_base.specs.Event.{event_name}
+use Rattle.cdb_base.specs.Positions.{nth}
 use Rattle.cdb_base.specs.declared.event.Event.{Event}
 use Rattle.cdb_base.specs.declared.name.StepId.{StepId}
 use Rattle.cdb_base.specs.declared.refusal.Refusal.TheVariants as refusal
 use Rattle.cdb_causal.specs.Causality.{IsFree}
 use Rattle.cdb_causal.specs.Dependence.{depends}
 use Rattle.cdb_causal.specs.Names.{IsFirstDependent}
-use Rattle.cdb_causal.specs.Rollback.{without}
+use Rattle.cdb_causal.specs.Rollback.{events_before, events_behind, without}
+use Rattle.cdb_causal.proofs.FromOne.{next_is}
 use Rattle.cdb_rules.specs.Undo.{result_alone, found_at, for_standing, undo_found}
 use Rattle.cdb_rules.proofs.Kept.{is_false}
 
@@ -35,51 +37,53 @@ get-drop [] (suc i) k n e = refl
 get-drop (x ∷ xs) (suc i) k zero e = absurd (omega (arith, e))
 get-drop (x ∷ xs) (suc i) k (suc n) e = get-drop xs i k n (omega (arith, e))
 
-module _ (history : List Event) (i : ℕ) where
-  module _ (event : Event) (at : slice_get history i ≡ Some event) where
-    pub found_is : found_at history i ≡ Ok (record { event = event; position = i; earlier = take i history; later = drop (suc i) history })
-    found_is = ap (λ o. option_map_or (λ e. Ok (record { event = e; position = i; earlier = take i history; later = drop (suc i) history })) o (Err refusal.NoStep)) at
+module _ (history : List Event) (at : ℕ) where
+  module _ (event : Event) (stands : nth history at ≡ Some event) where
+    pub found_is : found_at history at ≡ Ok (record { event = event; position = at; earlier = events_before history at; later = events_behind history at })
+    found_is = ap (λ o. option_map_or (λ e. Ok (record { event = e; position = at; earlier = events_before history at; later = events_behind history at })) o (Err refusal.NoStep)) stands
 
-    none_needs : IsFree depends history i → find (depends event) (drop (suc i) history) ≡ None
+    none_needs : IsFree depends history at → find (depends event) (drop at history) ≡ None
     none_needs free =
-        find_none (depends event) (drop (suc i) history)
+        find_none (depends event) (drop at history)
         (λ k later at_k. is_false (depends event later)
-        (λ linked. free (suc i + k) (record { cause = event; effect = later; later = omega arith; at_cause = at; at_effect = sym (get-drop history (suc i) k (suc i + k) refl) ∙ at_k; linked = linked })))
+        (λ linked. free (suc (at + k)) (record { cause = event; effect = later; later = omega arith; at_cause = stands; at_effect = sym (get-drop history at k (at + k) refl) ∙ at_k; linked = linked })))
 
     -- a free event is taken back
-    pub free_result : IsFree depends history i → for_standing (found_at history i) (undo_found history) ≡ Ok (event, without history i)
+    pub free_result : IsFree depends history at → for_standing (found_at history at) (undo_found history) ≡ Ok (event, without history at)
     free_result free =
         ap (λ f. for_standing f (undo_found history)) found_is
-        ∙ ap (λ o. option_map_or (λ dependent. Err (refusal.NeededBy (event_name dependent))) o (Ok (event, without history i))) (none_needs free)
+        ∙ ap (λ o. option_map_or (λ dependent. Err (refusal.NeededBy (event_name dependent))) o (Ok (event, without history at))) (none_needs free)
 
-    first_needs : (name : StepId) (first : IsFirstDependent history i name) → find (depends event) (drop (suc i) history) ≡ Some first.named.0
+    first_needs : (name : StepId) (first : IsFirstDependent history at name) → find (depends event) (drop at history) ≡ Some first.named.0
     first_needs name first =
         let later = first.link.later in
         let position = first.position in
-        let k = position - suc i in
-        let e : position ≡ suc i + k = omega (arith, later) in
-        let same_cause = same_Some first.link.cause event (sym first.link.at_cause ∙ at) in
+        let k = position - suc at in
+        let e : suc (at + k) ≡ position = omega (arith, later) in
+        let same_cause = same_Some first.link.cause event (sym first.link.at_cause ∙ stands) in
         let same_effect = same_Some first.link.effect first.named.0 (sym first.link.at_effect ∙ first.named.1) in
-        find_first (depends event) (drop (suc i) history) k first.named.0 (get-drop history (suc i) k position e ∙ first.named.1) (sym (ap₂ depends same_cause same_effect) ∙ first.link.linked)
+        find_first (depends event) (drop at history) k first.named.0 (get-drop history at k (at + k) refl ∙ ap (nth history) e ∙ first.named.1) (sym (ap₂ depends same_cause same_effect) ∙ first.link.linked)
         (λ l other less at_l. is_false (depends event other)
         (λ linked.
-        let before = first.first (suc i + l) (record { cause = event; effect = other; later = omega arith; at_cause = at; at_effect = sym (get-drop history (suc i) l (suc i + l) refl) ∙ at_l; linked = linked }) in
+        let before = first.first (suc (at + l)) (record { cause = event; effect = other; later = omega arith; at_cause = stands; at_effect = sym (get-drop history at l (at + l) refl) ∙ at_l; linked = linked }) in
         omega (arith, before, less, e)))
 
     -- one that is needed is refused, with the first that needs it
-    pub needed_result : (name : StepId) → IsFirstDependent history i name → for_standing (found_at history i) (undo_found history) ≡ Err (refusal.NeededBy name)
+    pub needed_result : (name : StepId) → IsFirstDependent history at name → for_standing (found_at history at) (undo_found history) ≡ Err (refusal.NeededBy name)
     needed_result name first =
         ap (λ f. for_standing f (undo_found history)) found_is
-        ∙ ap (λ o. option_map_or (λ dependent. Err (refusal.NeededBy (event_name dependent))) o (Ok (event, without history i))) (first_needs name first)
+        ∙ ap (λ o. option_map_or (λ dependent. Err (refusal.NeededBy (event_name dependent))) o (Ok (event, without history at))) (first_needs name first)
         ∙ ap (λ n. Err (refusal.NeededBy n)) first.named.2
 
 -- what an undo of the event at a position is refused with, by the first event that needs it
-module _ (history : List Event) (i : ℕ) (within : i < length history) where
-  at_position : (event : Event) × (slice_get history i ≡ Some event)
-  at_position = ⊎_elim (λ there. (there.0, there.2)) (λ past. absurd (let end = past.0 in omega (arith, end, within))) (slice_get_cases history i).1
+module _ (history : List Event) (at : ℕ) (from_one : 1 ≤ at) (within : at ≤ length history) where
+  at_position : (event : Event) × (nth history at ≡ Some event)
+  at_position =
+      ⊎_elim (λ there. (there.0, ap (nth history) (sym (next_is at from_one)) ∙ there.2)) (λ past. absurd (let end = past.0 in omega (arith, end, within, from_one)))
+      (slice_get_cases history (at - 1)).1
 
-  pub free_unrefused : IsFree depends history i → None ≡ result_err (result_alone (for_standing (found_at history i) (undo_found history)))
-  free_unrefused free = sym (ap (λ a. result_err (result_alone a)) (free_result history i at_position.0 at_position.1 free))
+  pub free_unrefused : IsFree depends history at → None ≡ result_err (result_alone (for_standing (found_at history at) (undo_found history)))
+  free_unrefused free = sym (ap (λ a. result_err (result_alone a)) (free_result history at at_position.0 at_position.1 free))
 
-  pub needed_refused : (name : StepId) → IsFirstDependent history i name → Some (refusal.NeededBy name) ≡ result_err (result_alone (for_standing (found_at history i) (undo_found history)))
-  needed_refused name first = sym (ap (λ a. result_err (result_alone a)) (needed_result history i at_position.0 at_position.1 name first))
+  pub needed_refused : (name : StepId) → IsFirstDependent history at name → Some (refusal.NeededBy name) ≡ result_err (result_alone (for_standing (found_at history at) (undo_found history)))
+  needed_refused name first = sym (ap (λ a. result_err (result_alone a)) (needed_result history at at_position.0 at_position.1 name first))

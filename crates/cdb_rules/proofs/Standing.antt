@@ -1,7 +1,8 @@
 -- What an undo and a rollback are answered where the name is that of an event, and where it is not.
-use Rattle.std.proofs.Common.{◌≡◌, ℕ, zero, suc, ◌-◌, ◌&&◌, true, false, ⊎_elim, List, [], ◌∷◌, ◌++◌, length, reverse, Some, Result, Ok, Err, slice_get, not, refl, sym, ap, ap₂, ◌∙◌, subst, arith}
+use Rattle.std.proofs.Common.{◌≡◌, ℕ, zero, suc, ◌&&◌, true, false, ⊎_elim, List, [], ◌∷◌, ◌++◌, length, reverse, Some, Result, Ok, Err, not, refl, sym, ap, ap₂, ◌∙◌, subst}
 use Rattle.std.proofs.lemmas.Option.{none-some}
 use Rattle.cdb_base.specs.Event.{event_name}
+use Rattle.cdb_base.specs.Positions.{nth}
 use Rattle.cdb_base.specs.declared.event.Event.{Event}
 use Rattle.cdb_base.specs.declared.event.Event.TheVariants.{Step, Lost}
 use Rattle.cdb_base.specs.declared.event.Kind.{Kind}
@@ -16,6 +17,8 @@ use Rattle.cdb_causal.specs.Exchange.{IsIn}
 use Rattle.cdb_causal.specs.Names.{IsNamedAt, IsNewName, IsFirstDependent}
 use Rattle.cdb_causal.specs.Rollback.{without, remaining, rolled_back}
 use Rattle.cdb_causal.proofs.Dependents.{get_push_back, last_free, without_push_back}
+use Rattle.cdb_causal.proofs.FromOne.{free_up, without_is}
+use Rattle.cdb_causal.proofs.Lists.{push_cases}
 use Rattle.cdb_message.specs.Mail.{is_sent, is_received, is_lost}
 use Rattle.cdb_rules.specs.Mail.{mail_of}
 use Rattle.cdb_rules.specs.State.{Machine, RunState, start}
@@ -23,7 +26,7 @@ use Rattle.cdb_rules.specs.Step.{IsValid, is_among, after, fold}
 use Rattle.cdb_rules.specs.Undo.{Found, IsEventNamed, event_named, found_at, for_standing, names_processes, undo_found, undo_of, rollback_of}
 use Rattle.cdb_rules.proofs.Results.{free_result, needed_result, found_is}
 use Rattle.cdb_rules.proofs.Commutes.{lost_from}
-use Rattle.cdb_rules.proofs.Finding.{stands_named, none_named, no_process_named, among_is}
+use Rattle.cdb_rules.proofs.Finding.{stands_from_one, stands_named, none_named, no_process_named, among_is}
 use Rattle.cdb_rules.proofs.Limits.{in_front}
 use Rattle.cdb_rules.proofs.Members.{Reaches, first_step}
 use Rattle.cdb_rules.proofs.Naming.{in_cases, in_position, of_processes, lost_after_send, names_differ}
@@ -33,37 +36,25 @@ use Rattle.cdb_rules.proofs.Taken.{both, some_of}
 abbrev all_rolled_back : List Event → Found → Result (List Event × List Event) Refusal
 all_rolled_back history found = Ok (reverse (rolled_back depends history found.position), remaining depends history found.position)
 
--- positions are counted from 0, and of a name from 1
-less_one : (i : ℕ) → i ≡ suc i - 1
-less_one i = omega arith
-
 -- the event there has its name, and where no other has, that is its position
-named_alone : (n : ℕ) (history : List Event) (i : ℕ) (event : Event) → names_processes n (event_name event) ≡ true → slice_get history i ≡ Some event → ((j : ℕ) → IsNamedAt history j (event_name event) → j ≡ i) → IsEventNamed n history (event_name event) i event
-named_alone n history i event there at only =
-    record {
-      among = there;
-      at = at;
-      position = record {
-        from_one = omega arith;
-        named = (event, subst (λ j. slice_get history j ≡ Some event) (less_one i) at, refl);
-        only = λ j named. only j named ∙ less_one i;
-      };
-    }
+named_alone : (n : ℕ) (history : List Event) (at : ℕ) (event : Event) → names_processes n (event_name event) ≡ true → nth history at ≡ Some event → ((other : ℕ) → IsNamedAt history other (event_name event) → other ≡ at) → IsEventNamed n history (event_name event) at event
+named_alone n history at event there stands only =
+    record { among = there; stands = stands; its_position = record { from_one = stands_from_one history at event stands; named = (event, stands, refl); only = only } }
 
 module _ (n : ℕ) (history : List Event) (name : StepId) where
-  module _ (i : ℕ) (event : Event) (is : IsEventNamed n history name i event) where
-    standing : event_named n history name ≡ found_at history i
-    standing = stands_named history name n (suc i) is.among is.position ∙ ap (found_at history) (sym (less_one i))
+  module _ (at : ℕ) (event : Event) (is : IsEventNamed n history name at event) where
+    standing : event_named n history name ≡ found_at history at
+    standing = stands_named history name n at is.among is.its_position
 
-    pub free_undone : IsFree depends history i → undo_of n history name ≡ Ok (event, without history i)
-    free_undone free = ap (λ found. for_standing found (undo_found history)) standing ∙ free_result history i event is.at free
+    pub free_undone : IsFree depends history at → undo_of n history name ≡ Ok (event, without history at)
+    free_undone free = ap (λ found. for_standing found (undo_found history)) standing ∙ free_result history at event is.stands free
 
-    pub needed_refused : (dependent : StepId) → IsFirstDependent history i dependent → undo_of n history name ≡ Err (refusal.NeededBy dependent)
+    pub needed_refused : (dependent : StepId) → IsFirstDependent history at dependent → undo_of n history name ≡ Err (refusal.NeededBy dependent)
     needed_refused dependent first =
-        ap (λ found. for_standing found (undo_found history)) standing ∙ needed_result history i event is.at dependent first
+        ap (λ found. for_standing found (undo_found history)) standing ∙ needed_result history at event is.stands dependent first
 
-    pub standing_rolled_back : rollback_of n history name ≡ Ok (reverse (rolled_back depends history i), remaining depends history i)
-    standing_rolled_back = ap (λ found. for_standing found (all_rolled_back history)) (standing ∙ found_is history i event is.at)
+    pub standing_rolled_back : rollback_of n history name ≡ Ok (reverse (rolled_back depends history at), remaining depends history at)
+    standing_rolled_back = ap (λ found. for_standing found (all_rolled_back history)) (standing ∙ found_is history at event is.stands)
 
   module _ (there : names_processes n name ≡ true) (new : IsNewName history name) where
     pub new_undone : undo_of n history name ≡ Err refusal.NoStep
@@ -81,20 +72,25 @@ module _ (n : ℕ) (history : List Event) (name : StepId) where
 
 -- an event that was just taken, under a new name, is the one of its name, at the end
 
-last_only : (history : List Event) (event : Event) (name : StepId) → IsNewName history name → (j : ℕ) → IsNamedAt (history ++ event ∷ []) j name → j ≡ length history
-last_only [] event name new zero named = refl
-last_only [] event name new (suc j) named = absurd (none-some named.0 named.1)
-last_only (x ∷ xs) event name new zero named = absurd (new zero named)
-last_only (x ∷ xs) event name new (suc j) named = ap suc (last_only xs event name (λ k at. new (suc k) at) j named)
+last_only : (history : List Event) (event : Event) (name : StepId) → IsNewName history name → (at : ℕ) → IsNamedAt (history ++ event ∷ []) at name → at ≡ suc (length history)
+last_only history event name new zero named = absurd (none-some named.0 named.1)
+last_only history event name new (suc i) named = ⊎_elim (λ old. absurd (new (suc i) (named.0, old.0, named.2))) (λ last. ap suc last.1) (push_cases history event named.0 i named.1)
+
+-- and it can be undone, which leaves what stood before it
+pub last_taken_free : (history : List Event) (event : Event) → IsFree depends (history ++ event ∷ []) (suc (length history))
+last_taken_free history event = free_up depends (history ++ event ∷ []) (length history) (last_free depends history event)
+
+pub without_last : (history : List Event) (event : Event) → without (history ++ event ∷ []) (suc (length history)) ≡ history
+without_last history event = without_is (history ++ event ∷ []) (length history) ∙ without_push_back history event
 
 module _ (n : ℕ) (history : List Event) (event : Event) (there : names_processes n (event_name event) ≡ true) (new : IsNewName history (event_name event)) where
-  last_named : IsEventNamed n (history ++ event ∷ []) (event_name event) (length history) event
-  last_named = named_alone n (history ++ event ∷ []) (length history) event there (get_push_back history event) (last_only history event (event_name event) new)
+  last_named : IsEventNamed n (history ++ event ∷ []) (event_name event) (suc (length history)) event
+  last_named = named_alone n (history ++ event ∷ []) (suc (length history)) event there (get_push_back history event) (last_only history event (event_name event) new)
 
   pub last_undone : undo_of n (history ++ event ∷ []) (event_name event) ≡ Ok (event, history)
   last_undone =
-      free_undone n (history ++ event ∷ []) (event_name event) (length history) event last_named (last_free depends history event)
-      ∙ ap (λ left. Ok (event, left)) (without_push_back history event)
+      free_undone n (history ++ event ∷ []) (event_name event) (suc (length history)) event last_named (last_taken_free history event)
+      ∙ ap (λ left. Ok (event, left)) (without_last history event)
 
 -- In a valid history each event is the one of its name.
 
@@ -132,7 +128,8 @@ module _ {L : Type 0} (machine : Machine L) where
         (stepped copy.msg.s sent.0 (Send copy.msg.m) (in_front (Step copy.msg.s sent.0 (Send copy.msg.m)) (Lost copy) history sent.1))
         (lost_to history (start machine) to.0 to.1 copy i)
 
-    pub valid_named : (i : ℕ) (event : Event) → slice_get history i ≡ Some event → IsEventNamed count history (event_name event) i event
-    valid_named i event at =
-        named_alone count history i event (its_processes event (in_position history i event at)) at
-        (λ j named. names_differ machine history valid j i (event_name event) named (event, at, refl))
+    pub valid_named : (at : ℕ) (event : Event) → nth history at ≡ Some event → IsEventNamed count history (event_name event) at event
+    valid_named zero event stands = absurd (none-some event stands)
+    valid_named (suc i) event stands =
+        named_alone count history (suc i) event (its_processes event (in_position history i event stands)) stands
+        (λ other named. names_differ machine history valid other (suc i) (event_name event) named (event, stands, refl))

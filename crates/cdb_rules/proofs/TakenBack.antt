@@ -1,15 +1,16 @@
 -- What was just taken can be undone, what is undone can be taken again, and what stands in the way of an undo.
-use Rattle.std.proofs.Common.{◌≡◌, ◌↔◌, ℕ, List, [], ◌∷◌, ◌++◌, length, Result, Ok, Err, IsOk, IfOk, IsSome, option_and_then, reverse, append-nil, refl, sym, ap, ◌∙◌, subst, true≢false}
+use Rattle.std.proofs.Common.{◌≡◌, ◌↔◌, ℕ, suc, List, [], ◌∷◌, ◌++◌, length, Result, Ok, Err, IsOk, IfOk, IsSome, option_and_then, reverse, append-nil, refl, sym, ap, ◌∙◌, subst, true≢false}
 use Rattle.std.proofs.lemmas.List.{reverse-reverse}
 use Rattle.cdb_base.specs.Event.{event_name}
 use Rattle.cdb_base.specs.declared.event.Event.{Event}
 use Rattle.cdb_base.specs.declared.name.StepId.{StepId}
 use Rattle.cdb_base.specs.declared.refusal.Refusal.{Refusal}
 use Rattle.cdb_causal.specs.Dependence.{depends}
+use Rattle.cdb_causal.specs.Laws.{IsRollback}
 use Rattle.cdb_causal.specs.Names.{IsNamedAt}
-use Rattle.cdb_causal.specs.Rollback.{IsParted, IsRolledBack, rolled_back, remaining}
-use Rattle.cdb_causal.proofs.Chains.{parted}
-use Rattle.cdb_causal.proofs.Dependents.{get_push_back, last_free, without_push_back}
+use Rattle.cdb_causal.specs.Rollback.{rolled_back, remaining}
+use Rattle.cdb_causal.proofs.Dependents.{get_push_back}
+use Rattle.cdb_causal.proofs.LawsFromOne.{parted}
 use Rattle.cdb_causal.proofs.Reaches.{reached_push}
 use Rattle.cdb_rules.specs.RunView.{RunView}
 use Rattle.cdb_rules.specs.Runs.{IsExactRollback, rollback_in, after_rollback}
@@ -17,9 +18,9 @@ use Rattle.cdb_rules.specs.State.{Machine, start}
 use Rattle.cdb_rules.specs.Step.{IsValid, IsEnabled, after, fold, state_of}
 use Rattle.cdb_rules.specs.Undo.{IsEventNamed, IsFreeName, undo_of, rollback_of, result_alone, left_by, with_removed}
 use Rattle.cdb_rules.proofs.WhereOk.{undone_free, undone_back, rolled_back_where_ok, rolled_back_back}
-use Rattle.cdb_rules.proofs.Finding.{has_name_is}
+use Rattle.cdb_rules.proofs.Finding.{has_name_is, stands_from_one}
 use Rattle.cdb_rules.proofs.Histories.{reached_state}
-use Rattle.cdb_rules.proofs.Standing.{free_undone, valid_named}
+use Rattle.cdb_rules.proofs.Standing.{free_undone, last_taken_free, valid_named, without_last}
 
 module _ {L : Type 0} (machine : Machine L) (n : ℕ) (number : length machine.firsts ≡ n) (history : List Event) (valid : IsValid machine history) where
   module _ (name : StepId) where
@@ -88,17 +89,18 @@ module _ {L : Type 0} (machine : Machine L) (n : ℕ) (number : length machine.f
   pub just_taken : (event : Event) → IsEnabled machine (state_of machine history) event → undo_of n (history ++ event ∷ []) (event_name event) ≡ Ok (event, history)
   just_taken event enabled =
       let longer = history ++ event ∷ [] in
-      let is = subst (λ (m : ℕ). IsEventNamed m longer (event_name event) (length history) event) number
-      (valid_named machine longer (valid_push event enabled) (length history) event (get_push_back history event)) in
-      free_undone n longer (event_name event) (length history) event is (last_free depends history event)
-      ∙ ap (λ (left : List Event). let r : Result (Event × List Event) Refusal = Ok (event, left) in r) (without_push_back history event)
+      let last = suc (length history) in
+      let is = subst (λ (m : ℕ). IsEventNamed m longer (event_name event) last event) number
+      (valid_named machine longer (valid_push event enabled) last event (get_push_back history event)) in
+      free_undone n longer (event_name event) last event is (last_taken_free history event)
+      ∙ ap (λ (left : List Event). let r : Result (Event × List Event) Refusal = Ok (event, left) in r) (without_last history event)
 
 -- a rollback that is granted takes back the event of the name with exactly its consequences
 pub exact_rollback : (run : RunView) (name : StepId) → IsExactRollback run name (after_rollback run name)
 exact_rollback run name = go (rollback_in run name) refl
   where
     go : (r : Result (List Event × List Event) Refusal) → rollback_in run name ≡ r
-        → IfOk (result_alone r) (λ removed. (i : ℕ) × IsNamedAt run.history i name × IsParted (IsRolledBack depends run.history i) 0 run.history (left_by run.history r) (reverse removed))
+        → IfOk (result_alone r) (λ removed. (at : ℕ) × IsNamedAt run.history at name × IsRollback depends run.history at (left_by run.history r) (reverse removed))
     go (Err why) is = tt
     go (Ok done) is =
         let u = rolled_back_where_ok run.setup.processes run.history name done.0 done.1 is in
@@ -107,6 +109,6 @@ exact_rollback run name = go (rollback_in run name) refl
         let back : reverse done.0 ≡ rolled_back depends run.history i = ap reverse u.4 ∙ reverse-reverse (rolled_back depends run.history i) in (
           i,
           (event, u.3, has_name_is name event u.2),
-          subst (λ (left : List Event). IsParted (IsRolledBack depends run.history i) 0 run.history left (reverse done.0)) (sym u.5)
-              (subst (λ (removed : List Event). IsParted (IsRolledBack depends run.history i) 0 run.history (remaining depends run.history i) removed) (sym back) (parted depends run.history i)),
+          subst (λ (left : List Event). IsRollback depends run.history i left (reverse done.0)) (sym u.5)
+              (subst (λ (removed : List Event). IsRollback depends run.history i (remaining depends run.history i) removed) (sym back) (parted depends run.history i (stands_from_one run.history i event u.3))),
         )

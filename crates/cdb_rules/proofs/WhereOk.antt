@@ -1,11 +1,12 @@
 -- What the answer of an undo says.
-use Rattle.std.proofs.Common.{◌≡◌, ℕ, zero, suc, ◌+◌, ◌-◌, Bool, true, false, List, [], ◌∷◌, ◌++◌, Option, Some, None, Result, Ok, Err, cond, find, drop, reverse, take, slice_get, if◌then◌else◌, refl, sym, ap, ap₂, ◌∙◌, subst, true≢false, arith}
+use Rattle.std.proofs.Common.{◌≡◌, ℕ, zero, suc, ◌+◌, ◌-◌, Bool, true, false, List, [], ◌∷◌, ◌++◌, Option, option_map, Some, None, Result, Ok, Err, cond, find, drop, reverse, slice_get, if◌then◌else◌, refl, sym, ap, ap₂, ◌∙◌, subst, true≢false, arith}
 use Rattle.std.proofs.lemmas.List.{reverse-reverse}
 use Rattle.std.proofs.lemmas.Option.{none-some, same_Some, get_or_from_slice_get}
 use Rattle.std.proofs.lemmas.List.Quantifiers.{position-Some}
 use Rattle.std.specs.List.{position}
 use Rattle.std.specs.Option.{option_map_or}
 use Rattle.cdb_base.specs.Event.{event_name}
+use Rattle.cdb_base.specs.Positions.{nth}
 use Rattle.cdb_base.specs.declared.event.Event.{Event}
 use Rattle.cdb_base.specs.declared.name.StepId.{StepId}
 use Rattle.cdb_base.specs.declared.refusal.Refusal.{Refusal}
@@ -13,8 +14,8 @@ use Rattle.cdb_base.specs.declared.refusal.Refusal.TheVariants as refusal
 use Rattle.cdb_causal.specs.Causality.{IsFree}
 use Rattle.cdb_causal.specs.Dependence.{depends}
 use Rattle.cdb_causal.specs.Names.{IsNamedAt}
-use Rattle.cdb_causal.specs.Rollback.{without, remaining, rolled_back}
-use Rattle.cdb_rules.specs.Undo.{Found, found_at, event_named, for_standing, undo_found, undo_of, rollback_of, names_processes, is_named}
+use Rattle.cdb_causal.specs.Rollback.{events_before, events_behind, without, remaining, rolled_back}
+use Rattle.cdb_rules.specs.Undo.{Found, position_of, found_at, event_named, for_standing, undo_found, undo_of, rollback_of, names_processes, is_named}
 use Rattle.cdb_rules.specs.State.{Machine}
 use Rattle.cdb_rules.specs.Step.{IsValid, after, fold, state_of}
 use Rattle.cdb_rules.proofs.Results.{get-drop, found_is}
@@ -33,7 +34,7 @@ all_fail test (y ∷ ys) none k x at = go (test y) refl none (λ h l at_l. all_f
 
 -- the event at a position, with what stood before and came later
 abbrev found : List Event → ℕ → Event → Found
-found history i event = record { event = event; position = i; earlier = take i history; later = drop (suc i) history }
+found history at event = record { event = event; position = at; earlier = events_before history at; later = events_behind history at }
 
 not_ok : {A B : Type 0} (why : Refusal) (done : A) → ◌≡◌ {A = Result A Refusal} (Err why) (Ok done) → B
 not_ok why done h = absurd (cc)
@@ -44,23 +45,23 @@ same_Ok one other h = cc
 -- what is answered Ok is the answer for an event of that name that stands
 module _ {A : Type 0} (history : List Event) (name : StepId) (returned : Found → Result A Refusal) (done : A) where
   abbrev StandsWhereOk : Type 0
-  StandsWhereOk = (i : ℕ) × (event : Event) × (is_named name event ≡ true) × (slice_get history i ≡ Some event) × (returned (found history i event) ≡ Ok done)
+  StandsWhereOk = (at : ℕ) × (event : Event) × (is_named name event ≡ true) × (nth history at ≡ Some event) × (returned (found history at event) ≡ Ok done)
 
-  by_slice : (i : ℕ) → position (is_named name) history ≡ Some i → (o : Option Event) → slice_get history i ≡ o → for_standing (option_map_or (λ event. Ok (found history i event)) o (Err refusal.NoStep)) returned ≡ Ok done → StandsWhereOk
+  by_slice : (i : ℕ) → position (is_named name) history ≡ Some i → (o : Option Event) → slice_get history i ≡ o → for_standing (option_map_or (λ event. Ok (found history (suc i) event)) o (Err refusal.NoStep)) returned ≡ Ok done → StandsWhereOk
   by_slice i there None e h = not_ok refusal.NoStep done h
   by_slice i there (Some event) e h = (
-    i,
+    suc i,
     event,
     sym (ap (is_named name) (get_or_from_slice_get history i event event e)) ∙ (position-Some (is_named name) history i event there).1,
     e,
     h,
   )
 
-  by_position : (o : Option ℕ) → position (is_named name) history ≡ o → for_standing (option_map_or (found_at history) o (Err refusal.NoStep)) returned ≡ Ok done → StandsWhereOk
+  by_position : (o : Option ℕ) → position (is_named name) history ≡ o → for_standing (option_map_or (found_at history) (option_map suc o) (Err refusal.NoStep)) returned ≡ Ok done → StandsWhereOk
   by_position None there h = not_ok refusal.NoStep done h
   by_position (Some i) there h = by_slice i there (slice_get history i) refl h
 
-  by_names : (b : Bool) → for_standing (if b then option_map_or (found_at history) (position (is_named name) history) (Err refusal.NoStep) else Err refusal.NoProcess) returned ≡ Ok done → StandsWhereOk
+  by_names : (b : Bool) → for_standing (if b then option_map_or (found_at history) (position_of name history) (Err refusal.NoStep) else Err refusal.NoProcess) returned ≡ Ok done → StandsWhereOk
   by_names false h = not_ok refusal.NoProcess done h
   by_names true h = by_position (position (is_named name) history) refl h
 
@@ -68,34 +69,34 @@ module _ {A : Type 0} (history : List Event) (name : StepId) (returned : Found �
   stands_where_ok n h = by_names (names_processes n name) h
 
 -- the event that is found by a name has it
-pub found_named : (n : ℕ) (history : List Event) (name : StepId) (i : ℕ) (event : Event) → slice_get history i ≡ Some event → event_named n history name ≡ found_at history i → IsNamedAt history i name
-found_named n history name i event at is =
-    let s = stands_where_ok history name (λ standing. Ok standing) (found history i event) n (ap (λ (f : Result Found Refusal). for_standing f (λ standing. Ok standing)) (is ∙ found_is history i event at)) in
-    let same : s.0 ≡ i = ap (λ (f : Found). f.position) (same_Ok (found history s.0 s.1) (found history i event) s.4) in
+pub found_named : (n : ℕ) (history : List Event) (name : StepId) (at : ℕ) (event : Event) → nth history at ≡ Some event → event_named n history name ≡ found_at history at → IsNamedAt history at name
+found_named n history name at event stands is =
+    let s = stands_where_ok history name (λ standing. Ok standing) (found history at event) n (ap (λ (f : Result Found Refusal). for_standing f (λ standing. Ok standing)) (is ∙ found_is history at event stands)) in
+    let same : s.0 ≡ at = ap (λ (f : Found). f.position) (same_Ok (found history s.0 s.1) (found history at event) s.4) in
     subst (λ (j : ℕ). IsNamedAt history j name) same (s.1, s.3, has_name_is name s.1 s.2)
 
-module _ (history : List Event) (i : ℕ) (event : Event) (at : slice_get history i ≡ Some event) where
-  free_if : find (depends event) (drop (suc i) history) ≡ None → IsFree depends history i
+module _ (history : List Event) (at : ℕ) (event : Event) (stands : nth history at ≡ Some event) where
+  free_if : find (depends event) (drop at history) ≡ None → IsFree depends history at
   free_if none j l =
       let later = l.later in
-      let k = j - suc i in
-      let e : j ≡ suc i + k = omega (arith, later) in
-      let same = same_Some l.cause event (sym l.at_cause ∙ at) in
-      true≢false (sym l.linked ∙ ap (λ c. depends c l.effect) same ∙ all_fail (depends event) (drop (suc i) history) none k l.effect (get-drop history (suc i) k j e ∙ l.at_effect))
+      let k = j - suc at in
+      let e : suc (at + k) ≡ j = omega (arith, later) in
+      let same = same_Some l.cause event (sym l.at_cause ∙ stands) in
+      true≢false (sym l.linked ∙ ap (λ c. depends c l.effect) same ∙ all_fail (depends event) (drop at history) none k l.effect (get-drop history at k (at + k) refl ∙ ap (nth history) e ∙ l.at_effect))
 
-  by_find : (done : Event × List Event) (o : Option Event) → find (depends event) (drop (suc i) history) ≡ o
-      → ◌≡◌ {A = Result (Event × List Event) Refusal} (option_map_or (λ dependent. Err (refusal.NeededBy (event_name dependent))) o (Ok (event, without history i))) (Ok done)
-      → (slice_get history i ≡ Some done.0) × IsFree depends history i × (done.1 ≡ without history i)
+  by_find : (done : Event × List Event) (o : Option Event) → find (depends event) (drop at history) ≡ o
+      → ◌≡◌ {A = Result (Event × List Event) Refusal} (option_map_or (λ dependent. Err (refusal.NeededBy (event_name dependent))) o (Ok (event, without history at))) (Ok done)
+      → (nth history at ≡ Some done.0) × IsFree depends history at × (done.1 ≡ without history at)
   by_find done (Some dependent) e h = not_ok (refusal.NeededBy (event_name dependent)) done h
   by_find done None e h =
-      let same : ◌≡◌ {A = Event × List Event} (event, without history i) done = same_Ok (event, without history i) done h in
-      (at ∙ ap (λ d. Some d.0) same, free_if e, sym (ap (λ d. d.1) same))
+      let same : ◌≡◌ {A = Event × List Event} (event, without history at) done = same_Ok (event, without history at) done h in
+      (stands ∙ ap (λ d. Some d.0) same, free_if e, sym (ap (λ d. d.1) same))
 
-pub undone_free : (n : ℕ) (history : List Event) (name : StepId) (event : Event) (left : List Event) → undo_of n history name ≡ Ok (event, left) → (i : ℕ) × (is_named name event ≡ true) × (slice_get history i ≡ Some event) × IsFree depends history i × (left ≡ without history i)
+pub undone_free : (n : ℕ) (history : List Event) (name : StepId) (event : Event) (left : List Event) → undo_of n history name ≡ Ok (event, left) → (at : ℕ) × (is_named name event ≡ true) × (nth history at ≡ Some event) × IsFree depends history at × (left ≡ without history at)
 undone_free n history name event left returned =
     let done : Event × List Event = (event, left) in
     let s = stands_where_ok history name (undo_found history) done n returned in
-    let u = by_find history s.0 s.1 s.3 done (find (depends s.1) (drop (suc s.0) history)) refl s.4 in
+    let u = by_find history s.0 s.1 s.3 done (find (depends s.1) (drop s.0 history)) refl s.4 in
     let same = same_Some s.1 event (sym s.3 ∙ u.0) in
     (s.0, subst (λ e. is_named name e ≡ true) same s.2, u.0, u.1, u.2)
 
@@ -107,7 +108,7 @@ undone_back machine n history name event left returned valid =
     (undo_valid machine history u.0 event u.2 u.3 valid, undo_again machine history u.0 event u.2 u.3 valid)
 
 pub rolled_back_where_ok : (n : ℕ) (history : List Event) (name : StepId) (removed left : List Event) → rollback_of n history name ≡ Ok (removed, left)
-    → (i : ℕ) × (event : Event) × (is_named name event ≡ true) × (slice_get history i ≡ Some event) × (removed ≡ reverse (rolled_back depends history i)) × (left ≡ remaining depends history i)
+    → (at : ℕ) × (event : Event) × (is_named name event ≡ true) × (nth history at ≡ Some event) × (removed ≡ reverse (rolled_back depends history at)) × (left ≡ remaining depends history at)
 rolled_back_where_ok n history name removed left returned =
     let done : List Event × List Event = (removed, left) in
     let s = stands_where_ok history name (λ standing. Ok (reverse (rolled_back depends history standing.position), remaining depends history standing.position)) done n returned in

@@ -1,6 +1,7 @@
 -- What the rules of a run keep to.
-use Rattle.std.specs.Prelude.{◌≡◌, ℕ, true, List, [], ◌∷◌, ◌++◌, Some, Ok, IsTrue, slice_get}
+use Rattle.std.specs.Prelude.{◌≡◌, ℕ, true, List, [], ◌∷◌, ◌++◌, Some, Ok, IsTrue}
 use Rattle.cdb_base.specs.Event.{event_name}
+use Rattle.cdb_base.specs.Positions.{nth}
 use Rattle.cdb_base.specs.declared.act.Act.{Act}
 use Rattle.cdb_base.specs.declared.event.Event.{Event}
 use Rattle.cdb_base.specs.declared.name.CopyName.{CopyName}
@@ -50,10 +51,10 @@ pub record KeepHistories (rules : Rules) (SameState : List Event → List Event 
       → IsTrue (rules.valid other)
   pub same_state : (history other : List Event) → IsExchanged depends history other → SameState other history
   -- each event of a valid history is the one of its name, and no event depends on a loss
-  pub named : (history : List Event) → IsTrue (rules.valid history) → (i : ℕ) (event : Event) → slice_get history i ≡ Some event
-      → IsEventNamed setup.processes history (event_name event) i event
-  pub losses_free : (history : List Event) → IsTrue (rules.valid history) → (i : ℕ) (copy : CopyName)
-      → slice_get history i ≡ Some (Lost copy) → IsFree depends history i
+  pub named : (history : List Event) → IsTrue (rules.valid history) → (at : ℕ) (event : Event) → nth history at ≡ Some event
+      → IsEventNamed setup.processes history (event_name event) at event
+  pub losses_free : (history : List Event) → IsTrue (rules.valid history) → (at : ℕ) (copy : CopyName)
+      → nth history at ≡ Some (Lost copy) → IsFree depends history at
   -- no two decisions that a valid history shows differ
   pub agreement : HasMajorityIfNeeded setup → (history : List Event) → IsTrue (rules.valid history)
       → AllAgree (rules.decisions history)

@@ -164,7 +164,7 @@ Tells view result told = MatchResult result (λ a. told ≡ Ok (view a)) (λ why
 abbrev pub IsExactRollback : RunView → StepId → RunView → Type 0
 IsExactRollback run name left =
     IfOk (result_of_rollback run name)
-    (λ removed. (i : ℕ) × IsNamedAt run.history i name × IsRollback depends run.history i left.history (reverse removed))
+    (λ removed. (at : ℕ) × IsNamedAt run.history at name × IsRollback depends run.history at left.history (reverse removed))
 
 -- what it removes, the last first; nothing where it is refused
 abbrev pub removed_by_rollback : RunView → StepId → List Event
@@ -172,7 +172,7 @@ removed_by_rollback run name = with_removed [] (result_of_rollback run name)
 
 -- the names are those of the direct causes of the event of that name, in order
 abbrev pub AreCausesOf : RunView → StepId → List StepId → Type 0
-AreCausesOf run name causes = (i : ℕ) × IsNamedAt run.history i name × AreDirectCauses run.history i causes
+AreCausesOf run name causes = (at : ℕ) × IsNamedAt run.history at name × AreDirectCauses run.history at causes
 
 -- ---- back and forth
 

@@ -1,8 +1,9 @@
 -- What is undone, and why it is not.
-use Rattle.std.specs.Prelude.{◌≡◌, ℕ, suc, Bool, true, false, ◌&&◌, ◌==◌, List, [], ◌∷◌, ◌++◌, Some, Result, Ok, Err, find, drop, take, filter, map, reverse, flat_map, slice_get, length, if◌then◌else◌}
+use Rattle.std.specs.Prelude.{◌≡◌, ℕ, suc, Bool, true, false, ◌&&◌, ◌==◌, List, [], ◌∷◌, ◌++◌, Option, option_map, Some, Result, Ok, Err, find, filter, map, reverse, flat_map, length, if◌then◌else◌}
 use Rattle.std.specs.List.{position}
 use Rattle.std.specs.Option.{option_map_or}
 use Rattle.cdb_base.specs.Event.{event_name, is_step_of}
+use Rattle.cdb_base.specs.Positions.{nth}
 use Rattle.cdb_base.specs.Processes.{all_processes}
 use Rattle.cdb_base.specs.declared.event.Event.{Event}
 use Rattle.cdb_base.specs.declared.event.Event.TheVariants.{Step, Lost}
@@ -14,7 +15,7 @@ use Rattle.cdb_causal.specs.Causality.{IsFree}
 use Rattle.cdb_causal.specs.Dependence.{depends}
 use Rattle.cdb_causal.specs.DirectDependents.{is_direct}
 use Rattle.cdb_causal.specs.Names.{IsNamedAt, IsPositionOf}
-use Rattle.cdb_causal.specs.Rollback.{without, rolled_back, remaining}
+use Rattle.cdb_causal.specs.Rollback.{events_before, events_behind, without, rolled_back, remaining}
 use Rattle.cdb_rules.specs.Step.{is_among}
 
 -- whether the event has the name
@@ -28,11 +29,11 @@ abbrev pub names_processes : ℕ → StepId → Bool
 names_processes n (named.Step name) = is_among n name.p
 names_processes n (named.Lost copy) = is_among n copy.msg.s && is_among n copy.to
 
--- Among n processes this event, at position i from 0, is the one of the name.
-pub record IsEventNamed (n : ℕ) (history : List Event) (name : StepId) (i : ℕ) (event : Event) : Type 0 where
+-- Among n processes this event, at that position, is the one of the name.
+pub record IsEventNamed (n : ℕ) (history : List Event) (name : StepId) (position : ℕ) (event : Event) : Type 0 where
   pub among : names_processes n name ≡ true
-  pub at : slice_get history i ≡ Some event
-  pub position : IsPositionOf history name (suc i)
+  pub stands : nth history position ≡ Some event
+  pub its_position : IsPositionOf history name position
 
 -- A standing event, where it stands, and what stood before and came later.
 pub record Found : Type 0 where
@@ -41,16 +42,20 @@ pub record Found : Type 0 where
   pub earlier : List Event
   pub later : List Event
 
--- what stands at that position, from 0, if something does
+-- what stands at that position, if something does
 abbrev pub found_at : List Event → ℕ → Result Found Refusal
 found_at history position =
-    option_map_or (λ event. Ok (record { event = event; position = position; earlier = take position history; later = drop (suc position) history }))
-    (slice_get history position) (Err refusal.NoStep)
+    option_map_or (λ event. Ok (record { event = event; position = position; earlier = events_before history position; later = events_behind history position }))
+    (nth history position) (Err refusal.NoStep)
+
+-- where the event of that name stands, if one does
+abbrev pub position_of : StepId → List Event → Option ℕ
+position_of name history = option_map suc (position (is_named name) history)
 
 -- the standing event of that name; the checks are that its processes are there, and that it stands
 abbrev pub event_named : ℕ → List Event → StepId → Result Found Refusal
 event_named n history name =
-    if names_processes n name then option_map_or (found_at history) (position (is_named name) history) (Err refusal.NoStep) else Err refusal.NoProcess
+    if names_processes n name then option_map_or (found_at history) (position_of name history) (Err refusal.NoStep) else Err refusal.NoProcess
 
 -- the result for a standing event, or the refusal
 abbrev pub for_standing : {A : Type 0} → Result Found Refusal → (Found → Result A Refusal) → Result A Refusal
@@ -59,7 +64,7 @@ for_standing (Err why) go = Err why
 
 -- an event of the name stands on which no later one depends
 abbrev pub IsFreeName : List Event → StepId → Type 0
-IsFreeName history name = (i : ℕ) × IsNamedAt history i name × IsFree depends history i
+IsFreeName history name = (at : ℕ) × IsNamedAt history at name × IsFree depends history at
 
 -- Undo: the event, and the history without it, where no later event depends on it; else the first that does.
 abbrev pub undo_found : List Event → Found → Result (Event × List Event) Refusal

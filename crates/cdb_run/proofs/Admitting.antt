@@ -6,6 +6,8 @@ use Rattle.cdb_base.specs.Event.{event_name}
 use Rattle.cdb_base.specs.declared.event.Event.{Event}
 use Rattle.cdb_causal.specs.Names.{IsNewName}
 use Rattle.cdb_causal.specs.Standing.{IsStanding, HasNoLostCopy}
+use Rattle.cdb_causal.specs.FromZero as from_zero
+use Rattle.cdb_causal.proofs.FromOne.{standing_down, new_up, lost_up}
 use Rattle.cdb_causal.proofs.Lists.{push_front, push_back}
 use Rattle.cdb_causal.proofs.Reaches.{reached_push}
 use Rattle.cdb_message.specs.Mail.{MailState}
@@ -20,14 +22,21 @@ use Rattle.cdb_run.proofs.Held.{valid, state_is}
 use Rattle.cdb_rules.proofs.Naming.{valid_standing}
 
 module _ (history : List Event) (event : Event) (standing : IsStanding (history ++ event ∷ [])) where
+  stands_from_zero : from_zero.IsStanding (history ++ event ∷ [])
+  stands_from_zero = standing_down (history ++ event ∷ []) standing
+
   pub new_name : IsNewName history (event_name event)
-  new_name i stands =
-      let same = standing.names_differ i (length history) (event_name event) (stands.0, push_front history event stands.0 i stands.1, stands.2) (event, push_back history event, refl) in
+  new_name =
+      new_up history (event_name event)
+      (λ i stands.
+      let same = stands_from_zero.names_differ i (length history) (event_name event) (stands.0, push_front history event stands.0 i stands.1, stands.2) (event, push_back history event, refl) in
       let below = slice_get_within history i stands.0 stands.1 in
-      omega (arith, same, below)
+      omega (arith, same, below))
 
   pub no_lost_copy : HasNoLostCopy history event
-  no_lost_copy i copy at = standing.lost_after_sent i (length history) copy event (slice_get_within history i _ at) (push_front history event _ i at) (push_back history event)
+  no_lost_copy =
+      lost_up history event
+      (λ i copy at. stands_from_zero.lost_after_sent i (length history) copy event (slice_get_within history i _ at) (push_front history event _ i at) (push_back history event))
 
 -- what stands at a position, as an event
 pub nth_events : {B : Type 0} (entries : List (Recorded B)) (at : ℕ) (entry : Recorded B) → nth entries at ≡ Some entry → nth (events_of entries) at ≡ Some entry.event

@@ -4,21 +4,24 @@ use Rattle.std.proofs.lemmas.Bool.Decides.{nat_tests}
 use Rattle.std.proofs.lemmas.Option.{none-some, same_Some, slice_get_within}
 use Rattle.std.specs.List.{list_any, flat_map}
 use Rattle.cdb_base.specs.Event.{event_name, is_step_of}
+use Rattle.cdb_base.specs.Positions.{nth}
 use Rattle.cdb_base.specs.Processes.{all_processes}
 use Rattle.cdb_base.specs.declared.event.Event.{Event}
 use Rattle.cdb_base.specs.declared.event.Event.TheVariants.{Step, Lost}
 use Rattle.cdb_base.specs.declared.name.CopyName.{CopyName}
 use Rattle.cdb_base.specs.declared.name.StepId.{StepId}
 use Rattle.cdb_base.specs.declared.name.StepId.TheVariants as named
-use Rattle.cdb_causal.specs.Causality.{IsLink, IsDirectCause}
 use Rattle.cdb_causal.specs.Dependence.{depends}
 use Rattle.cdb_causal.specs.Effects.{affects}
 use Rattle.cdb_causal.proofs.Effects.{by_effect}
-use Rattle.cdb_causal.specs.DirectCauses.{ComesBefore, AreDirectCauses, NamesDirectCause}
+use Rattle.cdb_causal.specs.DirectCauses.{ComesBefore}
 use Rattle.cdb_causal.specs.DirectDependents.{is_direct}
 use Rattle.cdb_causal.specs.Exchange.{IsIn, here, there}
-use Rattle.cdb_causal.specs.Standing.{IsStanding}
+use Rattle.cdb_causal.specs.FromZero.{IsLink, IsDirectCause, AreDirectCauses, NamesDirectCause, IsStanding}
+use Rattle.cdb_causal.specs.DirectCauses as from_one
+use Rattle.cdb_causal.specs.Rollback.{events_before}
 use Rattle.cdb_causal.proofs.DirectByList.{direct_between}
+use Rattle.cdb_causal.proofs.FromOne.{standing_down, direct_causes_down}
 use Rattle.cdb_causal.proofs.SlotsOfCauses.{lost_received}
 use Rattle.cdb_rules.specs.State.{Machine}
 use Rattle.cdb_rules.specs.Step.{IsValid}
@@ -229,7 +232,7 @@ direct_along one other j agree i d =
 
 module _ {L : Type 0} (machine : Machine L) (history : List Event) (valid : IsValid machine history) (few : length machine.firsts ≤ 9) where
   standing : IsStanding history
-  standing = valid_standing machine history valid few
+  standing = standing_down history (valid_standing machine history valid few)
 
   no_loss : (i j : ℕ) (l : IsLink depends history i j) (copy : CopyName) → l.cause ≡ Lost copy → ⊥
   no_loss i j l copy is =
@@ -286,3 +289,8 @@ module _ {L : Type 0} (machine : Machine L) (history : List Event) (valid : IsVa
         (row_rises causes (λ p. one_of_process event p earlier) 0 all_processes processes_rise)
         (λ name i. let k = position_in name names i in cause_in name (are.only k.0 name k.1))
         (λ name i. let k = are.each name (in_cause name i) in in_position names k.0 name k.1)
+
+  -- the same by a position from 1
+  pub causes_at : (at : ℕ) (event : Event) → nth history at ≡ Some event → (names : List StepId) → from_one.AreDirectCauses history at names → names ≡ row (direct_among (events_before history at) event) all_processes
+  causes_at zero event stands names are = absurd (none-some event stands)
+  causes_at (suc i) event stands names are = causes_are i event stands names (direct_causes_down history i names are)

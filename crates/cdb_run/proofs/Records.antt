@@ -1,18 +1,20 @@
 -- Recorded events that do not depend on each other may be exchanged with the records that they have, so that a free one
 -- may be taken last.
-use Rattle.std.proofs.Common.{◌≡◌, ℕ, zero, suc, Bool, false, List, [], ◌∷◌, Option, Some, slice_get, option_map, refl, sym, ap, ◌∙◌}
+use Rattle.std.proofs.Common.{◌≡◌, ℕ, zero, suc, Bool, false, List, [], ◌∷◌, Option, Some, slice_get, option_map, refl, sym, ap, ◌∙◌, subst}
 use Rattle.std.proofs.lemmas.Option.{none-some}
 use Rattle.cdb_base.specs.Positions.{nth}
 use Rattle.cdb_base.specs.declared.event.Event.{Event}
 use Rattle.cdb_base.specs.declared.event.Event.TheVariants.{Step, Lost}
 use Rattle.cdb_base.specs.declared.event.Kind.{Kind}
 use Rattle.cdb_base.specs.declared.event.Kind.TheVariants.{Write}
-use Rattle.cdb_causal.specs.Causality.{IsFree}
 use Rattle.cdb_causal.specs.Dependence.{depends}
 use Rattle.cdb_causal.specs.Effects.{kind_affects}
+use Rattle.cdb_causal.specs.FromZero.{IsFree, without}
 use Rattle.cdb_causal.specs.Paths.{IsPath}
 use Rattle.cdb_causal.specs.Exchanging.{IsExchangeable}
-use Rattle.cdb_causal.specs.Rollback.{without}
+use Rattle.cdb_causal.specs.Causality as from_one
+use Rattle.cdb_causal.specs.Rollback as from_one_lists
+use Rattle.cdb_causal.proofs.FromOne.{free_down, without_is}
 use Rattle.cdb_causal.proofs.Paths.{free_last}
 use Rattle.cdb_causal.proofs.Reaches.{two_parts, two_taken}
 use Rattle.cdb_causal.proofs.Symmetry.{depends-symmetric, other_process, unaffected}
@@ -103,3 +105,10 @@ module _ {L : Type 0} (machine : Machine L) where
     pub free_recorded_last : (state to : RunState L) (entries : List (Recorded B)) (i : ℕ) (entry : Recorded B) → slice_get entries i ≡ Some entry → IsFree depends (events_of entries) i → IsPath (IsRecorded machine before) state entries to → (last : RunState L) × IsPath (IsRecorded machine before) state (without entries i) last × IsRecorded machine before last entry to
     free_recorded_last state to entries i entry at free led =
         free_last (IsRecorded machine before) entries_depend recorded_exchange state to entries i entry at (free_recorded entries i free) led
+
+    -- the same by a position from 1
+    pub free_recorded_at : (state to : RunState L) (entries : List (Recorded B)) (at : ℕ) (entry : Recorded B) → nth entries at ≡ Some entry → from_one.IsFree depends (events_of entries) at → IsPath (IsRecorded machine before) state entries to → (last : RunState L) × IsPath (IsRecorded machine before) state (from_one_lists.without entries at) last × IsRecorded machine before last entry to
+    free_recorded_at state to entries zero entry stands free led = absurd (none-some entry stands)
+    free_recorded_at state to entries (suc i) entry stands free led =
+        let found = free_recorded_last state to entries i entry stands (free_down depends (events_of entries) i free) led in
+        (found.0, subst (λ l. IsPath (IsRecorded machine before) state l found.0) (sym (without_is entries i)) found.1, found.2)

@@ -14,10 +14,9 @@ use Rattle.cdb_base.specs.declared.payload.Payload.{Payload}
 use Rattle.cdb_base.specs.declared.register.Cell.{Cell}
 use Rattle.cdb_base.specs.declared.register.Reg.{Reg}
 use Rattle.cdb_base.specs.declared.register.Reg.TheVariants.{R, Dec}
-use Rattle.cdb_causal.specs.Causality.{IsFree}
 use Rattle.cdb_causal.specs.Dependence.{receives, depends}
+use Rattle.cdb_causal.specs.FromZero.{IsFree, without}
 use Rattle.cdb_causal.specs.Paths.{IsPath}
-use Rattle.cdb_causal.specs.Rollback.{without}
 use Rattle.cdb_message.specs.Mail.{MailState, message_name, copy_name, sent_by, is_sent, is_received, is_lost, add_send, remove_send, remove_loss}
 use Rattle.cdb_message.specs.Names.{NameSet}
 use Rattle.cdb_message.proofs.TakenBack.{remove_receive-add_receive, remove_loss-add_loss}

@@ -1,5 +1,5 @@
 -- Steps that are taken with a record that restores the state before them.
-use Rattle.std.specs.Prelude.{◌≡◌, ℕ, List, Option, Some, None, slice_get}
+use Rattle.std.specs.Prelude.{◌≡◌, ℕ, List, Option, Some, None}
 use Rattle.cdb_base.specs.Positions.{nth}
 use Rattle.cdb_base.specs.declared.event.Event.{Event}
 use Rattle.cdb_base.specs.declared.event.Event.TheVariants.{Step, Lost}
@@ -39,9 +39,9 @@ OfRecorded {L} {B} Holds =
 -- of each of these that is free, with its position
 abbrev pub OfFreeRecorded : {B : Type 0} → List (Recorded B) → (ℕ → Recorded B → Type 0) → Type 0
 OfFreeRecorded {B} records Holds =
-    (i : ℕ) (recorded : Recorded B) → slice_get records i ≡ Some recorded → IsFree depends (events_of records) i → Holds i recorded
+    (at : ℕ) (recorded : Recorded B) → nth records at ≡ Some recorded → IsFree depends (events_of records) at → Holds at recorded
 
 -- the others lead to a state from which that one leads on
 abbrev pub MayComeLast : {L B : Type 0} → Machine L → (L → B → L) → RunState L → List (Recorded B) → ℕ → Recorded B → RunState L → Type 0
-MayComeLast {L} machine before from records i recorded to =
-    (last : RunState L) × IsPath (IsRecorded machine before) from (without records i) last × IsRecorded machine before last recorded to
+MayComeLast {L} machine before from records at recorded to =
+    (last : RunState L) × IsPath (IsRecorded machine before) from (without records at) last × IsRecorded machine before last recorded to

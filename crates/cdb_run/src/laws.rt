@@ -7,5 +7,5 @@ ghost use Rattle.cdb_rules.specs.State.{Machine};
 /// it has, lead to a state from which that one, with its record, leads to the end.
 pub fn undo_with_records<L, B>()
     ensures { OfRecorded (λ (machine : Machine L) (before : L → B → L) from records to.
-        OfFreeRecorded records (λ i it. MayComeLast machine before from records i it to)) }
+        OfFreeRecorded records (λ at it. MayComeLast machine before from records at it to)) }
 {}

@@ -3,7 +3,7 @@
 ghost use Rattle.std.specs.Prelude.{◌≡◌, ℕ, ◌+◌, ◌<◌, ◌≤◌, IsTrue, Some, true, length, slice_get};
 ghost use Rattle.cdb_base.specs.declared.event.Event.TheVariants.{Step};
 ghost use Rattle.cdb_base.specs.Event.{is_step_of};
-ghost use Rattle.cdb_causal.specs.Causality.{IsLink};
+ghost use Rattle.cdb_causal.specs.FromZero.{IsLink};
 ghost use Rattle.cdb_causal.specs.Dependence.{depends as depends_of};
 ghost use Rattle.cdb_causal.specs.Starts.{IsStartOf, IsStartOfReceives, IsStartOfLosses, IsEndBeforeStep};
 ghost use Rattle.cdb_causal.specs.Starts.{IsEndOfOthers, IsStartOfOthers, IsStartOfOwn};

@@ -1,8 +1,9 @@
 //! Steps and losses of a run, removed with their consequences, and why they cannot be removed
 //! alone.
 
-ghost use Rattle.std.specs.Prelude.{◌≡◌, ℕ, ◌+◌, ◌-◌, ◌<◌, ◌≤◌, [], ◌∷◌, ◌++◌, length, reverse, Some, slice_get, vec_len, vec_capacity, IfOk, IsOk, OnOk, OnErr};
+ghost use Rattle.std.specs.Prelude.{◌≡◌, ℕ, ◌+◌, ◌<◌, ◌≤◌, [], ◌∷◌, ◌++◌, length, reverse, Some, vec_len, vec_capacity, IfOk, IsOk, OnOk, OnErr};
 ghost use Rattle.std.specs.Vec.{vec_items};
+ghost use Rattle.cdb_base.specs.Positions.{nth};
 ghost use Rattle.cdb_causal.specs.Names.{IsNamedAt};
 ghost use Rattle.cdb_causal.specs.Rollback.{without};
 ghost use Rattle.cdb_rules.specs.EventRefs.{name_given};
@@ -34,10 +35,10 @@ impl<P: Process> Run<P> {
     /// Removes the free event of that name, which stands, and restores the state before it.
     fn restore_named(&mut self, name: StepId) -> Event
         requires { IsFreeName self.old.history name }
-        ensures event { (i : ℕ) → IsNamedAt self.old.history i name →
-            slice_get self.old.history i ≡ Some result }
-        ensures after { (i : ℕ) → IsNamedAt self.old.history i name →
-            self.new ≡ with_history self.old (without self.old.history i) }
+        ensures event { (at : ℕ) → IsNamedAt self.old.history at name →
+            nth self.old.history at ≡ Some result }
+        ensures after { (at : ℕ) → IsNamedAt self.old.history at name →
+            self.new ≡ with_history self.old (without self.old.history at) }
     {
         match self.history().position(name) {
             Some(at) => self.restore_at(at),
@@ -55,10 +56,10 @@ impl<P: Process> Run<P> {
     ) -> Result<usize, NoMemory>
         requires from_one { 1 ≤ at }
         requires to_len { at ≤ length self.old.history }
-        ensures number { IfOk result (λ n. n ≡ length (rolled_back_at self.old (at - 1))) }
-        ensures after { OnOk result (self.new ≡ after_rollback_at self.old (at - 1)) }
+        ensures number { IfOk result (λ n. n ≡ length (rolled_back_at self.old at)) }
+        ensures after { OnOk result (self.new ≡ after_rollback_at self.old at) }
         ensures list { OnOk result
-            (removed.new.items ≡ removed.old.items ++ reverse (rolled_back_at self.old (at - 1))) }
+            (removed.new.items ≡ removed.old.items ++ reverse (rolled_back_at self.old at)) }
         ensures err { OnErr result (self.new ≡ self.old) }
         ensures list_err { OnErr result (removed.new.items ≡ removed.old.items) }
         ensures capacity { vec_capacity removed.old ≤ vec_capacity removed.new }

@@ -1,6 +1,6 @@
 //! Steps and losses of a run, found by their names and undone in place.
 
-ghost use Rattle.std.specs.Prelude.{◌≡◌, ◌↔◌, ◌-◌, ◌≤◌, length, Some, IsOk, IfOk};
+ghost use Rattle.std.specs.Prelude.{◌≡◌, ◌↔◌, ◌≤◌, length, Some, IsOk, IfOk};
 ghost use Rattle.std.specs.Result.{result_err};
 ghost use Rattle.cdb_base.specs.Positions.{nth};
 ghost use Rattle.cdb_causal.specs.Causality.{IsFree};
@@ -72,9 +72,9 @@ impl<P: Process> Run<P> {
     pub(crate) fn restore_at(&mut self, at: usize) -> Event
         requires from_one { 1 ≤ at }
         requires to_len { at ≤ length self.old.history }
-        requires free { IsFree depends_of self.old.history (at - 1) }
+        requires free { IsFree depends_of self.old.history at }
         ensures event { nth self.old.history at ≡ Some result }
-        ensures after { self.new ≡ with_history self.old (without self.old.history (at - 1)) }
+        ensures after { self.new ≡ with_history self.old (without self.old.history at) }
     {
         let Recorded {
             event,
@@ -105,8 +105,8 @@ impl<P: Process> Run<P> {
     fn undo_at(&mut self, at: usize) -> Result<Event, Refusal>
         requires from_one { 1 ≤ at }
         requires to_len { at ≤ length self.old.history }
-        ensures returns { result ≡ result_alone (undo_at_position self.old (at - 1)) }
-        ensures after { self.new ≡ with_left self.old (undo_at_position self.old (at - 1)) }
+        ensures returns { result ≡ result_alone (undo_at_position self.old at) }
+        ensures after { self.new ≡ with_left self.old (undo_at_position self.old at) }
     {
         match first_dependent(self.history(), at) {
             Some(name) => Err(Refusal::NeededBy(name)),

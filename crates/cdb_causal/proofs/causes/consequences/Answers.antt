@@ -1,8 +1,10 @@
-use Rattle.std.proofs.Common.{◌≡◌, ◌-◌, ◌<◌, List, length, map, drop, ap, ◌∙◌, subst, arith, IfOk}
+use Rattle.std.proofs.Common.{◌≡◌, ◌-◌, ◌<◌, List, length, map, drop, ap, sym, ◌∙◌, subst, arith, IfOk}
 use Rattle.std.proofs.lemmas.List.{take_rest}
 use Rattle.cdb_base.specs.declared.event.Event.{Event}
 use Rattle.cdb_causal.specs.Dependence.{depends}
 use Rattle.cdb_base.specs.Event.{event_name}
+use Rattle.cdb_causal.specs.Rollback.{consequences}
+use Rattle.cdb_causal.proofs.FromOne.{next_is, consequences_is}
 use Rattle.cdb_causal.proofs.Walks.{rolled_back_some}
 use Rattle.cdb_causal.proofs.causes.consequences.Goals as goal
 
@@ -23,5 +25,7 @@ returns c =
     let are =
     take_rest events 1
     ∙ ap (drop 1) (c.deref.ensures.value ∙ c.in_ok-removed.ensures)
+    ∙ sym (consequences_is depends c.args.history.now (c.args.at - 1))
+    ∙ ap (consequences depends c.args.history.now) (next_is c.args.at c.requires.from_one)
     in
     subst (λ l. IfOk c.names.result (λ names. names.items ≡ map event_name l)) are c.names.ensures

@@ -1,5 +1,5 @@
 use Rattle.std.proofs.Common.{◌<◌, ⊎_elim, sym, ◌∙◌, subst, arith}
-use Rattle.cdb_causal.specs.Causality.{IsLink}
+use Rattle.cdb_causal.specs.FromZero.{IsLink}
 use Rattle.cdb_causal.specs.Dependence.{depends}
 use Rattle.cdb_causal.proofs.Starting.{below_or_same}
 use Rattle.cdb_causal.proofs.Walks.{link_at, no_link_at, above_suc}

@@ -2,9 +2,10 @@ use Rattle.std.proofs.Common.{◌≡◌, ℕ, zero, suc, ◌+◌, ◌-◌, ◌<�
 use Rattle.std.proofs.lemmas.List.{take_rest}
 use Rattle.std.proofs.lemmas.Option.{slice_get-get_or}
 use Rattle.cdb_base.specs.declared.event.Event.{Event}
-use Rattle.cdb_causal.specs.Causality.{IsDirectCause}
 use Rattle.cdb_causal.specs.Dependence.{depends}
 use Rattle.cdb_causal.specs.DirectDependents.{as_number, direct_dependents}
+use Rattle.cdb_causal.specs.FromZero.{IsDirectCause}
+use Rattle.cdb_causal.proofs.FromOne.{nth_below}
 use Rattle.cdb_causal.proofs.Prefixes.{counted_next}
 use Rattle.cdb_causal.proofs.counts.count_direct_dependents.Goals as goal
 use Rattle.cdb_causal.proofs.counts.count_direct_dependents.Goals.{then-is_direct_cause, else-is_direct_cause}
@@ -49,5 +50,5 @@ returns-clause-count c =
     let test = c.loop-j-test.false in
     let later = c.loop-j.auto.j-end in
     let len = c.len-j-end.ensures.count in
-    c.loop-j.invariant.count event at
+    c.loop-j.invariant.count event (nth_below c.args.history.now c.args.at event c.requires.from_one at)
     ∙ ap (direct_dependents depends event) (ap (λ n. take (n - c.args.at) (drop c.args.at c.args.history.now)) (let e : c.loop-j.j ≡ length c.args.history.now = omega arith in e) ∙ take_rest c.args.history.now c.args.at)

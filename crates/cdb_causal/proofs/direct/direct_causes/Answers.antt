@@ -1,6 +1,8 @@
 use Rattle.std.proofs.Common.{◌≡◌, ℕ, ◌+◌, ◌-◌, List, sym, ap, ◌∙◌, subst, arith}
 use Rattle.cdb_base.specs.declared.event.Event.{Event}
+use Rattle.cdb_causal.specs.DirectCauses.{AreDirectCauses}
 use Rattle.cdb_causal.proofs.DirectCausesBelow.{AreDirectCausesBelow, below_none, below_some, below_start, below_ten, room}
+use Rattle.cdb_causal.proofs.FromOne.{by_next, standing_down, direct_causes_up}
 use Rattle.cdb_causal.proofs.LastPositions.{above_causes}
 use Rattle.cdb_causal.proofs.SlotsOfCauses.{one_name}
 use Rattle.cdb_causal.proofs.direct.direct_causes.Goals as goal
@@ -8,14 +10,14 @@ use Rattle.cdb_causal.proofs.direct.direct_causes.Goals.{in-Some, in_default}
 
 pub direct_cause-requires-clause-end : goal.direct_cause-requires-clause-end
 direct_cause-requires-clause-end c =
-    above_causes c.args.history.now c.len-standing.ensures.standing (c.args.at - 1) c.end_of-end.result c.last_causes-lasts.result c.last_causes-lasts.ensures.last c.end_of-end.ensures
+    above_causes c.args.history.now (standing_down c.args.history.now c.len-standing.ensures.standing) (c.args.at - 1) c.end_of-end.result c.last_causes-lasts.result c.last_causes-lasts.ensures.last c.end_of-end.ensures
 
 pub direct_cause-requires-clause-last : goal.direct_cause-requires-clause-last
 direct_cause-requires-clause-last c = c.last_causes-lasts.ensures.last c.loop-slot.slot c.loop-slot-test.true
 
 pub push_reserved-requires : goal.push_reserved-requires
 push_reserved-requires c =
-    let standing = c.len-standing.ensures.standing in
+    let standing = standing_down c.args.history.now c.len-standing.ensures.standing in
     let room_for_one = room c.args.history.now standing (c.args.at - 1) c.loop-slot.causes.items c.loop-slot.slot c.loop-slot-test.true c.loop-slot.invariant.0 c.in-Some.name c.in-Some.ensures in
     let capacity = c.loop-slot.invariant.1 in
     (omega arith, omega arith)
@@ -23,7 +25,7 @@ push_reserved-requires c =
 pub loop-slot-preserved : goal.loop-slot-preserved
 loop-slot-preserved c =
     let events : List Event = c.args.history.now in
-    let standing = c.len-standing.ensures.standing in
+    let standing = standing_down c.args.history.now c.len-standing.ensures.standing in
     let j : ℕ = c.args.at - 1 in
     let slot : ℕ = c.loop-slot.slot in
     let before = c.loop-slot.invariant in
@@ -49,7 +51,9 @@ loop-slot-init c = (
 pub returns : goal.returns
 returns c =
     let events : List Event = c.args.history.now in
-    let standing = c.len-standing.ensures.standing in
+    let standing = standing_down c.args.history.now c.len-standing.ensures.standing in
     let end : c.loop-slot.slot ≡ 10 = let below = c.loop-slot-test.false in omega arith in
-    below_ten events standing (c.args.at - 1) c.loop-slot.causes.items
-    (subst (λ n. AreDirectCausesBelow events (c.args.at - 1) n c.loop-slot.causes.items) end c.loop-slot.invariant.0)
+    by_next (λ at. AreDirectCauses events at c.loop-slot.causes.items) c.args.at c.requires.from_one
+    (direct_causes_up events (c.args.at - 1) c.loop-slot.causes.items
+    (below_ten events standing (c.args.at - 1) c.loop-slot.causes.items
+    (subst (λ n. AreDirectCausesBelow events (c.args.at - 1) n c.loop-slot.causes.items) end c.loop-slot.invariant.0)))

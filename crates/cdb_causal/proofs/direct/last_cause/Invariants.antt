@@ -1,6 +1,6 @@
 use Rattle.std.proofs.Common.{ℕ, ◌≤◌}
-use Rattle.cdb_causal.specs.Causality.{IsLink}
 use Rattle.cdb_causal.specs.Dependence.{depends}
+use Rattle.cdb_causal.specs.FromZero.{IsLink}
 use Rattle.cdb_causal.specs.LastCauses.{IsSlot}
 use Rattle.cdb_causal.proofs.direct.last_cause.Given as goal
 

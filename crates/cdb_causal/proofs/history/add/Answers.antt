@@ -1,12 +1,14 @@
 use Rattle.std.proofs.Common.{◌+◌, List, refl, sym, subst, arith}
+use Rattle.cdb_base.specs.Event.{event_name}
 use Rattle.cdb_base.specs.declared.event.Event.{Event}
 use Rattle.cdb_causal.specs.Alone.{AreAlone}
 use Rattle.cdb_causal.specs.Bounds.{IsEventWithin, AreWithin}
+use Rattle.cdb_causal.specs.FromZero.{IsStanding}
 use Rattle.cdb_causal.specs.Listed.{AreListed}
 use Rattle.cdb_causal.specs.Named.{AreRanged}
 use Rattle.cdb_causal.specs.Own.{AreOwn, IsOwnNoted}
-use Rattle.cdb_causal.specs.Standing.{IsStanding}
 use Rattle.cdb_causal.proofs.Bounding.{within_push}
+use Rattle.cdb_causal.proofs.FromOne.{new_down, lost_down}
 use Rattle.cdb_causal.proofs.Keeping.{standing_push}
 use Rattle.cdb_causal.proofs.Listing.{listed_push}
 use Rattle.cdb_causal.proofs.Naming.{ranged_push}
@@ -27,7 +29,7 @@ returns-clause-indexed c =
     let top = c.append_to_log-mark.result + 1 in
     let indexed = c.requires.indexed in
     record {
-      standing = subst IsStanding (sym pushed.items) (standing_push items event indexed.standing c.requires.new_name c.requires.not_lost c.note.ensures.process);
+      standing = subst IsStanding (sym pushed.items) (standing_push items event indexed.standing (new_down items (event_name event) c.requires.new_name) (lost_down items event c.requires.not_lost) c.note.ensures.process);
       within =
           subst (AreWithin noted (mark log)) (sym pushed.items)
           (within_push top bounds noted (mark old) (mark log) items event c.note.ensures.others (λ i less. let above = pushed.above i less in omega arith) indexed.within pushed.marks

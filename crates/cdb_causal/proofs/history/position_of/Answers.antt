@@ -1,7 +1,10 @@
-use Rattle.std.proofs.Common.{◌≡◌, ℕ, ◌+◌, ◌-◌, ◌<◌, ◌≤◌, List, length, sym, ◌∙◌, subst, true≢false, arith, slice_get, Some}
+use Rattle.std.proofs.Common.{◌≡◌, ℕ, suc, ◌+◌, ◌-◌, ◌<◌, ◌≤◌, List, length, sym, ◌∙◌, subst, true≢false, arith, Some}
 use Rattle.std.proofs.lemmas.Option.{slice_get_within}
+use Rattle.cdb_base.specs.Positions.{nth}
 use Rattle.cdb_base.specs.declared.event.Event.{Event}
-use Rattle.cdb_causal.specs.Names.{IsNamedAt}
+use Rattle.cdb_causal.specs.FromZero.{IsNamedAt}
+use Rattle.cdb_causal.specs.Names.{IsNamedAt as named_from_one}
+use Rattle.cdb_causal.proofs.FromOne.{new_up}
 use Rattle.cdb_causal.proofs.Lists.{named_otherwise}
 use Rattle.cdb_causal.proofs.Walks.{below_or_at}
 use Rattle.cdb_causal.proofs.history.position_of.Goals as goal
@@ -34,13 +37,15 @@ returns-then-is_named c =
     let test = c.loop-i-test.true in
     let within : i < length events = omega arith in
     let at = c.event-event.ensures in
-    let back : i ≡ (i + 1) - 1 = omega arith in
-    let named : IsNamedAt events (i + 1 - 1) c.args.name.now = (c.event-event.result.now, subst (λ k. slice_get events k ≡ Some c.event-event.result.now) back at, c.is_named.ensures.0 c.if-is_named.true) in
+    let next : suc i ≡ i + 1 = omega arith in
+    let named : named_from_one events (i + 1) c.args.name.now =
+    (c.event-event.result.now, subst (λ n. nth events n ≡ Some c.event-event.result.now) next at, c.is_named.ensures.0 c.if-is_named.true) in
     record {
       from_one = omega arith;
       named = named;
-      only = λ k other. c.requires.standing.names_differ k (i + 1 - 1) c.args.name.now other named;
+      only = λ other there. c.requires.standing.names_differ other (i + 1) c.args.name.now there named;
     }
 
 pub returns : goal.returns
-returns c = λ i named. let none = c.loop-i-test.false in c.loop-i.invariant i (let n : c.loop-i.i ≤ i = omega arith in n) named
+returns c =
+    new_up c.args.history.now c.args.name.now (λ i named. let none = c.loop-i-test.false in c.loop-i.invariant i (let n : c.loop-i.i ≤ i = omega arith in n) named)

@@ -1,5 +1,5 @@
 use Rattle.std.proofs.Common.{ℕ, ◌≤◌}
-use Rattle.cdb_causal.specs.Names.{IsNamedAt}
+use Rattle.cdb_causal.specs.FromZero.{IsNamedAt}
 use Rattle.cdb_causal.proofs.history.position_of.Given as goal
 
 abbrev pub invariant-loop-i : goal.invariant-loop-i

@@ -11,18 +11,18 @@ returns-in_err-sends g c =
     let p = err_from_is_err_and c.from_residual.result c.from_residual.ensures.1 in
     rw (p.1, p.2) (puts_nothing g.W.Sink.stream _ _ _)
 
-pub loop-position-init : goal.loop-position-init
-loop-position-init g c = put_nothing g.W.Sink.stream c.args.out.now c.args.buffer.now
+pub loop-i-init : goal.loop-i-init
+loop-i-init g c = put_nothing g.W.Sink.stream c.args.out.now c.args.buffer.now
 
-pub loop-position-preserved : goal.loop-position-preserved
-loop-position-preserved g c =
-    put_one g.W.Sink.stream (arrow_at c.args.run.now c.args.flags.now) c.args.out.now c.loop-position.out c.put_arrow.new.out c.args.buffer.now c.loop-position.buffer c.put_arrow.new.buffer c.loop-position.position c.loop-position.invariant c.in_ok-put_arrow.ensures
+pub loop-i-preserved : goal.loop-i-preserved
+loop-i-preserved g c =
+    put_one g.W.Sink.stream (arrow_at c.args.run.now c.args.flags.now) c.args.out.now c.loop-i.out c.put_arrow.new.out c.args.buffer.now c.loop-i.buffer c.put_arrow.new.buffer c.loop-i.i c.loop-i.invariant c.in_ok-put_arrow.ensures
 
 pub returns-in_err-put_arrow : goal.returns-in_err-put_arrow
 returns-in_err-put_arrow g c =
     let p = err_from_is_err_and c.from_residual-in_err-put_arrow.result c.from_residual-in_err-put_arrow.ensures.1 in
-    let i : ℕ = c.loop-position.position in
+    let i : ℕ = c.loop-i.i in
     let same : c.history-history.result.now ≡ c.args.run.now.history = c.history-history.ensures in
-    let below : i < length c.args.run.now.history = subst (λ (h : List Event). i < length h) same (subst (λ (n : ℕ). i < n) c.len-position-end.ensures.count c.loop-position-test.true) in
+    let below : i < length c.args.run.now.history = subst (λ (h : List Event). i < length h) same (subst (λ (n : ℕ). i < n) c.len-i-end.ensures.count c.loop-i-test.true) in
     rw (p.1, p.2)
-    (cut_one g.W.Sink.stream (Unit {0}) c.in_err-put_arrow.field-0.0 (arrow_at c.args.run.now c.args.flags.now) c.args.out.now c.loop-position.out c.put_arrow.new.out c.args.buffer.now c.loop-position.buffer c.put_arrow.new.buffer (length c.args.run.now.history) i below c.loop-position.invariant c.in_err-put_arrow.ensures)
+    (cut_one g.W.Sink.stream (Unit {0}) c.in_err-put_arrow.field-0.0 (arrow_at c.args.run.now c.args.flags.now) c.args.out.now c.loop-i.out c.put_arrow.new.out c.args.buffer.now c.loop-i.buffer c.put_arrow.new.buffer (length c.args.run.now.history) i below c.loop-i.invariant c.in_err-put_arrow.ensures)

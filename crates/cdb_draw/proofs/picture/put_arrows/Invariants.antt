@@ -3,5 +3,5 @@ use Rattle.cdb_draw.specs.Arrows.{arrow_at}
 use Rattle.cdb_play.specs.Buffers.{IsPut}
 use Rattle.cdb_draw.proofs.picture.put_arrows.Given as goal
 
-abbrev pub invariant-loop-position : goal.invariant-loop-position
-invariant-loop-position g l = IsPut g.W.Sink.stream l.initial.out l.initial.buffer l.out l.buffer (flat_map (arrow_at l.run l.flags) (range_with_len 0 l.position))
+abbrev pub invariant-loop-i : goal.invariant-loop-i
+invariant-loop-i g l = IsPut g.W.Sink.stream l.initial.out l.initial.buffer l.out l.buffer (flat_map (arrow_at l.run l.flags) (range_with_len 1 l.i))

@@ -1,4 +1,4 @@
-use Rattle.std.proofs.Common.{◌≡◌, ℕ, suc, ◌+◌, ◌<◌, ◌≤◌, true, false, cond, not, nat_lt, List, Some, None, length, drop, sym, ap, ◌∙◌, arith}
+use Rattle.std.proofs.Common.{◌≡◌, ℕ, suc, ◌+◌, ◌<◌, ◌≤◌, true, false, cond, not, nat_lt, List, Some, None, option_map, length, drop, sym, ap, ◌∙◌, add-one, arith}
 use Rattle.std.proofs.lemmas.Bool.Decides.{nat_tests}
 use Rattle.std.proofs.lemmas.List.{drop_all}
 use Rattle.std.specs.List.{position_or_len}
@@ -41,7 +41,8 @@ returns-then-is_crash_of c =
     let within = c.loop-i-test.true in
     let count = c.len-i-end.ensures.count in
     let less : i < length history = omega (arith, within, count) in
-    sym (ap (λ n. cond (nat_lt n (length history)) (Some n) None) here ∙ ap (λ b. cond b (Some i) None) (is_less i (length history) less))
+    ap Some (add-one i)
+    ∙ sym (ap (option_map suc) (ap (λ n. cond (nat_lt n (length history)) (Some n) None) here ∙ ap (λ b. cond b (Some i) None) (is_less i (length history) less)))
 
 pub returns : goal.returns
 returns c =
@@ -54,4 +55,4 @@ returns c =
     let none = ap (position_or_len test) (drop_all i history past) in
     let before = c.loop-i.invariant in
     let all : length history ≤ position_or_len test history = omega (arith, before, none, past) in
-    sym (ap (λ b. cond b (Some (position_or_len test history)) None) (is_not_less (position_or_len test history) (length history) all))
+    sym (ap (option_map suc) (ap (λ b. cond b (Some (position_or_len test history)) None) (is_not_less (position_or_len test history) (length history) all)))

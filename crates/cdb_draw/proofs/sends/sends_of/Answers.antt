@@ -12,5 +12,6 @@ loop-i-preserved c =
     let event : Event = c.event-event.result.now in
     let at = c.event-event.ensures in
     let within = slice_get_within history i event at in
-    let noted = c.in_ok-note_event.ensures (take i history) (length-first history i (omega (arith, within))) c.loop-i.invariant in
+    let count = length-first history i (omega (arith, within)) in
+    let noted = c.in_ok-note_event.ensures (take i history) (omega (arith, count)) c.loop-i.invariant in
     subst (λ (events : List Event). AreSendsOf c.note_event.new.sends events) (one_more history i event at) noted

@@ -1,6 +1,8 @@
 use Rattle.std.proofs.Common.{rules, ◌≡◌, ◌-◌, ◌<◌, ◌≤◌, ℕ, suc, List, Bool, true, false, length, replicate, Some, get_or, slice_get, slice_set, refl, sym, ap, ◌∙◌, subst, true≢false, arith}
 use Rattle.std.proofs.lemmas.Option.{slice_get_read, same_Some}
 use Rattle.cdb_base.specs.declared.event.Event.{Event}
+use Rattle.cdb_causal.proofs.FromOne.{by_next}
+use Rattle.cdb_past.specs.Flags.{FlagsPast}
 use Rattle.cdb_past.specs.Pairs.{ArePairs}
 use Rattle.cdb_past.specs.declared.pairs.Pair.{Pair}
 use Rattle.cdb_past.proofs.Walk.{IsWalked, begun, cause_within, effect_within, passed, widened, walked_past}
@@ -79,5 +81,6 @@ returns c =
     let none = c.loop-i-test.false in
     let end : c.loop-i.i ≡ 0 = omega (arith, none) in
     let are = up_to history c.args.at pairs c.requires.from_one c.in_ok-pairs.ensures in
-    walked_past history (c.args.at - 1) pairs are c.loop-i.flags.items
-    (subst (λ n. IsWalked history (c.args.at - 1) pairs n c.loop-i.flags.items) end c.loop-i.invariant)
+    by_next (λ at. FlagsPast history at c.loop-i.flags.items) c.args.at c.requires.from_one
+    (walked_past history (c.args.at - 1) pairs are c.loop-i.flags.items
+    (subst (λ n. IsWalked history (c.args.at - 1) pairs n c.loop-i.flags.items) end c.loop-i.invariant))

@@ -1,7 +1,7 @@
 use Rattle.std.proofs.Common.{ℕ, ◌<◌, subst}
 use Rattle.std.proofs.lemmas.Option.{slice_get_within}
-use Rattle.cdb_causal.specs.Causality.{IsLink}
 use Rattle.cdb_causal.specs.Dependence.{depends}
+use Rattle.cdb_causal.specs.FromZero.{IsLink}
 use Rattle.cdb_causal.proofs.AboveDependents.{above_linked}
 use Rattle.cdb_log.specs.Marks.{mark}
 use Rattle.cdb_causal.proofs.history.History.end_of_dependents.Goals as goal

@@ -1,12 +1,13 @@
 use Rattle.std.proofs.Common.{ℕ, ◌<◌, ◌≤◌, length, subst}
 use Rattle.std.proofs.lemmas.Option.{slice_get_within}
-use Rattle.cdb_causal.specs.Names.{IsNamedAt}
+use Rattle.cdb_causal.specs.FromZero.{IsNamedAt}
 use Rattle.cdb_causal.specs.Standing.{IsStanding}
+use Rattle.cdb_causal.proofs.FromOne.{standing_up}
 use Rattle.cdb_log.specs.Marks.{mark}
 use Rattle.cdb_causal.proofs.history.History.position.Goals as goal
 
 pub position_of-requires-clause-standing : goal.position_of-requires-clause-standing
-position_of-requires-clause-standing c = subst IsStanding c.self.view_is c.self.invariant.standing
+position_of-requires-clause-standing c = subst IsStanding c.self.view_is (standing_up c.self.inside.events.items c.self.invariant.standing)
 
 pub position_of-requires-clause-within : goal.position_of-requires-clause-within
 position_of-requires-clause-within c = subst (λ l. c.position_above-end.result ≤ length l) c.self.view_is c.position_above-end.ensures.within

@@ -3,11 +3,12 @@ use Rattle.cdb_base.specs.declared.event.Event.{Event}
 use Rattle.cdb_causal.specs.Alone.{AreAlone}
 use Rattle.cdb_causal.specs.Bounds.{AreWithin}
 use Rattle.cdb_base.specs.declared.event.Event.TheVariants.{Step}
+use Rattle.cdb_causal.specs.FromZero.{without, IsStanding}
 use Rattle.cdb_causal.specs.Listed.{AreListed}
 use Rattle.cdb_causal.specs.Named.{AreRanged}
 use Rattle.cdb_causal.specs.Own.{AreOwn}
-use Rattle.cdb_causal.specs.Rollback.{without, position_before}
-use Rattle.cdb_causal.specs.Standing.{IsStanding}
+use Rattle.cdb_causal.specs.Rollback.{position_before, without as without_from_one}
+use Rattle.cdb_causal.proofs.FromOne.{next_is, without_is}
 use Rattle.cdb_causal.proofs.Bounding.{within_without, position_before_low, position_before_high}
 use Rattle.cdb_causal.proofs.Keeping.{standing_without}
 use Rattle.cdb_causal.proofs.Lists.{remove-without, nth_before}
@@ -72,6 +73,7 @@ invariant_of-self c =
 pub returns-clause-rest : goal.returns-clause-rest
 returns-clause-rest c =
     c.take_out-event.ensures.items ∙ remove-without c.self.inside.events.items (c.args.at - 1) ∙ ap (λ l. without l (c.args.at - 1)) c.self.view_is
+    ∙ sym (without_is c.args.self.now (c.args.at - 1)) ∙ ap (without_from_one c.args.self.now) (next_is c.args.at c.requires.from_one)
 
 pub returns-clause-event : goal.returns-clause-event
 returns-clause-event c = nth_before c.args.self.now c.args.at c.take_out-event.result c.requires.from_one (subst (λ l. slice_get l (c.args.at - 1) ≡ Some c.take_out-event.result) c.self.view_is c.take_out-event.ensures.stood)

@@ -1,4 +1,4 @@
-use Rattle.std.proofs.Common.{◌-◌, subst}
+use Rattle.std.proofs.Common.{subst}
 use Rattle.cdb_causal.specs.Names.{IsNamedAt, IsNewName}
 use Rattle.cdb_record.specs.Counts.{IsCountOf, IsZeroWhereFree}
 use Rattle.cdb_record.proofs.Free.{counted, counted_free}
@@ -20,7 +20,7 @@ returns-in-Some-clause-free g c =
 pub returns-in-Some-clause-none : goal.returns-in-Some-clause-none
 returns-in-Some-clause-none g c =
     let seen = history_seen c.self.inside.history c.self.inside.left.items c.self.invariant.0 c.self.view_is in
-    λ new. absurd (new (c.in-Some.at - 1) (subst (λ h. IsNamedAt h (c.in-Some.at - 1) c.args.name) seen c.in-Some.ensures.named))
+    λ new. absurd (new c.in-Some.at (subst (λ h. IsNamedAt h c.in-Some.at c.args.name) seen c.in-Some.ensures.named))
 
 pub returns-in-None-clause-count : goal.returns-in-None-clause-count
 returns-in-None-clause-count g c =

@@ -1,11 +1,10 @@
-use Rattle.std.proofs.Common.{◌≡◌, ℕ, ◌-◌, length, MatchOption, refl, sym, ap, subst, arith}
+use Rattle.std.proofs.Common.{◌≡◌, ℕ, length, MatchOption, refl, sym, ap, subst, arith}
 use Rattle.std.proofs.lemmas.List.{length-map}
-use Rattle.std.proofs.lemmas.Option.{slice_get_within}
 use Rattle.cdb_causal.specs.Causality.{IsFree}
 use Rattle.cdb_causal.specs.Dependence.{depends}
 use Rattle.cdb_record.specs.Recorded.{events_of}
 use Rattle.cdb_record.specs.Taken.{IsStepOf, IsLastStepOf, IsRecordTakenOut}
-use Rattle.cdb_record.proofs.Seams.{history_seen, matched}
+use Rattle.cdb_record.proofs.Seams.{history_seen, matched, nth_within}
 use Rattle.cdb_record.proofs.records.Records.take_last_of.Goals as goal
 
 pub returns-in_err-at : goal.returns-in_err-at
@@ -18,7 +17,7 @@ returns-in_err-at g c =
 pub take_free-requires-clause-to_len : goal.take_free-requires-clause-to_len
 take_free-requires-clause-to_len g c =
     let seen = history_seen c.self.inside.history c.self.inside.left.items c.self.invariant.0 c.self.view_is in
-    let within = slice_get_within c.self.inside.history (c.in_ok-at.at - 1) c.in_ok-at.ensures.1.0.0 c.in_ok-at.ensures.1.0.1 in
+    let within = nth_within c.self.inside.history c.in_ok-at.at c.in_ok-at.ensures.1.0.0 c.in_ok-at.ensures.1.0.1 in
     let same = ap length seen in
     let mapped = length-map c.args.self.now (λ entry. entry.event) in
     omega (arith, within, same, mapped)
@@ -26,13 +25,13 @@ take_free-requires-clause-to_len g c =
 pub returns : goal.returns
 returns g c =
     let seen = history_seen c.self.inside.history c.self.inside.left.items c.self.invariant.0 c.self.view_is in
-    let last = subst (λ h. IsLastStepOf h c.args.p (c.in_ok-at.at - 1)) seen c.in_ok-at.ensures.1 in
+    let last = subst (λ h. IsLastStepOf h c.args.p c.in_ok-at.at) seen c.in_ok-at.ensures.1 in
     matched
     (λ h. (
       (λ i other free.
-          let low = other.1 (c.in_ok-at.at - 1) last.0 in
+          let low = other.1 c.in_ok-at.at last.0 in
           let high = last.1 i other.0 in
-          h.0 (subst (IsFree depends (events_of c.args.self.now)) (let same : i ≡ c.in_ok-at.at - 1 = omega (arith, low, high) in same) free)),
+          h.0 (subst (IsFree depends (events_of c.args.self.now)) (let same : i ≡ c.in_ok-at.at = omega (arith, low, high) in same) free)),
       h.1,
     ))
-    (λ entry h. (c.in_ok-at.at - 1, last, h.0, h.1)) c.take_free.result c.take_free.ensures
+    (λ entry h. (c.in_ok-at.at, last, h.0, h.1)) c.take_free.result c.take_free.ensures

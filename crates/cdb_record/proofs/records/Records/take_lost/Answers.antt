@@ -1,13 +1,12 @@
-use Rattle.std.proofs.Common.{◌≡◌, ℕ, ◌-◌, length, MatchOption, refl, sym, ap, subst, arith}
+use Rattle.std.proofs.Common.{◌≡◌, ℕ, length, MatchOption, refl, sym, ap, subst, arith}
 use Rattle.std.proofs.lemmas.List.{length-map}
-use Rattle.std.proofs.lemmas.Option.{slice_get_within}
 use Rattle.cdb_base.specs.declared.name.StepId.TheVariants as named
 use Rattle.cdb_causal.specs.Causality.{IsFree}
 use Rattle.cdb_causal.specs.Dependence.{depends}
 use Rattle.cdb_causal.specs.Names.{IsNamedAt, IsNewName, IsPositionOf}
 use Rattle.cdb_record.specs.Recorded.{events_of}
 use Rattle.cdb_record.specs.Taken.{IsRecordTakenOut}
-use Rattle.cdb_record.proofs.Seams.{history_seen, matched}
+use Rattle.cdb_record.proofs.Seams.{history_seen, matched, nth_within}
 use Rattle.cdb_record.proofs.records.Records.take_lost.Goals as goal
 
 pub returns-in_err-at : goal.returns-in_err-at
@@ -21,7 +20,7 @@ pub take_free-requires-clause-to_len : goal.take_free-requires-clause-to_len
 take_free-requires-clause-to_len g c =
     let seen = history_seen c.self.inside.history c.self.inside.left.items c.self.invariant.0 c.self.view_is in
     let position = c.in_ok-at.ensures in
-    let within = slice_get_within c.self.inside.history (c.in_ok-at.at - 1) position.named.0 position.named.1 in
+    let within = nth_within c.self.inside.history c.in_ok-at.at position.named.0 position.named.1 in
     let same = ap length seen in
     let mapped = length-map c.args.self.now (λ entry. entry.event) in
     omega (arith, within, same, mapped)
@@ -31,4 +30,4 @@ returns g c =
     let seen = history_seen c.self.inside.history c.self.inside.left.items c.self.invariant.0 c.self.view_is in
     let position = subst (λ h. IsPositionOf h (named.Lost c.args.copy) c.in_ok-at.at) seen c.in_ok-at.ensures in
     matched (λ h. ((λ i here free. h.0 (subst (IsFree depends (events_of c.args.self.now)) (position.only i here) free)), h.1))
-    (λ entry h. (c.in_ok-at.at - 1, position.named, h.0, h.1)) c.take_free.result c.take_free.ensures
+    (λ entry h. (c.in_ok-at.at, position.named, h.0, h.1)) c.take_free.result c.take_free.ensures

@@ -1,9 +1,9 @@
 use Rattle.std.proofs.Common.{◌≡◌, ◌-◌, length, Some, sym, ap, ap₂, ◌∙◌, subst, arith}
 use Rattle.cdb_base.specs.Positions.{nth}
-use Rattle.cdb_causal.specs.Rollback.{without}
+use Rattle.cdb_causal.specs.FromZero.{without}
 use Rattle.cdb_causal.proofs.Lists.{remove-without}
 use Rattle.cdb_record.specs.Recorded.{recorded_of, records_of}
-use Rattle.cdb_record.proofs.Seams.{fewer_without, same_length_without, length_recorded, recorded_without, recorded_stood}
+use Rattle.cdb_record.proofs.Seams.{fewer_without, same_length_without, length_recorded, recorded_without, recorded_stood, without_below}
 use Rattle.cdb_record.proofs.records.Records.take_out.Goals as goal
 
 pub remove-event-requires-clause-to_len : goal.remove-event-requires-clause-to_len
@@ -28,7 +28,7 @@ invariant_of-self g c =
     let lefts = c.self.inside.left.items in
     let i = c.args.at - 1 in
     let left = ap length (c.take_out-back.ensures.items ∙ remove-without lefts i) in
-    let rest = ap length c.remove-event.ensures.rest in
+    let rest = ap length (c.remove-event.ensures.rest ∙ without_below events c.args.at c.requires.from_one) in
     let each = same_length_without events lefts i c.self.invariant.0 in
     let fewer = fewer_without events i in
     let few = c.self.invariant.1 in
@@ -44,6 +44,7 @@ returns-clause-rest g c =
     let events = c.self.inside.history in
     let lefts = c.self.inside.left.items in
     let i = c.args.at - 1 in
-    ap₂ records_of c.remove-event.ensures.rest (c.take_out-back.ensures.items ∙ remove-without lefts i)
+    ap₂ records_of (c.remove-event.ensures.rest ∙ without_below events c.args.at c.requires.from_one) (c.take_out-back.ensures.items ∙ remove-without lefts i)
     ∙ recorded_without events lefts i c.self.invariant.0
     ∙ ap (λ l. without l i) c.self.view_is
+    ∙ sym (without_below c.args.self.now c.args.at c.requires.from_one)

@@ -1,4 +1,4 @@
-use Rattle.std.proofs.Common.{◌-◌, ◌≤◌, length, subst, arith}
+use Rattle.std.proofs.Common.{◌≤◌, length, subst, arith}
 use Rattle.cdb_causal.specs.DirectCauses.{AreDirectCauses}
 use Rattle.cdb_rules.specs.EventRefs.{name_given}
 use Rattle.cdb_rules.specs.RunView.{RunView}
@@ -26,13 +26,13 @@ returns-clause-returns g c =
     (subst (λ (s : RunView). IsInOrder process.table s) c.self.view_is (history_valid c.self.invariant))
     (subst (λ (s : RunView). length (machine_of process.table s.setup).firsts ≤ 9) c.self.view_is few)
     c.direct_causes.result.items
-    (subst (λ h. AreDirectCauses h (c.in_ok-at.at - 1) c.direct_causes.result.items) c.history.ensures.events c.direct_causes.ensures)
+    (subst (λ h. AreDirectCauses h c.in_ok-at.at c.direct_causes.result.items) c.history.ensures.events c.direct_causes.ensures)
 
 pub returns-clause-direct : goal.returns-clause-direct
 returns-clause-direct g c =
     let standing = c.args.self.now in
     let found = c.in_ok-at.ensures in (
-      c.in_ok-at.at - 1,
+      c.in_ok-at.at,
       named_result standing.setup.processes standing.history (name_given c.args.event) c.in_ok-at.at found.found found.within,
-      subst (λ h. AreDirectCauses h (c.in_ok-at.at - 1) c.direct_causes.result.items) c.history.ensures.events c.direct_causes.ensures,
+      subst (λ h. AreDirectCauses h c.in_ok-at.at c.direct_causes.result.items) c.history.ensures.events c.direct_causes.ensures,
     )

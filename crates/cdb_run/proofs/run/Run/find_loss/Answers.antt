@@ -1,4 +1,4 @@
-use Rattle.std.proofs.Common.{◌≡◌, ℕ, ◌-◌, ◌≤◌, ◌&&◌, length, true, Err, MatchOption, MatchResult, IfOk, ap, ap₂, sym, ◌∙◌, subst}
+use Rattle.std.proofs.Common.{◌≡◌, ℕ, ◌≤◌, ◌&&◌, length, true, Err, MatchOption, MatchResult, IfOk, ap, ap₂, sym, ◌∙◌, subst}
 use Rattle.cdb_base.specs.declared.name.StepId.{StepId}
 use Rattle.cdb_base.specs.declared.name.StepId.TheVariants as named
 use Rattle.cdb_causal.specs.Names.{IsNewName, IsPositionOf}
@@ -37,7 +37,7 @@ returns-clause-found g c =
     let found =
     subst (λ h. MatchOption c.position.result (IsNewName h name) (IsPositionOf h name)) c.history.ensures.events
     (subst (λ (n : StepId). MatchOption c.position.result (IsNewName c.history.result.now n) (IsPositionOf c.history.result.now n)) same c.position.ensures) in
-    subst (λ r. MatchResult r (λ at. event_named standing.setup.processes standing.history name ≡ found_at standing.history (at - 1)) (λ why. event_named standing.setup.processes standing.history name ≡ Err why)) (sym c.ok_or.ensures.value)
+    subst (λ r. MatchResult r (λ at. event_named standing.setup.processes standing.history name ≡ found_at standing.history at) (λ why. event_named standing.setup.processes standing.history name ≡ Err why)) (sym c.ok_or.ensures.value)
     (found_result standing.history name c.position.result found standing.setup.processes (both_among standing.setup.processes c.args.s c.args.m c.args.p sender.2 sender.1 receiver.2 receiver.1))
 
 pub returns-clause-within : goal.returns-clause-within

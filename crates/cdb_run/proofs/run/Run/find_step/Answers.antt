@@ -1,4 +1,4 @@
-use Rattle.std.proofs.Common.{◌≡◌, ℕ, ◌-◌, ◌≤◌, length, Err, MatchOption, MatchResult, IfOk, ap₂, sym, subst}
+use Rattle.std.proofs.Common.{◌≡◌, ℕ, ◌≤◌, length, Err, MatchOption, MatchResult, IfOk, ap₂, sym, subst}
 use Rattle.cdb_base.specs.declared.name.StepId.{StepId}
 use Rattle.cdb_base.specs.declared.name.StepId.TheVariants as named
 use Rattle.cdb_causal.specs.Names.{IsNewName, IsPositionOf}
@@ -30,7 +30,7 @@ returns-clause-found g c =
     let found =
     subst (λ h. MatchOption c.position.result (IsNewName h name) (IsPositionOf h name)) c.history.ensures.events
     (subst (λ (n : StepId). MatchOption c.position.result (IsNewName c.history.result.now n) (IsPositionOf c.history.result.now n)) (ap₂ step_name there.0 number.1) c.position.ensures) in
-    subst (λ r. MatchResult r (λ at. event_named standing.setup.processes standing.history name ≡ found_at standing.history (at - 1)) (λ why. event_named standing.setup.processes standing.history name ≡ Err why)) (sym c.ok_or.ensures.value)
+    subst (λ r. MatchResult r (λ at. event_named standing.setup.processes standing.history name ≡ found_at standing.history at) (λ why. event_named standing.setup.processes standing.history name ≡ Err why)) (sym c.ok_or.ensures.value)
     (found_result standing.history name c.position.result found standing.setup.processes (among_is standing.setup.processes c.args.p there.2 there.1))
 
 pub returns-clause-within : goal.returns-clause-within

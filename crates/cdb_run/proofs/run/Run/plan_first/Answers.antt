@@ -1,4 +1,4 @@
-use Rattle.std.proofs.Common.{◌≡◌, sym, ◌∙◌}
+use Rattle.std.proofs.Common.{sym, ◌∙◌}
 use Rattle.cdb_message.specs.Mail.{next_pending}
 use Rattle.std.specs.Prelude.{None}
 use Rattle.cdb_rules.specs.Runs.{mail_in, result_of_step}

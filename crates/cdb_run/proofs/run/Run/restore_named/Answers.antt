@@ -1,10 +1,10 @@
-use Rattle.std.proofs.Common.{slice_get, ap, sym, ◌∙◌, subst}
+use Rattle.std.proofs.Common.{ap, sym, ◌∙◌, subst}
+use Rattle.cdb_base.specs.Positions.{nth}
 use Rattle.cdb_causal.specs.Causality.{IsFree}
 use Rattle.cdb_causal.specs.Dependence.{depends}
 use Rattle.cdb_causal.specs.Names.{IsNewName, IsPositionOf}
 use Rattle.cdb_causal.specs.Rollback.{without}
 use Rattle.cdb_rules.specs.RunView.{RunView}
-use Rattle.cdb_rules.proofs.Finding.{position_before}
 use Rattle.cdb_run.proofs.run.Run.restore_named.Goals as goal
 
 pub restore_at-requires-clause-free : goal.restore_at-requires-clause-free
@@ -22,7 +22,7 @@ pub returns-clause-event : goal.returns-clause-event
 returns-clause-event g c =
     let history = c.args.self.now.history in
     let position = subst (λ h. IsPositionOf h c.args.name c.in-Some.at) c.history.ensures.events c.in-Some.ensures in
-    λ i named. ap (slice_get history) (position.only i named) ∙ position_before history c.in-Some.at c.restore_at.result position.from_one c.restore_at.ensures.event
+    λ at named. ap (nth history) (position.only at named) ∙ c.restore_at.ensures.event
 
 pub returns-clause-after : goal.returns-clause-after
 returns-clause-after g c =

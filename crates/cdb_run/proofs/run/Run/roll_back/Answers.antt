@@ -1,23 +1,23 @@
-use Rattle.std.proofs.Common.{◌≡◌, ◌-◌, List, [], ◌∷◌, ◌++◌, length, map, length-append, refl, sym, ap, ◌∙◌, subst, arith}
-use Rattle.std.proofs.lemmas.Option.{same_Some, slice_get_within}
+use Rattle.std.proofs.Common.{◌≡◌, List, [], ◌∷◌, ◌++◌, length, map, length-append, refl, sym, ap, ◌∙◌, subst, arith}
+use Rattle.std.proofs.lemmas.Option.{same_Some}
 use Rattle.cdb_base.specs.Event.{event_name}
 use Rattle.cdb_base.specs.declared.event.Event.{Event}
 use Rattle.cdb_base.specs.declared.name.StepId.{StepId}
 use Rattle.cdb_causal.specs.Dependence.{depends}
 use Rattle.cdb_causal.specs.Rollback.{without, consequences}
 use Rattle.cdb_rules.specs.RunView.{RunView}
-use Rattle.cdb_rules.proofs.Finding.{position_before}
+use Rattle.cdb_rules.proofs.Positions.{nth_within}
 use Rattle.cdb_run.proofs.RollingBack.{IsLeft, stands_at, left_first, number_left, next_free, alone_left}
 use Rattle.cdb_run.proofs.run.Run.roll_back.Goals as goal
 
 pub loop-name-init : goal.loop-name-init
 loop-name-init g c =
     let history = c.args.self.now.history in
-    let i = c.args.at - 1 in
+    let i = c.args.at in
     let into = c.args.removed.now.items in
     let first = c.requires.from_one in
     let last = c.requires.to_len in
-    let stands = stands_at history i (omega (arith, first, last)) in
+    let stands = stands_at history i first last in
     let names_are = subst (λ h. c.in_ok-names.names.items ≡ map event_name (consequences depends h i)) c.history.ensures.events c.in_ok-names.ensures in
     let made = c.in_ok-reserve.ensures in
     let number = c.len-number.ensures in
@@ -34,18 +34,18 @@ loop-name-init g c =
 
 pub restore_named-event-requires : goal.restore_named-event-requires
 restore_named-event-requires g c =
-    let left = subst (λ (names : List StepId). IsLeft c.args.self.now.history (c.args.at - 1) c.args.removed.now.items c.loop-name.self.history names c.loop-name.removed.items) c.in-Some.ensures.items c.loop-name.invariant.left in
-    let next = next_free c.args.self.now.history (c.args.at - 1) c.args.removed.now.items c.pop.new.self.items c.in-Some.name left in
+    let left = subst (λ (names : List StepId). IsLeft c.args.self.now.history c.args.at c.args.removed.now.items c.loop-name.self.history names c.loop-name.removed.items) c.in-Some.ensures.items c.loop-name.invariant.left in
+    let next = next_free c.args.self.now.history c.args.at c.args.removed.now.items c.requires.from_one c.pop.new.self.items c.in-Some.name left in
     (next.0, next.1, next.2)
 
 pub loop-name-preserved : goal.loop-name-preserved
 loop-name-preserved g c =
     let history = c.args.self.now.history in
-    let i = c.args.at - 1 in
+    let i = c.args.at in
     let into = c.args.removed.now.items in
     let names = c.pop.new.self.items in
     let left = subst (λ (names : List StepId). IsLeft history i into c.loop-name.self.history names c.loop-name.removed.items) c.in-Some.ensures.items c.loop-name.invariant.left in
-    let next = next_free history i into names c.in-Some.name left in
+    let next = next_free history i into c.requires.from_one names c.in-Some.name left in
     let removed = c.restore_named-event.ensures in
     let after = removed.after next.0 next.1 in
     let pushed = c.push_reserved.ensures in
@@ -65,22 +65,20 @@ loop-name-preserved g c =
 
 pub restore_at-event-requires-clause-to_len : goal.restore_at-event-requires-clause-to_len
 restore_at-event-requires-clause-to_len g c =
-    let one = alone_left c.args.self.now.history (c.args.at - 1) c.args.removed.now.items c.loop-name.names.items (c.loop-name.names.ok.0) c.in_default.ensures.cases.0 c.loop-name.invariant.left in
-    let below = slice_get_within c.loop-name.self.history (c.args.at - 1) one.event one.at in
-    let first = c.requires.from_one in
-    omega (arith, below, first)
+    let one = alone_left c.args.self.now.history c.args.at c.args.removed.now.items c.requires.from_one c.loop-name.names.items (c.loop-name.names.ok.0) c.in_default.ensures.cases.0 c.loop-name.invariant.left in
+    nth_within c.loop-name.self.history c.args.at one.event one.at
 
 pub restore_at-event-requires-clause-free : goal.restore_at-event-requires-clause-free
 restore_at-event-requires-clause-free g c =
-    (alone_left c.args.self.now.history (c.args.at - 1) c.args.removed.now.items c.loop-name.names.items (c.loop-name.names.ok.0) c.in_default.ensures.cases.0 c.loop-name.invariant.left).free
+    (alone_left c.args.self.now.history c.args.at c.args.removed.now.items c.requires.from_one c.loop-name.names.items (c.loop-name.names.ok.0) c.in_default.ensures.cases.0 c.loop-name.invariant.left).free
 
 pub returns-clause-number : goal.returns-clause-number
 returns-clause-number g c =
     let history = c.args.self.now.history in
-    let i = c.args.at - 1 in
+    let i = c.args.at in
     let first = c.requires.from_one in
     let last = c.requires.to_len in
-    let stands = stands_at history i (omega (arith, first, last)) in
+    let stands = stands_at history i first last in
     let names_are = subst (λ h. c.in_ok-names.names.items ≡ map event_name (consequences depends h i)) c.history.ensures.events c.in_ok-names.ensures in
     let number = c.len-number.ensures in
     let long = c.in_ok-names.names.ok.0 in
@@ -90,12 +88,11 @@ returns-clause-number g c =
 
 pub returns-clause-after : goal.returns-clause-after
 returns-clause-after g c =
-    let one = alone_left c.args.self.now.history (c.args.at - 1) c.args.removed.now.items c.loop-name.names.items (c.loop-name.names.ok.0) c.in_default.ensures.cases.0 c.loop-name.invariant.left in
+    let one = alone_left c.args.self.now.history c.args.at c.args.removed.now.items c.requires.from_one c.loop-name.names.items (c.loop-name.names.ok.0) c.in_default.ensures.cases.0 c.loop-name.invariant.left in
     c.restore_at-event.ensures.after ∙ (λ j. record { setup = c.loop-name.invariant.setup j; history = one.remains j })
 
 pub returns-clause-list : goal.returns-clause-list
 returns-clause-list g c =
-    let one = alone_left c.args.self.now.history (c.args.at - 1) c.args.removed.now.items c.loop-name.names.items (c.loop-name.names.ok.0) c.in_default.ensures.cases.0 c.loop-name.invariant.left in
-    let at = position_before c.loop-name.self.history c.args.at c.restore_at-event.result c.requires.from_one c.restore_at-event.ensures.event in
-    let same = same_Some c.restore_at-event.result one.event (sym at ∙ one.at) in
+    let one = alone_left c.args.self.now.history c.args.at c.args.removed.now.items c.requires.from_one c.loop-name.names.items (c.loop-name.names.ok.0) c.in_default.ensures.cases.0 c.loop-name.invariant.left in
+    let same = same_Some c.restore_at-event.result one.event (sym c.restore_at-event.ensures.event ∙ one.at) in
     c.push_reserved-2.ensures.items ∙ ap (λ (e : Event). c.loop-name.removed.items ++ e ∷ []) same ∙ one.went

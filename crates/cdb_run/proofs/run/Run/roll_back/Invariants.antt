@@ -1,4 +1,4 @@
-use Rattle.std.proofs.Common.{◌≡◌, ◌+◌, ◌-◌, ◌<◌, ◌≤◌, length, vec_len, vec_capacity}
+use Rattle.std.proofs.Common.{◌≡◌, ◌+◌, ◌<◌, ◌≤◌, length, vec_len, vec_capacity}
 use Rattle.cdb_run.proofs.RollingBack.{IsLeft}
 use Rattle.cdb_run.proofs.run.Run.roll_back.Given as goal
 
@@ -6,7 +6,7 @@ abbrev pub invariant-loop-name : goal.invariant-loop-name
 invariant-loop-name g l =
     record {
       setup : l.self.setup ≡ l.fn.self.setup;
-      left : IsLeft l.fn.self.history (l.at - 1) l.fn.removed.items l.self.history l.names.items l.removed.items;
+      left : IsLeft l.fn.self.history l.at l.fn.removed.items l.self.history l.names.items l.removed.items;
       kept : vec_capacity l.fn.removed ≤ vec_capacity l.removed;
       room : vec_len l.removed + length l.names.items < vec_capacity l.removed;
     }
