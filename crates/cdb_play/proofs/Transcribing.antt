@@ -1,27 +1,19 @@
 -- A transcript grows by the text of one reply after the other.
-use Rattle.std.proofs.Common.{◌≡◌, ℕ, ◌-◌, arith, List, [], ◌∷◌, ◌++◌, refl, sym, ap, ◌∙◌, append-nil}
+use Rattle.std.proofs.Common.{◌≡◌, ℕ, List, [], ◌∷◌, ◌++◌, refl, sym, ap, ◌∙◌, append-nil}
 use Rattle.std.specs.List.{flat_map}
 use Rattle.std.proofs.lemmas.List.{map-append}
 use Rattle.std.proofs.lemmas.Grind.{flat_map-append}
 use Rattle.cdb_control.specs.declared.command.Command.{Command}
 use Rattle.cdb_control.specs.Commands.{obey}
-use Rattle.cdb_control.specs.Journal.{Journaled, entry, extended, replay, replay_from, replies_from, reply_in}
-use Rattle.cdb_control.specs.ToldReply.{ToldReply}
-use Rattle.cdb_control.specs.Room.{cost, lowered}
+use Rattle.cdb_control.specs.Journal.{Journaled, entry, extended, replay, replay_from, replies_from}
 use Rattle.cdb_control.specs.State.{first_control_state}
 use Rattle.cdb_control.proofs.Own.{replies_from-append}
 use Rattle.cdb_rules.specs.Rules.{Rules}
 use Rattle.cdb_setup.specs.Parts.{Parts}
 use Rattle.cdb_text.specs.Texts.{text_of}
+use Rattle.cdb_play.specs.Left.{carried_out, run_of}
+use Rattle.cdb_play.specs.PlayStages.{HasCarriedOut}
 use Rattle.cdb_play.specs.Transcripts.{journal_of, reply_to, transcript}
-
--- a control of one seat that has carried these commands out
-abbrev pub so_far : Parts → List Command → Journaled
-so_far setup commands = record { setup = setup; seats = 1; journal = journal_of commands; rooms = 0 ∷ [] }
-
--- where there is no room a command leaves none
-still_no_room : (a : ToldReply) → lowered (0 ∷ []) 1 a ≡ 0 ∷ []
-still_no_room a = let none : 0 - cost a ≡ 0 = omega arith in ap (λ (room : ℕ). let rooms : List ℕ = room ∷ [] in rooms) none
 
 pub no_texts : (rules : Rules) (setup : Parts) → transcript rules setup [] ≡ []
 unfolding transcript
@@ -32,7 +24,7 @@ abbrev pub texts_behind : Rules → Parts → List Command → Command → List 
 texts_behind rules setup done command rest = flat_map text_of (replies_from rules (obey rules (replay_from rules (first_control_state setup 1) (journal_of done)) 1 command) 1 (journal_of rest))
 
 pub one_text : (rules : Parts → Rules) (setup : Parts) (done : List Command) (command : Command) (rest : List Command)
-    → transcript (rules setup) setup (done ++ command ∷ rest) ≡ transcript (rules setup) setup done ++ (reply_to rules (so_far setup done) command ++ texts_behind (rules setup) setup done command rest)
+    → transcript (rules setup) setup (done ++ command ∷ rest) ≡ transcript (rules setup) setup done ++ (reply_to rules (carried_out setup done) command ++ texts_behind (rules setup) setup done command rest)
 unfolding transcript replay
 one_text rules setup done command rest =
     let r = rules setup in
@@ -41,23 +33,29 @@ one_text rules setup done command rest =
     ∙ ap (flat_map text_of) (replies_from-append r first 1 (journal_of done) (journal_of (command ∷ rest)))
     ∙ flat_map-append text_of (replies_from r first 1 (journal_of done)) (replies_from r (replay_from r first (journal_of done)) 1 (journal_of (command ∷ rest)))
 
-module _ (rules : Parts → Rules) (setup : Parts) (done : List Command) (command : Command) (control : Journaled) (along : control ≡ so_far setup done) where
-  same_text : reply_to rules control command ≡ reply_to rules (so_far setup done) command
-  same_text = ap (λ c. reply_to rules c command) along
+module _ (rules : Parts → Rules) (setup : Parts) (done : List Command) (command : Command) (control : Journaled) (along : HasCarriedOut setup done control) where
+  same_text : reply_to rules control command ≡ reply_to rules (carried_out setup done) command
+  same_text = rw (along.of_setup, along.one_seat, along.carried_out) refl
 
-  pub one_command : (left : Journaled) → left ≡ extended rules control 1 command → left ≡ so_far setup (done ++ command ∷ [])
+  pub one_command : (left : Journaled) → left ≡ extended rules control 1 command → HasCarriedOut setup (done ++ command ∷ []) left
   one_command left is =
-      is ∙ ap (λ c. extended rules c 1 command) along
-      ∙ ap (λ (rooms : List ℕ). record (so_far setup done) { journal = journal_of done ++ entry 1 command ∷ []; rooms = rooms }) (still_no_room (reply_in rules (so_far setup done) 1 command))
-      ∙ ap (λ journal. record (so_far setup done) { journal = journal }) (sym (map-append (entry 1) done (command ∷ [])))
+      record {
+        of_setup = ap (λ c. c.setup) is ∙ along.of_setup;
+        one_seat = ap (λ c. c.seats) is ∙ along.one_seat;
+        carried_out = ap (λ c. c.journal) is ∙ ap (λ journal. journal ++ entry 1 command ∷ []) along.carried_out ∙ sym (map-append (entry 1) done (command ∷ []));
+      }
 
   -- the transcript so far, and the text of the reply to one command more
   pub one_reply : transcript (rules setup) setup (done ++ command ∷ []) ≡ transcript (rules setup) setup done ++ reply_to rules control command
   one_reply =
-      one_text rules setup done command [] ∙ ap (λ text. transcript (rules setup) setup done ++ text) (append-nil (reply_to rules (so_far setup done) command) ∙ sym same_text)
+      one_text rules setup done command [] ∙ ap (λ text. transcript (rules setup) setup done ++ text) (append-nil (reply_to rules (carried_out setup done) command) ∙ sym same_text)
 
   -- the transcript so far, the text of one reply, and those after it
   pub parted_transcript : (rest : List Command)
       → transcript (rules setup) setup (done ++ command ∷ rest) ≡ transcript (rules setup) setup done ++ (reply_to rules control command ++ texts_behind (rules setup) setup done command rest)
   parted_transcript rest =
       one_text rules setup done command rest ∙ ap (λ text. transcript (rules setup) setup done ++ (text ++ texts_behind (rules setup) setup done command rest)) (sym same_text)
+
+-- the run of a control is that of its commands
+pub run_left : (rules : Parts → Rules) (setup : Parts) (commands : List Command) (control : Journaled) → HasCarriedOut setup commands control → run_of rules control ≡ run_of rules (carried_out setup commands)
+run_left rules setup commands control along = rw (along.of_setup, along.one_seat, along.carried_out) refl

@@ -7,12 +7,14 @@ ghost use Rattle.cdb_control.specs.Journal.{extended};
 ghost use Rattle.cdb_setup.specs.declared.fault.SetupFault.{SetupFault as SetupFaultName};
 ghost use Rattle.cdb_play.specs.Endings.{whole_ending};
 ghost use Rattle.cdb_play.specs.Faults.{IsFaultOfPlay};
-ghost use Rattle.cdb_play.specs.Left.{carried_out, LeavesControl};
+ghost use Rattle.cdb_play.specs.Left.{LeavesControl};
+ghost use Rattle.cdb_play.specs.PlayStages.{HasCarriedOut};
 ghost use Rattle.cdb_play.specs.Streams.{FailsWhere};
 ghost use Rattle.cdb_play.specs.Written.{IsWritten, Only};
 
 use crate::buffer::{Buffer, OutputFault};
 use crate::fault::PlayFault;
+use crate::plays::open_for;
 use crate::script::read_commands;
 use crate::sink::Sink;
 use crate::source::Source;
@@ -45,11 +47,9 @@ fn control_after<T: Runs>(
     commands: &[Command],
 ) -> Result<Control<T>, NoMemory>
     requires { length commands.now < MAX_ENTRIES }
-    ensures { IfOk result (λ control. control ≡ carried_out setup commands.now) }
+    ensures { IfOk result (HasCarriedOut setup commands.now) }
 {
-    let Ok(mut control) = Control::<T>::open(alloc, setup, 1) else {
-        return Err(NoMemory);
-    };
+    let mut control = open_for(alloc, setup, commands.len() as u32)?;
     for command in commands {
         carry_out(alloc, &mut control, *command)?;
     }

@@ -1,9 +1,10 @@
 //! A script is played: its commands are carried out one after the other, and each reply is written.
 
-ghost use Rattle.std.specs.Prelude.{◌≡◌, ◌<◌, length, Err, IfErr, OnOk};
+ghost use Rattle.std.specs.Prelude.{◌≡◌, ◌<◌, ◌≤◌, [], length, Err, IfOk, IfErr, OnOk};
 ghost use Rattle.cdb_base.specs.declared.limits.TheConstants.{MAX_ENTRIES};
 ghost use Rattle.cdb_control.specs.Journal.{extended};
 ghost use Rattle.cdb_setup.specs.declared.fault.SetupFault.{SetupFault as SetupFaultName};
+ghost use Rattle.cdb_play.specs.PlayStages.{HasCarriedOut};
 ghost use Rattle.cdb_play.specs.Putting.{Puts};
 ghost use Rattle.cdb_play.specs.Endings.{pieces_ending, play_ending};
 ghost use Rattle.cdb_play.specs.Faults.{IsFaultOfPlay};
@@ -17,6 +18,7 @@ use crate::reply::put_reply;
 use crate::script::read_commands;
 use crate::sink::Sink;
 use crate::source::Source;
+use cdb_base::NoMemory;
 use cdb_control::{CallFault, Command, Control, Runs, laws};
 use cdb_setup::Setup;
 use std::alloc::Global;
@@ -44,6 +46,23 @@ fn perform<T: Runs, W: Sink>(
     put_reply(&reply, text, buffer, out)
 }
 
+/// A control with one seat in which nothing has happened, with room for this many commands: so their journal is
+/// allocated once.
+pub(crate) fn open_for<T: Runs>(
+    alloc: Global,
+    setup: Setup,
+    count: u32,
+) -> Result<Control<T>, NoMemory>
+    requires { count ≤ MAX_ENTRIES }
+    ensures { IfOk result (HasCarriedOut setup []) }
+{
+    let Ok(mut control) = Control::<T>::open(alloc, setup, 1) else {
+        return Err(NoMemory);
+    };
+    control.reserve(alloc, 1, count)?;
+    Ok(control)
+}
+
 /// Carries the commands out, one after the other, on a run of the setup in which nothing has happened, and
 /// puts the text of each reply. After an error what was put is a beginning of the transcript.
 fn perform_all<T: Runs, W: Sink>(
@@ -57,9 +76,7 @@ fn perform_all<T: Runs, W: Sink>(
     ensures { Puts W.stream result out.old buffer.old out.new buffer.new
         (transcript (T.rules setup) setup commands.now) }
 {
-    let Ok(mut control) = Control::<T>::open(alloc, setup, 1) else {
-        return Err(OutputFault::NoMemory);
-    };
+    let mut control = open_for::<T>(alloc, setup, commands.len() as u32)?;
     let mut text = String::new(alloc);
     for command in commands {
         perform(alloc, &mut control, *command, &mut text, buffer, out)?;

@@ -1,11 +1,11 @@
-use Rattle.std.proofs.Common.{◌≡◌, ◌∙◌, ◌∷◌, [], ◌++◌, ◌+◌, ap, sym, take}
+use Rattle.std.proofs.Common.{◌≡◌, ◌∙◌, ◌∷◌, [], ◌++◌, ◌+◌, ap, sym, subst, take}
 use Rattle.std.proofs.lemmas.List.{take_more}
-use Rattle.cdb_play.specs.Left.{carried_out}
+use Rattle.cdb_play.specs.PlayStages.{HasCarriedOut}
 use Rattle.cdb_play.proofs.Transcribing.{one_command}
 use Rattle.cdb_play.proofs.left.control_after.Goals as goal
 
 pub loop-command-init : goal.loop-command-init
-loop-command-init g c = c.in-Ok.ensures.opened
+loop-command-init g c = c.in_ok-control.ensures
 
 pub loop-command-preserved : goal.loop-command-preserved
 loop-command-preserved g c =
@@ -16,5 +16,5 @@ loop-command-preserved g c =
     let done = take i commands in
     let more : done ++ command ∷ [] ≡ take (i + 1) commands =
     ap (λ other. done ++ other ∷ []) c.command-item.is ∙ sym (take_more commands i command c.loop-command-test.true) in
-    one_command g.T.Runs.rules setup done command c.loop-command.control c.loop-command.invariant c.carry_out.new.control c.in_ok-carry_out.ensures
-    ∙ ap (carried_out setup) more
+    subst (λ carried. HasCarriedOut setup carried c.carry_out.new.control) more
+    (one_command g.T.Runs.rules setup done command c.loop-command.control c.loop-command.invariant c.carry_out.new.control c.in_ok-carry_out.ensures)

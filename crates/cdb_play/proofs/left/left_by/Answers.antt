@@ -1,5 +1,4 @@
-use Rattle.std.proofs.Common.{ap}
-use Rattle.cdb_play.specs.Left.{run_of}
+use Rattle.cdb_play.proofs.Transcribing.{run_left}
 use Rattle.std.proofs.lemmas.Result.{err_from_is_err_and}
 use Rattle.cdb_play.proofs.WholeTexts.{no_failed_write, setup_writes_none}
 use Rattle.cdb_play.proofs.left.left_by.Goals as goal
@@ -15,7 +14,7 @@ returns-clause-left g c =
         encodes = c.in_ok-setup.ensures.found;
         short = given.2.0;
         lines = given.2.1;
-        is = ap (run_of g.T.Runs.rules) (rw c.as_slice.ensures.value at c.in_ok-control.ensures);
+        is = run_left g.T.Runs.rules c.in_ok-setup.setup c.in_ok-commands.commands.items c.in_ok-control.control (rw c.as_slice.ensures.value at c.in_ok-control.ensures);
       },
     )
 
