@@ -1,9 +1,9 @@
 //! What depends on an event of a history.
 
-ghost use Rattle.std.specs.Prelude.{◌≡◌, ◌<◌, ◌≤◌, length, map, IfOk};
+ghost use Rattle.std.specs.Prelude.{◌≡◌, ℕ, ◌<◌, ◌≤◌, length, map, IfOk};
 ghost use Rattle.cdb_base.specs.Event.{event_name};
 ghost use Rattle.cdb_causal.specs.Dependence.{depends as depends_of};
-ghost use Rattle.cdb_causal.specs.FromZero.{IsFirstDependentOrFree as IsFirstLinkedOrFree, rolled_back};
+ghost use Rattle.cdb_causal.specs.FromZero.{IsFirstDependentOrFree as IsFirstLinkedOrFree, IsLink, rolled_back};
 ghost use Rattle.cdb_causal.specs.Names.{IsFirstDependentOrFree, consequence_names};
 ghost use Rattle.cdb_causal.specs.Starts.{IsFirstAmong};
 
@@ -60,6 +60,19 @@ pub fn first_dependent(history: &History, at: usize) -> Option<StepId>
     first_linked(history, at - 1)
 }
 
+/// The end of a search, or a higher one, above all events that depend on the one at position `j`: where all that
+/// stand are below the end already, none is asked for.
+fn end_with(history: &History, end: usize, j: usize) -> usize
+    requires { j < length history.now }
+    ensures higher { end ≤ result }
+    ensures above { (k : ℕ) → IsLink depends_of history.now j k → k < result }
+{
+    if end >= history.len() {
+        return end;
+    }
+    end.max(history.end_of_dependents(j))
+}
+
 /// The event at a position, from 0, with its consequences, in order.
 fn rolled_back_events(alloc: Global, history: &History, i: usize) -> Result<Vec<Event>, NoMemory>
     requires { i < length history.now }
@@ -75,7 +88,7 @@ fn rolled_back_events(alloc: Global, history: &History, i: usize) -> Result<Vec<
         let event = history.event(j);
         if causes.has_cause_of(event) {
             causes.push(*event)?;
-            end = end.max(history.end_of_dependents(j));
+            end = end_with(history, end, j);
         }
         j += 1;
     }
