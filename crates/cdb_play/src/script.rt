@@ -68,6 +68,11 @@ fn push_command(commands: &mut Vec<Command>, command: Command) -> Result<(), All
     }
 }
 
+/// How many lines a script may have.
+fn most_lines(script: &[u8]) -> usize {
+    1 + script.iter().filter(|byte| **byte == b'\n').count()
+}
+
 /// The commands of the lines of a script, in their order. Where a line is no command, the first such line is
 /// named with its first fault. A script that is too long is refused as such, and never as out of memory.
 pub fn commands_of(alloc: Global, script: &[u8]) -> Result<Vec<Command>, ScriptFault>
@@ -81,7 +86,7 @@ pub fn commands_of(alloc: Global, script: &[u8]) -> Result<Vec<Command>, ScriptF
     if script.len() > MAX_BYTES {
         return Err(ScriptFault::TooLong);
     }
-    let mut commands = Vec::new(alloc);
+    let mut commands = Vec::with_capacity(alloc, most_lines(script))?;
     let mut rest = script;
     while !rest.is_empty() {
         let (line, behind) = first_line(rest);
