@@ -32,6 +32,9 @@ fn begun<R: Abort + AllocGlobal>(rt: &R) -> AnyRun
     run
 }
 
+/// Drops a run, here alone.
+fn end(_run: AnyRun) {}
+
 /// The copy of the first message of process 1 for a process from 1 to 9.
 fn first_copy_for(receiver: u8) -> CopyName
     requires from_one { 1 ≤ receiver }
@@ -53,6 +56,7 @@ fn events_are_undone_by_plain_numbers(rt: HostRuntime) {
     assert!(&rt; run.undo_lost(1, 1, 2).is_ok());
     assert!(&rt; run.undo(1, 2).is_ok());
     assert_eq!(&rt; run.history().len(), 1);
+    end(run);
 }
 
 #[test]
@@ -62,6 +66,7 @@ fn events_are_rolled_back_by_plain_numbers(rt: HostRuntime) {
     assert_eq!(&rt; run.history().len(), 2);
     assert!(&rt; matches!(run.rollback(rt.alloc(), 1, 1), Ok(Ok(_))));
     assert!(&rt; run.history().is_empty());
+    end(run);
 }
 
 #[test]
@@ -74,6 +79,7 @@ fn causes_and_lost_copies_are_found_by_plain_numbers(rt: HostRuntime) {
     };
     assert!(&rt; causes.as_slice() == [StepId::Step(query)].as_slice());
     assert!(&rt; !run.lost(first_copy_for(1)) && run.lost(first_copy_for(2)));
+    end(run);
 }
 
 /// Scripts of two processes of Alpha, and how many writes then stand of the registers of both and of the decision's.
@@ -87,6 +93,7 @@ fn writes_that_stand_are_counted(rt: HostRuntime) {
         assert_eq!(&rt; run.writes(Reg::R(Proc::new(2))), Some(second), "{script}");
         assert_eq!(&rt; run.writes(Reg::Dec), Some(of_decision), "{script}");
         assert_eq!(&rt; run.writes(Reg::R(Proc::new(3))), None, "{script}");
+        run.end();
     }
 }
 
