@@ -114,7 +114,7 @@ fn room_for_two<R: Abort + AllocGlobal>(rt: &R) -> Vec<Seat<RunOfSetup>>
 pub fn end_control(_control: Control<RunOfSetup>) {}
 
 /// Drops replies, here alone.
-fn end_replies(_replies: Vec<Reply>) {}
+pub fn end_replies(_replies: Vec<Reply>) {}
 
 /// A shared control and its two seats, which rest.
 #[derive(Drop)]
@@ -142,8 +142,10 @@ impl Pair {
         seated(rt, shared, seats)
     }
 
-    /// Drops the pair, here alone.
-    pub fn end(self) {}
+    /// Drops the pair.
+    pub fn end<R: Wait + Abort + AllocGlobal>(self, rt: &R) {
+        end_control(self.finish(rt));
+    }
 
     /// The numbers of the seats.
     pub fn numbers(&self) -> (u8, u8) {

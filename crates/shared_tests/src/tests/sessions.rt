@@ -1,6 +1,6 @@
 //! Sessions of two seats, how they end, and a race of a process and a script.
 
-use super::pair::{Before, OPEN, Pair, end_control, ends_with_seats, say, try_setup};
+use super::pair::{Before, OPEN, Pair, end_control, end_replies, ends_with_seats, say, try_setup};
 use cdb_any_run::RunOfSetup;
 use cdb_control::{Act, Command};
 use cdb_race::{RaceFault, Raced, Script, race};
@@ -49,7 +49,7 @@ fn each_seat_redoes_what_it_undid(rt: HostRuntime) {
 /// How many calls a driven process makes, and how that ends.
 fn driven<R: Wait + Abort + AllocGlobal>(rt: &R, turns: u32, stop: u32) -> (u32, End) {
     let (pair, count, end) = Pair::after(rt, 0).drive(rt, stop, turns);
-    pair.end();
+    pair.end(rt);
     (count, end)
 }
 
@@ -70,7 +70,7 @@ fn a_gate_stops_one_session_alone(rt: HostRuntime) {
     let (pair, replies, end) = pair.exchanged().serve(&rt, OPEN, &commands);
     say(&rt, replies, "1.2 send 1#1\ndecisions none\n");
     assert_eq!(&rt; end, End::All);
-    pair.end();
+    pair.end(&rt);
 }
 
 /// Serves the second seat with commands where the journal has room for one entry, and then drives the process from there,
@@ -122,8 +122,14 @@ fn raced<R: Threads + Wait + Sync + Abort + AllocGlobal>(
     Ok(found)
 }
 
-/// Drops what a race leaves, here alone.
-fn end_race(_raced: Raced<RunOfSetup>) {}
+/// Drops what a race leaves.
+fn end_race(raced: Raced<RunOfSetup>) {
+    let Raced { control, replies } = raced;
+    end_control(control);
+    for of_seat in replies {
+        end_replies(of_seat);
+    }
+}
 
 /// A script of one command.
 fn script(alloc: Global) -> Result<Script, AllocError> {
