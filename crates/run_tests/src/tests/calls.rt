@@ -82,19 +82,26 @@ fn causes_and_lost_copies_are_found_by_plain_numbers(rt: HostRuntime) {
     end(run);
 }
 
-/// Scripts of two processes of Alpha, and how many writes then stand of the registers of both and of the decision's.
-const WRITES: [(&str, u32, u32, u32); 2] = [(TWELVE_STEPS, 2, 0, 1), (RACE, 2, 2, 1)];
+/// How many writes stand of the registers of processes 1 to 3 and of the decision's, after a script of two processes of
+/// Alpha.
+fn writes_after<R: Abort + AllocGlobal>(rt: &R, script: &str) -> [Option<u32>; 4] {
+    let run = after(rt, ALPHA_PAIR, script);
+    let found = [
+        run.writes(Reg::R(Proc::new(1))),
+        run.writes(Reg::R(Proc::new(2))),
+        run.writes(Reg::R(Proc::new(3))),
+        run.writes(Reg::Dec),
+    ];
+    run.end();
+    found
+}
 
 #[test]
 fn writes_that_stand_are_counted(rt: HostRuntime) {
-    for (script, first, second, of_decision) in WRITES {
-        let run = after(&rt, ALPHA_PAIR, script);
-        assert_eq!(&rt; run.writes(Reg::R(Proc::new(1))), Some(first), "{script}");
-        assert_eq!(&rt; run.writes(Reg::R(Proc::new(2))), Some(second), "{script}");
-        assert_eq!(&rt; run.writes(Reg::Dec), Some(of_decision), "{script}");
-        assert_eq!(&rt; run.writes(Reg::R(Proc::new(3))), None, "{script}");
-        run.end();
-    }
+    let found = writes_after(&rt, TWELVE_STEPS);
+    assert!(&rt; found == [Some(2), Some(0), None, Some(1)]);
+    let found = writes_after(&rt, RACE);
+    assert!(&rt; found == [Some(2), Some(2), None, Some(1)]);
 }
 
 #[test]
