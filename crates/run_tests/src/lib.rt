@@ -1,5 +1,5 @@
-//! Runs of both algorithms: calls that no command makes, undo and rollback against a slow replay, and calls
-//! without memory. What a script can show is in the worked examples of `tests/`.
+//! Runs of both algorithms: calls that no command makes, and calls without memory. What a script can show is in the worked
+//! examples of `tests/`, and undo and rollback against a replay in `tools/twins`.
 #![tactic(auto)]
 
 #[cfg(test)]

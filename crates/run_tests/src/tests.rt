@@ -2,11 +2,8 @@
 
 mod calls;
 mod example;
-mod generated;
-mod long_run;
 mod memory;
 mod same;
 mod scripts;
 mod setups;
 mod spared;
-mod twin;

@@ -269,14 +269,6 @@ undo 2 3
 step 2 go
   2.3 send 2#1 decides 5";
 
-const SESSIONS: [(&str, &str); 5] = [
-    (LOSSY, LOSSES),
-    (LOSSY, ROLLBACKS),
-    (ALONE, BREAKPOINTS),
-    (ALPHA_ALONE, REGISTERS),
-    (NO_MAJORITY, A_CRASH),
-];
-
 /// Gives a line to a session. Where an allocation fails it shows what the other shows, and is given the line again.
 fn lead<R: Abort + AllocGlobal>(
     rt: &R,
@@ -284,11 +276,13 @@ fn lead<R: Abort + AllocGlobal>(
     other: &Session,
     line: &str,
 ) -> Reply {
-    if let Ok(reply) = session.try_line(rt, 1, line) {
-        return reply;
+    match session.try_line(rt, 1, line) {
+        Ok(reply) => reply,
+        Err(_) => {
+            assert!(rt; session.shows_same(other), "{line}");
+            session.try_line(rt, 1, line).expect(rt, line)
+        }
     }
-    assert!(rt; session.shows_same(other), "{line}");
-    session.try_line(rt, 1, line).expect(rt, line)
 }
 
 /// Whether a text has these lines, of which each is two spaces in.
@@ -309,21 +303,39 @@ fn has_lines(text: &[u8], lines: &str) -> bool {
     rest.is_empty()
 }
 
-/// Two sessions of each setup are given the same lines, one always a line behind the other.
+/// Gives a line to two sessions that show the same, and compares each reply with the lines below it.
+fn give_to_both<R: Abort + AllocGlobal>(
+    rt: &R,
+    ahead: &mut Session,
+    behind: &mut Session,
+    row: &str,
+) {
+    let (line, lines) = row.split_once('\n').expect(rt, row);
+    let reply = lead(rt, ahead, behind, line);
+    assert!(rt; has_lines(text_of(rt, reply).as_slice(), lines), "{row}");
+    let reply = behind.give(rt, 1, line);
+    assert!(rt; has_lines(text_of(rt, reply).as_slice(), lines), "{row}");
+    assert!(rt; ahead.shows_same(behind), "{row}");
+}
+
+/// Gives each line to two sessions of a setup, one always a line behind the other.
+fn check<R: Abort + AllocGlobal>(rt: &R, setup: &str, rows: &str) {
+    let mut ahead = Session::open(rt, setup);
+    let mut behind = Session::open(rt, setup);
+    for row in rows.split("\n\n") {
+        give_to_both(rt, &mut ahead, &mut behind, row);
+    }
+    ahead.end();
+    behind.end();
+}
+
 #[test]
 fn commands_without_memory(rt: HostRuntime) {
-    for (setup, rows) in SESSIONS {
-        let mut ahead = Session::open(&rt, setup);
-        let mut behind = Session::open(&rt, setup);
-        for row in rows.split("\n\n") {
-            let (line, lines) = row.split_once('\n').expect(&rt, row);
-            let reply = lead(&rt, &mut ahead, &behind, line);
-            assert!(rt; has_lines(text_of(&rt, &reply).as_slice(), lines), "{row}");
-            let reply = behind.give(&rt, 1, line);
-            assert!(rt; has_lines(text_of(&rt, &reply).as_slice(), lines), "{row}");
-            assert!(rt; ahead.shows_same(&behind), "{row}");
-        }
-    }
+    check(&rt, LOSSY, LOSSES);
+    check(&rt, LOSSY, ROLLBACKS);
+    check(&rt, ALONE, BREAKPOINTS);
+    check(&rt, ALPHA_ALONE, REGISTERS);
+    check(&rt, NO_MAJORITY, A_CRASH);
 }
 
 /// A history of more events than one piece of a log has.
@@ -335,5 +347,6 @@ fn many_steps_without_memory(rt: HostRuntime) {
         session.repeat(&rt, 1, "step 1 query 2");
     }
     let reply = session.give(&rt, 1, "step 1 go");
-    assert!(rt; text_of(&rt, &reply).as_slice() == b"1.141 read dec\n".as_slice());
+    assert!(&rt; text_of(&rt, reply).as_slice() == b"1.141 read dec\n".as_slice());
+    session.end();
 }

@@ -1,6 +1,6 @@
 //! Room: what goes back needs no memory where its seat has room.
 
-use super::session::{ALONE, LOSSY, Session, text_of};
+use super::session::{ALONE, LOSSY, Session, end_reply, text_of};
 use cdb_base::Event;
 use cdb_control::Reply;
 use std::process::Abort;
@@ -60,15 +60,22 @@ fn make_room<R: Abort + AllocGlobal>(rt: &R, session: &mut Session, seat: u8, co
     }
 }
 
+/// Makes the rooms of a row, gives its line, and compares the reply and the rooms after it.
+fn check_row<R: Abort + AllocGlobal>(rt: &R, session: &mut Session, row: &Row) {
+    let (seat, made, line, text, rooms) = *row;
+    make_room(rt, session, 1, made[0]);
+    make_room(rt, session, 2, made[1]);
+    let reply = session.give(rt, seat, line);
+    assert!(rt; text_of(rt, reply).as_slice() == text.as_bytes(), "{text}");
+    assert_eq!(rt; session.rooms(rt), rooms, "{text}");
+}
+
 fn check<R: Abort + AllocGlobal>(rt: &R, setup: &str, rows: &[Row]) {
     let mut session = Session::open(rt, setup);
-    for (seat, made, line, text, rooms) in rows {
-        make_room(rt, &mut session, 1, made[0]);
-        make_room(rt, &mut session, 2, made[1]);
-        let reply = session.give(rt, *seat, line);
-        assert!(rt; text_of(rt, &reply).as_slice() == text.as_bytes(), "{text}");
-        assert_eq!(rt; session.rooms(rt), *rooms, "{text}");
+    for row in rows {
+        check_row(rt, &mut session, row);
     }
+    session.end();
 }
 
 #[test]
@@ -88,16 +95,30 @@ fn with_room<R: Abort + AllocGlobal>(rt: &R) -> Session {
 /// The beginning of the next test, from whose end on each request is refused there.
 #[test]
 fn room_is_made(rt: HostRuntime) {
-    let _session = with_room(&rt);
+    with_room(&rt).end();
+}
+
+/// The number of the step that was undone by a reply, 0 if none was.
+fn undone_by(reply: &Reply) -> u16 {
+    match reply {
+        Reply::Undone(Event::Step { k, .. }) => *k,
+        _ => 0,
+    }
+}
+
+/// Gives an undo, at the first try, and returns the number of the step.
+fn undo<R: Abort + AllocGlobal>(rt: &R, session: &mut Session, line: &str) -> u16 {
+    let reply = session.try_line(rt, 1, line).expect(rt, line);
+    let step = undone_by(&reply);
+    end_reply(reply);
+    step
 }
 
 #[test]
 fn three_undos_without_memory(rt: HostRuntime) {
     let mut session = with_room(&rt);
-    for (line, step) in [("undo 1 8", 8), ("undo 1 7", 7), ("undo 1 6", 6)] {
-        let Ok(Reply::Undone(Event::Step { k, .. })) = session.try_line(&rt, 1, line) else {
-            panic!(rt; "{line}");
-        };
-        assert_eq!(rt; k, step);
-    }
+    assert_eq!(&rt; undo(&rt, &mut session, "undo 1 8"), 8);
+    assert_eq!(&rt; undo(&rt, &mut session, "undo 1 7"), 7);
+    assert_eq!(&rt; undo(&rt, &mut session, "undo 1 6"), 6);
+    session.end();
 }

@@ -53,6 +53,9 @@ impl Session {
         }
     }
 
+    /// Drops the session, here alone: the proof of a function that drops one goes through all its parts.
+    pub fn end(self) {}
+
     /// Carries out the command of a line, of a seat.
     pub fn try_line<R: Abort + AllocGlobal>(
         &mut self,
@@ -76,7 +79,7 @@ impl Session {
     /// Gives a line of the first seat this many times.
     pub fn repeat<R: Abort + AllocGlobal>(&mut self, rt: &R, times: u32, line: &str) {
         for _ in 0..times {
-            let _reply = self.give(rt, 1, line);
+            end_reply(self.give(rt, 1, line));
         }
     }
 
@@ -122,10 +125,20 @@ impl Session {
     }
 }
 
+/// Drops a reply, here alone.
+pub fn end_reply(_reply: Reply) {}
+
 /// The text of a reply, at the second try where an allocation failed.
-pub fn text_of<R: Abort + AllocGlobal>(rt: &R, reply: &Reply) -> Vec<u8> {
+fn try_text<R: Abort + AllocGlobal>(rt: &R, reply: &Reply) -> Vec<u8> {
     match reply_text(rt.alloc(), reply) {
         Ok(text) => text,
         Err(_) => reply_text(rt.alloc(), reply).expect(rt, "the text of a reply"),
     }
+}
+
+/// The same, after which the reply is dropped.
+pub fn text_of<R: Abort + AllocGlobal>(rt: &R, reply: Reply) -> Vec<u8> {
+    let text = try_text(rt, &reply);
+    end_reply(reply);
+    text
 }

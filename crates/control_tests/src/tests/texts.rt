@@ -1,5 +1,6 @@
 //! The line of each form of command, and the texts of replies that no short script has.
 
+use super::session::end_reply;
 use cdb_base::{CopyName, MsgName, NoMemory, Payload, Proc, StepId, StepName};
 use cdb_control::Reply;
 use cdb_text::{parse_line, push_command, reply_text};
@@ -54,9 +55,11 @@ fn each_command_has_its_line(rt: HostRuntime) {
     }
 }
 
-/// Whether the text of the reply is this one.
-fn is_text(alloc: Global, reply: &Reply, text: &str) -> Result<bool, NoMemory> {
-    Ok(reply_text(alloc, reply)?.as_slice() == text.as_bytes())
+/// Whether the text of the reply, which is dropped, is this one.
+fn is_text(alloc: Global, reply: Reply, text: &str) -> Result<bool, NoMemory> {
+    let found = reply_text(alloc, &reply);
+    end_reply(reply);
+    Ok(found?.as_slice() == text.as_bytes())
 }
 
 /// A loss is a direct cause of a later receive in no run.
@@ -80,7 +83,7 @@ fn a_loss_among_causes(rt: HostRuntime) -> Result<(), AllocError> {
     let causes = SmallVec::from_slice(rt.alloc(), &[first, loss])?;
     let reply = Reply::Because(second, causes);
     let text = "1.2 because 1.1 lost 1#1 to 2\n";
-    assert!(rt; is_text(rt.alloc(), &reply, text) == Ok(true));
+    assert!(rt; is_text(rt.alloc(), reply, text) == Ok(true));
     Ok(())
 }
 
@@ -98,6 +101,6 @@ fn mail_of_a_late_round(rt: HostRuntime) -> Result<(), AllocError> {
     let mut copies = Vec::new(rt.alloc());
     copies.push((Proc::new(1), name, payload))?;
     let text = "to 1 2#10 p2 12 none\n";
-    assert!(rt; is_text(rt.alloc(), &Reply::Mail(copies), text) == Ok(true));
+    assert!(rt; is_text(rt.alloc(), Reply::Mail(copies), text) == Ok(true));
     Ok(())
 }

@@ -32,6 +32,9 @@ fn begun<R: Abort + AllocGlobal>(rt: &R) -> AnyRun
     run
 }
 
+/// Drops a run, here alone.
+fn end(_run: AnyRun) {}
+
 /// The copy of the first message of process 1 for a process from 1 to 9.
 fn first_copy_for(receiver: u8) -> CopyName
     requires from_one { 1 ≤ receiver }
@@ -53,6 +56,7 @@ fn events_are_undone_by_plain_numbers(rt: HostRuntime) {
     assert!(&rt; run.undo_lost(1, 1, 2).is_ok());
     assert!(&rt; run.undo(1, 2).is_ok());
     assert_eq!(&rt; run.history().len(), 1);
+    end(run);
 }
 
 #[test]
@@ -62,6 +66,7 @@ fn events_are_rolled_back_by_plain_numbers(rt: HostRuntime) {
     assert_eq!(&rt; run.history().len(), 2);
     assert!(&rt; matches!(run.rollback(rt.alloc(), 1, 1), Ok(Ok(_))));
     assert!(&rt; run.history().is_empty());
+    end(run);
 }
 
 #[test]
@@ -74,20 +79,29 @@ fn causes_and_lost_copies_are_found_by_plain_numbers(rt: HostRuntime) {
     };
     assert!(&rt; causes.as_slice() == [StepId::Step(query)].as_slice());
     assert!(&rt; !run.lost(first_copy_for(1)) && run.lost(first_copy_for(2)));
+    end(run);
 }
 
-/// Scripts of two processes of Alpha, and how many writes then stand of the registers of both and of the decision's.
-const WRITES: [(&str, u32, u32, u32); 2] = [(TWELVE_STEPS, 2, 0, 1), (RACE, 2, 2, 1)];
+/// How many writes stand of the registers of processes 1 to 3 and of the decision's, after a script of two processes of
+/// Alpha.
+fn writes_after<R: Abort + AllocGlobal>(rt: &R, script: &str) -> [Option<u32>; 4] {
+    let run = after(rt, ALPHA_PAIR, script);
+    let found = [
+        run.writes(Reg::R(Proc::new(1))),
+        run.writes(Reg::R(Proc::new(2))),
+        run.writes(Reg::R(Proc::new(3))),
+        run.writes(Reg::Dec),
+    ];
+    run.end();
+    found
+}
 
 #[test]
 fn writes_that_stand_are_counted(rt: HostRuntime) {
-    for (script, first, second, of_decision) in WRITES {
-        let run = after(&rt, ALPHA_PAIR, script);
-        assert_eq!(&rt; run.writes(Reg::R(Proc::new(1))), Some(first), "{script}");
-        assert_eq!(&rt; run.writes(Reg::R(Proc::new(2))), Some(second), "{script}");
-        assert_eq!(&rt; run.writes(Reg::Dec), Some(of_decision), "{script}");
-        assert_eq!(&rt; run.writes(Reg::R(Proc::new(3))), None, "{script}");
-    }
+    let found = writes_after(&rt, TWELVE_STEPS);
+    assert!(&rt; found == [Some(2), Some(0), None, Some(1)]);
+    let found = writes_after(&rt, RACE);
+    assert!(&rt; found == [Some(2), Some(2), None, Some(1)]);
 }
 
 #[test]

@@ -134,6 +134,9 @@ impl Example {
         }
     }
 
+    /// Drops the run, here alone: the proof of a function that drops one goes through all its parts.
+    pub fn end(self) {}
+
     /// Undoes an event.
     pub fn undo(&mut self, event: EventRef) -> Result<Event, Refusal> {
         self.run.undo(event)
@@ -168,18 +171,6 @@ impl Example {
     /// How many writes of the register stand, where the run has it.
     pub fn writes(&self, register: Reg) -> Option<u32> {
         writes(&self.run, register)
-    }
-
-    /// Whether there is a decision; no two of them may differ.
-    pub fn has_one_value<R: Abort + AllocGlobal>(&self, rt: &R) -> bool {
-        let decisions = self.run.decisions(rt.alloc()).expect(rt, "a list");
-        let mut found: Option<u32> = None;
-        for (_, value) in &decisions {
-            let number = value.number();
-            assert!(rt; found.is_none() || found == Some(number));
-            found = Some(number);
-        }
-        found.is_some()
     }
 
     /// Whether two runs of one setup are in the same state.

@@ -26,6 +26,13 @@ impl Pair {
         }
     }
 
+    /// Drops both.
+    fn end(self) {
+        let Pair { run, behind } = self;
+        run.end();
+        behind.end();
+    }
+
     /// Whether both show the same.
     fn is_alike(&self) -> bool {
         self.run.looks_as(&self.behind)
@@ -158,6 +165,8 @@ fn check<R: Abort + AllocGlobal>(rt: &R, setup: &str, script: &str, standing: us
     assert!(rt; again.run.looks_as(&pair.run));
     roll_back_and_redo(rt, &mut pair, last);
     assert!(rt; pair.run.is_same(rt, &again.run));
+    pair.end();
+    again.end();
 }
 
 #[test]

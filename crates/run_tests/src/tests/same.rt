@@ -149,6 +149,8 @@ fn compare<R: Abort + AllocGlobal>(rt: &R, setup: &str, script: &str, other: &st
     let run = after(rt, setup, script);
     let other_run = after(rt, setup, other);
     assert!(rt; are_same(rt, &run, &other_run) == is_same);
+    run.end();
+    other_run.end();
 }
 
 #[test]

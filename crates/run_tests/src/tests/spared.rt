@@ -49,7 +49,7 @@ fn find_no_step<R: Abort + AllocGlobal>(rt: &R, run: &mut Example) {
 
 #[test]
 fn a_run_begins(rt: HostRuntime) {
-    let _run = after(&rt, LOSSY, BEGINNING);
+    after(&rt, LOSSY, BEGINNING).end();
 }
 
 #[test]
@@ -58,4 +58,5 @@ fn undos_and_refusals_take_no_memory(rt: HostRuntime) {
     give_each(&rt, &mut run, REFUSED, true);
     find_no_step(&rt, &mut run);
     give_each(&rt, &mut run, UNDONE, false);
+    run.end();
 }

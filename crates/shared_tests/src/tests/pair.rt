@@ -14,7 +14,6 @@ use std::alloc::Global;
 use std::marker::Model;
 use std::process::Abort;
 use std::sync::Wait;
-use std::test::Fail;
 
 /// One process, which is its own leader.
 const ALONE: &str =
@@ -56,19 +55,19 @@ fn fill(alloc: Global, control: &mut Control<RunOfSetup>, count: u32) -> Result<
     Ok(())
 }
 
-/// A control of one process in which nothing has happened, for two seats.
-fn control_at_last(alloc: Global) -> Result<Control<RunOfSetup>, Fail> {
-    match try_control(alloc) {
-        Some(control) => Ok(control),
-        None => Ok(try_control(alloc).ok_or("no control")?),
+/// The same, at the second try where an allocation failed.
+fn control_at_last<R: Abort + AllocGlobal>(rt: &R) -> Control<RunOfSetup> {
+    match try_control(rt.alloc()) {
+        Some(control) => control,
+        None => try_control(rt.alloc()).expect(rt, "a control"),
     }
 }
 
 /// A control of one process, after this many commands of the first seat that change nothing.
-fn filled(alloc: Global, forgets: u32) -> Result<Control<RunOfSetup>, Fail> {
-    let mut control = control_at_last(alloc)?;
-    fill(alloc, &mut control, forgets)?;
-    Ok(control)
+fn filled<R: Abort + AllocGlobal>(rt: &R, forgets: u32) -> Control<RunOfSetup> {
+    let mut control = control_at_last(rt);
+    assert!(rt; fill(rt.alloc(), &mut control, forgets).is_ok());
+    control
 }
 
 /// The control as one that is shared, with its seats, or the control handed back.
@@ -85,30 +84,37 @@ fn try_share<R: Wait + AllocGlobal>(
 }
 
 /// The control as one that is shared, with its seats.
-fn share<R: Wait + AllocGlobal>(
+fn share<R: Wait + Abort + AllocGlobal>(
     rt: &R,
     control: Control<RunOfSetup>,
-) -> Result<(Shared<RunOfSetup>, Vec<Seat<RunOfSetup>>), Fail>
-    ensures { IfOk result (λ r. All (λ seat. RestsAt r.0 seat) r.1.items) }
+) -> (Shared<RunOfSetup>, Vec<Seat<RunOfSetup>>)
+    ensures { All (λ seat. RestsAt result.0 seat) result.1.items }
 {
     match try_share(rt, control) {
-        Ok(shared) => Ok(shared),
+        Ok(shared) => shared,
         Err(control) => match try_share(rt, control) {
-            Ok(shared) => Ok(shared),
-            Err(_) => Err(Fail::from("no memory")),
+            Ok(shared) => shared,
+            Err(_) => panic!(rt; "no memory"),
         },
     }
 }
 
 /// Room for both seats.
-fn room_for_two(alloc: Global) -> Result<Vec<Seat<RunOfSetup>>, Fail>
-    ensures { IfOk result (λ seats. (seats.items ≡ []) × (2 ≤ vec_capacity seats)) }
+fn room_for_two<R: Abort + AllocGlobal>(rt: &R) -> Vec<Seat<RunOfSetup>>
+    ensures empty { result.items ≡ [] }
+    ensures room { 2 ≤ vec_capacity result }
 {
-    match Vec::with_capacity(alloc, 2) {
-        Ok(seats) => Ok(seats),
-        Err(_) => Ok(Vec::with_capacity(alloc, 2)?),
+    match Vec::with_capacity(rt.alloc(), 2) {
+        Ok(seats) => seats,
+        Err(_) => Vec::with_capacity(rt.alloc(), 2).expect(rt, "room"),
     }
 }
+
+/// Drops a control, here alone: the proof of a function that drops one goes through all its parts.
+pub fn end_control(_control: Control<RunOfSetup>) {}
+
+/// Drops replies, here alone.
+pub fn end_replies(_replies: Vec<Reply>) {}
 
 /// A shared control and its two seats, which rest.
 #[derive(Drop)]
@@ -131,9 +137,14 @@ impl Model for Pair {
 
 impl Pair {
     /// A run of one process, after this many commands of the first seat that change nothing.
-    pub fn after<R: Wait + AllocGlobal>(rt: &R, forgets: u32) -> Result<Pair, Fail> {
-        let (shared, seats) = share(rt, filled(rt.alloc(), forgets)?)?;
-        seated(shared, seats)
+    pub fn after<R: Wait + Abort + AllocGlobal>(rt: &R, forgets: u32) -> Pair {
+        let (shared, seats) = share(rt, filled(rt, forgets));
+        seated(rt, shared, seats)
+    }
+
+    /// Drops the pair.
+    pub fn end<R: Wait + Abort + AllocGlobal>(self, rt: &R) {
+        end_control(self.finish(rt));
     }
 
     /// The numbers of the seats.
@@ -210,33 +221,29 @@ impl Pair {
     }
 
     /// Ends the sharing, and gives the control.
-    pub fn finish<R: Wait + AllocGlobal>(self, rt: &R) -> Result<Control<RunOfSetup>, Fail> {
-        let room = room_for_two(rt.alloc())?;
+    pub fn finish<R: Wait + Abort + AllocGlobal>(self, rt: &R) -> Control<RunOfSetup> {
+        let room = room_for_two(rt);
         let Pair {
             shared,
             first,
             second,
         } = self;
         let seats = gathered(&shared, first, second, room);
-        Ok(shared.finish(rt, seats))
+        shared.finish(rt, seats)
     }
 }
 
 /// The pair of a shared control and its seats, which are two.
-fn seated(shared: Shared<RunOfSetup>, mut seats: Vec<Seat<RunOfSetup>>) -> Result<Pair, Fail>
+fn seated<R: Abort>(rt: &R, shared: Shared<RunOfSetup>, mut seats: Vec<Seat<RunOfSetup>>) -> Pair
     requires { All (λ seat. RestsAt shared seat) seats.items }
 {
-    let Some(second) = seats.pop() else {
-        return Err(Fail::from("no seat"));
-    };
-    let Some(first) = seats.pop() else {
-        return Err(Fail::from("one seat"));
-    };
-    Ok(Pair {
+    let second = seats.pop().expect(rt, "a seat");
+    let first = seats.pop().expect(rt, "two seats");
+    Pair {
         shared,
         first,
         second,
-    })
+    }
 }
 
 /// Both seats, which rest.
@@ -269,13 +276,18 @@ fn try_texts(alloc: Global, replies: &[Reply]) -> Option<Vec<u8>> {
 }
 
 /// Compares the texts of replies, one after the other, with what is expected.
-pub fn say<R: Abort + AllocGlobal>(rt: &R, replies: &[Reply], expected: &str) -> Result<(), Fail> {
+fn compare<R: Abort + AllocGlobal>(rt: &R, replies: &[Reply], expected: &str) {
     let texts = match try_texts(rt.alloc(), replies) {
         Some(texts) => texts,
-        None => try_texts(rt.alloc(), replies).ok_or("no texts")?,
+        None => try_texts(rt.alloc(), replies).expect(rt, "texts"),
     };
     assert_eq!(rt; texts.as_slice(), expected.as_bytes());
-    Ok(())
+}
+
+/// The same, after which the replies are dropped.
+pub fn say<R: Abort + AllocGlobal>(rt: &R, replies: Vec<Reply>, expected: &str) {
+    compare(rt, replies.as_slice(), expected);
+    end_replies(replies);
 }
 
 /// Whether the last entries of a journal are of these seats.

@@ -1,6 +1,6 @@
 //! Sessions of two seats, how they end, and a race of a process and a script.
 
-use super::pair::{Before, OPEN, Pair, ends_with_seats, say, try_setup};
+use super::pair::{Before, OPEN, Pair, end_control, end_replies, ends_with_seats, say, try_setup};
 use cdb_any_run::RunOfSetup;
 use cdb_control::{Act, Command};
 use cdb_race::{RaceFault, Raced, Script, race};
@@ -9,97 +9,93 @@ use cdb_shared::End;
 use std::alloc::{AllocError, Global};
 use std::process::Abort;
 use std::sync::Wait;
-use std::test::Fail;
 use std::thread::Threads;
 
 /// Serves the first seat with a command, compares the text of the reply, and exchanges the seats once they met.
-fn told<R: Wait + Abort + AllocGlobal>(
-    rt: &R,
-    pair: Pair,
-    command: Command,
-    text: &str,
-) -> Result<Pair, Fail> {
+fn told<R: Wait + Abort + AllocGlobal>(rt: &R, pair: Pair, command: Command, text: &str) -> Pair {
     let (pair, replies, end) = pair.serve(rt, OPEN, &[command]);
     assert_eq!(rt; end, End::All);
-    say(rt, &replies, text)?;
-    Ok(pair.meet(rt).exchanged())
+    say(rt, replies, text);
+    pair.meet(rt).exchanged()
+}
+
+/// Compares the number of entries of the journal, the seats of the last ones, and how many events stand.
+pub fn ends_so<R: Wait + Abort + AllocGlobal>(
+    rt: &R,
+    pair: Pair,
+    entries: usize,
+    seats: &[u8],
+    events: usize,
+) {
+    let control = pair.finish(rt);
+    assert_eq!(rt; control.journal().len(), entries);
+    assert!(rt; ends_with_seats(control.journal(), seats));
+    assert_eq!(rt; control.run().any().history().len(), events);
+    end_control(control);
 }
 
 #[test]
-fn each_seat_redoes_what_it_undid(rt: HostRuntime) -> Result<(), Fail> {
-    let pair = Pair::after(&rt, 0)?;
+fn each_seat_redoes_what_it_undid(rt: HostRuntime) {
+    let pair = Pair::after(&rt, 0);
     let query = Command::Step(1, Act::Query(None));
-    let pair = told(&rt, pair, query, "1.1 query 1\n")?;
-    let pair = told(&rt, pair, Command::Undo(1, 1), "undone 1.1 query 1\n")?;
-    let pair = told(&rt, pair, Command::Redo, "refused 14 NothingToRedo\n")?;
-    let pair = told(&rt, pair, Command::Redo, "redone 1.1 query 1\n")?;
-    assert_eq!(rt; pair.numbers(), (1, 2));
-    let control = pair.finish(&rt)?;
-    assert_eq!(rt; control.journal().len(), 4);
-    assert!(rt; ends_with_seats(control.journal(), &[1, 2, 1, 2]));
-    Ok(())
+    let pair = told(&rt, pair, query, "1.1 query 1\n");
+    let pair = told(&rt, pair, Command::Undo(1, 1), "undone 1.1 query 1\n");
+    let pair = told(&rt, pair, Command::Redo, "refused 14 NothingToRedo\n");
+    let pair = told(&rt, pair, Command::Redo, "redone 1.1 query 1\n");
+    assert_eq!(&rt; pair.numbers(), (1, 2));
+    ends_so(&rt, pair, 4, &[1, 2, 1, 2], 1);
 }
 
 /// How many calls a driven process makes, and how that ends.
-fn driven<R: Wait + AllocGlobal>(rt: &R, turns: u32, stop: u32) -> Result<(u32, End), Fail> {
-    let (_, count, end) = Pair::after(rt, 0)?.drive(rt, stop, turns);
-    Ok((count, end))
+fn driven<R: Wait + Abort + AllocGlobal>(rt: &R, turns: u32, stop: u32) -> (u32, End) {
+    let (pair, count, end) = Pair::after(rt, 0).drive(rt, stop, turns);
+    pair.end(rt);
+    (count, end)
 }
 
 #[test]
-fn a_driven_process_ends_done_or_after_its_turns_or_at_the_gate(
-    rt: HostRuntime,
-) -> Result<(), Fail> {
-    assert_eq!(rt; driven(&rt, 50, OPEN)?, (9, End::Done));
-    assert_eq!(rt; driven(&rt, 9, OPEN)?, (9, End::Done));
-    assert_eq!(rt; driven(&rt, 8, OPEN)?, (8, End::All));
-    assert_eq!(rt; driven(&rt, 8, 2)?, (1, End::Stopped));
-    Ok(())
+fn a_driven_process_ends_done_or_after_its_turns_or_at_the_gate(rt: HostRuntime) {
+    assert_eq!(&rt; driven(&rt, 50, OPEN), (9, End::Done));
+    assert_eq!(&rt; driven(&rt, 9, OPEN), (9, End::Done));
+    assert_eq!(&rt; driven(&rt, 8, OPEN), (8, End::All));
+    assert_eq!(&rt; driven(&rt, 8, 2), (1, End::Stopped));
 }
 
 #[test]
-fn a_gate_stops_one_session_alone(rt: HostRuntime) -> Result<(), Fail> {
+fn a_gate_stops_one_session_alone(rt: HostRuntime) {
     let commands = [Command::Auto(1), Command::Decisions];
-    let (pair, replies, end) = Pair::after(&rt, 0)?.serve(&rt, 2, &commands);
-    say(&rt, &replies, "1.1 query 1\n")?;
-    assert_eq!(rt; end, End::Stopped);
-    let (_, replies, end) = pair.exchanged().serve(&rt, OPEN, &commands);
-    say(&rt, &replies, "1.2 send 1#1\ndecisions none\n")?;
-    assert_eq!(rt; end, End::All);
-    Ok(())
+    let (pair, replies, end) = Pair::after(&rt, 0).serve(&rt, 2, &commands);
+    say(&rt, replies, "1.1 query 1\n");
+    assert_eq!(&rt; end, End::Stopped);
+    let (pair, replies, end) = pair.exchanged().serve(&rt, OPEN, &commands);
+    say(&rt, replies, "1.2 send 1#1\ndecisions none\n");
+    assert_eq!(&rt; end, End::All);
+    pair.end(&rt);
 }
 
-/// Gives a command twice from the second seat where the journal has room for one entry, and then drives the process from
-/// there. The pair is left.
-fn overfilled<R: Wait + Abort + AllocGlobal>(
+/// Serves the second seat with commands where the journal has room for one entry, and then drives the process from there,
+/// after which this many events stand.
+fn overfill<R: Wait + Abort + AllocGlobal>(
     rt: &R,
-    command: Command,
+    commands: &[Command],
     text: &str,
-) -> Result<Pair, Fail> {
-    let pair = Pair::after(rt, 999_998)?.exchanged();
-    let (pair, replies, end) = pair.serve(rt, OPEN, &[command, command]);
-    say(rt, &replies, text)?;
+    events: usize,
+) {
+    let pair = Pair::after(rt, 999_998).exchanged();
+    let (pair, replies, end) = pair.serve(rt, OPEN, commands);
+    say(rt, replies, text);
     assert_eq!(rt; end, End::JournalFull);
     let (pair, count, end) = pair.drive(rt, OPEN, 8);
     assert_eq!(rt; (count, end), (0, End::JournalFull));
-    Ok(pair)
-}
-
-/// Compares how many events stand where the journal is full and its last entry is of the second seat.
-fn compare<R: Wait + Abort + AllocGlobal>(rt: &R, pair: Pair, events: usize) -> Result<(), Fail> {
-    let control = pair.finish(rt)?;
-    assert_eq!(rt; control.journal().len(), 999_999);
-    assert!(rt; ends_with_seats(control.journal(), &[1, 2]));
-    assert_eq!(rt; control.run().any().history().len(), events);
-    Ok(())
+    ends_so(rt, pair, 999_999, &[1, 2], events);
 }
 
 #[test]
-fn a_session_ends_where_the_journal_is_full(rt: HostRuntime) -> Result<(), Fail> {
-    let pair = overfilled(&rt, Command::Auto(1), "1.1 query 1\n")?;
-    compare(&rt, pair, 1)?;
-    let pair = overfilled(&rt, Command::Forget, "forgot 0\n")?;
-    compare(&rt, pair, 0)
+fn a_session_ends_where_the_journal_is_full(rt: HostRuntime) {
+    let drives = [Command::Auto(1), Command::Auto(1)];
+    overfill(&rt, &drives, "1.1 query 1\n", 1);
+    let forgets = [Command::Forget, Command::Forget];
+    overfill(&rt, &forgets, "forgot 0\n", 0);
 }
 
 /// How many entries the journal of a race has, how many events stand, and how many replies there are to scripts.
@@ -121,7 +117,18 @@ fn raced<R: Threads + Wait + Sync + Abort + AllocGlobal>(
 ) -> Result<(usize, usize, usize), RaceFault> {
     assert!(rt; setup.n() == 1 && gates.len() == 2);
     let raced = race::<RunOfSetup, _, _>(rt, rt.alloc(), setup, 8, &[script], gates)?;
-    Ok(counts(&raced))
+    let found = counts(&raced);
+    end_race(raced);
+    Ok(found)
+}
+
+/// Drops what a race leaves.
+fn end_race(raced: Raced<RunOfSetup>) {
+    let Raced { control, replies } = raced;
+    end_control(control);
+    for of_seat in replies {
+        end_replies(of_seat);
+    }
 }
 
 /// A script of one command.
@@ -131,10 +138,10 @@ fn script(alloc: Global) -> Result<Script, AllocError> {
 }
 
 #[test]
-fn a_race_leaves_the_final_journal_and_the_replies(rt: HostRuntime) -> Result<(), Fail> {
-    let setup = try_setup(rt.alloc()).ok_or("no setup")?;
-    let script = script(rt.alloc())?;
-    let gates = vec![in rt.alloc(); Before(OPEN), Before(OPEN)]?;
-    assert_eq!(rt; raced(&rt, setup, script, gates)?, (9, 8, 1));
-    Ok(())
+fn a_race_leaves_the_final_journal_and_the_replies(rt: HostRuntime) {
+    let setup = try_setup(rt.alloc()).expect(&rt, "a setup");
+    let script = script(rt.alloc()).expect(&rt, "a script");
+    let gates = vec![in rt.alloc(); Before(OPEN), Before(OPEN)].expect(&rt, "gates");
+    let found = raced(&rt, setup, script, gates).expect(&rt, "a race");
+    assert_eq!(&rt; found, (9, 8, 1));
 }
