@@ -1,7 +1,6 @@
 -- A run that is played again along its history.
-use Rattle.std.proofs.Common.{◌≡◌, ℕ, suc, ◌+◌, List, [], ◌∷◌, ◌++◌, take, drop, Some, slice_get, IsTrue, codes, refl, sym, ap, ◌∙◌, subst, add-one, arith}
+use Rattle.std.proofs.Common.{◌≡◌, ℕ, suc, ◌+◌, List, [], ◌∷◌, ◌++◌, take, drop, Some, slice_get, IsTrue, codes, refl, sym, ap, ◌∙◌, subst, add-one}
 use Rattle.std.proofs.lemmas.List.{take-append-drop}
-use Rattle.cdb_base.specs.Event.{event_name}
 use Rattle.cdb_base.specs.declared.event.Event.{Event}
 use Rattle.cdb_causal.specs.Standing.{IsStanding}
 use Rattle.cdb_control.specs.Commands.{decides}
@@ -10,7 +9,6 @@ use Rattle.cdb_rules.specs.Lawful.{KeepHistories}
 use Rattle.cdb_rules.specs.Rules.{Rules}
 use Rattle.cdb_rules.specs.RunView.{RunView}
 use Rattle.cdb_rules.specs.Runs.{with_event, with_history}
-use Rattle.cdb_rules.specs.Undo.{causes_of}
 use Rattle.cdb_setup.specs.Parts.{Parts, AreInRange}
 use Rattle.cdb_text.specs.Events.{event_text}
 use Rattle.cdb_text.specs.Texts.{decides_text}

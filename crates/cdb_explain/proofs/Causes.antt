@@ -1,5 +1,5 @@
 -- The direct causes of an event are the same in the run once it had come to that event.
-use Rattle.std.proofs.Common.{◌≡◌, ℕ, zero, suc, true, false, List, [], ◌∷◌, Some, Ok, Err, map, filter, take, slice_get, if◌then◌else◌, refl, sym, ap, ◌∙◌, subst, arith}
+use Rattle.std.proofs.Common.{◌≡◌, ℕ, zero, suc, true, false, List, [], ◌∷◌, Some, Ok, Err, map, filter, take, slice_get, if◌then◌else◌, refl, sym, ap, ◌∙◌, arith}
 use Rattle.std.specs.List.{flat_map}
 use Rattle.cdb_base.specs.Event.{event_name, is_step_of}
 use Rattle.std.proofs.lemmas.Option.{none-some}
@@ -12,7 +12,7 @@ use Rattle.cdb_causal.specs.Names.{IsNamedAt}
 use Rattle.cdb_causal.specs.Rollback.{events_before}
 use Rattle.cdb_causal.specs.Standing.{IsStanding}
 use Rattle.cdb_past.proofs.Pairing.{taken}
-use Rattle.cdb_rules.specs.Undo.{causes_of, direct_among, for_standing, found_at, names_processes}
+use Rattle.cdb_rules.specs.Undo.{causes_of, direct_among, for_standing, names_processes}
 use Rattle.cdb_rules.proofs.Results.{found_is}
 use Rattle.cdb_rules.proofs.Finding.{no_process_named, stands_from_one, stands_named}
 use Rattle.cdb_rules.proofs.ListMembers.{get-take}
