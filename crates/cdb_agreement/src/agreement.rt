@@ -2,35 +2,32 @@
 //! whatever is lost, and in whatever order the events stand. Each function does nothing: its contract
 //! is the law.
 
-ghost use Rattle.std.specs.Prelude.{◌≡◌, List, [], ◌∷◌, ◌++◌, Some, IsTrue};
-ghost use Rattle.cdb_agreement.specs.Laws.{ForSetups, HasMajority, InReached};
+ghost use Rattle.std.specs.Prelude.{◌≡◌, [], ◌∷◌, ◌++◌, Some};
+ghost use Rattle.cdb_agreement.specs.Laws.{ForSetups, ForMajorities, ForValid, InReached, DecisionsAgree};
 ghost use Rattle.cdb_agreement.specs.Rounds.{LeaderMessages, LeaderRounds, AlphaRounds};
 ghost use Rattle.cdb_agreement.specs.WorkedRuns.{leader_steps, leader_decisions, alpha_steps, alpha_decisions};
 ghost use Rattle.cdb_alpha.specs.Machine.{alpha_table};
-ghost use Rattle.cdb_base.specs.declared.event.Event.{Event};
 ghost use Rattle.cdb_leader.specs.Machine.{leader_table};
 ghost use Rattle.cdb_rules.specs.Agreement.{AllAgree, HasMajorityIfNeeded};
 ghost use Rattle.cdb_rules.specs.Algorithms.{leader_machine, alpha_machine, rules};
-ghost use Rattle.cdb_rules.specs.Decisions.{decisions_of};
 ghost use Rattle.cdb_setup.specs.Parts.{Parts};
 
 /// No two standing decisions of the leader-based algorithm differ, where a quorum is more than half of
 /// the processes.
 pub fn leader_decisions_agree()
-    ensures { ForSetups (λ setup. HasMajority setup → InReached (leader_machine setup) (λ state.
-        AllAgree (decisions_of leader_table.decision state))) }
+    ensures { ForMajorities (λ setup.
+        DecisionsAgree (leader_machine setup) leader_table.decision) }
 {}
 
 /// No two standing decisions of Alpha differ, whatever the quorum.
 pub fn alpha_decisions_agree()
-    ensures { ForSetups (λ setup. InReached (alpha_machine setup) (λ state.
-        AllAgree (decisions_of alpha_table.decision state))) }
+    ensures { ForSetups (λ setup. DecisionsAgree (alpha_machine setup) alpha_table.decision) }
 {}
 
 /// The decisions that a valid history shows agree, by the rules of its setup.
 pub fn shown_decisions_agree()
-    ensures { ForSetups (λ setup. HasMajorityIfNeeded setup → (history : List Event) →
-        IsTrue ((rules setup).valid history) → AllAgree ((rules setup).decisions history)) }
+    ensures { ForValid (λ setup history. HasMajorityIfNeeded setup →
+        AllAgree ((rules setup).decisions history)) }
 {}
 
 /// By either algorithm a process alone decides its input: the laws above are about decisions that are
@@ -50,7 +47,7 @@ pub fn worked_runs()
 pub fn leader_rounds()
     ensures messages { (setup : Parts) →
         InReached (leader_machine setup) (LeaderMessages setup.quorum) }
-    ensures rounds { ForSetups (λ setup. HasMajority setup →
+    ensures rounds { ForMajorities (λ setup.
         InReached (leader_machine setup) (LeaderRounds setup.quorum)) }
 {}
 

@@ -1,31 +1,50 @@
 -- The words of the laws: of which lists they speak, under any dependence of any type of events, and what they say of these.
 use Rattle.std.specs.Prelude.{◌≡◌, ℕ, ◌+◌, ◌≤◌, Bool, true, false, List, [], ◌∷◌, ◌++◌, ◌↔◌, length, Option, Some}
 use Rattle.cdb_base.specs.Positions.{nth}
-use Rattle.cdb_causal.specs.Causality.{IsFree, IsDirectCause}
+use Rattle.cdb_causal.specs.Causality.{IsFree, IsConsequence, IsDirectCause}
 use Rattle.cdb_causal.specs.DirectDependents.{is_direct, as_number, direct_dependents}
 use Rattle.cdb_causal.specs.Exchange.{IsExchanged, IsEachOnce, HaveSameEvents, KeepsOrder}
 use Rattle.cdb_causal.specs.Past.{HasLedTo}
 use Rattle.cdb_causal.specs.Reach.{reached}
-use Rattle.cdb_causal.specs.Rollback.{IsParted, IsRolledBack, events_before, events_behind, without, position_before, remaining, rolled_back}
+use Rattle.cdb_causal.specs.Rollback.{IsParted, IsRolledBack, events_before, events_behind, without, position_before, remaining, rolled_back, consequences}
 
 -- ---- of what
 
 -- of each position, from 1, of each list
-abbrev pub OfPositions : {E : Type 0} → ((E → E → Bool) → List E → ℕ → Type 0) → Type 0
-OfPositions {E} Holds = (depends : E → E → Bool) (history : List E) (at : ℕ) → 1 ≤ at → Holds depends history at
+abbrev pub OfPositions : (E : Type 0) → ((E → E → Bool) → List E → ℕ → Type 0) → Type 0
+OfPositions E Holds = (depends : E → E → Bool) (history : List E) (at : ℕ) → 1 ≤ at → Holds depends history at
+
+-- of each such position with each other one
+abbrev pub OfPairs : (E : Type 0) → ((E → E → Bool) → List E → ℕ → ℕ → Type 0) → Type 0
+OfPairs E Holds = OfPositions E (λ depends history at. (other : ℕ) → Holds depends history at other)
+
+-- of each rollback: by list and position, what remains and what is rolled back
+abbrev pub OfRollbacks : (E : Type 0) → ((E → E → Bool) → List E → ℕ → List E → List E → Type 0) → Type 0
+OfRollbacks E Holds =
+    OfPositions E (λ depends history at. Holds depends history at (remaining depends history at) (rolled_back depends history at))
 
 -- of each event of each list, with its position
-abbrev pub OfEvents : {E : Type 0} → ((E → E → Bool) → List E → ℕ → E → Type 0) → Type 0
-OfEvents {E} Holds = (depends : E → E → Bool) (history : List E) (at : ℕ) (event : E) → nth history at ≡ Some event → Holds depends history at event
+abbrev pub OfEvents : (E : Type 0) → ((E → E → Bool) → List E → ℕ → E → Type 0) → Type 0
+OfEvents E Holds =
+    (depends : E → E → Bool) (history : List E) (at : ℕ) (event : E) → nth history at ≡ Some event → Holds depends history at event
 
 -- of each free one
-abbrev pub OfFree : {E : Type 0} → ((E → E → Bool) → List E → ℕ → E → Type 0) → Type 0
-OfFree {E} Holds =
-    (depends : E → E → Bool) (history : List E) (at : ℕ) (event : E) → nth history at ≡ Some event → IsFree depends history at → Holds depends history at event
+abbrev pub OfFree : (E : Type 0) → ((E → E → Bool) → List E → ℕ → E → Type 0) → Type 0
+OfFree E Holds =
+    (depends : E → E → Bool) (history : List E) (at : ℕ) (event : E) → nth history at ≡ Some event → IsFree depends history at
+    → Holds depends history at event
+
+-- of each event and each list of events behind it
+abbrev pub OfCauses : (E : Type 0) → ((E → E → Bool) → E → List E → Type 0) → Type 0
+OfCauses E Holds = (depends : E → E → Bool) (cause : E) (behind : List E) → Holds depends cause behind
+
+-- of each two lists
+abbrev pub OfTwo : (E : Type 0) → ((E → E → Bool) → List E → List E → Type 0) → Type 0
+OfTwo E Holds = (depends : E → E → Bool) (events others : List E) → Holds depends events others
 
 -- of each two lists that are equal up to exchange
-abbrev pub OfExchanged : {E : Type 0} → ((E → E → Bool) → List E → List E → Type 0) → Type 0
-OfExchanged {E} Holds = (depends : E → E → Bool) (events others : List E) → IsExchanged depends events others → Holds depends events others
+abbrev pub OfExchanged : (E : Type 0) → ((E → E → Bool) → List E → List E → Type 0) → Type 0
+OfExchanged E Holds = OfTwo E (λ depends events others. IsExchanged depends events others → Holds depends events others)
 
 -- ---- what
 
@@ -48,6 +67,11 @@ IsMutual {A} Holds = (one other : A) → Holds one other → Holds other one
 abbrev pub IsRollback : {E : Type 0} → (E → E → Bool) → List E → ℕ → List E → List E → Type 0
 IsRollback depends history at left removed = IsParted (IsRolledBack depends history at) 1 history left removed
 
+-- the consequences are exactly the events at the positions of the least set, in order
+abbrev pub AreExactConsequences : {E : Type 0} → (E → E → Bool) → List E → ℕ → Type 0
+AreExactConsequences {E} depends history at =
+    (left : List E) × IsParted (IsConsequence depends history at) 1 history left (consequences depends history at)
+
 -- the event at a position is a direct cause of none
 abbrev pub HasNoEffect : {E : Type 0} → (E → E → Bool) → List E → ℕ → Type 0
 HasNoEffect depends history at = (other : ℕ) → IsDirectCause depends history at other → ⊥
@@ -65,9 +89,17 @@ CausesLast depends history at event = IsDirectCause depends (history ++ event �
 abbrev pub IsDirectBehind : {E : Type 0} → (E → E → Bool) → List E → ℕ → E → E → Type 0
 IsDirectBehind depends history at cause event = is_direct depends cause (events_behind history at) event ≡ true
 
+-- of which events that are added at the end the cause at a position is a direct cause is told by the list of those behind it
+abbrev pub IsToldByList : {E : Type 0} → (E → E → Bool) → List E → ℕ → E → Type 0
+IsToldByList {E} depends history at cause = (event : E) → CausesLast depends history at event ↔ IsDirectBehind depends history at cause event
+
 -- position i is a direct cause of one that has led to position j
 abbrev pub LeadsThrough : {E : Type 0} → (E → E → Bool) → List E → ℕ → ℕ → Type 0
 LeadsThrough depends history i j = (k : ℕ) × IsDirectCause depends history i k × HasLedTo depends history j k
+
+-- the cause is a direct cause of none of the events behind it
+abbrev pub IsDirectOfNone : {E : Type 0} → (E → E → Bool) → E → List E → Type 0
+IsDirectOfNone depends cause behind = direct_dependents depends cause behind ≡ 0
 
 -- none of the events depends on the cause
 abbrev pub NoneDepends : {E : Type 0} → (E → E → Bool) → E → List E → Type 0

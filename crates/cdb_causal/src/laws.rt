@@ -1,14 +1,13 @@
 //! What holds of lists of events under any dependence, over any type of events. Each function does
 //! nothing: its contract is the law.
 
-ghost use Rattle.std.specs.Prelude.{◌≡◌, Bool, List, [], ◌∷◌, ◌++◌, ◌↔◌, Option};
-ghost use Rattle.cdb_causal.specs.Causality.{IsFree, IsConsequence};
+ghost use Rattle.std.specs.Prelude.{Bool, List, [], ◌∷◌, ◌++◌, ◌↔◌, ◌≡◌, Option};
+ghost use Rattle.cdb_causal.specs.Causality.{IsFree};
 ghost use Rattle.cdb_causal.specs.Dependence.{depends as depends_of};
-ghost use Rattle.cdb_causal.specs.DirectDependents.{direct_dependents};
 ghost use Rattle.cdb_causal.specs.Exchange.{IsExchanged, IsEachOnce, HaveSameEvents, KeepsOrder};
-ghost use Rattle.cdb_causal.specs.Laws.{OfPositions, OfEvents, OfFree, OfExchanged, HaveSameOrder, ReachTheSame, IsTransitive, IsMutual, IsRollback, IsDirectBehind, HasNoEffect, OthersKeepCauses, CausesLast, NoneDepends, CountsAdded, CountsTakenOut, IsFreeIfAlone, MayGoLastFirst};
+ghost use Rattle.cdb_causal.specs.Laws.{OfPositions, OfRollbacks, OfEvents, OfFree, OfCauses, OfTwo, OfExchanged, HaveSameOrder, ReachTheSame, IsTransitive, IsMutual, IsRollback, AreExactConsequences, HasNoEffect, OthersKeepCauses, IsToldByList, IsDirectOfNone, NoneDepends, CountsAdded, CountsTakenOut, IsFreeIfAlone, MayGoLastFirst};
 ghost use Rattle.cdb_causal.specs.Reach.{IsCommuting, IsSymmetric};
-ghost use Rattle.cdb_causal.specs.Rollback.{IsParted, without, remaining, rolled_back, consequences};
+ghost use Rattle.cdb_causal.specs.Rollback.{without, rolled_back, consequences};
 
 /// Dependence is symmetric: the order of the two events does not matter.
 #[tactic(auto, using(crate::proofs::Symmetry::symmetric))]
@@ -19,53 +18,49 @@ pub fn dependence_is_symmetric()
 /// A free event reaches the end of the list by exchanges of independent neighbours alone.
 #[tactic(auto, using(crate::proofs::LawsFromOne::free_to_end))]
 pub fn free_to_end<E>()
-    ensures { OfFree (λ (depends : E → E → Bool) history at event.
-        IsExchanged depends history (without history at ++ event ∷ [])) }
+    ensures { OfFree E (λ depends events at event.
+        IsExchanged depends events (without events at ++ event ∷ [])) }
 {}
 
 /// An event reaches the end of the list with its consequences, in order, by exchanges of
 /// independent neighbours alone.
 #[tactic(auto, using(crate::proofs::LawsFromOne::rollback_to_end))]
 pub fn rollback_to_end<E>()
-    ensures { OfPositions (λ (depends : E → E → Bool) history at.
-        IsExchanged depends history
-        (remaining depends history at ++ rolled_back depends history at)) }
+    ensures { OfRollbacks E (λ depends history at left removed.
+        IsExchanged depends history (left ++ removed)) }
 {}
 
 /// What is rolled back is the event with exactly its consequences, and what remains is all else,
 /// each in the order of the list. The event itself comes first.
 #[tactic(auto, using(crate::proofs::LawsFromOne::parted, crate::proofs::LawsFromOne::rolled_back_split))]
 pub fn rolled_back_exactly<E>()
-    ensures first { OfEvents (λ (depends : E → E → Bool) history at event.
+    ensures first { OfEvents E (λ depends history at event.
         rolled_back depends history at ≡ event ∷ consequences depends history at) }
-    ensures parted { OfPositions (λ (depends : E → E → Bool) history at.
-        IsRollback depends history at (remaining depends history at)
-        (rolled_back depends history at)) }
+    ensures parted { OfRollbacks E (λ depends history at left removed.
+        IsRollback depends history at left removed) }
 {}
 
 /// The consequences are exactly the events at the positions of the least set, in the order of the list.
 pub fn consequences_exactly<E>()
-    ensures { OfPositions (λ (depends : E → E → Bool) history at. (left : List E)
-        × IsParted (IsConsequence depends history at) 1 history left
-        (consequences depends history at)) }
+    ensures { OfPositions E (λ depends history at. AreExactConsequences depends history at) }
 {}
 
 /// Two lists with the same events, each once, whose dependent pairs stand in the same order, are
 /// equal up to exchange.
 pub fn same_order_exchanged<E>()
-    ensures { (depends : E → E → Bool) (events others : List E) →
-        HaveSameOrder depends events others → IsExchanged depends events others }
+    ensures { OfTwo E (λ depends one other.
+        HaveSameOrder depends one other → IsExchanged depends one other) }
 {}
 
 /// Lists that are equal up to exchange have the same events, each once in both or in neither, and
 /// their dependent pairs stand in the same order.
 #[tactic(auto, using(crate::proofs::Orders::exchanged_in, crate::proofs::Orders::exchanged_once, crate::proofs::Orders::exchanged_order))]
 pub fn exchanged_same_order<E>()
-    ensures same_events { OfExchanged (λ (depends : E → E → Bool) events others.
+    ensures same_events { OfExchanged E (λ depends events others.
         HaveSameEvents events others) }
-    ensures once { OfExchanged (λ (depends : E → E → Bool) events others.
+    ensures once { OfExchanged E (λ depends events others.
         IsEachOnce events → IsEachOnce others) }
-    ensures order { OfExchanged (λ (depends : E → E → Bool) events others.
+    ensures order { OfExchanged E (λ depends events others.
         KeepsOrder depends events others) }
 {}
 
@@ -82,52 +77,51 @@ pub fn exchange_is_equivalence<E>()
 /// Where events that do not depend on each other commute, lists that are equal up to exchange reach
 /// the same state, or none of them reaches any.
 pub fn exchanged_reach_the_same<S, E>()
-    ensures { (take : S → E → Option S) → OfExchanged (λ (depends : E → E → Bool) events others.
+    ensures { (take : S → E → Option S) → OfExchanged E (λ depends events others.
         IsCommuting take depends → ReachTheSame take events others) }
 {}
 
 /// An event is free exactly where it is a direct cause of none.
 pub fn free_without_effects<E>()
-    ensures { OfPositions (λ (depends : E → E → Bool) history at.
+    ensures { OfPositions E (λ depends history at.
         IsFree depends history at ↔ HasNoEffect depends history at) }
 {}
 
 /// Where a free event is taken out, the others keep their direct causes.
 pub fn direct_causes_stay<E>()
-    ensures { OfPositions (λ (depends : E → E → Bool) history at.
-        IsFree depends history at → OthersKeepCauses depends history at) }
+    ensures { OfPositions E (λ depends events at.
+        IsFree depends events at → OthersKeepCauses depends events at) }
 {}
 
 /// The direct causes of the last event of a list are those events on which it depends directly, by
 /// the list of what stands between.
 pub fn direct_by_list<E>()
-    ensures { OfEvents (λ (depends : E → E → Bool) history at cause. (event : E) →
-        CausesLast depends history at event ↔ IsDirectBehind depends history at cause event) }
+    ensures { OfEvents E (λ depends history at cause. IsToldByList depends history at cause) }
 {}
 
 /// An event that is added is one direct dependent more of each of its direct causes, and a free
 /// event that is taken out is one less. The counts of all other events stay.
 #[tactic(auto, using(crate::proofs::Dependents::dependents_added))]
 pub fn direct_dependents_counted<E>()
-    ensures added { (depends : E → E → Bool) (cause : E) (events : List E) (event : E) →
-        CountsAdded depends cause events event }
-    ensures taken_out { OfFree (λ (depends : E → E → Bool) events at gone. (cause : E) →
+    ensures added { OfCauses E (λ depends cause behind. (event : E) →
+        CountsAdded depends cause behind event) }
+    ensures taken_out { OfFree E (λ depends events at gone. (cause : E) →
         CountsTakenOut depends cause events at gone) }
 {}
 
 /// An event with no direct dependent has no dependent at all, and conversely: of the events that
 /// depend on it, the first depends on it directly.
 pub fn no_direct_dependent<E>()
-    ensures { (depends : E → E → Bool) (cause : E) (events : List E) →
-        (direct_dependents depends cause events ≡ 0) ↔ NoneDepends depends cause events }
+    ensures { OfCauses E (λ depends cause behind.
+        IsDirectOfNone depends cause behind ↔ NoneDepends depends cause behind) }
 {}
 
 /// A rollback may be made one undo at a time, from the last consequence back. An event without
 /// consequences is free, and all else remains. Of the consequences the last is free; without it the
 /// others are what is rolled back, and the same events remain.
 pub fn rollback_by_undo<E>()
-    ensures alone { OfPositions (λ (depends : E → E → Bool) history at.
+    ensures alone { OfPositions E (λ depends history at.
         IsFreeIfAlone depends history at) }
-    ensures last { OfPositions (λ (depends : E → E → Bool) history at.
+    ensures last { OfPositions E (λ depends history at.
         MayGoLastFirst depends history at) }
 {}

@@ -1,20 +1,20 @@
 //! What holds of the past of an event. Each function does nothing: its contract is the law.
 
-ghost use Rattle.std.specs.Prelude.{ℕ, Bool, ◌↔◌};
+ghost use Rattle.std.specs.Prelude.{◌↔◌};
 ghost use Rattle.cdb_causal.specs.Causality.{IsConsequence};
-ghost use Rattle.cdb_causal.specs.Laws.{OfPositions, LeadsThrough};
+ghost use Rattle.cdb_causal.specs.Laws.{OfPairs, LeadsThrough};
 ghost use Rattle.cdb_causal.specs.Past.{IsInPast};
 
 /// Past and consequences are one relation, turned round: an event is in the past of another exactly
 /// where the other is its consequence.
 pub fn past_is_consequences_turned_round<E>()
-    ensures { OfPositions (λ (depends : E → E → Bool) history i. (j : ℕ) →
+    ensures { OfPairs E (λ depends history i j.
         IsInPast depends history j i ↔ IsConsequence depends history i j) }
 {}
 
 /// Direct causes lead to all of the past: an event is in the past of another exactly where it is a
 /// direct cause of that one or of an event in its past.
 pub fn past_by_direct_causes<E>()
-    ensures { OfPositions (λ (depends : E → E → Bool) history i. (j : ℕ) →
+    ensures { OfPairs E (λ depends history i j.
         IsInPast depends history j i ↔ LeadsThrough depends history i j) }
 {}

@@ -1,33 +1,29 @@
 //! Laws of the table of the commands and of journals. Each function does nothing: its contract is the law.
-ghost use Rattle.std.specs.Prelude.{◌≡◌, ◌≤◌, ℕ, List, [], ◌∷◌, None};
-ghost use Rattle.cdb_base.specs.declared.refusal.Refusal.{Refusal};
+ghost use Rattle.std.specs.Prelude.{◌≡◌, ◌≤◌, ℕ, [], ◌∷◌, None};
 ghost use Rattle.cdb_base.specs.declared.refusal.Refusal.TheVariants.{NothingToRedo};
 ghost use Rattle.cdb_base.specs.declared.act.Act.{Act};
 ghost use Rattle.cdb_control.specs.declared.command.Command.{Command};
 ghost use Rattle.cdb_control.specs.declared.command.Command.TheVariants.{Step, Auto};
-ghost use Rattle.cdb_control.specs.declared.control.Entry.{Entry};
 ghost use Rattle.cdb_control.specs.ToldReply.{Undone, Redone, RolledBack, History, Decisions, Refused};
 ghost use Rattle.cdb_control.specs.Commands.{TellsPause, reply_of, obey};
 ghost use Rattle.cdb_control.specs.Headline.{Headline};
-ghost use Rattle.cdb_control.specs.Journal.{replies_in, own, AreOfSeats};
-ghost use Rattle.cdb_control.specs.Laws.{followed_by, AddsReply, AreTwoSeats, ForCommands, ForSeats, InReplayed};
+ghost use Rattle.cdb_control.specs.Journal.{replies_in};
+ghost use Rattle.cdb_control.specs.Laws.{followed_by, AddsReply, ForCommands, ForRefused, ForOtherSeats, ForSeats, ForOthers, ForJournals, InReplayed};
 ghost use Rattle.cdb_control.specs.State.{redo_of};
 ghost use Rattle.cdb_control.specs.WorkedJournals.{replies, query, send, plain_step, needed_by, undone_and_redone, rolled_back_and_redone};
-ghost use Rattle.cdb_setup.specs.Parts.{Parts, AreInRange};
 
 use cdb_rules::Runs;
 
 /// A refused command changes nothing.
 #[tactic(auto)]
 pub fn refused_changes_nothing()
-    ensures { ForCommands (λ rules t seat command. (refusal : Refusal) →
-        reply_of rules t seat command ≡ Refused refusal → obey rules t seat command ≡ t) }
+    ensures { ForRefused (λ rules t seat command. obey rules t seat command ≡ t) }
 {}
 
 /// A command leaves the redo lists of the other seats alone.
 #[tactic(auto)]
 pub fn other_lists_stay()
-    ensures { ForCommands (λ rules t seat command. (other : ℕ) → AreTwoSeats seat other →
+    ensures { ForOtherSeats (λ rules t seat command other.
         redo_of (obey rules t seat command) other ≡ redo_of t other) }
 {}
 
@@ -55,14 +51,14 @@ pub fn own_command_adds_its_reply()
 /// What others did adds no reply of a seat.
 #[tactic(auto)]
 pub fn others_add_no_reply()
-    ensures { ForSeats (λ rules c seat. (more : List Entry) → own seat more ≡ [] →
+    ensures { ForOthers (λ rules c seat more.
         replies_in rules seat (followed_by c more) ≡ replies_in rules seat c) }
 {}
 
 /// The headline holds of every journal of commands of seats that there are, by the rules of any run.
 pub fn headline<R: Runs>()
-    ensures { (setup : Parts) → AreInRange setup → (seats : ℕ) (journal : List Entry) →
-        AreOfSeats seats journal → Headline R.rules R.same_state setup seats journal }
+    ensures { ForJournals (λ setup seats journal.
+        Headline R.rules R.same_state setup seats journal) }
 {}
 
 /// By the table of the commands: what one seat undoes or rolls back it takes again, whatever the other
