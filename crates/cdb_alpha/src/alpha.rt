@@ -212,6 +212,9 @@ impl Alpha {
         ensures after { IfOk result (λ _. self.new ≡ see self.old.place over self.old cell) }
         ensures unchanged { OnErr result (self.new ≡ self.old) }
     {
+        if self.seen.is_empty() {
+            self.seen.reserve(usize::from(self.processes))?;
+        }
         self.seen.push(cell)?;
         if self.seen.len() == usize::from(self.processes) {
             self.place = over;

@@ -87,6 +87,9 @@ pub(crate) fn copy_cell(s: Proc, m: u16, slot: usize) -> usize
     named_cell(s, m) * 9 + slot
 }
 
+/// By how many cells at least a table grows, so that it seldom does.
+const GROWTH: usize = 256;
+
 /// Makes room for a cell. The new cells are 0.
 fn grow(table: &mut Vec<Mark>, cell: usize) -> Result<(), NoMemory>
     requires { cell < copy_cells }
@@ -94,7 +97,7 @@ fn grow(table: &mut Vec<Mark>, cell: usize) -> Result<(), NoMemory>
     ensures room { OnOk result (cell < vec_len table.new) }
 {
     if table.len() <= cell {
-        table.resize(cell + 1, 0)?;
+        table.resize(cell + GROWTH, 0)?;
     }
     Ok(())
 }

@@ -19,6 +19,9 @@ use std::alloc::{AllocError, Global};
 use std::error::Error;
 use std::fmt;
 
+/// How many bytes the shortest line of a command has, which is `redo` and the byte 10 at its end.
+const SHORTEST_LINE: usize = 5;
+
 /// Why a script can't be played.
 #[derive(Clone, Copy, Debug, PartialEq, Eq)]
 pub enum ScriptFault {
@@ -68,9 +71,9 @@ fn push_command(commands: &mut Vec<Command>, command: Command) -> Result<(), All
     }
 }
 
-/// How many lines a script may have.
-fn most_lines(script: &[u8]) -> usize {
-    1 + script.iter().filter(|byte| **byte == b'\n').count()
+/// How many commands a script of this many bytes has at most.
+fn most_commands(bytes: usize) -> usize {
+    1 + bytes / SHORTEST_LINE
 }
 
 /// The commands of the lines of a script, in their order. Where a line is no command, the first such line is
@@ -86,7 +89,7 @@ pub fn commands_of(alloc: Global, script: &[u8]) -> Result<Vec<Command>, ScriptF
     if script.len() > MAX_BYTES {
         return Err(ScriptFault::TooLong);
     }
-    let mut commands = Vec::with_capacity(alloc, most_lines(script))?;
+    let mut commands = Vec::with_capacity(alloc, most_commands(script.len()))?;
     let mut rest = script;
     while !rest.is_empty() {
         let (line, behind) = first_line(rest);

@@ -1,6 +1,6 @@
 //! The texts of numbers. Most numbers of a run are short, so these are written digit by digit.
 
-ghost use Rattle.std.specs.Prelude.{◌+◌, ◌/◌, ◌%◌, ◌<◌, ◌∷◌, [], decimal};
+ghost use Rattle.std.specs.Prelude.{◌+◌, ◌/◌, ◌%◌, ◌<◌, ◌≤◌, ◌∷◌, [], decimal};
 ghost use Rattle.cdb_text.specs.Pushes.{Pushes};
 
 use itoa::Buffer;
@@ -45,16 +45,29 @@ fn push_long(text: &mut String, number: u32) -> Result<(), AllocError>
     text.push_str(digits.format(number))
 }
 
-/// Adds a number in decimal at the end of a text. Only out of memory is an error.
-pub fn push_number(text: &mut String, number: u32) -> Result<(), AllocError>
+/// A number of two digits or more.
+#[inline(never)]
+fn push_digits(text: &mut String, number: u32) -> Result<(), AllocError>
+    requires { 10 ≤ number }
     ensures { Pushes result text.old text.new (decimal number) }
 {
     if number < 100 {
-        return push_short(text, number);
+        return push_two_digits(text, number);
     }
     if number < 10_000 {
         push_short(text, number / 100)?;
         return push_two_digits(text, number % 100);
     }
     push_long(text, number)
+}
+
+/// Adds a number in decimal at the end of a text. Only out of memory is an error.
+#[inline(always)]
+pub fn push_number(text: &mut String, number: u32) -> Result<(), AllocError>
+    ensures { Pushes result text.old text.new (decimal number) }
+{
+    if number < 10 {
+        return push_digit(text, number);
+    }
+    push_digits(text, number)
 }

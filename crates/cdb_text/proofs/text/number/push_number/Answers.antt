@@ -1,7 +1,6 @@
-use Rattle.std.proofs.Common.{append_assoc, arith}
-use Rattle.cdb_text.proofs.Digits.{last_two}
+use Rattle.std.proofs.Common.{arith}
+use Rattle.std.proofs.lemmas.Fmt.{decimal_digit}
 use Rattle.cdb_text.proofs.text.number.push_number.Goals as goal
 
-pub returns-then-number-lt10000 : goal.returns-then-number-lt10000
-returns-then-number-lt10000 c =
-    rw (last_two c.args.number (omega arith) (omega arith)) (rw (c.in_ok-push_short.ensures, append_assoc) at c.push_two_digits.ensures)
+pub returns-then-number-lt10 : goal.returns-then-number-lt10
+returns-then-number-lt10 c = rw (decimal_digit c.args.number (omega arith)) c.push_digit.ensures
