@@ -336,6 +336,7 @@ impl<R: Runs> ControlState<R> {
     }
 
     /// The reply to a step that stands last. Sets the pause, where a breakpoint fires.
+    #[inline(always)]
     fn tell_step(&mut self, taken: TakenStep) -> Reply
         ensures told { came_out result self.new.state ≡ step_told self.old.state taken }
         ensures kept { self.new.capacities ≡ self.old.capacities }

@@ -2,7 +2,7 @@
 
 ghost use Rattle.std.specs.Prelude.{◌≡◌, ◌≤◌, ◌↔◌, [], length, true, None, Some, is_some, IsSome, IfSome, IsOk, IfOk, OnOk, OnErr, IfNone};
 ghost use Rattle.std.specs.Option.{option_copied};
-ghost use Rattle.std.specs.Result.{result_err};
+ghost use Rattle.std.specs.Result.{result_err, result_ok};
 ghost use Rattle.cdb_message.specs.Mail.{next_pending, payload_of, is_lost};
 ghost use Rattle.cdb_rules.specs.Auto.{first_step_in};
 ghost use Rattle.cdb_run.specs.Plans.{receive_of};
@@ -21,7 +21,7 @@ use cdb_base::{
 };
 use cdb_causal::History;
 use cdb_message::mail::Mail;
-use cdb_process::{Process, accepts_receive};
+use cdb_process::{Input, Process, accepts_receive};
 use cdb_record::Records;
 use cdb_register::Registers;
 use cdb_rules::{Chronicle, Progress};
@@ -192,6 +192,19 @@ impl<P: Process> Run<P> {
         }
     }
 
+    /// The step in which process `p` learns, where it is not refused.
+    fn plan_learn(&self, p: u32) -> Option<Event>
+        requires { is_among self.now.setup.processes p ≡ true }
+        ensures learnt { result ≡ result_ok (result_of_step P.table self.now p Act.Learn) }
+        ensures enabled { IfSome result (λ event. IsNext P.table self.now event) }
+    {
+        let process = self.process(p)?;
+        if !self.local(process).accepts(&Input::Learn) {
+            return None;
+        }
+        self.plan(p, Act::Learn).ok()
+    }
+
     /// The receive of the least copy that process `p` can still receive, where it is not refused.
     fn plan_receive(&self, p: u32) -> Option<Event>
         requires { is_among self.now.setup.processes p ≡ true }
@@ -214,7 +227,7 @@ impl<P: Process> Run<P> {
         ensures returns { result ≡ first_step_in P.table self.now p }
         ensures enabled { IfOk result (λ event. IsNext P.table self.now event) }
     {
-        if let Ok(event) = self.plan(p, Act::Learn) {
+        if let Some(event) = self.plan_learn(p) {
             return Ok(event);
         }
         if let Some(event) = self.plan_receive(p) {

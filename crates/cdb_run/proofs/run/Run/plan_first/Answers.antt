@@ -9,6 +9,6 @@ pub returns-clause-returns : goal.returns-clause-returns
 returns-clause-returns g c =
     let table = g.P.Process.table in
     sym (then_idle (result_of_step table c.args.self.now c.args.p) (next_pending (mail_in table c.args.self.now) c.args.p None)
-    c.in_default.field-0 c.in_default-plan.field-0 c.in_default-plan-2.field-0
-    (sym c.plan.ensures.returns ∙ c.in_default.is) (sym c.plan_receive.ensures.received ∙ c.in_default-plan_receive.is)
-    (sym c.plan-2.ensures.returns ∙ c.in_default-plan.is) (sym c.plan-3.ensures.returns ∙ c.in_default-plan-2.is))
+    c.in_default-plan.field-0 c.in_default-plan-2.field-0
+    (sym c.plan_learn.ensures.learnt ∙ c.in_default.is) (sym c.plan_receive.ensures.received ∙ c.in_default-plan_receive.is)
+    (sym c.plan.ensures.returns ∙ c.in_default-plan.is) (sym c.plan-2.ensures.returns ∙ c.in_default-plan-2.is))
