@@ -13,4 +13,4 @@ mod ends;
 mod log;
 mod offsets;
 
-pub use log::{ABOVE_ALL, Log, Mark};
+pub use log::{ABOVE_ALL, Log, Mark, PIECES};

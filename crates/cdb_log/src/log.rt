@@ -1,17 +1,18 @@
 //! A list in pieces.
 
-ghost use Rattle.std.specs.Prelude.{◌≡◌, ℕ, ◌<◌, ◌≤◌, ◌==◌, ◌↔◌, Some, length, slice_get, OnOk, OnErr};
-ghost use Rattle.cdb_log.specs.Marks.{mark, without_items, HasRoom, IsSameLog, IsPushed, IsTakenOut};
+ghost use Rattle.std.specs.Prelude.{◌≡◌, ℕ, ◌+◌, ◌<◌, ◌≤◌, ◌==◌, ◌↔◌, IsTrue, Some, length, slice_get, OnOk, OnErr};
+ghost use Rattle.cdb_log.specs.Marks.{mark, without_items, CanGrow, HasRoom, IsSameLog, IsPushed, IsTakenOut};
 ghost use Rattle.cdb_log.specs.Offsets.{AreInPieces, seen};
+ghost use Rattle.cdb_log.specs.Pieces.{filled};
 
-use crate::ends::{PIECE, is_spare, lower, spot_of, start_of};
+use crate::ends::{PIECE, is_spare, lower, set_ends, spot_of, start_of};
 use crate::offsets::{count_below, is_open, next_of};
 use cdb_base::NoMemory;
 use std::alloc::Global;
 use std::marker::Model;
 
 /// How many pieces a log has at most, so that each mark is below `ABOVE_ALL`.
-const PIECES: usize = 33_554_431;
+pub const PIECES: usize = 33_554_431;
 
 /// The mark of an item.
 pub type Mark = u32;
@@ -42,6 +43,13 @@ impl<T: Drop> Model for Log<T> {
     ghost view = { λ log. seen log.pieces.items log.offsets.items };
 
     ghost invariant = { λ log. AreInPieces log.pieces.items log.offsets.items log.ends.items };
+}
+
+/// Drops the pieces without items.
+fn drop_empty<U: Drop>(pieces: &mut Vec<Vec<U>>)
+    ensures { pieces.new.items ≡ filled pieces.old.items }
+{
+    pieces.retain(|piece| !piece.is_empty());
 }
 
 /// Drops the last piece while it and the one before it are empty.
@@ -119,13 +127,12 @@ impl<T: Drop> Log<T> {
 
     /// Adds a piece without items.
     fn add_piece(&mut self) -> Result<(), NoMemory>
+        requires { CanGrow self.old }
         ensures same { IsSameLog self.old self.new }
         ensures ok { OnOk result (HasRoom self.new) }
         ensures err { OnErr result (self.new ≡ self.old) }
+        ensures pieces { self.new.pieces ≤ self.old.pieces + 1 }
     {
-        if self.pieces.len() >= PIECES {
-            return Err(NoMemory);
-        }
         self.ends.reserve(1)?;
         self.offsets.reserve(1)?;
         self.pieces.reserve(1)?;
@@ -138,11 +145,21 @@ impl<T: Drop> Log<T> {
         Ok(())
     }
 
-    /// Makes room for one item more. After `NoMemory` the log is as it was.
+    /// Whether there are marks left for one piece more.
+    pub fn can_grow(&self) -> bool
+        ensures { IsTrue result ↔ CanGrow self.now }
+    {
+        self.pieces.len() < PIECES
+    }
+
+    /// Makes room for one item more, in a further piece where the last one is full. After `NoMemory` the log
+    /// is as it was.
     pub fn reserve(&mut self) -> Result<(), NoMemory>
+        requires { CanGrow self.old }
         ensures same { IsSameLog self.old self.new }
         ensures ok { OnOk result (HasRoom self.new) }
         ensures err { OnErr result (self.new ≡ self.old) }
+        ensures pieces { self.new.pieces ≤ self.old.pieces + 1 }
     {
         if is_open(&self.offsets) {
             return Ok(());
@@ -155,7 +172,7 @@ impl<T: Drop> Log<T> {
         requires { HasRoom self.old }
         ensures pushed { IsPushed self.old item result self.new }
         ensures small { result < ABOVE_ALL }
-        ensures few { length self.new.items ≤ ABOVE_ALL }
+        ensures pieces { self.new.pieces ≡ self.old.pieces }
     {
         let last = self.ends.len() - 1;
         let offsets = &mut self.offsets[last];
@@ -180,5 +197,16 @@ impl<T: Drop> Log<T> {
         lower(&mut self.ends, k);
         drop_spares(&mut self.pieces, &mut self.offsets, &mut self.ends);
         item
+    }
+
+    /// Takes the pieces without items out, so that there are no more pieces than items. The items stay as they
+    /// stand, under other marks. It takes no memory.
+    pub fn renumber(&mut self)
+        ensures items { self.new.items ≡ self.old.items }
+        ensures few { self.new.pieces ≤ length self.old.items }
+    {
+        drop_empty(&mut self.pieces);
+        drop_empty(&mut self.offsets);
+        set_ends(&mut self.ends, &self.pieces);
     }
 }
