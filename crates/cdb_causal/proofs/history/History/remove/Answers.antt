@@ -5,7 +5,7 @@ use Rattle.cdb_causal.specs.Bounds.{AreWithin}
 use Rattle.cdb_base.specs.declared.event.Event.TheVariants.{Step}
 use Rattle.cdb_causal.specs.FromZero.{without, IsStanding}
 use Rattle.cdb_causal.specs.Listed.{AreListed}
-use Rattle.cdb_causal.specs.Named.{AreRanged}
+use Rattle.cdb_causal.specs.Named.{AreRanged, HaveNameCells}
 use Rattle.cdb_causal.specs.Own.{AreOwn}
 use Rattle.cdb_causal.specs.Rollback.{position_before, without as without_from_one}
 use Rattle.cdb_causal.proofs.FromOne.{next_is, without_is}
@@ -13,7 +13,7 @@ use Rattle.cdb_causal.proofs.Bounding.{within_without, position_before_low, posi
 use Rattle.cdb_causal.proofs.Keeping.{standing_without}
 use Rattle.cdb_causal.proofs.Lists.{remove-without, nth_before}
 use Rattle.cdb_causal.proofs.Listing.{listed_without}
-use Rattle.cdb_causal.proofs.Naming.{ranged_without, within_named, own_named}
+use Rattle.cdb_causal.proofs.Naming.{ranged_without, name_cells_without, within_named, own_named}
 use Rattle.cdb_causal.proofs.Owning.{leaves_then, own_same, own_without}
 use Rattle.cdb_causal.proofs.Receives.{alone_kept, alone_without}
 use Rattle.cdb_log.specs.Marks.{Marked, mark, IsTakenOut}
@@ -55,6 +55,7 @@ invariant_of-self c =
           (alone_kept c.forget.new.self c.forget_name.new.self (without items gone) (λ n. ap (λ t. slice_index t.items n) unnamed.receives)
           (alone_without c.self.inside.bounds c.forget.new.self items gone event removed.stood leaves c.self.invariant.alone));
       ranged = subst AreRanged (sym left) (ranged_without items gone c.self.invariant.ranged);
+      name_cells = subst HaveNameCells (sym left) (name_cells_without items gone c.self.invariant.name_cells);
       listed =
           subst (AreListed c.forget_access.new.self.lists.items (mark new)) (sym left)
           (listed_without old (mark new) gone c.self.inside.accesses.lists.items c.forget_access.new.self.lists.items c.self.invariant.listed c.forget_access.ensures.rising c.forget_access.ensures.kept stay);
