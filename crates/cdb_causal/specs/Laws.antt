@@ -1,7 +1,7 @@
 -- The words of the laws: of which lists they speak, under any dependence of any type of events, and what they say of these.
 use Rattle.std.specs.Prelude.{◌≡◌, ℕ, ◌+◌, ◌≤◌, Bool, true, false, List, [], ◌∷◌, ◌++◌, ◌↔◌, length, Option, Some}
 use Rattle.cdb_base.specs.Positions.{nth}
-use Rattle.cdb_causal.specs.Causality.{IsFree, IsDirectCause}
+use Rattle.cdb_causal.specs.Causality.{IsFree, IsConsequence, IsDirectCause}
 use Rattle.cdb_causal.specs.DirectDependents.{is_direct, as_number, direct_dependents}
 use Rattle.cdb_causal.specs.Exchange.{IsExchanged, IsEachOnce, HaveSameEvents, KeepsOrder}
 use Rattle.cdb_causal.specs.Past.{HasLedTo}
@@ -47,6 +47,10 @@ IsMutual {A} Holds = (one other : A) → Holds one other → Holds other one
 -- removed are the event at a position and exactly its consequences, left is all else, each in order
 abbrev pub IsRollback : {E : Type 0} → (E → E → Bool) → List E → ℕ → List E → List E → Type 0
 IsRollback depends history at left removed = IsParted (IsRolledBack depends history at) 1 history left removed
+
+-- the events are exactly the consequences of the one at a position, in order
+abbrev pub AreConsequences : {E : Type 0} → (E → E → Bool) → List E → ℕ → List E → Type 0
+AreConsequences {E} depends history at events = (left : List E) × IsParted (IsConsequence depends history at) 1 history left events
 
 -- the event at a position is a direct cause of none
 abbrev pub HasNoEffect : {E : Type 0} → (E → E → Bool) → List E → ℕ → Type 0

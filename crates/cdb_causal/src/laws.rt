@@ -2,13 +2,13 @@
 //! nothing: its contract is the law.
 
 ghost use Rattle.std.specs.Prelude.{◌≡◌, Bool, List, [], ◌∷◌, ◌++◌, ◌↔◌, Option};
-ghost use Rattle.cdb_causal.specs.Causality.{IsFree, IsConsequence};
+ghost use Rattle.cdb_causal.specs.Causality.{IsFree};
 ghost use Rattle.cdb_causal.specs.Dependence.{depends as depends_of};
 ghost use Rattle.cdb_causal.specs.DirectDependents.{direct_dependents};
 ghost use Rattle.cdb_causal.specs.Exchange.{IsExchanged, IsEachOnce, HaveSameEvents, KeepsOrder};
-ghost use Rattle.cdb_causal.specs.Laws.{OfPositions, OfEvents, OfFree, OfExchanged, HaveSameOrder, ReachTheSame, IsTransitive, IsMutual, IsRollback, IsDirectBehind, HasNoEffect, OthersKeepCauses, CausesLast, NoneDepends, CountsAdded, CountsTakenOut, IsFreeIfAlone, MayGoLastFirst};
+ghost use Rattle.cdb_causal.specs.Laws.{OfPositions, OfEvents, OfFree, OfExchanged, AreConsequences, HaveSameOrder, ReachTheSame, IsTransitive, IsMutual, IsRollback, IsDirectBehind, HasNoEffect, OthersKeepCauses, CausesLast, NoneDepends, CountsAdded, CountsTakenOut, IsFreeIfAlone, MayGoLastFirst};
 ghost use Rattle.cdb_causal.specs.Reach.{IsCommuting, IsSymmetric};
-ghost use Rattle.cdb_causal.specs.Rollback.{IsParted, without, remaining, rolled_back, consequences};
+ghost use Rattle.cdb_causal.specs.Rollback.{without, remaining, rolled_back, consequences};
 
 /// Dependence is symmetric: the order of the two events does not matter.
 #[tactic(auto, using(crate::proofs::Symmetry::symmetric))]
@@ -45,9 +45,8 @@ pub fn rolled_back_exactly<E>()
 
 /// The consequences are exactly the events at the positions of the least set, in the order of the list.
 pub fn consequences_exactly<E>()
-    ensures { OfPositions (λ (depends : E → E → Bool) history at. (left : List E)
-        × IsParted (IsConsequence depends history at) 1 history left
-        (consequences depends history at)) }
+    ensures { OfPositions (λ (depends : E → E → Bool) history at.
+        AreConsequences depends history at (consequences depends history at)) }
 {}
 
 /// Two lists with the same events, each once, whose dependent pairs stand in the same order, are

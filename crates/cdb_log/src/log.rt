@@ -58,6 +58,7 @@ fn drop_spares<T: Drop>(pieces: &mut Vec<Vec<T>>, offsets: &mut Vec<Vec<u8>>, en
     ensures kept { AreInPieces pieces.new.items offsets.new.items ends.new.items }
     ensures same { IsSameLog (seen pieces.old.items offsets.old.items)
         (seen pieces.new.items offsets.new.items) }
+    ensures fewer { length pieces.new.items ≤ length pieces.old.items }
 {
     while is_spare(ends) {
         pieces.pop();
@@ -187,7 +188,8 @@ impl<T: Drop> Log<T> {
     /// Takes the item at a position out. The others keep their order, and their marks. It takes no memory.
     pub fn take_out(&mut self, position: usize) -> T
         requires { position < length self.old.items }
-        ensures { IsTakenOut self.old position result self.new }
+        ensures taken_out { IsTakenOut self.old position result self.new }
+        ensures pieces { self.new.pieces ≤ self.old.pieces }
     {
         let (k, i) = spot_of(&self.ends, position);
         let piece = &mut self.pieces[k];

@@ -36,7 +36,7 @@ invariant_of-self c =
     let new : Marked Event = c.take_out-event.new.self in
     let items : List Event = old.items in
     let gone : ℕ = c.args.at - 1 in
-    let removed = c.take_out-event.ensures in
+    let removed = c.take_out-event.ensures.taken_out in
     let left = removed.items ∙ remove-without items gone in
     let event = c.take_out-event.result in
     let forgotten = c.forget_own.ensures in
@@ -73,8 +73,8 @@ invariant_of-self c =
 
 pub returns-clause-rest : goal.returns-clause-rest
 returns-clause-rest c =
-    c.take_out-event.ensures.items ∙ remove-without c.self.inside.events.items (c.args.at - 1) ∙ ap (λ l. without l (c.args.at - 1)) c.self.view_is
+    c.take_out-event.ensures.taken_out.items ∙ remove-without c.self.inside.events.items (c.args.at - 1) ∙ ap (λ l. without l (c.args.at - 1)) c.self.view_is
     ∙ sym (without_is c.args.self.now (c.args.at - 1)) ∙ ap (without_from_one c.args.self.now) (next_is c.args.at c.requires.from_one)
 
 pub returns-clause-event : goal.returns-clause-event
-returns-clause-event c = nth_before c.args.self.now c.args.at c.take_out-event.result c.requires.from_one (subst (λ l. slice_get l (c.args.at - 1) ≡ Some c.take_out-event.result) c.self.view_is c.take_out-event.ensures.stood)
+returns-clause-event c = nth_before c.args.self.now c.args.at c.take_out-event.result c.requires.from_one (subst (λ l. slice_get l (c.args.at - 1) ≡ Some c.take_out-event.result) c.self.view_is c.take_out-event.ensures.taken_out.stood)
