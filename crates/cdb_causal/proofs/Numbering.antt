@@ -1,13 +1,13 @@
 -- A history has no more events than there are names.
-use Rattle.std.proofs.Common.{◌≡◌, ℕ, zero, suc, ◌+◌, ◌-◌, ◌<◌, ◌≤◌, ◌⊎◌, ⊎_elim, inl, inr, List, [], ◌∷◌, length, Option, Some, None, slice_get, refl, sym, ap, ◌∙◌, subst, arith}
+use Rattle.std.proofs.Common.{◌≡◌, ℕ, zero, suc, ◌+◌, ◌-◌, ◌<◌, ◌≤◌, ◌⊎◌, ⊎_elim, List, [], ◌∷◌, length, Option, Some, None, slice_get, refl, sym, ap, ◌∙◌, subst, arith}
 use Rattle.cdb_base.specs.declared.event.Event.{Event}
 use Rattle.cdb_base.specs.declared.event.Event.TheVariants.{Step, Lost}
-use Rattle.cdb_causal.specs.Cells.{named_cell, named_copy_cell, named_cells, copy_cells}
+use Rattle.cdb_causal.specs.Cells.{named_cell, named_copy_cell, named_cells}
 use Rattle.cdb_causal.specs.FromZero.{IsStanding}
 use Rattle.cdb_causal.specs.Named.{AreRanged, HasNameCell, HaveNameCells}
 use Rattle.cdb_causal.specs.declared.history.TheConstants.{MOST_EVENTS}
 use Rattle.cdb_causal.proofs.Naming.{other_step, other_loss}
-use Rattle.cdb_causal.proofs.Pigeonhole.{AreApart, no_more}
+use Rattle.cdb_causal.proofs.Pigeonhole.{no_more}
 
 -- a number for each name: the cells of copies come behind those of steps
 abbrev number : Event → ℕ

@@ -1,5 +1,5 @@
 -- As many different numbers as there are positions do not all fit below a smaller one.
-use Rattle.std.proofs.Common.{◌≡◌, ℕ, zero, suc, ◌<◌, ◌≤◌, ◌⊎◌, ⊎_elim, inl, inr, refl, sym, ap, ◌∙◌, subst, arith}
+use Rattle.std.proofs.Common.{◌≡◌, ℕ, zero, suc, ◌<◌, ◌≤◌, ◌⊎◌, ⊎_elim, inl, inr, refl, sym, ◌∙◌, arith}
 
 -- each position below n has a number of its own below the bound
 pub record AreApart (numbers : ℕ → ℕ) (n bound : ℕ) : Type 0 where

@@ -1,5 +1,5 @@
 -- The pieces that have items.
-use Rattle.std.proofs.Common.{◌≡◌, ℕ, zero, suc, ◌+◌, ◌-◌, ◌<◌, ◌≤◌, ◌⊎◌, inl, inr, ⊎_elim, ◌==◌, true, not, if◌then◌else◌, List, [], ◌∷◌, ◌++◌, Vec, length, length-append, refl, sym, ap, ◌∙◌, subst, arith, rules}
+use Rattle.std.proofs.Common.{◌≡◌, ℕ, zero, suc, ◌-◌, ◌≤◌, ◌⊎◌, inl, inr, ⊎_elim, ◌==◌, true, not, if◌then◌else◌, List, [], ◌∷◌, ◌++◌, Vec, length, length-append, refl, sym, ap, ◌∙◌, subst, arith, rules}
 use Rattle.std.proofs.lemmas.List.{nil_from_length}
 use Rattle.std.specs.List.{AllByRecursion}
 use Rattle.cdb_log.specs.Ends.{AreRoomy, AreSmall}

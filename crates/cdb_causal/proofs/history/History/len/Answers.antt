@@ -1,4 +1,4 @@
-use Rattle.std.proofs.Common.{subst, ap, length, arith}
+use Rattle.std.proofs.Common.{subst, arith}
 use Rattle.cdb_causal.specs.Standing.{IsStanding}
 use Rattle.cdb_causal.proofs.FromOne.{standing_up}
 use Rattle.cdb_causal.proofs.Numbering.{few_events}

@@ -7,8 +7,8 @@ use Rattle.cdb_log.specs.Pieces.{lists}
 use Rattle.cdb_log.specs.declared.ends.TheConstants.{PIECE}
 use Rattle.cdb_log.specs.declared.log.TheConstants.{ABOVE_ALL}
 use Rattle.cdb_log.proofs.Changing.{lists_set, ends_pushed}
-use Rattle.cdb_log.proofs.Ended.{roomy_at, bounded, start_is, total}
-use Rattle.cdb_log.proofs.Marking.{opened, items_of, same_piece, pushed}
+use Rattle.cdb_log.proofs.Ended.{roomy_at, bounded}
+use Rattle.cdb_log.proofs.Marking.{opened, same_piece, pushed}
 use Rattle.cdb_log.proofs.Offsetting.{all_set, offsets_push}
 use Rattle.cdb_log.proofs.log.Log.push_reserved.Goals as goal
 
