@@ -82,8 +82,8 @@ fn append_to_log(log: &mut Log<Event>, event: Event) -> Mark
     log.push_reserved(event)
 }
 
-/// Makes room for an event in a log, in its bounds and in its accesses. No more changes, whatever is
-/// returned, but for marks.
+/// Makes room for an event in a log, in its bounds and in its accesses, which are built anew where there are no
+/// marks left. The events stay, whatever is returned.
 fn make_room(
     alloc: Global,
     events: &mut Log<Event>,
@@ -102,7 +102,7 @@ fn make_room(
     reserve_for(events, bounds, accesses, event)
 }
 
-/// Makes room for an event in a log that can grow, in its bounds and in its accesses. No more changes,
+/// Makes room for an event in a log that has marks left, in its bounds and in its accesses. No more changes,
 /// whatever is returned.
 fn reserve_for(
     events: &mut Log<Event>,

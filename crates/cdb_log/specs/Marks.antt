@@ -1,9 +1,9 @@
--- A list of items, each under a mark. Marks rise along the list, and an item keeps its mark for as long as it stands.
+-- A list of items, each under a mark. Marks rise along the list, and an item keeps its mark until it is taken out or all get other marks.
 use Rattle.std.specs.Prelude.{◌≡◌, ℕ, suc, ◌<◌, ◌≤◌, List, [], ◌∷◌, ◌++◌, Bool, false, IsTrue, length, remove, slice_get, slice_index, Some}
 use Rattle.cdb_log.specs.declared.log.TheConstants.{PIECES}
 
--- the items in order, the mark of each, whether there is room for one item more, and how many pieces there are. A piece has marks for some
--- items, and may have lost them all
+-- the items in order, the mark of each, whether there is room for one item more, and in how many pieces they stand. A piece has marks of its
+-- own, and its items may all have been taken out
 pub record Marked (T : Type 0) : Type 0 where
   pub items : List T
   pub marks : List ℕ
@@ -22,7 +22,7 @@ mark log i = slice_index log.marks i
 abbrev pub HasRoom : {T : Type 0} → Marked T → Type 0
 HasRoom log = IsTrue log.has_room
 
--- there are marks left for one piece more
+-- there are marks left for a further piece
 abbrev pub CanGrow : {T : Type 0} → Marked T → Type 0
 CanGrow log = log.pieces < PIECES
 

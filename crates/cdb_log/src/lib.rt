@@ -2,6 +2,9 @@
 //! each item keeps the mark under which it was added.
 //!
 //! ```text
+//! if !log.can_grow() {
+//!     log.renumber();
+//! }
 //! log.reserve()?;
 //! let mark = log.push_reserved(item);
 //! let position = log.position_above(mark);

@@ -21,8 +21,8 @@ pub type Mark = u32;
 pub const ABOVE_ALL: Mark = u32::MAX;
 
 /// A list of items. To take one out moves at most the items of one piece. A contract sees the items in
-/// order, and the mark of each; positions count from 0. Marks rise along the list, and an item keeps its
-/// mark.
+/// order, the mark of each, and how many pieces there are; positions count from 0. Marks rise along the list,
+/// and an item keeps its mark, but where all are renumbered.
 #[derive(Drop)]
 pub struct Log<T: Drop> {
     pieces: Vec<Vec<T>>,
@@ -146,15 +146,14 @@ impl<T: Drop> Log<T> {
         Ok(())
     }
 
-    /// Whether there are marks left for one piece more.
+    /// Whether there are marks left for a further piece.
     pub fn can_grow(&self) -> bool
         ensures { IsTrue result ↔ CanGrow self.now }
     {
         self.pieces.len() < PIECES
     }
 
-    /// Makes room for one item more, in a further piece where the last one is full. After `NoMemory` the log
-    /// is as it was.
+    /// Makes room for one item more, for which it may begin a piece. After `NoMemory` the log is as it was.
     pub fn reserve(&mut self) -> Result<(), NoMemory>
         requires { CanGrow self.old }
         ensures same { IsSameLog self.old self.new }

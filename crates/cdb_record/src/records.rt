@@ -47,8 +47,7 @@ impl<B: Drop> Model for Records<B> {
     ghost invariant = { λ records. length records.left.items ≡ length records.history };
 }
 
-/// Sees to it that a log has marks left for another item, for which it may give its items other marks. It takes
-/// no memory.
+/// Sees to it that a log has marks left: where it has none, its items are renumbered. It takes no memory.
 fn let_grow<T: Drop>(log: &mut Log<T>)
     requires { length log.old.items < PIECES }
     ensures same { log.new.items ≡ log.old.items }

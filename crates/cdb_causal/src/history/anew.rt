@@ -60,8 +60,7 @@ fn build_anew(
     Ok(())
 }
 
-/// Sees to it that a log has marks left for another event: where it has none, it is built anew. Without memory
-/// nothing changes.
+/// Sees to it that a log has marks left: where it has none, it is built anew. Without memory nothing changes.
 pub(super) fn let_grow(
     alloc: Global,
     events: &mut Log<Event>,
