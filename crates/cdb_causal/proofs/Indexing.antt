@@ -8,7 +8,7 @@ use Rattle.cdb_causal.specs.Bounds.{IsEventWithin, AreRaised}
 use Rattle.cdb_causal.specs.FromZero.{IsStanding}
 use Rattle.cdb_causal.specs.Indexed.{IsIndexed}
 use Rattle.cdb_causal.specs.Listed.{list_at, IsRising, HasBound, KeepsLists}
-use Rattle.cdb_causal.specs.Named.{AreRanged}
+use Rattle.cdb_causal.specs.Named.{AreRanged, HaveNameCells}
 use Rattle.cdb_causal.specs.Own.{own_bound, bound_before}
 use Rattle.cdb_causal.specs.declared.accesses.Accesses.{Accesses}
 use Rattle.cdb_causal.specs.declared.bounds.Bounds.{Bounds}
@@ -39,6 +39,7 @@ module _ (old new : Marked Event) (same : IsSameLog old new) where
                   (indexed.own.earlier h i p k l kind other less (stood h (Step p k kind) at_h) (stood i (Step p l other) at_i));
             };
         ranged = subst AreRanged (sym same.items) indexed.ranged;
+        name_cells = subst HaveNameCells (sym same.items) indexed.name_cells;
         listed =
             record {
               rising = indexed.listed.rising;
@@ -55,6 +56,7 @@ indexed_raised log old new raised receives accesses indexed =
       alone = alone_kept old new log.items receives indexed.alone;
       own = own_raised old new (mark log) log.items raised indexed.own;
       ranged = indexed.ranged;
+      name_cells = indexed.name_cells;
       listed = indexed.listed;
     }
 
@@ -67,6 +69,7 @@ indexed_listed log bounds old new kept indexed =
       alone = indexed.alone;
       own = indexed.own;
       ranged = indexed.ranged;
+      name_cells = indexed.name_cells;
       listed =
           record {
             rising = λ n. subst IsRising (sym (kept n)) (indexed.listed.rising n);

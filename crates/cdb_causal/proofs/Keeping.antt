@@ -1,5 +1,5 @@
 -- A history that gains or loses an event keeps what every history keeps.
-use Rattle.std.proofs.Common.{◌≡◌, ◌≤◌, ℕ, false, ⊎_elim, List, [], ◌∷◌, ◌++◌, sym, ap, ◌∙◌, subst, arith}
+use Rattle.std.proofs.Common.{◌≡◌, ◌≤◌, ℕ, false, ⊎_elim, List, [], ◌∷◌, ◌++◌, Some, slice_get, take, refl, sym, ap, ◌∙◌, subst, arith}
 use Rattle.cdb_base.specs.Event.{event_name}
 use Rattle.cdb_base.specs.declared.event.Event.{Event}
 use Rattle.cdb_base.specs.declared.event.Event.TheVariants.{Step, Lost}
@@ -9,6 +9,7 @@ use Rattle.cdb_causal.specs.FromZero.{IsNewName, without, HasNoLostCopy, IsStand
 use Rattle.cdb_causal.specs.Rollback.{position_before}
 use Rattle.cdb_causal.proofs.Counting.{slice_get-without, position_rises, same_position_before}
 use Rattle.cdb_causal.proofs.Lists.{push_cases}
+use Rattle.cdb_causal.proofs.Prefixes.{get_from_take}
 
 abbrev IsOfProcess : Event → Type 0
 IsOfProcess event = (p k : ℕ) (kind : Kind) → event ≡ Step p k kind → (1 ≤ p) × (p ≤ 9)
@@ -54,3 +55,15 @@ module _ (history : List Event) (gone : ℕ) (standing : IsStanding history) whe
         lost_after_sent = λ i j copy sent less a b.
             standing.lost_after_sent (position_before gone i) (position_before gone j) copy sent (position_rises gone i j less) (sym (slice_get-without history gone i) ∙ a) (sym (slice_get-without history gone j) ∙ b);
       }
+
+-- of an event, what its addition requires holds of the events before it
+module _ (history : List Event) (standing : IsStanding history) (i : ℕ) (event : Event) (at : slice_get history i ≡ Some event) where
+  pub new_before : IsNewName (take i history) (event_name event)
+  new_before j named =
+      let stood = get_from_take i j history named.0 named.1 in
+      let less = stood.0 in
+      let same = standing.names_differ j i (event_name event) (named.0, stood.1, named.2) (event, at, refl) in
+      omega arith
+
+  pub not_lost_before : HasNoLostCopy (take i history) event
+  not_lost_before j copy lost = let stood = get_from_take i j history (Lost copy) lost in standing.lost_after_sent j i copy event stood.0 stood.1 at

@@ -26,6 +26,8 @@ pub mod LawsFromOne
 -- a history: what it keeps, and the bounds from which its events are sought
 pub mod Keeping
 pub mod Naming
+pub mod Pigeonhole
+pub mod Numbering
 pub mod Owning
 pub mod Receives
 pub mod Bounding

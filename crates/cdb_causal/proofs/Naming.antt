@@ -9,7 +9,7 @@ use Rattle.cdb_base.specs.declared.name.StepId.TheVariants as named
 use Rattle.cdb_causal.specs.Bounds.{IsKindWithin, IsEventWithin, AreWithin}
 use Rattle.cdb_causal.specs.Cells.{register_cell, named_cell, named_copy_cell}
 use Rattle.cdb_causal.specs.FromZero.{without, IsStanding}
-use Rattle.cdb_causal.specs.Named.{IsRanged, AreRanged, IsStepIn, IsLossIn, IsNameForgotten}
+use Rattle.cdb_causal.specs.Named.{IsRanged, AreRanged, HasNameCell, HaveNameCells, IsStepIn, IsLossIn, IsNameForgotten}
 use Rattle.cdb_causal.specs.Own.{AreOwn}
 use Rattle.cdb_causal.specs.Rollback.{position_before}
 use Rattle.cdb_causal.specs.declared.bounds.Bounds.{Bounds}
@@ -22,6 +22,12 @@ ranged_push history event ranged new i copy at = ⊎_elim (λ old. ranged i copy
 
 pub ranged_without : (history : List Event) (gone : ℕ) → AreRanged history → AreRanged (without history gone)
 ranged_without history gone ranged i copy at = ranged (position_before gone i) copy (sym (slice_get-without history gone i) ∙ at)
+
+pub name_cells_push : (history : List Event) (event : Event) → HaveNameCells history → HasNameCell event → HaveNameCells (history ++ event ∷ [])
+name_cells_push history event cells new i other at = ⊎_elim (λ old. cells i other old.0) (λ here. subst HasNameCell here.0 new) (push_cases history event other i at)
+
+pub name_cells_without : (history : List Event) (gone : ℕ) → HaveNameCells history → HaveNameCells (without history gone)
+name_cells_without history gone cells i other at = cells (position_before gone i) other (sym (slice_get-without history gone i) ∙ at)
 
 same_number : (a b x y : ℕ) → x ≤ 8 → y ≤ 8 → a * 9 + x ≡ b * 9 + y → (a ≡ b) × (x ≡ y)
 same_number a b x y low high same = (omega arith, omega arith)

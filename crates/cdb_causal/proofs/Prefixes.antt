@@ -29,8 +29,14 @@ module _ {E : Type 0} where
   get_drop [] (suc k) m = refl
   get_drop (x ∷ xs) (suc k) m = let e : suc k + m ≡ suc (k + m) = omega arith in get_drop xs k m ∙ ap (slice_get (x ∷ xs)) (sym e)
 
-  take_next : (xs : List E) (m : ℕ) (x : E) → slice_get xs m ≡ Some x → take (suc m) xs ≡ take m xs ++ x ∷ []
+  pub take_next : (xs : List E) (m : ℕ) (x : E) → slice_get xs m ≡ Some x → take (suc m) xs ≡ take m xs ++ x ∷ []
   take_next xs m x at = take-suc xs m x (slice_get_within xs m x at) ∙ ap (λ y. take m xs ++ y ∷ []) (get_or_from_slice_get xs m x x at)
+
+  pub get_from_take : (i k : ℕ) (xs : List E) (x : E) → slice_get (take i xs) k ≡ Some x → (k < i) × (slice_get xs k ≡ Some x)
+  get_from_take zero k xs x at = absurd (none-some x at)
+  get_from_take (suc i) k [] x at = absurd (none-some x at)
+  get_from_take (suc i) zero (z ∷ zs) x at = (omega arith, at)
+  get_from_take (suc i) (suc k) (z ∷ zs) x at = let h = get_from_take i k zs x at in let less = h.0 in (omega (arith, less), h.1)
 
   get_take : (i k : ℕ) (xs : List E) (x : E) → k < i → slice_get xs k ≡ Some x → slice_get (take i xs) k ≡ Some x
   get_take i k [] x less at = absurd (none-some x at)

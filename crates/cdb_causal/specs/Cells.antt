@@ -19,12 +19,12 @@ named_cell p k = k * 9 + (p - 1)
 abbrev pub named_copy_cell : ℕ → ℕ → ℕ → ℕ
 named_copy_cell s m slot = named_cell s m * 9 + slot
 
--- all cells of steps and of messages are below the first number, those of copies below the second
+-- how many cells there are of steps, or of messages: 65,536 of each of 9 processes; and how many of copies: of each message, for 9 receivers
 abbrev pub named_cells : ℕ
-named_cells = 1048576
+named_cells = 589824
 
 abbrev pub copy_cells : ℕ
-copy_cells = 9437184
+copy_cells = 5308416
 
 -- a process, and a register, that there can be
 abbrev pub IsProcess : ℕ → Type 0

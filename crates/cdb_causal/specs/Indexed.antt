@@ -4,7 +4,7 @@ use Rattle.cdb_causal.specs.Alone.{AreAlone}
 use Rattle.cdb_causal.specs.Bounds.{AreWithin}
 use Rattle.cdb_causal.specs.FromZero.{IsStanding}
 use Rattle.cdb_causal.specs.Listed.{AreListed}
-use Rattle.cdb_causal.specs.Named.{AreRanged}
+use Rattle.cdb_causal.specs.Named.{AreRanged, HaveNameCells}
 use Rattle.cdb_causal.specs.Own.{AreOwn}
 use Rattle.cdb_causal.specs.declared.accesses.Accesses.{Accesses}
 use Rattle.cdb_causal.specs.declared.bounds.Bounds.{Bounds}
@@ -16,4 +16,5 @@ pub record IsIndexed (log : Marked Event) (bounds : Bounds) (accesses : Accesses
   pub alone : AreAlone bounds log.items
   pub own : AreOwn bounds (mark log) log.items
   pub ranged : AreRanged log.items
+  pub name_cells : HaveNameCells log.items
   pub listed : AreListed accesses.lists.items (mark log) log.items

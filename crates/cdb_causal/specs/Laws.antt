@@ -6,7 +6,7 @@ use Rattle.cdb_causal.specs.DirectDependents.{is_direct, as_number, direct_depen
 use Rattle.cdb_causal.specs.Exchange.{IsExchanged, IsEachOnce, HaveSameEvents, KeepsOrder}
 use Rattle.cdb_causal.specs.Past.{HasLedTo}
 use Rattle.cdb_causal.specs.Reach.{reached}
-use Rattle.cdb_causal.specs.Rollback.{IsParted, IsRolledBack, events_before, events_behind, without, position_before, remaining, rolled_back, consequences}
+use Rattle.cdb_causal.specs.Rollback.{IsParted, IsRolledBack, events_before, events_behind, without, position_before, remaining, rolled_back}
 
 -- ---- of what
 
@@ -67,10 +67,9 @@ IsMutual {A} Holds = (one other : A) → Holds one other → Holds other one
 abbrev pub IsRollback : {E : Type 0} → (E → E → Bool) → List E → ℕ → List E → List E → Type 0
 IsRollback depends history at left removed = IsParted (IsRolledBack depends history at) 1 history left removed
 
--- the consequences are exactly the events at the positions of the least set, in order
-abbrev pub AreExactConsequences : {E : Type 0} → (E → E → Bool) → List E → ℕ → Type 0
-AreExactConsequences {E} depends history at =
-    (left : List E) × IsParted (IsConsequence depends history at) 1 history left (consequences depends history at)
+-- the events are exactly the consequences of the one at a position, in order
+abbrev pub AreConsequences : {E : Type 0} → (E → E → Bool) → List E → ℕ → List E → Type 0
+AreConsequences {E} depends history at events = (left : List E) × IsParted (IsConsequence depends history at) 1 history left events
 
 -- the event at a position is a direct cause of none
 abbrev pub HasNoEffect : {E : Type 0} → (E → E → Bool) → List E → ℕ → Type 0

@@ -39,6 +39,10 @@ AreRising lists = (n : ℕ) → IsRising (list_at lists n)
 abbrev pub HasBound : List ℕ → ℕ → Type 0
 HasBound bounds bound = (k : ℕ) × (k < length bounds) × (slice_index bounds k ≡ bound)
 
+-- the bound is in the list of the event, if there is one for it
+abbrev pub HasBoundFor : {Z : Type 0} → List (Vec ℕ Z) → Event → ℕ → Type 0
+HasBoundFor lists event bound = (n : ℕ) → IsListedIn event n → HasBound (list_at lists n) bound
+
 -- the bound of each standing access is in its list, and the lists are in order
 pub record AreListed {Z : Type 0} (lists : List (Vec ℕ Z)) (marks : ℕ → ℕ) (history : List Event) : Type 0 where
   pub rising : AreRising lists
@@ -51,6 +55,10 @@ AreAtMostMarks log bounds from n = (k j : ℕ) → k < n → from ≤ j → j < 
 -- the bound of each item from a position on, where it is in the list, is that of an item at the start or later
 abbrev pub IsStartIn : {T : Type 0} → Marked T → List ℕ → ℕ → ℕ → Type 0
 IsStartIn log bounds from start = (j : ℕ) → from ≤ j → j < length log.items → HasBound bounds (mark log j + 1) → start ≤ j
+
+-- no item but the one at position i has that bound
+abbrev pub IsOfNoneBut : {T : Type 0} → Marked T → ℕ → ℕ → Type 0
+IsOfNoneBut log bound i = (j : ℕ) → j < length log.items → mark log j + 1 ≡ bound → j ≡ i
 
 -- of the bounds of items only that of the item at position i may be gone
 abbrev pub KeepsOthers : {T : Type 0} → Marked T → ℕ → List ℕ → List ℕ → Type 0

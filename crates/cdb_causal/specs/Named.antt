@@ -1,10 +1,10 @@
 -- The cells of bounds that the name of an event has: a step's, or a loss's. No two standing events share such a cell.
-use Rattle.std.specs.Prelude.{◌≡◌, ℕ, ◌-◌, ◌≤◌, List, Some, slice_get, slice_index}
+use Rattle.std.specs.Prelude.{◌≡◌, ℕ, ◌-◌, ◌<◌, ◌≤◌, List, Some, slice_get, slice_index}
 use Rattle.cdb_base.specs.declared.limits.TheConstants.{MAX_PROCESSES}
 use Rattle.cdb_base.specs.declared.event.Event.{Event}
 use Rattle.cdb_base.specs.declared.event.Event.TheVariants.{Step, Lost}
 use Rattle.cdb_base.specs.declared.name.CopyName.{CopyName}
-use Rattle.cdb_causal.specs.Cells.{named_cell, named_copy_cell}
+use Rattle.cdb_causal.specs.Cells.{named_cell, named_copy_cell, named_cells, copy_cells}
 use Rattle.cdb_causal.specs.declared.bounds.Bounds.{Bounds}
 
 -- the copy is of a message of a process from 1 to 9, for such a process
@@ -13,6 +13,14 @@ IsRanged copy = (1 ≤ copy.msg.s) × (copy.msg.s ≤ MAX_PROCESSES) × (1 ≤ c
 
 abbrev pub AreRanged : List Event → Type 0
 AreRanged history = (i : ℕ) (copy : CopyName) → slice_get history i ≡ Some (Lost copy) → IsRanged copy
+
+-- the name of the event is one of those for which there are cells
+abbrev pub HasNameCell : Event → Type 0
+HasNameCell (Step p k kind) = named_cell p k < named_cells
+HasNameCell (Lost copy) = named_copy_cell copy.msg.s copy.msg.m (copy.to - 1) < copy_cells
+
+abbrev pub HaveNameCells : List Event → Type 0
+HaveNameCells history = (i : ℕ) (event : Event) → slice_get history i ≡ Some event → HasNameCell event
 
 abbrev pub IsStepIn : Event → ℕ → Type 0
 IsStepIn (Step p k kind) n = named_cell p k ≡ n

@@ -3,9 +3,8 @@
 
 ghost use Rattle.std.specs.Prelude.{◌≡◌, ℕ, ◌+◌, ◌-◌, ◌<◌, ◌≤◌, ◌↔◌, [], IsTrue, OnOk, IfSome, MatchOption, length, slice_index, vec_len, vec_capacity};
 ghost use Rattle.cdb_causal.specs.Cells.{row};
-ghost use Rattle.cdb_causal.specs.Listed.{list_at, HasRoomAt, HasRoomFor, IsListedIn, IsRising, AreRising, HasBound};
+ghost use Rattle.cdb_causal.specs.Listed.{list_at, HasRoomAt, HasRoomFor, IsListedIn, IsRising, AreRising, HasBound, HasBoundFor, IsOfNoneBut};
 ghost use Rattle.cdb_causal.specs.Listed.{KeepsBelow, KeepsOthers, KeepsLists, AllKeepBelow, AllKeepOthers, AreAtMostMarks, IsStartIn};
-ghost use Rattle.cdb_log.specs.Marks.{mark};
 
 use crate::bounds::register_row;
 use cdb_base::{Event, Kind, NoMemory, Reg};
@@ -103,7 +102,7 @@ fn start_in(log: &Log<Event>, bounds: &[Mark], from: usize) -> usize
 
 /// Whether the bound can be of no event but the one at position `i`.
 fn is_of_none_but(log: &Log<Event>, bound: Mark, i: usize) -> bool
-    ensures { IsTrue result → (j : ℕ) → j < length log.now.items → mark log.now j + 1 ≡ bound → j ≡ i }
+    ensures { IsTrue result → IsOfNoneBut log.now bound i }
 {
     let start = log.position_above(bound.saturating_sub(1));
     let end = log.position_above(bound);
@@ -200,7 +199,7 @@ impl Accesses {
         requires room { HasRoomFor self.old.lists.items event.now }
         requires rising { AreRising self.old.lists.items }
         ensures rising { AreRising self.new.lists.items }
-        ensures joined { (n : ℕ) → IsListedIn event.now n → HasBound (list_at self.new.lists.items n) (mark + 1) }
+        ensures joined { HasBoundFor self.new.lists.items event.now (mark + 1) }
         ensures kept { AllKeepBelow (mark + 1) self.old.lists.items self.new.lists.items }
     {
         if let Some(n) = list_of(event) {

@@ -179,7 +179,7 @@ impl Bounds {
     ghost use Rattle.cdb_causal.specs.Between.{IsAboveOtherReceives, IsAboveWaiting};
     ghost use Rattle.cdb_causal.specs.Between.{IsAboveWrites, IsAboveAccesses, IsAboveAccessesBy};
     ghost use Rattle.cdb_causal.specs.Bounds.{IsEventWithin, IsKindWithin, AreRaised, HasCellsFor, HasCellsForKind};
-    ghost use Rattle.cdb_causal.specs.Named.{IsRanged, IsNameForgotten};
+    ghost use Rattle.cdb_causal.specs.Named.{HasNameCell, IsRanged, IsNameForgotten};
     ghost use Rattle.cdb_causal.specs.Own.{own_bound, bound_before, bound_of_slot, IsOwnNoted, IsOwnForgotten};
     ghost use Rattle.cdb_causal.specs.Alone.{receive_bound, JoinsCell, LeavesCell, KeepsReceives};
 
@@ -298,6 +298,7 @@ impl Bounds {
         ensures within { IsEventWithin self.new mark event.now }
         ensures own { IsOwnNoted self.old self.new mark event.now }
         ensures copy { (copy : ACopy) → event.now ≡ Lost copy → IsRanged copy }
+        ensures name_cell { HasNameCell event.now }
         ensures process { (p k : ℕ) (kind : AKind) → event.now ≡ Step p k kind →
             (1 ≤ p) × (p ≤ 9) }
     {

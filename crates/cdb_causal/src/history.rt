@@ -1,6 +1,6 @@
 //! The standing events of a run, in the order in which they were taken.
 
-ghost use Rattle.std.specs.Prelude.{◌≡◌, ℕ, ◌<◌, ◌≤◌, List, [], ◌∷◌, ◌++◌, Some, Ok, length, slice_get, MatchOption, OnOk, OnErr, IfOk, IfErr, IsTrue, ◌==◌, ◌↔◌};
+ghost use Rattle.std.specs.Prelude.{◌≡◌, ℕ, ◌+◌, ◌<◌, ◌≤◌, List, [], ◌∷◌, ◌++◌, Some, Ok, length, slice_get, MatchOption, OnOk, OnErr, IfOk, IfErr, IsTrue, ◌==◌, ◌↔◌};
 ghost use Rattle.std.specs.Fn.{FnOnceReturnsAtMut, FnOnceTakesAtMut};
 ghost use Rattle.cdb_base.specs.Event.{event_name};
 ghost use Rattle.cdb_base.specs.declared.event.Kind.TheVariants.{Send};
@@ -18,16 +18,22 @@ ghost use Rattle.cdb_causal.specs.Names.{IsNewName, IsPositionOf, IsEndOfSteps};
 ghost use Rattle.cdb_causal.specs.Own.{IsLastOfItsProcess};
 ghost use Rattle.cdb_causal.specs.Rollback.{without};
 ghost use Rattle.cdb_causal.specs.Standing.{IsStanding, HasNoLostCopy};
-ghost use Rattle.cdb_log.specs.Marks.{HasRoom, IsPushed};
+ghost use Rattle.cdb_log.specs.Marks.{CanGrow, HasRoom, IsPushed};
 
 use crate::accesses::Accesses;
 use crate::bounds::Bounds;
+use crate::history::anew::let_grow;
 use cdb_base::{Event, Kind, NoMemory, Proc, Reg, StepId};
 use cdb_log::{ABOVE_ALL, Log, Mark};
 use std::alloc::Global;
 use std::marker::Model;
 
+mod anew;
 mod starts;
+
+/// How many events a history has at most: as many as steps and losses have names. A step is one of 65,536 of
+/// one of 9 processes; a loss is of one of as many messages, for one of 9 receivers.
+pub const MOST_EVENTS: usize = 5_898_240;
 
 /// The standing events, each under a name of its own. A contract sees their list. Positions count
 /// from 1.
@@ -36,6 +42,7 @@ pub struct History {
     events: Log<Event>,
     bounds: Bounds,
     accesses: Accesses,
+    alloc: Global,
 }
 
 impl Model for History {
@@ -68,15 +75,17 @@ fn append_to_log(log: &mut Log<Event>, event: Event) -> Mark
     requires { HasRoom log.old }
     ensures pushed { IsPushed log.old event result log.new }
     ensures small { result < ABOVE_ALL }
+    ensures pieces { log.new.pieces ≡ log.old.pieces }
 {
     let _kind: Option<Kind> = None;
     let _register: Option<Reg> = None;
     log.push_reserved(event)
 }
 
-/// Makes room for an event in a log, in its bounds and in its accesses. No more changes, whatever is
-/// returned.
+/// Makes room for an event in a log, in its bounds and in its accesses, which are built anew where there are no
+/// marks left. The events stay, whatever is returned.
 fn make_room(
+    alloc: Global,
     events: &mut Log<Event>,
     bounds: &mut Bounds,
     accesses: &mut Accesses,
@@ -88,6 +97,27 @@ fn make_room(
     ensures room { OnOk result (HasRoom events.new) }
     ensures bounds { OnOk result (HasCellsFor bounds.new event.now) }
     ensures accesses { OnOk result (HasRoomFor accesses.new.lists.items event.now) }
+{
+    let_grow(alloc, events, bounds, accesses)?;
+    reserve_for(events, bounds, accesses, event)
+}
+
+/// Makes room for an event in a log that has marks left, in its bounds and in its accesses. No more changes,
+/// whatever is returned.
+fn reserve_for(
+    events: &mut Log<Event>,
+    bounds: &mut Bounds,
+    accesses: &mut Accesses,
+    event: &Event,
+) -> Result<(), NoMemory>
+    requires indexed { IsIndexed events.old bounds.old accesses.old }
+    requires grow { CanGrow events.old }
+    ensures same { events.new.items ≡ events.old.items }
+    ensures indexed { IsIndexed events.new bounds.new accesses.new }
+    ensures room { OnOk result (HasRoom events.new) }
+    ensures bounds { OnOk result (HasCellsFor bounds.new event.now) }
+    ensures accesses { OnOk result (HasRoomFor accesses.new.lists.items event.now) }
+    ensures pieces { events.new.pieces ≤ events.old.pieces + 1 }
 {
     events.reserve()?;
     bounds.reserve(event)?;
@@ -105,6 +135,7 @@ fn add(events: &mut Log<Event>, bounds: &mut Bounds, accesses: &mut Accesses, ev
     requires not_lost { HasNoLostCopy events.old.items event }
     ensures added { events.new.items ≡ events.old.items ++ event ∷ [] }
     ensures indexed { IsIndexed events.new bounds.new accesses.new }
+    ensures pieces { events.new.pieces ≡ events.old.pieces }
 {
     let added = event;
     let mark = append_to_log(events, added);
@@ -160,12 +191,14 @@ impl History {
             events: Log::new(alloc),
             bounds: Bounds::new(alloc),
             accesses: Accesses::new(alloc),
+            alloc,
         }
     }
 
     /// How many events stand. What is promised of every history is promised here.
     pub fn len(&self) -> usize
         ensures count { result ≡ length self.now }
+        ensures few { result ≤ MOST_EVENTS }
         ensures standing { IsStanding self.now }
     {
         self.events.len()
@@ -319,6 +352,7 @@ impl History {
         ensures err { OnErr result (self.new ≡ self.old) }
     {
         make_room(
+            self.alloc,
             &mut self.events,
             &mut self.bounds,
             &mut self.accesses,
@@ -352,6 +386,7 @@ impl History {
         ensures err { OnErr result (self.new ≡ self.old) }
     {
         make_room(
+            self.alloc,
             &mut self.events,
             &mut self.bounds,
             &mut self.accesses,

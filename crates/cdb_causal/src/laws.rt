@@ -5,7 +5,7 @@ ghost use Rattle.std.specs.Prelude.{Bool, List, [], ◌∷◌, ◌++◌, ◌↔�
 ghost use Rattle.cdb_causal.specs.Causality.{IsFree};
 ghost use Rattle.cdb_causal.specs.Dependence.{depends as depends_of};
 ghost use Rattle.cdb_causal.specs.Exchange.{IsExchanged, IsEachOnce, HaveSameEvents, KeepsOrder};
-ghost use Rattle.cdb_causal.specs.Laws.{OfPositions, OfRollbacks, OfEvents, OfFree, OfCauses, OfTwo, OfExchanged, HaveSameOrder, ReachTheSame, IsTransitive, IsMutual, IsRollback, AreExactConsequences, HasNoEffect, OthersKeepCauses, IsToldByList, IsDirectOfNone, NoneDepends, CountsAdded, CountsTakenOut, IsFreeIfAlone, MayGoLastFirst};
+ghost use Rattle.cdb_causal.specs.Laws.{OfPositions, OfRollbacks, OfEvents, OfFree, OfCauses, OfTwo, OfExchanged, HaveSameOrder, ReachTheSame, IsTransitive, IsMutual, IsRollback, AreConsequences, HasNoEffect, OthersKeepCauses, IsToldByList, IsDirectOfNone, NoneDepends, CountsAdded, CountsTakenOut, IsFreeIfAlone, MayGoLastFirst};
 ghost use Rattle.cdb_causal.specs.Reach.{IsCommuting, IsSymmetric};
 ghost use Rattle.cdb_causal.specs.Rollback.{without, rolled_back, consequences};
 
@@ -42,7 +42,8 @@ pub fn rolled_back_exactly<E>()
 
 /// The consequences are exactly the events at the positions of the least set, in the order of the list.
 pub fn consequences_exactly<E>()
-    ensures { OfPositions E (λ depends history at. AreExactConsequences depends history at) }
+    ensures { OfPositions E (λ depends events at.
+        AreConsequences depends events at (consequences depends events at)) }
 {}
 
 /// Two lists with the same events, each once, whose dependent pairs stand in the same order, are

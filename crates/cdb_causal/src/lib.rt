@@ -23,4 +23,4 @@ pub use causes::{consequences, first_dependent};
 pub use counts::count_direct_dependents;
 pub use dependence::depends;
 pub use direct::direct_causes;
-pub use history::History;
+pub use history::{History, MOST_EVENTS};

@@ -1,7 +1,7 @@
 -- What the ends of pieces say of them.
 use Rattle.std.proofs.Common.{◌≡◌, ℕ, zero, suc, ◌+◌, ◌-◌, ◌*◌, ◌<◌, ◌≤◌, ⊎_elim, List, [], ◌∷◌, Some, Vec, vec_capacity, length, get_or, slice_get, slice_index, refl, sym, ap, ◌∙◌, subst, arith}
 use Rattle.std.proofs.lemmas.List.{length-map}
-use Rattle.cdb_log.specs.Ends.{piece_start, AreEnds, IsSpot, AreRoomy, HasEnds}
+use Rattle.cdb_log.specs.Ends.{piece_start, AreEnds, AreSmall, IsSpot, AreRoomy, HasEnds}
 use Rattle.cdb_log.specs.Pieces.{joined, before, lists}
 use Rattle.cdb_log.specs.declared.ends.TheConstants.{PIECE}
 use Rattle.cdb_log.proofs.Counting.{below_or_above, before_rises, before_step, before_all}
@@ -20,6 +20,10 @@ module _ {T Z : Type 0} where
   roomy_at [] k v roomy within is = absurd (omega arith)
   roomy_at (w ∷ vs) zero v roomy within is = subst (λ (u : Vec T Z). PIECE ≤ vec_capacity u) (sym is) roomy.0
   roomy_at (w ∷ vs) (suc k) v roomy within is = roomy_at vs k v roomy.1 (omega arith) is
+
+  pub small_bounded : (vs : List (Vec T Z)) → AreSmall vs → (k : ℕ) → before (lists vs) k ≤ PIECE * k
+  small_bounded vs small zero = omega arith
+  small_bounded vs small (suc k) = let b = small_bounded vs small k in let s = small k in omega arith
 
   pub lists_long : (vs : List (Vec T Z)) → length (lists vs) ≡ length vs
   lists_long vs = length-map vs (λ (v : Vec T Z). v.items)
@@ -70,8 +74,7 @@ module _ {T Z : Type 0} where
         record { within = omega arith; at = at; is_position = omega arith; less = omega arith; high = omega arith }
 
     pub bounded : (k : ℕ) → before (lists pieces) k ≤ PIECE * k
-    bounded zero = omega arith
-    bounded (suc k) = let b = bounded k in let s = h.small k in omega arith
+    bounded k = small_bounded pieces h.small k
 
     pub last_in : (l : List ℕ) (items : List T) (position : ℕ) → l ≡ ends → joined (lists pieces) ≡ items → position < length items → position < slice_index l (length l - 1)
     last_in l items position same is less = subst (λ m. position < slice_index m (length m - 1)) (sym same) (last_above position (subst (λ m. position < length m) (sym is) less))

@@ -35,6 +35,10 @@ pub record IsSpot (ends : List ℕ) (position k i : ℕ) : Type 0 where
   pub is_position : position ≡ piece_start ends k + i
   pub high : position < slice_index ends k
 
+-- no piece has more than PIECE items
+abbrev pub AreSmall : {T Z : Type 0} → List (Vec T Z) → Type 0
+AreSmall pieces = (k : ℕ) → before (lists pieces) (suc k) ≤ before (lists pieces) k + PIECE
+
 -- each piece has memory for PIECE items
 abbrev pub AreRoomy : {T Z : Type 0} → List (Vec T Z) → Type 0
 AreRoomy [] = ⊤
@@ -44,6 +48,6 @@ AreRoomy (piece ∷ pieces) = (PIECE ≤ vec_capacity piece) × AreRoomy pieces
 pub record HasEnds {T Z : Type 0} (pieces : List (Vec T Z)) (ends : List ℕ) : Type 0 where
   pub same_length : length ends ≡ length pieces
   pub each : (k : ℕ) → k < length pieces → slice_index ends k ≡ before (lists pieces) (suc k)
-  pub small : (k : ℕ) → before (lists pieces) (suc k) ≤ before (lists pieces) k + PIECE
+  pub small : AreSmall pieces
   pub few : length pieces ≤ PIECES
   pub roomy : AreRoomy pieces

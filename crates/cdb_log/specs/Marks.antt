@@ -1,15 +1,18 @@
--- A list of items, each under a mark. Marks rise along the list, and an item keeps its mark for as long as it stands.
+-- A list of items, each under a mark. Marks rise along the list, and an item keeps its mark until it is taken out or all get other marks.
 use Rattle.std.specs.Prelude.{◌≡◌, ℕ, suc, ◌<◌, ◌≤◌, List, [], ◌∷◌, ◌++◌, Bool, false, IsTrue, length, remove, slice_get, slice_index, Some}
+use Rattle.cdb_log.specs.declared.log.TheConstants.{PIECES}
 
--- the items in order, the mark of each, and whether there is room for one item more
+-- the items in order, the mark of each, whether there is room for one item more, and in how many pieces they stand. A piece has marks of its
+-- own, and its items may all have been taken out
 pub record Marked (T : Type 0) : Type 0 where
   pub items : List T
   pub marks : List ℕ
   pub has_room : Bool
+  pub pieces : ℕ
 
 -- no items, and no room
 abbrev pub without_items : {T : Type 0} → Marked T
-without_items = record { items = []; marks = []; has_room = false }
+without_items = record { items = []; marks = []; has_room = false; pieces = 0 }
 
 -- the mark of the item at position i
 abbrev pub mark : {T : Type 0} → Marked T → ℕ → ℕ
@@ -18,6 +21,10 @@ mark log i = slice_index log.marks i
 -- there is room for one item more
 abbrev pub HasRoom : {T : Type 0} → Marked T → Type 0
 HasRoom log = IsTrue log.has_room
+
+-- there are marks left for a further piece
+abbrev pub CanGrow : {T : Type 0} → Marked T → Type 0
+CanGrow log = log.pieces < PIECES
 
 -- the first items have the marks that they had
 abbrev pub KeepsMarks : {T : Type 0} → ℕ → Marked T → Marked T → Type 0

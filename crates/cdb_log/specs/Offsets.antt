@@ -36,6 +36,7 @@ seen pieces offsets =
       items = joined (lists pieces);
       marks = joined (marks_from 0 (lists offsets));
       has_room = has_room (lists offsets);
+      pieces = length pieces;
     }
 
 -- the items and their offsets stand in pieces that end there

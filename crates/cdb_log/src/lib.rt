@@ -2,6 +2,9 @@
 //! each item keeps the mark under which it was added.
 //!
 //! ```text
+//! if !log.can_grow() {
+//!     log.renumber();
+//! }
 //! log.reserve()?;
 //! let mark = log.push_reserved(item);
 //! let position = log.position_above(mark);
@@ -13,4 +16,4 @@ mod ends;
 mod log;
 mod offsets;
 
-pub use log::{ABOVE_ALL, Log, Mark};
+pub use log::{ABOVE_ALL, Log, Mark, PIECES};

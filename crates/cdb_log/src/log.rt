@@ -1,17 +1,18 @@
 //! A list in pieces.
 
-ghost use Rattle.std.specs.Prelude.{◌≡◌, ℕ, ◌<◌, ◌≤◌, ◌==◌, ◌↔◌, Some, length, slice_get, OnOk, OnErr};
-ghost use Rattle.cdb_log.specs.Marks.{mark, without_items, HasRoom, IsSameLog, IsPushed, IsTakenOut};
+ghost use Rattle.std.specs.Prelude.{◌≡◌, ℕ, ◌+◌, ◌<◌, ◌≤◌, ◌==◌, ◌↔◌, IsTrue, Some, length, slice_get, OnOk, OnErr};
+ghost use Rattle.cdb_log.specs.Marks.{mark, without_items, CanGrow, HasRoom, IsSameLog, IsPushed, IsTakenOut};
 ghost use Rattle.cdb_log.specs.Offsets.{AreInPieces, seen};
+ghost use Rattle.cdb_log.specs.Pieces.{filled};
 
-use crate::ends::{PIECE, is_spare, lower, spot_of, start_of};
+use crate::ends::{PIECE, is_spare, lower, set_ends, spot_of, start_of};
 use crate::offsets::{count_below, is_open, next_of};
 use cdb_base::NoMemory;
 use std::alloc::Global;
 use std::marker::Model;
 
 /// How many pieces a log has at most, so that each mark is below `ABOVE_ALL`.
-const PIECES: usize = 33_554_431;
+pub const PIECES: usize = 33_554_431;
 
 /// The mark of an item.
 pub type Mark = u32;
@@ -20,8 +21,8 @@ pub type Mark = u32;
 pub const ABOVE_ALL: Mark = u32::MAX;
 
 /// A list of items. To take one out moves at most the items of one piece. A contract sees the items in
-/// order, and the mark of each; positions count from 0. Marks rise along the list, and an item keeps its
-/// mark.
+/// order, the mark of each, and how many pieces there are; positions count from 0. Marks rise along the list,
+/// and an item keeps its mark, but where all are renumbered.
 #[derive(Drop)]
 pub struct Log<T: Drop> {
     pieces: Vec<Vec<T>>,
@@ -44,12 +45,20 @@ impl<T: Drop> Model for Log<T> {
     ghost invariant = { λ log. AreInPieces log.pieces.items log.offsets.items log.ends.items };
 }
 
+/// Drops the pieces without items.
+fn drop_empty<U: Drop>(pieces: &mut Vec<Vec<U>>)
+    ensures { pieces.new.items ≡ filled pieces.old.items }
+{
+    pieces.retain(|piece| !piece.is_empty());
+}
+
 /// Drops the last piece while it and the one before it are empty.
 fn drop_spares<T: Drop>(pieces: &mut Vec<Vec<T>>, offsets: &mut Vec<Vec<u8>>, ends: &mut Vec<usize>)
     requires { AreInPieces pieces.old.items offsets.old.items ends.old.items }
     ensures kept { AreInPieces pieces.new.items offsets.new.items ends.new.items }
     ensures same { IsSameLog (seen pieces.old.items offsets.old.items)
         (seen pieces.new.items offsets.new.items) }
+    ensures fewer { length pieces.new.items ≤ length pieces.old.items }
 {
     while is_spare(ends) {
         pieces.pop();
@@ -119,13 +128,12 @@ impl<T: Drop> Log<T> {
 
     /// Adds a piece without items.
     fn add_piece(&mut self) -> Result<(), NoMemory>
+        requires { CanGrow self.old }
         ensures same { IsSameLog self.old self.new }
         ensures ok { OnOk result (HasRoom self.new) }
         ensures err { OnErr result (self.new ≡ self.old) }
+        ensures pieces { self.new.pieces ≤ self.old.pieces + 1 }
     {
-        if self.pieces.len() >= PIECES {
-            return Err(NoMemory);
-        }
         self.ends.reserve(1)?;
         self.offsets.reserve(1)?;
         self.pieces.reserve(1)?;
@@ -138,11 +146,20 @@ impl<T: Drop> Log<T> {
         Ok(())
     }
 
-    /// Makes room for one item more. After `NoMemory` the log is as it was.
+    /// Whether there are marks left for a further piece.
+    pub fn can_grow(&self) -> bool
+        ensures { IsTrue result ↔ CanGrow self.now }
+    {
+        self.pieces.len() < PIECES
+    }
+
+    /// Makes room for one item more, for which it may begin a piece. After `NoMemory` the log is as it was.
     pub fn reserve(&mut self) -> Result<(), NoMemory>
+        requires { CanGrow self.old }
         ensures same { IsSameLog self.old self.new }
         ensures ok { OnOk result (HasRoom self.new) }
         ensures err { OnErr result (self.new ≡ self.old) }
+        ensures pieces { self.new.pieces ≤ self.old.pieces + 1 }
     {
         if is_open(&self.offsets) {
             return Ok(());
@@ -155,7 +172,7 @@ impl<T: Drop> Log<T> {
         requires { HasRoom self.old }
         ensures pushed { IsPushed self.old item result self.new }
         ensures small { result < ABOVE_ALL }
-        ensures few { length self.new.items ≤ ABOVE_ALL }
+        ensures pieces { self.new.pieces ≡ self.old.pieces }
     {
         let last = self.ends.len() - 1;
         let offsets = &mut self.offsets[last];
@@ -170,7 +187,8 @@ impl<T: Drop> Log<T> {
     /// Takes the item at a position out. The others keep their order, and their marks. It takes no memory.
     pub fn take_out(&mut self, position: usize) -> T
         requires { position < length self.old.items }
-        ensures { IsTakenOut self.old position result self.new }
+        ensures taken_out { IsTakenOut self.old position result self.new }
+        ensures pieces { self.new.pieces ≤ self.old.pieces }
     {
         let (k, i) = spot_of(&self.ends, position);
         let piece = &mut self.pieces[k];
@@ -180,5 +198,16 @@ impl<T: Drop> Log<T> {
         lower(&mut self.ends, k);
         drop_spares(&mut self.pieces, &mut self.offsets, &mut self.ends);
         item
+    }
+
+    /// Takes the pieces without items out, so that there are no more pieces than items. The items stay as they
+    /// stand, under other marks. It takes no memory.
+    pub fn renumber(&mut self)
+        ensures items { self.new.items ≡ self.old.items }
+        ensures few { self.new.pieces ≤ length self.old.items }
+    {
+        drop_empty(&mut self.pieces);
+        drop_empty(&mut self.offsets);
+        set_ends(&mut self.ends, &self.pieces);
     }
 }

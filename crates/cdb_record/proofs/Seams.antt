@@ -35,11 +35,6 @@ events_without [] i = refl
 events_without (x ∷ xs) zero = refl
 events_without (x ∷ xs) (suc i) = ap (λ l. x.event ∷ l) (events_without xs i)
 
-pub fewer_without : {A : Type 0} (xs : List A) (i : ℕ) → length (without xs i) ≤ length xs
-fewer_without [] i = omega arith
-fewer_without (x ∷ xs) zero = omega arith
-fewer_without (x ∷ xs) (suc i) = let rest = fewer_without xs i in omega (arith, rest)
-
 pub same_length_without : {A B : Type 0} (xs : List A) (ys : List B) (i : ℕ) → length ys ≡ length xs → length (without ys i) ≡ length (without xs i)
 same_length_without [] [] i same = refl
 same_length_without [] (y ∷ ys) i same = absurd (omega (arith, same))

@@ -1,6 +1,6 @@
 //! The records of all standing events.
 
-ghost use Rattle.std.specs.Prelude.{◌≡◌, ◌≤◌, [], ◌∷◌, ◌++◌, Some, length, IfErr, OnOk, OnErr};
+ghost use Rattle.std.specs.Prelude.{◌≡◌, ◌<◌, ◌≤◌, [], ◌∷◌, ◌++◌, Some, length, IfErr, OnOk, OnErr};
 ghost use Rattle.std.specs.Fn.{FnOnceTakesAtMut};
 ghost use Rattle.cdb_base.specs.Event.{event_name};
 ghost use Rattle.cdb_base.specs.Positions.{nth};
@@ -11,6 +11,7 @@ ghost use Rattle.cdb_causal.specs.Dependence.{depends as depends_of};
 ghost use Rattle.cdb_causal.specs.Names.{IsNamedAt, IsNewName};
 ghost use Rattle.cdb_causal.specs.Rollback.{without};
 ghost use Rattle.cdb_causal.specs.Standing.{HasNoLostCopy};
+ghost use Rattle.cdb_log.specs.Marks.{CanGrow};
 ghost use Rattle.cdb_record.specs.Adding.{IsAddedBy};
 ghost use Rattle.cdb_record.specs.Counts.{IsCountOf, IsZeroWhereFree};
 ghost use Rattle.cdb_record.specs.Recorded.{events_of, recorded_of};
@@ -20,7 +21,7 @@ ghost use Rattle.cdb_record.specs.Taken.{IsLastStepOf, TakesWhereFree};
 use crate::recorded::{Left, Recorded};
 use cdb_base::{CopyName, Event, NoMemory, Proc, StepId};
 use cdb_causal::{History, count_direct_dependents, first_dependent};
-use cdb_log::Log;
+use cdb_log::{Log, PIECES};
 use std::alloc::Global;
 use std::marker::Model;
 
@@ -34,8 +35,7 @@ pub struct Records<B: Drop> {
 }
 
 impl<B: Drop> Model for Records<B> {
-    ghost use Rattle.std.specs.Prelude.{◌≡◌, ◌≤◌, List, length};
-    ghost use Rattle.cdb_log.specs.declared.log.TheConstants.{ABOVE_ALL};
+    ghost use Rattle.std.specs.Prelude.{◌≡◌, List, length};
     ghost use Rattle.cdb_record.specs.declared.recorded.Recorded.{Recorded};
 
     ghost Value = { List (Recorded B) };
@@ -44,8 +44,18 @@ impl<B: Drop> Model for Records<B> {
 
     ghost view = { λ records. records_of records.history records.left.items };
 
-    ghost invariant = { λ records. (length records.left.items ≡ length records.history)
-        × (length records.history ≤ ABOVE_ALL) };
+    ghost invariant = { λ records. length records.left.items ≡ length records.history };
+}
+
+/// Sees to it that a log has marks left: where it has none, its items are renumbered. It takes no memory.
+fn let_grow<T: Drop>(log: &mut Log<T>)
+    requires { length log.old.items < PIECES }
+    ensures same { log.new.items ≡ log.old.items }
+    ensures grow { CanGrow log.new }
+{
+    if !log.can_grow() {
+        log.renumber();
+    }
 }
 
 impl<B: Drop> Records<B> {
@@ -81,6 +91,7 @@ impl<B: Drop> Records<B> {
         ensures free { IsZeroWhereFree (events_of self.now) name result }
         ensures none { IsNewName (events_of self.now) name → result ≡ 0 }
     {
+        let _few = self.history.len();
         match self.history.position(name) {
             Some(at) => count_direct_dependents(&self.history, at) as u32,
             None => 0,
@@ -105,6 +116,8 @@ impl<B: Drop> Records<B> {
         ensures failed { IfErr result (λ e. HasFailed F.FnOnce change state.old e state.new) }
         ensures err { OnErr result (self.new ≡ self.old) }
     {
+        let _few = self.history.len();
+        let_grow(&mut self.left);
         self.left.reserve()?;
         let left = self.history.push_with(event, state, change)?;
         self.left.push_reserved(left);
@@ -155,7 +168,7 @@ impl<B: Drop> Records<B> {
     /// Takes the last step of a process out, where one stands and no event depends on it; else
     /// nothing changes. It takes no memory.
     pub fn take_last_of(&mut self, p: Proc) -> Option<Recorded<B>>
-        ensures { TakesWhereFree (λ history at. IsLastStepOf history p at) result self.old self.new }
+        ensures { TakesWhereFree (λ events at. IsLastStepOf events p at) result self.old self.new }
     {
         let at = last_of(&self.history, p)?;
         self.take_free(at)

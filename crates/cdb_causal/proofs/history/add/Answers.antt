@@ -5,13 +5,13 @@ use Rattle.cdb_causal.specs.Alone.{AreAlone}
 use Rattle.cdb_causal.specs.Bounds.{IsEventWithin, AreWithin}
 use Rattle.cdb_causal.specs.FromZero.{IsStanding}
 use Rattle.cdb_causal.specs.Listed.{AreListed}
-use Rattle.cdb_causal.specs.Named.{AreRanged}
+use Rattle.cdb_causal.specs.Named.{AreRanged, HaveNameCells}
 use Rattle.cdb_causal.specs.Own.{AreOwn, IsOwnNoted}
 use Rattle.cdb_causal.proofs.Bounding.{within_push}
 use Rattle.cdb_causal.proofs.FromOne.{new_down, lost_down}
 use Rattle.cdb_causal.proofs.Keeping.{standing_push}
 use Rattle.cdb_causal.proofs.Listing.{listed_push}
-use Rattle.cdb_causal.proofs.Naming.{ranged_push}
+use Rattle.cdb_causal.proofs.Naming.{ranged_push, name_cells_push}
 use Rattle.cdb_causal.proofs.Owning.{own_push}
 use Rattle.cdb_causal.proofs.Receives.{alone_push}
 use Rattle.cdb_log.specs.Marks.{Marked, mark}
@@ -42,6 +42,7 @@ returns-clause-indexed c =
           (own_push top bounds noted (mark old) (mark log) items event c.note.ensures.others (λ i less. let above = pushed.above i less in omega arith) indexed.own pushed.marks
           (subst (λ n. IsOwnNoted bounds noted n event) (sym pushed.last) c.note.ensures.own));
       ranged = subst AreRanged (sym pushed.items) (ranged_push items event indexed.ranged c.note.ensures.copy);
+      name_cells = subst HaveNameCells (sym pushed.items) (name_cells_push items event indexed.name_cells c.note.ensures.name_cell);
       listed =
           subst (AreListed c.note_access.new.self.lists.items (mark log)) (sym pushed.items)
           (listed_push c.args.accesses.now.lists.items c.note_access.new.self.lists.items (mark old) (mark log) c.append_to_log-mark.result items event indexed.listed c.note_access.ensures.rising c.note_access.ensures.kept c.note_access.ensures.joined pushed.above pushed.marks pushed.last);

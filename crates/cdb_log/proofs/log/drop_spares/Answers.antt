@@ -1,9 +1,11 @@
-use Rattle.std.proofs.Common.{◌≡◌, ℕ, suc, [], length, slice_index, subst}
+use Rattle.std.proofs.Common.{◌≡◌, ℕ, suc, [], length, slice_index, ap, subst, arith}
+use Rattle.std.proofs.lemmas.List.{length_push}
 use Rattle.std.specs.List.{AllByRecursion}
 use Rattle.cdb_log.specs.Ends.{piece_start}
 use Rattle.cdb_log.specs.Offsets.{AreOffsets, seen}
 use Rattle.cdb_log.specs.Pieces.{lists}
 use Rattle.cdb_log.proofs.Changing.{popped}
+use Rattle.cdb_log.proofs.Ended.{lists_long}
 use Rattle.cdb_log.proofs.Marking.{same_then, same_less}
 use Rattle.cdb_log.proofs.Offsetting.{all_front}
 use Rattle.cdb_log.proofs.log.drop_spares.Goals as goal
@@ -34,6 +36,13 @@ loop-pieces-preserved g c =
             offsets_end = o.0;
             rise = all_front (lists left_offsets.items) [] (subst (AllByRecursion AreOffsets) o.1 kept.rise);
           };
+      fewer =
+          (let before = c.loop-pieces.invariant.fewer in
+          let less = ap length p.1 in
+          let one = length_push (lists left.items) [] in
+          let long = lists_long pieces.items in
+          let long_left = lists_long left.items in
+          omega arith);
       same =
           same_then (seen c.args.pieces.now.items c.args.offsets.now.items) (seen pieces.items offsets.items) (seen left.items left_offsets.items)
           c.loop-pieces.invariant.same (same_less pieces.items left.items offsets.items left_offsets.items p.1 o.1);

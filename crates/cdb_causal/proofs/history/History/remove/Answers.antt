@@ -5,7 +5,7 @@ use Rattle.cdb_causal.specs.Bounds.{AreWithin}
 use Rattle.cdb_base.specs.declared.event.Event.TheVariants.{Step}
 use Rattle.cdb_causal.specs.FromZero.{without, IsStanding}
 use Rattle.cdb_causal.specs.Listed.{AreListed}
-use Rattle.cdb_causal.specs.Named.{AreRanged}
+use Rattle.cdb_causal.specs.Named.{AreRanged, HaveNameCells}
 use Rattle.cdb_causal.specs.Own.{AreOwn}
 use Rattle.cdb_causal.specs.Rollback.{position_before, without as without_from_one}
 use Rattle.cdb_causal.proofs.FromOne.{next_is, without_is}
@@ -13,7 +13,7 @@ use Rattle.cdb_causal.proofs.Bounding.{within_without, position_before_low, posi
 use Rattle.cdb_causal.proofs.Keeping.{standing_without}
 use Rattle.cdb_causal.proofs.Lists.{remove-without, nth_before}
 use Rattle.cdb_causal.proofs.Listing.{listed_without}
-use Rattle.cdb_causal.proofs.Naming.{ranged_without, within_named, own_named}
+use Rattle.cdb_causal.proofs.Naming.{ranged_without, name_cells_without, within_named, own_named}
 use Rattle.cdb_causal.proofs.Owning.{leaves_then, own_same, own_without}
 use Rattle.cdb_causal.proofs.Receives.{alone_kept, alone_without}
 use Rattle.cdb_log.specs.Marks.{Marked, mark, IsTakenOut}
@@ -36,7 +36,7 @@ invariant_of-self c =
     let new : Marked Event = c.take_out-event.new.self in
     let items : List Event = old.items in
     let gone : ℕ = c.args.at - 1 in
-    let removed = c.take_out-event.ensures in
+    let removed = c.take_out-event.ensures.taken_out in
     let left = removed.items ∙ remove-without items gone in
     let event = c.take_out-event.result in
     let forgotten = c.forget_own.ensures in
@@ -55,6 +55,7 @@ invariant_of-self c =
           (alone_kept c.forget.new.self c.forget_name.new.self (without items gone) (λ n. ap (λ t. slice_index t.items n) unnamed.receives)
           (alone_without c.self.inside.bounds c.forget.new.self items gone event removed.stood leaves c.self.invariant.alone));
       ranged = subst AreRanged (sym left) (ranged_without items gone c.self.invariant.ranged);
+      name_cells = subst HaveNameCells (sym left) (name_cells_without items gone c.self.invariant.name_cells);
       listed =
           subst (AreListed c.forget_access.new.self.lists.items (mark new)) (sym left)
           (listed_without old (mark new) gone c.self.inside.accesses.lists.items c.forget_access.new.self.lists.items c.self.invariant.listed c.forget_access.ensures.rising c.forget_access.ensures.kept stay);
@@ -72,8 +73,8 @@ invariant_of-self c =
 
 pub returns-clause-rest : goal.returns-clause-rest
 returns-clause-rest c =
-    c.take_out-event.ensures.items ∙ remove-without c.self.inside.events.items (c.args.at - 1) ∙ ap (λ l. without l (c.args.at - 1)) c.self.view_is
+    c.take_out-event.ensures.taken_out.items ∙ remove-without c.self.inside.events.items (c.args.at - 1) ∙ ap (λ l. without l (c.args.at - 1)) c.self.view_is
     ∙ sym (without_is c.args.self.now (c.args.at - 1)) ∙ ap (without_from_one c.args.self.now) (next_is c.args.at c.requires.from_one)
 
 pub returns-clause-event : goal.returns-clause-event
-returns-clause-event c = nth_before c.args.self.now c.args.at c.take_out-event.result c.requires.from_one (subst (λ l. slice_get l (c.args.at - 1) ≡ Some c.take_out-event.result) c.self.view_is c.take_out-event.ensures.stood)
+returns-clause-event c = nth_before c.args.self.now c.args.at c.take_out-event.result c.requires.from_one (subst (λ l. slice_get l (c.args.at - 1) ≡ Some c.take_out-event.result) c.self.view_is c.take_out-event.ensures.taken_out.stood)

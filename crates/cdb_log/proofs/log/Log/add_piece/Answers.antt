@@ -2,7 +2,7 @@ use Rattle.std.proofs.Common.{◌∷◌, [], ◌++◌, ◌∙◌, sym, ap, subst
 use Rattle.std.specs.Prelude.{IsTrue}
 use Rattle.std.specs.List.{AllByRecursion}
 use Rattle.cdb_log.specs.Ends.{piece_start, HasEnds}
-use Rattle.cdb_log.specs.Marks.{IsSameLog}
+use Rattle.cdb_log.specs.Marks.{CanGrow, IsSameLog}
 use Rattle.cdb_log.specs.Offsets.{AreOffsets, has_room, seen}
 use Rattle.cdb_log.specs.Pieces.{lists}
 use Rattle.cdb_log.proofs.Changing.{lists_more, ends_added}
@@ -18,16 +18,14 @@ invariant_of-self-2 g c =
     let kept = c.self.invariant in
     let v = c.in_ok-piece.piece in
     let o = c.in_ok-offsets.offsets in
-    let few = c.if-len-ge-PIECES.false in
-    let len = c.len.ensures in
-    let ok = c.self.inside.pieces.ok.0 in
+    let few = subst CanGrow (sym c.self.view_is) c.requires in
     let same = kept.items_end.same_length in
     let same_offsets = kept.offsets_end.same_length in
     let room = c.in_ok-piece.ensures.exact in
     let room_offsets = c.in_ok-offsets.ensures.exact in
     let is = c.push_reserved.ensures.items ∙ ap (λ l. l ++ v ∷ []) c.reserve-3.ensures.items in
     let is_offsets = c.push_reserved-2.ensures.items ∙ ap (λ l. l ++ o ∷ []) c.reserve-2.ensures.items in
-    let end_is = c.start_of-end.ensures ∙ ap (piece_start c.deref.result.now) (c.len-2.ensures ∙ sym c.deref.ensures.len) ∙ ap (λ l. piece_start l (length l)) (c.deref.ensures.value ∙ c.reserve.ensures.items) in
+    let end_is = c.start_of-end.ensures ∙ ap (piece_start c.deref.result.now) (c.len.ensures ∙ sym c.deref.ensures.len) ∙ ap (λ l. piece_start l (length l)) (c.deref.ensures.value ∙ c.reserve.ensures.items) in
     let is_ends = c.push_reserved-3.ensures.items ∙ ap (λ l. l ++ c.start_of-end.result ∷ []) c.reserve.ensures.items ∙ ap (λ n. ends ++ n ∷ []) end_is in
     record {
       items_end =

@@ -7,8 +7,8 @@ use Rattle.cdb_log.specs.Pieces.{lists}
 use Rattle.cdb_log.specs.declared.ends.TheConstants.{PIECE}
 use Rattle.cdb_log.specs.declared.log.TheConstants.{ABOVE_ALL}
 use Rattle.cdb_log.proofs.Changing.{lists_set, ends_pushed}
-use Rattle.cdb_log.proofs.Ended.{roomy_at, bounded, start_is, total}
-use Rattle.cdb_log.proofs.Marking.{opened, items_of, same_piece, pushed}
+use Rattle.cdb_log.proofs.Ended.{roomy_at, bounded}
+use Rattle.cdb_log.proofs.Marking.{opened, same_piece, pushed}
 use Rattle.cdb_log.proofs.Offsetting.{all_set, offsets_push}
 use Rattle.cdb_log.proofs.log.Log.push_reserved.Goals as goal
 
@@ -158,16 +158,3 @@ returns-clause-pushed g c =
     let u = c.push_reserved.new.self in
     subst (λ log. IsPushed log c.args.item (k * PIECE + c.next_of-offset.result) (seen (set pieces k w) (set offsets k u))) c.self.view_is
     (pushed pieces offsets ends h k c.next_of-offset.result v w o u c.args.item c.index_mut-piece.ensures.value c.index_mut-offsets.ensures.value last next_is c.push_reserved-2.ensures.items c.push_reserved.ensures.items)
-
-pub returns-clause-few : goal.returns-clause-few
-returns-clause-few g c =
-    let pieces = c.self.inside.pieces.items in
-    let ends = c.self.inside.ends.items in
-    let h = c.self.invariant.items_end in
-    let many = total pieces ends h ∙ ap (λ log. length (items_of log)) c.self.view_is in
-    let most = bounded pieces ends h (length ends) in
-    let few = h.few in
-    let long = h.same_length in
-    let start = start_is pieces ends h (length ends) (omega arith) in
-    let more = ap length (returns-clause-pushed g c).items ∙ length_push (c.args.self.now).items c.args.item in
-    omega (arith, many, most, few, long, start, more)

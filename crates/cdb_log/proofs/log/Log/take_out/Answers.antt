@@ -108,8 +108,8 @@ drop_spares-requires g c =
           (offsets_remove o.items i less_o (offsets_at (lists offsets) k o.items h.rise (lists_at offsets k o (omega arith) c.index_mut-offsets.ensures.value))));
     }
 
-pub returns : goal.returns
-returns g c =
+pub returns-clause-taken_out : goal.returns-clause-taken_out
+returns-clause-taken_out g c =
     let pieces = c.self.inside.pieces.items in
     let offsets = c.self.inside.offsets.items in
     let ends = c.self.inside.ends.items in
