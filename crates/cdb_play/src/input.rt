@@ -4,7 +4,9 @@ ghost use Rattle.std.specs.Prelude.{◌≡◌};
 
 use crate::sink::Failed;
 use crate::source::Source;
+use std::alloc::Global;
 use std::io::Read;
+use std::marker::Model;
 
 /// A reader of the standard library whose failures are counted. What it has left is what the reader has left.
 #[derive(Drop)]
@@ -65,6 +67,56 @@ impl<'a> Source for Bytes<'a> {
         let count = buffer.len().min(self.rest.len());
         buffer[..count].copy_from_slice(&self.rest[..count]);
         self.rest = &self.rest[count..];
+        Ok(count)
+    }
+}
+
+/// Bytes in memory that are not yet read. Their memory is given up as soon as the last is read.
+#[derive(Drop)]
+pub struct HeldBytes {
+    bytes: Vec<u8>,
+    /// How many of them are read.
+    read: usize,
+    alloc: Global,
+}
+
+impl Model for HeldBytes {
+    ghost use Rattle.std.specs.Prelude.{ℕ, ◌≤◌, List, drop, length};
+
+    ghost Value = { List ℕ };
+
+    ghost view = { λ held. drop held.read held.bytes.items };
+
+    ghost invariant = { λ held. held.read ≤ length held.bytes.items };
+}
+
+impl HeldBytes {
+    /// The bytes, all of them still to be read.
+    pub fn new(alloc: Global, bytes: Vec<u8>) -> Self
+        ensures { result ≡ bytes.items }
+    {
+        HeldBytes {
+            bytes,
+            read: 0,
+            alloc,
+        }
+    }
+}
+
+impl Source for HeldBytes {
+    ghost use Rattle.std.specs.Prelude.{Some};
+
+    ghost stream = { λ held. record { bytes = Some held; failures = 0 } };
+
+    fn read(&mut self, buffer: &mut [u8]) -> Result<usize, Failed> {
+        let count = buffer.len().min(self.bytes.len() - self.read);
+        let end = self.read + count;
+        buffer[..count].copy_from_slice(&self.bytes[self.read..end]);
+        self.read = end;
+        if end == self.bytes.len() {
+            self.bytes = Vec::new(self.alloc);
+            self.read = 0;
+        }
         Ok(count)
     }
 }

@@ -21,7 +21,7 @@ pub use buffer::{Buffer, OutputFault};
 pub use cdb_base::limits::MAX_BYTES;
 pub use fault::{PlayFault, RaceFault};
 pub use fault_text::{write_fault, write_race_fault};
-pub use input::{Bytes, Input};
+pub use input::{Bytes, HeldBytes, Input};
 pub use left::{left_by, write_text};
 pub use output::Output;
 pub use plays::play;

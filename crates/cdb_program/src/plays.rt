@@ -7,7 +7,7 @@ use crate::fault::{Fault, of_play};
 use crate::files::{Files, read_two};
 use crate::outside::Outside;
 use cdb_any_run::RunOfSetup;
-use cdb_play::{Bytes, Sink, Source, play};
+use cdb_play::{HeldBytes, Sink, Source, play};
 use std::alloc::Global;
 
 /// The setup that a script from standard input is played on.
@@ -43,7 +43,7 @@ pub fn play_files<'a, F: Files + Drop, I: Source + Drop, O: Sink + Drop, E: Sink
     ensures error { outside.new.error ≡ outside.old.error }
 {
     let (json, bytes) = read_two(alloc, &mut outside.files, setup, script)?;
-    let mut commands = Bytes::new(bytes.as_slice());
+    let mut commands = HeldBytes::new(alloc, bytes);
     let played = play::<RunOfSetup, _, O>(
         alloc,
         json.as_slice(),

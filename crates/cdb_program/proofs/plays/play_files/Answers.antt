@@ -1,5 +1,4 @@
-use Rattle.std.proofs.Common.{◌≡◌, ◌∙◌, ℕ, List, Some, Bor, ap, refl, inl, inr, ◌∷◌, []}
-use Rattle.cdb_play.specs.declared.input.Bytes.{Bytes}
+use Rattle.std.proofs.Common.{◌≡◌, ℕ, List, Some, refl, inl, inr, ◌∷◌, []}
 use Rattle.std.proofs.lemmas.Result.{err_from_is_err_and}
 use Rattle.cdb_program.proofs.Seen.{play_seen}
 use Rattle.cdb_program.specs.Known.{in_memory}
@@ -15,8 +14,8 @@ returns-clause-does g c =
     let json = c.in_ok-json.json.items in
     let bytes = c.in_ok-json.bytes.items in
     let said = c.play-played.ensures in
-    let json_is : c.as_slice-2.result.now ≡ json = c.as_slice-2.ensures.value in
-    let bytes_is : c.new-commands.result.rest.now ≡ bytes = ap (λ (b : Bor (List ℕ)). b.now) c.new-commands.ensures ∙ c.as_slice.ensures.value in
+    let json_is : c.as_slice.result.now ≡ json = c.as_slice.ensures.value in
+    let bytes_is : c.new-commands.result ≡ bytes = c.new-commands.ensures in
     rw (← c.outside.view_is) (
       refl,
       inr (
@@ -24,10 +23,10 @@ returns-clause-does g c =
         c.in_ok-json.ensures,
         (
           c.play-played.result,
-          Some c.play-played.new.script.rest.now,
+          Some c.play-played.new.script,
           c.of_play.ensures,
           rw (← json_is, ← bytes_is)
-              (play_seen (λ (b : Bytes). in_memory (Some b.rest.now)) g.O.Sink.stream c.as_slice-2.result.now c.play-played.result c.new-commands.result c.play-played.new.script _ _ said.wrote said.headline said.fault said.unread said.read),
+              (play_seen (λ (bytes : List ℕ). in_memory (Some bytes)) g.O.Sink.stream c.as_slice.result.now c.play-played.result c.new-commands.result c.play-played.new.script _ _ said.wrote said.headline said.fault said.unread said.read),
         ),
       ),
     )
