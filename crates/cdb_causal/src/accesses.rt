@@ -75,17 +75,11 @@ fn count_before(log: &Log<Event>, bounds: &[Mark], from: usize) -> usize
     ensures within { result ≤ length bounds.now }
     ensures before { AreAtMostMarks log.now bounds.now from result }
 {
-    let mut low = 0;
-    let mut high = bounds.len();
-    while low < high {
-        let middle = low + (high - low) / 2;
-        if log.position_above(bounds[middle]) <= from {
-            low = middle + 1;
-        } else {
-            high = middle;
-        }
+    if from >= log.len() {
+        return bounds.len();
     }
-    low
+    let mark = log.mark_at(from);
+    bounds.partition_point(|bound| *bound <= mark)
 }
 
 /// A position below which, from position `from` on, no event has a bound in the list.

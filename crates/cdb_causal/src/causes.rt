@@ -13,9 +13,6 @@ use crate::history::History;
 use cdb_base::{Event, NoMemory, StepId};
 use std::alloc::Global;
 
-/// How many later events are looked at before it is found out where the first dependent may stand.
-const NEAR: usize = 16;
-
 /// The first event from position `from` on that depends on the one at position `i`, where it stands before the end.
 fn first_among(history: &History, i: usize, from: usize, end: usize) -> Option<StepId>
     requires order { i < from }
@@ -33,21 +30,22 @@ fn first_among(history: &History, i: usize, from: usize, end: usize) -> Option<S
     None
 }
 
-/// The first event that depends on the one at position `i`, from 0: mostly one of the next.
+/// The first event that depends on the one at position `i`, from 0: mostly the one at which the first may stand.
 fn first_linked(history: &History, i: usize) -> Option<StepId>
     requires { i < length history.now }
     ensures { IsFirstLinkedOrFree history.now i result }
 {
-    let end = history.len().min(history.end_of_dependents(i));
-    let near = end.min((i + 1).saturating_add(NEAR));
-    if let Some(name) = first_among(history, i, i + 1, near) {
+    let count = history.len();
+    let start = history.start_of_dependents(i);
+    let next = count.min(start.saturating_add(1));
+    if let Some(name) = first_among(history, i, start, next) {
         return Some(name);
     }
-    if near == end {
+    if next == count {
         return None;
     }
-    let start = near.max(history.start_of_dependents(i));
-    first_among(history, i, start, end)
+    let end = count.min(history.end_of_dependents(i));
+    first_among(history, i, next, end)
 }
 
 /// The name of the first later event that depends on the one at a position, from 1 to the number of
@@ -82,8 +80,7 @@ fn rolled_back_events(alloc: Global, history: &History, i: usize) -> Result<Vec<
     causes.push(*history.event(i))?;
     let count = history.len();
     let mut end = history.end_of_dependents(i);
-    let start = history.start_of_dependents(i).max(i + 1);
-    let mut j = start.min(count);
+    let mut j = history.start_of_dependents(i).min(count);
     while j < count && j < end {
         let event = history.event(j);
         if causes.has_cause_of(event) {

@@ -301,3 +301,28 @@ module _ {T Z : Type 0} where
         (λ q. (let d = c.0 (omega arith) in omega arith), λ q. (let d = c.1 (omega arith) in omega arith)))
         (below_or_above k a.k))
         (below_or_above a.k k)
+
+    -- an item's mark, by its piece and its offset
+    pub mark_is : (position k i : ℕ) (o : Vec ℕ Z) → o ≡ get_or offsets k o → k < length pieces → position ≡ before (lists offsets) k + i → i < length o.items → mark (seen pieces offsets) position ≡ PIECE * k + slice_index o.items i
+    mark_is position k i o is_o within is_position less =
+        let f : ℕ → ℕ = λ x. PIECE * k + x in
+        let same = same_pieces in
+        let at_o = lists_at offsets k o (omega arith) is_o in
+        let long = length-map o.items f in
+        let before_same = before_marks 0 os k in
+        let here = item_at (marks_from 0 os) k (map f o.items) (marks_at 0 os k (PIECE * k) o.items (omega arith) at_o) position i (omega arith) (omega arith) in
+        get_or_from_slice_get (joined (marks_from 0 os)) position (get_or (map f o.items) i 0) 0 (here ∙ slice_get-get_or (map f o.items) i 0 (omega arith)) ∙ get_or-map f o.items i 0 0 less
+
+    -- no later item has a lower mark
+    pub mark_least : (position k i : ℕ) (o : Vec ℕ Z) → o ≡ get_or offsets k o → k < length pieces → position ≡ before (lists offsets) k + i → i < length o.items
+        → (j : ℕ) → position ≤ j → j < length (joined (lists pieces)) → PIECE * k + slice_index o.items i ≤ mark (seen pieces offsets) j
+    mark_least position k i o is_o within is_position less j le less_j =
+        let same = same_pieces in
+        let same_start = same_before k (omega arith) in
+        let are = offsets_at os k o.items h.rise (lists_at offsets k o (omega arith) is_o) in
+        let marked = position_marked k (slice_index o.items i) i o is_o within (are.small i less) (omega arith)
+        (λ n less_n. (
+          λ q. are.rise n i q less,
+          λ q. ⊎_elim (λ before. before) (λ from. ⊎_elim (λ after. let r = are.rise i n after less_n in absurd (omega arith)) (λ last. let e : n ≡ i = omega arith in let s = ap (slice_index o.items) e in absurd (omega arith)) (below_or_above i n)) (below_or_above n i),
+        )) j less_j in
+        ⊎_elim (λ lower. let b = marked.1 lower in absurd (omega arith)) (λ higher. higher) (below_or_above (mark (seen pieces offsets) j) (PIECE * k + slice_index o.items i))

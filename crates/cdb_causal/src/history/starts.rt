@@ -33,6 +33,9 @@ impl History {
         ensures { IsStartOfReceives self.now s m slot from result }
     {
         let bound = self.bounds.end_of_receives(s, m, slot);
+        if bound == 0 {
+            return self.len();
+        }
         let end = self.events.position_above(bound);
         if end <= from {
             return self.len();
@@ -52,6 +55,9 @@ impl History {
         ensures { IsStartOfLosses self.now s m slot from result }
     {
         let bound = self.bounds.end_of_losses(s, m, slot);
+        if bound == 0 {
+            return self.len();
+        }
         let end = self.events.position_above(bound);
         if end <= from {
             return self.len();
@@ -173,11 +179,21 @@ impl History {
         }
     }
 
-    /// A position, from 0, below which no event depends on the one at position `i`.
+    /// A position, from 0, behind `i` and below which no event depends on the one at position `i`.
     pub(crate) fn start_of_dependents(&self, i: usize) -> usize
         requires { i < length self.now }
-        ensures { (j : ℕ) → IsLink depends_of self.now i j → result ≤ j }
+        ensures later { i < result }
+        ensures start { (j : ℕ) → IsLink depends_of self.now i j → result ≤ j }
     {
-        self.start_of_own(i).min(self.start_of_others(i))
+        let count = self.len();
+        let next = i + 1;
+        if next >= count {
+            return next;
+        }
+        let own = self.start_of_own(i);
+        if own <= next {
+            return next;
+        }
+        own.min(self.start_of_others(i)).max(next)
     }
 }

@@ -5,6 +5,18 @@ use Rattle.cdb_causal.proofs.Starting.{stands_below, loss_below, one_loss_in}
 use Rattle.cdb_log.specs.Marks.{mark}
 use Rattle.cdb_causal.proofs.history.History.start_of_losses.Goals as goal
 
+pub returns-then-bound-eq0 : goal.returns-then-bound-eq0
+returns-then-bound-eq0 c =
+    let log = c.self.inside.events in
+    let bounds = c.self.inside.bounds in
+    let none = c.if-bound-eq0.true in
+    subst (λ h. IsStartOfLosses h c.args.s c.args.m c.args.slot c.args.from c.len.result) c.self.view_is
+    (λ j event later at is.
+    absurd
+    (let below = subst (λ b. mark log j < b) (sym c.end_of_losses-bound.ensures)
+    (loss_below bounds (mark log j) (named_copy_cell c.args.s c.args.m c.args.slot) event (c.self.invariant.within j event at) is) in
+    omega (arith, below, none)))
+
 pub returns-then-end-from : goal.returns-then-end-from
 returns-then-end-from c =
     let log = c.self.inside.events in
@@ -12,7 +24,7 @@ returns-then-end-from c =
     let end = c.position_above-end.result in
     let bound = c.end_of_losses-bound.result in
     let test = c.if-end-from.true in
-    subst (λ h. IsStartOfLosses h c.args.s c.args.m c.args.slot c.args.from c.len.result) c.self.view_is
+    subst (λ h. IsStartOfLosses h c.args.s c.args.m c.args.slot c.args.from c.len-then-end-from.result) c.self.view_is
     (λ j event later at is.
     absurd
     (let below = stands_below log end bound c.position_above-end.ensures.marks j event at
