@@ -37,15 +37,14 @@ fn first_linked(history: &History, i: usize) -> Option<StepId>
 {
     let count = history.len();
     let start = history.start_of_dependents(i);
-    let next = count.min(start.saturating_add(1));
-    if let Some(name) = first_among(history, i, start, next) {
-        return Some(name);
-    }
-    if next == count {
+    if start >= count {
         return None;
     }
+    if let Some(name) = first_among(history, i, start, start + 1) {
+        return Some(name);
+    }
     let end = count.min(history.end_of_dependents(i));
-    first_among(history, i, next, end)
+    first_among(history, i, start + 1, end)
 }
 
 /// The name of the first later event that depends on the one at a position, from 1 to the number of

@@ -131,12 +131,14 @@ impl History {
         }
     }
 
-    /// A position below which no event depends on the one at position `i`, but for steps of its process.
-    fn start_of_others(&self, i: usize) -> usize
-        requires { i < length self.now }
+    /// A position below which no event depends on the event, which stands at position `i`, but for steps of its
+    /// process.
+    fn start_of_others(&self, event: &Event, i: usize) -> usize
+        requires within { i < length self.now }
+        requires at { slice_get self.now i ≡ Some event.now }
         ensures { IsStartOfOthers self.now i result }
     {
-        match self.event(i) {
+        match event {
             Event::Step { p, kind, .. } => self.start_after_step(i, *p, *kind),
             Event::Lost(_) => self.start_by_end(i),
         }
@@ -158,7 +160,7 @@ impl History {
         if self.end_of_steps(p) <= from {
             return self.len();
         }
-        if self.end_before_step(p, k) > from {
+        if self.event(from).is_step_of(p) || self.end_before_step(p, k) > from {
             return from;
         }
         match self.position(StepId::Step(StepName { p, k })) {
@@ -167,13 +169,14 @@ impl History {
         }
     }
 
-    /// A position below which no later step stands of the process of the event at position `i`.
-    fn start_of_own(&self, i: usize) -> usize
-        requires { i < length self.now }
+    /// A position below which no later step stands of the process of the event, which stands at position `i`.
+    fn start_of_own(&self, event: &Event, i: usize) -> usize
+        requires within { i < length self.now }
+        requires at { slice_get self.now i ≡ Some event.now }
         ensures { IsStartOfOwn self.now i result }
     {
         let all = self.len();
-        match self.event(i) {
+        match event {
             Event::Step { p, k, .. } => self.start_of_steps(*p, k.saturating_add(1), i + 1),
             Event::Lost(_) => all,
         }
@@ -190,10 +193,11 @@ impl History {
         if next >= count {
             return next;
         }
-        let own = self.start_of_own(i);
+        let event = self.event(i);
+        let own = self.start_of_own(event, i);
         if own <= next {
             return next;
         }
-        own.min(self.start_of_others(i)).max(next)
+        own.min(self.start_of_others(event, i)).max(next)
     }
 }

@@ -1,4 +1,4 @@
-use Rattle.std.proofs.Common.{arith}
+use Rattle.std.proofs.Common.{◌+◌, arith}
 use Rattle.std.proofs.lemmas.Option.{slice_get_within}
 use Rattle.cdb_causal.proofs.Starting.{first_or_free}
 use Rattle.cdb_causal.proofs.causes.first_linked.Goals as goal
@@ -13,17 +13,18 @@ returns-in-Some c =
       first = λ j l. found.first j (c.start_of_dependents-start.ensures.start j l) l;
     }
 
-pub returns-then-next-count : goal.returns-then-next-count
-returns-then-next-count c =
+pub returns-then-start-count : goal.returns-then-start-count
+returns-then-start-count c =
     λ j l.
     let within = slice_get_within c.args.history.now j l.effect l.at_effect in
     let all = c.len-count.ensures.count in
-    let same = c.if-next-count.true in
-    c.in_default.ensures j (c.start_of_dependents-start.ensures.start j l) (omega (arith, within, all, same)) l
+    let past = c.if-start-count.true in
+    let low = c.start_of_dependents-start.ensures.start j l in
+    absurd (omega (arith, within, all, past, low))
 
 pub returns : goal.returns
 returns c =
-    first_or_free c.args.history.now c.args.i c.min-next.result c.min-end.result
+    first_or_free c.args.history.now c.args.i (c.start_of_dependents-start.result + 1) c.min-end.result
     (λ j less l. c.in_default.ensures j (c.start_of_dependents-start.ensures.start j l) less l)
     (λ j l.
     let within = slice_get_within c.args.history.now j l.effect l.at_effect in
