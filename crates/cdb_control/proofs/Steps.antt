@@ -20,10 +20,6 @@ use Rattle.cdb_rules.specs.Refusals.{with_taken}
 use Rattle.cdb_rules.specs.Rules.{Rules}
 use Rattle.cdb_rules.specs.Undo.{result_alone, left_by, number_removed, with_removed}
 
-pub as_step : (rules : Rules) (t : State) (seat p : ℕ) (act : Act) (o : Outcome) → o ≡ step rules t p act → o ≡ outcome rules t seat (command.Step p act)
-unfolding outcome
-as_step rules t seat p act o h = h
-
 pub as_undo : (rules : Rules) (t : State) (seat p k : ℕ) (o : Outcome) → o ≡ undo t seat (name_given (Step p k)) → o ≡ outcome rules t seat (command.Undo p k)
 unfolding outcome
 as_undo rules t seat p k o h = h

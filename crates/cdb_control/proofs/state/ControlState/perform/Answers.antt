@@ -2,15 +2,8 @@ use Rattle.std.proofs.Common.{◌≡◌, false, OnErr, sym, subst}
 use Rattle.cdb_control.specs.ToldReply.{is_refused}
 use Rattle.cdb_control.specs.Commands.{reply_of}
 use Rattle.cdb_control.specs.declared.command.Command.{Command}
-use Rattle.cdb_control.proofs.Steps.{on_err, step_granted, undo_granted, undo_lost_granted, rollback_granted, rollback_lost_granted}
+use Rattle.cdb_control.proofs.Steps.{on_err, undo_granted, undo_lost_granted, rollback_granted, rollback_lost_granted}
 use Rattle.cdb_control.proofs.state.ControlState.perform.Goals as goal
-
-pub returns-in-Step-clause-memory : goal.returns-in-Step-clause-memory
-returns-in-Step-clause-memory g c =
-    let t = c.args.self.now.state in
-    let rules = g.R.Runs.rules t.setup in
-    subst (λ (it : Command). OnErr c.step.result (is_refused (reply_of rules t c.args.seat it) ≡ false)) (sym c.in-Step.is)
-    (on_err c.step.result (step_granted rules t c.args.seat c.in-Step.p c.in-Step.act) c.step.ensures.memory)
 
 pub returns-in-Undo-clause-memory : goal.returns-in-Undo-clause-memory
 returns-in-Undo-clause-memory g c =
