@@ -1,5 +1,5 @@
 -- The command line as the code lists it.
-use Rattle.std.specs.Prelude.{List, codes, true}
+use Rattle.std.specs.Prelude.{codes, true}
 use Rattle.clap.specs.Simple.{on_top}
 use Rattle.clap.specs.Words.{App, Rule, Text, new_app, new_rule, with_rule, with_subcommand}
 use Rattle.cdb_arguments.specs.declared.command_line.Argument.{Argument}

@@ -233,12 +233,12 @@ fn argument_of<'a>(alloc: Global, argument: &Argument) -> Arg<'a>
     }
 }
 
-/// A subcommand with no arguments yet.
-fn bare<'a>(alloc: Global, name: &'a str, about: &'a str) -> Command<'a>
+/// A command with no arguments yet.
+fn bare<'a>(alloc: Global, name: &'a str, about: &'a str, after: &'a str) -> Command<'a>
     ensures app { app_of result ≡ new_app name.entry.now }
     ensures local { (out-Command result).has_globals ≡ false }
 {
-    Command::new(alloc, name).about(about).after_help(SETUPS)
+    Command::new(alloc, name).about(about).after_help(after)
 }
 
 /// The subcommand with its arguments.
@@ -246,7 +246,7 @@ fn command_of<'a>(alloc: Global, subcommand: &Subcommand) -> Result<Command<'a>,
     ensures app { IfOk result (λ command. app_of command ≡ app_named subcommand.now) }
     ensures local { IfOk result (λ command. (out-Command command).has_globals ≡ false) }
 {
-    let mut command = bare(alloc, subcommand.name(), subcommand.about());
+    let mut command = bare(alloc, subcommand.name(), subcommand.about(), SETUPS);
     for argument in subcommand.arguments() {
         command = command.arg(argument_of(alloc, argument))?;
     }
@@ -257,10 +257,8 @@ fn command_of<'a>(alloc: Global, subcommand: &Subcommand) -> Result<Command<'a>,
 fn bare_program<'a>(alloc: Global) -> Command<'a>
     ensures { app_of result ≡ bare_program }
 {
-    Command::new(alloc, "revdbg")
+    bare(alloc, "revdbg", ABOUT, LINES)
         .version(VERSION)
-        .about(ABOUT)
-        .after_help(LINES)
         .disable_help_subcommand(true)
 }
 
