@@ -505,7 +505,6 @@ impl<R: Runs> ControlState<R> {
     }
 
     /// Carries a command of a seat out.
-    #[tactic(auto, using(crate::proofs::Steps::as_undo, crate::proofs::Steps::as_undo_lost, crate::proofs::Steps::as_rollback, crate::proofs::Steps::as_rollback_lost, crate::proofs::Steps::as_why, crate::proofs::Steps::as_why_lost))]
     pub fn perform(&mut self, alloc: Global, seat: u8, command: Command) -> Result<Reply, NoMemory>
         requires from_one { 1 ≤ seat }
         requires to_last { seat ≤ length self.old.state.redo }
