@@ -1,5 +1,6 @@
 pub mod CommandLine
 pub mod Given
+pub mod Named
 pub mod PlainWords
 pub mod Values
 pub mod Lines

@@ -1,6 +1,7 @@
 //! The command line of `revdbg`: what its arguments ask for, read by `clap`.
 #![tactic(auto)]
 
+mod command_line;
 mod limits;
 mod reading;
 mod request;

@@ -1,10 +1,11 @@
 -- Commands that share a word of the table.
-use Rattle.std.proofs.Common.{◌≡◌, ℕ, ◌-◌, false, IsOk, OnErr, List, [], ◌∷◌, ◌++◌, length, set, Option, Some, None, Result, Ok, Err, refl, sym, ap, ◌∙◌, true≢false}
+use Rattle.std.proofs.Common.{◌≡◌, ℕ, ◌-◌, false, IsOk, IfOk, OnErr, subst, List, [], ◌∷◌, ◌++◌, length, set, Option, Some, None, Result, Ok, Err, refl, sym, ap, ◌∙◌, true≢false}
 use Rattle.std.proofs.lemmas.List.{set-get_or}
 use Rattle.std.proofs.lemmas.Option.{none-some}
 use Rattle.std.specs.Result.{result_err}
 use Rattle.cdb_base.specs.Positions.{without_last}
 use Rattle.cdb_base.specs.declared.act.Act.{Act}
+use Rattle.cdb_base.specs.declared.no_memory.NoMemory.{NoMemory}
 use Rattle.cdb_base.specs.declared.event.Event.{Event}
 use Rattle.cdb_base.specs.declared.refusal.Refusal.{Refusal}
 use Rattle.cdb_base.specs.declared.refusal.Refusal.TheVariants.{NothingToRedo}
@@ -14,61 +15,66 @@ use Rattle.cdb_control.specs.Auto.{choice}
 use Rattle.cdb_control.specs.Commands.{Outcome, granted, found, unpaused, undone_by, redone, decides, step, undo, rollback, why, reply_of, outcome}
 use Rattle.cdb_rules.specs.EventRefs.{name_given}
 use Rattle.cdb_control.specs.State.{State, redo_of, last_of}
+use Rattle.cdb_control.specs.Done.{CameOutAs, IsNoRefusal}
+use Rattle.cdb_control.specs.declared.command.Command.{Command}
 use Rattle.cdb_control.specs.declared.command.Command.TheVariants as command
+use Rattle.cdb_control.specs.declared.reply.Reply.{Reply}
 use Rattle.cdb_rules.specs.declared.event_ref.EventRef.TheVariants.{Step, Lost}
 use Rattle.cdb_rules.specs.Refusals.{with_taken}
 use Rattle.cdb_rules.specs.Rules.{Rules}
 use Rattle.cdb_rules.specs.Undo.{result_alone, left_by, number_removed, with_removed}
 
-pub as_step : (rules : Rules) (t : State) (seat p : ℕ) (act : Act) (o : Outcome) → o ≡ step rules t p act → o ≡ outcome rules t seat (command.Step p act)
+pub undo_ok : (rules : Rules) (t u : State) (seat p k : ℕ) (it : Command) (r : Result Reply NoMemory) → it ≡ command.Undo p k
+    → IfOk r (CameOutAs (undo t seat (name_given (Step p k))) u) → IfOk r (CameOutAs (outcome rules t seat it) u)
 unfolding outcome
-as_step rules t seat p act o h = h
+undo_ok rules t u seat p k it r is ok = subst (λ (c : Command). IfOk r (CameOutAs (outcome rules t seat c) u)) (sym is) ok
 
-pub as_undo : (rules : Rules) (t : State) (seat p k : ℕ) (o : Outcome) → o ≡ undo t seat (name_given (Step p k)) → o ≡ outcome rules t seat (command.Undo p k)
+pub undo_lost_ok : (rules : Rules) (t u : State) (seat s m p : ℕ) (it : Command) (r : Result Reply NoMemory) → it ≡ command.UndoLost s m p
+    → IfOk r (CameOutAs (undo t seat (name_given (Lost s m p))) u) → IfOk r (CameOutAs (outcome rules t seat it) u)
 unfolding outcome
-as_undo rules t seat p k o h = h
+undo_lost_ok rules t u seat s m p it r is ok = subst (λ (c : Command). IfOk r (CameOutAs (outcome rules t seat c) u)) (sym is) ok
 
-pub as_undo_lost : (rules : Rules) (t : State) (seat s m p : ℕ) (o : Outcome) → o ≡ undo t seat (name_given (Lost s m p)) → o ≡ outcome rules t seat (command.UndoLost s m p)
+pub rollback_ok : (rules : Rules) (t u : State) (seat p k : ℕ) (it : Command) (r : Result Reply NoMemory) → it ≡ command.Rollback p k
+    → IfOk r (CameOutAs (rollback t seat (name_given (Step p k))) u) → IfOk r (CameOutAs (outcome rules t seat it) u)
 unfolding outcome
-as_undo_lost rules t seat s m p o h = h
+rollback_ok rules t u seat p k it r is ok = subst (λ (c : Command). IfOk r (CameOutAs (outcome rules t seat c) u)) (sym is) ok
 
-pub as_rollback : (rules : Rules) (t : State) (seat p k : ℕ) (o : Outcome) → o ≡ rollback t seat (name_given (Step p k)) → o ≡ outcome rules t seat (command.Rollback p k)
+pub rollback_lost_ok : (rules : Rules) (t u : State) (seat s m p : ℕ) (it : Command) (r : Result Reply NoMemory) → it ≡ command.RollbackLost s m p
+    → IfOk r (CameOutAs (rollback t seat (name_given (Lost s m p))) u) → IfOk r (CameOutAs (outcome rules t seat it) u)
 unfolding outcome
-as_rollback rules t seat p k o h = h
+rollback_lost_ok rules t u seat s m p it r is ok = subst (λ (c : Command). IfOk r (CameOutAs (outcome rules t seat c) u)) (sym is) ok
 
-pub as_rollback_lost : (rules : Rules) (t : State) (seat s m p : ℕ) (o : Outcome) → o ≡ rollback t seat (name_given (Lost s m p)) → o ≡ outcome rules t seat (command.RollbackLost s m p)
+pub why_ok : (rules : Rules) (t : State) (seat p k : ℕ) (it : Command) (r : Reply) → it ≡ command.Why p k
+    → CameOutAs (why t (name_given (Step p k))) t r → CameOutAs (outcome rules t seat it) t r
 unfolding outcome
-as_rollback_lost rules t seat s m p o h = h
+why_ok rules t seat p k it r is ok = subst (λ (c : Command). CameOutAs (outcome rules t seat c) t r) (sym is) ok
 
-pub as_why : (rules : Rules) (t : State) (seat p k : ℕ) (o : Outcome) → o ≡ why t (name_given (Step p k)) → o ≡ outcome rules t seat (command.Why p k)
+pub why_lost_ok : (rules : Rules) (t : State) (seat s m p : ℕ) (it : Command) (r : Reply) → it ≡ command.WhyLost s m p
+    → CameOutAs (why t (name_given (Lost s m p))) t r → CameOutAs (outcome rules t seat it) t r
 unfolding outcome
-as_why rules t seat p k o h = h
-
-pub as_why_lost : (rules : Rules) (t : State) (seat s m p : ℕ) (o : Outcome) → o ≡ why t (name_given (Lost s m p)) → o ≡ outcome rules t seat (command.WhyLost s m p)
-unfolding outcome
-as_why_lost rules t seat s m p o h = h
+why_lost_ok rules t seat s m p it r is ok = subst (λ (c : Command). CameOutAs (outcome rules t seat c) t r) (sym is) ok
 
 -- ---- commands that are not refused
 
-pub step_granted : (rules : Rules) (t : State) (seat p : ℕ) (act : Act) → is_refused (step rules t p act).reply ≡ false → is_refused (reply_of rules t seat (command.Step p act)) ≡ false
+pub undo_granted : (rules : Rules) (t : State) (seat p k : ℕ) (it : Command) (r : Result Reply NoMemory) → it ≡ command.Undo p k
+    → OnErr r (IsNoRefusal (undo t seat (name_given (Step p k)))) → OnErr r (IsNoRefusal (outcome rules t seat it))
 unfolding outcome
-step_granted rules t seat p act h = h
+undo_granted rules t seat p k it r is memory = subst (λ (c : Command). OnErr r (IsNoRefusal (outcome rules t seat c))) (sym is) memory
 
-pub undo_granted : (rules : Rules) (t : State) (seat p k : ℕ) → is_refused (undo t seat (name_given (Step p k))).reply ≡ false → is_refused (reply_of rules t seat (command.Undo p k)) ≡ false
+pub undo_lost_granted : (rules : Rules) (t : State) (seat s m p : ℕ) (it : Command) (r : Result Reply NoMemory) → it ≡ command.UndoLost s m p
+    → OnErr r (IsNoRefusal (undo t seat (name_given (Lost s m p)))) → OnErr r (IsNoRefusal (outcome rules t seat it))
 unfolding outcome
-undo_granted rules t seat p k h = h
+undo_lost_granted rules t seat s m p it r is memory = subst (λ (c : Command). OnErr r (IsNoRefusal (outcome rules t seat c))) (sym is) memory
 
-pub undo_lost_granted : (rules : Rules) (t : State) (seat s m p : ℕ) → is_refused (undo t seat (name_given (Lost s m p))).reply ≡ false → is_refused (reply_of rules t seat (command.UndoLost s m p)) ≡ false
+pub rollback_granted : (rules : Rules) (t : State) (seat p k : ℕ) (it : Command) (r : Result Reply NoMemory) → it ≡ command.Rollback p k
+    → OnErr r (IsNoRefusal (rollback t seat (name_given (Step p k)))) → OnErr r (IsNoRefusal (outcome rules t seat it))
 unfolding outcome
-undo_lost_granted rules t seat s m p h = h
+rollback_granted rules t seat p k it r is memory = subst (λ (c : Command). OnErr r (IsNoRefusal (outcome rules t seat c))) (sym is) memory
 
-pub rollback_granted : (rules : Rules) (t : State) (seat p k : ℕ) → is_refused (rollback t seat (name_given (Step p k))).reply ≡ false → is_refused (reply_of rules t seat (command.Rollback p k)) ≡ false
+pub rollback_lost_granted : (rules : Rules) (t : State) (seat s m p : ℕ) (it : Command) (r : Result Reply NoMemory) → it ≡ command.RollbackLost s m p
+    → OnErr r (IsNoRefusal (rollback t seat (name_given (Lost s m p)))) → OnErr r (IsNoRefusal (outcome rules t seat it))
 unfolding outcome
-rollback_granted rules t seat p k h = h
-
-pub rollback_lost_granted : (rules : Rules) (t : State) (seat s m p : ℕ) → is_refused (rollback t seat (name_given (Lost s m p))).reply ≡ false → is_refused (reply_of rules t seat (command.RollbackLost s m p)) ≡ false
-unfolding outcome
-rollback_lost_granted rules t seat s m p h = h
+rollback_lost_granted rules t seat s m p it r is memory = subst (λ (c : Command). OnErr r (IsNoRefusal (outcome rules t seat c))) (sym is) memory
 
 -- what is granted is answered as what it goes on to
 pub granted_goes_on : {A : Type 0} (x : Result A Refusal) (t : State) (go : A → Outcome) → IsOk x → ((a : A) → is_refused (go a).reply ≡ false) → is_refused (granted x t go).reply ≡ false

@@ -3,7 +3,7 @@
 use cdb_base::{Act, Reg};
 
 /// What a breakpoint waits for. It looks at the steps that `step` and `auto` take.
-#[derive(Clone, Copy, Debug, PartialEq, Eq)]
+#[derive(Clone, Copy, PartialEq, Eq)]
 pub enum Stop {
     /// A step that gives the process its decision.
     Decide(u32),
@@ -16,7 +16,7 @@ pub enum Stop {
 }
 
 /// What is to be shown.
-#[derive(Clone, Copy, Debug, PartialEq, Eq)]
+#[derive(Clone, Copy, PartialEq, Eq)]
 pub enum View {
     Proc(u32),
     Regs,
@@ -26,7 +26,7 @@ pub enum View {
 
 /// A command of a session. The numbers are as the session gave them; those of a loss are the sender
 /// and the number of the message, and the process for which the copy was meant.
-#[derive(Clone, Copy, Debug, PartialEq, Eq)]
+#[derive(Clone, Copy, PartialEq, Eq)]
 pub enum Command {
     Step(u32, Act),
     Auto(u32),

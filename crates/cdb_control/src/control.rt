@@ -20,7 +20,7 @@ use std::fmt;
 use std::marker::Model;
 
 /// One entry of a journal.
-#[derive(Clone, Copy, Debug, PartialEq)]
+#[derive(Clone, Copy)]
 pub struct Entry {
     pub seat: u8,
     pub command: Command,

@@ -5,7 +5,7 @@ ghost use Rattle.cdb_base.specs.declared.limits.TheConstants.{MAX_ENTRIES};
 ghost use Rattle.cdb_control.specs.Done.{came_out, CameOutAs, IsCarriedOut, IsCarriedOutForAny, IsNoRefusal, IsGranted, IsGrantedFromAny, NoneShrinks};
 ghost use Rattle.cdb_control.specs.Auto.{choice};
 ghost use Rattle.cdb_rules.specs.Auto.{first_act_of};
-ghost use Rattle.cdb_control.specs.Commands.{step, undo, rollback, why, show, decides, newly_fired, last_step, step_told};
+ghost use Rattle.cdb_control.specs.Commands.{undo, rollback, why, show, decides, newly_fired, last_step, step_told};
 ghost use Rattle.cdb_rules.specs.EventRefs.{name_given};
 ghost use Rattle.cdb_rules.specs.Runs.{with_result};
 ghost use Rattle.cdb_rules.specs.Step.{is_among};
@@ -351,12 +351,13 @@ impl<R: Runs> ControlState<R> {
 
     /// Takes a step.
     #[inline(never)]
+    #[tactic(auto, unfolding(crate::specs::Commands::outcome))]
     pub fn step(&mut self, alloc: Global, p: u32, act: Act) -> Result<Reply, NoMemory>
         ensures ok { IfOk result
-            (CameOutAs (step (R.rules self.old.state.setup) self.old.state p act) self.new.state) }
+            (IsCarriedOutForAny R.rules self.old.state (Command.Step p act) self.new.state) }
         ensures err { OnErr result (self.new.state ≡ self.old.state) }
         ensures memory { OnErr result
-            (IsNoRefusal (step (R.rules self.old.state.setup) self.old.state p act)) }
+            (IsGrantedFromAny R.rules self.old.state (Command.Step p act)) }
         ensures kept { self.new.capacities ≡ self.old.capacities }
     {
         let round_before = self.round_of(p);
@@ -505,7 +506,6 @@ impl<R: Runs> ControlState<R> {
     }
 
     /// Carries a command of a seat out.
-    #[tactic(auto, using(crate::proofs::Steps::as_step, crate::proofs::Steps::as_undo, crate::proofs::Steps::as_undo_lost, crate::proofs::Steps::as_rollback, crate::proofs::Steps::as_rollback_lost, crate::proofs::Steps::as_why, crate::proofs::Steps::as_why_lost))]
     pub fn perform(&mut self, alloc: Global, seat: u8, command: Command) -> Result<Reply, NoMemory>
         requires from_one { 1 ≤ seat }
         requires to_last { seat ≤ length self.old.state.redo }

@@ -14,7 +14,7 @@ use std::alloc::Global;
 use std::marker::Model;
 
 /// What breakpoints look at in a step that was taken.
-#[derive(Clone, Copy, Debug, PartialEq)]
+#[derive(Clone, Copy)]
 pub struct TakenStep {
     pub event: Event,
     pub decides: Option<Val>,

@@ -10,7 +10,7 @@ use cdb_control::Command;
 use cdb_text::{LineFault, parse_line};
 
 /// What a line asks for.
-#[derive(Clone, Copy, Debug, PartialEq, Eq)]
+#[derive(Clone, Copy, PartialEq, Eq)]
 pub enum Request {
     /// The command, by the seat that the session is at.
     Call(Command),

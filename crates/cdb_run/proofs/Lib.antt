@@ -3,6 +3,7 @@ pub mod Starting
 pub mod FirstStep
 pub mod Held
 pub mod Stepping
+pub mod Planned
 pub mod Admitting
 pub mod Views
 -- an event is taken back by its record, whatever came later

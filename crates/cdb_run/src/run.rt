@@ -124,6 +124,25 @@ impl<P: Process> Run<P> {
         }
     }
 
+    /// Takes the event that is planned, or returns the refusal. A refused growth changes nothing.
+    fn take_planned(
+        &mut self,
+        alloc: Global,
+        planned: Result<Event, Refusal>,
+    ) -> Result<Result<Event, Refusal>, NoMemory>
+        requires { IfOk planned (λ event. IsNext P.table self.old event) }
+        ensures returns { IfOk result (λ r. r ≡ planned) }
+        ensures after { IfOk result (λ r. self.new ≡ with_result self.old r) }
+        ensures undoable { IfOk result (λ r. IfOk r (λ e. IsJustTaken self.new e self.old)) }
+        ensures err { OnErr result (self.new ≡ self.old) }
+        ensures memory { OnErr result (IsOk planned) }
+    {
+        if let Ok(event) = &planned {
+            self.take(alloc, event)?;
+        }
+        Ok(planned)
+    }
+
     /// The process of that number, where the run has it.
     pub fn process(&self, p: u32) -> Option<Proc>
         ensures number { IsNumberAmong self.now.setup.processes p result }
@@ -183,13 +202,8 @@ impl<P: Process> Run<P> {
         ensures err { OnErr result (self.new ≡ self.old) }
         ensures memory { OnErr result (IsOk (result_of_step P.table self.old p act)) }
     {
-        match self.plan(p, act) {
-            Ok(event) => {
-                self.take(alloc, &event)?;
-                Ok(Ok(event))
-            }
-            Err(refusal) => Ok(Err(refusal)),
-        }
+        let planned = self.plan(p, act);
+        self.take_planned(alloc, planned)
     }
 
     /// The step in which process `p` learns, where it is not refused.
@@ -252,13 +266,8 @@ impl<P: Process> Run<P> {
         ensures err { OnErr result (self.new ≡ self.old) }
         ensures memory { OnErr result (IsOk (first_step_in P.table self.old p)) }
     {
-        match self.plan_first(p) {
-            Ok(event) => {
-                self.take(alloc, &event)?;
-                Ok(Ok(event))
-            }
-            Err(refusal) => Ok(Err(refusal)),
-        }
+        let planned = self.plan_first(p);
+        self.take_planned(alloc, planned)
     }
 
     /// What taking an undone event again returns.
@@ -304,10 +313,7 @@ impl<P: Process> Run<P> {
         ensures memory { OnErr result (IsOk (result_of_again P.table self.old event.now)) }
     {
         let returned = self.plan_again(event);
-        if returned.is_ok() {
-            self.take(alloc, event)?;
-        }
-        Ok(returned)
+        self.take_planned(alloc, returned)
     }
 
     /// Loses the copy of the `m`-th message of process `s` for process `p`, or returns the first
@@ -326,13 +332,8 @@ impl<P: Process> Run<P> {
         ensures err { OnErr result (self.new ≡ self.old) }
         ensures memory { OnErr result (IsOk (result_of_loss P.table self.old s m p)) }
     {
-        match self.plan_loss(s, m, p) {
-            Ok(event) => {
-                self.take(alloc, &event)?;
-                Ok(Ok(event))
-            }
-            Err(refusal) => Ok(Err(refusal)),
-        }
+        let planned = self.plan_loss(s, m, p);
+        self.take_planned(alloc, planned)
     }
 
     /// What losing a copy returns.

@@ -93,16 +93,15 @@ impl fmt::Display for SetupFault {
             return f.write_str("no memory");
         };
         let name = self.name();
+        write!(f, "setup fault {number} {name}")?;
         match self {
             SetupFault::Missing(key) => {
                 let key = key.name();
-                write!(f, "setup fault {number} {name} {key}")
+                write!(f, " {key}")
             }
-            SetupFault::BadInput(position) => write!(f, "setup fault {number} {name} {position}"),
-            SetupFault::BadOracle(process, position) => {
-                write!(f, "setup fault {number} {name} {process} {position}")
-            }
-            _ => write!(f, "setup fault {number} {name}"),
+            SetupFault::BadInput(position) => write!(f, " {position}"),
+            SetupFault::BadOracle(process, position) => write!(f, " {process} {position}"),
+            _ => Ok(()),
         }
     }
 }

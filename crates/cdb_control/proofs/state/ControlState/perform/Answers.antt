@@ -1,41 +1,52 @@
-use Rattle.std.proofs.Common.{◌≡◌, false, OnErr, sym, subst}
-use Rattle.cdb_control.specs.ToldReply.{is_refused}
-use Rattle.cdb_control.specs.Commands.{reply_of}
-use Rattle.cdb_control.specs.declared.command.Command.{Command}
-use Rattle.cdb_control.proofs.Steps.{on_err, step_granted, undo_granted, undo_lost_granted, rollback_granted, rollback_lost_granted}
+use Rattle.cdb_control.proofs.Steps.{undo_ok, undo_lost_ok, rollback_ok, rollback_lost_ok, why_ok, why_lost_ok, undo_granted, undo_lost_granted, rollback_granted, rollback_lost_granted}
 use Rattle.cdb_control.proofs.state.ControlState.perform.Goals as goal
 
-pub returns-in-Step-clause-memory : goal.returns-in-Step-clause-memory
-returns-in-Step-clause-memory g c =
+pub returns-in-Undo-clause-ok : goal.returns-in-Undo-clause-ok
+returns-in-Undo-clause-ok g c =
     let t = c.args.self.now.state in
-    let rules = g.R.Runs.rules t.setup in
-    subst (λ (it : Command). OnErr c.step.result (is_refused (reply_of rules t c.args.seat it) ≡ false)) (sym c.in-Step.is)
-    (on_err c.step.result (step_granted rules t c.args.seat c.in-Step.p c.in-Step.act) c.step.ensures.memory)
+    undo_ok (g.R.Runs.rules t.setup) t c.undo.new.self.state c.args.seat c.in-Undo.p c.in-Undo.k c.args.command c.undo.result c.in-Undo.is c.undo.ensures.ok
 
 pub returns-in-Undo-clause-memory : goal.returns-in-Undo-clause-memory
 returns-in-Undo-clause-memory g c =
     let t = c.args.self.now.state in
-    let rules = g.R.Runs.rules t.setup in
-    subst (λ (it : Command). OnErr c.undo.result (is_refused (reply_of rules t c.args.seat it) ≡ false)) (sym c.in-Undo.is)
-    (on_err c.undo.result (undo_granted rules t c.args.seat c.in-Undo.p c.in-Undo.k) c.undo.ensures.memory)
+    undo_granted (g.R.Runs.rules t.setup) t c.args.seat c.in-Undo.p c.in-Undo.k c.args.command c.undo.result c.in-Undo.is c.undo.ensures.memory
+
+pub returns-in-UndoLost-clause-ok : goal.returns-in-UndoLost-clause-ok
+returns-in-UndoLost-clause-ok g c =
+    let t = c.args.self.now.state in
+    undo_lost_ok (g.R.Runs.rules t.setup) t c.undo-in-UndoLost.new.self.state c.args.seat c.in-UndoLost.s c.in-UndoLost.m c.in-UndoLost.p c.args.command c.undo-in-UndoLost.result c.in-UndoLost.is c.undo-in-UndoLost.ensures.ok
 
 pub returns-in-UndoLost-clause-memory : goal.returns-in-UndoLost-clause-memory
 returns-in-UndoLost-clause-memory g c =
     let t = c.args.self.now.state in
-    let rules = g.R.Runs.rules t.setup in
-    subst (λ (it : Command). OnErr c.undo-in-UndoLost.result (is_refused (reply_of rules t c.args.seat it) ≡ false)) (sym c.in-UndoLost.is)
-    (on_err c.undo-in-UndoLost.result (undo_lost_granted rules t c.args.seat c.in-UndoLost.s c.in-UndoLost.m c.in-UndoLost.p) c.undo-in-UndoLost.ensures.memory)
+    undo_lost_granted (g.R.Runs.rules t.setup) t c.args.seat c.in-UndoLost.s c.in-UndoLost.m c.in-UndoLost.p c.args.command c.undo-in-UndoLost.result c.in-UndoLost.is c.undo-in-UndoLost.ensures.memory
+
+pub returns-in-Rollback-clause-ok : goal.returns-in-Rollback-clause-ok
+returns-in-Rollback-clause-ok g c =
+    let t = c.args.self.now.state in
+    rollback_ok (g.R.Runs.rules t.setup) t c.rollback.new.self.state c.args.seat c.in-Rollback.p c.in-Rollback.k c.args.command c.rollback.result c.in-Rollback.is c.rollback.ensures.ok
 
 pub returns-in-Rollback-clause-memory : goal.returns-in-Rollback-clause-memory
 returns-in-Rollback-clause-memory g c =
     let t = c.args.self.now.state in
-    let rules = g.R.Runs.rules t.setup in
-    subst (λ (it : Command). OnErr c.rollback.result (is_refused (reply_of rules t c.args.seat it) ≡ false)) (sym c.in-Rollback.is)
-    (on_err c.rollback.result (rollback_granted rules t c.args.seat c.in-Rollback.p c.in-Rollback.k) c.rollback.ensures.memory)
+    rollback_granted (g.R.Runs.rules t.setup) t c.args.seat c.in-Rollback.p c.in-Rollback.k c.args.command c.rollback.result c.in-Rollback.is c.rollback.ensures.memory
+
+pub returns-in-RollbackLost-clause-ok : goal.returns-in-RollbackLost-clause-ok
+returns-in-RollbackLost-clause-ok g c =
+    let t = c.args.self.now.state in
+    rollback_lost_ok (g.R.Runs.rules t.setup) t c.rollback-in-RollbackLost.new.self.state c.args.seat c.in-RollbackLost.s c.in-RollbackLost.m c.in-RollbackLost.p c.args.command c.rollback-in-RollbackLost.result c.in-RollbackLost.is c.rollback-in-RollbackLost.ensures.ok
 
 pub returns-in-RollbackLost-clause-memory : goal.returns-in-RollbackLost-clause-memory
 returns-in-RollbackLost-clause-memory g c =
     let t = c.args.self.now.state in
-    let rules = g.R.Runs.rules t.setup in
-    subst (λ (it : Command). OnErr c.rollback-in-RollbackLost.result (is_refused (reply_of rules t c.args.seat it) ≡ false)) (sym c.in-RollbackLost.is)
-    (on_err c.rollback-in-RollbackLost.result (rollback_lost_granted rules t c.args.seat c.in-RollbackLost.s c.in-RollbackLost.m c.in-RollbackLost.p) c.rollback-in-RollbackLost.ensures.memory)
+    rollback_lost_granted (g.R.Runs.rules t.setup) t c.args.seat c.in-RollbackLost.s c.in-RollbackLost.m c.in-RollbackLost.p c.args.command c.rollback-in-RollbackLost.result c.in-RollbackLost.is c.rollback-in-RollbackLost.ensures.memory
+
+pub returns-in-Why-clause-ok : goal.returns-in-Why-clause-ok
+returns-in-Why-clause-ok g c =
+    let t = c.args.self.now.state in
+    why_ok (g.R.Runs.rules t.setup) t c.args.seat c.in-Why.p c.in-Why.k c.args.command c.why.result c.in-Why.is c.why.ensures
+
+pub returns-in-WhyLost-clause-ok : goal.returns-in-WhyLost-clause-ok
+returns-in-WhyLost-clause-ok g c =
+    let t = c.args.self.now.state in
+    why_lost_ok (g.R.Runs.rules t.setup) t c.args.seat c.in-WhyLost.s c.in-WhyLost.m c.in-WhyLost.p c.args.command c.why-in-WhyLost.result c.in-WhyLost.is c.why-in-WhyLost.ensures

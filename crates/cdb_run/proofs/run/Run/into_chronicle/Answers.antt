@@ -1,4 +1,4 @@
-use Rattle.std.proofs.Common.{subst}
+use Rattle.std.proofs.Common.{rules, subst}
 use Rattle.cdb_rules.specs.RunView.{RunView}
 use Rattle.cdb_rules.specs.Runs.{IsInOrder}
 use Rattle.cdb_run.proofs.Views.{history_valid}
@@ -8,3 +8,6 @@ pub returns-clause-valid : goal.returns-clause-valid
 returns-clause-valid g c =
     let process = g.P.Process in
     subst (λ (s : RunView). IsInOrder process.table s) c.self.view_is (history_valid c.self.invariant)
+
+pub returns-clause-run : goal.returns-clause-run
+returns-clause-run g c = search rules

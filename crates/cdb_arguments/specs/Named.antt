@@ -1,0 +1,43 @@
+-- The command line as the code lists it.
+use Rattle.std.specs.Prelude.{codes, true}
+use Rattle.clap.specs.Simple.{on_top}
+use Rattle.clap.specs.Words.{App, Rule, Text, new_app, new_rule, with_rule, with_subcommand}
+use Rattle.cdb_arguments.specs.declared.command_line.Argument.{Argument}
+use Rattle.cdb_arguments.specs.declared.command_line.Argument.TheVariants as arg
+use Rattle.cdb_arguments.specs.declared.command_line.Subcommand.{Subcommand}
+use Rattle.cdb_arguments.specs.declared.command_line.Subcommand.TheVariants as sub
+use Rattle.cdb_arguments.specs.CommandLine.{required_rule, turns_rule, numbered, several, play_app, race_app, explain_app, draw_app, debug_app}
+
+abbrev pub rule_named : Argument → Rule
+rule_named arg.Setup = required_rule (codes "SETUP")
+rule_named arg.Script = required_rule (codes "SCRIPT")
+rule_named arg.Turns = turns_rule
+rule_named arg.Scripts = several (required_rule (codes "SCRIPT"))
+rule_named arg.Process = numbered (required_rule (codes "P"))
+rule_named arg.AnyProcess = numbered (new_rule (codes "P"))
+rule_named arg.Step = numbered (new_rule (codes "K"))
+rule_named arg.Seats = several (new_rule (codes "SEAT"))
+
+abbrev pub with_argument : App → Argument → App
+with_argument app argument = with_rule app (rule_named argument)
+
+abbrev pub name_of : Subcommand → Text
+name_of sub.Play = codes "play"
+name_of sub.Race = codes "race"
+name_of sub.Explain = codes "explain"
+name_of sub.Draw = codes "draw"
+name_of sub.Debug = codes "debug"
+
+abbrev pub app_named : Subcommand → App
+app_named sub.Play = play_app
+app_named sub.Race = race_app
+app_named sub.Explain = explain_app
+app_named sub.Draw = draw_app
+app_named sub.Debug = debug_app
+
+abbrev pub with_named : App → Subcommand → App
+with_named app subcommand = with_subcommand app (app_named subcommand).top
+
+-- the program without its subcommands
+abbrev pub bare_program : App
+bare_program = on_top (λ s. record s { has_version = true; disable_help_subcommand = true }) (new_app (codes "revdbg"))

@@ -1,0 +1,287 @@
+//! The command line, as `clap` is told of it.
+
+ghost use Rattle.std.specs.Prelude.{◌≡◌, IfOk, [], false, true, codes, fold};
+ghost use Rattle.clap.specs.Words.{app_of, new_app, new_rule, rule_of};
+ghost use Rattle.clap.specs.declared.builder.command.Command.TheViews.{out-Command};
+ghost use Rattle.cdb_arguments.specs.CommandLine.{required_rule, turns_rule, numbered, several, program};
+ghost use Rattle.cdb_arguments.specs.Named.{rule_named, name_of, app_named, with_argument, with_named, bare_program};
+
+use clap::{Arg, Command};
+use std::alloc::{AllocError, Global};
+
+/// The version that `--version` prints after the program's name.
+const VERSION: &str = "1.0.0";
+
+const ABOUT: &str =
+    "A reversible debugger for consensus algorithms: plays the commands of a script on one run, and
+prints each reply.";
+
+const PLAY: &str = "Plays a script, one command after the other";
+
+const RACE: &str =
+    "Plays each script and drives each process, each in a thread of its own, all on one run";
+
+const EXPLAIN: &str =
+    "Plays a script, and prints what led to a step: the events, with their causes";
+
+const DRAW: &str =
+    "Plays a script, and prints a picture of the run in SVG; what led to a step stands out";
+
+const DEBUG: &str = "Carries each command out before the next is read, for one user or for several";
+
+const LINES: &str =
+    "Without a subcommand it plays the script on standard input, on one process that proposes 7.
+
+Commands of a script, one a line (P, S, L: processes; K: a step of P; M: a message of S):
+  auto P                P takes the first step that is possible
+  step P go             P takes its own next step: send, read, write or compute
+  step P query          P asks its oracle, and gets the setup's next answer
+  step P query L        P asks its oracle, and gets L
+  step P recv S M       P receives its copy of message S#M
+  step P learn          P takes over a decision that it received
+  step P crash          P crashes
+  lose S M P            the network loses the copy of S#M for P (version 2)
+  undo P K              undoes step K of P, unless a later event needs it
+  undo lost S M P       undoes the loss of the copy of S#M for P
+  rollback P K          undoes step K of P with all that needs it
+  rollback lost S M P   undoes the loss of the copy of S#M for P
+  redo                  takes the last undone event again
+  forget                empties the list of undone events
+  why P K               names the events that step K of P needs directly
+  why lost S M P        names the send of the lost copy
+  break decide P        pauses auto where P decides
+  break round P R       pauses auto where P enters round R
+  break recv P          pauses auto where P receives a message
+  break write X         pauses auto where register X is written: r1 to r9 or dec
+  unbreak B             removes breakpoint B
+  resume                ends the pause
+  show P                shows process P
+  show regs             shows the registers
+  show mail             shows the copies that wait
+  show history          shows the standing events
+  decisions             shows the standing decisions";
+
+const SETUPS: &str = "A setup:
+  {\"algorithm\":\"leader\",\"processes\":2,\"quorum\":2,\"inputs\":[5,6],\"oracle\":[[1],[1]]}
+  algorithm  \"leader\" or \"alpha\"
+  processes  1 to 9
+  quorum     1 to the number of processes
+  inputs     what each process proposes, 0 to 999999
+  oracle     for each process the leaders that its queries get, one after the other
+  version    1, or 2 where copies of messages can be lost; may be left out";
+
+/// A positional argument of a subcommand.
+pub(crate) enum Argument {
+    Setup,
+    Script,
+    Turns,
+    Scripts,
+    Process,
+    /// A process that may be left out.
+    AnyProcess,
+    Step,
+    Seats,
+}
+
+/// A subcommand of the program.
+pub(crate) enum Subcommand {
+    Play,
+    Race,
+    Explain,
+    Draw,
+    Debug,
+}
+
+impl Subcommand {
+    /// The subcommands, in the order in which help lists them.
+    pub(crate) const ALL: [Subcommand; 5] = [
+        Subcommand::Play,
+        Subcommand::Race,
+        Subcommand::Explain,
+        Subcommand::Draw,
+        Subcommand::Debug,
+    ];
+
+    fn name<'a>(&self) -> &'a str
+        ensures { result.now ≡ name_of self.now }
+    {
+        match self {
+            Subcommand::Play => "play",
+            Subcommand::Race => "race",
+            Subcommand::Explain => "explain",
+            Subcommand::Draw => "draw",
+            Subcommand::Debug => "debug",
+        }
+    }
+
+    fn about<'a>(&self) -> &'a str {
+        match self {
+            Subcommand::Play => PLAY,
+            Subcommand::Race => RACE,
+            Subcommand::Explain => EXPLAIN,
+            Subcommand::Draw => DRAW,
+            Subcommand::Debug => DEBUG,
+        }
+    }
+
+    /// The arguments, in their order.
+    fn arguments(&self) -> &'static [Argument]
+        ensures { fold with_argument (new_app (name_of self.now)) result.now ≡ app_named self.now }
+    {
+        match self {
+            Subcommand::Play => &[Argument::Setup, Argument::Script],
+            Subcommand::Race => &[Argument::Setup, Argument::Turns, Argument::Scripts],
+            Subcommand::Explain => &[
+                Argument::Setup,
+                Argument::Script,
+                Argument::Process,
+                Argument::Step,
+            ],
+            Subcommand::Draw => &[
+                Argument::Setup,
+                Argument::Script,
+                Argument::AnyProcess,
+                Argument::Step,
+            ],
+            Subcommand::Debug => &[Argument::Setup, Argument::Seats],
+        }
+    }
+}
+
+/// A positional argument that has to be given.
+fn required<'a>(alloc: Global, name: &'a str, help: &'a str) -> Arg<'a>
+    ensures rule { rule_of result ≡ required_rule name.entry.now }
+    ensures local { result.global ≡ false }
+{
+    Arg::new(alloc, name).required(true).help(help)
+}
+
+/// A number of 0 to 99,999.
+fn turns<'a>(alloc: Global) -> Arg<'a>
+    ensures rule { rule_of result ≡ turns_rule }
+    ensures local { result.global ≡ false }
+{
+    let help = "How often each process is driven at most, 0 to 99999";
+    let turns = required(alloc, "TURNS", help);
+    turns.value_parser(clap::value_parser!(u32).range(0..100_000))
+}
+
+/// The argument takes a number of 1 to 999,999.
+fn numbered<'a>(arg: Arg<'a>) -> Arg<'a>
+    ensures rule { rule_of result ≡ numbered (rule_of arg.entry) }
+    ensures local { result.global ≡ arg.entry.global }
+{
+    arg.value_parser(clap::value_parser!(u32).range(1..1_000_000))
+}
+
+/// A number of 1 to 999,999 that may be left out.
+fn number<'a>(alloc: Global, name: &'a str, help: &'a str) -> Arg<'a>
+    ensures rule { rule_of result ≡ numbered (new_rule name.entry.now) }
+    ensures local { result.global ≡ false }
+{
+    numbered(Arg::new(alloc, name).help(help))
+}
+
+/// The argument takes one text or more.
+fn many<'a>(arg: Arg<'a>) -> Arg<'a>
+    ensures rule { rule_of result ≡ several (rule_of arg.entry) }
+    ensures local { result.global ≡ arg.entry.global }
+{
+    arg.num_args(1..)
+}
+
+/// A device for each user, or none.
+fn seats<'a>(alloc: Global) -> Arg<'a>
+    ensures rule { rule_of result ≡ several (new_rule (codes "SEAT")) }
+    ensures local { result.global ≡ false }
+{
+    let help =
+        "A terminal device, or IN:OUT, two files or pipes, for each user; left out: the one here";
+    many(Arg::new(alloc, "SEAT").help(help))
+}
+
+/// The argument, with its help.
+fn argument_of<'a>(alloc: Global, argument: &Argument) -> Arg<'a>
+    ensures rule { rule_of result ≡ rule_named argument.now }
+    ensures local { result.global ≡ false }
+{
+    match argument {
+        Argument::Setup => required(alloc, "SETUP", "The file of the setup, in JSON"),
+        Argument::Script => required(
+            alloc,
+            "SCRIPT",
+            "The file of the script, one command a line",
+        ),
+        Argument::Turns => turns(alloc),
+        Argument::Scripts => many(required(
+            alloc,
+            "SCRIPT",
+            "The files of the scripts, one for each session",
+        )),
+        Argument::Process => numbered(required(alloc, "P", "The process, 1 to 999999")),
+        Argument::AnyProcess => number(
+            alloc,
+            "P",
+            "The process whose step stands out, 1 to 999999; left out: all stands out",
+        ),
+        Argument::Step => number(
+            alloc,
+            "K",
+            "Which of its standing steps, 1 to 999999; left out: its last one",
+        ),
+        Argument::Seats => seats(alloc),
+    }
+}
+
+/// A command with no arguments yet.
+fn bare<'a>(alloc: Global, name: &'a str, about: &'a str, after: &'a str) -> Command<'a>
+    ensures app { app_of result ≡ new_app name.entry.now }
+    ensures local { (out-Command result).has_globals ≡ false }
+{
+    Command::new(alloc, name).about(about).after_help(after)
+}
+
+/// The subcommand with its arguments.
+fn command_of<'a>(alloc: Global, subcommand: &Subcommand) -> Result<Command<'a>, AllocError>
+    ensures app { IfOk result (λ command. app_of command ≡ app_named subcommand.now) }
+    ensures local { IfOk result (λ command. (out-Command command).has_globals ≡ false) }
+{
+    let mut command = bare(alloc, subcommand.name(), subcommand.about(), SETUPS);
+    for argument in subcommand.arguments() {
+        command = command.arg(argument_of(alloc, argument))?;
+    }
+    Ok(command)
+}
+
+/// The program without its subcommands.
+fn bare_program<'a>(alloc: Global) -> Command<'a>
+    ensures { app_of result ≡ bare_program }
+{
+    bare(alloc, "revdbg", ABOUT, LINES)
+        .version(VERSION)
+        .disable_help_subcommand(true)
+}
+
+/// The command with one more subcommand.
+fn with_subcommand<'a>(
+    alloc: Global,
+    command: Command<'a>,
+    subcommand: &Subcommand,
+) -> Result<Command<'a>, AllocError>
+    ensures { IfOk result
+        (λ r. app_of r ≡ with_named (app_of command.entry) subcommand.now) }
+{
+    command.subcommand(command_of(alloc, subcommand)?)
+}
+
+/// The program with its subcommands.
+#[tactic(auto, unfolding(crate::specs::CommandLine::program))]
+pub(crate) fn program<'a>(alloc: Global) -> Result<Command<'a>, AllocError>
+    ensures { IfOk result (λ command. app_of command ≡ program) }
+{
+    let mut command = bare_program(alloc);
+    for subcommand in &Subcommand::ALL {
+        command = with_subcommand(alloc, command, subcommand)?;
+    }
+    Ok(command)
+}
