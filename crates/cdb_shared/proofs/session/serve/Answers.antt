@@ -1,4 +1,4 @@
-use Rattle.std.proofs.Common.{◌≡◌, ◌+◌, ◌∙◌, rules, refl, sym, ap, arith, true, false, List, [], ◌∷◌, ◌++◌, length, length-take, map, take}
+use Rattle.std.proofs.Common.{◌≡◌, ◌+◌, ◌∙◌, rules, refl, sym, ap, arith, true, false, true≢false, List, [], ◌∷◌, ◌++◌, length, length-take, map, take}
 use Rattle.std.proofs.lemmas.List.{map-append}
 use Rattle.cdb_control.specs.ToldReply.{told}
 use Rattle.cdb_control.specs.declared.reply.Reply.{Reply}
@@ -82,3 +82,30 @@ loop-command-preserved g c =
       heard = heard;
       passes = λ always. c.after.ensures.passes (c.before-in-loop-command.ensures.passes (was.passes always)).1;
     }
+
+pub returns-then-not-before-clause-seat : goal.returns-then-not-before-clause-seat
+returns-then-not-before-clause-seat g c = c.loop-command.invariant.seat
+
+pub returns-then-not-before-clause-calls : goal.returns-then-not-before-clause-calls
+returns-then-not-before-clause-calls g c =
+    c.loop-command.invariant.calls ∙ ap (λ n. calls_of c.args.seat ++ take n c.args.commands.now) (sym c.loop-command.invariant.count)
+
+pub returns-then-not-before-clause-replies : goal.returns-then-not-before-clause-replies
+returns-then-not-before-clause-replies g c = c.loop-command.invariant.replies
+
+pub returns-then-not-before-clause-all : goal.returns-then-not-before-clause-all
+returns-then-not-before-clause-all g c = ((λ is. cc), (λ same. absurd (omega (arith, same, c.loop-command.invariant.count, c.loop-command-test.true))))
+
+pub returns-then-not-before-clause-done : goal.returns-then-not-before-clause-done
+returns-then-not-before-clause-done g c = λ is. cc
+
+pub returns-then-not-before-clause-full : goal.returns-then-not-before-clause-full
+returns-then-not-before-clause-full g c = λ is. cc
+
+pub returns-then-not-before-clause-short : goal.returns-then-not-before-clause-short
+returns-then-not-before-clause-short g c = λ is. cc
+
+pub returns-then-not-before-clause-passes : goal.returns-then-not-before-clause-passes
+returns-then-not-before-clause-passes g c = λ always.
+    let refused : c.before-in-loop-command.result ≡ false = search rules in
+    λ same. true≢false (sym (c.before-in-loop-command.ensures.passes (c.loop-command.invariant.passes always)).0 ∙ refused)

@@ -6,18 +6,18 @@ use Rattle.cdb_hall.specs.declared.worker.Left.{Left}
 use Rattle.cdb_hall.specs.declared.worker.SeatPromise.{SeatPromise}
 use Rattle.cdb_shared.specs.Seats.{SeatView}
 use Rattle.cdb_race.proofs.Ends.{each_front, each_push, get_or-middle}
-use Rattle.cdb_hall.proofs.threads.start_all.Goals as goal
+use Rattle.cdb_hall.proofs.threads.start_each.Goals as goal
 
 pub loop-seat-init : goal.loop-seat-init
 loop-seat-init g c = record {
   ready = c.requires.ready;
   stations = c.requires.stations;
-  left_stations = ([], sym (append-nil c.args.stations.items));
-  left = ([], sym (append-nil c.args.seats.items));
-  count = omega (arith, c.in-Ok.ensures.len);
-  room = omega (arith, c.in-Ok.ensures.capacity, c.len.ensures);
+  left_stations = ([], sym (append-nil c.args.stations.now.items));
+  left = ([], sym (append-nil c.args.seats.now.items));
+  count = omega (arith, c.requires.none, c.reserve.ensures.len);
+  room = search rules;
   many_stations = c.requires.stations;
-  each = λ k before station handle low. absurd (omega (arith, low, c.in-Ok.ensures.len));
+  each = λ k before station handle low. absurd (omega (arith, low, c.requires.none, c.reserve.ensures.len));
 }
 
 pub start_one-requires-after_bounds : goal.start_one-requires-after_bounds
@@ -26,7 +26,7 @@ start_one-requires-after_bounds g c κs within = (each_front (λ (k : ℕ) (s : 
 pub loop-seat-preserved : goal.loop-seat-preserved
 loop-seat-preserved g c =
     let was = c.loop-seat.invariant in
-    let all = c.args.seats.items in
+    let all = c.args.seats.now.items in
     let front = c.pop.new.self.items in
     let seat = c.in-Some.seat in
     let popped = c.in-Some.ensures.items in
@@ -36,9 +36,9 @@ loop-seat-preserved g c =
     let whole : all ≡ front ++ (seat ∷ was.left.0) = was.left.1 ∙ ap (λ l. l ++ was.left.0) popped ∙ append_assoc front (seat ∷ []) was.left.0 in
     let its = c.in-Some-pop.station in
     let few = c.in-Some-pop.ensures.items in
-    let all_stations : c.args.stations.items ≡ c.pop-in-Some.new.self.items ++ (its ∷ was.left_stations.0) = was.left_stations.1 ∙ ap (λ l. l ++ was.left_stations.0) few ∙ append_assoc c.pop-in-Some.new.self.items (its ∷ []) was.left_stations.0 in
-    let at_station : vec_len c.args.stations - 1 - length c.loop-seat.handles.items ≡ length c.pop-in-Some.new.self.items = omega (arith, stations, seats, c.pop-in-Some.new.self.ok.0, handles, was.count, was.stations, was.many_stations) in
-    let at : vec_len c.args.seats - 1 - length c.loop-seat.handles.items ≡ length front = omega (arith, seats, c.pop.new.self.ok.0, handles, was.count) in
+    let all_stations : c.args.stations.now.items ≡ c.pop-in-Some.new.self.items ++ (its ∷ was.left_stations.0) = was.left_stations.1 ∙ ap (λ l. l ++ was.left_stations.0) few ∙ append_assoc c.pop-in-Some.new.self.items (its ∷ []) was.left_stations.0 in
+    let at_station : vec_len c.args.stations.now - 1 - length c.loop-seat.handles.items ≡ length c.pop-in-Some.new.self.items = omega (arith, stations, seats, c.pop-in-Some.new.self.ok.0, handles, was.count, was.stations, was.many_stations) in
+    let at : vec_len c.args.seats.now - 1 - length c.loop-seat.handles.items ≡ length front = omega (arith, seats, c.pop.new.self.ok.0, handles, was.count) in
     record {
       ready = (each_front (λ (k : ℕ) (s : SeatView). IsUnused c.args.shared.now s) _ _ _ popped was.ready).0;
       stations = omega (arith, seats, stations);
@@ -48,12 +48,12 @@ loop-seat-preserved g c =
       count = omega (arith, seats);
       room = omega arith;
       each = λ k before station handle low.
-          let here : seat ≡ get_or all (vec_len c.args.seats - 1 - length c.loop-seat.handles.items) before = sym (get_or-middle front was.left.0 all seat before _ whole at) in
-          let there : its ≡ get_or c.args.stations.items (vec_len c.args.stations - 1 - length c.loop-seat.handles.items) station = sym (get_or-middle c.pop-in-Some.new.self.items was.left_stations.0 c.args.stations.items its station _ all_stations at_station) in
+          let here : seat ≡ get_or all (vec_len c.args.seats.now - 1 - length c.loop-seat.handles.items) before = sym (get_or-middle front was.left.0 all seat before _ whole at) in
+          let there : its ≡ get_or c.args.stations.now.items (vec_len c.args.stations.now - 1 - length c.loop-seat.handles.items) station = sym (get_or-middle c.pop-in-Some.new.self.items was.left_stations.0 c.args.stations.now.items its station _ all_stations at_station) in
           let one = subst (λ (x : SeatView × Station g.row.T.Denot). IsStationPromise x.0 x.1 c.in_ok-handle.handle.promise) (λ i. (here i, there i)) c.in_ok-handle.ensures in
-          each_push (λ (i : ℕ) (h : PromisedHandle (Left g.row.R.Denot g.row.T.Denot) (SeatPromise g.row.R.Denot g.row.T.Denot)). IsStationPromise (get_or all (vec_len c.args.seats - 1 - i) before) (get_or c.args.stations.items (vec_len c.args.stations - 1 - i) station) h.promise) c.loop-seat.handles.items c.push_reserved.new.self.items c.in_ok-handle.handle
+          each_push (λ (i : ℕ) (h : PromisedHandle (Left g.row.R.Denot g.row.T.Denot) (SeatPromise g.row.R.Denot g.row.T.Denot)). IsStationPromise (get_or all (vec_len c.args.seats.now - 1 - i) before) (get_or c.args.stations.now.items (vec_len c.args.stations.now - 1 - i) station) h.promise) c.loop-seat.handles.items c.push_reserved.new.self.items c.in_ok-handle.handle
           c.push_reserved.ensures.items (λ i h below. was.each i before station h (omega (arith, handles))) one k handle (omega (arith, c.push_reserved.new.self.ok.0));
     }
 
 pub returns-clause-each : goal.returns-clause-each
-returns-clause-each g c = λ k before station handle low. c.loop-seat.invariant.each k before station handle (omega (arith, c.in_default-pop.ensures.cases.0, c.loop-seat.invariant.count))
+returns-clause-each g c = λ k before station handle low. c.loop-seat.invariant.each k before station handle (omega (arith, c.in_default.ensures.cases.0, c.loop-seat.invariant.count))
