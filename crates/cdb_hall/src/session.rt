@@ -45,15 +45,14 @@ impl<R: Runs> Session<R> {
         ensures responds { Responds R.rules result self.old (Request.Call command) self.new }
         ensures lines { self.new.lines ≡ self.old.lines }
     {
-        match shared.call(rt, alloc, &mut self.seat, command) {
-            Ok(reply) => {
-                let text = reply_text(alloc, &reply);
-                reply.close();
-                text
-            }
-            Err(CallFault::JournalFull) => Ok(b"journal full\n".to_vec(alloc)?),
-            Err(CallFault::NoMemory) => Err(NoMemory),
-        }
+        let reply = match shared.call(rt, alloc, &mut self.seat, command) {
+            Ok(reply) => reply,
+            Err(CallFault::JournalFull) => return Ok(b"journal full\n".to_vec(alloc)?),
+            Err(CallFault::NoMemory) => return Err(NoMemory),
+        };
+        let text = reply_text(alloc, &reply);
+        reply.close();
+        text
     }
 
     /// Does what a line asks for, and returns the response. After an error the session is not to go on.

@@ -1,4 +1,4 @@
-use Rattle.std.proofs.Common.{◌≡◌, ℕ, ◌-◌, ◌∙◌, sym, ap, subst, arith, [], ◌∷◌, ◌++◌, get_or, append_assoc, append-nil, vec_len, length}
+use Rattle.std.proofs.Common.{◌≡◌, ℕ, ◌-◌, ◌∙◌, sym, ap, subst, arith, [], ◌∷◌, ◌++◌, get_or, append_assoc, vec_len, length}
 use Rattle.std.specs.declared.thread.PromisedHandle.{PromisedHandle}
 use Rattle.cdb_hall.specs.Promises.{IsUnused, IsStationPromise}
 use Rattle.cdb_hall.specs.declared.station.Station.{Station}
@@ -7,18 +7,6 @@ use Rattle.cdb_hall.specs.declared.worker.SeatPromise.{SeatPromise}
 use Rattle.cdb_shared.specs.Seats.{SeatView}
 use Rattle.cdb_race.proofs.Ends.{each_front, each_push, get_or-middle}
 use Rattle.cdb_hall.proofs.threads.start_each.Goals as goal
-
-pub loop-seat-init : goal.loop-seat-init
-loop-seat-init g c = record {
-  ready = c.requires.ready;
-  stations = c.requires.stations;
-  left_stations = ([], sym (append-nil c.args.stations.now.items));
-  left = ([], sym (append-nil c.args.seats.now.items));
-  count = omega (arith, c.requires.none, c.reserve.ensures.len);
-  room = search rules;
-  many_stations = c.requires.stations;
-  each = λ k before station handle low. absurd (omega (arith, low, c.requires.none, c.reserve.ensures.len));
-}
 
 pub start_one-requires-after_bounds : goal.start_one-requires-after_bounds
 start_one-requires-after_bounds g c κs within = (each_front (λ (k : ℕ) (s : SeatView). IsUnused c.args.shared.now s) _ _ _ c.in-Some.ensures.items c.loop-seat.invariant.ready).1
