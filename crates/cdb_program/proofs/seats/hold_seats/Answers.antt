@@ -29,8 +29,8 @@ returns-in-Ok-clause-sessions g c =
       (map (known_station known) stations, seats, rw (← c.as_slice.ensures.value) (holds_seen rules known g.O.Sink.stream g.E.Sink.stream _ stations _ _ _ _ _ c.in-Ok.ensures.sessions)),
     )
 
-pub returns-in-Err-clause-fault : goal.returns-in-Err-clause-fault
-returns-in-Err-clause-fault g c =
+pub returns-clause-fault : goal.returns-clause-fault
+returns-clause-fault g c =
     let names = file_names c.args.seats.now in
     rw (← c.outside.view_is) (
       c.in_ok-json.json.items,
