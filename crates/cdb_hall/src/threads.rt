@@ -1,6 +1,6 @@
 //! Starting and joining the threads of the seats.
 
-ghost use Rattle.std.specs.Prelude.{◌≡◌, ◌≤◌, length, vec_len, All, IfOk, IfErr, OnOk, OnErr};
+ghost use Rattle.std.specs.Prelude.{◌≡◌, ◌≤◌, length, vec_len, All, IfOk, IfErr, OnErr};
 ghost use Rattle.cdb_control.specs.Journal.{opened};
 ghost use Rattle.cdb_hall.specs.Halls.{IsHall};
 ghost use Rattle.cdb_hall.specs.Promises.{IsUnused, IsStationPromise, AreStationPromises, AllAttended, AreOfLefts, HasAttended};
@@ -74,35 +74,6 @@ fn start_one<'s, E, R: Runs + Send + 's, T: Talk + Drop + Send + 's, Rt: Threads
     started.map_err(HallFault::Spawn)
 }
 
-/// Starts a thread for each of the seats that are left, the last seat's first, and adds its handle.
-fn start_each<'s, E, R: Runs + Send + 's, T: Talk + Drop + Send + 's, Rt: Threads + Wait + Sync>(
-    scope: &Scope<'s, E>,
-    rt: &'s Rt,
-    alloc: Global,
-    shared: &'s Shared<R>,
-    seats: &mut Vec<Seat<R>>,
-    stations: &mut Vec<Station<T>>,
-    handles: &mut Vec<PromisedHandle<Left<R, T>, SeatPromise<R, T>>>,
-) -> Result<(), HallFault>
-    requires ready { All (λ seat. IsUnused shared.now seat) seats.old.items }
-    requires stations { vec_len stations.old ≡ vec_len seats.old }
-    requires none { vec_len handles.old ≡ 0 }
-    ensures count { OnOk result (vec_len handles.new ≡ vec_len seats.old) }
-    ensures each { OnOk result (AreStationPromises seats.old stations.old handles.new) }
-{
-    if handles.reserve(seats.len()).is_err() {
-        return Err(HallFault::NoMemory);
-    }
-    while let Some(seat) = seats.pop() {
-        let Some(station) = stations.pop() else {
-            unreachable!()
-        };
-        let handle = start_one(scope, rt, alloc, shared, seat, station)?;
-        handles.push_reserved(handle);
-    }
-    Ok(())
-}
-
 /// Starts a thread for each seat, the last seat's first.
 fn start_all<'s, E, R: Runs + Send + 's, T: Talk + Drop + Send + 's, Rt: Threads + Wait + Sync>(
     scope: &Scope<'s, E>,
@@ -117,12 +88,17 @@ fn start_all<'s, E, R: Runs + Send + 's, T: Talk + Drop + Send + 's, Rt: Threads
     ensures count { IfOk result (λ handles. vec_len handles ≡ vec_len seats) }
     ensures each { IfOk result (λ handles. AreStationPromises seats stations handles) }
 {
-    let mut handles = Vec::new(alloc);
-    let (left, others) = (&mut seats, &mut stations);
-    match start_each(scope, rt, alloc, shared, left, others, &mut handles) {
-        Ok(()) => Ok(handles),
-        Err(fault) => Err(fault),
+    let Ok(mut handles) = Vec::with_capacity(alloc, seats.len()) else {
+        return Err(HallFault::NoMemory);
+    };
+    while let Some(seat) = seats.pop() {
+        let Some(station) = stations.pop() else {
+            unreachable!()
+        };
+        let handle = start_one(scope, rt, alloc, shared, seat, station)?;
+        handles.push_reserved(handle);
     }
+    Ok(handles)
 }
 
 /// Starts a thread for each seat in this scope, and joins them all. What the last seat's thread hands back comes first.

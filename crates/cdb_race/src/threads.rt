@@ -1,5 +1,5 @@
 //! Starting and joining the threads of a race.
-ghost use Rattle.std.specs.Prelude.{◌≡◌, ◌+◌, ◌<◌, ◌≤◌, length, vec_len, All, IfOk, IfErr, OnOk, MatchOption, Err};
+ghost use Rattle.std.specs.Prelude.{◌≡◌, ◌+◌, ◌<◌, ◌≤◌, length, vec_len, All, IfOk, IfErr, MatchOption, Err};
 ghost use Rattle.cdb_base.specs.declared.limits.TheConstants.{MAX_SEATS};
 ghost use Rattle.cdb_race.specs.Faults.{fault_in, AreWell, HaveFinished, IsAmongSeats, IsFaultOfThreads, IsNotStopped, IsTold};
 ghost use Rattle.cdb_race.specs.LastFault.{IsLastFault};
@@ -81,37 +81,6 @@ fn start_one<'s, E, T: Runs + Send + 's, G: Gate + Drop + Send + 's, R: Threads 
     started.map_err(RaceFault::Spawn)
 }
 
-/// Starts a thread for each of the seats that are left, the last seat's first, and adds its handle.
-fn start_each<'s, E, T: Runs + Send + 's, G: Gate + Drop + Send + 's, R: Threads + Wait + Sync>(
-    scope: &Scope<'s, E>,
-    rt: &'s R,
-    alloc: Global,
-    shared: &'s Shared<T>,
-    plan: Plan<'s>,
-    seats: &mut Vec<Seat<T>>,
-    gates: &mut Vec<G>,
-    handles: &mut Vec<PromisedHandle<Ran<T>, SeatPromise<'s, T, G>>>,
-) -> Result<(), RaceFault>
-    requires ready { All (λ seat. IsReady shared.now plan seat) seats.old.items }
-    requires gates { vec_len gates.old ≡ vec_len seats.old }
-    requires none { vec_len handles.old ≡ 0 }
-    ensures count { OnOk result (vec_len handles.new ≡ vec_len seats.old) }
-    ensures each { OnOk result (ArePromises plan.entry seats.old gates.old handles.new) }
-    ensures fault { IfErr result IsFaultOfThreads }
-{
-    if handles.reserve(seats.len()).is_err() {
-        return Err(RaceFault::NoMemory);
-    }
-    while let Some(seat) = seats.pop() {
-        let Some(gate) = gates.pop() else {
-            unreachable!()
-        };
-        let handle = start_one(scope, rt, alloc, shared, plan, seat, gate)?;
-        handles.push_reserved(handle);
-    }
-    Ok(())
-}
-
 /// Starts a thread for each seat, the last seat's first.
 fn start_all<'s, E, T: Runs + Send + 's, G: Gate + Drop + Send + 's, R: Threads + Wait + Sync>(
     scope: &Scope<'s, E>,
@@ -128,12 +97,17 @@ fn start_all<'s, E, T: Runs + Send + 's, G: Gate + Drop + Send + 's, R: Threads 
     ensures each { IfOk result (λ handles. ArePromises plan.entry seats gates handles) }
     ensures fault { IfErr result IsFaultOfThreads }
 {
-    let mut handles = Vec::new(alloc);
-    let (left, others) = (&mut seats, &mut gates);
-    match start_each(scope, rt, alloc, shared, plan, left, others, &mut handles) {
-        Ok(()) => Ok(handles),
-        Err(fault) => Err(fault),
+    let Ok(mut handles) = Vec::with_capacity(alloc, seats.len()) else {
+        return Err(RaceFault::NoMemory);
+    };
+    while let Some(seat) = seats.pop() {
+        let Some(gate) = gates.pop() else {
+            unreachable!()
+        };
+        let handle = start_one(scope, rt, alloc, shared, plan, seat, gate)?;
+        handles.push_reserved(handle);
     }
+    Ok(handles)
 }
 
 /// Runs every seat in a thread of its own, and joins them all. The last seat's outcome comes first.
