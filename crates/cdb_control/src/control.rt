@@ -217,6 +217,10 @@ impl<R: Runs> Control<R> {
         state.into_run()
     }
 
+    /// Gives the control up. Code above drops a control by this call, since the proof of what drops one goes through
+    /// all its parts.
+    pub fn close(self) {}
+
     /// How many seats there are, from 1 to 64.
     pub fn seats(&self) -> u8
         ensures { (result ≡ self.now.seats) × (1 ≤ result) × (result ≤ MAX_SEATS) }

@@ -9,5 +9,6 @@ pub mod Holding
 pub mod Stepping
 pub mod Looking
 pub mod Conversing
+pub mod Emptiness
 pub mod Journaling
 pub mod One

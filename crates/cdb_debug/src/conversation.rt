@@ -1,6 +1,6 @@
 //! A session from its first line to its last.
 
-ghost use Rattle.std.specs.Prelude.{◌≡◌, ◌-◌, ◌<◌, ◌^◌};
+ghost use Rattle.std.specs.Prelude.{◌≡◌, [], ◌-◌, ◌<◌, ◌^◌};
 ghost use Rattle.cdb_debug.specs.Dialogues.{session_by};
 ghost use Rattle.cdb_debug.specs.Unfinished.{RespondsToLast, Converses};
 ghost use Rattle.cdb_debug.specs.Sessions.{Debugs};
@@ -24,18 +24,51 @@ fn respond_to_last<R: Runs, T: Talk>(
     alloc: Global,
     prompt: &[u8],
     session: &mut Session<R>,
-    mut unfinished: Vec<u8>,
+    unfinished: &mut Vec<u8>,
     talk: &mut T,
 ) -> Result<(), PlayFault>
     requires { session.old.lines < 2 ^ 64 - 1 }
     ensures { RespondsToLast result (T.known talk.old) (T.known talk.new)
-        prompt.now (session_by R.rules session.old) unfinished.items }
+        prompt.now (session_by R.rules session.old) unfinished.old.items }
 {
     if unfinished.is_empty() {
         return Ok(());
     }
-    respond_to_line(alloc, prompt, session, &mut unfinished, talk)?;
+    respond_to_line(alloc, prompt, session, unfinished, talk)?;
     Ok(())
+}
+
+/// Answers the lines as `converse` does, and holds in `unfinished`, at first empty, what was read of the next line.
+fn converse_from_first<R: Runs, T: Talk>(
+    alloc: Global,
+    prompt: &[u8],
+    session: &mut Session<R>,
+    unfinished: &mut Vec<u8>,
+    talk: &mut T,
+) -> Result<(), PlayFault>
+    requires lines { session.old.lines ≡ 0 }
+    requires empty { unfinished.old.items ≡ [] }
+    ensures { Converses result (T.known talk.old) (T.known talk.new)
+        prompt.now (session_by R.rules session.old) }
+{
+    let Ok(()) = say(talk, prompt) else {
+        return Err(PlayFault::Write);
+    };
+    let mut buffer = [0u8; PIECE];
+    let mut read = 0u64;
+    while read < MOST_INPUT {
+        let Ok(count) = talk.read(&mut buffer) else {
+            return Err(PlayFault::Read);
+        };
+        if count == 0 {
+            return respond_to_last(alloc, prompt, session, unfinished, talk);
+        }
+        read += count as u64;
+        if hear(alloc, prompt, session, unfinished, talk, &buffer[..count])? {
+            return Ok(());
+        }
+    }
+    respond_to_last(alloc, prompt, session, unfinished, talk)
 }
 
 /// Answers line after line, from the first one on, up to `quit` or the end of the input.
@@ -49,32 +82,8 @@ fn converse<R: Runs, T: Talk>(
     ensures { Converses result (T.known talk.old) (T.known talk.new)
         prompt.now (session_by R.rules session.old) }
 {
-    let Ok(()) = say(talk, prompt) else {
-        return Err(PlayFault::Write);
-    };
     let mut unfinished = Vec::new(alloc);
-    let mut buffer = [0u8; PIECE];
-    let mut read = 0u64;
-    while read < MOST_INPUT {
-        let Ok(count) = talk.read(&mut buffer) else {
-            return Err(PlayFault::Read);
-        };
-        if count == 0 {
-            return respond_to_last(alloc, prompt, session, unfinished, talk);
-        }
-        read += count as u64;
-        if hear(
-            alloc,
-            prompt,
-            session,
-            &mut unfinished,
-            talk,
-            &buffer[..count],
-        )? {
-            return Ok(());
-        }
-    }
-    respond_to_last(alloc, prompt, session, unfinished, talk)
+    converse_from_first(alloc, prompt, session, &mut unfinished, talk)
 }
 
 /// A session on a run of the setup, in which each line has its response before more input is asked for: a command of the
@@ -94,8 +103,6 @@ pub fn debug<R: Runs, T: Talk>(
     ensures { Debugs R.rules prompt.now setup.now result (T.known talk.old) (T.known talk.new) }
 {
     let setup = Setup::read(alloc, setup)?;
-    let Ok(mut session) = Session::<R>::begin(alloc, setup) else {
-        return Err(PlayFault::NoMemory);
-    };
+    let mut session = Session::<R>::begin(alloc, setup)?;
     converse(alloc, prompt, &mut session, talk)
 }

@@ -2,13 +2,15 @@
 
 ghost use Rattle.std.specs.Prelude.{◌≡◌, ◌-◌, ◌<◌, ◌^◌, ◌++◌, IfOk, OnOk};
 ghost use Rattle.cdb_debug.specs.Dialogues.{session_by, begun, after_request, response_to, shown};
+ghost use Rattle.cdb_control.specs.ToldReply.{told};
 ghost use Rattle.cdb_debug.specs.Requests.{Asks};
+ghost use Rattle.cdb_text.specs.Texts.{text_of};
 
 use crate::help::HELP;
 use crate::request::Request;
 use crate::response::{push_fault, push_seat, push_too_long};
 use cdb_base::NoMemory;
-use cdb_control::{CallFault, Command, Control};
+use cdb_control::{CallFault, Command, Control, Reply};
 use cdb_rules::Runs;
 use cdb_setup::Setup;
 use cdb_text::reply_text;
@@ -63,7 +65,7 @@ impl<R: Runs> Session<R> {
             ≡ after_request (session_by R.rules self.old) (Request.Call command)) }
     {
         let text = match self.control.execute(alloc, self.seat, command) {
-            Ok(reply) => reply_text(alloc, &reply)?,
+            Ok(reply) => text_of(alloc, reply)?,
             Err(CallFault::JournalFull) => b"journal full\n".to_vec(alloc)?,
             Err(CallFault::NoMemory) => return Err(NoMemory),
         };
@@ -118,4 +120,13 @@ impl<R: Runs> Session<R> {
         }
         Ok(text)
     }
+}
+
+/// The text of a reply, which is given up.
+fn text_of(alloc: Global, reply: Reply) -> Result<Vec<u8>, NoMemory>
+    ensures { IfOk result (λ text. text.items ≡ text_of (told reply)) }
+{
+    let text = reply_text(alloc, &reply);
+    reply.close();
+    text
 }

@@ -1,6 +1,6 @@
 //! The picture of a run, written in pieces: lanes, the arrows of all events, and then their marks.
 
-ghost use Rattle.std.specs.Prelude.{◌≡◌, ◌≤◌, ◌++◌, length, string_bytes, IfOk};
+ghost use Rattle.std.specs.Prelude.{◌≡◌, [], ◌≤◌, ◌++◌, length, string_bytes, IfOk};
 ghost use Rattle.cdb_draw.specs.Layout.{most_width};
 ghost use Rattle.cdb_draw.specs.Arrows.{arrow_at};
 ghost use Rattle.cdb_draw.specs.EventMarks.{mark_at};
@@ -336,6 +336,26 @@ fn put_picture<T: Runs, W: Sink>(
     put_foot(buffer, out)
 }
 
+/// Puts the picture into an empty buffer, and writes what is left in it.
+fn write_pieces<T: Runs, W: Sink>(
+    alloc: Global,
+    run: &Chronicle,
+    flags: &[bool],
+    buffer: &mut Buffer,
+    out: &mut W,
+) -> Result<(), OutputFault>
+    requires valid { IsInOrder T.rules run.now }
+    requires few { length run.now.history ≤ MAX_ENTRIES }
+    requires a_flag_each { length flags.now ≡ length run.now.history }
+    requires empty { buffer.old ≡ [] }
+    ensures { IsWritten W.stream (pieces_ending result) out.old out.new
+        (Only (picture_text T.rules run.now flags.now)) }
+{
+    put_picture::<T, W>(alloc, run, flags, buffer, out)?;
+    buffer.flush(out)?;
+    Ok(())
+}
+
 /// Writes the picture in which the flagged events are drawn in full, and the rest pale. After `Write` what was
 /// written is a beginning of the picture, and after `NoMemory` one of whole pieces of 65,536 bytes.
 pub(crate) fn write_picture<T: Runs, W: Sink>(
@@ -351,7 +371,5 @@ pub(crate) fn write_picture<T: Runs, W: Sink>(
         (Only (picture_text T.rules run.now flags.now)) }
 {
     let mut buffer = Buffer::new(alloc)?;
-    put_picture::<T, W>(alloc, run, flags, &mut buffer, out)?;
-    buffer.flush(out)?;
-    Ok(())
+    write_pieces::<T, W>(alloc, run, flags, &mut buffer, out)
 }

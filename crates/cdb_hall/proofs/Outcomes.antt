@@ -27,6 +27,10 @@ fresh shared setup many count c seats is whole dealt =
       each = λ k d low. ap (λ l. get_or l k d) all ∙ get_or-map-range_with_len seat 1 many k (1 + k) d low refl;
     }
 
+-- the seats that were dealt of a control that was just opened
+pub fresh_of : (shared : TableId) (setup : Parts) (many count : ℕ) (seats : List SeatView) → count ≡ many → seats ≡ fresh_seats shared (opened setup count) 1 count → AreFresh shared setup many seats
+fresh_of shared setup many count seats whole dealt = fresh shared setup many count (opened setup count) seats refl whole dealt
+
 pub all_ready : (shared : TableId) (setup : Parts) (count : ℕ) (seats : List SeatView) → AreFresh shared setup count seats → All (λ seat. IsUnused shared seat) seats
 all_ready shared setup count seats new k d low =
     let below : k < count = omega (arith, new.many) in

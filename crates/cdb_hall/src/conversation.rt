@@ -26,19 +26,19 @@ fn respond_to_last<R: Runs, T: Talk, Rt: Wait>(
     alloc: Global,
     prompt: &[u8],
     session: &mut Session<R>,
-    mut unfinished: Vec<u8>,
+    unfinished: &mut Vec<u8>,
     talk: &mut T,
 ) -> Result<(), PlayFault>
     requires rests { RestsAt shared.now session.old.seat }
     requires lines { session.old.lines < 2 ^ 64 - 1 }
     ensures last { SeatRespondsToLast R.rules result (T.known talk.old) (T.known talk.new)
-        prompt.now session.old session.new unfinished.items }
+        prompt.now session.old session.new unfinished.old.items }
     ensures seat { IsLater session.old.seat session.new.seat }
 {
     if unfinished.is_empty() {
         return Ok(());
     }
-    respond_to_line(shared, rt, alloc, prompt, session, &mut unfinished, talk)?;
+    respond_to_line(shared, rt, alloc, prompt, session, unfinished, talk)?;
     Ok(())
 }
 
@@ -61,10 +61,31 @@ pub(crate) fn converse<R: Runs, T: Talk, Rt: Wait>(
         prompt.now session.new }
     ensures seat { IsLater session.old.seat session.new.seat }
 {
+    let mut unfinished = Vec::new(alloc);
+    converse_from_first(shared, rt, alloc, prompt, session, &mut unfinished, talk)
+}
+
+/// Answers the lines as `converse` does, and holds in `unfinished`, at first empty, what was read of the next line.
+fn converse_from_first<R: Runs, T: Talk, Rt: Wait>(
+    shared: &Shared<R>,
+    rt: &Rt,
+    alloc: Global,
+    prompt: &[u8],
+    session: &mut Session<R>,
+    unfinished: &mut Vec<u8>,
+    talk: &mut T,
+) -> Result<(), PlayFault>
+    requires empty { unfinished.old.items ≡ [] }
+    requires rests { RestsAt shared.now session.old.seat }
+    requires new { session.old.seat.seen ≡ [] }
+    requires lines { session.old.lines ≡ 0 }
+    ensures all { SeatConverses R.rules result (T.known talk.old) (T.known talk.new)
+        prompt.now session.new }
+    ensures seat { IsLater session.old.seat session.new.seat }
+{
     let Ok(()) = say(talk, prompt) else {
         return Err(PlayFault::Write);
     };
-    let mut unfinished = Vec::new(alloc);
     let mut buffer = [0u8; PIECE];
     let mut read = 0u64;
     while read < MOST_INPUT {
@@ -81,7 +102,7 @@ pub(crate) fn converse<R: Runs, T: Talk, Rt: Wait>(
             alloc,
             prompt,
             session,
-            &mut unfinished,
+            unfinished,
             talk,
             &buffer[..count],
         )? {

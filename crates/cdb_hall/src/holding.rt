@@ -58,6 +58,7 @@ pub fn hold<R: Runs + Send, T: Talk + Drop + Send, Rt: Threads + Wait + Sync, O:
         Err(fault) => return Err(of_hall(fault)),
     };
     let written = write_journal(alloc, control.journal(), output);
+    control.close();
     let _ = write_failures(alloc, attended.as_slice(), &written, error);
     Ok(status_after(attended.as_slice(), &written))
 }

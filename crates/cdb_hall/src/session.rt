@@ -50,7 +50,9 @@ impl<R: Runs> Session<R> {
             Err(CallFault::JournalFull) => return Ok(b"journal full\n".to_vec(alloc)?),
             Err(CallFault::NoMemory) => return Err(NoMemory),
         };
-        reply_text(alloc, &reply)
+        let text = reply_text(alloc, &reply);
+        reply.close();
+        text
     }
 
     /// Does what a line asks for, and returns the response. After an error the session is not to go on.

@@ -1,9 +1,10 @@
 //! Starting and joining the threads of the seats.
 
 ghost use Rattle.std.specs.Prelude.{◌≡◌, ◌≤◌, length, vec_len, All, IfOk, IfErr, OnErr};
+ghost use Rattle.cdb_control.specs.Journal.{opened};
 ghost use Rattle.cdb_hall.specs.Halls.{IsHall};
 ghost use Rattle.cdb_hall.specs.Promises.{IsUnused, IsStationPromise, AreStationPromises, AllAttended, AreOfLefts, HasAttended};
-ghost use Rattle.cdb_shared.specs.Seats.{HasHeadline};
+ghost use Rattle.cdb_shared.specs.Seats.{fresh_seats, HasHeadline};
 
 use crate::station::{Attended, Station};
 use crate::worker::{Left, SeatPromise, attend};
@@ -169,6 +170,28 @@ fn collect<R: Runs, T: Talk + Drop>(
     Ok((seats, all))
 }
 
+/// A control of the setup in which nothing has happened, shared, with this many seats.
+fn open_shared<R: Runs, Rt: Wait>(
+    rt: &Rt,
+    alloc: Global,
+    setup: Setup,
+    count: u8,
+) -> Result<(Shared<R>, Vec<Seat<R>>), HallFault>
+    ensures { IfOk result
+        (λ r. r.1.items ≡ fresh_seats r.0 (opened setup count) 1 count) }
+{
+    let Ok(control) = Control::open(alloc, setup, count) else {
+        return Err(HallFault::NoMemory);
+    };
+    match Shared::open(rt, alloc, control) {
+        Ok(opened) => Ok(opened),
+        Err((control, _)) => {
+            control.close();
+            Err(HallFault::NoMemory)
+        }
+    }
+}
+
 /// Sessions of as many seats as there are stations, from 1 to 64, over one run of the setup, each in a thread of its own,
 /// until all have ended; then the control, whose journal has the commands of all, and the stations in the same order, each
 /// with how its session ended. The k-th station is that of seat k. A line has its response as in a session of one seat, but that
@@ -189,14 +212,21 @@ pub fn debug_seats<R: Runs + Send, T: Talk + Drop + Send, Rt: Threads + Wait + S
     ensures headline { IfOk result (λ r. HasHeadline R.rules R.same_state r.0) }
 {
     let count = stations.len() as u8;
-    let Ok(control) = Control::open(alloc, setup, count) else {
-        return Err(HallFault::NoMemory);
+    let (shared, seats) = open_shared::<R, Rt>(rt, alloc, setup, count)?;
+    let lefts = match attend_all(rt, alloc, &shared, seats, stations) {
+        Ok(lefts) => lefts,
+        Err(fault) => {
+            shared.close();
+            return Err(fault);
+        }
     };
-    let Ok((shared, seats)) = Shared::<R>::open(rt, alloc, control) else {
-        return Err(HallFault::NoMemory);
+    let (seats, attended) = match collect(alloc, lefts) {
+        Ok(collected) => collected,
+        Err(fault) => {
+            shared.close();
+            return Err(fault);
+        }
     };
-    let lefts = attend_all(rt, alloc, &shared, seats, stations)?;
-    let (seats, attended) = collect(alloc, lefts)?;
     let control = shared.finish(rt, seats);
     // Its clauses say that each entry is of a seat, and how many there are at most.
     control.journal();

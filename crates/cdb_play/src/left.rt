@@ -1,6 +1,6 @@
 //! The run that a script leaves: its commands are carried out one after the other, without their replies.
 
-ghost use Rattle.std.specs.Prelude.{◌≡◌, ◌≢◌, ◌<◌, length, Err, IfErr, IfOk, OnOk};
+ghost use Rattle.std.specs.Prelude.{◌≡◌, ◌≢◌, ◌<◌, [], length, Err, IfErr, IfOk, OnOk};
 ghost use Rattle.cdb_base.specs.declared.limits.TheConstants.{MAX_ENTRIES};
 ghost use Rattle.cdb_control.specs.Headline.{Headline};
 ghost use Rattle.cdb_control.specs.Journal.{extended};
@@ -34,10 +34,29 @@ fn carry_out<T: Runs>(
     ensures { OnOk result (control.new ≡ extended T.rules control.old 1 command) }
 {
     match control.execute(alloc, 1, command) {
-        Ok(_) => Ok(()),
+        Ok(reply) => {
+            reply.close();
+            Ok(())
+        }
         Err(CallFault::JournalFull) => unreachable!(),
         Err(CallFault::NoMemory) => Err(NoMemory),
     }
+}
+
+/// Carries the commands out, one after the other, for the only seat of a control in which nothing has happened.
+fn carry_out_each<T: Runs>(
+    alloc: Global,
+    control: &mut Control<T>,
+    commands: &[Command],
+) -> Result<(), NoMemory>
+    requires few { length commands.now < MAX_ENTRIES }
+    requires new { HasCarriedOut control.old.setup [] control.old }
+    ensures { OnOk result (HasCarriedOut control.old.setup commands.now control.new) }
+{
+    for command in commands {
+        carry_out(alloc, control, *command)?;
+    }
+    Ok(())
 }
 
 /// A control that has carried the commands out, one after the other.
@@ -50,10 +69,13 @@ fn control_after<T: Runs>(
     ensures { IfOk result (HasCarriedOut setup commands.now) }
 {
     let mut control = open_for(alloc, setup, commands.len() as u32)?;
-    for command in commands {
-        carry_out(alloc, &mut control, *command)?;
+    match carry_out_each(alloc, &mut control, commands) {
+        Ok(()) => Ok(control),
+        Err(fault) => {
+            control.close();
+            Err(fault)
+        }
     }
-    Ok(control)
 }
 
 /// The control that a script leaves: its commands were carried out by seat 1 of one seat, as `play` does, and no

@@ -59,12 +59,37 @@ pub(crate) fn open_for<T: Runs>(
     let Ok(mut control) = Control::<T>::open(alloc, setup, 1) else {
         return Err(NoMemory);
     };
-    control.reserve(alloc, 1, count)?;
-    Ok(control)
+    match control.reserve(alloc, 1, count) {
+        Ok(()) => Ok(control),
+        Err(fault) => {
+            control.close();
+            Err(fault)
+        }
+    }
 }
 
-/// Carries the commands out, one after the other, on a run of the setup in which nothing has happened, and
-/// puts the text of each reply. After an error what was put is a beginning of the transcript.
+/// Carries the commands out, one after the other, for the only seat of a control in which nothing has happened, and
+/// puts the text of each reply, which is made in `text`. After an error what was put is a beginning of the transcript.
+fn perform_each<T: Runs, W: Sink>(
+    alloc: Global,
+    control: &mut Control<T>,
+    commands: &[Command],
+    text: &mut String,
+    buffer: &mut Buffer,
+    out: &mut W,
+) -> Result<(), OutputFault>
+    requires few { length commands.now < MAX_ENTRIES }
+    requires new { HasCarriedOut control.old.setup [] control.old }
+    ensures { Puts W.stream result out.old buffer.old out.new buffer.new
+        (transcript (T.rules control.old.setup) control.old.setup commands.now) }
+{
+    for command in commands {
+        perform(alloc, control, *command, text, buffer, out)?;
+    }
+    Ok(())
+}
+
+/// Carries the commands out as `perform_each` does, on a run of the setup.
 fn perform_all<T: Runs, W: Sink>(
     alloc: Global,
     setup: Setup,
@@ -78,13 +103,30 @@ fn perform_all<T: Runs, W: Sink>(
 {
     let mut control = open_for::<T>(alloc, setup, commands.len() as u32)?;
     let mut text = String::new(alloc);
-    for command in commands {
-        perform(alloc, &mut control, *command, &mut text, buffer, out)?;
-    }
+    let performed = perform_each(alloc, &mut control, commands, &mut text, buffer, out);
+    control.close();
+    performed
+}
+
+/// Carries the commands out as `perform_all` does, and writes the transcript in pieces, by way of an empty buffer.
+fn write_pieces<T: Runs, W: Sink>(
+    alloc: Global,
+    setup: Setup,
+    commands: &[Command],
+    buffer: &mut Buffer,
+    out: &mut W,
+) -> Result<(), OutputFault>
+    requires few { length commands.now < MAX_ENTRIES }
+    requires empty { buffer.old ≡ [] }
+    ensures { IsWritten W.stream (pieces_ending result) out.old out.new
+        (Only (transcript (T.rules setup) setup commands.now)) }
+{
+    perform_all::<T, W>(alloc, setup, commands, buffer, out)?;
+    buffer.flush(out)?;
     Ok(())
 }
 
-/// Carries the commands out as `perform_all` does, and writes the transcript in pieces.
+/// Writes the transcript as `write_pieces` does.
 fn write_transcript<T: Runs, W: Sink>(
     alloc: Global,
     setup: Setup,
@@ -96,9 +138,7 @@ fn write_transcript<T: Runs, W: Sink>(
         (Only (transcript (T.rules setup) setup commands.now)) }
 {
     let mut buffer = Buffer::new(alloc)?;
-    perform_all::<T, W>(alloc, setup, commands, &mut buffer, out)?;
-    buffer.flush(out)?;
-    Ok(())
+    write_pieces::<T, W>(alloc, setup, commands, &mut buffer, out)
 }
 
 /// Plays a script on a run of the setup, by the rules of such a run.

@@ -160,13 +160,15 @@ fn run_race<T: Runs + Send, G: Gate + Drop + Send, R: Threads + Wait + Sync, W: 
     let buffer = Buffer::new(alloc)?;
     let processes = usize::from(setup.n());
     let raced = cdb_race::race::<T, G, R>(rt, alloc, setup, turns, scripts, gates)?;
-    write_race(
+    let written = write_race(
         alloc,
         &raced.control,
         &raced.replies[processes..],
         buffer,
         out,
-    )?;
+    );
+    raced.close();
+    written?;
     Ok(())
 }
 

@@ -28,6 +28,10 @@ fresh shared setup plan count c seats is planned dealt =
       each = λ k d low. ap (λ l. get_or l k d) all ∙ get_or-map-range_with_len seat 1 many k (1 + k) d low refl;
     }
 
+-- the seats that were dealt of a control that was just opened
+pub fresh_of : (shared : TableId) (setup : Parts) (plan : Plan) (count : ℕ) (seats : List SeatView) → count ≡ seats_of plan → seats ≡ fresh_seats shared (opened setup count) 1 count → AreFresh shared setup (seats_of plan) seats
+fresh_of shared setup plan count seats planned dealt = fresh shared setup plan count (opened setup count) seats refl planned dealt
+
 pub all_ready : (shared : TableId) (plan : Plan) (setup : Parts) (seats : List SeatView) → AreFresh shared setup (seats_of plan) seats → All (λ seat. IsReady shared plan seat) seats
 all_ready shared plan setup seats new k d low =
     let below : k < seats_of plan = omega (arith, new.many) in

@@ -5,7 +5,8 @@ ghost use Rattle.cdb_race.specs.Faults.{fault_in, AreWell, HaveFinished, IsAmong
 ghost use Rattle.cdb_race.specs.LastFault.{IsLastFault};
 ghost use Rattle.cdb_race.specs.Promises.{IsReady, ArePromises, IsPromise, HasRan, HasEndedAtGate};
 ghost use Rattle.cdb_race.specs.Races.{AllRan, AllEnded, AllPass, AreSeatsOf, FillsJournal, HasRaced, MayFill};
-ghost use Rattle.cdb_shared.specs.Seats.{HasHeadline};
+ghost use Rattle.cdb_control.specs.Journal.{opened};
+ghost use Rattle.cdb_shared.specs.Seats.{fresh_seats, HasHeadline};
 
 use crate::plan::{Plan, Script};
 use crate::starting::{RefusedStart, start};
@@ -207,6 +208,35 @@ pub struct Raced<T: Runs> {
     pub replies: Vec<Vec<Reply>>,
 }
 
+impl<T: Runs> Raced<T> {
+    /// Gives up what a race left. Code above drops it by this call, since the proof of what drops one goes through all
+    /// its parts.
+    pub fn close(self) {}
+}
+
+/// A control of the setup in which nothing has happened, shared, with this many seats.
+fn open_shared<T: Runs, R: Wait>(
+    rt: &R,
+    alloc: Global,
+    setup: Setup,
+    count: u8,
+) -> Result<(Shared<T>, Vec<Seat<T>>), RaceFault>
+    ensures seats { IfOk result
+        (λ r. r.1.items ≡ fresh_seats r.0 (opened setup count) 1 count) }
+    ensures fault { IfErr result (λ fault. fault ≡ RaceFault.NoMemory) }
+{
+    let Ok(control) = Control::open(alloc, setup, count) else {
+        return Err(RaceFault::NoMemory);
+    };
+    match Shared::open(rt, alloc, control) {
+        Ok(opened) => Ok(opened),
+        Err((control, _)) => {
+            control.close();
+            Err(RaceFault::NoMemory)
+        }
+    }
+}
+
 /// Drives each process by this many turns and serves each script, each in a thread of its own, and joins
 /// them all. The seats and the gates of the processes come first, and then those of the scripts; there
 /// are at most 64. Of several faults of sessions the one of the least seat is returned, and the race leaves nothing
@@ -238,20 +268,31 @@ pub fn race<T: Runs + Send, G: Gate + Drop + Send, R: Threads + Wait + Sync>(
         scripts,
     };
     let count = processes + scripts.len() as u8;
-    let Ok(control) = Control::open(alloc, setup, count) else {
-        return Err(RaceFault::NoMemory);
+    let (shared, seats) = open_shared(rt, alloc, setup, count)?;
+    let rans = match run_all(rt, alloc, &shared, plan, seats, gates) {
+        Ok(rans) => rans,
+        Err(fault) => {
+            shared.close();
+            return Err(fault);
+        }
     };
-    let Ok((shared, seats)) = Shared::open(rt, alloc, control) else {
-        return Err(RaceFault::NoMemory);
-    };
-    let rans = run_all(rt, alloc, &shared, plan, seats, gates)?;
     let fault = first_fault(rans.as_slice());
-    let (seats, replies) = collect(alloc, rans)?;
+    let (seats, replies) = match collect(alloc, rans) {
+        Ok(collected) => collected,
+        Err(fault) => {
+            shared.close();
+            return Err(fault);
+        }
+    };
     let control = shared.finish(rt, seats);
     // Its clauses say that each entry is of a seat, and how many there are at most.
     control.journal();
+    let raced = Raced { control, replies };
     match fault {
-        None => Ok(Raced { control, replies }),
-        Some(fault) => Err(fault),
+        None => Ok(raced),
+        Some(fault) => {
+            raced.close();
+            Err(fault)
+        }
     }
 }

@@ -12,6 +12,7 @@ use Rattle.cdb_rules.specs.Rules.{Rules}
 use Rattle.cdb_setup.specs.Parts.{Parts}
 use Rattle.cdb_control.proofs.Own.{Begins-trans, own-push, replies_of-push, replies_of-same}
 use Rattle.cdb_shared.specs.declared.session.End.{End}
+use Rattle.cdb_shared.specs.declared.session.End.TheVariants.{All, Done, Stopped}
 use Rattle.cdb_shared.specs.Seats.{SeatView, IsLater, IsCall, SameCalls}
 use Rattle.cdb_shared.specs.Sessions.{calls_of, replies_to, end_at, NoneDone, IsDriven}
 
@@ -61,6 +62,10 @@ NoneDone-push [] r none apart = (apart, tt)
 NoneDone-push (x ∷ rs) r none apart = (none.0, NoneDone-push rs r none.1 apart)
 
 -- a driven seat whose call met a fault
+pub ends_at_fault : (fault : CallFault) (end : End) → end ≡ end_at fault → (end ≢ All) × (end ≢ Done) × (end ≢ Stopped)
+ends_at_fault JournalFull end is = ((λ all. cc), (λ done. cc), (λ stopped. cc))
+ends_at_fault NoMemory end is = ((λ all. cc), (λ done. cc), (λ stopped. cc))
+
 pub driven_fault : (fault : CallFault) (end : End) (count turns : ℕ) (replies : List ToldReply) → end ≡ end_at fault → count < turns → NoneDone replies → IsDriven end count turns replies
 driven_fault fault end count turns replies is low none = subst (λ (e : End). IsDriven e count turns replies) (sym is) (by_fault fault)
   where

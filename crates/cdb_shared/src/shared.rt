@@ -153,6 +153,10 @@ impl<T: Runs> Shared<T> {
         control.journal();
         control
     }
+
+    /// Gives up what is shared, where its sessions came to nothing. Code above drops it by this call, since the proof of
+    /// what drops one goes through all its parts.
+    pub fn close(self) {}
 }
 
 /// A pass for each seat, by the numbers from 1 on.

@@ -113,16 +113,20 @@ fn put_end<W: Sink>(
         (end_text decisions.items) }
 {
     let verdict = verdict(decisions.as_slice());
-    put_reply(&Reply::Decisions(decisions), text, buffer, out)?;
+    let reply = Reply::Decisions(decisions);
+    let replied = put_reply(&reply, text, buffer, out);
+    reply.close();
+    replied?;
     buffer.put(out, verdict.as_bytes())?;
     Ok(())
 }
 
-/// Puts the replies to the seats of the scripts, and then the decisions of the last state.
+/// Puts the replies to the seats of the scripts, and then the decisions of the last state. Each text is made in `text`.
 fn put_race<T: Runs, W: Sink>(
     alloc: Global,
     control: &Control<T>,
     replies: &[Vec<Reply>],
+    text: &mut String,
     buffer: &mut Buffer,
     out: &mut W,
 ) -> Result<(), OutputFault>
@@ -131,19 +135,31 @@ fn put_race<T: Runs, W: Sink>(
         (text_with T.rules control.now (all_told replies.now)) }
 {
     let run = control.run();
-    let mut text = String::new(alloc);
-    put_seats(
-        usize::from(run.processes()) + 1,
-        replies,
-        &mut text,
-        buffer,
-        out,
-    )?;
+    put_seats(usize::from(run.processes()) + 1, replies, text, buffer, out)?;
     let decisions = run.decisions(alloc)?;
-    put_end(decisions, &mut text, buffer, out)
+    put_end(decisions, text, buffer, out)
 }
 
 /// Puts the same into an empty buffer, and writes what is left in it.
+fn write_pieces<T: Runs, W: Sink>(
+    alloc: Global,
+    control: &Control<T>,
+    replies: &[Vec<Reply>],
+    text: &mut String,
+    buffer: &mut Buffer,
+    out: &mut W,
+) -> Result<(), OutputFault>
+    requires seats { control.now.setup.processes + length replies.now ≤ MAX_SEATS }
+    requires empty { buffer.old ≡ [] }
+    ensures { IsWritten W.stream (pieces_ending result) out.old out.new
+        (Only (text_with T.rules control.now (all_told replies.now))) }
+{
+    put_race(alloc, control, replies, text, buffer, out)?;
+    buffer.flush(out)?;
+    Ok(())
+}
+
+/// Writes the text of a race as `write_pieces` does.
 pub(super) fn write_race<T: Runs, W: Sink>(
     alloc: Global,
     control: &Control<T>,
@@ -157,7 +173,6 @@ pub(super) fn write_race<T: Runs, W: Sink>(
         (Only (text_with T.rules control.now (all_told replies.now))) }
 {
     let mut buffer = buffer;
-    put_race(alloc, control, replies, &mut buffer, out)?;
-    buffer.flush(out)?;
-    Ok(())
+    let mut text = String::new(alloc);
+    write_pieces(alloc, control, replies, &mut text, &mut buffer, out)
 }

@@ -11,12 +11,14 @@ returns-in_err-setup g c =
     let p = err_from_is_err_and c.from_residual.result c.from_residual.ensures.1 in
     rw (p.1, p.2) ([], Makes-nothing _, setup_failed g.R.Runs.rules c.args.prompt.now c.args.setup.now c.in_err-setup.field-0.0 c.in_err-setup.ensures.fault)
 
-pub returns-in_default : goal.returns-in_default
-returns-in_default g c = ([], Makes-nothing _, inl refl)
+pub returns-in_err-session : goal.returns-in_err-session
+returns-in_err-session g c =
+    let p = err_from_is_err_and c.from_residual-in_err-session.result c.from_residual-in_err-session.ensures.1 in
+    rw (p.1, p.2) ([], Makes-nothing _, inl refl)
 
 pub returns : goal.returns
 returns g c =
-    let is = c.in-Ok.ensures in
+    let is = c.in_ok-session.ensures in
     let s = c.converse.ensures (ap (λ (session : Session). session.lines) is) in
     let session = subst (λ (start : Session). IsSession c.args.prompt.now start c.converse.result s.0) is s.2 in
     (s.0, s.1, on_setup g.R.Runs.rules c.args.prompt.now c.args.setup.now c.in_ok-setup.setup c.in_ok-setup.ensures.found c.converse.result s.0 session)

@@ -1,4 +1,5 @@
-use Rattle.std.proofs.Common.{rules, ◌≡◌, ◌<◌, refl, length}
+use Rattle.std.proofs.Common.{arith, ◌≡◌, ◌<◌, refl, length}
+use Rattle.cdb_debug.proofs.Emptiness.{none_where_empty, some_where_not_empty}
 use Rattle.std.proofs.lemmas.Result.{err_from_is_err_and}
 use Rattle.cdb_debug.specs.Dialogues.{session_by}
 use Rattle.cdb_debug.proofs.Conversing.{last_none, last_done, last_fails}
@@ -6,16 +7,16 @@ use Rattle.cdb_debug.proofs.conversation.respond_to_last.Goals as goal
 
 pub returns-then-is_empty : goal.returns-then-is_empty
 returns-then-is_empty g c =
-    let none : length c.args.unfinished.items ≡ 0 = search rules in
-    last_none c.args.prompt.now _ _ (session_by g.R.Runs.rules c.args.session.now) c.args.unfinished.items none refl
+    let none : length c.args.unfinished.now.items ≡ 0 = omega (arith, none_where_empty _ _ c.is_empty.ensures c.if-is_empty.true, c.args.unfinished.now.ok.0) in
+    last_none c.args.prompt.now _ _ (session_by g.R.Runs.rules c.args.session.now) c.args.unfinished.now.items none refl
 
 pub returns-in_err-respond_to_line : goal.returns-in_err-respond_to_line
 returns-in_err-respond_to_line g c =
     let p = err_from_is_err_and c.from_residual.result c.from_residual.ensures.1 in
-    let some : 0 < length c.args.unfinished.items = search rules in
-    rw (p.1, p.2) (last_fails c.args.prompt.now _ _ (session_by g.R.Runs.rules c.args.session.now) c.args.unfinished.items some (session_by g.R.Runs.rules c.respond_to_line.new.session) c.respond_to_line.new.unfinished.items c.in_err-respond_to_line.field-0.0 c.in_err-respond_to_line.ensures)
+    let some : 0 < length c.args.unfinished.now.items = omega (arith, some_where_not_empty _ _ c.is_empty.ensures c.if-is_empty.false, c.args.unfinished.now.ok.0) in
+    rw (p.1, p.2) (last_fails c.args.prompt.now _ _ (session_by g.R.Runs.rules c.args.session.now) c.args.unfinished.now.items some (session_by g.R.Runs.rules c.respond_to_line.new.session) c.respond_to_line.new.unfinished.items c.in_err-respond_to_line.field-0.0 c.in_err-respond_to_line.ensures)
 
 pub returns : goal.returns
 returns g c =
-    let some : 0 < length c.args.unfinished.items = search rules in
-    last_done c.args.prompt.now _ _ (session_by g.R.Runs.rules c.args.session.now) c.args.unfinished.items some (session_by g.R.Runs.rules c.respond_to_line.new.session) c.respond_to_line.new.unfinished.items c.in_ok-respond_to_line.field-0 c.in_ok-respond_to_line.ensures
+    let some : 0 < length c.args.unfinished.now.items = omega (arith, some_where_not_empty _ _ c.is_empty.ensures c.if-is_empty.false, c.args.unfinished.now.ok.0) in
+    last_done c.args.prompt.now _ _ (session_by g.R.Runs.rules c.args.session.now) c.args.unfinished.now.items some (session_by g.R.Runs.rules c.respond_to_line.new.session) c.respond_to_line.new.unfinished.items c.in_ok-respond_to_line.field-0 c.in_ok-respond_to_line.ensures

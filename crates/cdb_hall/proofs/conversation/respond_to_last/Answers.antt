@@ -1,4 +1,5 @@
-use Rattle.std.proofs.Common.{rules, ◌≡◌, ◌<◌, refl, length}
+use Rattle.std.proofs.Common.{arith, ◌≡◌, ◌<◌, refl, length}
+use Rattle.cdb_debug.proofs.Emptiness.{none_where_empty, some_where_not_empty}
 use Rattle.std.proofs.lemmas.Result.{err_from_is_err_and}
 use Rattle.cdb_hall.proofs.Conversing.{last_none, last_done, last_fails}
 use Rattle.cdb_hall.proofs.Going.{IsLater-refl}
@@ -6,8 +7,8 @@ use Rattle.cdb_hall.proofs.conversation.respond_to_last.Goals as goal
 
 pub returns-then-is_empty-clause-last : goal.returns-then-is_empty-clause-last
 returns-then-is_empty-clause-last g c =
-    let none : length c.args.unfinished.items ≡ 0 = search rules in
-    last_none g.R.Runs.rules c.args.prompt.now _ _ c.args.session.now c.args.unfinished.items none refl
+    let none : length c.args.unfinished.now.items ≡ 0 = omega (arith, none_where_empty _ _ c.is_empty.ensures c.if-is_empty.true, c.args.unfinished.now.ok.0) in
+    last_none g.R.Runs.rules c.args.prompt.now _ _ c.args.session.now c.args.unfinished.now.items none refl
 
 pub returns-then-is_empty-clause-seat : goal.returns-then-is_empty-clause-seat
 returns-then-is_empty-clause-seat g c = IsLater-refl c.args.session.now.seat c.requires.rests.1
@@ -15,10 +16,10 @@ returns-then-is_empty-clause-seat g c = IsLater-refl c.args.session.now.seat c.r
 pub returns-in_err-respond_to_line-clause-last : goal.returns-in_err-respond_to_line-clause-last
 returns-in_err-respond_to_line-clause-last g c =
     let p = err_from_is_err_and c.from_residual.result c.from_residual.ensures.1 in
-    let some : 0 < length c.args.unfinished.items = search rules in
-    rw (p.1, p.2) (last_fails g.R.Runs.rules c.args.prompt.now _ _ c.args.session.now c.args.unfinished.items some c.respond_to_line.new.session c.respond_to_line.new.unfinished.items c.in_err-respond_to_line.field-0.0 c.in_err-respond_to_line.ensures.unfinished)
+    let some : 0 < length c.args.unfinished.now.items = omega (arith, some_where_not_empty _ _ c.is_empty.ensures c.if-is_empty.false, c.args.unfinished.now.ok.0) in
+    rw (p.1, p.2) (last_fails g.R.Runs.rules c.args.prompt.now _ _ c.args.session.now c.args.unfinished.now.items some c.respond_to_line.new.session c.respond_to_line.new.unfinished.items c.in_err-respond_to_line.field-0.0 c.in_err-respond_to_line.ensures.unfinished)
 
 pub returns-clause-last : goal.returns-clause-last
 returns-clause-last g c =
-    let some : 0 < length c.args.unfinished.items = search (rules, c.is_empty.ensures, c.if-is_empty.false, c.if-is_empty.ensures) in
-    last_done g.R.Runs.rules c.args.prompt.now _ _ c.args.session.now c.args.unfinished.items some c.respond_to_line.new.session c.respond_to_line.new.unfinished.items c.in_ok-respond_to_line.field-0 c.in_ok-respond_to_line.ensures.unfinished
+    let some : 0 < length c.args.unfinished.now.items = omega (arith, some_where_not_empty _ _ c.is_empty.ensures c.if-is_empty.false, c.args.unfinished.now.ok.0) in
+    last_done g.R.Runs.rules c.args.prompt.now _ _ c.args.session.now c.args.unfinished.now.items some c.respond_to_line.new.session c.respond_to_line.new.unfinished.items c.in_ok-respond_to_line.field-0 c.in_ok-respond_to_line.ensures.unfinished

@@ -1,20 +1,11 @@
-use Rattle.std.proofs.Common.{◌≡◌, ◌∙◌, ◌∷◌, [], ◌++◌, ◌+◌, ap, sym, subst, take}
-use Rattle.std.proofs.lemmas.List.{take_more}
-use Rattle.cdb_play.specs.PlayStages.{HasCarriedOut}
-use Rattle.cdb_play.proofs.Transcribing.{one_command}
+use Rattle.std.proofs.Common.{◌∙◌, refl}
 use Rattle.cdb_play.proofs.left.control_after.Goals as goal
 
-pub loop-command-init : goal.loop-command-init
-loop-command-init g c = c.in_ok-control.ensures
+pub carry_out_each-requires-clause-new : goal.carry_out_each-requires-clause-new
+carry_out_each-requires-clause-new g c =
+    record { of_setup = refl; one_seat = c.in_ok-control.ensures.one_seat; carried_out = c.in_ok-control.ensures.carried_out }
 
-pub loop-command-preserved : goal.loop-command-preserved
-loop-command-preserved g c =
-    let commands = c.args.commands.now in
-    let i = c.loop-command.command-index in
-    let command = c.command-item.result in
-    let setup = c.args.setup in
-    let done = take i commands in
-    let more : done ++ command ∷ [] ≡ take (i + 1) commands =
-    ap (λ other. done ++ other ∷ []) c.command-item.is ∙ sym (take_more commands i command c.loop-command-test.true) in
-    subst (λ carried. HasCarriedOut setup carried c.carry_out.new.control) more
-    (one_command g.T.Runs.rules setup done command c.loop-command.control c.loop-command.invariant c.carry_out.new.control c.in_ok-carry_out.ensures)
+pub returns-in-Ok : goal.returns-in-Ok
+returns-in-Ok g c =
+    let carried = c.in-Ok.ensures in
+    record { of_setup = carried.of_setup ∙ c.in_ok-control.ensures.of_setup; one_seat = carried.one_seat; carried_out = carried.carried_out }

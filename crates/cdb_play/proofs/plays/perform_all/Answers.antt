@@ -1,12 +1,9 @@
-use Rattle.std.proofs.Common.{◌≡◌, sym, ap, subst, ◌∙◌, ◌∷◌, [], ◌++◌, take, drop, ◌+◌, arith}
-use Rattle.std.proofs.lemmas.List.{take_all, take_more}
+use Rattle.std.proofs.Common.{refl, subst}
 use Rattle.std.proofs.lemmas.Result.{err_from_is_err_and}
-use Rattle.cdb_play.specs.Buffers.{IsPut}
-use Rattle.cdb_play.specs.PlayStages.{HasCarriedOut}
-use Rattle.cdb_play.specs.Transcripts.{reply_to, transcript}
-use Rattle.cdb_play.proofs.Added.{parted}
-use Rattle.cdb_play.proofs.Putting.{put_nothing, put_more, cut_short, puts_nothing}
-use Rattle.cdb_play.proofs.Transcribing.{no_texts, one_command, one_reply, parted_transcript, texts_behind}
+use Rattle.cdb_setup.specs.Parts.{Parts}
+use Rattle.cdb_play.specs.Putting.{Puts}
+use Rattle.cdb_play.specs.Transcripts.{transcript}
+use Rattle.cdb_play.proofs.Putting.{puts_nothing}
 use Rattle.cdb_play.proofs.plays.perform_all.Goals as goal
 
 pub returns-in_err-control : goal.returns-in_err-control
@@ -14,61 +11,11 @@ returns-in_err-control g c =
     let p = err_from_is_err_and c.from_residual.result c.from_residual.ensures.1 in
     rw (p.1, p.2) (puts_nothing g.W.Sink.stream _ _ _)
 
-pub loop-command-init : goal.loop-command-init
-loop-command-init g c =
-    let out = c.args.out.now in
-    let held = c.args.buffer.now in
-    record {
-      control = c.in_ok-control.ensures;
-      put = subst (IsPut g.W.Sink.stream out held out held) (sym (no_texts (g.T.Runs.rules c.args.setup) c.args.setup)) (put_nothing g.W.Sink.stream out held);
-    }
-
-pub returns-in_err-perform : goal.returns-in_err-perform
-returns-in_err-perform g c =
-    let p = err_from_is_err_and c.from_residual-in_err-perform.result c.from_residual-in_err-perform.ensures.1 in
-    let commands = c.args.commands.now in
-    let i = c.loop-command.command-index in
-    let command = c.command-item.result in
-    let rules_of = g.T.Runs.rules in
-    let setup = c.args.setup in
-    let so = c.loop-command.invariant in
-    let whole : commands ≡ take i commands ++ command ∷ drop (i + 1) commands =
-    parted commands i command c.loop-command-test.true ∙ ap (λ other. take i commands ++ other ∷ drop (i + 1) commands) (sym c.command-item.is) in
-    rw (p.1, p.2, whole)
-    (cut_short g.W.Sink.stream (Unit {0}) c.in_err-perform.field-0.0 _ _ _ _ _ _ (transcript (rules_of setup) setup (take i commands)) (reply_to rules_of c.loop-command.control command) (texts_behind (rules_of setup) setup (take i commands) command (drop (i + 1) commands)) _
-    so.put (parted_transcript rules_of setup (take i commands) command c.loop-command.control so.control (drop (i + 1) commands)) c.in_err-perform.ensures.put)
-
-pub loop-command-preserved : goal.loop-command-preserved
-loop-command-preserved g c =
-    let commands = c.args.commands.now in
-    let i = c.loop-command.command-index in
-    let command = c.command-item.result in
-    let rules_of = g.T.Runs.rules in
-    let setup = c.args.setup in
-    let done = take i commands in
-    let control = c.loop-command.control in
-    let so = c.loop-command.invariant in
-    let old = c.args.out.now in
-    let new = c.perform.new.out in
-    let held = c.args.buffer.now in
-    let left = c.perform.new.buffer in
-    let more : done ++ command ∷ [] ≡ take (i + 1) commands =
-    ap (λ other. done ++ other ∷ []) c.command-item.is ∙ sym (take_more commands i command c.loop-command-test.true) in
-    record {
-      control = subst (λ carried. HasCarriedOut setup carried c.perform.new.control) more (one_command rules_of setup done command control so.control c.perform.new.control c.in_ok-perform.ensures.done);
-      put =
-          subst (IsPut g.W.Sink.stream old held new left) (sym (one_reply rules_of setup done command control so.control) ∙ ap (transcript (rules_of setup) setup) more)
-          (put_more g.W.Sink.stream old c.loop-command.out new held c.loop-command.buffer left (transcript (rules_of setup) setup done) (reply_to rules_of control command) so.put c.in_ok-perform.ensures.put);
-    }
+pub perform_each-performed-requires-clause-new : goal.perform_each-performed-requires-clause-new
+perform_each-performed-requires-clause-new g c =
+    record { of_setup = refl; one_seat = c.in_ok-control.ensures.one_seat; carried_out = c.in_ok-control.ensures.carried_out }
 
 pub returns : goal.returns
 returns g c =
-    let commands = c.args.commands.now in
-    let i = c.loop-command.command-index in
-    let rules_of = g.T.Runs.rules in
-    let setup = c.args.setup in
-    let out = c.args.out.now in
-    let held = c.args.buffer.now in
-    let last = c.loop-command-test.false in
-    let whole : take i commands ≡ commands = take_all i commands (search (last, arith)) in
-    subst (λ done. IsPut g.W.Sink.stream out held c.loop-command.out c.loop-command.buffer (transcript (rules_of setup) setup done)) whole c.loop-command.invariant.put
+    subst (λ (setup : Parts). Puts g.W.Sink.stream c.perform_each-performed.result c.args.out.now c.args.buffer.now c.perform_each-performed.new.out c.perform_each-performed.new.buffer (transcript (g.T.Runs.rules setup) setup c.args.commands.now))
+    c.in_ok-control.ensures.of_setup c.perform_each-performed.ensures

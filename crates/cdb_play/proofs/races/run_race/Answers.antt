@@ -24,42 +24,42 @@ returns-in_err-raced-clause-fault g c =
     rw (p.1, p.2)
     (of_threads g.row.T.Denot g.T.Runs.rules g.G.Gate.heard g.G.Gate.passes c.args.gates.items c.args.setup c.args.turns c.args.scripts.now c.in_err-raced.field-0.0 said.fault (λ is. said.most (ap (λ (f : ThreadFault). Err f) is)) said.told)
 
-pub returns-in_err-write_race-clause-wrote : goal.returns-in_err-write_race-clause-wrote
-returns-in_err-write_race-clause-wrote g c =
-    let p = err_from_is_err_and c.from_residual-in_err-write_race.result c.from_residual-in_err-write_race.ensures.1 in
+pub returns-in_err-written-clause-wrote : goal.returns-in_err-written-clause-wrote
+returns-in_err-written-clause-wrote g c =
+    let p = err_from_is_err_and c.from_residual-in_err-written.result c.from_residual-in_err-written.ensures.1 in
     let raced = c.in_ok-raced.raced in
     let same =
     text_of_replies g.T.Runs.rules c.args.setup c.args.turns c.args.scripts.now raced.control raced.replies.items c.deref.result.now c.from-processes.result c.deref.ensures.value (c.from-processes.ensures ∙ c.n.ensures.value) c.in_ok-raced.ensures.raced in
     rw (p.1, p.2)
-    (race_wrote g.W.Sink.stream (Unit {0}) (IsTextOfCommands g.T.Runs.rules c.args.setup c.args.turns c.args.scripts.now) c.in_err-write_race.field-0.0 c.args.out.now c.write_race.new.out _ (raced.control, all_told raced.replies.items, c.in_ok-raced.ensures.raced, same) c.in_err-write_race.ensures)
+    (race_wrote g.W.Sink.stream (Unit {0}) (IsTextOfCommands g.T.Runs.rules c.args.setup c.args.turns c.args.scripts.now) c.in_err-written.field-0.0 c.args.out.now c.write_race-written.new.out _ (raced.control, all_told raced.replies.items, c.in_ok-raced.ensures.raced, same) (rw c.in_err-written.was at c.write_race-written.ensures))
 
-pub returns-in_err-write_race-clause-fault : goal.returns-in_err-write_race-clause-fault
-returns-in_err-write_race-clause-fault g c =
-    let p = err_from_is_err_and c.from_residual-in_err-write_race.result c.from_residual-in_err-write_race.ensures.1 in
-    rw (p.1, p.2) (of_writing (IsFaultBehind g.row.T.Denot g.T.Runs.rules g.G.Gate.heard g.G.Gate.passes c.args.gates.items) c.args.turns c.args.setup c.args.scripts.now c.in_err-write_race.field-0.0)
+pub returns-in_err-written-clause-fault : goal.returns-in_err-written-clause-fault
+returns-in_err-written-clause-fault g c =
+    let p = err_from_is_err_and c.from_residual-in_err-written.result c.from_residual-in_err-written.ensures.1 in
+    rw (p.1, p.2) (of_writing (IsFaultBehind g.row.T.Denot g.T.Runs.rules g.G.Gate.heard g.G.Gate.passes c.args.gates.items) c.args.turns c.args.setup c.args.scripts.now c.in_err-written.field-0.0)
 
 pub returns-clause-wrote : goal.returns-clause-wrote
 returns-clause-wrote g c =
     let raced = c.in_ok-raced.raced in
     let same =
     text_of_replies g.T.Runs.rules c.args.setup c.args.turns c.args.scripts.now raced.control raced.replies.items c.deref.result.now c.from-processes.result c.deref.ensures.value (c.from-processes.ensures ∙ c.n.ensures.value) c.in_ok-raced.ensures.raced in
-    only_as g.W.Sink.stream Complete c.args.out.now c.write_race.new.out _ (IsTextOfCommands g.T.Runs.rules c.args.setup c.args.turns c.args.scripts.now) (raced.control, all_told raced.replies.items, c.in_ok-raced.ensures.raced, same) c.in_ok-write_race.ensures
+    only_as g.W.Sink.stream Complete c.args.out.now c.write_race-written.new.out _ (IsTextOfCommands g.T.Runs.rules c.args.setup c.args.turns c.args.scripts.now) (raced.control, all_told raced.replies.items, c.in_ok-raced.ensures.raced, same) (rw c.in_ok-written.was at c.write_race-written.ensures)
 
 pub returns-clause-agree : goal.returns-clause-agree
 returns-clause-agree g c = λ majority.
     let raced = c.in_ok-raced.raced in
     let said = c.in_ok-raced.ensures in
-    only_as g.W.Sink.stream Complete c.args.out.now c.write_race.new.out _ EndsInAgreement
-    (ends_in_agreement _ (last_decisions g.T.Runs.rules raced.control) (agrees g.T.Runs.rules g.T.Runs.same_state raced.control c.args.setup said.raced.setup_is said.headline majority)) c.in_ok-write_race.ensures
+    only_as g.W.Sink.stream Complete c.args.out.now c.write_race-written.new.out _ EndsInAgreement
+    (ends_in_agreement _ (last_decisions g.T.Runs.rules raced.control) (agrees g.T.Runs.rules g.T.Runs.same_state raced.control c.args.setup said.raced.setup_is said.headline majority)) (rw c.in_ok-written.was at c.write_race-written.ensures)
 
 pub returns-in_err-raced-clause-agree : goal.returns-in_err-raced-clause-agree
 returns-in_err-raced-clause-agree g c = λ majority.
     let p = err_from_is_err_and c.from_residual-in_err-raced.result c.from_residual-in_err-raced.ensures.1 in
     rw p.1 tt
 
-pub returns-in_err-write_race-clause-agree : goal.returns-in_err-write_race-clause-agree
-returns-in_err-write_race-clause-agree g c = λ majority.
-    let p = err_from_is_err_and c.from_residual-in_err-write_race.result c.from_residual-in_err-write_race.ensures.1 in
+pub returns-in_err-written-clause-agree : goal.returns-in_err-written-clause-agree
+returns-in_err-written-clause-agree g c = λ majority.
+    let p = err_from_is_err_and c.from_residual-in_err-written.result c.from_residual-in_err-written.ensures.1 in
     rw p.1 tt
 
 pub returns-in_err-raced-clause-passes : goal.returns-in_err-raced-clause-passes
@@ -67,7 +67,7 @@ returns-in_err-raced-clause-passes g c = λ all.
     let p = err_from_is_err_and c.from_residual-in_err-raced.result c.from_residual-in_err-raced.ensures.1 in
     rw (p.1, p.2) (not_of_threads c.in_err-raced.field-0.0 (c.in_err-raced.ensures.passes all))
 
-pub returns-in_err-write_race-clause-passes : goal.returns-in_err-write_race-clause-passes
-returns-in_err-write_race-clause-passes g c = λ all.
-    let p = err_from_is_err_and c.from_residual-in_err-write_race.result c.from_residual-in_err-write_race.ensures.1 in
-    rw (p.1, p.2) (not_of_writing c.in_err-write_race.field-0.0)
+pub returns-in_err-written-clause-passes : goal.returns-in_err-written-clause-passes
+returns-in_err-written-clause-passes g c = λ all.
+    let p = err_from_is_err_and c.from_residual-in_err-written.result c.from_residual-in_err-written.ensures.1 in
+    rw (p.1, p.2) (not_of_writing c.in_err-written.field-0.0)

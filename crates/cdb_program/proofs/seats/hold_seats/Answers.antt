@@ -28,3 +28,12 @@ returns-in-Ok-clause-sessions g c =
       (opened_then _ _ _ (c.args.setup.now ∷ []) names c.in_ok-json.ensures.0 c.in_ok-stations.ensures.opened, c.in_ok-json.ensures.1.0),
       (map (known_station known) stations, seats, rw (← c.as_slice.ensures.value) (holds_seen rules known g.O.Sink.stream g.E.Sink.stream _ stations _ _ _ _ _ c.in-Ok.ensures.sessions)),
     )
+
+pub returns-clause-fault : goal.returns-clause-fault
+returns-clause-fault g c =
+    let names = file_names c.args.seats.now in
+    rw (← c.outside.view_is) (
+      c.in_ok-json.json.items,
+      (opened_then _ _ _ (c.args.setup.now ∷ []) names c.in_ok-json.ensures.0 c.in_ok-stations.ensures.opened, c.in_ok-json.ensures.1.0),
+      rw (← c.as_slice.ensures.value) c.in-Err.ensures.fault,
+    )

@@ -8,7 +8,7 @@ use Rattle.cdb_race.specs.declared.plan.Plan.{Plan}
 use Rattle.cdb_race.specs.declared.threads.RaceFault.{RaceFault}
 use Rattle.cdb_race.specs.declared.threads.RaceFault.TheVariants as fault
 use Rattle.cdb_race.specs.declared.worker.Ran.{Ran}
-use Rattle.cdb_race.proofs.Outcomes.{fresh, all_ready, all_rest, raced}
+use Rattle.cdb_race.proofs.Outcomes.{fresh_of, all_ready, all_rest, raced}
 use Rattle.cdb_race.proofs.Most.{few_calls}
 use Rattle.cdb_race.proofs.Stops.{least_seat, of_last, told_passes}
 use Rattle.cdb_race.proofs.Underway.{same_fault, met_full, under_way, full_at}
@@ -17,100 +17,100 @@ use Rattle.cdb_race.proofs.threads.race.Goals as goal
 pub run_all-requires-clause-ready : goal.run_all-requires-clause-ready
 run_all-requires-clause-ready g c κs within =
     let plan : Plan = record { processes = c.n-processes.result; turns = c.args.turns; scripts = c.args.scripts } in
-    all_ready c.in-Ok-open.shared plan c.args.setup _ (fresh c.in-Ok-open.shared c.args.setup plan _ _ _ c.in-Ok.ensures.opened (omega arith) c.in-Ok-open.ensures.opened)
+    all_ready c.in_ok-shared.shared plan c.args.setup _ (fresh_of c.in_ok-shared.shared c.args.setup plan _ _ (omega arith) c.in_ok-shared.ensures.seats)
 
 pub run_all-requires-clause-gates : goal.run_all-requires-clause-gates
 run_all-requires-clause-gates g c κs within =
     let plan : Plan = record { processes = c.n-processes.result; turns = c.args.turns; scripts = c.args.scripts } in
-    let new = fresh c.in-Ok-open.shared c.args.setup plan _ _ _ c.in-Ok.ensures.opened (omega arith) c.in-Ok-open.ensures.opened in
-    omega (arith, new.many, c.in-Ok-open.seats.ok.0, c.requires.gates, c.n-processes.ensures.value)
+    let new = fresh_of c.in_ok-shared.shared c.args.setup plan _ _ (omega arith) c.in_ok-shared.ensures.seats in
+    omega (arith, new.many, c.in_ok-shared.seats.ok.0, c.requires.gates, c.n-processes.ensures.value)
 
 pub finish-control-requires-clause-some : goal.finish-control-requires-clause-some
 finish-control-requires-clause-some g c =
     let plan : Plan = record { processes = c.n-processes.result; turns = c.args.turns; scripts = c.args.scripts } in
-    let new = fresh c.in-Ok-open.shared c.args.setup plan _ _ _ c.in-Ok.ensures.opened (omega arith) c.in-Ok-open.ensures.opened in
-    omega (arith, new.many, c.in-Ok-open.seats.ok.0, c.n-processes.ensures.value, c.n-processes.ensures.ranges.processes.0, c.in_ok-rans.ensures.count, c.in_ok-seats.ensures.count.0)
+    let new = fresh_of c.in_ok-shared.shared c.args.setup plan _ _ (omega arith) c.in_ok-shared.ensures.seats in
+    omega (arith, new.many, c.in_ok-shared.seats.ok.0, c.n-processes.ensures.value, c.n-processes.ensures.ranges.processes.0, c.in-Ok.ensures.count, c.in-Ok-collect.ensures.count.0)
 
 pub finish-control-requires-clause-rest : goal.finish-control-requires-clause-rest
 finish-control-requires-clause-rest g c =
     let plan : Plan = record { processes = c.n-processes.result; turns = c.args.turns; scripts = c.args.scripts } in
-    let new = fresh c.in-Ok-open.shared c.args.setup plan _ _ _ c.in-Ok.ensures.opened (omega arith) c.in-Ok-open.ensures.opened in
-    let rans = c.in_ok-rans.rans in
-    let seats = c.in_ok-seats.seats in
-    let before = c.in-Ok-open.seats in
-    let long : length seats.items ≡ length rans.items = omega (arith, c.in_ok-seats.ensures.count.0, seats.ok.0, rans.ok.0) in
-    let many : length rans.items ≡ seats_of plan = omega (arith, c.in_ok-rans.ensures.count, new.many, rans.ok.0, before.ok.0) in
-    all_rest g.T.Runs.rules c.in-Ok-open.shared plan c.args.setup before.items seats.items rans.items new many long c.in_ok-rans.ensures.each c.in_ok-seats.ensures.seats
+    let new = fresh_of c.in_ok-shared.shared c.args.setup plan _ _ (omega arith) c.in_ok-shared.ensures.seats in
+    let rans = c.in-Ok.rans in
+    let seats = c.in-Ok-collect.collected.0 in
+    let before = c.in_ok-shared.seats in
+    let long : length seats.items ≡ length rans.items = omega (arith, c.in-Ok-collect.ensures.count.0, seats.ok.0, rans.ok.0) in
+    let many : length rans.items ≡ seats_of plan = omega (arith, c.in-Ok.ensures.count, new.many, rans.ok.0, before.ok.0) in
+    all_rest g.T.Runs.rules c.in_ok-shared.shared plan c.args.setup before.items seats.items rans.items new many long c.in-Ok.ensures.each c.in-Ok-collect.ensures.seats
 
 pub returns-in-None-clause-raced : goal.returns-in-None-clause-raced
 returns-in-None-clause-raced g c =
     let plan : Plan = record { processes = c.n-processes.result; turns = c.args.turns; scripts = c.args.scripts } in
-    let new = fresh c.in-Ok-open.shared c.args.setup plan _ _ _ c.in-Ok.ensures.opened (omega arith) c.in-Ok-open.ensures.opened in
-    let rans = c.in_ok-rans.rans in
-    let before = c.in-Ok-open.seats in
-    let seats = c.in_ok-seats.seats in
-    let got = c.in_ok-seats.ensures in
-    let replies = c.in_ok-seats.replies in
+    let new = fresh_of c.in_ok-shared.shared c.args.setup plan _ _ (omega arith) c.in_ok-shared.ensures.seats in
+    let rans = c.in-Ok.rans in
+    let before = c.in_ok-shared.seats in
+    let seats = c.in-Ok-collect.collected.0 in
+    let got = c.in-Ok-collect.ensures in
+    let replies = c.in-Ok-collect.collected.1 in
     let clean : All (λ ran. fault_in ran ≡ None) rans.items = subst (λ (l : List (Ran g.row.T.Denot)). All (λ ran. fault_in ran ≡ None) l) c.as_slice.ensures.value c.in-None.ensures in
-    let finished = got.each plan before.items (omega (arith, c.in_ok-rans.ensures.count, before.ok.0)) c.in_ok-rans.ensures.each clean in
-    let many : length seats.items ≡ length before.items = omega (arith, got.count.0, c.in_ok-rans.ensures.count, seats.ok.0, before.ok.0) in
+    let finished = got.each plan before.items (omega (arith, c.in-Ok.ensures.count, before.ok.0)) c.in-Ok.ensures.each clean in
+    let many : length seats.items ≡ length before.items = omega (arith, got.count.0, c.in-Ok.ensures.count, seats.ok.0, before.ok.0) in
     let long : length (all_told replies.items) ≡ length seats.items = length-map replies.items _ ∙ omega (arith, got.count.0, got.count.1, replies.ok.0, seats.ok.0) in
-    raced g.T.Runs.rules c.in-Ok-open.shared plan c.args.setup c.finish-control.result before.items seats.items _ c.n-processes.ensures.value new (many ∙ new.many) finished c.finish-control.ensures.known c.n-processes.ensures.ranges.processes.0 long c.journal.ensures.seats
+    raced g.T.Runs.rules c.in_ok-shared.shared plan c.args.setup c.finish-control.result before.items seats.items _ c.n-processes.ensures.value new (many ∙ new.many) finished c.finish-control.ensures.known c.n-processes.ensures.ranges.processes.0 long c.journal.ensures.seats
 
 pub returns-in-Some-clause-fault : goal.returns-in-Some-clause-fault
 returns-in-Some-clause-fault g c =
     let plan : Plan = record { processes = c.n-processes.result; turns = c.args.turns; scripts = c.args.scripts } in
-    let new = fresh c.in-Ok-open.shared c.args.setup plan _ _ _ c.in-Ok.ensures.opened (omega arith) c.in-Ok-open.ensures.opened in
-    let rans = c.in_ok-rans.rans in
-    let before = c.in-Ok-open.seats in
+    let new = fresh_of c.in_ok-shared.shared c.args.setup plan _ _ (omega arith) c.in_ok-shared.ensures.seats in
+    let rans = c.in-Ok.rans in
+    let before = c.in_ok-shared.seats in
     let why = c.in-Some.fault in
     let last : IsLastFault why rans.items = subst (IsLastFault why) c.as_slice.ensures.value c.in-Some.ensures in
-    let many : length rans.items ≡ seats_of plan = omega (arith, c.in_ok-rans.ensures.count, new.many, rans.ok.0, before.ok.0) in
-    let it = of_last g.T.Runs.rules c.in-Ok-open.shared plan c.args.setup before.items rans.items why new many c.in_ok-rans.ensures.each last in
+    let many : length rans.items ≡ seats_of plan = omega (arith, c.in-Ok.ensures.count, new.many, rans.ok.0, before.ok.0) in
+    let it = of_last g.T.Runs.rules c.in_ok-shared.shared plan c.args.setup before.items rans.items why new many c.in-Ok.ensures.each last in
     subst (λ n. IsAmongSeats (n + length c.args.scripts.now) why) c.n-processes.ensures.value it
 
 pub returns-in-Some-clause-full : goal.returns-in-Some-clause-full
 returns-in-Some-clause-full g c = λ full.
     let plan : Plan = record { processes = c.n-processes.result; turns = c.args.turns; scripts = c.args.scripts } in
-    let new = fresh c.in-Ok-open.shared c.args.setup plan _ _ _ c.in-Ok.ensures.opened (omega arith) c.in-Ok-open.ensures.opened in
-    let rans = c.in_ok-rans.rans in
-    let before = c.in-Ok-open.seats in
-    let seats = c.in_ok-seats.seats in
-    let got = c.in_ok-seats.ensures in
+    let new = fresh_of c.in_ok-shared.shared c.args.setup plan _ _ (omega arith) c.in_ok-shared.ensures.seats in
+    let rans = c.in-Ok.rans in
+    let before = c.in_ok-shared.seats in
+    let seats = c.in-Ok-collect.collected.0 in
+    let got = c.in-Ok-collect.ensures in
     let why = c.in-Some.fault in
     let last : IsLastFault why rans.items = subst (IsLastFault why) c.as_slice.ensures.value c.in-Some.ensures in
-    let many : length rans.items ≡ seats_of plan = omega (arith, c.in_ok-rans.ensures.count, new.many, rans.ok.0, before.ok.0) in
+    let many : length rans.items ≡ seats_of plan = omega (arith, c.in-Ok.ensures.count, new.many, rans.ok.0, before.ok.0) in
     let long : length seats.items ≡ length rans.items = omega (arith, got.count.0, seats.ok.0, rans.ok.0) in
     let same : why ≡ fault.JournalFull = same_fault (Err why) (Err fault.JournalFull) why fault.JournalFull refl refl full in
     let met = met_full last.its.seat.number last.its.end (last.has ∙ ap (λ (f : RaceFault). Some f) same) in
     let final = c.finish-control.result in
-    let so_far = under_way g.T.Runs.rules c.in-Ok-open.shared plan c.args.setup final before.items rans.items last.its c.n-processes.ensures.value new many c.in_ok-rans.ensures.each seats.items long got.seats c.finish-control.ensures.known c.n-processes.ensures.ranges.processes.0 c.journal.ensures.seats in
+    let so_far = under_way g.T.Runs.rules c.in_ok-shared.shared plan c.args.setup final before.items rans.items last.its c.n-processes.ensures.value new many c.in-Ok.ensures.each seats.items long got.seats c.finish-control.ensures.known c.n-processes.ensures.ranges.processes.0 c.journal.ensures.seats in
     let whole =
-    full_at g.T.Runs.rules c.in-Ok-open.shared plan c.args.setup final before.items rans.items last.its c.n-processes.ensures.value new many c.in_ok-rans.ensures.each seats.items long got.seats c.finish-control.ensures.known last.position last.within (ap (λ (r : Ran g.row.T.Denot). r.end) last.at ∙ met) c.journal.ensures.limit in
+    full_at g.T.Runs.rules c.in_ok-shared.shared plan c.args.setup final before.items rans.items last.its c.n-processes.ensures.value new many c.in-Ok.ensures.each seats.items long got.seats c.finish-control.ensures.known last.position last.within (ap (λ (r : Ran g.row.T.Denot). r.end) last.at ∙ met) c.journal.ensures.limit in
     (final, so_far, whole)
 
 pub returns-in-Some-clause-told : goal.returns-in-Some-clause-told
 returns-in-Some-clause-told g c =
     let plan : Plan = record { processes = c.n-processes.result; turns = c.args.turns; scripts = c.args.scripts } in
-    let new = fresh c.in-Ok-open.shared c.args.setup plan _ _ _ c.in-Ok.ensures.opened (omega arith) c.in-Ok-open.ensures.opened in
-    let rans = c.in_ok-rans.rans in
-    let before = c.in-Ok-open.seats in
+    let new = fresh_of c.in_ok-shared.shared c.args.setup plan _ _ (omega arith) c.in_ok-shared.ensures.seats in
+    let rans = c.in-Ok.rans in
+    let before = c.in_ok-shared.seats in
     let why = c.in-Some.fault in
     let last : IsLastFault why rans.items = subst (IsLastFault why) c.as_slice.ensures.value c.in-Some.ensures in
-    let many : length rans.items ≡ seats_of plan = omega (arith, c.in_ok-rans.ensures.count, new.many, rans.ok.0, before.ok.0) in
+    let many : length rans.items ≡ seats_of plan = omega (arith, c.in-Ok.ensures.count, new.many, rans.ok.0, before.ok.0) in
     inr (record {
       plan = plan;
       processes_are = c.n-processes.ensures.value;
       turns_are = refl;
       scripts_are = refl;
-      shared = c.in-Ok-open.shared;
+      shared = c.in_ok-shared.shared;
       seats = before.items;
       new = new;
       rans = rans.items;
       many = many;
-      ran = c.in_ok-rans.ensures.each;
-      ended = c.in_ok-rans.ensures.ended;
-      least = least_seat g.T.Runs.rules c.in-Ok-open.shared plan c.args.setup before.items rans.items why new many c.in_ok-rans.ensures.each last;
+      ran = c.in-Ok.ensures.each;
+      ended = c.in-Ok.ensures.ended;
+      least = least_seat g.T.Runs.rules c.in_ok-shared.shared plan c.args.setup before.items rans.items why new many c.in-Ok.ensures.each last;
     })
 
 pub returns-in-Some-clause-most : goal.returns-in-Some-clause-most

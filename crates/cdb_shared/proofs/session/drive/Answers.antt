@@ -87,3 +87,57 @@ loop-turn-preserved g c =
       heard = heard;
       passes = λ always. c.after.ensures.passes (c.before-in-loop-turn.ensures.passes (was.passes always)).1;
     }
+
+pub returns-then-not-before-clause-seat : goal.returns-then-not-before-clause-seat
+returns-then-not-before-clause-seat g c = c.loop-turn.invariant.seat
+
+pub returns-then-not-before-clause-calls : goal.returns-then-not-before-clause-calls
+returns-then-not-before-clause-calls g c = c.loop-turn.invariant.calls
+
+pub returns-then-not-before-clause-full : goal.returns-then-not-before-clause-full
+returns-then-not-before-clause-full g c = λ is. cc
+
+pub returns-then-not-before-clause-short : goal.returns-then-not-before-clause-short
+returns-then-not-before-clause-short g c = λ is. cc
+
+pub returns-then-not-before-clause-passes : goal.returns-then-not-before-clause-passes
+returns-then-not-before-clause-passes g c = λ always.
+    let refused : c.before-in-loop-turn.result ≡ false = search rules in
+    λ same. true≢false (sym (c.before-in-loop-turn.ensures.passes (c.loop-turn.invariant.passes always)).0 ∙ refused)
+
+pub returns-then-not-before-clause-replies : goal.returns-then-not-before-clause-replies
+returns-then-not-before-clause-replies g c =
+    let was = c.loop-turn.invariant.replies in
+    (was.0, was.1, (c.loop-turn-test.true, was.2))
+
+pub returns-then-is_done-clause-seat : goal.returns-then-is_done-clause-seat
+returns-then-is_done-clause-seat g c = IsLater-trans c.args.seat c.loop-turn.seat c.call.new.seat c.loop-turn.invariant.seat c.call.ensures.seat
+
+pub returns-then-is_done-clause-full : goal.returns-then-is_done-clause-full
+returns-then-is_done-clause-full g c = λ is. cc
+
+pub returns-then-is_done-clause-short : goal.returns-then-is_done-clause-short
+returns-then-is_done-clause-short g c = λ is. cc
+
+pub returns-then-is_done-clause-passes : goal.returns-then-is_done-clause-passes
+returns-then-is_done-clause-passes g c = λ always. λ is. cc
+
+pub returns-in-Err-clause-seat : goal.returns-in-Err-clause-seat
+returns-in-Err-clause-seat g c = IsLater-trans c.args.seat c.loop-turn.seat c.call.new.seat c.loop-turn.invariant.seat c.call.ensures.seat
+
+pub returns-in-Err-clause-calls : goal.returns-in-Err-clause-calls
+returns-in-Err-clause-calls g c = calls_of-fault c.loop-turn.seat c.call.new.seat c.call.ensures.seat c.in-Err.ensures.fault ∙ c.loop-turn.invariant.calls
+
+pub returns-clause-full : goal.returns-clause-full
+returns-clause-full g c = λ is. cc
+
+pub returns-clause-short : goal.returns-clause-short
+returns-clause-short g c = λ is. cc
+
+pub returns-clause-passes : goal.returns-clause-passes
+returns-clause-passes g c = λ always. λ is. cc
+
+pub returns-clause-gate : goal.returns-clause-gate
+returns-clause-gate g c =
+    let was = c.loop-turn.invariant in
+    (c.loop-turn.gate, hears_all _ _ c.args.seat c.loop-turn.seat (replicate c.loop-turn.turn (Auto c.args.process)) _ was.calls refl was.heard)

@@ -1,11 +1,11 @@
-use Rattle.std.proofs.Common.{◌≡◌, ◌+◌, ◌∙◌, rules, refl, sym, ap, arith, true, false, List, [], ◌∷◌, ◌++◌, length, length-take, map, take}
+use Rattle.std.proofs.Common.{◌≡◌, ◌+◌, ◌∙◌, rules, refl, sym, ap, arith, true, false, true≢false, List, [], ◌∷◌, ◌++◌, length, length-take, map, take}
 use Rattle.std.proofs.lemmas.List.{map-append}
 use Rattle.cdb_control.specs.ToldReply.{told}
 use Rattle.cdb_control.specs.declared.reply.Reply.{Reply}
 use Rattle.cdb_shared.specs.Gates.{Asked, heard_more, heard_of}
 use Rattle.cdb_shared.specs.Sessions.{calls_of, replies_to}
-use Rattle.cdb_shared.proofs.Hears.{heard_asked, heard_told, hears_asked, hears_fault}
-use Rattle.cdb_shared.proofs.Steps.{IsLater-trans, calls_of-call, calls_of-fault, replies_to-call, replies_to-fault, append_one, take_one_more, few_calls}
+use Rattle.cdb_shared.proofs.Hears.{heard_asked, heard_told, hears_all, hears_asked, hears_fault}
+use Rattle.cdb_shared.proofs.Steps.{IsLater-trans, calls_of-call, calls_of-fault, replies_to-call, replies_to-fault, append_one, ends_at_fault, take_one_more, few_calls}
 use Rattle.cdb_shared.proofs.session.serve.Goals as goal
 
 pub returns-then-not-before-clause-gate : goal.returns-then-not-before-clause-gate
@@ -82,3 +82,71 @@ loop-command-preserved g c =
       heard = heard;
       passes = λ always. c.after.ensures.passes (c.before-in-loop-command.ensures.passes (was.passes always)).1;
     }
+
+pub returns-then-not-before-clause-seat : goal.returns-then-not-before-clause-seat
+returns-then-not-before-clause-seat g c = c.loop-command.invariant.seat
+
+pub returns-then-not-before-clause-calls : goal.returns-then-not-before-clause-calls
+returns-then-not-before-clause-calls g c =
+    c.loop-command.invariant.calls ∙ ap (λ n. calls_of c.args.seat ++ take n c.args.commands.now) (sym c.loop-command.invariant.count)
+
+pub returns-then-not-before-clause-replies : goal.returns-then-not-before-clause-replies
+returns-then-not-before-clause-replies g c = c.loop-command.invariant.replies
+
+pub returns-then-not-before-clause-all : goal.returns-then-not-before-clause-all
+returns-then-not-before-clause-all g c = ((λ is. cc), (λ same. absurd (omega (arith, same, c.loop-command.invariant.count, c.loop-command-test.true))))
+
+pub returns-then-not-before-clause-done : goal.returns-then-not-before-clause-done
+returns-then-not-before-clause-done g c = λ is. cc
+
+pub returns-then-not-before-clause-full : goal.returns-then-not-before-clause-full
+returns-then-not-before-clause-full g c = λ is. cc
+
+pub returns-then-not-before-clause-short : goal.returns-then-not-before-clause-short
+returns-then-not-before-clause-short g c = λ is. cc
+
+pub returns-then-not-before-clause-passes : goal.returns-then-not-before-clause-passes
+returns-then-not-before-clause-passes g c = λ always.
+    let refused : c.before-in-loop-command.result ≡ false = search rules in
+    λ same. true≢false (sym (c.before-in-loop-command.ensures.passes (c.loop-command.invariant.passes always)).0 ∙ refused)
+
+pub returns-then-is_err-clause-seat : goal.returns-then-is_err-clause-seat
+returns-then-is_err-clause-seat g c = IsLater-trans c.args.seat c.loop-command.seat c.no_room-fault.new.seat c.loop-command.invariant.seat c.no_room-fault.ensures.seat.0
+
+pub returns-then-is_err-clause-done : goal.returns-then-is_err-clause-done
+returns-then-is_err-clause-done g c = (ends_at_fault _ _ c.ended_by.ensures).1
+
+pub returns-then-is_err-clause-passes : goal.returns-then-is_err-clause-passes
+returns-then-is_err-clause-passes g c = λ always. (ends_at_fault _ _ c.ended_by.ensures).2
+
+pub returns-in-Err-clause-seat : goal.returns-in-Err-clause-seat
+returns-in-Err-clause-seat g c = IsLater-trans c.args.seat c.loop-command.seat c.call.new.seat c.loop-command.invariant.seat c.call.ensures.seat
+
+pub returns-in-Err-clause-done : goal.returns-in-Err-clause-done
+returns-in-Err-clause-done g c = (ends_at_fault _ _ c.ended_by-in-Err.ensures).1
+
+pub returns-in-Err-clause-passes : goal.returns-in-Err-clause-passes
+returns-in-Err-clause-passes g c = λ always. (ends_at_fault _ _ c.ended_by-in-Err.ensures).2
+
+pub returns-clause-seat : goal.returns-clause-seat
+returns-clause-seat g c = c.loop-command.invariant.seat
+
+pub returns-clause-replies : goal.returns-clause-replies
+returns-clause-replies g c = c.loop-command.invariant.replies
+
+pub returns-clause-done : goal.returns-clause-done
+returns-clause-done g c = λ is. cc
+
+pub returns-clause-full : goal.returns-clause-full
+returns-clause-full g c = λ is. cc
+
+pub returns-clause-short : goal.returns-clause-short
+returns-clause-short g c = λ is. cc
+
+pub returns-clause-passes : goal.returns-clause-passes
+returns-clause-passes g c = λ always. λ is. cc
+
+pub returns-clause-gate : goal.returns-clause-gate
+returns-clause-gate g c =
+    let was = c.loop-command.invariant in
+    (c.loop-command.gate, hears_all _ _ c.args.seat c.loop-command.seat (take c.loop-command.command-index c.args.commands.now) _ was.calls refl was.heard)

@@ -8,12 +8,12 @@ use Rattle.cdb_play.specs.declared.buffer.OutputFault.TheVariants.{Write}
 use Rattle.cdb_play.proofs.Putting.{put_nothing, put_more, cut_short}
 use Rattle.cdb_play.proofs.races.text.put_end.Goals as goal
 
-pub returns-in_err-put_reply : goal.returns-in_err-put_reply
-returns-in_err-put_reply g c =
+pub returns-in_err-replied : goal.returns-in_err-replied
+returns-in_err-replied g c =
     let p = err_from_is_err_and c.from_residual.result c.from_residual.ensures.1 in
     let decisions = c.args.decisions.items in
     rw (p.1, p.2)
-    (cut_short g.W.Sink.stream (Unit {0}) c.in_err-put_reply.field-0.0 _ _ _ _ _ _ _ (decisions_text decisions) (verdict_text decisions) _ (put_nothing g.W.Sink.stream _ _) refl c.in_err-put_reply.ensures)
+    (cut_short g.W.Sink.stream (Unit {0}) c.in_err-replied.field-0.0 _ _ _ _ _ _ _ (decisions_text decisions) (verdict_text decisions) _ (put_nothing g.W.Sink.stream _ _) refl (rw c.in_err-replied.was at c.put_reply-replied.ensures))
 
 pub returns-in_err-put : goal.returns-in_err-put
 returns-in_err-put g c =
@@ -22,13 +22,13 @@ returns-in_err-put g c =
     let out = c.args.out.now in
     let held = c.args.buffer.now in
     let decisions = c.args.decisions.items in
-    let now = c.put_reply.new.out in
-    let middle = c.put_reply.new.buffer in
+    let now = c.put_reply-replied.new.out in
+    let middle = c.put_reply-replied.new.buffer in
     let new = c.put.new.out in
     let same : c.as_bytes.result.now ≡ verdict_text decisions = c.as_bytes.ensures.value ∙ c.verdict-verdict.ensures ∙ ap verdict_text c.as_slice.ensures.value in
     let fails = subst (λ (t : List ℕ). Fails stream now new (middle ++ t)) same c.in_err-put.ensures.err in
     rw (p.1, p.2)
-    (cut_short stream (Unit {0}) Write out now new held middle c.put.new.self (decisions_text decisions) (verdict_text decisions) [] (end_text decisions) c.in_ok-put_reply.ensures
+    (cut_short stream (Unit {0}) Write out now new held middle c.put.new.self (decisions_text decisions) (verdict_text decisions) [] (end_text decisions) (rw c.in_ok-replied.was at c.put_reply-replied.ensures)
     (ap (λ (t : List ℕ). decisions_text decisions ++ t) (sym (append-nil (verdict_text decisions)))) fails)
 
 pub returns : goal.returns
@@ -37,8 +37,8 @@ returns g c =
     let out = c.args.out.now in
     let held = c.args.buffer.now in
     let decisions = c.args.decisions.items in
-    let now = c.put_reply.new.out in
-    let middle = c.put_reply.new.buffer in
+    let now = c.put_reply-replied.new.out in
+    let middle = c.put_reply-replied.new.buffer in
     let same : c.as_bytes.result.now ≡ verdict_text decisions = c.as_bytes.ensures.value ∙ c.verdict-verdict.ensures ∙ ap verdict_text c.as_slice.ensures.value in
-    put_more stream out now c.put.new.out held middle c.put.new.self (decisions_text decisions) (verdict_text decisions) c.in_ok-put_reply.ensures
+    put_more stream out now c.put.new.out held middle c.put.new.self (decisions_text decisions) (verdict_text decisions) (rw c.in_ok-replied.was at c.put_reply-replied.ensures)
     (subst (IsPut stream now middle c.put.new.out c.put.new.self) same c.in_ok-put.ensures.ok)

@@ -1,6 +1,8 @@
-use Rattle.std.proofs.Common.{subst, sym, take, drop, ◌+◌}
+use Rattle.std.proofs.Common.{◌≡◌, List, subst, sym, take, drop, ◌+◌, arith}
+use Rattle.std.proofs.lemmas.List.{take_all}
 use Rattle.std.proofs.lemmas.Result.{err_from_is_err_and}
 use Rattle.cdb_control.specs.ToldReply.{told}
+use Rattle.cdb_control.specs.declared.reply.Reply.{Reply}
 use Rattle.cdb_text.specs.Texts.{text_of}
 use Rattle.cdb_play.specs.Buffers.{IsPut}
 use Rattle.cdb_play.proofs.Putting.{put_nothing, put_more, cut_short}
@@ -26,3 +28,11 @@ loop-reply-preserved g c =
     let reply = c.reply-item.result in
     subst (IsPut g.W.Sink.stream c.args.out.now c.args.buffer.now c.put_reply.new.out c.put_reply.new.buffer) (sym (one_reply replies i reply c.reply-item.is c.loop-reply-test.true))
     (put_more g.W.Sink.stream _ _ _ _ _ _ (texts (take i replies)) (text_of (told reply)) c.loop-reply.invariant c.in_ok-put_reply.ensures)
+
+pub returns : goal.returns
+returns g c =
+    let replies = c.args.replies.now in
+    let i = c.loop-reply.reply-index in
+    let last = c.loop-reply-test.false in
+    let whole : take i replies ≡ replies = take_all i replies (search (last, arith)) in
+    subst (λ (done : List Reply). IsPut g.W.Sink.stream c.args.out.now c.args.buffer.now c.loop-reply.out c.loop-reply.buffer (texts done)) whole c.loop-reply.invariant

@@ -1,6 +1,8 @@
-use Rattle.std.proofs.Common.{subst, sym, take, drop, ◌+◌, map, arith}
+use Rattle.std.proofs.Common.{◌≡◌, List, Vec, Global, subst, sym, take, drop, ◌+◌, map, arith}
+use Rattle.std.proofs.lemmas.List.{take_all}
 use Rattle.std.proofs.lemmas.Result.{err_from_is_err_and}
 use Rattle.cdb_control.specs.ToldReply.{told}
+use Rattle.cdb_control.specs.declared.reply.Reply.{Reply}
 use Rattle.cdb_race.specs.Races.{all_told}
 use Rattle.cdb_play.specs.Buffers.{IsPut}
 use Rattle.cdb_play.specs.Races.{seat_text, seats_text}
@@ -36,3 +38,11 @@ loop-replies-preserved g c =
           subst (IsPut g.W.Sink.stream c.args.out.now c.args.buffer.now c.put_seat.new.out c.put_seat.new.buffer) (sym (one_seat first seats i replies c.replies-item.is c.loop-replies-test.true))
           (put_more g.W.Sink.stream _ _ _ _ _ _ (seats_text first (all_told (take i seats))) (seat_text (first + i) (map told replies.items)) so.put (rw (c.as_slice.ensures.value, so.seat) at c.in_ok-put_seat.ensures));
     }
+
+pub returns : goal.returns
+returns g c =
+    let seats = c.args.seats.now in
+    let i = c.loop-replies.replies-index in
+    let last = c.loop-replies-test.false in
+    let whole : take i seats ≡ seats = take_all i seats (search (last, arith)) in
+    subst (λ (done : List (Vec Reply Global)). IsPut g.W.Sink.stream c.args.out.now c.args.buffer.now c.loop-replies.out c.loop-replies.buffer (seats_text c.args.first (all_told done))) whole c.loop-replies.invariant.put

@@ -3,21 +3,21 @@ use Rattle.std.proofs.lemmas.List.{length-take}
 use Rattle.std.proofs.lemmas.Result.{err_from_is_err_and}
 use Rattle.cdb_debug.specs.Dialogues.{session_by}
 use Rattle.cdb_debug.proofs.Conversing.{Arrives, started, not_started, not_read, over_at_most, over_at_end, goes_on, quits, breaks}
-use Rattle.cdb_debug.proofs.conversation.converse.Goals as goal
+use Rattle.cdb_debug.proofs.conversation.converse_from_first.Goals as goal
 
 pub returns-in_default : goal.returns-in_default
 returns-in_default g c = not_started c.args.prompt.now _ _ (session_by g.R.Runs.rules c.args.session.now) (Unit {0}) (Unit {0}) tt c.in_default.ensures
 
 pub loop-read-init : goal.loop-read-init
 loop-read-init g c =
-    let none : c.new-unfinished.result.items ≡ [] = c.new-unfinished.ensures.items in
+    let none : c.args.unfinished.now.items ≡ [] = c.requires.empty in
     let first = session_by g.R.Runs.rules c.args.session.now in
     let before = g.T.Talk.known c.args.talk.now in
     let now = g.T.Talk.known c.say.new.talk in
     record {
       few = omega (arith, ap length none);
       bound = omega arith;
-      lines = omega (arith, c.requires);
+      lines = omega (arith, c.requires.lines);
       arrives = subst (λ unfinished. Arrives c.args.prompt.now before first now first unfinished 0) (sym none) (started c.args.prompt.now before now first (Unit {0}) (Unit {0}) tt c.in-Ok.ensures);
     }
 

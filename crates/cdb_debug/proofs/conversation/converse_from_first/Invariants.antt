@@ -2,7 +2,7 @@ use Rattle.std.proofs.Common.{◌+◌, ◌-◌, ◌≤◌, length}
 use Rattle.cdb_setup.specs.Format.{longest}
 use Rattle.cdb_debug.specs.Dialogues.{session_by}
 use Rattle.cdb_debug.proofs.Conversing.{Arrives}
-use Rattle.cdb_debug.proofs.conversation.converse.Given as goal
+use Rattle.cdb_debug.proofs.conversation.converse_from_first.Given as goal
 
 abbrev pub invariant-loop-read : goal.invariant-loop-read
 invariant-loop-read g l = record {

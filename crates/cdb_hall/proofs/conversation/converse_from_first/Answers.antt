@@ -4,7 +4,7 @@ use Rattle.std.proofs.lemmas.Result.{err_from_is_err_and}
 use Rattle.cdb_shared.proofs.Steps.{IsLater-trans}
 use Rattle.cdb_hall.proofs.Going.{IsLater-refl}
 use Rattle.cdb_hall.proofs.Conversing.{Arrives, started, not_started, not_read, over_at_most, over_at_end, goes_on, quits, breaks}
-use Rattle.cdb_hall.proofs.conversation.converse.Goals as goal
+use Rattle.cdb_hall.proofs.conversation.converse_from_first.Goals as goal
 
 pub returns-in_default-clause-all : goal.returns-in_default-clause-all
 returns-in_default-clause-all g c = not_started g.R.Runs.rules c.args.prompt.now _ _ c.args.session.now c.requires.new (Unit {0}) (Unit {0}) tt c.in_default.ensures
@@ -14,7 +14,7 @@ returns-in_default-clause-seat g c = IsLater-refl c.args.session.now.seat c.requ
 
 pub loop-read-init : goal.loop-read-init
 loop-read-init g c =
-    let none : c.new-unfinished.result.items ≡ [] = c.new-unfinished.ensures.items in
+    let none : c.args.unfinished.now.items ≡ [] = c.requires.empty in
     let first = c.args.session.now in
     let before = g.T.Talk.known c.args.talk.now in
     let now = g.T.Talk.known c.say.new.talk in
