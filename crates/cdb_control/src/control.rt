@@ -20,7 +20,7 @@ use std::fmt;
 use std::marker::Model;
 
 /// One entry of a journal.
-#[derive(Clone, Copy)]
+#[derive(Clone, Copy, PartialEq)]
 pub struct Entry {
     pub seat: u8,
     pub command: Command,
