@@ -3,7 +3,7 @@
 ghost use Rattle.std.specs.Prelude.{◌≡◌, ◌+◌, ◌<◌, ◌≤◌, ◌↔◌, Option, Some, None, IsTrue, IsSome, IfOk, OnErr, is_some, length, false};
 ghost use Rattle.cdb_process.specs.declared.Input.{Input};
 
-use crate::back::{Back, Overwritten, PassBefore};
+use crate::back::{Back, Before, PassBefore};
 use crate::place::Place;
 use crate::seen::{are_same, find_value, shows_later_round};
 use cdb_base::limits::MAX_ROUND;
@@ -143,18 +143,6 @@ impl Alpha {
         self.own == other.own && are_same(&self.seen, &other.seen)
     }
 
-    /// The way back from a step that overwrites this.
-    fn back(&self, overwritten: Overwritten) -> Back
-        requires { is_last self.now.place ≡ false }
-        ensures place { result.place ≡ self.now.place }
-        ensures overwritten { result.overwritten ≡ overwritten }
-    {
-        Back {
-            place: self.place,
-            overwritten,
-        }
-    }
-
     /// Goes on to the next round.
     fn go_to_next_round(&mut self) -> Back
         requires not_done { is_last self.old.place ≡ false }
@@ -162,7 +150,9 @@ impl Alpha {
         ensures after { next_round self.old ≡ Some self.new }
         ensures back { state_before self.new result ≡ self.old }
     {
-        let back = self.back(Overwritten::Round(self.round));
+        let back = Back {
+            before: Before::Round(self.place, self.round),
+        };
         self.place = Place::A0;
         self.round += u32::from(self.processes);
         back
@@ -184,7 +174,9 @@ impl Alpha {
             },
         )?;
         mem::swap(&mut before.seen, &mut self.seen);
-        let back = self.back(Overwritten::Pass(before));
+        let back = Back {
+            before: Before::Pass(self.place, before),
+        };
         self.own = cell;
         self.place = reading;
         Ok(back)
@@ -228,7 +220,9 @@ impl Alpha {
         ensures after { next_state self.old (Input.Query leader) ≡ Some self.new }
         ensures back { state_before self.new result ≡ self.old }
     {
-        let back = self.back(Overwritten::Nothing);
+        let back = Back {
+            before: Before::Place(self.place),
+        };
         self.place = if leader == self.me {
             Place::A2
         } else {
@@ -247,17 +241,23 @@ impl Alpha {
     {
         match self.place {
             Place::A0 => {
-                let back = self.back(Overwritten::Nothing);
+                let back = Back {
+                    before: Before::Place(self.place),
+                };
                 self.see_decision(cell.val);
                 Ok(back)
             }
             Place::A3 => {
-                let back = self.back(Overwritten::Seen);
+                let back = Back {
+                    before: Before::Seen(self.place),
+                };
                 self.see(cell, Place::A4)?;
                 Ok(back)
             }
             Place::A6 => {
-                let back = self.back(Overwritten::Seen);
+                let back = Back {
+                    before: Before::Seen(self.place),
+                };
                 self.see(cell, Place::A7)?;
                 Ok(back)
             }
@@ -297,12 +297,16 @@ impl Alpha {
             return self.go_to_next_round();
         }
         if self.place == Place::A4 {
-            let back = self.back(Overwritten::Value(self.value));
+            let back = Back {
+                before: Before::Value(self.place, self.value),
+            };
             self.value = find_value(&self.seen).unwrap_or(self.input);
             self.place = Place::A5;
             back
         } else {
-            let back = self.back(Overwritten::Nothing);
+            let back = Back {
+                before: Before::Place(self.place),
+            };
             self.place = Place::A8;
             back
         }
@@ -387,18 +391,25 @@ impl Process for Alpha {
     }
 
     fn put_back(&mut self, b: Back) {
-        let Back { place, overwritten } = b;
-        self.place = place;
+        let Back { before } = b;
         self.decision = None;
-        match overwritten {
-            Overwritten::Nothing => {}
-            Overwritten::Seen => {
+        match before {
+            Before::Place(place) => self.place = place,
+            Before::Seen(place) => {
+                self.place = place;
                 let _ = self.seen.pop();
             }
-            Overwritten::Round(round) => self.round = round,
-            Overwritten::Value(value) => self.value = value,
-            Overwritten::Pass(before) => {
-                let PassBefore { seen, own } = Box::into_inner(before);
+            Before::Round(place, round) => {
+                self.place = place;
+                self.round = round;
+            }
+            Before::Value(place, value) => {
+                self.place = place;
+                self.value = value;
+            }
+            Before::Pass(place, pass) => {
+                let PassBefore { seen, own } = Box::into_inner(pass);
+                self.place = place;
                 self.seen = seen;
                 self.own = own;
             }

@@ -2,7 +2,7 @@
 
 ghost use Rattle.std.specs.Prelude.{◌≡◌, ℕ, ◌<◌, ◌↔◌, Option, Some, None, IsTrue, IsSome, IfOk, OnErr, is_some, false};
 
-use crate::back::{Back, Overwritten};
+use crate::back::{Back, Before};
 use crate::inbox::{Inbox, Received};
 use crate::place::Place;
 use cdb_base::limits::MAX_ROUND;
@@ -148,18 +148,6 @@ impl Leader {
         self.lead == other.lead && self.aux == other.aux && self.decision == other.decision
     }
 
-    /// The way back from a step that overwrites this.
-    fn back(&self, overwritten: Overwritten) -> Back
-        requires { is_last self.now.place ≡ false }
-        ensures place { result.place ≡ self.now.place }
-        ensures overwritten { result.overwritten ≡ overwritten }
-    {
-        Back {
-            place: self.place,
-            overwritten,
-        }
-    }
-
     /// Begins a round, of which the oracle named the leader.
     fn begin_round(&mut self, leader: Proc) -> Back
         requires place { self.old.place ≡ Place.L0 }
@@ -167,10 +155,13 @@ impl Leader {
         ensures after { query_at Place.L0 self.old leader ≡ Some self.new }
         ensures back { state_before self.new result ≡ self.old }
     {
-        let back = self.back(Overwritten::Round {
-            round: self.round,
-            lead: self.lead,
-        });
+        let back = Back {
+            before: Before::Round {
+                place: self.place,
+                lead: self.lead,
+                round: self.round,
+            },
+        };
         self.round += 1;
         self.lead = Some(leader);
         self.place = Place::L1;
@@ -183,7 +174,9 @@ impl Leader {
         ensures after { self.new ≡ set_aux self.old }
         ensures back { state_before self.new result ≡ self.old }
     {
-        let back = self.back(Overwritten::Aux(self.aux));
+        let back = Back {
+            before: Before::Aux(self.place, self.aux),
+        };
         self.aux = self.inbox.find_agreed_estimate(self.round, self.quorum);
         self.place = Place::L3;
         back
@@ -195,7 +188,9 @@ impl Leader {
         ensures after { self.new ≡ end_round self.old (proposal self.old.round self.old.inbox) }
         ensures back { state_before self.new result ≡ self.old }
     {
-        let back = self.back(Overwritten::Estimate(self.estimate));
+        let back = Back {
+            before: Before::Estimate(self.place, self.estimate),
+        };
         self.place = Place::L0;
         if let Some(value) = self.inbox.find_proposal(self.round) {
             if self.inbox.all_propose(self.round, value) {
@@ -218,7 +213,9 @@ impl Leader {
                 if self.heard_first_phase() && self.lead != Some(leader) {
                     self.set_aux()
                 } else {
-                    self.back(Overwritten::Nothing)
+                    Back {
+                        before: Before::Place(self.place),
+                    }
                 }
             }
             _ => unreachable!(),
@@ -231,7 +228,9 @@ impl Leader {
         ensures after { send_at self.old.place self.old ≡ Some self.new }
         ensures back { state_before self.new result ≡ self.old }
     {
-        let back = self.back(Overwritten::Nothing);
+        let back = Back {
+            before: Before::Place(self.place),
+        };
         match self.place {
             Place::L1 => self.place = Place::L2,
             Place::L3 => self.place = Place::L4,
@@ -263,7 +262,9 @@ impl Leader {
         ensures after { learn_at self.old.place self.old ≡ Some self.new }
         ensures back { state_before self.new result ≡ self.old }
     {
-        let back = self.back(Overwritten::Estimate(self.estimate));
+        let back = Back {
+            before: Before::Estimate(self.place, self.estimate),
+        };
         if let Some(value) = self.inbox.find_learnt() {
             self.estimate = value;
             self.place = Place::L5;
@@ -280,7 +281,9 @@ impl Leader {
         ensures unchanged { OnErr result (self.new ≡ self.old) }
     {
         self.inbox.push(&Received { from, payload })?;
-        Ok(self.back(Overwritten::Inbox))
+        Ok(Back {
+            before: Before::Inbox(self.place),
+        })
     }
 }
 
@@ -351,18 +354,27 @@ impl Process for Leader {
     }
 
     fn put_back(&mut self, b: Back) {
-        let Back { place, overwritten } = b;
-        self.place = place;
+        let Back { before } = b;
         self.decision = None;
-        match overwritten {
-            Overwritten::Nothing => {}
-            Overwritten::Inbox => self.inbox.pop(),
-            Overwritten::Round { round, lead } => {
-                self.round = round;
-                self.lead = lead;
+        match before {
+            Before::Place(place) => self.place = place,
+            Before::Inbox(place) => {
+                self.place = place;
+                self.inbox.pop();
             }
-            Overwritten::Aux(aux) => self.aux = aux,
-            Overwritten::Estimate(estimate) => self.estimate = estimate,
+            Before::Round { place, lead, round } => {
+                self.place = place;
+                self.lead = lead;
+                self.round = round;
+            }
+            Before::Aux(place, aux) => {
+                self.place = place;
+                self.aux = aux;
+            }
+            Before::Estimate(place, estimate) => {
+                self.place = place;
+                self.estimate = estimate;
+            }
         }
     }
 

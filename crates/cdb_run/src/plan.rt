@@ -28,6 +28,26 @@ fn kind_of_wish(wish: &Wish, sends: u16) -> Kind
     }
 }
 
+/// Whether a machine accepts the step that it wishes for: a read and a write need their register, and nothing else can
+/// be lacking.
+fn is_possible<P: Process>(
+    setup: &Setup,
+    local: &P,
+    sends: u16,
+    registers: &Registers,
+    wish: &Wish,
+) -> bool
+    requires wished { P.table.wish local.now ≡ Some wish.now }
+    ensures { result ≡ accepts_kind (machine_of P.table setup.now) local.now sends registers.now
+        (wished_kind sends wish.now) }
+{
+    match wish {
+        Wish::Send(_) | Wish::Local => true,
+        Wish::Read(register) => registers.has(*register),
+        Wish::Write(register, _) => registers.has(*register),
+    }
+}
+
 /// Whether a machine accepts a step of that kind now.
 fn does_accept<P: Process>(
     setup: &Setup,
@@ -108,8 +128,11 @@ fn plan_go<P: Process>(
     let Some(wish) = progress.local.wish() else {
         return Err(Refusal::NotNow);
     };
-    let kind = kind_of_wish(&wish, mail.count_sent(p));
-    plan_kind(setup, mail, registers, progress, p, kind)
+    let sends = mail.count_sent(p);
+    if !is_possible(setup, &progress.local, sends, registers, &wish) {
+        return Err(Refusal::NotNow);
+    }
+    next_step(progress, p, kind_of_wish(&wish, sends))
 }
 
 /// Process `p` asks the oracle, for the setup's next answer.
