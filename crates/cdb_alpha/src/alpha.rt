@@ -367,6 +367,8 @@ impl Process for Alpha {
         }
     }
 
+    // Most callers ask about an input that they name, of which little is left to ask then.
+    #[inline(always)]
     fn accepts(&self, i: &Input) -> bool {
         match i {
             Input::Query(_) => self.place == Place::A1,

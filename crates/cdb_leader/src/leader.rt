@@ -331,6 +331,8 @@ impl Process for Leader {
         }
     }
 
+    // Most callers ask about an input that they name, of which little is left to ask then.
+    #[inline(always)]
     fn accepts(&self, i: &Input) -> bool {
         match i {
             Input::Query(_) => self.can_query(),

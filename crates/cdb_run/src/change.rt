@@ -1,8 +1,9 @@
 //! What one step changes: its process, the mail and the registers.
 
-ghost use Rattle.std.specs.Prelude.{◌≡◌, ◌<◌, ◌≤◌, false, length, None, Some, IsTrue, IsSome, IfOk, OnOk, OnErr};
+ghost use Rattle.std.specs.Prelude.{◌≡◌, ℕ, ◌<◌, ◌≤◌, false, length, None, Some, IsTrue, IsSome, IfOk, OnOk, OnErr};
 ghost use Rattle.cdb_base.specs.declared.limits.TheConstants.{MAX_STEPS};
-ghost use Rattle.cdb_message.specs.Mail.{is_sent, is_received, is_lost, add_loss};
+ghost use Rattle.cdb_message.specs.Mail.{MailState, is_sent, is_received, is_lost, add_loss};
+ghost use Rattle.cdb_register.specs.Registers.{RegisterStates};
 ghost use Rattle.cdb_run.specs.Back.{put_back, overwritten_cell};
 ghost use Rattle.cdb_rules.specs.Taking.{mail_after, IsPostable, sight, arriving, input_of, progress_after, registers_after};
 ghost use Rattle.cdb_process.specs.Wishes.{wished_payload, wished_cell};
@@ -57,7 +58,26 @@ pub(crate) fn input_at(mail: &Mail, registers: &Registers, p: Proc, kind: &Kind)
     }
 }
 
+/// What a machine wishes for, where a step of that kind sends or writes it.
+fn due<P: Process>(local: &P, kind: &Kind) -> Option<Wish>
+    ensures mail { (mail : MailState) (p : ℕ) →
+        mail_after mail p kind.now (wished_payload result)
+        ≡ mail_after mail p kind.now (wished_payload (P.table.wish local.now)) }
+    ensures registers { (registers : RegisterStates) →
+        registers_after registers kind.now (wished_cell result)
+        ≡ registers_after registers kind.now (wished_cell (P.table.wish local.now)) }
+    ensures writable { (registers : RegisterStates) →
+        IsWritable registers kind.now (P.table.wish local.now) →
+        IsWritable registers kind.now result }
+{
+    match kind {
+        Kind::Send(_) | Kind::Write(_) => local.wish(),
+        _ => None,
+    }
+}
+
 /// Sends or receives what a step of process `p` sends or receives.
+#[inline(always)]
 fn post(
     alloc: Global,
     mail: &mut Mail,
@@ -70,12 +90,12 @@ fn post(
         (mail.new ≡ mail_after mail.old p kind.now (wished_payload wish.now)) }
     ensures err { OnErr result (mail.new ≡ mail.old) }
 {
-    match (*kind, *wish) {
+    match (kind, wish) {
         (Kind::Send(_), Some(Wish::Send(payload))) => {
-            mail.send(alloc, p, payload)?;
+            mail.send(alloc, p, *payload)?;
             Ok(())
         }
-        (Kind::Recv(s, m), _) => mail.recv(alloc, p, MsgName { s, m }),
+        (Kind::Recv(s, m), _) => mail.recv(alloc, p, MsgName { s: *s, m: *m }),
         _ => Ok(()),
     }
 }
@@ -87,9 +107,9 @@ fn write(registers: &mut Registers, kind: &Kind, wish: &Option<Wish>) -> Option<
         ≡ registers_after registers.old kind.now (wished_cell wish.now) }
     ensures overwritten { result ≡ overwritten_cell registers.old kind.now }
 {
-    match (*kind, *wish) {
+    match (kind, wish) {
         (Kind::Write(register), Some(Wish::Write(_, cell))) => {
-            Some(registers.write(register, cell))
+            Some(registers.write(*register, *cell))
         }
         _ => None,
     }
@@ -128,7 +148,7 @@ pub(crate) fn change<P: Process>(
     ensures same_mail { OnErr result (mail.new ≡ mail.old) }
     ensures same_registers { OnErr result (registers.new ≡ registers.old) }
 {
-    let wish = progress.local.wish();
+    let wish = due(&progress.local, kind);
     let input = input_at(mail, registers, p, kind);
     let back = take_input(alloc, &mut progress.local, input)?;
     if let Err(refused) = post(alloc, mail, p, kind, &wish) {
