@@ -18,3 +18,4 @@ pub mod WorkedJournals
 pub mod Trying
 pub mod Done
 pub mod Kept
+pub mod OneEvent

@@ -1,5 +1,5 @@
 //! The control: the control state, and the journal that led to it.
-ghost use Rattle.std.specs.Prelude.{◌≡◌, ◌≢◌, ◌+◌, ◌-◌, ◌<◌, ◌≤◌, ◌↔◌, ◌⊎◌, max, IfOk, OnOk, OnErr, length, replicate, vec_len, vec_capacity, ◌++◌, ◌∷◌, []};
+ghost use Rattle.std.specs.Prelude.{◌≡◌, ◌≢◌, ◌+◌, ◌-◌, ◌<◌, ◌≤◌, ◌↔◌, ◌⊎◌, max, Err, IfOk, OnOk, OnErr, length, replicate, vec_len, vec_capacity, ◌++◌, ◌∷◌, []};
 ghost use Rattle.std.specs.Result.{result_ok};
 ghost use Rattle.cdb_control.specs.ToldReply.{told};
 ghost use Rattle.cdb_control.specs.Auto.{choice};
@@ -152,14 +152,14 @@ impl<R: Runs> Control<R> {
             result ≢ Err CallFault.NoMemory }
     {
         if self.journal.len() >= MAX_ENTRIES as usize {
-            return Err(CallFault::JournalFull);
+            return failed(CallFault::JournalFull);
         }
         if self.journal.reserve(1).is_err() {
-            return Err(CallFault::NoMemory);
+            return failed(CallFault::NoMemory);
         }
         let again = command;
         let Ok(reply) = self.state.perform(alloc, seat, again) else {
-            return Err(CallFault::NoMemory);
+            return failed(CallFault::NoMemory);
         };
         lower(&mut self.room_ends, seat, &reply);
         push_entry(&mut self.journal, seat, command);
@@ -238,6 +238,14 @@ impl<R: Runs> Control<R> {
     {
         self.journal.as_slice()
     }
+}
+
+/// A command that is not carried out. It is a call, so that a command that is makes no such result beforehand.
+#[inline(never)]
+fn failed(fault: CallFault) -> Result<Reply, CallFault>
+    ensures { result ≡ Err fault }
+{
+    Err(fault)
 }
 
 /// No seat has room.

@@ -1,5 +1,5 @@
 //! The control state: a run, the breakpoints, the pause and the redo lists.
-ghost use Rattle.std.specs.Prelude.{◌≡◌, ◌+◌, ◌≤◌, [], true, IfOk, IfErr, OnOk, OnErr, IsOk, replicate, length, map};
+ghost use Rattle.std.specs.Prelude.{◌≡◌, ◌+◌, ◌≤◌, [], true, false, Ok, IfOk, IfErr, OnOk, OnErr, IsOk, replicate, length, map};
 ghost use Rattle.std.specs.Option.{option_or};
 ghost use Rattle.cdb_base.specs.declared.limits.TheConstants.{MAX_ENTRIES};
 ghost use Rattle.cdb_control.specs.Done.{came_out, CameOutAs, IsCarriedOut, IsCarriedOutForAny, IsNoRefusal, IsGranted, IsGrantedFromAny, NoneShrinks};
@@ -10,6 +10,7 @@ ghost use Rattle.cdb_rules.specs.EventRefs.{name_given};
 ghost use Rattle.cdb_rules.specs.Runs.{with_result};
 ghost use Rattle.cdb_rules.specs.Step.{is_among};
 ghost use Rattle.cdb_control.specs.Trying.{IsFreeForAuto, IsRefusedForAuto};
+ghost use Rattle.cdb_control.specs.OneEvent.{is_of_one_event};
 ghost use Rattle.cdb_control.specs.Room.{is_spared};
 ghost use Rattle.cdb_control.specs.Kept.{capacity_of, HasSpace, events_kept, AreOfRun};
 ghost use Rattle.cdb_control.specs.State.{first_control_state, redo_of};
@@ -65,6 +66,14 @@ fn empty_lists(alloc: Global, seats: u8) -> Result<Vec<RedoList>, NoMemory>
         lists.push(RedoList::new(alloc))?;
     }
     Ok(lists)
+}
+
+/// A command that is refused. It is a call, so that what is seldom refused makes no reply beforehand.
+#[inline(never)]
+fn refused(refusal: Refusal) -> Result<Reply, NoMemory>
+    ensures { result ≡ Ok (Reply.Refused refusal) }
+{
+    Ok(Reply::Refused(refusal))
 }
 
 /// The first act of those that `auto` tries which the run does not refuse.
@@ -162,10 +171,10 @@ impl<R: Runs> ControlState<R> {
         ensures kept { self.new.capacities ≡ self.old.capacities }
     {
         if names_none_of(self.run.processes(), &stop) {
-            return Ok(Reply::Refused(Refusal::NoProcess));
+            return refused(Refusal::NoProcess);
         }
         if self.breakpoints.len() >= usize::from(MAX_BREAKPOINTS) {
-            return Ok(Reply::Refused(Refusal::BreakLimit));
+            return refused(Refusal::BreakLimit);
         }
         let number = self.breakpoints.set(stop)?;
         Ok(Reply::BreakSet(number))
@@ -218,7 +227,7 @@ impl<R: Runs> ControlState<R> {
         let list = &mut self.redo[seat as usize - 1];
         match list.undo(&mut self.run, event)? {
             Ok(event) => Ok(Reply::Undone(event)),
-            Err(refusal) => Ok(Reply::Refused(refusal)),
+            Err(refusal) => refused(refusal),
         }
     }
 
@@ -238,7 +247,7 @@ impl<R: Runs> ControlState<R> {
         let list = &mut self.redo[seat as usize - 1];
         match list.rollback(alloc, &mut self.run, event)? {
             Ok(count) => Ok(Reply::RolledBack(count)),
-            Err(refusal) => Ok(Reply::Refused(refusal)),
+            Err(refusal) => refused(refusal),
         }
     }
 
@@ -257,7 +266,7 @@ impl<R: Runs> ControlState<R> {
     {
         let list = &mut self.redo[seat as usize - 1];
         let Some(undone) = list.last() else {
-            return Ok(Reply::Refused(Refusal::NothingToRedo));
+            return refused(Refusal::NothingToRedo);
         };
         match self.run.again(alloc, &undone)? {
             Ok(event) => {
@@ -265,7 +274,7 @@ impl<R: Runs> ControlState<R> {
                 let decides = self.decides(&event);
                 Ok(Reply::Redone { event, decides })
             }
-            Err(refusal) => Ok(Reply::Refused(refusal)),
+            Err(refusal) => refused(refusal),
         }
     }
 
@@ -366,7 +375,7 @@ impl<R: Runs> ControlState<R> {
                 let taken = self.last_step(event, p, round_before);
                 Ok(self.tell_step(taken))
             }
-            Err(refusal) => Ok(Reply::Refused(refusal)),
+            Err(refusal) => refused(refusal),
         }
     }
 
@@ -387,7 +396,7 @@ impl<R: Runs> ControlState<R> {
                 decides: None,
                 paused: None,
             }),
-            Err(refusal) => Ok(Reply::Refused(refusal)),
+            Err(refusal) => refused(refusal),
         }
     }
 
@@ -440,18 +449,18 @@ impl<R: Runs> ControlState<R> {
     {
         if let Some(number) = self.pause {
             let refusal = self.choose(p).err().unwrap_or(Refusal::Paused(number));
-            return Ok(Reply::Refused(refusal));
+            return refused(refusal);
         }
         let round_before = match self.round_for_auto(p) {
             Ok(round) => round,
-            Err(refusal) => return Ok(Reply::Refused(refusal)),
+            Err(refusal) => return refused(refusal),
         };
         match self.run.step_first(alloc, p)? {
             Ok(event) => {
                 let taken = self.last_step(event, p, round_before);
                 Ok(self.tell_step(taken))
             }
-            Err(refusal) => Ok(Reply::Refused(refusal)),
+            Err(refusal) => refused(refusal),
         }
     }
 
@@ -505,6 +514,43 @@ impl<R: Runs> ControlState<R> {
         Ok(Reply::Decisions(self.run.decisions(alloc)?))
     }
 
+    /// Carries a command out that is not of one event.
+    #[inline(never)]
+    fn perform_other(
+        &mut self,
+        alloc: Global,
+        seat: u8,
+        command: Command,
+    ) -> Result<Reply, NoMemory>
+        requires other { is_of_one_event command ≡ false }
+        requires from_one { 1 ≤ seat }
+        requires to_last { seat ≤ length self.old.state.redo }
+        requires few { events_kept self.old.state ≤ MAX_ENTRIES }
+        requires numbers { self.old.state.next ≤ MAX_ENTRIES }
+        requires of_run { AreOfRun self.old.state }
+        requires in_range { AreInRange self.old.state.setup }
+        ensures ok { IfOk result
+            (IsCarriedOut R.rules self.old.state seat command self.new.state) }
+        ensures err { OnErr result (self.new.state ≡ self.old.state) }
+        ensures memory { OnErr result (IsGranted R.rules self.old.state seat command) }
+        ensures capacities { NoneShrinks self.old.capacities self.new.capacities }
+        ensures spared { is_spared command ≡ true → HasSpace self.old seat → IsOk result }
+    {
+        match command {
+            Command::Forget => Ok(self.forget(seat)),
+            Command::Rollback(p, k) => self.rollback(alloc, seat, EventRef::Step(p, k)),
+            Command::RollbackLost(s, m, p) => self.rollback(alloc, seat, EventRef::Lost(s, m, p)),
+            Command::Why(p, k) => Ok(self.why(alloc, EventRef::Step(p, k))),
+            Command::WhyLost(s, m, p) => Ok(self.why(alloc, EventRef::Lost(s, m, p))),
+            Command::Break(stop) => self.set_break(stop),
+            Command::Unbreak(number) => Ok(self.unbreak(number)),
+            Command::Resume => Ok(self.resume()),
+            Command::Show(view) => self.show(alloc, view),
+            Command::Decisions => self.decisions(alloc),
+            _ => unreachable!(),
+        }
+    }
+
     /// Carries a command of a seat out.
     pub fn perform(&mut self, alloc: Global, seat: u8, command: Command) -> Result<Reply, NoMemory>
         requires from_one { 1 ≤ seat }
@@ -527,16 +573,7 @@ impl<R: Runs> ControlState<R> {
             Command::Undo(p, k) => self.undo(seat, EventRef::Step(p, k)),
             Command::UndoLost(s, m, p) => self.undo(seat, EventRef::Lost(s, m, p)),
             Command::Redo => self.redo(alloc, seat),
-            Command::Forget => Ok(self.forget(seat)),
-            Command::Rollback(p, k) => self.rollback(alloc, seat, EventRef::Step(p, k)),
-            Command::RollbackLost(s, m, p) => self.rollback(alloc, seat, EventRef::Lost(s, m, p)),
-            Command::Why(p, k) => Ok(self.why(alloc, EventRef::Step(p, k))),
-            Command::WhyLost(s, m, p) => Ok(self.why(alloc, EventRef::Lost(s, m, p))),
-            Command::Break(stop) => self.set_break(stop),
-            Command::Unbreak(number) => Ok(self.unbreak(number)),
-            Command::Resume => Ok(self.resume()),
-            Command::Show(view) => self.show(alloc, view),
-            Command::Decisions => self.decisions(alloc),
+            _ => self.perform_other(alloc, seat, command),
         }
     }
 }

@@ -30,7 +30,7 @@ returns-clause-ok g c =
     ∙ ap (λ (v : StoredState). let u : State = record v.state { history = left_by v.state.history (rollback_of v.state.setup.processes v.state.history name); redo = set now.state.redo (c.args.seat - 1) (with_removed (redo_of now.state c.args.seat) (result_alone x)) } in u) c.self.view_is in
     elim c.match-branch-2.branch [
       | in-Ok w ↦ rw w.result-is (rolled_back-as now.state _ c.args.seat x r w.in-Ok.count returned after w.in-Ok.is)
-      | in-Err w ↦ rw w.result-is (rollback_refused-as now.state _ c.args.seat x r w.in-Err.refusal _ returned after w.in-Err.is)
+      | in-Err w ↦ rw w.result-is (rw w.refused.ensures (rollback_refused-as now.state _ c.args.seat x r w.in-Err.refusal _ returned after w.in-Err.is))
     ]
 
 pub returns-clause-capacities : goal.returns-clause-capacities
