@@ -372,12 +372,15 @@ impl Process for Alpha {
     fn accepts(&self, i: &Input) -> bool {
         match i {
             Input::Query(_) => self.place == Place::A1,
-            Input::Read(register, _) => self.wish() == Some(Wish::Read(*register)),
+            Input::Read(register, _) => match self.wish() {
+                Some(Wish::Read(due)) => due == *register,
+                _ => false,
+            },
             Input::Write(register) => match self.wish() {
                 Some(Wish::Write(due, _)) => due == *register,
                 _ => false,
             },
-            Input::Local => self.wish() == Some(Wish::Local),
+            Input::Local => matches!(self.wish(), Some(Wish::Local)),
             Input::Send | Input::Recv(_, _) | Input::Learn => false,
         }
     }
