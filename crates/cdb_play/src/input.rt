@@ -3,11 +3,10 @@
 ghost use Rattle.std.specs.Prelude.{◌≡◌};
 
 use crate::sink::Failed;
-use crate::source::{ReadFault, Source, read_up_to};
+use crate::source::Source;
 use std::alloc::Global;
 use std::io::Read;
 use std::marker::Model;
-use std::mem;
 
 /// A reader of the standard library whose failures are counted. What it has left is what the reader has left.
 #[derive(Drop)]
@@ -72,12 +71,13 @@ impl<'a> Source for Bytes<'a> {
     }
 }
 
-/// Bytes in memory that are not yet read, which are handed over where all are read at once.
+/// Bytes in memory that are not yet read. Their memory is given up as soon as the last is read.
 #[derive(Drop)]
 pub struct HeldBytes {
     bytes: Vec<u8>,
     /// How many of them are read.
     read: usize,
+    alloc: Global,
 }
 
 impl Model for HeldBytes {
@@ -92,10 +92,14 @@ impl Model for HeldBytes {
 
 impl HeldBytes {
     /// The bytes, all of them still to be read.
-    pub fn new(bytes: Vec<u8>) -> Self
+    pub fn new(alloc: Global, bytes: Vec<u8>) -> Self
         ensures { result ≡ bytes.items }
     {
-        HeldBytes { bytes, read: 0 }
+        HeldBytes {
+            bytes,
+            read: 0,
+            alloc,
+        }
     }
 }
 
@@ -109,15 +113,10 @@ impl Source for HeldBytes {
         let end = self.read + count;
         buffer[..count].copy_from_slice(&self.bytes[self.read..end]);
         self.read = end;
-        Ok(count)
-    }
-
-    fn read_whole(&mut self, alloc: Global, most: usize) -> Result<Vec<u8>, ReadFault> {
-        if self.read > 0 || self.bytes.len() > most {
-            return read_up_to(alloc, self, most);
+        if end == self.bytes.len() {
+            self.bytes = Vec::new(self.alloc);
+            self.read = 0;
         }
-        let mut bytes = Vec::new(alloc);
-        mem::swap(&mut bytes, &mut self.bytes);
-        Ok(bytes)
+        Ok(count)
     }
 }

@@ -42,7 +42,7 @@ fn perform<T: Runs, W: Sink>(
     match &executed {
         Ok(reply) => put_reply(reply, text, buffer, out),
         Err(CallFault::JournalFull) => unreachable!(),
-        Err(CallFault::NoMemory) => Err(OutputFault::NoMemory),
+        Err(CallFault::NoMemory) => return Err(OutputFault::NoMemory),
     }
 }
 

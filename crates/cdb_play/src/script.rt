@@ -10,7 +10,7 @@ ghost use Rattle.cdb_play.specs.Streams.{FailsWhere};
 
 use crate::fault::PlayFault;
 use crate::lines::first_line;
-use crate::source::Source;
+use crate::source::{Source, read_up_to};
 use cdb_base::limits::MAX_BYTES;
 use cdb_base::{Act, Reg};
 use cdb_control::{Command, Stop, View};
@@ -113,7 +113,7 @@ pub(crate) fn read_commands<R: Source>(
     ensures fault { IfErr result (IsFaultOfReading (R.stream script.old) (R.stream script.new)) }
     ensures read { FailsWhere R.stream (result ≡ Err PlayFault.Read) script.old script.new }
 {
-    let bytes = script.read_whole(alloc, MAX_BYTES + 1)?;
+    let bytes = read_up_to(alloc, script, MAX_BYTES + 1)?;
     let commands = commands_of(alloc, bytes.as_slice())?;
     Ok(commands)
 }

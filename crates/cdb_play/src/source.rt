@@ -12,7 +12,7 @@ use std::error::Error;
 use std::fmt;
 
 /// What gives bytes.
-pub trait Source: Sized {
+pub trait Source {
     /// The bytes that are left, where they are known, and how many of its calls have failed, in 64 bits.
     ghost stream: { Self → Stream };
 
@@ -24,18 +24,6 @@ pub trait Source: Sized {
             result buffer.new }
         ensures failures { (stream self.new).failures
             ≡ counted (is_err result) (stream self.old).failures };
-
-    /// Reads as `read_up_to` does. What holds all its bytes hands them over.
-    fn read_whole(&mut self, alloc: Global, most: usize) -> Result<Vec<u8>, ReadFault>
-        ensures taken { IfOk result
-            (λ bytes. Consumes (stream self.old).bytes (stream self.new).bytes bytes.items) }
-        ensures most { IfOk result (λ bytes. length bytes.items ≤ most) }
-        ensures end { IfOk result
-            (λ bytes. length bytes.items < most → IsAtEnd (stream self.new).bytes) }
-        ensures failed { FailsWhere stream (result ≡ Err ReadFault.Failed) self.old self.new }
-    {
-        read_up_to(alloc, self, most)
-    }
 }
 
 /// Why a reader was not read.

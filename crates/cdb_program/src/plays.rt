@@ -43,7 +43,7 @@ pub fn play_files<'a, F: Files + Drop, I: Source + Drop, O: Sink + Drop, E: Sink
     ensures error { outside.new.error ≡ outside.old.error }
 {
     let (json, bytes) = read_two(alloc, &mut outside.files, setup, script)?;
-    let mut commands = HeldBytes::new(bytes);
+    let mut commands = HeldBytes::new(alloc, bytes);
     let played = play::<RunOfSetup, _, O>(
         alloc,
         json.as_slice(),

@@ -3,8 +3,8 @@ use Rattle.std.proofs.Math.Seq.{take-append_seam}
 use Rattle.std.proofs.lemmas.List.Folds.{drop_split}
 use Rattle.cdb_play.proofs.input.HeldBytesSource.read.Goals as goal
 
-pub returns-clause-bytes : goal.returns-clause-bytes
-returns-clause-bytes c =
+pub returns-else-end-len-clause-bytes : goal.returns-else-end-len-clause-bytes
+returns-else-end-len-clause-bytes c =
     let items = c.self.inside.bytes.items in
     let read : ℕ = c.self.inside.read in
     let count : ℕ = c.min-count.result in
