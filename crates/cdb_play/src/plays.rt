@@ -38,12 +38,12 @@ fn perform<T: Runs, W: Sink>(
     ensures put { Puts W.stream result out.old buffer.old out.new buffer.new
         (reply_to T.rules control.old command) }
 {
-    let executed = control.execute(alloc, 1, command);
-    match &executed {
-        Ok(reply) => put_reply(reply, text, buffer, out),
+    let reply = match control.execute(alloc, 1, command) {
+        Ok(reply) => reply,
         Err(CallFault::JournalFull) => unreachable!(),
         Err(CallFault::NoMemory) => return Err(OutputFault::NoMemory),
-    }
+    };
+    put_reply(&reply, text, buffer, out)
 }
 
 /// A control with one seat in which nothing has happened, with room for this many commands: so their journal is
