@@ -317,13 +317,14 @@ impl<R: Runs> ControlState<R> {
     }
 
     /// Sets the pause, where none stands and a breakpoint fires.
+    #[inline(always)]
     fn fire(&mut self, taken: &TakenStep) -> Option<u32>
         ensures fired { result ≡ newly_fired self.old.state.pause taken.now self.old.state.stops }
         ensures after { self.new.state
             ≡ record self.old.state { pause = option_or self.old.state.pause result } }
         ensures kept { self.new.capacities ≡ self.old.capacities }
     {
-        if self.pause.is_some() {
+        if self.pause.is_some() || self.breakpoints.is_empty() {
             return None;
         }
         self.pause = self.breakpoints.first_fired(taken);

@@ -1,5 +1,5 @@
 //! Breakpoints.
-ghost use Rattle.std.specs.Prelude.{◌≡◌, ◌≤◌, ◌==◌, ◌&&◌, [], IfOk, OnOk, OnErr, length, nat_eq, not, is_some};
+ghost use Rattle.std.specs.Prelude.{◌≡◌, ◌↔◌, ◌≤◌, IsTrue, ◌==◌, ◌&&◌, [], IfOk, OnOk, OnErr, length, nat_eq, not, is_some};
 ghost use Rattle.std.specs.Map.{lookup};
 ghost use Rattle.cdb_base.specs.Event.{is_step_of};
 ghost use Rattle.cdb_base.specs.declared.limits.TheConstants.{MAX_ENTRIES};
@@ -109,6 +109,13 @@ impl Breakpoints {
         self.standing.len()
     }
 
+    /// Whether no breakpoint stands.
+    pub fn is_empty(&self) -> bool
+        ensures { IsTrue result ↔ (self.now.stops ≡ []) }
+    {
+        self.standing.is_empty()
+    }
+
     /// Sets a breakpoint, and gives its number. After `NoMemory` nothing has changed.
     pub fn set(&mut self, stop: Stop) -> Result<u32, NoMemory>
         requires { self.old.next ≤ MAX_ENTRIES }
@@ -138,6 +145,7 @@ impl Breakpoints {
     }
 
     /// The number of the first breakpoint that a step fires.
+    #[inline(never)]
     pub fn first_fired(&self, taken: &TakenStep) -> Option<u32>
         ensures { result ≡ first_fired taken.now self.now.stops }
     {

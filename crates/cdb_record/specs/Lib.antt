@@ -5,6 +5,3 @@ pub mod Counts
 pub mod Taken
 -- what the code keeps for itself: how an event is looked for, and taken out
 pub mod Search
--- and how what it left is held
-pub mod SmallCells
-pub mod Kept

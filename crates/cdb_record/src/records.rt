@@ -18,7 +18,6 @@ ghost use Rattle.cdb_record.specs.Recorded.{events_of, recorded_of};
 ghost use Rattle.cdb_record.specs.Search.{TakesFree, IsLastStepOrNone};
 ghost use Rattle.cdb_record.specs.Taken.{IsLastStepOf, TakesWhereFree};
 
-use crate::kept::Kept;
 use crate::recorded::{Left, Recorded};
 use cdb_base::{CopyName, Event, NoMemory, Proc, StepId};
 use cdb_causal::{History, count_direct_dependents, first_dependent};
@@ -32,7 +31,7 @@ use std::marker::Model;
 pub struct Records<B: Drop> {
     history: History,
     /// What each event left.
-    left: Log<Kept<B>>,
+    left: Log<Left<B>>,
 }
 
 impl<B: Drop> Model for Records<B> {
@@ -121,7 +120,7 @@ impl<B: Drop> Records<B> {
         let_grow(&mut self.left);
         self.left.reserve()?;
         let left = self.history.push_with(event, state, change)?;
-        self.left.push_reserved(Kept::new(left));
+        self.left.push_reserved(left);
         Ok(())
     }
 
@@ -146,8 +145,7 @@ impl<B: Drop> Records<B> {
         ensures rest { self.new ≡ without self.old at }
     {
         let event = self.history.remove(at);
-        let kept = self.left.take_out(at - 1);
-        let Left { back, overwritten } = kept.into_left();
+        let Left { back, overwritten } = self.left.take_out(at - 1);
         Recorded {
             event,
             back,

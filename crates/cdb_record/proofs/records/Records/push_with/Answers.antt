@@ -19,7 +19,7 @@ returns-clause-ok g c =
     let events = c.self.inside.history in
     let lefts = c.self.inside.left.items in
     let left = c.in_ok-left.left in
-    let items = c.push_reserved.ensures.pushed.items ∙ ap (λ kept. c.reserve.new.self.items ++ kept ∷ []) c.new.ensures ∙ ap (λ l. l ++ left ∷ []) (c.reserve.ensures.same.items ∙ c.let_grow.ensures.same) in (
+    let items = c.push_reserved.ensures.pushed.items ∙ ap (λ l. l ++ left ∷ []) (c.reserve.ensures.same.items ∙ c.let_grow.ensures.same) in (
       left,
       c.in_ok-left.ensures.changed,
       ap₂ records_of c.in_ok-left.ensures.added items ∙ recorded_push events lefts c.args.event left c.self.invariant
