@@ -7,6 +7,7 @@ use crate::source::Source;
 use std::alloc::Global;
 use std::io::Read;
 use std::marker::Model;
+use std::mem;
 
 /// A reader of the standard library whose failures are counted. What it has left is what the reader has left.
 #[derive(Drop)]
@@ -71,7 +72,8 @@ impl<'a> Source for Bytes<'a> {
     }
 }
 
-/// Bytes in memory that are not yet read. Their memory is given up as soon as the last is read.
+/// Bytes in memory that are not yet read. They are handed over to who reads all; else their memory is given up as soon
+/// as the last is read.
 #[derive(Drop)]
 pub struct HeldBytes {
     bytes: Vec<u8>,
@@ -118,5 +120,14 @@ impl Source for HeldBytes {
             self.read = 0;
         }
         Ok(count)
+    }
+
+    fn hand_over(&mut self, alloc: Global, most: usize) -> Option<Vec<u8>> {
+        if self.read > 0 || self.bytes.len() > most {
+            return None;
+        }
+        let mut bytes = Vec::new(alloc);
+        mem::swap(&mut bytes, &mut self.bytes);
+        Some(bytes)
     }
 }

@@ -1,6 +1,6 @@
 //! Readers.
 
-ghost use Rattle.std.specs.Prelude.{◌≡◌, ◌<◌, ◌≤◌, length, Err, IfOk, is_err};
+ghost use Rattle.std.specs.Prelude.{◌≡◌, ◌<◌, ◌≤◌, length, Err, IfOk, IfSome, IfNone, is_err};
 ghost use Rattle.std.specs.Io.{ReadsAtMost};
 ghost use Rattle.std.specs.Io.KnownBytes.{Consumes, IsAtEnd, ReadConsumes};
 ghost use Rattle.cdb_play.specs.Streams.{Stream, counted, FailsWhere};
@@ -24,6 +24,20 @@ pub trait Source {
             result buffer.new }
         ensures failures { (stream self.new).failures
             ≡ counted (is_err result) (stream self.old).failures };
+
+    /// All the bytes that are left, where they stand in memory already and are at most this many: they are handed
+    /// over, and none is copied. Else nothing happens.
+    fn hand_over(&mut self, _alloc: Global, most: usize) -> Option<Vec<u8>>
+        ensures taken { IfSome result
+            (λ bytes. Consumes (stream self.old).bytes (stream self.new).bytes bytes.items) }
+        ensures most { IfSome result (λ bytes. length bytes.items ≤ most) }
+        ensures end { IfSome result (λ _. IsAtEnd (stream self.new).bytes) }
+        ensures none { IfNone result (self.new ≡ self.old) }
+        ensures failures { (stream self.new).failures ≡ (stream self.old).failures }
+    {
+        let _ = most;
+        None
+    }
 }
 
 /// Why a reader was not read.
@@ -89,6 +103,9 @@ pub fn read_up_to<R: Source>(
         (λ bytes. length bytes.items < most → IsAtEnd (R.stream source.new).bytes) }
     ensures failed { FailsWhere R.stream (result ≡ Err ReadFault.Failed) source.old source.new }
 {
+    if let Some(bytes) = source.hand_over(alloc, most) {
+        return Ok(bytes);
+    }
     let mut bytes = Vec::new(alloc);
     let mut buffer = [0u8; PIECE];
     while bytes.len() < most {
