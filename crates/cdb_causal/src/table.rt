@@ -22,16 +22,29 @@ pub struct Table {
     rows: [Vec<Mark>; 9],
 }
 
+/// Makes a row longer, so that it has a cell and more behind it. The new cells are 0.
+#[cold]
+#[inline(never)]
+fn lengthen(row: &mut Vec<Mark>, at: usize) -> Result<(), NoMemory>
+    requires within { at < named_cells }
+    requires beyond { vec_len row.old ≤ at }
+    ensures others { (n : ℕ) → slice_index row.new.items n ≡ slice_index row.old.items n }
+    ensures room { OnOk result (at < vec_len row.new) }
+{
+    row.resize(at + GROWTH, 0)?;
+    Ok(())
+}
+
 /// Makes room for a cell. The new cells are 0.
 fn grow_row(row: &mut Vec<Mark>, at: usize) -> Result<(), NoMemory>
     requires { at < named_cells }
     ensures others { (n : ℕ) → slice_index row.new.items n ≡ slice_index row.old.items n }
     ensures room { OnOk result (at < vec_len row.new) }
 {
-    if row.len() <= at {
-        row.resize(at + GROWTH, 0)?;
+    if at < row.len() {
+        return Ok(());
     }
-    Ok(())
+    lengthen(row, at)
 }
 
 /// Gives a cell a bound above all marks. One that was left too high falls to it.
