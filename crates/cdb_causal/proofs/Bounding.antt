@@ -1,5 +1,5 @@
 -- The bounds stay right where bounds are raised, an event is added or one is taken out.
-use Rattle.std.proofs.Common.{◌≡◌, ℕ, zero, suc, ◌-◌, ◌<◌, ◌≤◌, ⊎_elim, List, [], ◌∷◌, ◌++◌, Some, length, slice_get, slice_index, Bool, true, false, true≢false, refl, sym, ap, ◌∙◌, subst, arith}
+use Rattle.std.proofs.Common.{◌≡◌, ℕ, zero, suc, ◌-◌, ◌<◌, ◌≤◌, ⊎_elim, List, [], ◌∷◌, ◌++◌, Some, length, slice_get, Bool, true, false, true≢false, refl, sym, ap, ◌∙◌, subst, arith}
 use Rattle.std.proofs.lemmas.Option.{slice_get_within}
 use Rattle.cdb_base.specs.Event.{event_name}
 use Rattle.cdb_base.specs.declared.event.Event.{Event}
@@ -10,6 +10,7 @@ use Rattle.cdb_base.specs.declared.name.StepId.TheVariants as named
 use Rattle.cdb_base.specs.declared.name.StepName.{StepName}
 use Rattle.cdb_base.specs.declared.event.Event.TheVariants.{Step, Lost}
 use Rattle.cdb_base.specs.declared.event.Kind.TheVariants.{Send, Recv, Read, Write}
+use Rattle.cdb_causal.specs.Tables.{bound_of}
 use Rattle.cdb_causal.specs.Alone.{AreAlone, LeavesCell}
 use Rattle.cdb_causal.specs.Bounds.{IsKindWithin, IsEventWithin, AreWithin, AreRaised}
 use Rattle.cdb_causal.specs.Cells.{register_cell, named_cell, named_copy_cell}
@@ -100,8 +101,8 @@ loss_below bounds name copy is_lost i (Step p k kind) within is = absurd (no_los
 loss_below bounds name copy is_lost i (Lost other) within is = subst (λ c. IsEventWithin bounds i (Lost c)) (same_lost (is ∙ is_lost)) within
 
 -- a step stands below the bound of its name
-pub step_below : (bounds : Bounds) (name : StepId) (step : StepName) → name ≡ named.Step step → (i : ℕ) (event : Event) → IsEventWithin bounds i event → event_name event ≡ name → i < slice_index bounds.steps.items (named_cell step.p step.k)
-step_below bounds name step is_step i (Step p k kind) within is = subst (λ (s : StepName). i < slice_index bounds.steps.items (named_cell s.p s.k)) (same_step (is ∙ is_step)) within.0
+pub step_below : (bounds : Bounds) (name : StepId) (step : StepName) → name ≡ named.Step step → (i : ℕ) (event : Event) → IsEventWithin bounds i event → event_name event ≡ name → i < bound_of bounds.steps (named_cell step.p step.k)
+step_below bounds name step is_step i (Step p k kind) within is = subst (λ (s : StepName). i < bound_of bounds.steps (named_cell s.p s.k)) (same_step (is ∙ is_step)) within.0
 step_below bounds name step is_step i (Lost other) within is = absurd (no_loss (sym (is ∙ is_step)))
 
 pub position_not_gone : (gone i : ℕ) → position_before gone i ≡ gone → ⊥

@@ -37,5 +37,6 @@ pub mod Ends
 pub mod AboveDependents
 pub mod Starting
 pub mod Listing
+pub mod Tabling
 pub mod Accessing
 pub mod Waiting

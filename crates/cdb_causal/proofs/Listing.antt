@@ -65,6 +65,11 @@ module _ {Z : Type 0} where
   room_is (w ∷ lists) zero v room is = subst (λ (u : Vec ℕ Z). vec_len u < vec_capacity u) (sym is) room
   room_is (w ∷ lists) (suc n) v room is = room_is lists n v room is
 
+  pub room_at : (lists : List (Vec ℕ Z)) (n : ℕ) (v : Vec ℕ Z) → n < length lists → v ≡ get_or lists n v → vec_len v < vec_capacity v → HasRoomAt lists n
+  room_at [] n v within is room = absurd (omega arith)
+  room_at (w ∷ lists) zero v within is room = subst (λ (u : Vec ℕ Z). vec_len u < vec_capacity u) is room
+  room_at (w ∷ lists) (suc n) v within is room = room_at lists n v (omega arith) is room
+
   pub room_within : (lists : List (Vec ℕ Z)) (n : ℕ) → HasRoomAt lists n → n < length lists
   room_within [] n room = absurd room
   room_within (w ∷ lists) zero room = omega arith

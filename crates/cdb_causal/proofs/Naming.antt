@@ -6,6 +6,7 @@ use Rattle.cdb_base.specs.declared.event.Kind.{Kind}
 use Rattle.cdb_base.specs.declared.event.Kind.TheVariants.{Send, Recv, Read, Write}
 use Rattle.cdb_base.specs.declared.name.CopyName.{CopyName}
 use Rattle.cdb_base.specs.declared.name.StepId.TheVariants as named
+use Rattle.cdb_causal.specs.Tables.{bound_of}
 use Rattle.cdb_causal.specs.Bounds.{IsKindWithin, IsEventWithin, AreWithin}
 use Rattle.cdb_causal.specs.Cells.{register_cell, named_cell, named_copy_cell}
 use Rattle.cdb_causal.specs.FromZero.{without, IsStanding}
@@ -68,19 +69,19 @@ module _ (history : List Event) (standing : IsStanding history) (ranged : AreRan
           let b1 = b.1 in
           let b2 = b.2 in
           let b3 = b.3 in
-          let outer = same_number (named_cell copy.msg.s copy.msg.m) (named_cell second.msg.s second.msg.m) (copy.to - 1) (second.to - 1) (omega arith) (omega arith) (in_one ∙ sym in_event) in
-          let inner = same_number copy.msg.m second.msg.m (copy.msg.s - 1) (second.msg.s - 1) (omega arith) (omega arith) outer.0 in
+          let outer = same_number (copy.msg.m * 9 + (copy.to - 1)) (second.msg.m * 9 + (second.to - 1)) (copy.msg.s - 1) (second.msg.s - 1) (omega arith) (omega arith) (in_one ∙ sym in_event) in
+          let inner = same_number copy.msg.m second.msg.m (copy.to - 1) (second.to - 1) (omega arith) (omega arith) outer.0 in
           let name =
-          ap (λ x. named.Lost (record { msg = record { s = x; m = copy.msg.m }; to = copy.to })) (same_process copy.msg.s second.msg.s a0 b0 inner.1)
+          ap (λ x. named.Lost (record { msg = record { s = x; m = copy.msg.m }; to = copy.to })) (same_process copy.msg.s second.msg.s a0 b0 outer.1)
           ∙ ap (λ x. named.Lost (record { msg = record { s = second.msg.s; m = x }; to = copy.to })) inner.0
-          ∙ ap (λ x. named.Lost (record { msg = second.msg; to = x })) (same_process copy.to second.to a2 b2 outer.1) in
+          ∙ ap (λ x. named.Lost (record { msg = second.msg; to = x })) (same_process copy.to second.to a2 b2 inner.1) in
           other (standing.names_differ position gone (named.Lost second) (Lost copy, at, name) (Lost second, at_gone, refl))
       go (Lost copy) (Step q l second) at at_gone in_one in_event = in_event
       go (Step p k kind) event at at_gone in_one in_event = in_one
 
 kind_kept : (old new : Bounds) (event : Event) → IsNameForgotten old new event → (m p : ℕ) (kind : Kind) → IsKindWithin old m p kind → IsKindWithin new m p kind
-kind_kept old new event forgotten m p (Send r) within = subst (λ t. m < slice_index t.items (named_cell p r)) (sym forgotten.sends) within
-kind_kept old new event forgotten m p (Recv s r) within = subst (λ t. m < slice_index t.items (named_copy_cell s r (p - 1))) (sym forgotten.receives) within
+kind_kept old new event forgotten m p (Send r) within = subst (λ t. m < bound_of t (named_cell p r)) (sym forgotten.sends) within
+kind_kept old new event forgotten m p (Recv s r) within = subst (λ t. m < bound_of t (named_copy_cell s r (p - 1))) (sym forgotten.receives) within
 kind_kept old new event forgotten m p (Read register) within = subst (λ t. m < slice_index t (register_cell register (p - 1))) (sym forgotten.accesses) within
 kind_kept old new event forgotten m p (Write register) within = (
   subst (λ t. m < slice_index t (register_cell register (p - 1))) (sym forgotten.accesses) within.0,

@@ -5,6 +5,7 @@ use Rattle.cdb_base.specs.Event.{is_step_of}
 use Rattle.cdb_base.specs.declared.event.Event.{Event}
 use Rattle.cdb_base.specs.declared.event.Event.TheVariants.{Step, Lost}
 use Rattle.cdb_base.specs.declared.event.Kind.{Kind}
+use Rattle.cdb_causal.specs.Tables.{bound_of}
 use Rattle.cdb_causal.specs.Alone.{LeavesCell}
 use Rattle.cdb_causal.specs.Bounds.{AreRaised}
 use Rattle.cdb_causal.specs.Cells.{named_cell}
@@ -94,7 +95,7 @@ module _ (old new : Bounds) (old_marks marks : ℕ → ℕ) (history : List Even
         earlier = λ h i p k l kind other less at_h at_i.
             let low = fall h (slice_get_within (without history gone) h (Step p k kind) at_h) in
             let high = own.earlier (position_before gone h) (position_before gone i) p k l kind other (position_rises gone h i less) (sym (slice_get-without history gone h) ∙ at_h) (sym (slice_get-without history gone i) ∙ at_i) in
-            let same = ap (λ t. slice_index t.items (named_cell p l)) forgotten.before in
+            let same = ap (λ t. bound_of t (named_cell p l)) forgotten.before in
             omega arith;
       }
 
@@ -109,7 +110,7 @@ leaves_then old middle new last event forgotten leaves =
       accesses = leaves.accesses ∙ forgotten.accesses;
       before = leaves.before ∙ forgotten.before;
       others = λ n several.
-          let same = ap (λ t. slice_index t.items n) forgotten.receives in
+          let same = ap (λ t. bound_of t n) forgotten.receives in
           leaves.others n (λ is. same ∙ several is) ∙ same;
     }
 
@@ -117,7 +118,7 @@ pub own_same : (old new : Bounds) (marks : ℕ → ℕ) (history : List Event) �
 own_same old new marks history same_own same_before own =
     record {
       all = λ i p k kind at. subst (λ t. marks i < slice_index t (p - 1)) (sym same_own) (own.all i p k kind at);
-      earlier = λ h i p k l kind other less at_h at_i. subst (λ t. marks h < slice_index t.items (named_cell p l)) (sym same_before) (own.earlier h i p k l kind other less at_h at_i);
+      earlier = λ h i p k l kind other less at_h at_i. subst (λ t. marks h < bound_of t (named_cell p l)) (sym same_before) (own.earlier h i p k l kind other less at_h at_i);
     }
 
 -- all events in a slot before an event stand below the slot's bound

@@ -4,6 +4,7 @@ use Rattle.cdb_base.specs.declared.event.Event.{Event}
 use Rattle.cdb_base.specs.declared.event.Event.TheVariants.{Step, Lost}
 use Rattle.cdb_base.specs.declared.event.Kind.{Kind}
 use Rattle.cdb_base.specs.declared.event.Kind.TheVariants.{Send, Recv, Read, Write}
+use Rattle.cdb_causal.specs.Tables.{bound_of}
 use Rattle.cdb_causal.specs.Alone.{receive_bound, IsReceiveIn, AreAlone, KeepsReceives, JoinsCell, LeavesCell}
 use Rattle.cdb_causal.specs.Bounds.{IsKindWithin, IsEventWithin, AreWithin}
 use Rattle.cdb_causal.specs.Cells.{register_cell, named_cell, named_copy_cell}
@@ -13,7 +14,7 @@ use Rattle.cdb_causal.specs.FromZero.{without}
 use Rattle.cdb_causal.specs.LastCauses.{IsSlot}
 use Rattle.cdb_causal.specs.Rollback.{position_before}
 use Rattle.cdb_causal.specs.declared.bounds.Bounds.{Bounds}
-use Rattle.cdb_causal.specs.declared.bounds.TheConstants.{SEVERAL}
+use Rattle.cdb_causal.specs.declared.table.TheConstants.{SEVERAL}
 use Rattle.cdb_causal.proofs.Counting.{slice_get-without, same_position_before}
 use Rattle.cdb_causal.proofs.Effects.{by_effect}
 use Rattle.cdb_causal.proofs.Exchanges.{is_false}
@@ -75,7 +76,7 @@ module _ (old new : Bounds) (history : List Event) (gone : ℕ) (event : Event) 
       subst (λ b. m < b) (sym (leaves.others (named_copy_cell s r (p - 1)) (λ in_cell.
       ⊎_elim (λ several. several) (λ single. absurd (other (alone (named_copy_cell s r (p - 1)) i gone (Step p k (Recv s r)) event single at at_gone refl in_cell)))
       (is_several (receive_bound old (named_copy_cell s r (p - 1))))))) within
-  kind_left m i p k (Send r) at other within = subst (λ t. m < slice_index t.items (named_cell p r)) (sym leaves.sends) within
+  kind_left m i p k (Send r) at other within = subst (λ t. m < bound_of t (named_cell p r)) (sym leaves.sends) within
   kind_left m i p k (Read register) at other within = subst (λ t. m < slice_index t (register_cell register (p - 1))) (sym leaves.accesses) within
   kind_left m i p k (Write register) at other within = (
     subst (λ t. m < slice_index t (register_cell register (p - 1))) (sym leaves.accesses) within.0,
@@ -84,8 +85,8 @@ module _ (old new : Bounds) (history : List Event) (gone : ℕ) (event : Event) 
   kind_left m i p k _ at other within = within
 
   pub within_left : (m i : ℕ) (one : Event) → slice_get history i ≡ Some one → (i ≡ gone → ⊥) → IsEventWithin old m one → IsEventWithin new m one
-  within_left m i (Step p k kind) at other within = (subst (λ t. m < slice_index t.items (named_cell p k)) (sym leaves.steps) within.0, kind_left m i p k kind at other within.1)
-  within_left m i (Lost copy) at other within = subst (λ t. m < slice_index t.items (named_copy_cell copy.msg.s copy.msg.m (copy.to - 1))) (sym leaves.losses) within
+  within_left m i (Step p k kind) at other within = (subst (λ t. m < bound_of t (named_cell p k)) (sym leaves.steps) within.0, kind_left m i p k kind at other within.1)
+  within_left m i (Lost copy) at other within = subst (λ t. m < bound_of t (named_copy_cell copy.msg.s copy.msg.m (copy.to - 1))) (sym leaves.losses) within
 
 -- before a send, a step of another process on which it depends receives its message
 pub receives_sent : (p k m : ℕ) (slot : ℕ) (cause : Event) → IsSlot cause slot → slot < 9 → slot + 1 ≢ p → depends cause (Step p k (Send m)) ≡ true → IsReceiveIn cause (named_copy_cell p m slot)

@@ -1,10 +1,11 @@
 -- Where the first dependent of an event may stand: what stands below a bound, and which events can depend on a send.
-use Rattle.std.proofs.Common.{◌≡◌, ◌≢◌, ℕ, ◌+◌, ◌-◌, ◌<◌, ◌≤◌, ◌↔◌, ◌⊎◌, ⊎_elim, Bool, true, false, ◌&&◌, ◌||◌, nat_eq, List, Option, None, Some, length, slice_get, slice_index, refl, sym, ap, ◌∙◌, subst, true≢false, eqb-true, eq-eqb, arith}
+use Rattle.std.proofs.Common.{◌≡◌, ◌≢◌, ℕ, ◌+◌, ◌-◌, ◌<◌, ◌≤◌, ◌↔◌, ◌⊎◌, ⊎_elim, Bool, true, false, ◌&&◌, ◌||◌, nat_eq, List, Option, None, Some, length, slice_get, refl, sym, ap, ◌∙◌, subst, true≢false, eqb-true, eq-eqb, arith}
 use Rattle.std.proofs.lemmas.Option.{slice_get_within, same_Some}
 use Rattle.cdb_base.specs.declared.event.Event.{Event}
 use Rattle.cdb_base.specs.declared.event.Event.TheVariants.{Step, Lost}
 use Rattle.cdb_base.specs.declared.event.Kind.TheVariants.{Send, Recv}
 use Rattle.cdb_base.specs.declared.name.CopyName.{CopyName}
+use Rattle.cdb_causal.specs.Tables.{bound_of}
 use Rattle.cdb_causal.specs.AboveDependents.{IsAboveOthers}
 use Rattle.cdb_causal.specs.Alone.{receive_bound, IsReceiveIn}
 use Rattle.cdb_causal.specs.Bounds.{IsEventWithin, AreWithin}
@@ -31,8 +32,8 @@ pub receive_below : (bounds : Bounds) (i n : ℕ) (event : Event) → IsEventWit
 receive_below bounds i n (Step p k (Recv s m)) within is = subst (λ c. i < receive_bound bounds c) is within.1
 receive_below bounds i n _ within is = absurd is
 
-pub loss_below : (bounds : Bounds) (i n : ℕ) (event : Event) → IsEventWithin bounds i event → IsLossIn event n → i < slice_index bounds.losses.items n
-loss_below bounds i n (Lost copy) within is = subst (λ c. i < slice_index bounds.losses.items c) is within
+pub loss_below : (bounds : Bounds) (i n : ℕ) (event : Event) → IsEventWithin bounds i event → IsLossIn event n → i < bound_of bounds.losses n
+loss_below bounds i n (Lost copy) within is = subst (λ c. i < bound_of bounds.losses c) is within
 loss_below bounds i n (Step p k kind) within is = absurd is
 
 same_or_not : (i j : ℕ) → ((i ≡ j → ⊥) → ⊥) → i ≡ j

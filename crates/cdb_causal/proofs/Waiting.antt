@@ -1,8 +1,9 @@
 -- What stands between a send and a receive of another process, and depends on both.
-use Rattle.std.proofs.Common.{◌≡◌, ℕ, ◌-◌, ◌<◌, ◌≤◌, Bool, true, false, ◌&&◌, ◌||◌, nat_eq, slice_index, refl, sym, ap, ◌∙◌, subst, true≢false, eqb-true, arith}
+use Rattle.std.proofs.Common.{◌≡◌, ℕ, ◌-◌, ◌<◌, ◌≤◌, Bool, true, false, ◌&&◌, ◌||◌, nat_eq, refl, sym, ap, ◌∙◌, subst, true≢false, eqb-true, arith}
 use Rattle.cdb_base.specs.declared.event.Event.TheVariants.{Step, Lost}
 use Rattle.cdb_base.specs.declared.event.Kind.{Kind}
 use Rattle.cdb_base.specs.declared.event.Kind.TheVariants.{Send, Recv, Write}
+use Rattle.cdb_causal.specs.Tables.{bound_of}
 use Rattle.cdb_causal.specs.Alone.{ShareCell}
 use Rattle.cdb_causal.specs.Between.{IsAboveOtherReceives, IsAboveWaiting}
 use Rattle.cdb_causal.specs.Bounds.{IsEventWithin}
@@ -29,7 +30,7 @@ not_both : (q p x : ℕ) → nat_eq q p ≡ false → nat_eq q x ≡ true → na
 not_both q p x differ same = ap (λ y. nat_eq y p) (sym (eqb-true q x same)) ∙ differ
 
 module _ (bounds : Bounds) (q m p s r result : ℕ) (differ : nat_eq q p ≡ false) where
-  pub above_waiting : (sent : slice_index bounds.sends.items (named_cell s r) ≤ result) (lost : slice_index bounds.losses.items (named_copy_cell s r (p - 1)) ≤ result)
+  pub above_waiting : (sent : bound_of bounds.sends (named_cell s r) ≤ result) (lost : bound_of bounds.losses (named_copy_cell s r (p - 1)) ≤ result)
       → (received : IsAboveOtherReceives bounds q m p s r result)
       → IsAboveWaiting bounds q m p s r result
   above_waiting sent lost received i k l (Step x n kind) within unshared h g = go kind within unshared (sym (by_effect (Step q k (Send m)) (Step x n kind)) ∙ h) (sym (by_effect (Step x n kind) (Step p l (Recv s r))) ∙ g)
@@ -46,17 +47,17 @@ module _ (bounds : Bounds) (q m p s r result : ℕ) (differ : nat_eq q p ≡ fal
       go (Send number) within unshared h g =
           let same = first_true (nat_eq q x) h in
           let parts = both_true (nat_eq x s) (nat_eq number r) (first_true _ (other_true (nat_eq x p) _ (not_both q p x differ same) g)) in
-          let below : i < slice_index bounds.sends.items (named_cell s r) =
-          subst (λ y. i < slice_index bounds.sends.items (named_cell y r)) (eqb-true x s parts.0)
-          (subst (λ y. i < slice_index bounds.sends.items (named_cell x y)) (eqb-true number r parts.1) within.1) in
+          let below : i < bound_of bounds.sends (named_cell s r) =
+          subst (λ y. i < bound_of bounds.sends (named_cell y r)) (eqb-true x s parts.0)
+          (subst (λ y. i < bound_of bounds.sends (named_cell x y)) (eqb-true number r parts.1) within.1) in
           omega arith
       go (Write register) within unshared h g = absurd (true≢false (sym (other_true (nat_eq x p) _ (not_both q p x differ (first_true (nat_eq q x) h)) g)))
       go _ within unshared h g = absurd (true≢false (sym (other_true (nat_eq x p) _ (not_both q p x differ (first_true (nat_eq q x) h)) g)))
   above_waiting sent lost received i k l (Lost copy) within unshared h g =
       let parts = both_true (nat_eq p copy.to) (receives copy.msg.s copy.msg.m (Recv s r)) (first_true _ (sym (by_effect (Lost copy) (Step p l (Recv s r))) ∙ g)) in
       let of = both_true (nat_eq copy.msg.s s) (nat_eq copy.msg.m r) parts.1 in
-      let below : i < slice_index bounds.losses.items (named_copy_cell s r (p - 1)) =
-      subst (λ y. i < slice_index bounds.losses.items (named_copy_cell y r (p - 1))) (eqb-true copy.msg.s s of.0)
-      (subst (λ y. i < slice_index bounds.losses.items (named_copy_cell copy.msg.s y (p - 1))) (eqb-true copy.msg.m r of.1)
-      (subst (λ y. i < slice_index bounds.losses.items (named_copy_cell copy.msg.s copy.msg.m (y - 1))) (sym (eqb-true p copy.to parts.0)) within)) in
+      let below : i < bound_of bounds.losses (named_copy_cell s r (p - 1)) =
+      subst (λ y. i < bound_of bounds.losses (named_copy_cell y r (p - 1))) (eqb-true copy.msg.s s of.0)
+      (subst (λ y. i < bound_of bounds.losses (named_copy_cell copy.msg.s y (p - 1))) (eqb-true copy.msg.m r of.1)
+      (subst (λ y. i < bound_of bounds.losses (named_copy_cell copy.msg.s copy.msg.m (y - 1))) (sym (eqb-true p copy.to parts.0)) within)) in
       omega arith

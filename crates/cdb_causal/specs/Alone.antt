@@ -1,15 +1,16 @@
 -- Receives that stand alone in their cell of the bounds: no other event receives the copy.
-use Rattle.std.specs.Prelude.{◌≡◌, ◌≢◌, ℕ, ◌-◌, ◌<◌, List, Some, slice_get, slice_index}
+use Rattle.std.specs.Prelude.{◌≡◌, ◌≢◌, ℕ, ◌-◌, ◌<◌, List, Some, slice_get}
 use Rattle.cdb_base.specs.declared.event.Event.{Event}
 use Rattle.cdb_base.specs.declared.event.Event.TheVariants.{Step}
 use Rattle.cdb_base.specs.declared.event.Kind.TheVariants.{Recv}
 use Rattle.cdb_causal.specs.Cells.{named_copy_cell}
+use Rattle.cdb_causal.specs.Tables.{bound_of}
 use Rattle.cdb_causal.specs.declared.bounds.Bounds.{Bounds}
-use Rattle.cdb_causal.specs.declared.bounds.TheConstants.{SEVERAL}
+use Rattle.cdb_causal.specs.declared.table.TheConstants.{SEVERAL}
 
 -- the bound of a cell of the receives
 abbrev pub receive_bound : Bounds → ℕ → ℕ
-receive_bound bounds n = slice_index bounds.receives.items n
+receive_bound bounds n = bound_of bounds.receives n
 
 -- the event receives a copy that has that cell
 abbrev pub IsReceiveIn : Event → ℕ → Type 0

@@ -15,9 +15,9 @@ register_cell register slot = row register * 9 + slot
 abbrev pub named_cell : ℕ → ℕ → ℕ
 named_cell p k = k * 9 + (p - 1)
 
--- and so have the copies of one message
+-- copies stand as messages do, nine for each, one for each receiver
 abbrev pub named_copy_cell : ℕ → ℕ → ℕ → ℕ
-named_copy_cell s m slot = named_cell s m * 9 + slot
+named_copy_cell s m slot = named_cell s (m * 9 + slot)
 
 -- how many cells there are of steps, or of messages: 65,536 of each of 9 processes; and how many of copies: of each message, for 9 receivers
 abbrev pub named_cells : ℕ

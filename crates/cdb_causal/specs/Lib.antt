@@ -28,5 +28,6 @@ pub mod Listed
 pub mod Named
 pub mod Own
 pub mod Raised
+pub mod Tables
 pub mod Starts
 pub mod Exchanging

@@ -1,10 +1,11 @@
 -- The cells of bounds that the name of an event has: a step's, or a loss's. No two standing events share such a cell.
-use Rattle.std.specs.Prelude.{◌≡◌, ℕ, ◌-◌, ◌<◌, ◌≤◌, List, Some, slice_get, slice_index}
+use Rattle.std.specs.Prelude.{◌≡◌, ℕ, ◌-◌, ◌<◌, ◌≤◌, List, Some, slice_get}
 use Rattle.cdb_base.specs.declared.limits.TheConstants.{MAX_PROCESSES}
 use Rattle.cdb_base.specs.declared.event.Event.{Event}
 use Rattle.cdb_base.specs.declared.event.Event.TheVariants.{Step, Lost}
 use Rattle.cdb_base.specs.declared.name.CopyName.{CopyName}
 use Rattle.cdb_causal.specs.Cells.{named_cell, named_copy_cell, named_cells, copy_cells}
+use Rattle.cdb_causal.specs.Tables.{bound_of}
 use Rattle.cdb_causal.specs.declared.bounds.Bounds.{Bounds}
 
 -- the copy is of a message of a process from 1 to 9, for such a process
@@ -37,6 +38,6 @@ pub record IsNameForgotten (old new : Bounds) (event : Event) : Type 0 where
   pub writes : new.writes ≡ old.writes
   pub accesses : new.accesses ≡ old.accesses
   pub own : new.own ≡ old.own
-  pub steps : (n : ℕ) → (IsStepIn event n → ⊥) → slice_index new.steps.items n ≡ slice_index old.steps.items n
-  pub before : (n : ℕ) → (IsStepIn event n → ⊥) → slice_index new.before.items n ≡ slice_index old.before.items n
-  pub losses : (n : ℕ) → (IsLossIn event n → ⊥) → slice_index new.losses.items n ≡ slice_index old.losses.items n
+  pub steps : (n : ℕ) → (IsStepIn event n → ⊥) → bound_of new.steps n ≡ bound_of old.steps n
+  pub before : (n : ℕ) → (IsStepIn event n → ⊥) → bound_of new.before n ≡ bound_of old.before n
+  pub losses : (n : ℕ) → (IsLossIn event n → ⊥) → bound_of new.losses n ≡ bound_of old.losses n

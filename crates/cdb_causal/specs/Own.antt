@@ -4,6 +4,7 @@ use Rattle.cdb_base.specs.declared.event.Event.{Event}
 use Rattle.cdb_base.specs.declared.event.Event.TheVariants.{Step, Lost}
 use Rattle.cdb_base.specs.declared.event.Kind.{Kind}
 use Rattle.cdb_causal.specs.Cells.{named_cell}
+use Rattle.cdb_causal.specs.Tables.{bound_of}
 use Rattle.cdb_causal.specs.declared.bounds.Bounds.{Bounds}
 use Rattle.cdb_log.specs.declared.log.TheConstants.{ABOVE_ALL}
 
@@ -12,7 +13,7 @@ abbrev pub own_bound : Bounds → ℕ → ℕ
 own_bound bounds p = slice_index bounds.own (p - 1)
 
 abbrev pub bound_before : Bounds → ℕ → ℕ → ℕ
-bound_before bounds p k = slice_index bounds.before.items (named_cell p k)
+bound_before bounds p k = bound_of bounds.before (named_cell p k)
 
 pub record AreOwn (bounds : Bounds) (marks : ℕ → ℕ) (history : List Event) : Type 0 where
   pub all : (i p k : ℕ) (kind : Kind) → slice_get history i ≡ Some (Step p k kind) → marks i < own_bound bounds p

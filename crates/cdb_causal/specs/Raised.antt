@@ -1,10 +1,10 @@
 -- Tables of bounds, as they are raised.
-use Rattle.std.specs.Prelude.{◌≡◌, ℕ, ◌<◌, ◌==◌, List, slice_index, if◌then◌else◌}
-use Rattle.cdb_causal.specs.declared.bounds.TheConstants.{SEVERAL}
+use Rattle.std.specs.Prelude.{◌≡◌, ℕ, ◌<◌, ◌==◌, if◌then◌else◌}
+use Rattle.cdb_causal.specs.declared.table.TheConstants.{SEVERAL}
 
 -- of the marks below the top, those that were below a bound still are
-abbrev pub IsRaised : ℕ → List ℕ → List ℕ → Type 0
-IsRaised top old new = (n i : ℕ) → i < top → i < slice_index old n → i < slice_index new n
+abbrev pub IsRaised : ℕ → (ℕ → ℕ) → (ℕ → ℕ) → Type 0
+IsRaised top old new = (n i : ℕ) → i < top → i < old n → i < new n
 
 -- what becomes of the bound of a cell where an event joins it: of two events that may stand there, neither has it alone
 abbrev pub after_joining : ℕ → ℕ → ℕ
@@ -15,6 +15,6 @@ abbrev pub after_leaving : ℕ → ℕ
 after_leaving old = if old == SEVERAL then SEVERAL else 0
 
 -- the bound of one cell is changed so, and every other stays
-abbrev pub ChangesCell : (ℕ → ℕ) → List ℕ → List ℕ → ℕ → Type 0
+abbrev pub ChangesCell : (ℕ → ℕ) → (ℕ → ℕ) → (ℕ → ℕ) → ℕ → Type 0
 ChangesCell change old new cell =
-    (n : ℕ) → slice_index new n ≡ (if n == cell then change (slice_index old n) else slice_index old n)
+    (n : ℕ) → new n ≡ (if n == cell then change (old n) else old n)

@@ -57,6 +57,13 @@ fn drop_from(bounds: &mut Vec<Mark>, bound: Mark)
     }
 }
 
+/// Whether a list has room for a bound more.
+fn has_room(bounds: &Vec<Mark>) -> bool
+    ensures { IsTrue result → vec_len bounds.now < vec_capacity bounds.now }
+{
+    bounds.len() < bounds.capacity()
+}
+
 /// Adds a bound at the end of a list, for which there is room.
 fn join(bounds: &mut Vec<Mark>, bound: Mark)
     requires rising { IsRising bounds.old.items }
@@ -165,7 +172,16 @@ impl Accesses {
         Ok(())
     }
 
+    /// Whether the n-th list has room for a bound more.
+    fn has_room_in(&self, n: usize) -> bool
+        ensures { IsTrue result → HasRoomAt self.now.lists.items n }
+    {
+        n < self.lists.len() && has_room(&self.lists[n])
+    }
+
     /// Makes room in the n-th list.
+    #[cold]
+    #[inline(never)]
     fn reserve_in(&mut self, n: usize) -> Result<(), NoMemory>
         requires { n < 20 }
         ensures same { KeepsLists self.old.lists.items self.new.lists.items }
@@ -182,8 +198,8 @@ impl Accesses {
         ensures room { OnOk result (HasRoomFor self.new.lists.items event.now) }
     {
         match list_of(event) {
-            Some(n) => self.reserve_in(n),
-            None => Ok(()),
+            Some(n) if !self.has_room_in(n) => self.reserve_in(n),
+            _ => Ok(()),
         }
     }
 

@@ -3,7 +3,7 @@
 //! right where events are taken out. An event that is added stands above all others, so its mark gives a
 //! bound of each cell that it joins.
 
-ghost use Rattle.std.specs.Prelude.{◌≡◌, ◌≢◌, IsTrue, ℕ, ◌+◌, ◌<◌, ◌≤◌, [], OnOk, true, false, length, nat_eq, slice_index, replicate, vec_len};
+ghost use Rattle.std.specs.Prelude.{◌≡◌, ◌≢◌, IsTrue, ℕ, ◌+◌, ◌*◌, ◌<◌, ◌≤◌, OnOk, true, false, length, nat_eq, slice_index, replicate};
 ghost use Rattle.cdb_base.specs.Event.{event_name};
 ghost use Rattle.cdb_base.specs.declared.event.Event.{Event as AnEvent};
 ghost use Rattle.cdb_base.specs.declared.event.Event.TheVariants.{Step, Lost};
@@ -11,11 +11,13 @@ ghost use Rattle.cdb_base.specs.declared.event.Kind.{Kind as AKind};
 ghost use Rattle.cdb_base.specs.declared.event.Kind.TheVariants.{Recv, Read, Write};
 ghost use Rattle.cdb_base.specs.declared.name.CopyName.{CopyName as ACopy};
 ghost use Rattle.cdb_causal.specs.Cells.{row, register_cell as register_cell_of, named_cell as named_cell_of, named_copy_cell, copy_cells, named_cells, IsProcess, IsRegister};
+ghost use Rattle.cdb_causal.specs.Tables.{bound_of, HasCell};
 ghost use Rattle.cdb_causal.specs.Dependence.{accesses as accesses_of, same_process};
 ghost use Rattle.cdb_causal.specs.LastCauses.{IsSlot};
-ghost use Rattle.cdb_causal.specs.Raised.{IsRaised, ChangesCell, after_joining, after_leaving};
+ghost use Rattle.cdb_causal.specs.Raised.{IsRaised};
 
 use crate::dependence::accesses;
+use crate::table::{SEVERAL, Table};
 use cdb_base::{CopyName, Event, Kind, NoMemory, Proc, Reg, StepId};
 use cdb_log::{ABOVE_ALL, Mark};
 use std::alloc::Global;
@@ -23,20 +25,17 @@ use std::alloc::Global;
 /// Cells of a table of the registers and processes.
 const REGISTER_CELLS: usize = 90;
 
-/// The bound of a copy that several standing events may receive.
-const SEVERAL: Mark = ABOVE_ALL;
-
 /// Each bound is one above the mark under which the last such event was added.
 #[derive(Drop)]
 pub struct Bounds {
     /// By process and number of the step.
-    steps: Vec<Mark>,
+    steps: Table,
     /// By sender and number of the message sent.
-    sends: Vec<Mark>,
+    sends: Table,
     /// By copy received: 0 where no such event stands, and `SEVERAL` where more than one may.
-    receives: Vec<Mark>,
+    receives: Table,
     /// By copy lost.
-    losses: Vec<Mark>,
+    losses: Table,
     /// By register written and process.
     writes: [Mark; REGISTER_CELLS],
     /// By register read or written and process.
@@ -44,7 +43,7 @@ pub struct Bounds {
     /// By process, of all its steps.
     own: [Mark; 9],
     /// By process and number of the step, of the process's steps before that.
-    before: Vec<Mark>,
+    before: Table,
 }
 
 /// The row of a register in a table.
@@ -77,6 +76,15 @@ pub(crate) fn named_cell(p: Proc, k: u16) -> usize
     k as usize * 9 + p.index()
 }
 
+/// The position in its sender's row of a copy, for the process of a slot, of the m-th message.
+fn copy_position(m: u16, slot: usize) -> usize
+    requires { slot < 9 }
+    ensures value { result ≡ m * 9 + slot }
+    ensures small { result < named_cells }
+{
+    m as usize * 9 + slot
+}
+
 /// The cell of a copy, for the process of a slot, of the m-th message of process s.
 pub(crate) fn copy_cell(s: Proc, m: u16, slot: usize) -> usize
     requires { slot < 9 }
@@ -84,66 +92,16 @@ pub(crate) fn copy_cell(s: Proc, m: u16, slot: usize) -> usize
     ensures small { result < copy_cells }
     ensures process { IsProcess s }
 {
-    named_cell(s, m) * 9 + slot
+    copy_position(m, slot) * 9 + s.index()
 }
 
-/// By how many cells at least a table grows, so that it seldom does.
-const GROWTH: usize = 256;
-
-/// Makes room for a cell. The new cells are 0.
-fn grow(table: &mut Vec<Mark>, cell: usize) -> Result<(), NoMemory>
-    requires { cell < copy_cells }
-    ensures others { (n : ℕ) → slice_index table.new.items n ≡ slice_index table.old.items n }
-    ensures room { OnOk result (cell < vec_len table.new) }
-{
-    if table.len() <= cell {
-        table.resize(cell + GROWTH, 0)?;
-    }
-    Ok(())
-}
-
-/// Gives a cell a bound above all marks. One that was left too high falls to it.
+/// Gives a cell of a table of registers a bound above all marks. One that was left too high falls to it.
 fn raise(table: &mut [Mark], cell: usize, bound: Mark)
     requires { cell < length table.old }
-    ensures others { IsRaised bound table.old table.new }
+    ensures others { IsRaised bound (slice_index table.old) (slice_index table.new) }
     ensures raised { bound ≤ slice_index table.new cell }
 {
     table[cell] = bound;
-}
-
-/// Gives a cell its bound, where it has none, or marks that several events may stand there.
-fn join(table: &mut [Mark], cell: usize, bound: Mark)
-    requires cell { cell < length table.old }
-    requires bound { bound ≤ SEVERAL }
-    ensures joined { ChangesCell (λ old. after_joining old bound) table.old table.new cell }
-    ensures raised { IsRaised bound table.old table.new }
-{
-    table[cell] = if table[cell] == 0 { bound } else { SEVERAL };
-}
-
-/// Takes the bound from a cell in which one event stands.
-fn leave(table: &mut [Mark], cell: usize)
-    ensures { ChangesCell after_leaving table.old table.new cell }
-{
-    if cell < table.len() && table[cell] != SEVERAL {
-        table[cell] = 0;
-    }
-}
-
-/// Takes the bound from a cell.
-fn clear(table: &mut [Mark], cell: usize)
-    ensures { (n : ℕ) → (cell ≡ n → ⊥) → slice_index table.new n ≡ slice_index table.old n }
-{
-    if cell < table.len() {
-        table[cell] = 0;
-    }
-}
-
-/// The bound in a cell; 0 beyond the end of the table.
-fn bound_in(table: &[Mark], cell: usize) -> Mark
-    ensures { result ≡ slice_index table.now cell }
-{
-    table.get(cell).copied().unwrap_or(0)
 }
 
 /// The highest bound of a register in a table.
@@ -185,24 +143,24 @@ impl Bounds {
 
     /// The bounds of a history without events.
     pub fn new(alloc: Global) -> Self
-        ensures steps { result.steps.items ≡ [] }
-        ensures sends { result.sends.items ≡ [] }
-        ensures receives { result.receives.items ≡ [] }
-        ensures losses { result.losses.items ≡ [] }
+        ensures steps { (n : ℕ) → bound_of result.steps n ≡ 0 }
+        ensures sends { (n : ℕ) → bound_of result.sends n ≡ 0 }
+        ensures receives { (n : ℕ) → bound_of result.receives n ≡ 0 }
+        ensures losses { (n : ℕ) → bound_of result.losses n ≡ 0 }
         ensures writes { result.writes ≡ replicate 90 0 }
         ensures accesses { result.accesses ≡ replicate 90 0 }
         ensures own { result.own ≡ replicate 9 0 }
-        ensures before { result.before.items ≡ [] }
+        ensures before { (n : ℕ) → bound_of result.before n ≡ 0 }
     {
         Bounds {
-            steps: Vec::new(alloc),
-            sends: Vec::new(alloc),
-            receives: Vec::new(alloc),
-            losses: Vec::new(alloc),
+            steps: Table::new(alloc),
+            sends: Table::new(alloc),
+            receives: Table::new(alloc),
+            losses: Table::new(alloc),
             writes: [0; REGISTER_CELLS],
             accesses: [0; REGISTER_CELLS],
             own: [0; 9],
-            before: Vec::new(alloc),
+            before: Table::new(alloc),
         }
     }
 
@@ -215,8 +173,8 @@ impl Bounds {
         ensures room { OnOk result (HasCellsForKind self.new p kind) }
     {
         match kind {
-            Kind::Send(m) => grow(&mut self.sends, named_cell(p, m)),
-            Kind::Recv(s, m) => grow(&mut self.receives, copy_cell(s, m, p.index())),
+            Kind::Send(m) => self.sends.grow(p, m as usize),
+            Kind::Recv(s, m) => self.receives.grow(s, copy_position(m, p.index())),
             _ => Ok(()),
         }
     }
@@ -229,16 +187,13 @@ impl Bounds {
     {
         match event {
             Event::Step { p, k, kind } => {
-                grow(&mut self.steps, named_cell(*p, *k))?;
-                grow(&mut self.before, named_cell(*p, *k))?;
+                self.steps.grow(*p, *k as usize)?;
+                self.before.grow(*p, *k as usize)?;
                 self.reserve_kind(*p, *kind)
             }
-            Event::Lost(copy) => {
-                grow(
-                    &mut self.losses,
-                    copy_cell(copy.msg.s, copy.msg.m, copy.to.index()),
-                )
-            }
+            Event::Lost(copy) => self
+                .losses
+                .grow(copy.msg.s, copy_position(copy.msg.m, copy.to.index())),
         }
     }
 
@@ -251,12 +206,11 @@ impl Bounds {
         ensures own { self.new.own ≡ self.old.own }
         ensures before { self.new.before ≡ self.old.before }
         ensures receives { (k : ℕ) → JoinsCell self.old self.new (Step p k kind) }
-        ensures room { vec_len self.new.before ≡ vec_len self.old.before }
         ensures within { IsKindWithin self.new mark p kind }
     {
         match kind {
-            Kind::Send(m) => raise(&mut self.sends, named_cell(p, m), mark + 1),
-            Kind::Recv(s, m) => join(&mut self.receives, copy_cell(s, m, p.index()), mark + 1),
+            Kind::Send(m) => self.sends.raise(p, m as usize, mark + 1),
+            Kind::Recv(s, m) => self.receives.join(s, copy_position(m, p.index()), mark + 1),
             Kind::Read(register) => {
                 raise(
                     &mut self.accesses,
@@ -276,16 +230,15 @@ impl Bounds {
     /// Raises the bounds of a process's steps, for which there is room, by the `k`-th under that mark.
     fn note_own(&mut self, mark: Mark, p: Proc, k: u16)
         requires mark { mark < ABOVE_ALL }
-        requires room { named_cell_of p k < vec_len self.old.before }
+        requires room { HasCell self.old.before (named_cell_of p k) }
         ensures others { AreRaised (mark + 1) self.old self.new }
         ensures steps { self.new.steps ≡ self.old.steps }
         ensures sends { self.new.sends ≡ self.old.sends }
         ensures receives { self.new.receives ≡ self.old.receives }
         ensures own { (kind : AKind) → IsOwnNoted self.old self.new mark (Step p k kind) }
     {
-        let cell = named_cell(p, k);
         let slot = p.index();
-        self.before[cell] = self.before[cell].max(self.own[slot]);
+        self.before.lift(p, k as usize, self.own[slot]);
         self.own[slot] = mark + 1;
     }
 
@@ -305,14 +258,14 @@ impl Bounds {
         match event {
             Event::Step { p, k, kind } => {
                 let _index = p.index();
-                raise(&mut self.steps, named_cell(*p, *k), mark + 1);
+                self.steps.raise(*p, *k as usize, mark + 1);
                 self.note_kind(mark, *p, *kind);
                 self.note_own(mark, *p, *k);
             }
             Event::Lost(copy) => {
                 let _index = copy.msg.s.index();
-                let lost = copy_cell(copy.msg.s, copy.msg.m, copy.to.index());
-                raise(&mut self.losses, lost, mark + 1);
+                let at = copy_position(copy.msg.m, copy.to.index());
+                self.losses.raise(copy.msg.s, at, mark + 1);
             }
         }
     }
@@ -343,7 +296,7 @@ impl Bounds {
             return;
         }
         if let Event::Step { p, k, .. } = event {
-            self.own[p.index()] = bound_in(&self.before, named_cell(*p, *k));
+            self.own[p.index()] = self.before.bound(*p, *k as usize);
         }
     }
 
@@ -353,13 +306,12 @@ impl Bounds {
     {
         match event {
             Event::Step { p, k, .. } => {
-                clear(&mut self.steps, named_cell(*p, *k));
-                clear(&mut self.before, named_cell(*p, *k));
+                self.steps.clear(*p, *k as usize);
+                self.before.clear(*p, *k as usize);
             }
-            Event::Lost(copy) => clear(
-                &mut self.losses,
-                copy_cell(copy.msg.s, copy.msg.m, copy.to.index()),
-            ),
+            Event::Lost(copy) => self
+                .losses
+                .clear(copy.msg.s, copy_position(copy.msg.m, copy.to.index())),
         }
     }
 
@@ -374,30 +326,30 @@ impl Bounds {
             ..
         } = event
         {
-            leave(&mut self.receives, copy_cell(*s, *m, p.index()));
+            self.receives.leave(*s, copy_position(*m, p.index()));
         }
     }
 
     /// The bound of a step.
     fn end_of_step(&self, p: Proc, k: u16) -> Mark
-        ensures { result ≡ slice_index self.now.steps.items (named_cell_of p k) }
+        ensures { result ≡ bound_of self.now.steps (named_cell_of p k) }
     {
-        bound_in(&self.steps, named_cell(p, k))
+        self.steps.bound(p, k as usize)
     }
 
     /// The bound of the sends of a message.
     fn end_of_sends(&self, s: Proc, m: u16) -> Mark
-        ensures { result ≡ slice_index self.now.sends.items (named_cell_of s m) }
+        ensures { result ≡ bound_of self.now.sends (named_cell_of s m) }
     {
-        bound_in(&self.sends, named_cell(s, m))
+        self.sends.bound(s, m as usize)
     }
 
     /// The bound of the receives of a copy for the slot's process.
     pub fn end_of_receives(&self, s: Proc, m: u16, slot: usize) -> Mark
         requires { slot < 9 }
-        ensures { result ≡ slice_index self.now.receives.items (named_copy_cell s m slot) }
+        ensures { result ≡ bound_of self.now.receives (named_copy_cell s m slot) }
     {
-        bound_in(&self.receives, copy_cell(s, m, slot))
+        self.receives.bound(s, copy_position(m, slot))
     }
 
     /// Whether by the bounds at most one standing event receives the copy for the slot's process.
@@ -411,9 +363,9 @@ impl Bounds {
     /// The bound of the losses of a copy for the slot's process.
     pub fn end_of_losses(&self, s: Proc, m: u16, slot: usize) -> Mark
         requires { slot < 9 }
-        ensures { result ≡ slice_index self.now.losses.items (named_copy_cell s m slot) }
+        ensures { result ≡ bound_of self.now.losses (named_copy_cell s m slot) }
     {
-        bound_in(&self.losses, copy_cell(s, m, slot))
+        self.losses.bound(s, copy_position(m, slot))
     }
 
     /// The bound of the loss of a copy.
@@ -479,7 +431,7 @@ impl Bounds {
     pub fn end_before_step(&self, p: Proc, k: u16) -> Mark
         ensures { result ≡ bound_before self.now p k }
     {
-        bound_in(&self.before, named_cell(p, k))
+        self.before.bound(p, k as usize)
     }
 
     /// Above all steps of the slot's process that stand before the effect, where it is a step of that
@@ -565,7 +517,7 @@ impl Bounds {
     /// Above all losses of copies of the m-th message of process `p`.
     fn end_of_copies(&self, p: Proc, m: u16) -> Mark
         ensures { (slot : ℕ) → slot < 9 →
-            slice_index self.now.losses.items (named_copy_cell p m slot) ≤ result }
+            bound_of self.now.losses (named_copy_cell p m slot) ≤ result }
     {
         let mut end = 0;
         for slot in 0..9 {

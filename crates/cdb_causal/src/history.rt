@@ -104,6 +104,7 @@ fn make_room(
 
 /// Makes room for an event in a log that has marks left, in its bounds and in its accesses. No more changes,
 /// whatever is returned.
+#[inline(always)]
 fn reserve_for(
     events: &mut Log<Event>,
     bounds: &mut Bounds,
@@ -126,21 +127,20 @@ fn reserve_for(
 
 /// Adds an event at the end of a log, where there is room for it, with its bounds and in its accesses. It
 /// takes no memory.
-fn add(events: &mut Log<Event>, bounds: &mut Bounds, accesses: &mut Accesses, event: Event)
+fn add(events: &mut Log<Event>, bounds: &mut Bounds, accesses: &mut Accesses, event: &Event)
     requires indexed { IsIndexed events.old bounds.old accesses.old }
     requires room { HasRoom events.old }
-    requires bounds { HasCellsFor bounds.old event }
-    requires accesses { HasRoomFor accesses.old.lists.items event }
-    requires new_name { IsNewName events.old.items (event_name event) }
-    requires not_lost { HasNoLostCopy events.old.items event }
-    ensures added { events.new.items ≡ events.old.items ++ event ∷ [] }
+    requires bounds { HasCellsFor bounds.old event.now }
+    requires accesses { HasRoomFor accesses.old.lists.items event.now }
+    requires new_name { IsNewName events.old.items (event_name event.now) }
+    requires not_lost { HasNoLostCopy events.old.items event.now }
+    ensures added { events.new.items ≡ events.old.items ++ event.now ∷ [] }
     ensures indexed { IsIndexed events.new bounds.new accesses.new }
     ensures pieces { events.new.pieces ≡ events.old.pieces }
 {
-    let added = event;
-    let mark = append_to_log(events, added);
-    bounds.note(mark, &event);
-    accesses.note_access(mark, &event);
+    let mark = append_to_log(events, *event);
+    bounds.note(mark, event);
+    accesses.note_access(mark, event);
 }
 
 /// Whether the event is the receive of the m-th message of process s by the slot's process.
@@ -362,7 +362,7 @@ impl History {
             &mut self.events,
             &mut self.bounds,
             &mut self.accesses,
-            event,
+            &event,
         );
         Ok(())
     }
@@ -397,7 +397,7 @@ impl History {
             &mut self.events,
             &mut self.bounds,
             &mut self.accesses,
-            event,
+            &event,
         );
         Ok(left)
     }

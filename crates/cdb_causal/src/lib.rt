@@ -18,6 +18,7 @@ mod flags;
 pub mod history;
 pub mod laws;
 pub mod past;
+mod table;
 
 pub use causes::{consequences, first_dependent};
 pub use counts::count_direct_dependents;

@@ -139,6 +139,8 @@ impl<T: Drop> Log<T> {
     }
 
     /// Adds a piece without items.
+    #[cold]
+    #[inline(never)]
     fn add_piece(&mut self) -> Result<(), NoMemory>
         requires { CanGrow self.old }
         ensures same { IsSameLog self.old self.new }
@@ -214,6 +216,8 @@ impl<T: Drop> Log<T> {
 
     /// Takes the pieces without items out, so that there are no more pieces than items. The items stay as they
     /// stand, under other marks. It takes no memory.
+    #[cold]
+    #[inline(never)]
     pub fn renumber(&mut self)
         ensures items { self.new.items ≡ self.old.items }
         ensures few { self.new.pieces ≤ length self.old.items }

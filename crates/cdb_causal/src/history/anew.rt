@@ -33,12 +33,14 @@ fn add_all(
     for i in 0..log.len() {
         let event = *log.get(i);
         reserve_for(events, bounds, accesses, &event)?;
-        add(events, bounds, accesses, event);
+        add(events, bounds, accesses, &event);
     }
     Ok(())
 }
 
 /// Builds a log anew of its events, with their bounds and accesses. Without memory nothing changes.
+#[cold]
+#[inline(never)]
 fn build_anew(
     alloc: Global,
     events: &mut Log<Event>,

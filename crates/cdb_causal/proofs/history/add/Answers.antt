@@ -21,7 +21,7 @@ pub returns-clause-indexed : goal.returns-clause-indexed
 returns-clause-indexed c =
     let old : Marked Event = c.args.events.now in
     let items : List Event = old.items in
-    let event : Event = c.args.event in
+    let event : Event = c.args.event.now in
     let bounds = c.args.bounds.now in
     let noted = c.note.new.self in
     let log = c.append_to_log-mark.new.log in

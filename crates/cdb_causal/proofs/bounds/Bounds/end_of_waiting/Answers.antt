@@ -1,4 +1,5 @@
-use Rattle.std.proofs.Common.{◌≡◌, ◌-◌, slice_index, ap, ◌∙◌, arith}
+use Rattle.std.proofs.Common.{◌≡◌, ◌-◌, ap, ◌∙◌, arith}
+use Rattle.cdb_causal.specs.Tables.{bound_of}
 use Rattle.cdb_causal.specs.Cells.{named_copy_cell}
 use Rattle.cdb_causal.proofs.Waiting.{above_waiting}
 use Rattle.cdb_causal.proofs.bounds.Bounds.end_of_waiting.Goals as goal
@@ -8,7 +9,7 @@ returns c =
     let slot = c.index.ensures.value in
     let same : c.index.result ≡ c.args.p - 1 = omega arith in
     let sent = c.end_of_sends-sent.ensures in
-    let lost = c.end_of_losses-lost.ensures ∙ ap (λ n. slice_index c.args.self.now.losses.items (named_copy_cell c.args.s c.args.r n)) same in
+    let lost = c.end_of_losses-lost.ensures ∙ ap (λ n. bound_of c.args.self.now.losses (named_copy_cell c.args.s c.args.r n)) same in
     let one = c.max.ensures in
     let two = c.max-2.ensures in
     λ i k l between within unshared h g.

@@ -1,7 +1,7 @@
-use Rattle.std.proofs.Common.{ℕ, ◌+◌, ◌-◌, ◌<◌, ◌≤◌, List, slice_index, sym, ap, ◌∙◌, subst, arith}
-use Rattle.std.proofs.lemmas.List.{with_items_is}
+use Rattle.std.proofs.Common.{◌+◌, ◌-◌, ◌<◌, slice_index, sym, ap, ◌∙◌, subst, arith}
 use Rattle.cdb_base.specs.declared.event.Event.{Event}
 use Rattle.cdb_base.specs.declared.event.Event.TheVariants.{Step}
+use Rattle.cdb_causal.specs.Tables.{bound_of}
 use Rattle.cdb_causal.specs.Alone.{JoinsCell}
 use Rattle.cdb_causal.specs.Bounds.{IsEventWithin}
 use Rattle.cdb_causal.specs.Cells.{named_cell}
@@ -13,13 +13,8 @@ pub returns-in-Step-clause-others : goal.returns-in-Step-clause-others
 returns-in-Step-clause-others c =
     let rest = c.note_kind.ensures.others in
     let own = c.note_own.ensures.others in
-    let written : List ℕ = c.raise.new.table in
-    let is = with_items_is c.args.self.now.steps written (let same = c.raise.auto.table in let len = c.deref_mut.ensures.len in omega arith) in
     record {
-      steps = λ n i below h.
-          own.steps n i below
-          (rest.steps n i below
-          (subst (λ l. i < slice_index l n) (sym is) (c.raise.ensures.others n i below (subst (λ l. i < slice_index l n) (sym c.deref_mut.ensures.value) h))));
+      steps = λ n i below h. own.steps n i below (rest.steps n i below (c.raise.ensures.others n i below h));
       sends = λ n i below h. own.sends n i below (rest.sends n i below h);
       receives = λ n i below h. own.receives n i below (rest.receives n i below h);
       losses = λ n i below h. own.losses n i below (rest.losses n i below h);
@@ -29,31 +24,14 @@ returns-in-Step-clause-others c =
       before = λ n i below h. own.before n i below (rest.before n i below h);
     }
 
-pub returns-in-Lost-clause-others : goal.returns-in-Lost-clause-others
-returns-in-Lost-clause-others c =
-    let written : List ℕ = c.raise-in-Lost.new.table in
-    let is = with_items_is c.args.self.now.losses written (let same = c.raise-in-Lost.auto.table in let len = c.deref_mut-in-Lost.ensures.len in omega arith) in
-    record {
-      steps = λ n i below h. h;
-      sends = λ n i below h. h;
-      receives = λ n i below h. h;
-      losses = λ n i below h.
-          subst (λ l. i < slice_index l n) (sym is)
-          (c.raise-in-Lost.ensures.others n i below (subst (λ l. i < slice_index l n) (sym c.deref_mut-in-Lost.ensures.value) h));
-      writes = λ n i below h. h;
-      accesses = λ n i below h. h;
-      own = λ n i below h. h;
-      before = λ n i below h. h;
-    }
-
 pub returns-in-Step-clause-receives : goal.returns-in-Step-clause-receives
 returns-in-Step-clause-receives c =
     let joins = c.note_kind.ensures.receives c.in-Step.k in
     let same = c.note_own.ensures.receives in
     subst (λ e. JoinsCell c.args.self.now c.note_own.new.self e) (sym c.in-Step.is)
     (record {
-      alone = λ n is single. joins.alone n is (λ e. single (ap (λ t. slice_index t.items n) same ∙ e));
-      others = λ n none. ap (λ t. slice_index t.items n) same ∙ joins.others n none;
+      alone = λ n is single. joins.alone n is (λ e. single (ap (λ t. bound_of t n) same ∙ e));
+      others = λ n none. ap (λ t. bound_of t n) same ∙ joins.others n none;
     })
 
 pub returns-in-Step-clause-own : goal.returns-in-Step-clause-own
@@ -68,11 +46,7 @@ returns-in-Step-clause-within c =
     let rest = c.note_kind.ensures.within in
     let raised = c.raise.ensures.raised in
     let event : Event = Step c.in-Step.p c.in-Step.k c.in-Step.kind in
-    let written : List ℕ = c.raise.new.table in
-    let is = with_items_is c.args.self.now.steps written (let same = c.raise.auto.table in let len = c.deref_mut.ensures.len in omega arith) in
-    let steps = ap (λ t. slice_index t.items (named_cell c.in-Step.p c.in-Step.k)) c.note_kind.ensures.steps in
-    let cell = c.named_cell.ensures.value in
-    let here : c.args.mark < slice_index c.note_kind.new.self.steps.items (named_cell c.in-Step.p c.in-Step.k) =
-    (let a = ap (λ l. slice_index l (named_cell c.in-Step.p c.in-Step.k)) is in let b = subst (λ n. c.args.mark + 1 ≤ slice_index written n) cell raised in omega arith) in
+    let steps = ap (λ t. bound_of t (named_cell c.in-Step.p c.in-Step.k)) c.note_kind.ensures.steps in
+    let here : c.args.mark < bound_of c.note_kind.new.self.steps (named_cell c.in-Step.p c.in-Step.k) = omega (arith, raised, steps) in
     subst (IsEventWithin c.note_own.new.self c.args.mark) (sym c.in-Step.is)
     (within_raised (c.args.mark + 1) c.note_kind.new.self c.note_own.new.self c.note_own.ensures.others c.args.mark event (omega arith) (here, rest))

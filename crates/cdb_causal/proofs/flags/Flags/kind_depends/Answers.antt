@@ -1,7 +1,7 @@
-use Rattle.std.proofs.Common.{◌≡◌, ℕ, ◌+◌, ◌-◌, ◌*◌, ◌≤◌, sym, ap, ap₂, subst, ◌∙◌, arith}
+use Rattle.std.proofs.Common.{◌≡◌, ℕ, ◌-◌, ◌≤◌, sym, ap, ap₂, subst, ◌∙◌, arith}
 use Rattle.cdb_base.specs.declared.event.Event.TheVariants.{Step}
 use Rattle.cdb_base.specs.declared.event.Kind.{Kind}
-use Rattle.cdb_causal.specs.Cells.{named_cell}
+use Rattle.cdb_causal.specs.Cells.{named_copy_cell}
 use Rattle.cdb_causal.specs.Dependence.{depends}
 use Rattle.cdb_causal.specs.Flagged.{flag_in}
 use Rattle.cdb_causal.specs.Rollback.{depends_on_one}
@@ -48,7 +48,7 @@ returns-else-is_set-2 c = λ events k flagged apart.
     let one : 1 ≤ p = omega arith in
     let nine : p ≤ 9 = omega arith in
     let message = c.named_cell.ensures in
-    let copy = c.copy_cell-copy.ensures.value ∙ ap (λ n. named_cell s m * 9 + n) slot in
+    let copy = c.copy_cell-copy.ensures.value ∙ ap (named_copy_cell s m) slot in
     let sent = c.is_set-in-Recv.ensures ∙ ap₂ flag_in c.deref-in-Recv.ensures.value message.value ∙ flagged.sent s m message.process in
     let lost = c.is_set-else-is_set-2.ensures ∙ ap₂ flag_in c.deref-else-is_set-2.ensures.value copy ∙ flagged.lost_copies s m p message.process (one, nine) in
     subst (λ (kind : Kind). c.is_set-else-is_set-2.result ≡ depends_on_one depends events (Step p k kind)) (sym c.in-Recv.is)

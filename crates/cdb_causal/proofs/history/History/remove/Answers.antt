@@ -1,5 +1,6 @@
-use Rattle.std.proofs.Common.{◌≡◌, ℕ, ◌-◌, ◌<◌, ◌≤◌, ◌⊎◌, ⊎_elim, List, Some, slice_get, slice_index, length, ap, sym, subst, ◌∙◌, arith}
+use Rattle.std.proofs.Common.{◌≡◌, ℕ, ◌-◌, ◌<◌, ◌≤◌, ◌⊎◌, ⊎_elim, List, Some, slice_get, length, ap, sym, subst, ◌∙◌, arith}
 use Rattle.cdb_base.specs.declared.event.Event.{Event}
+use Rattle.cdb_causal.specs.Tables.{bound_of}
 use Rattle.cdb_causal.specs.Alone.{AreAlone}
 use Rattle.cdb_causal.specs.Bounds.{AreWithin}
 use Rattle.cdb_base.specs.declared.event.Event.TheVariants.{Step}
@@ -52,7 +53,7 @@ invariant_of-self c =
           (within_without c.self.inside.bounds c.forget.new.self (mark old) (mark new) items gone event removed.stood leaves c.self.invariant.alone c.self.invariant.within fall));
       alone =
           subst (AreAlone c.forget_name.new.self) (sym left)
-          (alone_kept c.forget.new.self c.forget_name.new.self (without items gone) (λ n. ap (λ t. slice_index t.items n) unnamed.receives)
+          (alone_kept c.forget.new.self c.forget_name.new.self (without items gone) (λ n. ap (λ t. bound_of t n) unnamed.receives)
           (alone_without c.self.inside.bounds c.forget.new.self items gone event removed.stood leaves c.self.invariant.alone));
       ranged = subst AreRanged (sym left) (ranged_without items gone c.self.invariant.ranged);
       name_cells = subst HaveNameCells (sym left) (name_cells_without items gone c.self.invariant.name_cells);
