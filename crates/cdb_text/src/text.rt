@@ -84,6 +84,7 @@ fn push_counted(text: &mut String, words: &str, number: u32) -> Result<(), Alloc
 }
 
 /// The text of any reply.
+#[inline(never)]
 fn push_any_reply(text: &mut String, reply: &Reply) -> Result<(), AllocError>
     ensures { Pushes result text.old text.new (text_of (told reply.now)) }
 {

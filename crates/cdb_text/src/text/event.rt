@@ -78,6 +78,7 @@ fn push_event_here(text: &mut String, event: &Event) -> Result<(), AllocError>
 }
 
 /// Adds the text of an event at the end of a text, as `show history` prints it. Only out of memory is an error.
+#[inline(never)]
 pub fn push_event(text: &mut String, event: &Event) -> Result<(), AllocError>
     ensures { Pushes result text.old text.new (event_text event.now) }
 {
@@ -85,6 +86,7 @@ pub fn push_event(text: &mut String, event: &Event) -> Result<(), AllocError>
 }
 
 /// An event in a line.
+#[inline(never)]
 pub(super) fn push_event_line(text: &mut String, event: &Event) -> Result<(), AllocError>
     ensures { Pushes result text.old text.new (event_line event.now) }
 {
