@@ -7,6 +7,7 @@ pub mod Numbers
 pub mod Printed
 pub mod Reading
 pub mod Registers
+pub mod Short
 pub mod States
 pub mod Table
 pub mod Unique

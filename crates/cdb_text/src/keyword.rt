@@ -33,12 +33,22 @@ pub(crate) enum Keyword {
 }
 
 impl Keyword {
-    ghost use Rattle.cdb_text.specs.Reading.{keyword_of};
+    ghost use Rattle.cdb_text.specs.Reading.{keyword_of, verb_of, later_word_of};
 
     /// The fixed word that this is.
-    #[tactic(auto, unfolding(crate::specs::Reading::keyword_of))]
     pub(crate) fn of(word: &[u8]) -> Option<Keyword>
         ensures { result ≡ keyword_of word.now }
+    {
+        match Keyword::verb_of(word) {
+            Some(keyword) => Some(keyword),
+            None => Keyword::later_word_of(word),
+        }
+    }
+
+    /// The fixed word that this is, if a command begins with it.
+    #[tactic(auto, unfolding(crate::specs::Reading::verb_of))]
+    fn verb_of(word: &[u8]) -> Option<Keyword>
+        ensures { result ≡ verb_of word.now }
     {
         match word {
             b"step" => Some(Keyword::Step),
@@ -54,6 +64,16 @@ impl Keyword {
             b"resume" => Some(Keyword::Resume),
             b"show" => Some(Keyword::Show),
             b"decisions" => Some(Keyword::Decisions),
+            _ => None,
+        }
+    }
+
+    /// The fixed word that this is, if it stands further in a command.
+    #[tactic(auto, unfolding(crate::specs::Reading::later_word_of))]
+    fn later_word_of(word: &[u8]) -> Option<Keyword>
+        ensures { result ≡ later_word_of word.now }
+    {
+        match word {
             b"go" => Some(Keyword::Go),
             b"learn" => Some(Keyword::Learn),
             b"crash" => Some(Keyword::Crash),

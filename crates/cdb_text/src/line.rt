@@ -1,9 +1,9 @@
 //! Lines of a script.
 
-ghost use Rattle.std.specs.Prelude.{◌≡◌, ◌↔◌, ◌∷◌, [], codes, decimal, Ok, Err};
+ghost use Rattle.std.specs.Prelude.{◌≡◌, ◌↔◌, ◌∷◌, [], codes, decimal, Ok, Err, IfSome};
 ghost use Rattle.cdb_control.specs.declared.command.Command.{Command as CommandName};
 ghost use Rattle.cdb_text.specs.declared.fault.LineFault.{LineFault as LineFaultName};
-ghost use Rattle.cdb_text.specs.Grammar.{IsInRange, IsLineOf};
+ghost use Rattle.cdb_text.specs.Grammar.{IsInRange, IsLineOf, words_of};
 ghost use Rattle.cdb_text.specs.Faults.{IsFaultOf};
 ghost use Rattle.cdb_text.specs.Commands.{number};
 ghost use Rattle.cdb_text.specs.Reading.{IsReadAfter};
@@ -120,6 +120,7 @@ fn event(verb: Verb, mut words: Words<'_>) -> Result<Command, LineFault>
 }
 
 /// The command of a line of words.
+#[inline(never)]
 fn command(mut words: Words<'_>) -> Result<Command, LineFault>
     ensures { IsReadAfter [] words.entry result }
 {
@@ -153,6 +154,19 @@ fn command(mut words: Words<'_>) -> Result<Command, LineFault>
     }
 }
 
+/// The process of a line `auto P`, where its number has one digit.
+#[inline(always)]
+fn short_auto(line: &[u8]) -> Option<u32>
+    ensures { IfSome result (λ p. IsReadAfter [] (words_of line.now) (Ok (Command.Auto p))) }
+{
+    match line {
+        [b'a', b'u', b't', b'o', b' ', digit] if b'1' <= *digit && *digit <= b'9' => {
+            Some(u32::from(*digit - b'0'))
+        }
+        _ => None,
+    }
+}
+
 /// The command of a line of a script, which is given without the byte 10 at its end; else the first
 /// fault of the line, read from the left. It allocates nothing.
 pub fn parse_line(line: &[u8]) -> Result<Command, LineFault>
@@ -163,6 +177,10 @@ pub fn parse_line(line: &[u8]) -> Result<Command, LineFault>
 {
     if line.is_empty() {
         return Err(LineFault::Empty);
+    }
+    // Most lines of a long script are of this kind.
+    if let Some(p) = short_auto(line) {
+        return Ok(Command::Auto(p));
     }
     command(Words::of(line))
 }

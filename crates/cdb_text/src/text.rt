@@ -19,6 +19,7 @@ use cdb_base::{Event, NoMemory, StepId, Val};
 use cdb_control::Reply;
 pub use command::push_command;
 pub use event::push_event;
+use event::push_event_line;
 use name::push_name;
 pub use number::push_number;
 use refusal::push_refusal;
@@ -82,9 +83,9 @@ fn push_counted(text: &mut String, words: &str, number: u32) -> Result<(), Alloc
     text.push('\n')
 }
 
-/// Adds the text of a reply at the end of a text: its lines, each of which ends with byte 10. Only out of memory
-/// is an error.
-pub fn push_reply(text: &mut String, reply: &Reply) -> Result<(), AllocError>
+/// The text of any reply.
+#[inline(never)]
+fn push_any_reply(text: &mut String, reply: &Reply) -> Result<(), AllocError>
     ensures { Pushes result text.old text.new (text_of (told reply.now)) }
 {
     match reply {
@@ -125,6 +126,22 @@ pub fn push_reply(text: &mut String, reply: &Reply) -> Result<(), AllocError>
             push_refusal(text, refusal)?;
             text.push('\n')
         }
+    }
+}
+
+/// Adds the text of a reply at the end of a text: its lines, each of which ends with byte 10. Only out of memory
+/// is an error.
+pub fn push_reply(text: &mut String, reply: &Reply) -> Result<(), AllocError>
+    ensures { Pushes result text.old text.new (text_of (told reply.now)) }
+{
+    // Most replies are of this kind.
+    match reply {
+        Reply::Stepped {
+            event,
+            decides: None,
+            paused: None,
+        } => push_event_line(text, event),
+        _ => push_any_reply(text, reply),
     }
 }
 

@@ -4,24 +4,25 @@ ghost use Rattle.cdb_text.specs.Pushes.{Pushes};
 ghost use Rattle.cdb_base.specs.NameTexts.{step_text, message_text, loss_text};
 ghost use Rattle.cdb_base.specs.NameTexts.{name_text, register_text};
 
-use super::number::push_number;
+use super::number::{push_number_here, push_process_number};
 use cdb_base::{CopyName, MsgName, Proc, Reg, StepId, StepName};
 use std::alloc::AllocError;
 
+#[inline(always)]
 pub(super) fn push_step(text: &mut String, p: Proc, k: u16) -> Result<(), AllocError>
     ensures { Pushes result text.old text.new (step_text p k) }
 {
-    push_number(text, u32::from(p.number()))?;
+    push_process_number(text, p)?;
     text.push('.')?;
-    push_number(text, u32::from(k))
+    push_number_here(text, u32::from(k))
 }
 
 pub(super) fn push_message(text: &mut String, name: MsgName) -> Result<(), AllocError>
     ensures { Pushes result text.old text.new (message_text name.s name.m) }
 {
-    push_number(text, u32::from(name.s.number()))?;
+    push_process_number(text, name.s)?;
     text.push('#')?;
-    push_number(text, u32::from(name.m))
+    push_number_here(text, u32::from(name.m))
 }
 
 pub(super) fn push_loss(text: &mut String, copy: CopyName) -> Result<(), AllocError>
@@ -30,7 +31,7 @@ pub(super) fn push_loss(text: &mut String, copy: CopyName) -> Result<(), AllocEr
     text.push_str("lost ")?;
     push_message(text, copy.msg)?;
     text.push_str(" to ")?;
-    push_number(text, u32::from(copy.to.number()))
+    push_process_number(text, copy.to)
 }
 
 pub(super) fn push_name(text: &mut String, name: StepId) -> Result<(), AllocError>
@@ -48,7 +49,7 @@ pub(super) fn push_register(text: &mut String, register: Reg) -> Result<(), Allo
     match register {
         Reg::R(p) => {
             text.push('r')?;
-            push_number(text, u32::from(p.number()))
+            push_process_number(text, p)
         }
         Reg::Dec => text.push_str("dec"),
     }

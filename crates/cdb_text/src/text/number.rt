@@ -3,6 +3,7 @@
 ghost use Rattle.std.specs.Prelude.{◌+◌, ◌/◌, ◌%◌, ◌<◌, ◌≤◌, ◌∷◌, [], decimal};
 ghost use Rattle.cdb_text.specs.Pushes.{Pushes};
 
+use cdb_base::Proc;
 use itoa::Buffer;
 use std::alloc::AllocError;
 
@@ -45,9 +46,9 @@ fn push_long(text: &mut String, number: u32) -> Result<(), AllocError>
     text.push_str(digits.format(number))
 }
 
-/// A number of two digits or more.
-#[inline(never)]
-fn push_digits(text: &mut String, number: u32) -> Result<(), AllocError>
+/// A number of two digits or more, without a call where it has up to four.
+#[inline(always)]
+fn push_digits_here(text: &mut String, number: u32) -> Result<(), AllocError>
     requires { 10 ≤ number }
     ensures { Pushes result text.old text.new (decimal number) }
 {
@@ -59,6 +60,34 @@ fn push_digits(text: &mut String, number: u32) -> Result<(), AllocError>
         return push_two_digits(text, number % 100);
     }
     push_long(text, number)
+}
+
+/// A number of two digits or more.
+#[inline(never)]
+fn push_digits(text: &mut String, number: u32) -> Result<(), AllocError>
+    requires { 10 ≤ number }
+    ensures { Pushes result text.old text.new (decimal number) }
+{
+    push_digits_here(text, number)
+}
+
+/// The number of a process, which has one digit.
+#[inline(always)]
+pub(super) fn push_process_number(text: &mut String, p: Proc) -> Result<(), AllocError>
+    ensures { Pushes result text.old text.new (decimal p) }
+{
+    push_digit(text, u32::from(p.number()))
+}
+
+/// A number, without a call where it has up to four digits: for the texts that are written most.
+#[inline(always)]
+pub(super) fn push_number_here(text: &mut String, number: u32) -> Result<(), AllocError>
+    ensures { Pushes result text.old text.new (decimal number) }
+{
+    if number < 10 {
+        return push_digit(text, number);
+    }
+    push_digits_here(text, number)
 }
 
 /// Adds a number in decimal at the end of a text. Only out of memory is an error.

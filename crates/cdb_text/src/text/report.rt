@@ -9,7 +9,7 @@ ghost use Rattle.cdb_text.specs.Reports.{event_line, history_text, copy_line, ma
 ghost use Rattle.cdb_text.specs.Reports.{decision_text, decisions_text};
 ghost use Rattle.cdb_text.specs.Reports.{register_line, decision_line, registers_from, registers_text};
 
-use super::event::push_event;
+use super::event::push_event_line;
 use super::name::{push_message, push_name};
 use super::number::push_number;
 use cdb_base::{Cell, Event, MsgName, Payload, Proc, StepId, Val};
@@ -113,8 +113,7 @@ fn push_each_event(text: &mut String, events: &[Event]) -> Result<(), AllocError
     ensures { Pushes result text.old text.new (flat_map event_line events.now) }
 {
     for event in events {
-        push_event(text, event)?;
-        text.push('\n')?;
+        push_event_line(text, event)?;
     }
     Ok(())
 }

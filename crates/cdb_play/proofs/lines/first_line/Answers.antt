@@ -5,10 +5,10 @@ use Rattle.std.proofs.lemmas.List.Sums.{position_or_len_is}
 use Rattle.cdb_play.proofs.Cutting.{is_newline, no_lines, cut_none, cut_first}
 use Rattle.cdb_play.proofs.lines.first_line.Goals as goal
 
-pub returns-in-Some-clause-lines : goal.returns-in-Some-clause-lines
-returns-in-Some-clause-lines c =
+pub returns-in-Some-position-clause-lines : goal.returns-in-Some-position-clause-lines
+returns-in-Some-position-clause-lines c =
     let script = c.args.script.now in
-    let first : position_or_len is_newline script ≡ c.in-Some.end = search (rules, tests, position_or_len_is) in
+    let first : position_or_len is_newline script ≡ c.in-Some-position.end = search (rules, tests, position_or_len_is) in
     rw (take_rest, sym first) (cut_first script (search (rules, tests)))
 
 pub returns-in-None-clause-lines : goal.returns-in-None-clause-lines

@@ -1,6 +1,8 @@
 use Rattle.std.proofs.Common.{ap, sym, subst, length, ℕ, List, []}
 use Rattle.std.proofs.lemmas.Bool.{eqb-true, eqb-false}
 use Rattle.std.proofs.lemmas.List.{nil_from_length}
+use Rattle.std.specs.Prelude.{Ok}
+use Rattle.cdb_control.specs.declared.command.Command.TheVariants.{Auto}
 use Rattle.cdb_text.specs.Reading.{IsReadAfter}
 use Rattle.cdb_text.proofs.Whole.{one_command, fault_of_line, empty_is_none, empty_is_empty}
 use Rattle.cdb_text.proofs.line.parse_line.Goals as goal
@@ -10,6 +12,12 @@ returns-then-is_empty-clause-command c = empty_is_none c.args.line.now (nil_from
 
 pub returns-then-is_empty-clause-fault : goal.returns-then-is_empty-clause-fault
 returns-then-is_empty-clause-fault c = empty_is_empty c.args.line.now (nil_from_length _ (eqb-true (length c.args.line.now) 0 (sym c.if-is_empty.ensures)))
+
+pub returns-in-Some-clause-command : goal.returns-in-Some-clause-command
+returns-in-Some-clause-command c = λ command. one_command _ (Ok (Auto c.in-Some.p)) command c.in-Some.ensures
+
+pub returns-in-Some-clause-fault : goal.returns-in-Some-clause-fault
+returns-in-Some-clause-fault c = fault_of_line c.args.line.now (Ok (Auto c.in-Some.p)) (λ empty. eqb-false (length c.args.line.now) 0 (sym c.if-is_empty.ensures) (ap length empty)) c.in-Some.ensures
 
 pub returns-clause-command : goal.returns-clause-command
 returns-clause-command c = λ command. one_command _ c.command.result command (subst (λ (ws : List (List ℕ)). IsReadAfter [] ws c.command.result) c.of.ensures c.command.ensures)
