@@ -110,15 +110,21 @@ fn is_of_none_but(log: &Log<Event>, bound: Mark, i: usize) -> bool
     start >= i && end.saturating_sub(1) <= i
 }
 
-/// Where in a list the bound of the event at position `i` may be: mostly it is the last.
-fn place_of(log: &Log<Event>, bounds: &[Mark], i: usize) -> usize
+/// Where in a list the bound of the event at position `i` stands, if it does: mostly it is the last.
+fn place_of(log: &Log<Event>, bounds: &[Mark], i: usize) -> Option<usize>
     requires { IsRising bounds.now }
+    ensures within { IfSome result (λ n. n < length bounds.now) }
+    ensures own { IfSome result (λ n. IsOfNoneBut log.now (slice_index bounds.now n) i) }
 {
     let count = bounds.len();
     if count > 0 && is_of_none_but(log, bounds[count - 1], i) {
-        return count - 1;
+        return Some(count - 1);
     }
-    count_before(log, bounds, i)
+    let n = count_before(log, bounds, i);
+    if n < count && is_of_none_but(log, bounds[n], i) {
+        return Some(n);
+    }
+    None
 }
 
 /// Takes the bound of the event at position `i` out of a list.
@@ -127,8 +133,7 @@ fn leave(log: &Log<Event>, bounds: &mut Vec<Mark>, i: usize)
     ensures rising { IsRising bounds.new.items }
     ensures kept { KeepsOthers log.now i bounds.old.items bounds.new.items }
 {
-    let n = place_of(log, bounds, i);
-    if n < bounds.len() && is_of_none_but(log, bounds[n], i) {
+    if let Some(n) = place_of(log, bounds, i) {
         bounds.remove(n);
     }
 }
