@@ -63,8 +63,17 @@ fn push_kind(text: &mut String, p: Proc, kind: Kind) -> Result<(), AllocError>
     }
 }
 
-#[inline(always)]
-fn push_event_here(text: &mut String, event: &Event) -> Result<(), AllocError>
+/// What a step does, after a space, to the end of a line.
+#[inline(never)]
+fn push_kind_line(text: &mut String, p: Proc, kind: Kind) -> Result<(), AllocError>
+    ensures { Pushes result text.old text.new (codes " " ++ kind_text p kind ++ codes "\n") }
+{
+    push_kind(text, p, kind)?;
+    text.push('\n')
+}
+
+/// Adds the text of an event at the end of a text, as `show history` prints it. Only out of memory is an error.
+pub fn push_event(text: &mut String, event: &Event) -> Result<(), AllocError>
     ensures { Pushes result text.old text.new (event_text event.now) }
 {
     match *event {
@@ -77,19 +86,20 @@ fn push_event_here(text: &mut String, event: &Event) -> Result<(), AllocError>
     }
 }
 
-/// Adds the text of an event at the end of a text, as `show history` prints it. Only out of memory is an error.
-#[inline(never)]
-pub fn push_event(text: &mut String, event: &Event) -> Result<(), AllocError>
-    ensures { Pushes result text.old text.new (event_text event.now) }
-{
-    push_event_here(text, event)
-}
-
 /// An event in a line.
 #[inline(never)]
 pub(super) fn push_event_line(text: &mut String, event: &Event) -> Result<(), AllocError>
     ensures { Pushes result text.old text.new (event_line event.now) }
 {
-    push_event_here(text, event)?;
-    text.push('\n')
+    match *event {
+        Event::Step { p, k, kind } => {
+            let doer = p;
+            push_step(text, p, k)?;
+            push_kind_line(text, doer, kind)
+        }
+        Event::Lost(copy) => {
+            push_loss(text, copy)?;
+            text.push('\n')
+        }
+    }
 }

@@ -4,17 +4,17 @@ ghost use Rattle.cdb_text.specs.Pushes.{Pushes};
 ghost use Rattle.cdb_base.specs.NameTexts.{step_text, message_text, loss_text};
 ghost use Rattle.cdb_base.specs.NameTexts.{name_text, register_text};
 
-use super::number::{push_number_here, push_process_number};
+use super::number::{push_number, push_process_number};
 use cdb_base::{CopyName, MsgName, Proc, Reg, StepId, StepName};
 use std::alloc::AllocError;
 
-#[inline(always)]
+#[inline(never)]
 pub(super) fn push_step(text: &mut String, p: Proc, k: u16) -> Result<(), AllocError>
     ensures { Pushes result text.old text.new (step_text p k) }
 {
     push_process_number(text, p)?;
     text.push('.')?;
-    push_number_here(text, u32::from(k))
+    push_number(text, u32::from(k))
 }
 
 pub(super) fn push_message(text: &mut String, name: MsgName) -> Result<(), AllocError>
@@ -22,7 +22,7 @@ pub(super) fn push_message(text: &mut String, name: MsgName) -> Result<(), Alloc
 {
     push_process_number(text, name.s)?;
     text.push('#')?;
-    push_number_here(text, u32::from(name.m))
+    push_number(text, u32::from(name.m))
 }
 
 pub(super) fn push_loss(text: &mut String, copy: CopyName) -> Result<(), AllocError>

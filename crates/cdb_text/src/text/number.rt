@@ -46,9 +46,9 @@ fn push_long(text: &mut String, number: u32) -> Result<(), AllocError>
     text.push_str(digits.format(number))
 }
 
-/// A number of two digits or more, without a call where it has up to four.
-#[inline(always)]
-fn push_digits_here(text: &mut String, number: u32) -> Result<(), AllocError>
+/// A number of two digits or more.
+#[inline(never)]
+fn push_digits(text: &mut String, number: u32) -> Result<(), AllocError>
     requires { 10 ≤ number }
     ensures { Pushes result text.old text.new (decimal number) }
 {
@@ -62,32 +62,13 @@ fn push_digits_here(text: &mut String, number: u32) -> Result<(), AllocError>
     push_long(text, number)
 }
 
-/// A number of two digits or more.
-#[inline(never)]
-fn push_digits(text: &mut String, number: u32) -> Result<(), AllocError>
-    requires { 10 ≤ number }
-    ensures { Pushes result text.old text.new (decimal number) }
-{
-    push_digits_here(text, number)
-}
-
-/// The number of a process, which has one digit.
+/// The number of a process, which has one digit. By the remainder the compiler sees that it is small, and leaves out
+/// a test.
 #[inline(always)]
 pub(super) fn push_process_number(text: &mut String, p: Proc) -> Result<(), AllocError>
     ensures { Pushes result text.old text.new (decimal p) }
 {
-    push_digit(text, u32::from(p.number()))
-}
-
-/// A number, without a call where it has up to four digits: for the texts that are written most.
-#[inline(always)]
-pub(super) fn push_number_here(text: &mut String, number: u32) -> Result<(), AllocError>
-    ensures { Pushes result text.old text.new (decimal number) }
-{
-    if number < 10 {
-        return push_digit(text, number);
-    }
-    push_digits_here(text, number)
+    push_digit(text, u32::from(p.number() % 16))
 }
 
 /// Adds a number in decimal at the end of a text. Only out of memory is an error.

@@ -1,6 +1,6 @@
 use Rattle.std.proofs.Common.{append_assoc, arith}
 use Rattle.cdb_text.proofs.Digits.{last_two, two_digits}
-use Rattle.cdb_text.proofs.text.number.push_digits_here.Goals as goal
+use Rattle.cdb_text.proofs.text.number.push_digits.Goals as goal
 
 pub returns-then-number-lt100 : goal.returns-then-number-lt100
 returns-then-number-lt100 c = rw (two_digits c.args.number (omega arith) (omega arith)) c.push_two_digits.ensures
