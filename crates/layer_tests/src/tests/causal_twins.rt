@@ -105,10 +105,10 @@ fn direct_names(alloc: Global, history: &History, j: usize) -> Result<Vec<StepId
 /// Compares what comes before each event.
 fn compare_causes(rt: &impl Abort, alloc: Global, history: &History) {
     for j in 0..history.len() {
-        assert_eq!(rt; history.position(history.event(j).name()), Some(j + 1));
+        assert!(rt; history.position(history.event(j).name()) == Some(j + 1));
         let names = direct_names(alloc, history, j).expect(rt, "memory");
         let found = direct_causes(alloc, history, j + 1);
-        assert_eq!(rt; found.as_slice(), names.as_slice());
+        assert!(rt; found.as_slice() == names.as_slice());
     }
 }
 
@@ -185,9 +185,9 @@ fn take_one_out(rt: &impl Abort, alloc: Global, history: &mut History, seed: &mu
     assert!(rt; 0 < count && count == history.len());
     let i = draw(seed, count as u64) as usize;
     let gone = rest.remove(i);
-    assert_eq!(rt; history.remove(i + 1), gone);
-    assert_eq!(rt; history.position(gone.name()), None);
-    assert_eq!(rt; listed(rt, alloc, history).as_slice(), rest.as_slice());
+    assert!(rt; history.remove(i + 1) == gone);
+    assert!(rt; history.position(gone.name()).is_none());
+    assert!(rt; listed(rt, alloc, history).as_slice() == rest.as_slice());
 }
 
 /// Compares a history of at most 12 events with the plain programs, takes an event out, and so on until none is left.

@@ -16,16 +16,16 @@ fn take_out(rt: &impl Abort, history: &mut History, plain: &mut Vec<u16>, n: u16
     assert!(rt; 0 < count && count == history.len());
     let i = n as usize * 7919 % count;
     let gone = nth(plain.remove(i));
-    assert_eq!(rt; history.remove(i + 1), gone);
-    assert_eq!(rt; history.position(gone.name()), None);
+    assert!(rt; history.remove(i + 1) == gone);
+    assert!(rt; history.position(gone.name()).is_none());
 }
 
 fn compare(rt: &impl Abort, history: &History, plain: &[u16]) {
     assert_eq!(rt; history.len(), plain.len());
     for (i, n) in plain.iter().enumerate() {
         let event = nth(*n);
-        assert_eq!(rt; history.position(event.name()), Some(i + 1));
-        assert_eq!(rt; history.get(i + 1), event);
+        assert!(rt; history.position(event.name()) == Some(i + 1));
+        assert!(rt; history.get(i + 1) == event);
     }
 }
 

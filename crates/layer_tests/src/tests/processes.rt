@@ -16,7 +16,7 @@ fn go<P: SameState>(
     backs: &mut Vec<P::Back>,
 ) {
     for (wish, i) in steps {
-        assert_eq!(rt; process.wish(), *wish);
+        assert!(rt; process.wish() == *wish);
         assert!(rt; process.accepts(i));
         let back = process.take(rt.alloc(), *i).expect(rt, "memory");
         assert!(rt; backs.push(back).is_ok());

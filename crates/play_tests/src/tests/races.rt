@@ -3,7 +3,7 @@
 ghost use Rattle.std.specs.Prelude.{◌≡◌, ◌≤◌, IfOk, vec_len};
 
 use super::plays::{SCRIPT, TRANSCRIPT, is_beginning};
-use super::{MAJORITY, Memory, ONE_PROCESS, writer};
+use super::{MAJORITY, Memory, writer};
 use cdb_any_run::RunOfSetup;
 use cdb_play::{RaceFault, fits, race_on, race_status_of, race_with, write_race_fault};
 use cdb_rules::Runs;
@@ -174,12 +174,4 @@ fn a_race_that_a_gate_stopped_has_no_thread(rt: HostRuntime) {
     assert_eq!(rt; write_race_fault(&RaceFault::Stopped(3), &mut err), Ok(()));
     assert_eq!(rt; err.held.as_slice(), b"no thread\n".as_slice());
     assert_eq!(rt; race_status_of(&RaceFault::Stopped(3)), 9);
-}
-
-#[test]
-fn a_race_has_64_seats_at_most(rt: HostRuntime) {
-    let setup = Setup::read(rt.alloc(), ONE_PROCESS.as_bytes()).expect(&rt, "a setup");
-    assert!(&rt; fits(&setup, 63));
-    assert!(&rt; !fits(&setup, 64));
-    assert!(&rt; !fits(&setup, usize::MAX));
 }
