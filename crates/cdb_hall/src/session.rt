@@ -1,14 +1,16 @@
 //! A seat's session: what its lines have led to.
 
 ghost use Rattle.std.specs.Prelude.{◌≡◌, ◌+◌, ◌-◌, ◌<◌, ◌^◌, ◌++◌, IfOk, OnOk};
+ghost use Rattle.cdb_control.specs.ToldReply.{told};
 ghost use Rattle.cdb_text.specs.Pushes.{Pushes};
+ghost use Rattle.cdb_text.specs.Texts.{text_of};
 ghost use Rattle.cdb_hall.specs.Dialogues.{prompt_after};
 ghost use Rattle.cdb_hall.specs.Lines.{Responds, Shows, own_response};
 ghost use Rattle.cdb_shared.specs.Seats.{RestsAt};
 
 use crate::help::HELP;
 use cdb_base::NoMemory;
-use cdb_control::{CallFault, Command};
+use cdb_control::{CallFault, Command, Reply};
 use cdb_debug::{Request, push_fault, push_too_long};
 use cdb_rules::Runs;
 use cdb_shared::{Seat, Shared};
@@ -50,9 +52,7 @@ impl<R: Runs> Session<R> {
             Err(CallFault::JournalFull) => return Ok(b"journal full\n".to_vec(alloc)?),
             Err(CallFault::NoMemory) => return Err(NoMemory),
         };
-        let text = reply_text(alloc, &reply);
-        reply.close();
-        text
+        text_of(alloc, reply)
     }
 
     /// Does what a line asks for, and returns the response. After an error the session is not to go on.
@@ -95,6 +95,15 @@ impl<R: Runs> Session<R> {
         self.lines += 1;
         Ok(text)
     }
+}
+
+/// The text of a reply, which is given up.
+fn text_of(alloc: Global, reply: Reply) -> Result<Vec<u8>, NoMemory>
+    ensures { IfOk result (λ text. text.items ≡ text_of (told reply)) }
+{
+    let text = reply_text(alloc, &reply);
+    reply.close();
+    text
 }
 
 /// The response to a line that asks for no command, after this many lines.

@@ -1,4 +1,4 @@
-//! Worked examples of plays and races, on the public calls of `cdb_play`.
+//! Worked examples of one control for many seats, of plays and of races in threads.
 #![tactic(auto)]
 
 #[cfg(test)]

@@ -1,8 +1,10 @@
 //! A reader and a writer over memory that fail, and the setups.
 
 mod out_of_memory;
+mod pair;
 mod plays;
 mod races;
+mod sessions;
 
 use cdb_play::{Failed, Sink, Source};
 

@@ -1,4 +1,4 @@
-//! Requests to the program, carried out over files and streams in memory.
+//! Sessions, and requests to the program, carried out over files and streams in memory.
 #![tactic(auto)]
 
 #[cfg(test)]

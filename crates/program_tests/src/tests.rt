@@ -5,6 +5,10 @@ ghost use Rattle.cdb_program.specs.Requests.{HasTurns};
 
 mod failures;
 mod files;
+mod one_seat;
+mod person;
+mod reading;
+mod several_seats;
 mod streams;
 
 use cdb_debug::Streams;

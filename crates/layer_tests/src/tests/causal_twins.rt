@@ -7,7 +7,6 @@ use cdb_base::{Event, Kind, NoMemory, Proc, Reg, StepId};
 use cdb_causal::{History, consequences, depends, direct_causes, first_dependent};
 use std::alloc::Global;
 use std::process::Abort;
-use std::test::Fail;
 
 /// Whether there are events at both positions, from 0, the first before the second, and the second depends on
 /// the first.
@@ -49,42 +48,68 @@ fn rolled_back(alloc: Global, history: &History, i: usize) -> Result<Vec<usize>,
     Ok(positions)
 }
 
-/// Compares what comes after each event.
-fn compare_effects(rt: &impl Abort, alloc: Global, history: &History) -> Result<(), NoMemory> {
-    for i in 0..history.len() {
-        let positions = rolled_back(alloc, history, i)?;
-        let mut first = None;
-        let mut names = Vec::new(alloc);
-        for j in i + 1..history.len() {
-            if first.is_none() && is_linked(history, i, j) {
-                first = Some(history.event(j).name());
-            }
-            if positions.contains(&j) {
-                names.push(history.event(j).name())?;
-            }
+/// The name of the first event that is linked to one, and how many places behind it stands, 0 if none is.
+fn first_linked(history: &History, i: usize) -> (Option<StepId>, usize) {
+    for j in 0..history.len() {
+        if is_linked(history, i, j) {
+            return (Some(history.event(j).name()), j.saturating_sub(i));
         }
+    }
+    (None, 0)
+}
+
+/// Compares the first event that depends on each, and returns how many places behind it stands where that is most.
+fn compare_firsts(rt: &impl Abort, history: &History) -> usize {
+    let mut farthest = 0;
+    for i in 0..history.len() {
+        let (first, places) = first_linked(history, i);
         assert_eq!(rt; first_dependent(history, i + 1), first);
-        let found = consequences(alloc, history, i + 1)?;
+        farthest = farthest.max(places);
+    }
+    farthest
+}
+
+/// The names of the events behind one that go when it is rolled back.
+fn rolled_back_names(alloc: Global, history: &History, i: usize) -> Result<Vec<StepId>, NoMemory> {
+    let positions = rolled_back(alloc, history, i)?;
+    let mut names = Vec::new(alloc);
+    for j in 0..history.len() {
+        if i < j && positions.contains(&j) {
+            names.push(history.event(j).name())?;
+        }
+    }
+    Ok(names)
+}
+
+/// Compares what comes after each event.
+fn compare_effects(rt: &impl Abort, alloc: Global, history: &History) {
+    for i in 0..history.len() {
+        let names = rolled_back_names(alloc, history, i).expect(rt, "memory");
+        let found = consequences(alloc, history, i + 1).expect(rt, "memory");
         assert_eq!(rt; found.as_slice(), names.as_slice());
     }
-    Ok(())
+}
+
+/// The names of the direct causes of an event, in order.
+fn direct_names(alloc: Global, history: &History, j: usize) -> Result<Vec<StepId>, NoMemory> {
+    let mut names = Vec::new(alloc);
+    for i in 0..history.len() {
+        if is_direct(history, i, j) {
+            names.push(history.event(i).name())?;
+        }
+    }
+    names.sort()?;
+    Ok(names)
 }
 
 /// Compares what comes before each event.
-fn compare_causes(rt: &impl Abort, alloc: Global, history: &History) -> Result<(), NoMemory> {
+fn compare_causes(rt: &impl Abort, alloc: Global, history: &History) {
     for j in 0..history.len() {
-        assert_eq!(rt; history.position(history.event(j).name()), Some(j + 1));
-        let mut names = Vec::new(alloc);
-        for i in 0..j {
-            if is_direct(history, i, j) {
-                names.push(history.event(i).name())?;
-            }
-        }
-        names.sort()?;
+        assert!(rt; history.position(history.event(j).name()) == Some(j + 1));
+        let names = direct_names(alloc, history, j).expect(rt, "memory");
         let found = direct_causes(alloc, history, j + 1);
-        assert_eq!(rt; found.as_slice(), names.as_slice());
+        assert!(rt; found.as_slice() == names.as_slice());
     }
-    Ok(())
 }
 
 /// A number below `n`, and the next seed.
@@ -148,41 +173,46 @@ fn draw_history(alloc: Global, seed: &mut u64) -> Result<History, NoMemory> {
     Ok(history)
 }
 
+/// The events of a history as a plain list.
+fn listed(rt: &impl Abort, alloc: Global, history: &History) -> Vec<Event> {
+    history.to_vec(alloc).expect(rt, "memory")
+}
+
 /// Takes an event out, after which the others stand in order.
-fn take_one_out(
-    rt: &impl Abort,
-    alloc: Global,
-    history: &mut History,
-    seed: &mut u64,
-) -> Result<(), NoMemory> {
-    let mut rest = history.to_vec(alloc)?;
-    let count = rest.len() as u64;
-    assert!(rt; 0 < count);
-    let i = draw(seed, count) as usize;
+fn take_one_out(rt: &impl Abort, alloc: Global, history: &mut History, seed: &mut u64) {
+    let mut rest = listed(rt, alloc, history);
+    let count = rest.len();
+    assert!(rt; 0 < count && count == history.len());
+    let i = draw(seed, count as u64) as usize;
     let gone = rest.remove(i);
-    assert_eq!(rt; history.remove(i + 1), gone);
-    assert_eq!(rt; history.position(gone.name()), None);
-    assert_eq!(rt; history.to_vec(alloc)?.as_slice(), rest.as_slice());
-    Ok(())
+    assert!(rt; history.remove(i + 1) == gone);
+    assert!(rt; history.position(gone.name()).is_none());
+    assert!(rt; listed(rt, alloc, history).as_slice() == rest.as_slice());
+}
+
+/// Compares a history of at most 12 events with the plain programs, takes an event out, and so on until none is left.
+/// Returns how many there were.
+fn compare_and_take_out(rt: &impl Abort, alloc: Global, seed: &mut u64) -> usize {
+    let mut history = draw_history(alloc, seed).expect(rt, "memory");
+    let count = history.len();
+    for _ in 0..count {
+        compare_firsts(rt, &history);
+        compare_effects(rt, alloc, &history);
+        compare_causes(rt, alloc, &history);
+        take_one_out(rt, alloc, &mut history, seed);
+    }
+    assert!(rt; history.is_empty());
+    count
 }
 
 #[test]
-fn the_same_as_the_plain_programs(rt: HostRuntime) -> Result<(), Fail> {
+fn the_same_as_the_plain_programs(rt: HostRuntime) {
     let mut seed = 1;
     let mut longest = 0;
     for _ in 0..1000 {
-        let mut history = draw_history(rt.alloc(), &mut seed)?;
-        let count = history.len();
-        longest = longest.max(count);
-        for _ in 0..count {
-            compare_effects(&rt, rt.alloc(), &history)?;
-            compare_causes(&rt, rt.alloc(), &history)?;
-            take_one_out(&rt, rt.alloc(), &mut history, &mut seed)?;
-        }
-        assert!(rt; history.is_empty());
+        longest = longest.max(compare_and_take_out(&rt, rt.alloc(), &mut seed));
     }
     assert!(rt; longest > 8);
-    Ok(())
 }
 
 /// A history in which up to 39 steps of a process that does nothing else stand behind each event.
@@ -198,34 +228,25 @@ fn draw_long_history(alloc: Global, seed: &mut u64) -> Result<History, NoMemory>
     Ok(history)
 }
 
-/// Compares the first event that depends on each, and returns how many events are between where that is most.
-fn compare_firsts(rt: &impl Abort, history: &History) -> usize {
+/// Compares the first event that depends on each, then exchanges one event for another, and so on. Returns how many
+/// places behind it stands where that is most.
+fn compare_and_exchange(rt: &impl Abort, alloc: Global, seed: &mut u64) -> usize {
+    let mut history = draw_long_history(alloc, seed).expect(rt, "memory");
     let mut farthest = 0;
-    for i in 0..history.len() {
-        let mut first = None;
-        for j in i + 1..history.len() {
-            if first.is_none() && is_linked(history, i, j) {
-                first = Some(history.event(j).name());
-                farthest = farthest.max(j - i);
-            }
-        }
-        assert_eq!(rt; first_dependent(history, i + 1), first);
+    for _ in 0..10 {
+        farthest = farthest.max(compare_firsts(rt, &history));
+        take_one_out(rt, alloc, &mut history, seed);
+        assert!(rt; add(&mut history, draw_event(seed)).is_ok());
     }
     farthest
 }
 
 #[test]
-fn first_dependents_far_away(rt: HostRuntime) -> Result<(), Fail> {
+fn first_dependents_far_away(rt: HostRuntime) {
     let mut seed = 1;
     let mut farthest = 0;
     for _ in 0..100 {
-        let mut history = draw_long_history(rt.alloc(), &mut seed)?;
-        for _ in 0..10 {
-            farthest = farthest.max(compare_firsts(&rt, &history));
-            take_one_out(&rt, rt.alloc(), &mut history, &mut seed)?;
-            add(&mut history, draw_event(&mut seed))?;
-        }
+        farthest = farthest.max(compare_and_exchange(&rt, rt.alloc(), &mut seed));
     }
     assert!(rt; farthest > 100);
-    Ok(())
 }

@@ -10,6 +10,7 @@ ghost use Rattle.cdb_causal.specs.Standing.{HasNoLostCopy};
 
 use cdb_base::{CopyName, Event, Kind, MsgName, NoMemory, Proc, Reg};
 use cdb_causal::{History, depends};
+use std::process::Abort;
 
 pub fn step(p: Proc, k: u16, kind: Kind) -> Event {
     Event::Step { p, k, kind }
@@ -18,6 +19,14 @@ pub fn step(p: Proc, k: u16, kind: Kind) -> Event {
 pub fn copy(s: Proc, m: u16, to: Proc) -> CopyName {
     let msg = MsgName { s, m };
     CopyName { msg, to }
+}
+
+/// Compares whether two events depend on each other, either way.
+fn compare(rt: &impl Abort, pairs: &[(&Event, &Event, bool)]) {
+    for (event, other, does) in pairs {
+        assert_eq!(rt; depends(event, other), *does);
+        assert_eq!(rt; depends(other, event), *does);
+    }
 }
 
 #[test]
@@ -58,10 +67,7 @@ fn what_depends_on_what(rt: HostRuntime) {
         (&lost, &lost_to_another, false),
         (&lost, &crash, false),
     ];
-    for (event, other, does) in pairs {
-        assert_eq!(rt; depends(event, other), does);
-        assert_eq!(rt; depends(other, event), does);
-    }
+    compare(&rt, &pairs);
 }
 
 /// False where the event is no send.

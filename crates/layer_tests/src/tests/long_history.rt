@@ -4,7 +4,6 @@ use super::dependence::{add, step};
 use cdb_base::{Event, Kind, Proc};
 use cdb_causal::History;
 use std::process::Abort;
-use std::test::Fail;
 
 /// The n-th event: steps of nine processes in turn.
 fn nth(n: u16) -> Event {
@@ -17,33 +16,42 @@ fn take_out(rt: &impl Abort, history: &mut History, plain: &mut Vec<u16>, n: u16
     assert!(rt; 0 < count && count == history.len());
     let i = n as usize * 7919 % count;
     let gone = nth(plain.remove(i));
-    assert_eq!(rt; history.remove(i + 1), gone);
-    assert_eq!(rt; history.position(gone.name()), None);
+    assert!(rt; history.remove(i + 1) == gone);
+    assert!(rt; history.position(gone.name()).is_none());
 }
 
 fn compare(rt: &impl Abort, history: &History, plain: &[u16]) {
     assert_eq!(rt; history.len(), plain.len());
     for (i, n) in plain.iter().enumerate() {
         let event = nth(*n);
-        assert_eq!(rt; history.position(event.name()), Some(i + 1));
-        assert_eq!(rt; history.get(i + 1), event);
+        assert!(rt; history.position(event.name()) == Some(i + 1));
+        assert!(rt; history.get(i + 1) == event);
     }
 }
 
+/// Adds an event to both.
+fn add_to_both(rt: &impl Abort, history: &mut History, plain: &mut Vec<u16>, n: u16) {
+    assert!(rt; add(history, nth(n)).is_ok());
+    assert!(rt; plain.push(n).is_ok());
+}
+
+/// Takes two events out of both, and adds one.
+fn exchange(rt: &impl Abort, history: &mut History, plain: &mut Vec<u16>, n: u16) {
+    take_out(rt, history, plain, n);
+    take_out(rt, history, plain, n);
+    add_to_both(rt, history, plain, n);
+}
+
 #[test]
-fn a_long_history_is_a_plain_list(rt: HostRuntime) -> Result<(), Fail> {
+fn a_long_history_is_a_plain_list(rt: HostRuntime) {
     let mut history = History::new(rt.alloc());
     let mut plain = Vec::new(rt.alloc());
     for n in 0..700 {
-        add(&mut history, nth(n))?;
-        plain.push(n)?;
+        add_to_both(&rt, &mut history, &mut plain, n);
     }
     compare(&rt, &history, &plain);
     for n in 700..1300 {
-        take_out(&rt, &mut history, &mut plain, n);
-        take_out(&rt, &mut history, &mut plain, n);
-        add(&mut history, nth(n))?;
-        plain.push(n)?;
+        exchange(&rt, &mut history, &mut plain, n);
         if n % 60 == 0 {
             compare(&rt, &history, &plain);
         }
@@ -53,5 +61,4 @@ fn a_long_history_is_a_plain_list(rt: HostRuntime) -> Result<(), Fail> {
         compare(&rt, &history, &plain);
     }
     assert!(rt; history.is_empty());
-    Ok(())
 }

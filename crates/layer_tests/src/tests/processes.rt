@@ -7,7 +7,30 @@ use cdb_base::{Cell, Payload, Proc, Reg, Val};
 use cdb_leader::Leader;
 use cdb_process::{Input, SameState, Wish};
 use std::process::Abort;
-use std::test::Fail;
+
+/// Has a process take each input, before which it wishes for what stands beside it, and keeps what going back needs.
+fn go<P: SameState>(
+    rt: &(impl Abort + AllocGlobal),
+    process: &mut P,
+    steps: &[(Option<Wish>, Input)],
+    backs: &mut Vec<P::Back>,
+) {
+    for (wish, i) in steps {
+        assert!(rt; process.wish() == *wish);
+        assert!(rt; process.accepts(i));
+        let back = process.take(rt.alloc(), *i).expect(rt, "memory");
+        assert!(rt; backs.push(back).is_ok());
+    }
+}
+
+/// Has a process go back all the way.
+fn go_back<P: SameState>(process: &mut P, backs: &mut Vec<P::Back>) {
+    for _ in 0..backs.len() {
+        if let Some(back) = backs.pop() {
+            process.put_back(back);
+        }
+    }
+}
 
 /// Has process 1 of `n`, with all of them as its quorum, take each input, before which it wishes for what stands
 /// beside it, and go back.
@@ -17,26 +40,17 @@ fn goes_and_goes_back<P: SameState>(
     input: Val,
     steps: &[(Option<Wish>, Input)],
     decided: Option<Val>,
-) -> Result<(), Fail>
+)
     requires { (1 ≤ n) × (n ≤ 9) }
 {
-    let mut process = P::first(rt.alloc(), Proc::new(1), n, n, input)?;
-    let first = P::first(rt.alloc(), Proc::new(1), n, n, input)?;
+    let mut process = P::first(rt.alloc(), Proc::new(1), n, n, input).expect(rt, "memory");
+    let first = P::first(rt.alloc(), Proc::new(1), n, n, input).expect(rt, "memory");
     let mut backs = Vec::new(rt.alloc());
-    for (wish, i) in steps {
-        assert_eq!(rt; process.wish(), *wish);
-        assert!(rt; process.accepts(i));
-        backs.push(process.take(rt.alloc(), *i)?)?;
-    }
+    go(rt, &mut process, steps, &mut backs);
     assert_eq!(rt; process.decision(), decided);
     assert!(rt; !process.has_same_state(&first));
-    for _ in 0..backs.len() {
-        if let Some(back) = backs.pop() {
-            process.put_back(back);
-        }
-    }
+    go_back(&mut process, &mut backs);
     assert!(rt; process.has_same_state(&first));
-    Ok(())
 }
 
 /// What a process that names process 1 and has the value 7 sends in the first phase of a round.
@@ -53,7 +67,7 @@ fn second_phase() -> Payload {
 }
 
 #[test]
-fn a_leader_machine_decides_alone(rt: HostRuntime) -> Result<(), Fail> {
+fn a_leader_machine_decides_alone(rt: HostRuntime) {
     let one = Proc::new(1);
     let seven = Val::new(7);
     let steps = [
@@ -66,12 +80,12 @@ fn a_leader_machine_decides_alone(rt: HostRuntime) -> Result<(), Fail> {
         (Some(Wish::Local), Input::Local),
         (Some(Wish::Send(Payload::D { est: seven })), Input::Send),
     ];
-    goes_and_goes_back::<Leader>(&rt, 1, seven, &steps, Some(seven))
+    goes_and_goes_back::<Leader>(&rt, 1, seven, &steps, Some(seven));
 }
 
 /// No run sends two first phases of one round.
 #[test]
-fn a_quorum_is_of_different_senders(rt: HostRuntime) -> Result<(), Fail> {
+fn a_quorum_is_of_different_senders(rt: HostRuntime) {
     let one = Proc::new(1);
     let two = Proc::new(2);
     let steps = [
@@ -85,7 +99,7 @@ fn a_quorum_is_of_different_senders(rt: HostRuntime) -> Result<(), Fail> {
         (Some(Wish::Local), Input::Local),
         (Some(Wish::Send(second_phase())), Input::Send),
     ];
-    goes_and_goes_back::<Leader>(&rt, 3, Val::new(7), &steps, None)
+    goes_and_goes_back::<Leader>(&rt, 3, Val::new(7), &steps, None);
 }
 
 /// The register of process 1.
@@ -98,7 +112,7 @@ fn cell(lre: u32, lrww: u32, val: Option<Val>) -> Cell {
 }
 
 #[test]
-fn an_alpha_machine_decides_alone(rt: HostRuntime) -> Result<(), Fail> {
+fn an_alpha_machine_decides_alone(rt: HostRuntime) {
     let one = Proc::new(1);
     let seven = Val::new(7);
     let steps = [
@@ -134,12 +148,12 @@ fn an_alpha_machine_decides_alone(rt: HostRuntime) -> Result<(), Fail> {
             Input::Read(Reg::Dec, cell(0, 0, Some(seven))),
         ),
     ];
-    goes_and_goes_back::<Alpha>(&rt, 1, seven, &steps, Some(seven))
+    goes_and_goes_back::<Alpha>(&rt, 1, seven, &steps, Some(seven));
 }
 
 /// Process 1 of 3 with input 9: what it writes where its first pass shows these cells. Most of them no run has.
 #[test]
-fn the_latest_write_of_the_least_register_is_adopted(rt: HostRuntime) -> Result<(), Fail> {
+fn the_latest_write_of_the_least_register_is_adopted(rt: HostRuntime) {
     let one = Proc::new(1);
     let (five, six, nine) = (Val::new(5), Val::new(6), Val::new(9));
     let rows = [
@@ -194,7 +208,6 @@ fn the_latest_write_of_the_least_register_is_adopted(rt: HostRuntime) -> Result<
                 Input::Write(own()),
             ),
         ];
-        goes_and_goes_back::<Alpha>(&rt, 3, nine, &steps, None)?;
+        goes_and_goes_back::<Alpha>(&rt, 3, nine, &steps, None);
     }
-    Ok(())
 }

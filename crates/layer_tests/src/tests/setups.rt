@@ -3,7 +3,7 @@
 use cdb_base::{NoMemory, Proc, Val};
 use cdb_setup::{Algorithm, Setup, SetupFault};
 use std::alloc::Global;
-use std::test::Fail;
+use std::process::Abort;
 
 /// One process that proposes 7.
 const ONE: &str = r#"{"algorithm":"leader","processes":1,"quorum":1,"inputs":[7],"oracle":[[1]]}"#;
@@ -21,15 +21,17 @@ fn three_processes(alloc: Global) -> Result<Setup, NoMemory> {
     Setup::from_parts(alloc, 1, Algorithm::Leader, 2, &inputs, &answers)
 }
 
-#[test]
-fn parts_of_a_setup(rt: HostRuntime) -> Result<(), Fail> {
-    let setup = Setup::read(rt.alloc(), THREE.as_bytes())?;
-    assert!(rt; setup == three_processes(rt.alloc())?);
-    assert_eq!(rt; setup.version(), 1);
-    assert_eq!(rt; setup.algorithm(), Algorithm::Leader);
-    assert_eq!(rt; setup.n(), 3);
-    assert_eq!(rt; setup.q(), 2);
-    assert_eq!(rt; setup.input(Proc::new(3)), Val::new(3));
+/// Compares the parts of the setup of three processes but for the oracle's answers.
+fn compare_parts(rt: &impl Abort, setup: &Setup) {
+    assert!(rt; setup.version() == 1);
+    assert!(rt; setup.algorithm() == Algorithm::Leader);
+    assert!(rt; setup.n() == 3);
+    assert!(rt; setup.q() == 2);
+    assert!(rt; setup.input(Proc::new(3)) == Val::new(3));
+}
+
+/// Compares the oracle's answers to three processes, and those that it does not have.
+fn compare_answers(rt: &impl Abort, setup: &Setup) {
     let answers = [
         (1, 1, None),
         (2, 1, Some(1)),
@@ -42,11 +44,17 @@ fn parts_of_a_setup(rt: HostRuntime) -> Result<(), Fail> {
         (4, 1, None),
     ];
     for (p, k, leader) in answers {
-        let p = Proc::from_number(p).ok_or("no process")?;
+        let p = Proc::from_number(p).expect(rt, "a process");
         let leader = leader.and_then(Proc::from_number);
         assert_eq!(rt; setup.answer(p, k), leader);
     }
-    Ok(())
+}
+
+#[test]
+fn parts_of_a_setup(rt: HostRuntime) {
+    let setup = read_at_last(&rt);
+    compare_parts(&rt, &setup);
+    compare_answers(&rt, &setup);
 }
 
 /// Texts of setups. Two that have one number stand for one setup: with the version written out, keys in another order,
@@ -100,20 +108,21 @@ const TEXTS: [(u8, &str); 13] = [
     ),
 ];
 
+/// Whether two texts stand for one setup, or a fault of one of them.
+fn are_equal(alloc: Global, text: &str, other: &str) -> Result<bool, SetupFault> {
+    let setup = Setup::read(alloc, text.as_bytes())?;
+    let other = Setup::read(alloc, other.as_bytes())?;
+    Ok(setup == other)
+}
+
 #[test]
-fn texts_of_one_setup_are_equal(rt: HostRuntime) -> Result<(), Fail> {
+fn texts_of_one_setup_are_equal(rt: HostRuntime) {
     for (number, text) in &TEXTS {
-        let setup = Setup::read(rt.alloc(), text.as_bytes())?;
-        for (other_number, other_text) in &TEXTS {
-            let other = Setup::read(rt.alloc(), other_text.as_bytes())?;
-            assert_eq!(rt;
-                setup == other,
-                number == other_number,
-                "{text} and {other_text}"
-            );
+        for (other_number, other) in &TEXTS {
+            let found = are_equal(rt.alloc(), text, other);
+            assert_eq!(rt; found, Ok(number == other_number), "{text} and {other}");
         }
     }
-    Ok(())
 }
 
 #[test]
@@ -124,26 +133,38 @@ fn each_beginning_is_no_json(rt: HostRuntime) {
     }
 }
 
-/// Where an allocation fails, the call says so, and made again it does its work. To see it, let each allocation of
-/// this test fail in turn.
-#[test]
-fn setups_without_memory(rt: HostRuntime) -> Result<(), Fail> {
-    let setup = match Setup::read(rt.alloc(), THREE.as_bytes()) {
+/// The setup of three processes, read once more where an allocation failed.
+fn read_at_last<R: Abort + AllocGlobal>(rt: &R) -> Setup {
+    match Setup::read(rt.alloc(), THREE.as_bytes()) {
         Ok(setup) => setup,
         Err(fault) => {
             assert_eq!(rt; fault, SetupFault::NoMemory);
-            Setup::read(rt.alloc(), THREE.as_bytes())?
+            Setup::read(rt.alloc(), THREE.as_bytes()).expect(rt, "a setup")
         }
-    };
-    let copy = match setup.copy(rt.alloc()) {
+    }
+}
+
+/// Its copy, made once more where an allocation failed.
+fn copy_at_last<R: Abort + AllocGlobal>(rt: &R, setup: &Setup) -> Setup {
+    match setup.copy(rt.alloc()) {
         Ok(copy) => copy,
-        Err(NoMemory) => setup.copy(rt.alloc())?,
-    };
-    assert!(rt; copy == setup);
-    let made = match three_processes(rt.alloc()) {
+        Err(NoMemory) => setup.copy(rt.alloc()).expect(rt, "a copy"),
+    }
+}
+
+/// The same of its parts, made once more where an allocation failed.
+fn made_at_last<R: Abort + AllocGlobal>(rt: &R) -> Setup {
+    match three_processes(rt.alloc()) {
         Ok(made) => made,
-        Err(NoMemory) => three_processes(rt.alloc())?,
-    };
-    assert!(rt; made == setup);
-    Ok(())
+        Err(NoMemory) => three_processes(rt.alloc()).expect(rt, "a setup"),
+    }
+}
+
+/// Where an allocation fails, the call says so, and made again it does its work. To see it, let each allocation of
+/// this test fail in turn.
+#[test]
+fn setups_without_memory(rt: HostRuntime) {
+    let setup = read_at_last(&rt);
+    assert!(rt; copy_at_last(&rt, &setup) == setup);
+    assert!(rt; made_at_last(&rt) == setup);
 }

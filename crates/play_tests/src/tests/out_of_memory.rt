@@ -1,17 +1,22 @@
 //! Out of memory in a play and in a race: nothing of a short transcript was written, and the same call with memory writes
-//! it all. To see it, let each allocation of these tests fail in turn.
+//! it all. In a session: it ends there, with what came before, and its next calls have the replies as if nothing had
+//! happened. To see it, let each allocation of these tests fail in turn.
 
 ghost use Rattle.std.specs.Prelude.{IfOk};
 ghost use Rattle.cdb_setup.specs.Format.{Encodes};
 
+use super::pair::{OPEN, Pair, say};
+use super::plays::play_to;
+use super::sessions::ends_so;
 use super::{MAJORITY, Memory, ONE_PROCESS};
 use cdb_any_run::RunOfSetup;
-use cdb_play::{Bytes, PlayFault, RaceFault, fits, play, race};
+use cdb_control::{Command, Reply};
+use cdb_play::{Bytes, PlayFault, RaceFault, fits, race};
 use cdb_setup::{Setup, SetupFault};
+use cdb_shared::End;
 use std::alloc::{AllocError, Global};
 use std::process::Abort;
 use std::sync::Wait;
-use std::test::Fail;
 use std::thread::Threads;
 
 /// More bytes than each text here has.
@@ -57,20 +62,27 @@ fn writer_with_room(alloc: Global) -> Result<Memory, AllocError> {
     })
 }
 
+/// Plays the script.
+fn play_once(alloc: Global, out: &mut Memory) -> Result<(), PlayFault> {
+    let mut script = Bytes::new(SCRIPT.as_bytes());
+    play_to(alloc, MAJORITY, &mut script, out)
+}
+
 /// Plays the script, and once more where memory was out, which has written nothing.
+fn play_at_last<R: Abort + AllocGlobal>(rt: &R, out: &mut Memory) -> Result<(), PlayFault> {
+    let Err(fault) = play_once(rt.alloc(), out) else {
+        return Ok(());
+    };
+    assert_eq!(rt; fault, PlayFault::NoMemory);
+    assert_eq!(rt; out.held.len(), 0);
+    play_once(rt.alloc(), out)
+}
+
 #[test]
-fn a_play_without_memory(rt: HostRuntime) -> Result<(), Fail> {
-    let mut out = writer_with_room(rt.alloc())?;
-    let (setup, script) = (MAJORITY.as_bytes(), SCRIPT.as_bytes());
-    let ended = play::<RunOfSetup, _, _>(rt.alloc(), setup, &mut Bytes::new(script), &mut out);
-    if ended.is_err() {
-        assert_eq!(rt; ended, Err(PlayFault::NoMemory));
-        assert_eq!(rt; out.held.len(), 0);
-        let ended = play::<RunOfSetup, _, _>(rt.alloc(), setup, &mut Bytes::new(script), &mut out);
-        assert_eq!(rt; ended, Ok(()));
-    }
-    assert_eq!(rt; str::from_utf8(out.held.as_slice()), Ok(TRANSCRIPT));
-    Ok(())
+fn a_play_without_memory(rt: HostRuntime) {
+    let mut out = writer_with_room(rt.alloc()).expect(&rt, "room");
+    assert_eq!(&rt; play_at_last(&rt, &mut out), Ok(()));
+    assert_eq!(&rt; str::from_utf8(out.held.as_slice()), Ok(TRANSCRIPT));
 }
 
 /// The scripts of the race, made once more where an allocation fails.
@@ -126,10 +138,60 @@ fn race_at_last<R: Abort + Threads + Wait + Sync + AllocGlobal>(
 }
 
 #[test]
-fn a_race_without_memory(rt: HostRuntime) -> Result<(), Fail> {
-    let mut out = writer_with_room(rt.alloc())?;
-    let scripts = scripts_of_race(rt.alloc())?;
-    race_at_last(&rt, scripts.as_slice(), &mut out)?;
-    assert_eq!(rt; str::from_utf8(out.held.as_slice()), Ok(RACE));
-    Ok(())
+fn a_race_without_memory(rt: HostRuntime) {
+    let mut out = writer_with_room(rt.alloc()).expect(&rt, "room");
+    let scripts = scripts_of_race(rt.alloc()).expect(&rt, "scripts");
+    assert_eq!(&rt; race_at_last(&rt, scripts.as_slice(), &mut out), Ok(()));
+    assert_eq!(&rt; str::from_utf8(out.held.as_slice()), Ok(RACE));
+}
+
+/// Drives the process for eight turns, and for what is left of them if an allocation failed.
+fn drive_at_last<R: Wait + AllocGlobal>(rt: &R, pair: Pair) -> (Pair, u32, End) {
+    let (pair, count, end) = pair.drive(rt, OPEN, 8);
+    if end != End::NoMemory {
+        return (pair, count, end);
+    }
+    let (pair, more, end) = pair.drive(rt, OPEN, 8u32.saturating_sub(count));
+    (pair, count.saturating_add(more), end)
+}
+
+/// The commands behind the first that were answered.
+fn left(commands: &[Command], answered: usize) -> &[Command] {
+    commands.get(answered..).unwrap_or(&[])
+}
+
+/// Serves the commands, and those that are left if an allocation failed.
+fn serve_at_last<R: Wait + Abort + AllocGlobal>(
+    rt: &R,
+    pair: Pair,
+    commands: &[Command],
+) -> (Pair, Vec<Reply>, End) {
+    let (pair, replies, end) = pair.serve(rt, OPEN, commands);
+    if end != End::NoMemory {
+        return (pair, replies, end);
+    }
+    let (pair, more, end) = pair.serve(rt, OPEN, left(commands, replies.len()));
+    let all = joined(replies, more).expect(rt, "room");
+    (pair, all, end)
+}
+
+/// The replies and those after them.
+fn joined(replies: Vec<Reply>, more: Vec<Reply>) -> Result<Vec<Reply>, AllocError> {
+    let mut all = replies;
+    for reply in more {
+        all.push(reply)?;
+    }
+    Ok(all)
+}
+
+#[test]
+fn sessions_without_memory(rt: HostRuntime) {
+    let (pair, count, end) = drive_at_last(&rt, Pair::after(&rt, 0));
+    assert_eq!(&rt; (count, end), (8, End::All));
+    let commands = [Command::Undo(1, 8), Command::Redo, Command::Decisions];
+    let (pair, replies, end) = serve_at_last(&rt, pair.exchanged(), &commands);
+    assert_eq!(&rt; end, End::All);
+    let text = "undone 1.8 send 1#3\nredone 1.8 send 1#3 decides 7\ndecisions 1=7\n";
+    say(&rt, replies, text);
+    ends_so(&rt, pair, 11, &[1, 1, 1, 1, 1, 1, 1, 1, 2, 2, 2], 8);
 }

@@ -2,8 +2,8 @@
 
 ghost use Rattle.std.specs.Prelude.{◌≡◌, ◌≤◌, IfOk, vec_len};
 
-use super::plays::{SCRIPT, TRANSCRIPT};
-use super::{MAJORITY, Memory, ONE_PROCESS, writer};
+use super::plays::{SCRIPT, TRANSCRIPT, is_beginning};
+use super::{MAJORITY, Memory, writer};
 use cdb_any_run::RunOfSetup;
 use cdb_play::{RaceFault, fits, race_on, race_status_of, race_with, write_race_fault};
 use cdb_rules::Runs;
@@ -26,47 +26,57 @@ fn scripts(alloc: Global, text: &str, count: usize) -> Result<Vec<Vec<u8>>, Allo
 }
 
 /// Runs a race of two processes and one script.
-fn race_of_one_script<R: Threads + Wait + Sync + AllocGlobal>(
+fn race_of_one_script<R: Abort + Threads + Wait + Sync + AllocGlobal>(
     rt: &R,
     turns: u32,
     script: &str,
     out: &mut Memory,
-) -> Result<Result<(), RaceFault>, Fail> {
-    let scripts = scripts(rt.alloc(), script, 1)?;
-    let setup = Setup::read(rt.alloc(), MAJORITY.as_bytes())?;
-    if !fits(&setup, scripts.len()) {
-        return Err(Fail::from("it has no seats enough"));
-    }
-    let raced = race_on::<RunOfSetup, _, _>(rt, rt.alloc(), setup, turns, &scripts, out);
-    Ok(raced)
+) -> Result<(), RaceFault> {
+    let scripts = scripts(rt.alloc(), script, 1).expect(rt, "scripts");
+    let setup = Setup::read(rt.alloc(), MAJORITY.as_bytes()).expect(rt, "a setup");
+    assert!(rt; fits(&setup, scripts.len()));
+    race_on::<RunOfSetup, _, _>(rt, rt.alloc(), setup, turns, &scripts, out)
+}
+
+/// Runs a race that is written to a writer that fails after this many good calls of seven bytes.
+fn check_writer<R: Abort + Threads + Wait + Sync + AllocGlobal>(
+    rt: &R,
+    good_calls: usize,
+    text: &str,
+) {
+    let mut out = writer(rt, 7, good_calls);
+    let raced = race_of_one_script(rt, 0, SCRIPT, &mut out);
+    assert_eq!(rt; raced, Err(RaceFault::Write), "after {good_calls} calls");
+    is_beginning(rt, &out, good_calls, text);
+}
+
+/// What a race of the longest example writes.
+fn text_of_race(alloc: Global) -> Result<String, AllocError> {
+    format!(in alloc; "seat 3\n{TRANSCRIPT}decisions 1=5 2=5\ndecisions agree\n")
 }
 
 #[test]
-fn a_writer_fails_at_each_call_of_a_race(rt: HostRuntime) -> Result<(), Fail> {
-    let text = format!(in rt.alloc(); "seat 3\n{TRANSCRIPT}decisions 1=5 2=5\ndecisions agree\n")?;
+fn a_writer_fails_at_each_call_of_a_race(rt: HostRuntime) {
+    let text = text_of_race(rt.alloc()).expect(&rt, "a text");
     // Of 1,090 bytes, seven are taken a call.
     for good_calls in 0..156 {
-        let mut out = writer(&rt, 7, good_calls);
-        let raced = race_of_one_script(&rt, 0, SCRIPT, &mut out)?;
-        assert_eq!(rt; raced, Err(RaceFault::Write), "after {good_calls} calls");
-        assert_eq!(rt; out.failures, 1);
-        assert_eq!(rt; out.held.len(), 7 * good_calls);
-        assert!(rt; text.as_bytes().starts_with(out.held.as_slice()));
+        check_writer(&rt, good_calls, text.as_str());
     }
-    Ok(())
+}
+
+/// Runs a race whose script undoes a step and takes it again.
+fn check_race<R: Abort + Threads + Wait + Sync + AllocGlobal>(rt: &R) {
+    let mut out = writer(rt, 1_000, usize::MAX);
+    let raced = race_of_one_script(rt, 50, "undo 2 1\nredo\n", &mut out);
+    assert_eq!(rt; raced, Ok(()));
+    assert!(rt; out.held.as_slice().ends_with(b"decisions agree\n"));
 }
 
 #[test]
-fn two_hundred_races_agree(rt: HostRuntime) -> Result<(), Fail> {
+fn two_hundred_races_agree(rt: HostRuntime) {
     for _ in 0..200 {
-        let mut out = writer(&rt, 1_000, usize::MAX);
-        assert_eq!(rt;
-            race_of_one_script(&rt, 50, "undo 2 1\nredo\n", &mut out)?,
-            Ok(())
-        );
-        assert!(rt; out.held.as_slice().ends_with(b"decisions agree\n"));
+        check_race(&rt);
     }
-    Ok(())
 }
 
 /// A gate that, where it holds, lets call 2 go on only once the other seat's call 1 is answered.
@@ -164,13 +174,4 @@ fn a_race_that_a_gate_stopped_has_no_thread(rt: HostRuntime) {
     assert_eq!(rt; write_race_fault(&RaceFault::Stopped(3), &mut err), Ok(()));
     assert_eq!(rt; err.held.as_slice(), b"no thread\n".as_slice());
     assert_eq!(rt; race_status_of(&RaceFault::Stopped(3)), 9);
-}
-
-#[test]
-fn a_race_has_64_seats_at_most(rt: HostRuntime) -> Result<(), Fail> {
-    let setup = Setup::read(rt.alloc(), ONE_PROCESS.as_bytes())?;
-    for (scripts, enough) in &[(63, true), (64, false), (usize::MAX, false)] {
-        assert_eq!(rt; fits(&setup, *scripts), *enough, "{scripts} scripts");
-    }
-    Ok(())
 }

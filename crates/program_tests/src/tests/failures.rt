@@ -4,7 +4,9 @@ use super::{ALL_GOOD, Ended, GoodCalls, performed};
 use cdb_draw::StepAsked;
 use cdb_program::{Fault, Request};
 use std::process::Abort;
+use std::sync::Wait;
 use std::test::Fail;
+use std::thread::Threads;
 
 const PLAY: Request<'static> = Request::Play {
     setup: "one.json",
@@ -42,6 +44,24 @@ fn check<R: Abort>(rt: &R, ended: &Ended, status: u8, error: &str) {
     assert_eq!(rt; ended.failures, 1);
 }
 
+/// Performs a request of which the write behind this many good ones fails, after which this many bytes are written.
+fn check_write<R: Threads + Wait + Sync + Abort + AllocGlobal>(
+    rt: &R,
+    request: Request<'_>,
+    whole: &[u8],
+    good: usize,
+    length: usize,
+) {
+    let calls = GoodCalls {
+        output: good,
+        ..ALL_GOOD
+    };
+    let ended = performed(rt, request, calls);
+    check(rt, &ended, 7, "output failed\n");
+    assert_eq!(rt; ended.output.len(), length);
+    assert!(rt; whole.starts_with(ended.output.as_slice()));
+}
+
 #[test]
 fn each_write_of_output_fails_in_turn(rt: HostRuntime) {
     // Each with the length of its text.
@@ -58,14 +78,7 @@ fn each_write_of_output_fails_in_turn(rt: HostRuntime) {
         assert_eq!(rt; (whole.status, whole.output.len()), (0, *length));
         // A call takes five bytes.
         for good in 0..length.div_ceil(5) {
-            let calls = GoodCalls {
-                output: good,
-                ..ALL_GOOD
-            };
-            let ended = performed(&rt, *request, calls);
-            check(&rt, &ended, 7, "output failed\n");
-            assert_eq!(rt; ended.output.len(), 5 * good);
-            assert!(rt; whole.output.as_slice().starts_with(ended.output.as_slice()));
+            check_write(&rt, *request, whole.output.as_slice(), good, 5 * good);
         }
     }
 }
@@ -76,16 +89,28 @@ fn each_write_of_a_session_fails_in_turn(rt: HostRuntime) {
     let written = [0, 2, 7, 12, 16, 21, 26, 31, 36, 41];
     let whole = performed(&rt, DEBUG, ALL_GOOD);
     for (good, length) in written.iter().enumerate() {
-        let calls = GoodCalls {
-            output: good,
-            ..ALL_GOOD
-        };
-        let ended = performed(&rt, DEBUG, calls);
-        check(&rt, &ended, 7, "output failed\n");
-        assert_eq!(rt; ended.output.len(), *length);
-        assert!(rt; whole.output.as_slice().starts_with(ended.output.as_slice()));
+        check_write(&rt, DEBUG, whole.output.as_slice(), good, *length);
     }
     assert_eq!(rt; (whole.status, whole.output.len()), (0, 43));
+}
+
+/// Performs a request with this many good writes of the error, which are all of them or not.
+fn check_error<R: Threads + Wait + Sync + Abort + AllocGlobal>(
+    rt: &R,
+    request: Request<'_>,
+    whole: &Ended,
+    good: usize,
+    are_all: bool,
+) {
+    let calls = GoodCalls {
+        error: good,
+        ..ALL_GOOD
+    };
+    let ended = performed(rt, request, calls);
+    assert_eq!(rt; ended.status, whole.status);
+    assert_eq!(rt; ended.output.len(), 0);
+    assert!(rt; whole.error.as_slice().starts_with(ended.error.as_slice()));
+    assert_eq!(rt; ended.error.len() == whole.error.len(), are_all);
 }
 
 #[test]
@@ -114,16 +139,7 @@ fn each_write_of_error_fails_in_turn(rt: HostRuntime) {
     for (request, writes) in &requests {
         let whole = performed(&rt, *request, ALL_GOOD);
         for good in 0..=*writes {
-            let calls = GoodCalls {
-                error: good,
-                ..ALL_GOOD
-            };
-            let ended = performed(&rt, *request, calls);
-            assert_eq!(rt; ended.status, whole.status);
-            assert_eq!(rt; ended.output.len(), 0);
-            assert!(rt; whole.error.as_slice().starts_with(ended.error.as_slice()));
-            let is_whole = ended.error.len() == whole.error.len();
-            assert_eq!(rt; is_whole, good == *writes);
+            check_error(&rt, *request, &whole, good, good == *writes);
         }
     }
 }
@@ -147,18 +163,28 @@ const UNREAD: &[(Request<'static>, &'static [&'static str])] = &[
     ),
 ];
 
+/// Performs a request of which the file behind this many good ones can't be read.
+fn check_file<R: Threads + Wait + Sync + Abort + AllocGlobal>(
+    rt: &R,
+    request: Request<'_>,
+    good: usize,
+    text: &str,
+) {
+    let calls = GoodCalls {
+        files: good,
+        ..ALL_GOOD
+    };
+    let ended = performed(rt, request, calls);
+    check(rt, &ended, 3, text);
+    assert_eq!(rt; ended.output.len(), 0);
+    assert_eq!(rt; ended.opened.checked_sub(1), Some(good));
+}
+
 #[test]
 fn each_file_can_not_be_read_in_turn(rt: HostRuntime) {
     for (request, texts) in UNREAD {
         for (good, text) in texts.iter().enumerate() {
-            let calls = GoodCalls {
-                files: good,
-                ..ALL_GOOD
-            };
-            let ended = performed(&rt, *request, calls);
-            check(&rt, &ended, 3, text);
-            assert_eq!(rt; ended.output.len(), 0);
-            assert_eq!(rt; ended.opened, good + 1);
+            check_file(&rt, *request, good, text);
         }
         let calls = GoodCalls {
             files: texts.len(),
@@ -166,6 +192,26 @@ fn each_file_can_not_be_read_in_turn(rt: HostRuntime) {
         };
         assert_eq!(rt; performed(&rt, *request, calls).status, 0);
     }
+}
+
+/// Performs a request of which the read of standard input behind this many good ones fails; four are all.
+fn check_input<R: Threads + Wait + Sync + Abort + AllocGlobal>(
+    rt: &R,
+    request: Request<'_>,
+    good: usize,
+    text: &str,
+) {
+    let calls = GoodCalls {
+        input: good,
+        ..ALL_GOOD
+    };
+    let ended = performed(rt, request, calls);
+    if good < 4 {
+        check(rt, &ended, 3, "cannot read standard input\n");
+    } else {
+        assert_eq!(rt; (ended.status, ended.failures), (0, 0));
+    }
+    assert_eq!(rt; ended.output.as_slice(), text.as_bytes());
 }
 
 #[test]
@@ -189,17 +235,7 @@ fn each_read_of_input_fails_in_turn(rt: HostRuntime) {
     ];
     for (request, texts) in &requests {
         for (good, text) in texts.iter().enumerate() {
-            let calls = GoodCalls {
-                input: good,
-                ..ALL_GOOD
-            };
-            let ended = performed(&rt, *request, calls);
-            if good < 4 {
-                check(&rt, &ended, 3, "cannot read standard input\n");
-            } else {
-                assert_eq!(rt; (ended.status, ended.failures), (0, 0));
-            }
-            assert_eq!(rt; ended.output.as_slice(), text.as_bytes());
+            check_input(&rt, *request, good, text);
         }
     }
 }

@@ -32,8 +32,12 @@ fn begun<R: Abort + AllocGlobal>(rt: &R) -> AnyRun
     run
 }
 
-/// Drops a run, here alone.
-fn end(_run: AnyRun) {}
+/// Gives a run up.
+fn end(run: AnyRun)
+    requires { IsTrueToSetup run }
+{
+    run.into_chronicle();
+}
 
 /// The copy of the first message of process 1 for a process from 1 to 9.
 fn first_copy_for(receiver: u8) -> CopyName

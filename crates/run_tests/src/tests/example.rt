@@ -90,7 +90,6 @@ fn has_same_events(one: &History, other: &History) -> bool {
 }
 
 /// The run of an example.
-#[derive(Drop)]
 pub struct Example {
     run: RunOfSetup,
 }
@@ -134,8 +133,12 @@ impl Example {
         }
     }
 
-    /// Drops the run, here alone: the proof of a function that drops one goes through all its parts.
-    pub fn end(self) {}
+    /// Gives the run up: its setup and its history are dropped here. The proof of what drops a run itself goes through all
+    /// its parts.
+    pub fn end(self) {
+        let Example { run } = self;
+        run.into_chronicle();
+    }
 
     /// Undoes an event.
     pub fn undo(&mut self, event: EventRef) -> Result<Event, Refusal> {

@@ -11,7 +11,6 @@ use cdb_rules::EventRef;
 use std::process::Abort;
 
 /// Two runs of one setup that look the same: one that is led, and one behind it, which shows how the first was.
-#[derive(Drop)]
 struct Pair {
     run: Example,
     behind: Example,
@@ -26,7 +25,7 @@ impl Pair {
         }
     }
 
-    /// Drops both.
+    /// Gives both up.
     fn end(self) {
         let Pair { run, behind } = self;
         run.end();

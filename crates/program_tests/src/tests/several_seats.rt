@@ -1,14 +1,15 @@
 //! Sessions of several seats at once, a thread each.
 
-use super::{Person, with_lines};
+use super::person::{Person, with_lines};
 use cdb_any_run::RunOfSetup;
-use cdb_control::Entry;
+use cdb_control::{Control, Entry};
 use cdb_hall::{Attended, Station, debug_seats, journal_text, status_after, write_failures};
 use cdb_play::{Output, PlayFault};
 use cdb_setup::Setup;
 use std::alloc::{AllocError, Global};
 use std::process::Abort;
-use std::test::Fail;
+use std::sync::Wait;
+use std::thread::Threads;
 
 const THREE: &[u8] =
     b"{\"algorithm\":\"leader\",\"processes\":3,\"quorum\":2,\"inputs\":[5,6,7],\"oracle\":[[1],[1],[1]]}";
@@ -66,17 +67,22 @@ fn check_report<R: Abort + AllocGlobal>(rt: &R, seats: &[Attended<Person>]) {
     assert_eq!(rt; status_after(seats, &Ok(())), 7);
 }
 
-#[test]
-fn a_seat_that_fails_ends_alone(rt: HostRuntime) -> Result<(), Fail> {
-    let stations = three_seats(rt.alloc())?;
+/// Sessions of one run with these, of whom there are three.
+fn hold<R: Threads + Wait + Sync + Abort + AllocGlobal>(
+    rt: &R,
+    stations: Vec<Station<Person>>,
+) -> (Control<RunOfSetup>, Vec<Attended<Person>>) {
     assert!(rt; stations.len() == 3);
-    let setup = Setup::read(rt.alloc(), THREE)?;
-    let held = debug_seats::<RunOfSetup, _, _>(&rt, rt.alloc(), setup, stations);
-    let Ok((control, attended)) = held else {
-        return Err("no sessions".into());
-    };
-    check_ends(&rt, attended.as_slice());
+    let setup = Setup::read(rt.alloc(), THREE).expect(rt, "a setup");
+    debug_seats::<RunOfSetup, _, _>(rt, rt.alloc(), setup, stations).expect(rt, "sessions")
+}
+
+#[test]
+fn a_seat_that_fails_ends_alone(rt: HostRuntime) {
+    let stations = three_seats(rt.alloc()).expect(&rt, "seats");
+    let (control, attended) = hold(&rt, stations);
     check_journal(&rt, control.journal());
+    control.close();
+    check_ends(&rt, attended.as_slice());
     check_report(&rt, attended.as_slice());
-    Ok(())
 }

@@ -1,6 +1,5 @@
 //! The line of each form of command, and the texts of replies that no short script has.
 
-use super::session::end_reply;
 use cdb_base::{CopyName, MsgName, NoMemory, Payload, Proc, StepId, StepName};
 use cdb_control::Reply;
 use cdb_text::{parse_line, push_command, reply_text};
@@ -55,10 +54,10 @@ fn each_command_has_its_line(rt: HostRuntime) {
     }
 }
 
-/// Whether the text of the reply, which is dropped, is this one.
+/// Whether the text of the reply, which is given up, is this one.
 fn is_text(alloc: Global, reply: Reply, text: &str) -> Result<bool, NoMemory> {
     let found = reply_text(alloc, &reply);
-    end_reply(reply);
+    reply.close();
     Ok(found?.as_slice() == text.as_bytes())
 }
 

@@ -1,10 +1,12 @@
 //! Sessions of one seat.
 
-use super::with_lines;
+use super::person::{Person, with_lines};
 use cdb_any_run::RunOfSetup;
 use cdb_debug::debug;
 use cdb_play::PlayFault;
 use cdb_setup::SetupFault;
+use std::alloc::Global;
+use std::process::Abort;
 
 const ONE_PROCESS: &[u8] =
     b"{\"algorithm\":\"leader\",\"processes\":1,\"quorum\":1,\"inputs\":[7],\"oracle\":[[1]]}";
@@ -28,14 +30,24 @@ line 7 fault 3 Number
     ),
 ];
 
+/// Holds a session at a prompt with someone.
+fn hold(alloc: Global, talk: &mut Person) -> Result<(), PlayFault> {
+    debug::<RunOfSetup, _>(alloc, ONE_PROCESS, b"> ", talk)
+}
+
+/// Holds a session without a prompt, in which this many bytes come at a time.
+fn check_responses<R: Abort + AllocGlobal>(rt: &R, lines: &'static [u8], said: &str, most: usize) {
+    let mut talk = with_lines(rt.alloc(), lines, most);
+    let outcome = debug::<RunOfSetup, _>(rt.alloc(), ONE_PROCESS, b"", &mut talk);
+    assert_eq!(rt; outcome, Ok(()));
+    assert_eq!(rt; str::from_utf8(talk.said.as_slice()), Ok(said));
+}
+
 #[test]
 fn responses_are_the_same_however_few_bytes_come(rt: HostRuntime) {
     for (lines, said) in DIALOGUES {
         for most in [1, 3, 7, 10_000] {
-            let mut talk = with_lines(rt.alloc(), lines, most);
-            let outcome = debug::<RunOfSetup, _>(rt.alloc(), ONE_PROCESS, b"", &mut talk);
-            assert_eq!(rt; outcome, Ok(()));
-            assert_eq!(rt; str::from_utf8(talk.said.as_slice()), Ok(said));
+            check_responses(&rt, lines, said, most);
         }
     }
 }
@@ -44,7 +56,7 @@ fn responses_are_the_same_however_few_bytes_come(rt: HostRuntime) {
 #[test]
 fn each_line_is_answered_before_more_is_asked_for(rt: HostRuntime) {
     let mut talk = with_lines(rt.alloc(), b"auto 1\nauto 1\njump 1\nquit..\n", 7);
-    let outcome = debug::<RunOfSetup, _>(rt.alloc(), ONE_PROCESS, b"> ", &mut talk);
+    let outcome = hold(rt.alloc(), &mut talk);
     assert_eq!(rt; outcome, Ok(()));
     assert_eq!(rt;
         str::from_utf8(talk.said.as_slice()),
@@ -57,7 +69,7 @@ fn each_line_is_answered_before_more_is_asked_for(rt: HostRuntime) {
 #[test]
 fn after_quit_no_more_is_asked_for(rt: HostRuntime) {
     let mut talk = with_lines(rt.alloc(), b"auto 1\nquit\nauto 1\n", 1);
-    let outcome = debug::<RunOfSetup, _>(rt.alloc(), ONE_PROCESS, b"> ", &mut talk);
+    let outcome = hold(rt.alloc(), &mut talk);
     assert_eq!(rt; outcome, Ok(()));
     assert_eq!(rt;
         str::from_utf8(talk.said.as_slice()),
@@ -79,29 +91,42 @@ const LINES: &[u8] = b"auto 1\njump 1\nauto 1\n";
 
 const RESPONSES: &[u8] = b"> 1.1 query 1\n> line 2 fault 2 Word\n> 1.2 send 1#1\n> ";
 
-/// A line is read at a time, and beside the number of good reads stands how many bytes of the responses are written then.
+/// Compares what was said with the beginning of the responses, of this length.
+fn has_said(rt: &impl Abort, talk: &Person, length: usize) {
+    assert_eq!(rt; talk.said.len(), length);
+    assert!(rt; RESPONSES.starts_with(talk.said.as_slice()));
+}
+
+/// Lines are read one at a time, of which the one behind this many good reads can't be.
+fn check_read<R: Abort + AllocGlobal>(rt: &R, good_reads: usize, length: usize) {
+    let mut talk = with_lines(rt.alloc(), LINES, 7);
+    talk.good_reads = good_reads;
+    let outcome = hold(rt.alloc(), &mut talk);
+    assert_eq!(rt; outcome, Err(PlayFault::Read));
+    has_said(rt, &talk, length);
+    assert_eq!(rt; talk.asked_at.len().checked_sub(1), Some(good_reads));
+}
+
+/// Beside the number of good reads stands how many bytes of the responses are written then.
 #[test]
 fn a_read_that_fails_ends_the_session(rt: HostRuntime) {
     for (good_reads, length) in [(0, 2), (1, 16), (2, 38), (3, 53)] {
-        let mut talk = with_lines(rt.alloc(), LINES, 7);
-        talk.good_reads = good_reads;
-        let outcome = debug::<RunOfSetup, _>(rt.alloc(), ONE_PROCESS, b"> ", &mut talk);
-        assert_eq!(rt; outcome, Err(PlayFault::Read));
-        assert_eq!(rt; talk.said.len(), length);
-        assert!(rt; RESPONSES.starts_with(talk.said.as_slice()));
-        assert_eq!(rt; talk.asked_at.len(), good_reads + 1);
+        check_read(&rt, good_reads, length);
     }
 }
 
-/// A byte is written at a time.
+/// Bytes are written one at a time, of which the one behind this many good writes can't be.
+fn check_write<R: Abort + AllocGlobal>(rt: &R, good_writes: usize) {
+    let mut talk = with_lines(rt.alloc(), LINES, 1);
+    talk.good_writes = good_writes;
+    let outcome = hold(rt.alloc(), &mut talk);
+    assert_eq!(rt; outcome, Err(PlayFault::Write));
+    has_said(rt, &talk, good_writes);
+}
+
 #[test]
 fn a_write_that_fails_ends_the_session(rt: HostRuntime) {
     for good_writes in 0..53 {
-        let mut talk = with_lines(rt.alloc(), LINES, 1);
-        talk.good_writes = good_writes;
-        let outcome = debug::<RunOfSetup, _>(rt.alloc(), ONE_PROCESS, b"> ", &mut talk);
-        assert_eq!(rt; outcome, Err(PlayFault::Write));
-        assert_eq!(rt; talk.said.len(), good_writes);
-        assert!(rt; RESPONSES.starts_with(talk.said.as_slice()));
+        check_write(&rt, good_writes);
     }
 }

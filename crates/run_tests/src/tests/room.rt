@@ -1,6 +1,7 @@
 //! Room: what goes back needs no memory where its seat has room.
 
-use super::session::{ALONE, LOSSY, Session, end_reply, text_of};
+use super::session::{Session, text_of};
+use super::setups::{ALONE, LOSSY};
 use cdb_base::Event;
 use cdb_control::Reply;
 use std::process::Abort;
@@ -110,7 +111,7 @@ fn undone_by(reply: &Reply) -> u16 {
 fn undo<R: Abort + AllocGlobal>(rt: &R, session: &mut Session, line: &str) -> u16 {
     let reply = session.try_line(rt, 1, line).expect(rt, line);
     let step = undone_by(&reply);
-    end_reply(reply);
+    reply.close();
     step
 }
 

@@ -9,14 +9,6 @@ use std::alloc::Global;
 use std::marker::Model;
 use std::process::Abort;
 
-/// One process, which is its own leader.
-pub const ALONE: &str =
-    r#"{"algorithm":"leader","processes":1,"quorum":1,"inputs":[7],"oracle":[[1]]}"#;
-
-/// Two processes with one leader, where copies can be lost.
-pub const LOSSY: &str =
-    r#"{"version":2,"algorithm":"leader","processes":2,"quorum":2,"inputs":[5,6],"oracle":[[1],[1]]}"#;
-
 /// A setup, or none where an allocation failed.
 fn setup_of(alloc: Global, setup: &str) -> Option<Setup> {
     Setup::read(alloc, setup.as_bytes()).ok()
@@ -24,7 +16,6 @@ fn setup_of(alloc: Global, setup: &str) -> Option<Setup> {
 
 /// A control with two seats. What its calls answer is seen when the tests run: their contracts say nothing of it, so
 /// that the proof of a test does not read what a control is.
-#[derive(Drop)]
 pub struct Session {
     pub control: Control<RunOfSetup>,
 }
@@ -53,8 +44,11 @@ impl Session {
         }
     }
 
-    /// Drops the session, here alone: the proof of a function that drops one goes through all its parts.
-    pub fn end(self) {}
+    /// Gives the session up.
+    pub fn end(self) {
+        let Session { control } = self;
+        control.close();
+    }
 
     /// Carries out the command of a line, of a seat.
     pub fn try_line<R: Abort + AllocGlobal>(
@@ -79,7 +73,7 @@ impl Session {
     /// Gives a line of the first seat this many times.
     pub fn repeat<R: Abort + AllocGlobal>(&mut self, rt: &R, times: u32, line: &str) {
         for _ in 0..times {
-            end_reply(self.give(rt, 1, line));
+            self.give(rt, 1, line).close();
         }
     }
 
@@ -125,9 +119,6 @@ impl Session {
     }
 }
 
-/// Drops a reply, here alone.
-pub fn end_reply(_reply: Reply) {}
-
 /// The text of a reply, at the second try where an allocation failed.
 fn try_text<R: Abort + AllocGlobal>(rt: &R, reply: &Reply) -> Vec<u8> {
     match reply_text(rt.alloc(), reply) {
@@ -136,9 +127,9 @@ fn try_text<R: Abort + AllocGlobal>(rt: &R, reply: &Reply) -> Vec<u8> {
     }
 }
 
-/// The same, after which the reply is dropped.
+/// The same, after which the reply is given up.
 pub fn text_of<R: Abort + AllocGlobal>(rt: &R, reply: Reply) -> Vec<u8> {
     let text = try_text(rt, &reply);
-    end_reply(reply);
+    reply.close();
     text
 }

@@ -1,6 +1,7 @@
 //! What a control shows beside its replies, and its longest journal.
 
-use super::session::{ALONE, LOSSY, Session, end_reply};
+use super::session::Session;
+use super::setups::{ALONE, LOSSY};
 use cdb_control::{Act, CallFault};
 use std::process::Abort;
 
@@ -16,7 +17,7 @@ fn what_auto_would_do_is_picked(rt: HostRuntime) {
 fn is_full<R: Abort + AllocGlobal>(rt: &R, session: &mut Session, line: &str) -> bool {
     match session.try_line(rt, 1, line) {
         Ok(reply) => {
-            end_reply(reply);
+            reply.close();
             false
         }
         Err(fault) => fault == CallFault::JournalFull,

@@ -110,14 +110,14 @@ fn room_for_two<R: Abort + AllocGlobal>(rt: &R) -> Vec<Seat<RunOfSetup>>
     }
 }
 
-/// Drops a control, here alone: the proof of a function that drops one goes through all its parts.
-pub fn end_control(_control: Control<RunOfSetup>) {}
-
-/// Drops replies, here alone.
-pub fn end_replies(_replies: Vec<Reply>) {}
+/// Gives replies up.
+fn close_all(replies: Vec<Reply>) {
+    for reply in replies {
+        reply.close();
+    }
+}
 
 /// A shared control and its two seats, which rest.
-#[derive(Drop)]
 pub struct Pair {
     shared: Shared<RunOfSetup>,
     first: Seat<RunOfSetup>,
@@ -142,9 +142,9 @@ impl Pair {
         seated(rt, shared, seats)
     }
 
-    /// Drops the pair.
+    /// Gives the pair up.
     pub fn end<R: Wait + Abort + AllocGlobal>(self, rt: &R) {
-        end_control(self.finish(rt));
+        self.finish(rt).close();
     }
 
     /// The numbers of the seats.
@@ -284,10 +284,10 @@ fn compare<R: Abort + AllocGlobal>(rt: &R, replies: &[Reply], expected: &str) {
     assert_eq!(rt; texts.as_slice(), expected.as_bytes());
 }
 
-/// The same, after which the replies are dropped.
+/// The same, after which the replies are given up.
 pub fn say<R: Abort + AllocGlobal>(rt: &R, replies: Vec<Reply>, expected: &str) {
     compare(rt, replies.as_slice(), expected);
-    end_replies(replies);
+    close_all(replies);
 }
 
 /// Whether the last entries of a journal are of these seats.

@@ -1,6 +1,6 @@
 //! Sessions of two seats, how they end, and a race of a process and a script.
 
-use super::pair::{Before, OPEN, Pair, end_control, end_replies, ends_with_seats, say, try_setup};
+use super::pair::{Before, OPEN, Pair, ends_with_seats, say, try_setup};
 use cdb_any_run::RunOfSetup;
 use cdb_control::{Act, Command};
 use cdb_race::{RaceFault, Raced, Script, race};
@@ -31,7 +31,7 @@ pub fn ends_so<R: Wait + Abort + AllocGlobal>(
     assert_eq!(rt; control.journal().len(), entries);
     assert!(rt; ends_with_seats(control.journal(), seats));
     assert_eq!(rt; control.run().any().history().len(), events);
-    end_control(control);
+    control.close();
 }
 
 #[test]
@@ -118,17 +118,8 @@ fn raced<R: Threads + Wait + Sync + Abort + AllocGlobal>(
     assert!(rt; setup.n() == 1 && gates.len() == 2);
     let raced = race::<RunOfSetup, _, _>(rt, rt.alloc(), setup, 8, &[script], gates)?;
     let found = counts(&raced);
-    end_race(raced);
+    raced.close();
     Ok(found)
-}
-
-/// Drops what a race leaves.
-fn end_race(raced: Raced<RunOfSetup>) {
-    let Raced { control, replies } = raced;
-    end_control(control);
-    for of_seat in replies {
-        end_replies(of_seat);
-    }
 }
 
 /// A script of one command.

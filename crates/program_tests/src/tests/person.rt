@@ -1,7 +1,4 @@
-//! Sessions, and whom they talk with.
-
-mod one_seat;
-mod several_seats;
+//! Whom sessions talk with.
 
 use cdb_debug::Talk;
 use cdb_play::Failed;
@@ -10,13 +7,13 @@ use std::alloc::Global;
 /// Someone who gives at most `most` bytes when asked, takes at most `most`, and keeps what was written, with its length
 /// at each time when more was asked for. After this many good reads or writes the next one fails.
 #[derive(Drop)]
-struct Person {
-    rest: &'static [u8],
+pub struct Person {
+    pub rest: &'static [u8],
     most: usize,
-    said: Vec<u8>,
-    asked_at: Vec<usize>,
-    good_reads: usize,
-    good_writes: usize,
+    pub said: Vec<u8>,
+    pub asked_at: Vec<usize>,
+    pub good_reads: usize,
+    pub good_writes: usize,
     failed_reads: u64,
     failed_writes: u64,
 }
@@ -57,7 +54,7 @@ impl Talk for Person {
 }
 
 /// Someone with these lines, whose reads and writes are all good.
-fn with_lines(alloc: Global, rest: &'static [u8], most: usize) -> Person {
+pub fn with_lines(alloc: Global, rest: &'static [u8], most: usize) -> Person {
     Person {
         rest,
         most,

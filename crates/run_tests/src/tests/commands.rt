@@ -1,21 +1,10 @@
 //! Out of memory: a command whose allocation fails changes nothing, and has its usual reply when it is given again.
 //! To see it, let each allocation of these tests fail in turn.
 
-use super::session::{ALONE, LOSSY, Session, text_of};
+use super::session::{Session, text_of};
+use super::setups::{ALONE, ALPHA_ALONE, ALPHA_PAIR, LOSSY, NO_MAJORITY};
 use cdb_control::Reply;
 use std::process::Abort;
-
-/// Two processes with a quorum of one, each its own leader.
-const NO_MAJORITY: &str =
-    r#"{"algorithm":"leader","processes":2,"quorum":1,"inputs":[5,6],"oracle":[[1],[2]]}"#;
-
-/// One process of Alpha.
-const ALPHA_ALONE: &str =
-    r#"{"algorithm":"alpha","processes":1,"quorum":1,"inputs":[7],"oracle":[[1]]}"#;
-
-/// Two processes of Alpha, each its own leader.
-const ALPHA_PAIR: &str =
-    r#"{"algorithm":"alpha","processes":2,"quorum":2,"inputs":[7,8],"oracle":[[1],[2]]}"#;
 
 const LOSSES: &str = "\
 step 1 query

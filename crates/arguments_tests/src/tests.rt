@@ -1,3 +1,0 @@
-//! Command lines, with and without memory.
-
-mod reading;

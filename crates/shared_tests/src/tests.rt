@@ -1,5 +1,0 @@
-//! Tests.
-
-mod memory;
-mod pair;
-mod sessions;
