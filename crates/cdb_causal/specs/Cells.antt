@@ -11,11 +11,11 @@ row Dec = 9
 abbrev pub register_cell : Reg → ℕ → ℕ
 register_cell register slot = row register * 9 + slot
 
--- steps, and messages, of one number have cells beside each other
+-- the cells of steps, and of messages, of one number follow each other
 abbrev pub named_cell : ℕ → ℕ → ℕ
 named_cell p k = k * 9 + (p - 1)
 
--- copies stand as messages do, nine for each, one for each receiver
+-- a process has nine cells for the copies of each message, one for each receiver
 abbrev pub named_copy_cell : ℕ → ℕ → ℕ → ℕ
 named_copy_cell s m slot = named_cell s (m * 9 + slot)
 

@@ -10,7 +10,7 @@ ghost use Rattle.cdb_base.specs.declared.event.Event.TheVariants.{Step, Lost};
 ghost use Rattle.cdb_base.specs.declared.event.Kind.{Kind as AKind};
 ghost use Rattle.cdb_base.specs.declared.event.Kind.TheVariants.{Recv, Read, Write};
 ghost use Rattle.cdb_base.specs.declared.name.CopyName.{CopyName as ACopy};
-ghost use Rattle.cdb_causal.specs.Cells.{row, register_cell as register_cell_of, named_cell as named_cell_of, named_copy_cell, copy_cells, named_cells, IsProcess, IsRegister};
+ghost use Rattle.cdb_causal.specs.Cells.{row, register_cell as register_cell_of, named_cell, named_copy_cell, named_cells, IsRegister};
 ghost use Rattle.cdb_causal.specs.Tables.{bound_of, HasCell};
 ghost use Rattle.cdb_causal.specs.Dependence.{accesses as accesses_of, same_process};
 ghost use Rattle.cdb_causal.specs.LastCauses.{IsSlot};
@@ -67,15 +67,6 @@ fn register_cell(register: Reg, slot: usize) -> usize
     register_row(register) * 9 + slot
 }
 
-/// The cell of the k-th step, or message, of a process.
-pub(crate) fn named_cell(p: Proc, k: u16) -> usize
-    ensures value { result ≡ named_cell_of p k }
-    ensures small { result < named_cells }
-    ensures process { IsProcess p }
-{
-    k as usize * 9 + p.index()
-}
-
 /// The position in its sender's row of a copy, for the process of a slot, of the m-th message.
 fn copy_position(m: u16, slot: usize) -> usize
     requires { slot < 9 }
@@ -83,16 +74,6 @@ fn copy_position(m: u16, slot: usize) -> usize
     ensures small { result < named_cells }
 {
     m as usize * 9 + slot
-}
-
-/// The cell of a copy, for the process of a slot, of the m-th message of process s.
-pub(crate) fn copy_cell(s: Proc, m: u16, slot: usize) -> usize
-    requires { slot < 9 }
-    ensures value { result ≡ named_copy_cell s m slot }
-    ensures small { result < copy_cells }
-    ensures process { IsProcess s }
-{
-    copy_position(m, slot) * 9 + s.index()
 }
 
 /// Gives a cell of a table of registers a bound above all marks. One that was left too high falls to it.
@@ -230,7 +211,7 @@ impl Bounds {
     /// Raises the bounds of a process's steps, for which there is room, by the `k`-th under that mark.
     fn note_own(&mut self, mark: Mark, p: Proc, k: u16)
         requires mark { mark < ABOVE_ALL }
-        requires room { HasCell self.old.before (named_cell_of p k) }
+        requires room { HasCell self.old.before (named_cell p k) }
         ensures others { AreRaised (mark + 1) self.old self.new }
         ensures steps { self.new.steps ≡ self.old.steps }
         ensures sends { self.new.sends ≡ self.old.sends }
@@ -332,14 +313,14 @@ impl Bounds {
 
     /// The bound of a step.
     fn end_of_step(&self, p: Proc, k: u16) -> Mark
-        ensures { result ≡ bound_of self.now.steps (named_cell_of p k) }
+        ensures { result ≡ bound_of self.now.steps (named_cell p k) }
     {
         self.steps.bound(p, k as usize)
     }
 
     /// The bound of the sends of a message.
     fn end_of_sends(&self, s: Proc, m: u16) -> Mark
-        ensures { result ≡ bound_of self.now.sends (named_cell_of s m) }
+        ensures { result ≡ bound_of self.now.sends (named_cell s m) }
     {
         self.sends.bound(s, m as usize)
     }

@@ -4,10 +4,10 @@
 ghost use Rattle.std.specs.Prelude.{◌≡◌, ℕ, ◌-◌, ◌<◌, List, [], ◌∷◌, ◌++◌, false, vec_len, OnOk};
 ghost use Rattle.cdb_base.specs.declared.event.Event.{Event as AnEvent};
 ghost use Rattle.cdb_base.specs.declared.event.Event.TheVariants.{Step, Lost};
-ghost use Rattle.cdb_causal.specs.Cells.{copy_cells, named_copy_cell, IsProcess};
+ghost use Rattle.cdb_causal.specs.Cells.{copy_cells, named_cell as named_cell_of, named_cells, named_copy_cell, IsProcess};
 ghost use Rattle.cdb_causal.specs.Flagged.{flag_in, SetsFlag};
 
-use crate::bounds::{copy_cell, named_cell, register_row};
+use crate::bounds::register_row;
 use cdb_base::{CopyName, Event, Kind, NoMemory, Proc};
 use std::alloc::Global;
 
@@ -57,6 +57,25 @@ fn set(flags: &mut Vec<bool>, cell: usize)
     ensures { SetsFlag flags.old.items flags.new.items cell }
 {
     flags[cell] = true;
+}
+
+/// The cell of the k-th message of a process.
+fn named_cell(p: Proc, k: u16) -> usize
+    ensures value { result ≡ named_cell_of p k }
+    ensures small { result < named_cells }
+    ensures process { IsProcess p }
+{
+    k as usize * 9 + p.index()
+}
+
+/// The cell of a copy, for the process of a slot, of the m-th message of process s.
+fn copy_cell(s: Proc, m: u16, slot: usize) -> usize
+    requires { slot < 9 }
+    ensures value { result ≡ named_copy_cell s m slot }
+    ensures small { result < copy_cells }
+    ensures process { IsProcess s }
+{
+    (m as usize * 9 + slot) * 9 + s.index()
 }
 
 /// The cell of a copy.

@@ -16,7 +16,8 @@ pub const SEVERAL: Mark = ABOVE_ALL;
 /// By how many cells at least a row grows, so that it seldom does.
 const GROWTH: usize = 256;
 
-/// A row of cells for each process. A contract sees the bound of each cell, which is 0 beyond the end of its row.
+/// A row of cells for each process. A contract reads the bound of a cell by the cell's number (`bound_of`): it is 0
+/// beyond the end of the row.
 #[derive(Drop)]
 pub struct Table {
     rows: [Vec<Mark>; 9],
