@@ -92,7 +92,7 @@ impl Default for Proc {
 
 /// The name `P.K` of a step: the `k`-th standing step of process `p`. The steps of a process count
 /// from 1 to 9,999; a name with another number names no step.
-#[derive(Clone, Copy, Debug, Default, PartialEq, Eq, PartialOrd, Ord)]
+#[derive(Clone, Copy, Debug, Default, PartialEq, Eq)]
 pub struct StepName {
     pub p: Proc,
     pub k: u16,
@@ -107,9 +107,8 @@ impl fmt::Display for StepName {
     }
 }
 
-/// The name `S#M` of a message: the `m`-th send of process `s`, from 1. Names are ordered by sender,
-/// then number.
-#[derive(Clone, Copy, Debug, Default, PartialEq, Eq, PartialOrd, Ord)]
+/// The name `S#M` of a message: the `m`-th send of process `s`, from 1.
+#[derive(Clone, Copy, Debug, Default, PartialEq, Eq)]
 pub struct MsgName {
     pub s: Proc,
     pub m: u16,
@@ -125,8 +124,8 @@ impl fmt::Display for MsgName {
 }
 
 /// The copy of a message that is meant for one process. Each message has one copy for each process,
-/// the sender too. Copies are ordered by message, then receiver.
-#[derive(Clone, Copy, Debug, Default, PartialEq, Eq, PartialOrd, Ord)]
+/// the sender too.
+#[derive(Clone, Copy, Debug, Default, PartialEq, Eq)]
 pub struct CopyName {
     pub msg: MsgName,
     pub to: Proc,
@@ -143,7 +142,7 @@ impl fmt::Display for CopyName {
 }
 
 /// The name of an event: a step by its process and number, the loss of a copy by that copy.
-#[derive(Clone, Copy, Debug, PartialEq, Eq, PartialOrd, Ord)]
+#[derive(Clone, Copy, Debug, PartialEq, Eq)]
 pub enum StepId {
     Step(StepName),
     Lost(CopyName),

@@ -6,7 +6,7 @@ use crate::limits::MAX_VALUE;
 use std::marker::Model;
 
 /// A value that processes propose and decide, from 0 to 999,999. A contract sees the number.
-#[derive(Clone, Copy, Debug, PartialEq, Eq, PartialOrd, Ord)]
+#[derive(Clone, Copy, Debug, PartialEq, Eq)]
 pub struct Val(u32);
 
 impl Model for Val {

@@ -90,15 +90,37 @@ fn compare_effects(rt: &impl Abort, alloc: Global, history: &History) {
     }
 }
 
-/// The names of the direct causes of an event, in order.
-fn direct_names(alloc: Global, history: &History, j: usize) -> Result<Vec<StepId>, NoMemory> {
-    let mut names = Vec::new(alloc);
+/// Whether the event is a step of the process, or where none is given the loss of a copy.
+fn is_of(event: &Event, p: Option<Proc>) -> bool {
+    match event {
+        Event::Step { p: q, .. } => p == Some(*q),
+        Event::Lost(_) => p.is_none(),
+    }
+}
+
+/// Adds the names of the direct causes of an event among the steps of a process, or among the losses.
+fn add_direct_names(
+    history: &History,
+    j: usize,
+    p: Option<Proc>,
+    names: &mut Vec<StepId>,
+) -> Result<(), NoMemory> {
     for i in 0..history.len() {
-        if is_direct(history, i, j) {
-            names.push(history.event(i).name())?;
+        let event = history.event(i);
+        if is_of(event, p) && is_direct(history, i, j) {
+            names.push(event.name())?;
         }
     }
-    names.sort()?;
+    Ok(())
+}
+
+/// The names of the direct causes of an event: of steps by process, then of losses.
+fn direct_names(alloc: Global, history: &History, j: usize) -> Result<Vec<StepId>, NoMemory> {
+    let mut names = Vec::new(alloc);
+    for p in Proc::all() {
+        add_direct_names(history, j, Some(p), &mut names)?;
+    }
+    add_direct_names(history, j, None, &mut names)?;
     Ok(names)
 }
 
