@@ -1,7 +1,7 @@
 -- What commands do to room and to redo lists in memory.
 use Rattle.std.proofs.Common.{◌≡◌, ◌≢◌, ℕ, zero, suc, ◌+◌, ◌-◌, ◌<◌, ◌≤◌, max, Bool, true, false, not, List, [], ◌∷◌, ◌++◌, length, map, set, get_or, replicate, Option, Some, None, Result, Ok, Err, refl, sym, ap, ◌∙◌, subst, arith, length-append, nat_eq, nat_le, is_some}
 use Rattle.std.specs.Map.{lookup}
-use Rattle.std.proofs.lemmas.List.{length-set, length-map, length-take, length-replicate, get_or-map, map-set, get_or-set_same, get_or-set_other}
+use Rattle.std.proofs.lemmas.List.{length-set, length-map, length-take, length-replicate, get_or-map, map-set, get_or-set_same, get_or-set_other, set-get_or}
 use Rattle.cdb_base.specs.Positions.{without_last}
 use Rattle.cdb_base.specs.declared.act.Act.{Act}
 use Rattle.cdb_base.specs.declared.event.Event.{Event}
@@ -9,6 +9,7 @@ use Rattle.cdb_base.specs.declared.name.StepId.{StepId}
 use Rattle.cdb_base.specs.declared.refusal.Refusal.{Refusal}
 use Rattle.cdb_base.specs.declared.refusal.Refusal.TheVariants.{NoProcess, NothingToRedo, NoBreak, BreakLimit}
 use Rattle.cdb_base.specs.declared.limits.TheConstants.{MAX_BREAKPOINTS}
+use Rattle.cdb_control.specs.ToldReply.{told, as_reply}
 use Rattle.cdb_control.specs.Auto.{choice}
 use Rattle.cdb_control.specs.Commands.{Outcome, unless, granted, found, unpaused, step_done, step, lost, undo, rollback, why, redone, show, outcome}
 use Rattle.cdb_control.specs.Done.{NoneShrinks}
@@ -21,6 +22,8 @@ use Rattle.cdb_control.specs.Stops.{names_none_of}
 use Rattle.cdb_control.specs.declared.command.Command.{Command}
 use Rattle.cdb_control.specs.declared.command.Command.TheVariants.{Step, Auto, Lose, Undo, UndoLost, Redo, Forget, Rollback, RollbackLost, Why, WhyLost, Break, Unbreak, Resume, Show, Decisions}
 use Rattle.cdb_control.specs.declared.command.View.{View}
+use Rattle.cdb_control.specs.declared.reply.EventReply.{EventReply}
+use Rattle.cdb_control.specs.declared.reply.EventReply.TheVariants as of_event
 use Rattle.cdb_control.specs.declared.command.View.TheVariants as view
 use Rattle.cdb_rules.specs.declared.event_ref.EventRef.TheVariants as named
 use Rattle.cdb_message.specs.Mail.{message_name}
@@ -81,6 +84,14 @@ rooms-lowered (m ∷ ms) (suc i) n c one low =
     let rest = rooms-lowered ms i n c one (omega (arith, low)) in
     ap (λ (x : ℕ). x ∷ set (map (λ r. r - 1) (map (λ m. m - n) ms)) i (get_or (map (λ m. m - n) ms) i 0 - c)) head ∙ ap (λ (xs : List ℕ). (m - (n + 1)) ∷ xs) rest
 
+-- the rooms after a command of one event: its room is what its entry takes
+pub rooms-entered : (room_ends : List ℕ) (i n : ℕ) → i < length room_ends
+    → set (map (λ r. r - 1) (map (λ m. m - n) room_ends)) i (get_or (map (λ m. m - n) room_ends) i 0 - 1) ≡ map (λ m. m - (n + 1)) room_ends
+rooms-entered room_ends i n low =
+    let same : get_or room_ends i 0 - (1 - 1) ≡ get_or room_ends i 0 = omega arith in
+    rooms-lowered room_ends i n 1 (omega arith) low
+    ∙ ap (λ (l : List ℕ). map (λ m. m - (n + 1)) l) (ap (λ (m : ℕ). set room_ends i m) same ∙ set-get_or room_ends i 0)
+
 pub rooms-raised : (room_ends : List ℕ) (i n count : ℕ) → i < length room_ends
     → map (λ m. m - n) (set room_ends i (max (n + count) (get_or room_ends i 0))) ≡ set (map (λ m. m - n) room_ends) i (max count (get_or (map (λ m. m - n) room_ends) i 0))
 rooms-raised [] i n count low = absurd (omega (arith, low))
@@ -96,6 +107,13 @@ pub no-rooms : (seats i : ℕ) → get_or (rooms_at 0 (replicate seats 0)) i 0 �
 no-rooms zero i = refl
 no-rooms (suc n) zero = refl
 no-rooms (suc n) (suc i) = no-rooms n i
+
+-- a command of one event takes one of its seat's room
+pub cost-one : (given : EventReply) → cost (told (as_reply given)) ≡ 1
+cost-one (of_event.Stepped event decides paused) = refl
+cost-one (of_event.Undone event) = refl
+cost-one (of_event.Redone event decides) = refl
+cost-one (of_event.Refused refusal) = refl
 
 -- ---- how much longer a command makes the redo lists
 

@@ -9,7 +9,7 @@ use Rattle.cdb_base.specs.declared.no_memory.NoMemory.{NoMemory}
 use Rattle.cdb_base.specs.declared.event.Event.{Event}
 use Rattle.cdb_base.specs.declared.refusal.Refusal.{Refusal}
 use Rattle.cdb_base.specs.declared.refusal.Refusal.TheVariants.{NothingToRedo}
-use Rattle.cdb_control.specs.ToldReply.{is_refused}
+use Rattle.cdb_control.specs.ToldReply.{is_refused, AsReply}
 use Rattle.cdb_control.specs.ToldReply as reply
 use Rattle.cdb_control.specs.Auto.{choice}
 use Rattle.cdb_control.specs.Commands.{Outcome, granted, found, unpaused, undone_by, redone, decides, step, undo, rollback, why, reply_of, outcome}
@@ -18,21 +18,22 @@ use Rattle.cdb_control.specs.State.{State, redo_of, last_of}
 use Rattle.cdb_control.specs.Done.{CameOutAs, IsNoRefusal}
 use Rattle.cdb_control.specs.declared.command.Command.{Command}
 use Rattle.cdb_control.specs.declared.command.Command.TheVariants as command
+use Rattle.cdb_control.specs.declared.reply.EventReply.{EventReply}
 use Rattle.cdb_control.specs.declared.reply.Reply.{Reply}
 use Rattle.cdb_rules.specs.declared.event_ref.EventRef.TheVariants.{Step, Lost}
 use Rattle.cdb_rules.specs.Refusals.{with_taken}
 use Rattle.cdb_rules.specs.Rules.{Rules}
 use Rattle.cdb_rules.specs.Undo.{result_alone, left_by, number_removed, with_removed}
 
-pub undo_ok : (rules : Rules) (t u : State) (seat p k : ℕ) (it : Command) (r : Result Reply NoMemory) → it ≡ command.Undo p k
-    → IfOk r (CameOutAs (undo t seat (name_given (Step p k))) u) → IfOk r (CameOutAs (outcome rules t seat it) u)
+pub undo_ok : (rules : Rules) (t u : State) (seat p k : ℕ) (it : Command) (r : Result EventReply NoMemory) → it ≡ command.Undo p k
+    → IfOk r (AsReply (CameOutAs (undo t seat (name_given (Step p k))) u)) → IfOk r (AsReply (CameOutAs (outcome rules t seat it) u))
 unfolding outcome
-undo_ok rules t u seat p k it r is ok = subst (λ (c : Command). IfOk r (CameOutAs (outcome rules t seat c) u)) (sym is) ok
+undo_ok rules t u seat p k it r is ok = subst (λ (c : Command). IfOk r (AsReply (CameOutAs (outcome rules t seat c) u))) (sym is) ok
 
-pub undo_lost_ok : (rules : Rules) (t u : State) (seat s m p : ℕ) (it : Command) (r : Result Reply NoMemory) → it ≡ command.UndoLost s m p
-    → IfOk r (CameOutAs (undo t seat (name_given (Lost s m p))) u) → IfOk r (CameOutAs (outcome rules t seat it) u)
+pub undo_lost_ok : (rules : Rules) (t u : State) (seat s m p : ℕ) (it : Command) (r : Result EventReply NoMemory) → it ≡ command.UndoLost s m p
+    → IfOk r (AsReply (CameOutAs (undo t seat (name_given (Lost s m p))) u)) → IfOk r (AsReply (CameOutAs (outcome rules t seat it) u))
 unfolding outcome
-undo_lost_ok rules t u seat s m p it r is ok = subst (λ (c : Command). IfOk r (CameOutAs (outcome rules t seat c) u)) (sym is) ok
+undo_lost_ok rules t u seat s m p it r is ok = subst (λ (c : Command). IfOk r (AsReply (CameOutAs (outcome rules t seat c) u))) (sym is) ok
 
 pub rollback_ok : (rules : Rules) (t u : State) (seat p k : ℕ) (it : Command) (r : Result Reply NoMemory) → it ≡ command.Rollback p k
     → IfOk r (CameOutAs (rollback t seat (name_given (Step p k))) u) → IfOk r (CameOutAs (outcome rules t seat it) u)
@@ -56,12 +57,12 @@ why_lost_ok rules t seat s m p it r is ok = subst (λ (c : Command). CameOutAs (
 
 -- ---- commands that are not refused
 
-pub undo_granted : (rules : Rules) (t : State) (seat p k : ℕ) (it : Command) (r : Result Reply NoMemory) → it ≡ command.Undo p k
+pub undo_granted : (rules : Rules) (t : State) (seat p k : ℕ) (it : Command) (r : Result EventReply NoMemory) → it ≡ command.Undo p k
     → OnErr r (IsNoRefusal (undo t seat (name_given (Step p k)))) → OnErr r (IsNoRefusal (outcome rules t seat it))
 unfolding outcome
 undo_granted rules t seat p k it r is memory = subst (λ (c : Command). OnErr r (IsNoRefusal (outcome rules t seat c))) (sym is) memory
 
-pub undo_lost_granted : (rules : Rules) (t : State) (seat s m p : ℕ) (it : Command) (r : Result Reply NoMemory) → it ≡ command.UndoLost s m p
+pub undo_lost_granted : (rules : Rules) (t : State) (seat s m p : ℕ) (it : Command) (r : Result EventReply NoMemory) → it ≡ command.UndoLost s m p
     → OnErr r (IsNoRefusal (undo t seat (name_given (Lost s m p)))) → OnErr r (IsNoRefusal (outcome rules t seat it))
 unfolding outcome
 undo_lost_granted rules t seat s m p it r is memory = subst (λ (c : Command). OnErr r (IsNoRefusal (outcome rules t seat c))) (sym is) memory

@@ -1,5 +1,8 @@
 //! What a session can ask for.
 
+ghost use Rattle.std.specs.Prelude.{◌≡◌};
+ghost use Rattle.cdb_control.specs.OneEvent.{is_of_one_event};
+
 use cdb_base::{Act, Reg};
 
 /// What a breakpoint waits for. It looks at the steps that `step` and `auto` take.
@@ -44,4 +47,21 @@ pub enum Command {
     Resume,
     Show(View),
     Decisions,
+}
+
+impl Command {
+    /// Whether the command takes one event, undoes one or takes one again.
+    pub fn is_of_one_event(&self) -> bool
+        ensures { result ≡ is_of_one_event self.now }
+    {
+        matches!(
+            self,
+            Command::Step(_, _)
+                | Command::Auto(_)
+                | Command::Lose(_, _, _)
+                | Command::Undo(_, _)
+                | Command::UndoLost(_, _, _)
+                | Command::Redo
+        )
+    }
 }

@@ -1,14 +1,15 @@
 //! The control: the control state, and the journal that led to it.
-ghost use Rattle.std.specs.Prelude.{◌≡◌, ◌≢◌, ◌+◌, ◌-◌, ◌<◌, ◌≤◌, ◌↔◌, ◌⊎◌, max, Err, IfOk, OnOk, OnErr, length, replicate, vec_len, vec_capacity, ◌++◌, ◌∷◌, []};
+ghost use Rattle.std.specs.Prelude.{◌≡◌, ◌≢◌, true, false, ◌+◌, ◌-◌, ◌<◌, ◌≤◌, ◌↔◌, ◌⊎◌, max, Err, IfOk, OnOk, OnErr, length, replicate, vec_len, vec_capacity, ◌++◌, ◌∷◌, []};
 ghost use Rattle.std.specs.Result.{result_ok};
-ghost use Rattle.cdb_control.specs.ToldReply.{told};
+ghost use Rattle.cdb_control.specs.OneEvent.{is_of_one_event};
+ghost use Rattle.cdb_control.specs.ToldReply.{told, as_reply};
 ghost use Rattle.cdb_control.specs.Auto.{choice};
 ghost use Rattle.cdb_control.specs.Headline.{Headline};
 ghost use Rattle.cdb_control.specs.Journal.{entry, opened, extended, reply_in, control_state, AreOfSeats, NeedsNoMemory};
 ghost use Rattle.cdb_control.specs.Room.{cost, room_of, with_room, raised};
 
 use crate::command::{Command, Stop, View};
-use crate::reply::Reply;
+use crate::reply::{EventReply, Reply};
 use crate::state::ControlState;
 use cdb_base::limits::{MAX_ENTRIES, MAX_SEATS};
 use cdb_base::{Act, NoMemory, Reg};
@@ -151,15 +152,73 @@ impl<R: Runs> Control<R> {
         ensures spared { NeedsNoMemory R.rules self.old seat command →
             result ≢ Err CallFault.NoMemory }
     {
-        if self.journal.len() >= MAX_ENTRIES as usize {
-            return failed(CallFault::JournalFull);
+        if command.is_of_one_event() {
+            let reply = self.execute_event(alloc, seat, command)?;
+            return Ok(Reply::from(reply));
         }
-        if self.journal.reserve(1).is_err() {
-            return failed(CallFault::NoMemory);
-        }
+        self.execute_other(alloc, seat, command)
+    }
+
+    /// Carries a command of one event out, as `execute` does. Its reply is small, so that what is carried out most
+    /// costs less.
+    pub fn execute_event(
+        &mut self,
+        alloc: Global,
+        seat: u8,
+        command: Command,
+    ) -> Result<EventReply, CallFault>
+        requires of_event { is_of_one_event command ≡ true }
+        requires from_one { 1 ≤ seat }
+        requires to_last { seat ≤ self.old.seats }
+        ensures reply { IfOk result (λ r. told (as_reply r) ≡ reply_in R.rules self.old seat command) }
+        ensures journal { IfOk result
+            (λ _. self.new ≡ extended R.rules self.old seat command) }
+        ensures fault { OnErr result (self.new ≡ self.old) }
+        ensures full { (result ≡ Err CallFault.JournalFull)
+            ↔ (length self.old.journal ≡ MAX_ENTRIES) }
+        ensures limit { length self.new.journal ≤ MAX_ENTRIES }
+        ensures headline { Headline R.rules R.same_state
+            self.new.setup self.new.seats self.new.journal }
+        ensures spared { NeedsNoMemory R.rules self.old seat command →
+            result ≢ Err CallFault.NoMemory }
+    {
+        let journal = &mut self.journal;
+        make_room(journal)?;
         let again = command;
-        let Ok(reply) = self.state.perform(alloc, seat, again) else {
-            return failed(CallFault::NoMemory);
+        let Ok(reply) = self.state.perform_event(alloc, seat, again) else {
+            return Err(CallFault::NoMemory);
+        };
+        push_entry(&mut self.journal, seat, command);
+        Ok(reply)
+    }
+
+    /// Carries a command out that is not of one event.
+    #[inline(never)]
+    fn execute_other(
+        &mut self,
+        alloc: Global,
+        seat: u8,
+        command: Command,
+    ) -> Result<Reply, CallFault>
+        requires other { is_of_one_event command ≡ false }
+        requires from_one { 1 ≤ seat }
+        requires to_last { seat ≤ self.old.seats }
+        ensures reply { IfOk result (λ r. told r ≡ reply_in R.rules self.old seat command) }
+        ensures journal { IfOk result
+            (λ _. self.new ≡ extended R.rules self.old seat command) }
+        ensures fault { OnErr result (self.new ≡ self.old) }
+        ensures full { (result ≡ Err CallFault.JournalFull)
+            ↔ (length self.old.journal ≡ MAX_ENTRIES) }
+        ensures limit { length self.new.journal ≤ MAX_ENTRIES }
+        ensures headline { Headline R.rules R.same_state
+            self.new.setup self.new.seats self.new.journal }
+        ensures spared { NeedsNoMemory R.rules self.old seat command →
+            result ≢ Err CallFault.NoMemory }
+    {
+        make_room(&mut self.journal)?;
+        let again = command;
+        let Ok(reply) = self.state.perform_other(alloc, seat, again) else {
+            return Err(CallFault::NoMemory);
         };
         lower(&mut self.room_ends, seat, &reply);
         push_entry(&mut self.journal, seat, command);
@@ -240,14 +299,6 @@ impl<R: Runs> Control<R> {
     }
 }
 
-/// A command that is not carried out. It is a call, so that a command that is makes no such result beforehand.
-#[inline(never)]
-fn failed(fault: CallFault) -> Result<Reply, CallFault>
-    ensures { result ≡ Err fault }
-{
-    Err(fault)
-}
-
 /// No seat has room.
 fn no_room_ends(alloc: Global, seats: u8) -> Result<Vec<u32>, NoMemory>
     ensures { IfOk result (λ room_ends. room_ends.items ≡ replicate seats 0) }
@@ -278,6 +329,25 @@ fn raise(room_ends: &mut Vec<u32>, seat: u8, room_end: u32)
 {
     let old = &mut room_ends[seat as usize - 1];
     *old = room_end.max(*old);
+}
+
+/// Makes room for an entry, where the journal may have one more. `JournalFull` comes before `NoMemory`.
+fn make_room(journal: &mut Vec<Entry>) -> Result<(), CallFault>
+    ensures items { journal.new.items ≡ journal.old.items }
+    ensures len { vec_len journal.new ≡ vec_len journal.old }
+    ensures capacity { vec_capacity journal.old ≤ vec_capacity journal.new }
+    ensures ok { OnOk result (vec_len journal.new < vec_capacity journal.new) }
+    ensures few { OnOk result (vec_len journal.old < MAX_ENTRIES) }
+    ensures full { (result ≡ Err CallFault.JournalFull) ↔ (MAX_ENTRIES ≤ vec_len journal.old) }
+    ensures spared { vec_len journal.old < vec_capacity journal.old → result ≢ Err CallFault.NoMemory }
+{
+    if journal.len() >= MAX_ENTRIES as usize {
+        return Err(CallFault::JournalFull);
+    }
+    match journal.reserve(1) {
+        Ok(()) => Ok(()),
+        Err(_) => Err(CallFault::NoMemory),
+    }
 }
 
 /// Adds an entry where there is room for it.

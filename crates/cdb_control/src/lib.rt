@@ -20,4 +20,4 @@ pub use cdb_base::Act;
 pub use cdb_rules::{EventRef, ProcView, Runs};
 pub use command::{Command, Stop, View};
 pub use control::{CallFault, Control, Entry, OpenFault};
-pub use reply::Reply;
+pub use reply::{EventReply, Reply};

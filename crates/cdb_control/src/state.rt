@@ -3,6 +3,7 @@ ghost use Rattle.std.specs.Prelude.{◌≡◌, ◌+◌, ◌≤◌, [], true, fal
 ghost use Rattle.std.specs.Option.{option_or};
 ghost use Rattle.cdb_base.specs.declared.limits.TheConstants.{MAX_ENTRIES};
 ghost use Rattle.cdb_control.specs.Done.{came_out, CameOutAs, IsCarriedOut, IsCarriedOutForAny, IsNoRefusal, IsGranted, IsGrantedFromAny, NoneShrinks};
+ghost use Rattle.cdb_control.specs.ToldReply.{as_reply, AsReply};
 ghost use Rattle.cdb_control.specs.Auto.{choice};
 ghost use Rattle.cdb_rules.specs.Auto.{first_act_of};
 ghost use Rattle.cdb_control.specs.Commands.{undo, rollback, why, show, decides, newly_fired, last_step, step_told};
@@ -19,7 +20,7 @@ ghost use Rattle.cdb_setup.specs.Parts.{AreInRange};
 
 use crate::command::{Command, Stop, View};
 use crate::redo::RedoList;
-use crate::reply::Reply;
+use crate::reply::{EventReply, Reply};
 use crate::stops::{Breakpoints, TakenStep, names_none_of};
 use cdb_base::limits::{MAX_BREAKPOINTS, MAX_STEPS};
 use cdb_base::{Act, Event, NoMemory, Refusal, Val};
@@ -74,6 +75,14 @@ fn refused(refusal: Refusal) -> Result<Reply, NoMemory>
     ensures { result ≡ Ok (Reply.Refused refusal) }
 {
     Ok(Reply::Refused(refusal))
+}
+
+/// The same of a command of one event.
+#[inline(always)]
+fn refused_event(refusal: Refusal) -> Result<EventReply, NoMemory>
+    ensures { result ≡ Ok (EventReply.Refused refusal) }
+{
+    Ok(EventReply::Refused(refusal))
 }
 
 /// The first act of those that `auto` tries which the run does not refuse.
@@ -213,11 +222,11 @@ impl<R: Runs> ControlState<R> {
     /// Undoes an event on which no standing event depends, and puts it at the end of the seat's
     /// redo list. It needs no memory where there is room for the event.
     #[inline(never)]
-    pub fn undo(&mut self, seat: u8, event: EventRef) -> Result<Reply, NoMemory>
+    pub fn undo(&mut self, seat: u8, event: EventRef) -> Result<EventReply, NoMemory>
         requires from_one { 1 ≤ seat }
         requires to_last { seat ≤ length self.old.state.redo }
-        ensures ok { IfOk result
-            (CameOutAs (undo self.old.state seat (name_given event)) self.new.state) }
+        ensures ok { IfOk result (AsReply
+            (CameOutAs (undo self.old.state seat (name_given event)) self.new.state)) }
         ensures err { OnErr result (self.new.state ≡ self.old.state) }
         ensures memory { OnErr result
             (IsNoRefusal (undo self.old.state seat (name_given event))) }
@@ -226,8 +235,8 @@ impl<R: Runs> ControlState<R> {
     {
         let list = &mut self.redo[seat as usize - 1];
         match list.undo(&mut self.run, event)? {
-            Ok(event) => Ok(Reply::Undone(event)),
-            Err(refusal) => refused(refusal),
+            Ok(event) => Ok(EventReply::Undone(event)),
+            Err(refusal) => refused_event(refusal),
         }
     }
 
@@ -254,27 +263,27 @@ impl<R: Runs> ControlState<R> {
     /// Takes the seat's last undone event again, and off its redo list.
     #[inline(never)]
     #[tactic(auto, unfolding(crate::specs::Commands::outcome))]
-    pub fn redo(&mut self, alloc: Global, seat: u8) -> Result<Reply, NoMemory>
+    pub fn redo(&mut self, alloc: Global, seat: u8) -> Result<EventReply, NoMemory>
         requires from_one { 1 ≤ seat }
         requires to_last { seat ≤ length self.old.state.redo }
         requires of_run { AreOfRun self.old.state }
-        ensures ok { IfOk result
-            (IsCarriedOut R.rules self.old.state seat Command.Redo self.new.state) }
+        ensures ok { IfOk result (AsReply
+            (IsCarriedOut R.rules self.old.state seat Command.Redo self.new.state)) }
         ensures err { OnErr result (self.new.state ≡ self.old.state) }
         ensures memory { OnErr result (IsGranted R.rules self.old.state seat Command.Redo) }
         ensures capacities { NoneShrinks self.old.capacities self.new.capacities }
     {
         let list = &mut self.redo[seat as usize - 1];
         let Some(undone) = list.last() else {
-            return refused(Refusal::NothingToRedo);
+            return refused_event(Refusal::NothingToRedo);
         };
         match self.run.again(alloc, &undone)? {
             Ok(event) => {
                 list.drop_last();
                 let decides = self.decides(&event);
-                Ok(Reply::Redone { event, decides })
+                Ok(EventReply::Redone { event, decides })
             }
-            Err(refusal) => refused(refusal),
+            Err(refusal) => refused_event(refusal),
         }
     }
 
@@ -347,12 +356,12 @@ impl<R: Runs> ControlState<R> {
 
     /// The reply to a step that stands last. Sets the pause, where a breakpoint fires.
     #[inline(always)]
-    fn tell_step(&mut self, taken: TakenStep) -> Reply
-        ensures told { came_out result self.new.state ≡ step_told self.old.state taken }
+    fn tell_step(&mut self, taken: TakenStep) -> EventReply
+        ensures told { came_out (as_reply result) self.new.state ≡ step_told self.old.state taken }
         ensures kept { self.new.capacities ≡ self.old.capacities }
     {
         let paused = self.fire(&taken);
-        Reply::Stepped {
+        EventReply::Stepped {
             event: taken.event,
             decides: taken.decides,
             paused,
@@ -362,9 +371,9 @@ impl<R: Runs> ControlState<R> {
     /// Takes a step.
     #[inline(never)]
     #[tactic(auto, unfolding(crate::specs::Commands::outcome))]
-    pub fn step(&mut self, alloc: Global, p: u32, act: Act) -> Result<Reply, NoMemory>
-        ensures ok { IfOk result
-            (IsCarriedOutForAny R.rules self.old.state (Command.Step p act) self.new.state) }
+    pub fn step(&mut self, alloc: Global, p: u32, act: Act) -> Result<EventReply, NoMemory>
+        ensures ok { IfOk result (AsReply
+            (IsCarriedOutForAny R.rules self.old.state (Command.Step p act) self.new.state)) }
         ensures err { OnErr result (self.new.state ≡ self.old.state) }
         ensures memory { OnErr result
             (IsGrantedFromAny R.rules self.old.state (Command.Step p act)) }
@@ -376,28 +385,28 @@ impl<R: Runs> ControlState<R> {
                 let taken = self.last_step(event, p, round_before);
                 Ok(self.tell_step(taken))
             }
-            Err(refusal) => refused(refusal),
+            Err(refusal) => refused_event(refusal),
         }
     }
 
     /// Loses the copy of the `m`-th message of process `s` for process `p`. No breakpoint looks at it.
     #[inline(never)]
     #[tactic(auto, unfolding(crate::specs::Commands::outcome))]
-    pub fn lose(&mut self, alloc: Global, s: u32, m: u32, p: u32) -> Result<Reply, NoMemory>
-        ensures ok { IfOk result
-            (IsCarriedOutForAny R.rules self.old.state (Command.Lose s m p) self.new.state) }
+    pub fn lose(&mut self, alloc: Global, s: u32, m: u32, p: u32) -> Result<EventReply, NoMemory>
+        ensures ok { IfOk result (AsReply
+            (IsCarriedOutForAny R.rules self.old.state (Command.Lose s m p) self.new.state)) }
         ensures err { OnErr result (self.new.state ≡ self.old.state) }
         ensures memory { OnErr result
             (IsGrantedFromAny R.rules self.old.state (Command.Lose s m p)) }
         ensures kept { self.new.capacities ≡ self.old.capacities }
     {
         match self.run.lose(alloc, s, m, p)? {
-            Ok(event) => Ok(Reply::Stepped {
+            Ok(event) => Ok(EventReply::Stepped {
                 event,
                 decides: None,
                 paused: None,
             }),
-            Err(refusal) => refused(refusal),
+            Err(refusal) => refused_event(refusal),
         }
     }
 
@@ -439,10 +448,10 @@ impl<R: Runs> ControlState<R> {
     /// Takes the first step that is possible for a process.
     #[inline(never)]
     #[tactic(auto, unfolding(crate::specs::Commands::outcome))]
-    pub fn auto(&mut self, alloc: Global, p: u32) -> Result<Reply, NoMemory>
+    pub fn auto(&mut self, alloc: Global, p: u32) -> Result<EventReply, NoMemory>
         requires { AreInRange self.old.state.setup }
-        ensures ok { IfOk result
-            (IsCarriedOutForAny R.rules self.old.state (Command.Auto p) self.new.state) }
+        ensures ok { IfOk result (AsReply
+            (IsCarriedOutForAny R.rules self.old.state (Command.Auto p) self.new.state)) }
         ensures err { OnErr result (self.new.state ≡ self.old.state) }
         ensures memory { OnErr result
             (IsGrantedFromAny R.rules self.old.state (Command.Auto p)) }
@@ -450,18 +459,18 @@ impl<R: Runs> ControlState<R> {
     {
         if let Some(number) = self.pause {
             let refusal = self.choose(p).err().unwrap_or(Refusal::Paused(number));
-            return refused(refusal);
+            return refused_event(refusal);
         }
         let round_before = match self.round_for_auto(p) {
             Ok(round) => round,
-            Err(refusal) => return refused(refusal),
+            Err(refusal) => return refused_event(refusal),
         };
         match self.run.step_first(alloc, p)? {
             Ok(event) => {
                 let taken = self.last_step(event, p, round_before);
                 Ok(self.tell_step(taken))
             }
-            Err(refusal) => refused(refusal),
+            Err(refusal) => refused_event(refusal),
         }
     }
 
@@ -517,7 +526,7 @@ impl<R: Runs> ControlState<R> {
 
     /// Carries a command out that is not of one event.
     #[inline(never)]
-    fn perform_other(
+    pub fn perform_other(
         &mut self,
         alloc: Global,
         seat: u8,
@@ -552,16 +561,20 @@ impl<R: Runs> ControlState<R> {
         }
     }
 
-    /// Carries a command of a seat out.
-    pub fn perform(&mut self, alloc: Global, seat: u8, command: Command) -> Result<Reply, NoMemory>
+    /// Carries a command of one event out, of a seat.
+    pub fn perform_event(
+        &mut self,
+        alloc: Global,
+        seat: u8,
+        command: Command,
+    ) -> Result<EventReply, NoMemory>
+        requires of_event { is_of_one_event command ≡ true }
         requires from_one { 1 ≤ seat }
         requires to_last { seat ≤ length self.old.state.redo }
-        requires few { events_kept self.old.state ≤ MAX_ENTRIES }
-        requires numbers { self.old.state.next ≤ MAX_ENTRIES }
         requires of_run { AreOfRun self.old.state }
         requires in_range { AreInRange self.old.state.setup }
-        ensures ok { IfOk result
-            (IsCarriedOut R.rules self.old.state seat command self.new.state) }
+        ensures ok { IfOk result (AsReply
+            (IsCarriedOut R.rules self.old.state seat command self.new.state)) }
         ensures err { OnErr result (self.new.state ≡ self.old.state) }
         ensures memory { OnErr result (IsGranted R.rules self.old.state seat command) }
         ensures capacities { NoneShrinks self.old.capacities self.new.capacities }
@@ -574,7 +587,7 @@ impl<R: Runs> ControlState<R> {
             Command::Undo(p, k) => self.undo(seat, EventRef::Step(p, k)),
             Command::UndoLost(s, m, p) => self.undo(seat, EventRef::Lost(s, m, p)),
             Command::Redo => self.redo(alloc, seat),
-            _ => self.perform_other(alloc, seat, command),
+            _ => unreachable!(),
         }
     }
 }

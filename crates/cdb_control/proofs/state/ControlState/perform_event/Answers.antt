@@ -1,5 +1,5 @@
 use Rattle.cdb_control.proofs.Steps.{undo_ok, undo_lost_ok, undo_granted, undo_lost_granted}
-use Rattle.cdb_control.proofs.state.ControlState.perform.Goals as goal
+use Rattle.cdb_control.proofs.state.ControlState.perform_event.Goals as goal
 
 pub returns-in-Undo-clause-ok : goal.returns-in-Undo-clause-ok
 returns-in-Undo-clause-ok g c =

@@ -1,0 +1,137 @@
+use Rattle.std.proofs.Common.{ℕ, ◌+◌, ◌-◌, ◌<◌, ◌≤◌, arith, ap, ◌∙◌, sym, subst, List, [], ◌∷◌, ◌++◌, length, map, vec_len, vec_capacity, inl, inr, true≢false}
+use Rattle.std.proofs.lemmas.List.{length-map}
+use Rattle.cdb_control.specs.ToldReply.{told, as_reply, is_refused}
+use Rattle.cdb_control.specs.declared.control.Entry.{Entry}
+use Rattle.cdb_control.specs.Commands.{Outcome, reply_of, outcome}
+use Rattle.cdb_control.specs.Headline.{Headline}
+use Rattle.cdb_control.specs.Journal.{Journaled, entry, extended, reply_in}
+use Rattle.cdb_control.specs.Kept.{IsReplayed, HoldsRooms, rooms_at}
+use Rattle.cdb_control.specs.Room.{cost, lowered, room_of, with_room}
+use Rattle.cdb_control.specs.State.{State}
+use Rattle.cdb_control.proofs.Along.{obey-setup, IsReplayed-next}
+use Rattle.cdb_control.proofs.Headline.{replayed-headline}
+use Rattle.cdb_control.proofs.Room.{HoldsRooms-kept, HoldsRooms-next, rooms-entered, cost-one, spends}
+use Rattle.cdb_control.proofs.control.Control.execute_event.Goals as goal
+
+pub invariant_of-self-2 : goal.invariant_of-self-2
+invariant_of-self-2 g c =
+    let i = c.self.inside in
+    let was = c.self.invariant in
+    let next = c.perform_event.new.self in
+    let seat = c.args.seat in
+    let rules = g.R.Runs.rules i.state.state.setup in
+    let added = c.push_entry.ensures.items ∙ ap (λ (l : List Entry). l ++ entry seat c.args.command ∷ []) c.make_room.ensures.items in
+    let after = ap (λ (o : Outcome). o.after) c.in-Ok.ensures.ok in
+    let high = ap (λ (v : Journaled). v.seats) c.self.view_is in
+    let to_last = c.requires.to_last in
+    let lists = was.0.lists in
+    let few = c.in_ok-make_room.ensures.few in
+    let replayed =
+    IsReplayed-next g.R.Runs.rules g.met.R.Runs.lawful i.seats i.journal.items i.state.state next.state seat c.args.command _
+    added was.0 c.requires.from_one (omega (arith, high, to_last)) (omega (arith, few)) after in
+    let from_one = c.requires.from_one in
+    let low : seat - 1 < length i.state.state.redo = omega (arith, high, to_last, from_one, lists) in
+    let room_ends = i.room_ends.items in
+    let n = vec_len i.journal in
+    let many = length-map room_ends (λ room_end. room_end - n) in
+    let seats = was.1.seats in
+    let done = outcome rules i.state.state seat c.args.command in
+    let spent = spends rules i.state.state seat low c.args.command in
+    let rooms =
+    sym (rooms-entered room_ends (seat - 1) n (omega (arith, many, seats, low)))
+    ∙ ap (λ (m : ℕ). with_room (map (λ room. room - 1) (rooms_at n room_ends)) seat (room_of (rooms_at n room_ends) seat - m)) (sym (cost-one c.in-Ok.reply))
+    ∙ ap (λ (o : Outcome). lowered (rooms_at n room_ends) seat o.reply) c.in-Ok.ensures.ok in
+    let more = c.make_room.ensures.capacity in
+    let room =
+    HoldsRooms-next n (vec_capacity i.journal) (vec_capacity c.make_room.new.journal) (rooms_at n room_ends) seat i.state next done was.1 low
+    spent (sym after) (replayed.lists ∙ sym lists) c.perform_event.ensures.capacities more in
+    let long = c.push_entry.ensures.len ∙ ap (λ (m : ℕ). m + 1) c.make_room.ensures.len in (
+      replayed,
+      subst (λ (m : ℕ). HoldsRooms m (vec_capacity c.push_entry.new.journal) (rooms_at m room_ends) next) (sym long)
+          (subst (λ (space : ℕ). HoldsRooms (n + 1) space (rooms_at (n + 1) room_ends) next) (sym c.push_entry.ensures.capacity)
+          (subst (λ (l : List ℕ). HoldsRooms (n + 1) (vec_capacity c.make_room.new.journal) l next) (sym rooms) room)),
+    )
+
+pub returns-clause-journal : goal.returns-clause-journal
+returns-clause-journal g c =
+    let i = c.self.inside in
+    let was = c.self.invariant in
+    let seat = c.args.seat in
+    let rules = g.R.Runs.rules i.state.state.setup in
+    let added = c.push_entry.ensures.items ∙ ap (λ (l : List Entry). l ++ entry seat c.args.command ∷ []) c.make_room.ensures.items in
+    let after = ap (λ (o : Outcome). o.after) c.in-Ok.ensures.ok in
+    let high = ap (λ (v : Journaled). v.seats) c.self.view_is in
+    let to_last = c.requires.to_last in
+    let from_one = c.requires.from_one in
+    let lists = was.0.lists in
+    let same = obey-setup rules i.state.state c.perform_event.new.self.state (g.met.R.Runs.lawful i.state.state.setup was.0.in_range) seat c.args.command from_one (omega (arith, high, to_last, lists)) after in
+    let room_ends = i.room_ends.items in
+    let n = vec_len i.journal in
+    let many = length-map room_ends (λ room_end. room_end - n) in
+    let seats = was.1.seats in
+    let long = c.push_entry.ensures.len ∙ ap (λ (m : ℕ). m + 1) c.make_room.ensures.len in
+    let low : seat - 1 < length i.state.state.redo = omega (arith, high, to_last, from_one, lists) in
+    let rooms =
+    ap (λ (m : ℕ). rooms_at m room_ends) long
+    ∙ sym (rooms-entered room_ends (seat - 1) n (omega (arith, many, seats, high, to_last, from_one, lists)))
+    ∙ ap (λ (m : ℕ). with_room (map (λ room. room - 1) (rooms_at n room_ends)) seat (room_of (rooms_at n room_ends) seat - m)) (sym (cost-one c.in-Ok.reply))
+    ∙ ap (λ (o : Outcome). lowered (rooms_at n room_ends) seat o.reply) c.in-Ok.ensures.ok
+    ∙ ap (λ (t : State). lowered (rooms_at n room_ends) seat (reply_of rules t seat c.args.command)) (sym was.0.replayed) in
+    (λ j. let v : Journaled = record { setup = same j; seats = i.seats; journal = added j; rooms = rooms j } in v)
+    ∙ ap (λ (v : Journaled). extended g.R.Runs.rules v seat c.args.command) c.self.view_is
+
+pub returns-clause-spared : goal.returns-clause-spared
+returns-clause-spared g c = λ needs same. cc
+
+pub invariant_of-self-in_default : goal.invariant_of-self-in_default
+invariant_of-self-in_default g c =
+    let rules = g.R.Runs.rules in
+    let i = c.self.inside in
+    let was = c.self.invariant in
+    let next = c.perform_event.new.self in
+    let room_ends = i.room_ends.items in
+    let n = vec_len i.journal in
+    let same = c.in_default.ensures.err in
+    let room = HoldsRooms-kept n (vec_capacity i.journal) (vec_capacity c.make_room.new.journal) (rooms_at n room_ends) i.state next was.1 c.make_room.ensures.capacity same c.perform_event.ensures.capacities in (
+      subst (λ (t : State). IsReplayed (rules t.setup) t.setup i.seats c.make_room.new.journal.items t) (sym same)
+          (subst (λ (l : List Entry). IsReplayed (rules i.state.state.setup) i.state.state.setup i.seats l i.state.state) (sym c.make_room.ensures.items) was.0),
+      subst (λ (m : ℕ). HoldsRooms m (vec_capacity c.make_room.new.journal) (rooms_at m room_ends) next) (sym c.make_room.ensures.len) room,
+    )
+
+pub returns-in_err-make_room-clause-headline : goal.returns-in_err-make_room-clause-headline
+returns-in_err-make_room-clause-headline g c =
+    let run = g.R.Runs in
+    let laws = g.met.R.Runs in
+    let i = c.self.inside in
+    subst (λ (l : List Entry). Headline run.rules run.same_state i.state.state.setup i.seats l) (sym c.make_room.ensures.items)
+    (replayed-headline run.rules run.same_state laws.lawful laws.histories i.state.state.setup i.seats i.journal.items i.state.state c.self.invariant.0)
+
+pub returns-in_default-clause-headline : goal.returns-in_default-clause-headline
+returns-in_default-clause-headline g c =
+    let run = g.R.Runs in
+    let laws = g.met.R.Runs in
+    let next = c.perform_event.new.self.state in
+    replayed-headline run.rules run.same_state laws.lawful laws.histories next.setup c.self.inside.seats c.make_room.new.journal.items next (invariant_of-self-in_default g c).0
+
+pub returns-clause-headline : goal.returns-clause-headline
+returns-clause-headline g c =
+    let run = g.R.Runs in
+    let laws = g.met.R.Runs in
+    let next = c.perform_event.new.self.state in
+    replayed-headline run.rules run.same_state laws.lawful laws.histories next.setup c.self.inside.seats c.push_entry.new.journal.items next (invariant_of-self-2 g c).0
+
+pub returns-in_default-clause-spared : goal.returns-in_default-clause-spared
+returns-in_default-clause-spared g c = λ needs same.
+    let i = c.self.inside in
+    let rules = g.R.Runs.rules in
+    let seat = c.args.seat in
+    let command = c.args.command in
+    let some : 0 < room_of (rooms_at (vec_len i.journal) i.room_ends.items) seat = subst (λ (v : Journaled). 0 < room_of v.rooms seat) (sym c.self.view_is) needs.0 in
+    let events_kept = c.self.invariant.1.lists (seat - 1) some in
+    let as_shown =
+    ap (λ (t : State). is_refused (reply_of (rules i.state.state.setup) t seat command)) (sym c.self.invariant.0.replayed)
+    ∙ ap (λ (v : Journaled). is_refused (reply_in rules v seat command)) c.self.view_is in
+    elim needs.1 [
+      | inl spared ↦ absurd (let impossible = c.in_default.ensures.spared spared (omega (arith, some, events_kept)) in cc)
+      | inr refused ↦ absurd (true≢false (sym refused ∙ sym as_shown ∙ c.in_default.ensures.memory))
+    ]
