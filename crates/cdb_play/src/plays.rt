@@ -1,8 +1,9 @@
 //! A script is played: its commands are carried out one after the other, and each reply is written.
 
-ghost use Rattle.std.specs.Prelude.{◌≡◌, ◌<◌, ◌≤◌, [], length, Err, IfOk, IfErr, OnOk};
+ghost use Rattle.std.specs.Prelude.{◌≡◌, true, ◌<◌, ◌≤◌, [], length, Err, IfOk, IfErr, OnOk};
 ghost use Rattle.cdb_base.specs.declared.limits.TheConstants.{MAX_ENTRIES};
 ghost use Rattle.cdb_control.specs.Journal.{extended};
+ghost use Rattle.cdb_control.specs.OneEvent.{is_of_one_event};
 ghost use Rattle.cdb_setup.specs.declared.fault.SetupFault.{SetupFault as SetupFaultName};
 ghost use Rattle.cdb_play.specs.PlayStages.{HasCarriedOut};
 ghost use Rattle.cdb_play.specs.Putting.{Puts};
@@ -14,7 +15,7 @@ ghost use Rattle.cdb_play.specs.Written.{IsWritten, Only};
 
 use crate::buffer::{Buffer, OutputFault};
 use crate::fault::PlayFault;
-use crate::reply::put_reply;
+use crate::reply::{put_event_reply, put_reply};
 use crate::script::read_commands;
 use crate::sink::Sink;
 use crate::source::Source;
@@ -23,8 +24,33 @@ use cdb_control::{CallFault, Command, Control, Runs, laws};
 use cdb_setup::Setup;
 use std::alloc::Global;
 
-/// Carries a command out for the only seat, and puts the text of the reply, which is made in `text`.
-fn perform<T: Runs, W: Sink>(
+/// Carries a command of one event out for the only seat, and puts the text of the reply, which is made in `text`.
+fn perform_event<T: Runs, W: Sink>(
+    alloc: Global,
+    control: &mut Control<T>,
+    command: Command,
+    text: &mut String,
+    buffer: &mut Buffer,
+    out: &mut W,
+) -> Result<(), OutputFault>
+    requires of_event { is_of_one_event command ≡ true }
+    requires seats { control.old.seats ≡ 1 }
+    requires room { length control.old.journal < MAX_ENTRIES }
+    ensures done { OnOk result (control.new ≡ extended T.rules control.old 1 command) }
+    ensures put { Puts W.stream result out.old buffer.old out.new buffer.new
+        (reply_to T.rules control.old command) }
+{
+    let reply = match control.execute_event(alloc, 1, command) {
+        Ok(reply) => reply,
+        Err(CallFault::JournalFull) => unreachable!(),
+        Err(CallFault::NoMemory) => return Err(OutputFault::NoMemory),
+    };
+    put_event_reply(&reply, text, buffer, out)
+}
+
+/// Carries a command out as `perform` does.
+#[inline(never)]
+fn perform_any<T: Runs, W: Sink>(
     alloc: Global,
     control: &mut Control<T>,
     command: Command,
@@ -44,6 +70,27 @@ fn perform<T: Runs, W: Sink>(
         Err(CallFault::NoMemory) => return Err(OutputFault::NoMemory),
     };
     put_reply(&reply, text, buffer, out)
+}
+
+/// Carries a command out for the only seat, and puts the text of the reply, which is made in `text`.
+fn perform<T: Runs, W: Sink>(
+    alloc: Global,
+    control: &mut Control<T>,
+    command: Command,
+    text: &mut String,
+    buffer: &mut Buffer,
+    out: &mut W,
+) -> Result<(), OutputFault>
+    requires seats { control.old.seats ≡ 1 }
+    requires room { length control.old.journal < MAX_ENTRIES }
+    ensures done { OnOk result (control.new ≡ extended T.rules control.old 1 command) }
+    ensures put { Puts W.stream result out.old buffer.old out.new buffer.new
+        (reply_to T.rules control.old command) }
+{
+    if command.is_of_one_event() {
+        return perform_event(alloc, control, command, text, buffer, out);
+    }
+    perform_any(alloc, control, command, text, buffer, out)
 }
 
 /// A control with one seat in which nothing has happened, with room for this many commands: so their journal is

@@ -1,13 +1,13 @@
 //! The text of a reply is put into a buffer.
 
-ghost use Rattle.cdb_control.specs.ToldReply.{told};
+ghost use Rattle.cdb_control.specs.ToldReply.{told, as_reply};
 ghost use Rattle.cdb_text.specs.Texts.{text_of};
 ghost use Rattle.cdb_play.specs.Putting.{Puts};
 
 use crate::buffer::{Buffer, OutputFault};
 use crate::sink::Sink;
-use cdb_control::Reply;
-use cdb_text::push_reply;
+use cdb_control::{EventReply, Reply};
+use cdb_text::{push_event_reply, push_reply};
 
 /// Puts the text of a reply. It is made in `text`, in place of what stood there, so that all replies use one memory.
 pub(crate) fn put_reply<W: Sink>(
@@ -21,6 +21,22 @@ pub(crate) fn put_reply<W: Sink>(
 {
     text.clear();
     push_reply(text, reply)?;
+    buffer.put(out, text.as_bytes())?;
+    Ok(())
+}
+
+/// Puts the text of the reply to a command of one event, as `put_reply` does.
+pub(crate) fn put_event_reply<W: Sink>(
+    reply: &EventReply,
+    text: &mut String,
+    buffer: &mut Buffer,
+    out: &mut W,
+) -> Result<(), OutputFault>
+    ensures { Puts W.stream result out.old buffer.old out.new buffer.new
+        (text_of (told (as_reply reply.now))) }
+{
+    text.clear();
+    push_event_reply(text, reply)?;
     buffer.put(out, text.as_bytes())?;
     Ok(())
 }

@@ -2,7 +2,7 @@
 
 ghost use Rattle.std.specs.Prelude.{◌≡◌, ◌++◌, IfOk, codes, decimal};
 ghost use Rattle.cdb_text.specs.Pushes.{Pushes};
-ghost use Rattle.cdb_control.specs.ToldReply.{told};
+ghost use Rattle.cdb_control.specs.ToldReply.{told, as_reply};
 ghost use Rattle.cdb_text.specs.Events.{event_text};
 ghost use Rattle.cdb_base.specs.NameTexts.{name_text};
 ghost use Rattle.cdb_text.specs.Reports.{causes_text};
@@ -16,7 +16,7 @@ mod refusal;
 mod report;
 
 use cdb_base::{Event, NoMemory, StepId, Val};
-use cdb_control::Reply;
+use cdb_control::{EventReply, Reply};
 pub use command::push_command;
 pub use event::push_event;
 use event::push_event_line;
@@ -83,13 +83,13 @@ fn push_counted(text: &mut String, words: &str, number: u32) -> Result<(), Alloc
     text.push('\n')
 }
 
-/// The text of any reply.
+/// The text of the reply to any command of one event.
 #[inline(never)]
-fn push_any_reply(text: &mut String, reply: &Reply) -> Result<(), AllocError>
-    ensures { Pushes result text.old text.new (text_of (told reply.now)) }
+fn push_any_event_reply(text: &mut String, reply: &EventReply) -> Result<(), AllocError>
+    ensures { Pushes result text.old text.new (text_of (told (as_reply reply.now))) }
 {
     match reply {
-        Reply::Stepped {
+        EventReply::Stepped {
             event,
             decides,
             paused,
@@ -98,16 +98,65 @@ fn push_any_reply(text: &mut String, reply: &Reply) -> Result<(), AllocError>
             push_break(text, *paused)?;
             text.push('\n')
         }
-        Reply::Undone(event) => {
+        EventReply::Undone(event) => {
             text.push_str("undone ")?;
             push_event(text, event)?;
             text.push('\n')
         }
-        Reply::Redone { event, decides } => {
+        EventReply::Redone { event, decides } => {
             text.push_str("redone ")?;
             push_taken(text, event, *decides)?;
             text.push('\n')
         }
+        EventReply::Refused(refusal) => {
+            push_refusal(text, refusal)?;
+            text.push('\n')
+        }
+    }
+}
+
+/// Adds the text of the reply to a command of one event at the end of a text: its line, which ends with byte 10. Only
+/// out of memory is an error.
+pub fn push_event_reply(text: &mut String, reply: &EventReply) -> Result<(), AllocError>
+    ensures { Pushes result text.old text.new (text_of (told (as_reply reply.now))) }
+{
+    // Most replies are of this kind.
+    match reply {
+        EventReply::Stepped {
+            event,
+            decides: None,
+            paused: None,
+        } => push_event_line(text, event),
+        _ => push_any_event_reply(text, reply),
+    }
+}
+
+/// Adds the text of a reply at the end of a text: its lines, each of which ends with byte 10. Only out of memory
+/// is an error.
+pub fn push_reply(text: &mut String, reply: &Reply) -> Result<(), AllocError>
+    ensures { Pushes result text.old text.new (text_of (told reply.now)) }
+{
+    match reply {
+        Reply::Stepped {
+            event,
+            decides,
+            paused,
+        } => push_event_reply(
+            text,
+            &EventReply::Stepped {
+                event: *event,
+                decides: *decides,
+                paused: *paused,
+            },
+        ),
+        Reply::Undone(event) => push_event_reply(text, &EventReply::Undone(*event)),
+        Reply::Redone { event, decides } => push_event_reply(
+            text,
+            &EventReply::Redone {
+                event: *event,
+                decides: *decides,
+            },
+        ),
         Reply::RolledBack(count) => push_counted(text, "rolled back ", *count),
         Reply::Because(name, causes) => {
             push_because(text, *name, causes.as_slice())?;
@@ -122,26 +171,7 @@ fn push_any_reply(text: &mut String, reply: &Reply) -> Result<(), AllocError>
         Reply::Mail(copies) => push_mail(text, copies.as_slice()),
         Reply::History(events) => push_history(text, events.as_slice()),
         Reply::Decisions(decisions) => push_decisions(text, decisions.as_slice()),
-        Reply::Refused(refusal) => {
-            push_refusal(text, refusal)?;
-            text.push('\n')
-        }
-    }
-}
-
-/// Adds the text of a reply at the end of a text: its lines, each of which ends with byte 10. Only out of memory
-/// is an error.
-pub fn push_reply(text: &mut String, reply: &Reply) -> Result<(), AllocError>
-    ensures { Pushes result text.old text.new (text_of (told reply.now)) }
-{
-    // Most replies are of this kind.
-    match reply {
-        Reply::Stepped {
-            event,
-            decides: None,
-            paused: None,
-        } => push_event_line(text, event),
-        _ => push_any_reply(text, reply),
+        Reply::Refused(refusal) => push_event_reply(text, &EventReply::Refused(*refusal)),
     }
 }
 

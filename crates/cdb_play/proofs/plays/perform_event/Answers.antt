@@ -1,0 +1,11 @@
+use Rattle.std.proofs.Common.{◌≡◌, ap, subst, List, ℕ}
+use Rattle.cdb_control.specs.ToldReply.{told, as_reply}
+use Rattle.cdb_text.specs.Texts.{text_of}
+use Rattle.cdb_play.specs.Putting.{Puts}
+use Rattle.cdb_play.specs.Transcripts.{reply_to}
+use Rattle.cdb_play.proofs.plays.perform_event.Goals as goal
+
+pub returns-clause-put : goal.returns-clause-put
+returns-clause-put g c =
+    let same : text_of (told (as_reply c.in-Ok.reply)) ≡ reply_to g.T.Runs.rules c.args.control.now c.args.command = ap text_of c.in-Ok.ensures.reply in
+    subst (λ (text : List ℕ). Puts g.W.Sink.stream c.put_event_reply.result c.args.out.now c.args.buffer.now c.put_event_reply.new.out c.put_event_reply.new.buffer text) same c.put_event_reply.ensures
