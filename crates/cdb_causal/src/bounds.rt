@@ -160,6 +160,21 @@ impl Bounds {
         }
     }
 
+    /// Makes room for the bounds of a step's name.
+    fn reserve_name(&mut self, p: Proc, k: u16) -> Result<(), NoMemory>
+        ensures others { (top : ℕ) → AreRaised top self.old self.new }
+        ensures receives { KeepsReceives self.old self.new }
+        ensures steps { OnOk result (HasCell self.new.steps (named_cell p k)) }
+        ensures before { OnOk result (HasCell self.new.before (named_cell p k)) }
+    {
+        let k = k as usize;
+        if self.steps.has(p, k) && self.before.has(p, k) {
+            return Ok(());
+        }
+        self.steps.grow(p, k)?;
+        self.before.grow(p, k)
+    }
+
     /// Makes room for the bounds of an event.
     pub fn reserve(&mut self, event: &Event) -> Result<(), NoMemory>
         ensures others { (top : ℕ) → AreRaised top self.old self.new }
@@ -168,8 +183,7 @@ impl Bounds {
     {
         match event {
             Event::Step { p, k, kind } => {
-                self.steps.grow(*p, *k as usize)?;
-                self.before.grow(*p, *k as usize)?;
+                self.reserve_name(*p, *k)?;
                 self.reserve_kind(*p, *kind)
             }
             Event::Lost(copy) => self
@@ -269,15 +283,17 @@ impl Bounds {
         }
     }
 
-    /// Gives a process the bound of its steps before the event, where that is its last.
-    pub fn forget_own(&mut self, event: &Event, last: bool)
-        ensures { IsOwnForgotten self.old self.new last event.now }
+    /// Gives a process the bound of its steps before the event, which stood under that mark, where by the bounds it
+    /// was the last of them.
+    pub fn forget_own(&mut self, mark: Mark, event: &Event)
+        requires { mark < ABOVE_ALL }
+        ensures { IsOwnForgotten self.old self.new mark event.now }
     {
-        if !last {
-            return;
-        }
         if let Event::Step { p, k, .. } = event {
-            self.own[p.index()] = self.before.bound(*p, *k as usize);
+            let slot = p.index();
+            if self.own[slot] <= mark + 1 {
+                self.own[slot] = self.before.bound(*p, *k as usize);
+            }
         }
     }
 
