@@ -160,21 +160,6 @@ impl Bounds {
         }
     }
 
-    /// Makes room for the bounds of a step's name.
-    fn reserve_name(&mut self, p: Proc, k: u16) -> Result<(), NoMemory>
-        ensures others { (top : ℕ) → AreRaised top self.old self.new }
-        ensures receives { KeepsReceives self.old self.new }
-        ensures steps { OnOk result (HasCell self.new.steps (named_cell p k)) }
-        ensures before { OnOk result (HasCell self.new.before (named_cell p k)) }
-    {
-        let k = k as usize;
-        if self.steps.has(p, k) && self.before.has(p, k) {
-            return Ok(());
-        }
-        self.steps.grow(p, k)?;
-        self.before.grow(p, k)
-    }
-
     /// Makes room for the bounds of an event.
     pub fn reserve(&mut self, event: &Event) -> Result<(), NoMemory>
         ensures others { (top : ℕ) → AreRaised top self.old self.new }
@@ -183,7 +168,8 @@ impl Bounds {
     {
         match event {
             Event::Step { p, k, kind } => {
-                self.reserve_name(*p, *k)?;
+                self.steps.grow(*p, *k as usize)?;
+                self.before.grow(*p, *k as usize)?;
                 self.reserve_kind(*p, *kind)
             }
             Event::Lost(copy) => self

@@ -64,6 +64,7 @@ impl Caught {
     }
 
     /// Flags the events that are not flagged: mostly the last alone.
+    #[inline(always)]
     fn flag_all(&mut self) -> Result<(), NoMemory>
         ensures { self.new ≡ self.old }
     {
@@ -77,6 +78,7 @@ impl Caught {
     }
 
     /// Adds an event at the end. Without memory nothing is added.
+    #[inline(always)]
     pub(crate) fn push(&mut self, event: Event) -> Result<(), NoMemory>
         ensures ok { OnOk result (self.new ≡ self.old ++ event ∷ []) }
         ensures err { OnErr result (self.new ≡ self.old) }

@@ -126,6 +126,7 @@ fn reserve_for(
 
 /// Adds an event at the end of a log, where there is room for it, with its bounds and in its accesses. It
 /// takes no memory.
+#[inline(always)]
 fn add(events: &mut Log<Event>, bounds: &mut Bounds, accesses: &mut Accesses, event: &Event)
     requires indexed { IsIndexed events.old bounds.old accesses.old }
     requires room { HasRoom events.old }

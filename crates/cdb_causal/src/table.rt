@@ -1,7 +1,7 @@
 //! A table of bounds with a row of cells for each process, which grows alone: so one process that runs ahead
 //! takes no memory for the others.
 
-ghost use Rattle.std.specs.Prelude.{◌≡◌, ℕ, ◌<◌, ◌≤◌, IsTrue, OnOk, slice_index, vec_len};
+ghost use Rattle.std.specs.Prelude.{◌≡◌, ℕ, ◌<◌, ◌≤◌, OnOk, slice_index, vec_len};
 ghost use Rattle.cdb_causal.specs.Cells.{named_cell, named_cells};
 ghost use Rattle.cdb_causal.specs.Tables.{bound_of, HasCell};
 ghost use Rattle.cdb_causal.specs.Raised.{IsRaised, ChangesCell, after_joining, after_leaving};
@@ -122,13 +122,6 @@ impl Table {
                 Vec::new(alloc),
             ],
         }
-    }
-
-    /// Whether the row of a process has a cell.
-    pub fn has(&self, p: Proc, at: usize) -> bool
-        ensures { IsTrue result → HasCell self.now (named_cell p at) }
-    {
-        at < self.rows[p.index()].len()
     }
 
     /// Makes room for a cell of a process. The new cells are 0.
