@@ -36,16 +36,6 @@ fn piece_from_the_end(ends: &[usize], position: usize) -> usize
     last.saturating_sub(1 + (start - 1 - position) / PIECE)
 }
 
-/// The piece in which the item at a position stands, sought among all.
-#[inline(never)]
-fn piece_among(ends: &[usize], position: usize) -> usize
-    requires ends { AreEnds ends.now }
-    requires within { position < slice_index ends.now (length ends.now - 1) }
-    ensures { IsInPiece ends.now position result }
-{
-    ends.partition_point(|end| *end <= position)
-}
-
 /// The piece in which the item at a position stands: mostly the one that it would be with all pieces
 /// behind it full, or with all before it.
 fn piece_of(ends: &[usize], position: usize) -> usize
@@ -61,7 +51,7 @@ fn piece_of(ends: &[usize], position: usize) -> usize
     if is_in_piece(ends, position, near) {
         return near;
     }
-    piece_among(ends, position)
+    ends.partition_point(|end| *end <= position)
 }
 
 /// The piece in which the item at a position stands, and its position in that piece.

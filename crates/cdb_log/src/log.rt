@@ -67,19 +67,7 @@ fn drop_spares<T: Drop>(pieces: &mut Vec<Vec<T>>, offsets: &mut Vec<Vec<u8>>, en
     }
 }
 
-/// Takes an item out of a piece, and moves those behind it.
-#[inline(never)]
-fn take_earlier<U: Drop>(items: &mut Vec<U>, i: usize) -> U
-    requires { i < vec_len items.old }
-    ensures value { slice_get items.old.items i ≡ Some result }
-    ensures items { items.new.items ≡ remove items.old.items i }
-    ensures capacity { vec_capacity items.new ≡ vec_capacity items.old }
-{
-    items.remove(i)
-}
-
 /// Takes an item out of a piece: at once where it is the last.
-#[inline(always)]
 fn take_from<U: Drop>(items: &mut Vec<U>, i: usize) -> U
     requires { i < vec_len items.old }
     ensures value { slice_get items.old.items i ≡ Some result }
@@ -91,7 +79,7 @@ fn take_from<U: Drop>(items: &mut Vec<U>, i: usize) -> U
             return item;
         }
     }
-    take_earlier(items, i)
+    items.remove(i)
 }
 
 impl<T: Drop> Log<T> {

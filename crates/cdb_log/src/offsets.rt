@@ -33,20 +33,6 @@ fn is_at(offsets: &[u8], i: usize, offset: usize) -> bool
     i < offsets.len() && offsets[i] as usize == offset
 }
 
-/// Which item of a piece has an offset, if one has, sought among all.
-#[inline(never)]
-fn place_among(offsets: &[u8], offset: usize) -> Option<usize>
-    requires { AreOffsets offsets.now }
-    ensures { MatchOption result (HasNoOffset offsets.now offset)
-        (λ i. (i < length offsets.now) × (slice_index offsets.now i ≡ offset)) }
-{
-    let i = count_below(offsets, offset);
-    if is_at(offsets, i, offset) {
-        return Some(i);
-    }
-    None
-}
-
 /// Which item of a piece has an offset, if one has: mostly all behind it are there still.
 pub(crate) fn place_of(offsets: &[u8], offset: usize) -> Option<usize>
     requires rising { AreOffsets offsets.now }
@@ -58,7 +44,11 @@ pub(crate) fn place_of(offsets: &[u8], offset: usize) -> Option<usize>
     if is_at(offsets, near, offset) {
         return Some(near);
     }
-    place_among(offsets, offset)
+    let i = count_below(offsets, offset);
+    if is_at(offsets, i, offset) {
+        return Some(i);
+    }
+    None
 }
 
 /// How many offsets of a piece are below a bound: as many as the bound says where all of these are

@@ -5,7 +5,7 @@ use Rattle.std.proofs.lemmas.List.Sorted.{IsPartitionPoint-from_clause}
 use Rattle.std.specs.List.Sorted.{IsPartitionPoint}
 use Rattle.cdb_log.specs.Ends.{piece_start, IsInPiece}
 use Rattle.cdb_log.proofs.Counting.{below_or_above}
-use Rattle.cdb_log.proofs.ends.piece_among.Goals as goal
+use Rattle.cdb_log.proofs.ends.piece_of.Goals as goal
 
 end_at : (ends : List ℕ) (k d : ℕ) → k < length ends → get_or ends k d ≡ slice_index ends k
 end_at ends k d within = get_or_default ends k d 0 within
