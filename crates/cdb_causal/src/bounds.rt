@@ -161,6 +161,7 @@ impl Bounds {
     }
 
     /// Makes room for the bounds of an event.
+    #[inline(always)]
     pub fn reserve(&mut self, event: &Event) -> Result<(), NoMemory>
         ensures others { (top : ℕ) → AreRaised top self.old self.new }
         ensures receives { KeepsReceives self.old self.new }
@@ -224,6 +225,7 @@ impl Bounds {
     }
 
     /// Raises the bounds, for which there is room, so that the event under that mark is within them.
+    #[inline(always)]
     pub fn note(&mut self, mark: Mark, event: &Event)
         requires mark { mark < ABOVE_ALL }
         requires room { HasCellsFor self.old event.now }

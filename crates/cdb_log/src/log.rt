@@ -68,6 +68,7 @@ fn drop_spares<T: Drop>(pieces: &mut Vec<Vec<T>>, offsets: &mut Vec<Vec<u8>>, en
 }
 
 /// Takes an item out of a piece: at once where it is the last.
+#[inline(always)]
 fn take_from<U: Drop>(items: &mut Vec<U>, i: usize) -> U
     requires { i < vec_len items.old }
     ensures value { slice_get items.old.items i ≡ Some result }
