@@ -12,7 +12,7 @@ use Rattle.cdb_causal.specs.Rollback.{position_before}
 use Rattle.cdb_causal.proofs.Bounding.{position_not_gone}
 use Rattle.cdb_causal.proofs.Counting.{slice_get-without}
 use Rattle.cdb_causal.proofs.Lists.{push_cases}
-use Rattle.cdb_log.specs.Marks.{Marked, mark}
+use Rattle.cdb_log.specs.Marks.{Marked, mark, MarksRise}
 
 pub same_number_or_not : (k n : ℕ) → (k ≡ n) ⊎ (k ≢ n)
 same_number_or_not k n = grind arith
@@ -91,15 +91,18 @@ rising_take bounds n within rising k l le less =
     let up = rising k l le (omega arith) in
     omega arith
 
--- what is below the last bound stands before it
-pub bound_take : (bounds : List ℕ) (bound : ℕ) → 0 < length bounds → bound ≤ slice_index bounds (length bounds - 1) → (b : ℕ) → b < bound → HasBound bounds b → HasBound (take (length bounds - 1) bounds) b
-bound_take bounds bound some last b below (k, within, is) =
+-- what is not the last bound stands before it
+pub bound_take_but : (bounds : List ℕ) (b : ℕ) → (slice_index bounds (length bounds - 1) ≡ b → ⊥) → HasBound bounds b → HasBound (take (length bounds - 1) bounds) b
+bound_take_but bounds b other (k, within, is) =
     let long = length-take-le (length bounds - 1) bounds (omega arith) in
-    let low : k < length bounds - 1 = not_last k (length bounds) within (λ e. let same = ap (slice_index bounds) e in omega (arith, same, last, is, below)) in
+    let low : k < length bounds - 1 = not_last k (length bounds) within (λ e. other (ap (slice_index bounds) (sym e) ∙ is)) in
     (k, omega (arith, low, long), get_or-take (length bounds - 1) bounds k 0 low ∙ is)
   where
     not_last : (k n : ℕ) → k < n → (k ≡ n - 1 → ⊥) → k < n - 1
     not_last k n less apart = grind (arith, less, apart)
+
+pub bound_take : (bounds : List ℕ) (bound : ℕ) → bound ≤ slice_index bounds (length bounds - 1) → (b : ℕ) → b < bound → HasBound bounds b → HasBound (take (length bounds - 1) bounds) b
+bound_take bounds bound last b below has = bound_take_but bounds b (λ same. omega (arith, same, last, below)) has
 
 pub below_last : (bounds : List ℕ) (bound : ℕ) → IsRising bounds → (0 < length bounds → slice_index bounds (length bounds - 1) < bound) → (k : ℕ) → k < length bounds → slice_index bounds k < bound
 below_last bounds bound rising last k less = let up = rising k (length bounds - 1) (omega arith) (omega arith) in let low = last (omega arith) in omega arith
@@ -176,6 +179,14 @@ bound_remove bounds n b within other (k, less, is) =
 pub none_in_nothing : (bound : ℕ) → HasBound [] bound → ⊥
 none_in_nothing bound (k, within, is) = omega (arith, within)
 
+-- no two events have one mark
+marks_differ : (log : Marked Event) → MarksRise log → (i j : ℕ) → i < length log.items → j < length log.items → (i ≡ j → ⊥) → mark log i ≡ mark log j → ⊥
+marks_differ log rise i j inside within apart same =
+    ⊎_elim
+    (λ low. let up = rise i j low within in omega (arith, up, same))
+    (λ high. ⊎_elim (λ behind. let up = rise j i behind inside in omega (arith, up, same)) (λ most. apart (let is : i ≡ j = omega (arith, high, most) in is)) (below_or_above j i))
+    (below_or_above i j)
+
 -- the lists stay right where an event is added, and where one is taken out
 module _ {Z : Type 0} where
   pub listed_push : (old new : List (Vec ℕ Z)) (old_marks marks : ℕ → ℕ) (top : ℕ) (history : List Event) (event : Event) → AreListed old old_marks history → AreRising new → AllKeepBelow (top + 1) old new → ((n : ℕ) → IsListedIn event n → HasBound (list_at new n) (top + 1))
@@ -193,14 +204,17 @@ module _ {Z : Type 0} where
             (push_cases history event one i at);
       }
 
-  pub listed_without : (log : Marked Event) (marks : ℕ → ℕ) (gone : ℕ) (old new : List (Vec ℕ Z)) → AreListed old (mark log) log.items → AreRising new → AllKeepOthers log gone old new
+  pub listed_without : (log : Marked Event) (marks : ℕ → ℕ) (gone bound : ℕ) (old new : List (Vec ℕ Z)) → MarksRise log → gone < length log.items → bound ≡ mark log gone → AreListed old (mark log) log.items → AreRising new → AllKeepOthers (bound + 1) old new
       → ((i : ℕ) → i < length (without log.items gone) → marks i ≡ mark log (position_before gone i)) → AreListed new marks (without log.items gone)
-  listed_without log marks gone old new listed rising kept stay =
+  listed_without log marks gone bound old new rise within is_bound listed rising kept stay =
       record {
         rising = rising;
         each = λ i n one at is.
             let position = position_before gone i in
             let stood = sym (slice_get-without log.items gone i) ∙ at in
+            let inside = slice_get_within log.items position one stood in
             subst (λ m. HasBound (list_at new n) (m + 1)) (sym (stay i (slice_get_within (without log.items gone) i one at)))
-            (kept n position (slice_get_within log.items position one stood) (position_not_gone gone i) (listed.each position n one stood is));
+            (kept n (mark log position + 1)
+            (λ same. marks_differ log rise position gone inside within (position_not_gone gone i) (let m : mark log position ≡ mark log gone = omega (arith, same, is_bound) in m))
+            (listed.each position n one stood is));
       }

@@ -1,5 +1,5 @@
 -- The bounds of a process's steps stay right where bounds are raised, an event is added or one is taken out.
-use Rattle.std.proofs.Common.{◌≡◌, ℕ, suc, ◌+◌, ◌-◌, ◌<◌, ◌≤◌, ◌==◌, ⊎_elim, Bool, true, false, if◌then◌else◌, List, [], ◌∷◌, ◌++◌, Some, length, slice_get, slice_index, refl, sym, ap, ◌∙◌, subst, true≢false, eqb-true, arith}
+use Rattle.std.proofs.Common.{◌≡◌, ℕ, suc, ◌+◌, ◌-◌, ◌<◌, ◌≤◌, ◌==◌, ◌⊎◌, ⊎_elim, Bool, true, false, if◌then◌else◌, List, [], ◌∷◌, ◌++◌, Some, length, slice_get, slice_index, refl, sym, ap, ◌∙◌, subst, true≢false, eqb-true, arith}
 use Rattle.std.proofs.lemmas.Option.{slice_get_within}
 use Rattle.cdb_base.specs.Event.{is_step_of}
 use Rattle.cdb_base.specs.declared.event.Event.{Event}
@@ -64,20 +64,31 @@ same_or_other false x y m one other = other refl
 same_process_number : (p q : ℕ) → (1 ≤ p) × (p ≤ 9) → (1 ≤ q) × (q ≤ 9) → q - 1 ≡ p - 1 → q ≡ p
 same_process_number p q a b same = let one = a.0 in let two = b.0 in omega arith
 
-module _ (old new : Bounds) (old_marks marks : ℕ → ℕ) (history : List Event) (gone : ℕ) (event : Event) (last : Bool) (standing : IsStanding history) (own : AreOwn old old_marks history) (at_gone : slice_get history gone ≡ Some event) (forgotten : IsOwnForgotten old new last event)
-    (is_last : last ≡ true → (p k l : ℕ) (kind other : Kind) (i : ℕ) → event ≡ Step p k kind → slice_get history i ≡ Some (Step p l other) → i ≤ gone) where
-  below : (i : ℕ) → i ≤ gone → (i ≡ gone → ⊥) → i < gone
-  below i most apart = grind (arith, most, apart)
+module _ (old new : Bounds) (old_marks marks : ℕ → ℕ) (history : List Event) (gone mark : ℕ) (event : Event) (standing : IsStanding history) (own : AreOwn old old_marks history) (at_gone : slice_get history gone ≡ Some event) (forgotten : IsOwnForgotten old new mark event)
+    (is_mark : mark ≡ old_marks gone) (rise : (i j : ℕ) → i < j → j < length history → old_marks i < old_marks j) where
+  low_or_high : (i : ℕ) → (i ≡ gone → ⊥) → (i < gone) ⊎ (gone < i)
+  low_or_high i apart = grind (arith, apart)
+
+  -- where the mark is the highest of a process, its other steps stand before
+  below : (i p l : ℕ) (other : Kind) → slice_get history i ≡ Some (Step p l other) → own_bound old p ≤ mark + 1 → (i ≡ gone → ⊥) → i < gone
+  below i p l other at most apart =
+      ⊎_elim
+      (λ less. less)
+      (λ behind.
+      let up = rise gone i behind (slice_get_within history i (Step p l other) at) in
+      let high = own.all i p l other at in
+      absurd (omega (arith, up, high, most, is_mark)))
+      (low_or_high i apart)
 
   -- a process whose last step is taken out has the bound of those before it
-  lowered : (event : Event) → slice_get history gone ≡ Some event → (last ≡ true → (p k l : ℕ) (kind other : Kind) (i : ℕ) → event ≡ Step p k kind → slice_get history i ≡ Some (Step p l other) → i ≤ gone)
-      → (i q l : ℕ) (other : Kind) → (i ≡ gone → ⊥) → slice_get history i ≡ Some (Step q l other) → IsLoweredAt old new last event (q - 1) → old_marks i < own_bound new q
-  lowered (Step p k kind) at_event is_last i q l other apart at low =
+  lowered : (event : Event) → slice_get history gone ≡ Some event
+      → (i q l : ℕ) (other : Kind) → (i ≡ gone → ⊥) → slice_get history i ≡ Some (Step q l other) → IsLoweredAt old new mark event (q - 1) → old_marks i < own_bound new q
+  lowered (Step p k kind) at_event i q l other apart at low =
       let is = same_process_number p q (standing.processes gone p k kind at_event) (standing.processes i q l other at) low.1 in
       let at_p = subst (λ x. slice_get history i ≡ Some (Step x l other)) is at in
-      let less = below i (is_last low.0 p k l kind other i refl at_p) apart in
+      let less = below i p l other at_p low.0 apart in
       subst (λ b. old_marks i < b) (sym low.2) (own.earlier i gone p l k other kind less at_p at_event)
-  lowered (Lost copy) at_event is_last i q l other apart at low = absurd low
+  lowered (Lost copy) at_event i q l other apart at low = absurd low
 
   pub own_without : ((i : ℕ) → i < length (without history gone) → marks i ≤ old_marks (position_before gone i)) → AreOwn new marks (without history gone)
   own_without fall =
@@ -89,7 +100,7 @@ module _ (old new : Bounds) (old_marks marks : ℕ → ℕ) (history : List Even
             let high : old_marks position < own_bound new p =
             ⊎_elim
             (λ same. subst (λ b. old_marks position < b) (sym same) (own.all position p k kind stood))
-            (λ less. lowered event at_gone is_last position p k kind (position_not_gone gone i) stood less)
+            (λ less. lowered event at_gone position p k kind (position_not_gone gone i) stood less)
             (forgotten.own (p - 1)) in
             omega arith;
         earlier = λ h i p k l kind other less at_h at_i.
@@ -100,8 +111,8 @@ module _ (old new : Bounds) (old_marks marks : ℕ → ℕ) (history : List Even
       }
 
 -- the receives, and all but the steps' bounds, are left as by what comes after
-pub leaves_then : (old middle new : Bounds) (last : Bool) (event : Event) → IsOwnForgotten old middle last event → LeavesCell middle new event → LeavesCell old new event
-leaves_then old middle new last event forgotten leaves =
+pub leaves_then : (old middle new : Bounds) (mark : ℕ) (event : Event) → IsOwnForgotten old middle mark event → LeavesCell middle new event → LeavesCell old new event
+leaves_then old middle new mark event forgotten leaves =
     record {
       steps = leaves.steps ∙ forgotten.steps;
       sends = leaves.sends ∙ forgotten.sends;

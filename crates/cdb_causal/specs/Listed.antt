@@ -56,16 +56,12 @@ AreAtMostMarks log bounds from n = (k j : ℕ) → k < n → from ≤ j → j < 
 abbrev pub IsStartIn : {T : Type 0} → Marked T → List ℕ → ℕ → ℕ → Type 0
 IsStartIn log bounds from start = (j : ℕ) → from ≤ j → j < length log.items → HasBound bounds (mark log j + 1) → start ≤ j
 
--- no item but the one at position i has that bound
-abbrev pub IsOfNoneBut : {T : Type 0} → Marked T → ℕ → ℕ → Type 0
-IsOfNoneBut log bound i = (j : ℕ) → j < length log.items → mark log j + 1 ≡ bound → j ≡ i
+-- all bounds but one have been kept
+abbrev pub KeepsOthers : ℕ → List ℕ → List ℕ → Type 0
+KeepsOthers bound old new = (b : ℕ) → (b ≡ bound → ⊥) → HasBound old b → HasBound new b
 
--- of the bounds of items only that of the item at position i may be gone
-abbrev pub KeepsOthers : {T : Type 0} → Marked T → ℕ → List ℕ → List ℕ → Type 0
-KeepsOthers log i old new = (j : ℕ) → j < length log.items → (j ≡ i → ⊥) → HasBound old (mark log j + 1) → HasBound new (mark log j + 1)
-
-abbrev pub AllKeepOthers : {T Z : Type 0} → Marked T → ℕ → List (Vec ℕ Z) → List (Vec ℕ Z) → Type 0
-AllKeepOthers log i old new = (n : ℕ) → KeepsOthers log i (list_at old n) (list_at new n)
+abbrev pub AllKeepOthers : {Z : Type 0} → ℕ → List (Vec ℕ Z) → List (Vec ℕ Z) → Type 0
+AllKeepOthers bound old new = (n : ℕ) → KeepsOthers bound (list_at old n) (list_at new n)
 
 -- the bounds below one have been kept
 abbrev pub KeepsBelow : ℕ → List ℕ → List ℕ → Type 0

@@ -1,5 +1,5 @@
 -- Bounds of the marks of a process's steps: of all of them, and of those before each.
-use Rattle.std.specs.Prelude.{◌≡◌, ℕ, ◌-◌, ◌<◌, ◌≤◌, List, Some, slice_get, slice_index, if◌then◌else◌, ◌==◌, ◌+◌, ◌⊎◌, Bool, true}
+use Rattle.std.specs.Prelude.{◌≡◌, ℕ, ◌-◌, ◌<◌, ◌≤◌, List, Some, slice_get, slice_index, if◌then◌else◌, ◌==◌, ◌+◌, ◌⊎◌}
 use Rattle.cdb_base.specs.declared.event.Event.{Event}
 use Rattle.cdb_base.specs.declared.event.Event.TheVariants.{Step, Lost}
 use Rattle.cdb_base.specs.declared.event.Kind.{Kind}
@@ -19,12 +19,6 @@ pub record AreOwn (bounds : Bounds) (marks : ℕ → ℕ) (history : List Event)
   pub all : (i p k : ℕ) (kind : Kind) → slice_get history i ≡ Some (Step p k kind) → marks i < own_bound bounds p
   pub earlier : (h i p k l : ℕ) (kind other : Kind) → h < i → slice_get history h ≡ Some (Step p k kind) → slice_get history i ≡ Some (Step p l other) → marks h < bound_before bounds p l
 
--- no step of its process stands after the step at a position, which counts from 1
-abbrev pub IsLastOfItsProcess : List Event → ℕ → Type 0
-IsLastOfItsProcess history at =
-    (i p k l : ℕ) (kind other : Kind) → slice_get history (at - 1) ≡ Some (Step p k kind)
-    → slice_get history i ≡ Some (Step p l other) → i < at
-
 -- the event, under that mark, is the last of its process now; all of that process's before it are within what was their bound
 abbrev pub IsOwnNoted : Bounds → Bounds → ℕ → Event → Type 0
 IsOwnNoted old new mark (Step p k kind) = (mark < own_bound new p) × (own_bound old p ≤ bound_before new p k)
@@ -35,13 +29,13 @@ abbrev pub bound_of_slot : Bounds → Event → ℕ → ℕ
 bound_of_slot bounds (Step p k kind) slot = if slot + 1 == p then bound_before bounds p k else ABOVE_ALL
 bound_of_slot bounds (Lost copy) slot = ABOVE_ALL
 
--- cell n now has the bound of the steps before the event, which is the last of its process
-abbrev pub IsLoweredAt : Bounds → Bounds → Bool → Event → ℕ → Type 0
-IsLoweredAt old new last (Step p k kind) n = (last ≡ true) × (n ≡ p - 1) × (slice_index new.own n ≡ bound_before old p k)
-IsLoweredAt old new last (Lost copy) n = ⊥
+-- cell n now has the bound of the steps before the event, which stood under that mark as the last of its process
+abbrev pub IsLoweredAt : Bounds → Bounds → ℕ → Event → ℕ → Type 0
+IsLoweredAt old new mark (Step p k kind) n = (own_bound old p ≤ mark + 1) × (n ≡ p - 1) × (slice_index new.own n ≡ bound_before old p k)
+IsLoweredAt old new mark (Lost copy) n = ⊥
 
 -- the bounds of steps are as they were, or lowered so; all else is as it was
-pub record IsOwnForgotten (old new : Bounds) (last : Bool) (event : Event) : Type 0 where
+pub record IsOwnForgotten (old new : Bounds) (mark : ℕ) (event : Event) : Type 0 where
   pub steps : new.steps ≡ old.steps
   pub sends : new.sends ≡ old.sends
   pub receives : new.receives ≡ old.receives
@@ -49,4 +43,4 @@ pub record IsOwnForgotten (old new : Bounds) (last : Bool) (event : Event) : Typ
   pub writes : new.writes ≡ old.writes
   pub accesses : new.accesses ≡ old.accesses
   pub before : new.before ≡ old.before
-  pub own : (n : ℕ) → (slice_index new.own n ≡ slice_index old.own n) ⊎ IsLoweredAt old new last event n
+  pub own : (n : ℕ) → (slice_index new.own n ≡ slice_index old.own n) ⊎ IsLoweredAt old new mark event n

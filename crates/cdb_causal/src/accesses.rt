@@ -3,7 +3,7 @@
 
 ghost use Rattle.std.specs.Prelude.{◌≡◌, ℕ, ◌+◌, ◌-◌, ◌<◌, ◌≤◌, ◌↔◌, [], IsTrue, OnOk, IfSome, MatchOption, length, slice_index, vec_len, vec_capacity};
 ghost use Rattle.cdb_causal.specs.Cells.{row};
-ghost use Rattle.cdb_causal.specs.Listed.{list_at, HasRoomAt, HasRoomFor, IsListedIn, IsRising, AreRising, HasBound, HasBoundFor, IsOfNoneBut};
+ghost use Rattle.cdb_causal.specs.Listed.{list_at, HasRoomAt, HasRoomFor, IsListedIn, IsRising, AreRising, HasBound, HasBoundFor};
 ghost use Rattle.cdb_causal.specs.Listed.{KeepsBelow, KeepsOthers, KeepsLists, AllKeepBelow, AllKeepOthers, AreAtMostMarks, IsStartIn};
 
 use crate::bounds::register_row;
@@ -41,6 +41,15 @@ fn is_last_from(bounds: &[Mark], bound: Mark) -> bool
 {
     let count = bounds.len();
     count > 0 && bounds[count - 1] >= bound
+}
+
+/// Whether the last bound of a list is that one.
+fn is_last(bounds: &[Mark], bound: Mark) -> bool
+    ensures { IsTrue result ↔
+        ((0 < length bounds.now) × (slice_index bounds.now (length bounds.now - 1) ≡ bound)) }
+{
+    let count = bounds.len();
+    count > 0 && bounds[count - 1] == bound
 }
 
 /// Drops the bounds of a list that are as high as another one: no standing event has them.
@@ -101,39 +110,18 @@ fn start_in(log: &Log<Event>, bounds: &[Mark], from: usize) -> usize
     log.position_above(bounds[n].saturating_sub(1))
 }
 
-/// Whether the bound can be of no event but the one at position `i`.
-fn is_of_none_but(log: &Log<Event>, bound: Mark, i: usize) -> bool
-    ensures { IsTrue result → IsOfNoneBut log.now bound i }
-{
-    let start = log.position_above(bound.saturating_sub(1));
-    let end = log.position_above(bound);
-    start >= i && end.saturating_sub(1) <= i
-}
-
-/// Where in a list the bound of the event at position `i` stands, if it does: mostly it is the last.
-fn place_of(log: &Log<Event>, bounds: &[Mark], i: usize) -> Option<usize>
-    requires { IsRising bounds.now }
-    ensures within { IfSome result (λ n. n < length bounds.now) }
-    ensures own { IfSome result (λ n. IsOfNoneBut log.now (slice_index bounds.now n) i) }
-{
-    let count = bounds.len();
-    if count > 0 && is_of_none_but(log, bounds[count - 1], i) {
-        return Some(count - 1);
-    }
-    let n = count_before(log, bounds, i);
-    if n < count && is_of_none_but(log, bounds[n], i) {
-        return Some(n);
-    }
-    None
-}
-
-/// Takes the bound of the event at position `i` out of a list.
-fn leave(log: &Log<Event>, bounds: &mut Vec<Mark>, i: usize)
+/// Takes a bound out of a list, if it is there: mostly it is the last.
+fn leave(bounds: &mut Vec<Mark>, bound: Mark)
     requires { IsRising bounds.old.items }
     ensures rising { IsRising bounds.new.items }
-    ensures kept { KeepsOthers log.now i bounds.old.items bounds.new.items }
+    ensures kept { KeepsOthers bound bounds.old.items bounds.new.items }
 {
-    if let Some(n) = place_of(log, bounds, i) {
+    if is_last(bounds, bound) {
+        bounds.pop();
+        return;
+    }
+    let n = bounds.partition_point(|other| *other < bound);
+    if n < bounds.len() && bounds[n] == bound {
         bounds.remove(n);
     }
 }
@@ -222,15 +210,16 @@ impl Accesses {
         }
     }
 
-    /// Takes out the bound of an event that stands at position `i`.
-    pub fn forget_access(&mut self, log: &Log<Event>, event: &Event, i: usize)
-        requires { AreRising self.old.lists.items }
+    /// Takes out the bound of an event that stood under that mark.
+    pub fn forget_access(&mut self, mark: Mark, event: &Event)
+        requires mark { mark < ABOVE_ALL }
+        requires rising { AreRising self.old.lists.items }
         ensures rising { AreRising self.new.lists.items }
-        ensures kept { AllKeepOthers log.now i self.old.lists.items self.new.lists.items }
+        ensures kept { AllKeepOthers (mark + 1) self.old.lists.items self.new.lists.items }
     {
         if let Some(n) = list_of(event) {
             if n < self.lists.len() {
-                leave(log, &mut self.lists[n], i);
+                leave(&mut self.lists[n], mark + 1);
             }
         }
     }

@@ -161,6 +161,7 @@ impl Bounds {
     }
 
     /// Makes room for the bounds of an event.
+    #[inline(always)]
     pub fn reserve(&mut self, event: &Event) -> Result<(), NoMemory>
         ensures others { (top : ℕ) → AreRaised top self.old self.new }
         ensures receives { KeepsReceives self.old self.new }
@@ -224,6 +225,7 @@ impl Bounds {
     }
 
     /// Raises the bounds, for which there is room, so that the event under that mark is within them.
+    #[inline(always)]
     pub fn note(&mut self, mark: Mark, event: &Event)
         requires mark { mark < ABOVE_ALL }
         requires room { HasCellsFor self.old event.now }
@@ -269,15 +271,17 @@ impl Bounds {
         }
     }
 
-    /// Gives a process the bound of its steps before the event, where that is its last.
-    pub fn forget_own(&mut self, event: &Event, last: bool)
-        ensures { IsOwnForgotten self.old self.new last event.now }
+    /// Gives a process the bound of its steps before the event, which stood under that mark, where by the bounds it
+    /// was the last of them.
+    pub fn forget_own(&mut self, mark: Mark, event: &Event)
+        requires { mark < ABOVE_ALL }
+        ensures { IsOwnForgotten self.old self.new mark event.now }
     {
-        if !last {
-            return;
-        }
         if let Event::Step { p, k, .. } = event {
-            self.own[p.index()] = self.before.bound(*p, *k as usize);
+            let slot = p.index();
+            if self.own[slot] <= mark + 1 {
+                self.own[slot] = self.before.bound(*p, *k as usize);
+            }
         }
     }
 

@@ -63,28 +63,29 @@ impl Caught {
         self.flags.depends(event) || depends_on_one(&self.events[self.flagged..], event)
     }
 
-    /// Flags the first event that is not flagged, where there are more than few. Called twice for each
-    /// event that is added, it soon leaves none but the last.
-    fn flag_next(&mut self) -> Result<(), NoMemory>
+    /// Flags the events that are not flagged: mostly the last alone.
+    #[inline(always)]
+    fn flag_all(&mut self) -> Result<(), NoMemory>
         ensures { self.new ≡ self.old }
     {
-        if self.events.len() < FEW || self.flagged == self.events.len() {
-            return Ok(());
+        while self.flagged < self.events.len() {
+            let event = self.events[self.flagged];
+            self.flags.reserve(&event)?;
+            self.flags.note(&event);
+            self.flagged += 1;
         }
-        let event = self.events[self.flagged];
-        self.flags.reserve(&event)?;
-        self.flags.note(&event);
-        self.flagged += 1;
         Ok(())
     }
 
     /// Adds an event at the end. Without memory nothing is added.
+    #[inline(always)]
     pub(crate) fn push(&mut self, event: Event) -> Result<(), NoMemory>
         ensures ok { OnOk result (self.new ≡ self.old ++ event ∷ []) }
         ensures err { OnErr result (self.new ≡ self.old) }
     {
-        self.flag_next()?;
-        self.flag_next()?;
+        if self.events.len() >= FEW {
+            self.flag_all()?;
+        }
         append(&mut self.events, event)
     }
 

@@ -95,9 +95,9 @@ fn rolled_back_events(alloc: Global, history: &History, i: usize) -> Result<Vec<
 fn names(alloc: Global, events: &[Event]) -> Result<Vec<StepId>, NoMemory>
     ensures { IfOk result (λ names. names.items ≡ map event_name events.now) }
 {
-    let mut names = Vec::new(alloc);
+    let mut names = Vec::with_capacity(alloc, events.len())?;
     for event in events {
-        names.push(event.name())?;
+        names.push_reserved(event.name());
     }
     Ok(names)
 }

@@ -123,6 +123,7 @@ impl Flags {
     }
 
     /// Makes room for the flags of an event.
+    #[inline(always)]
     pub(crate) fn reserve(&mut self, event: &Event) -> Result<(), NoMemory>
         ensures same { HasSameFlags self.old self.new }
         ensures room { OnOk result (HasFlagFor self.new event.now) }

@@ -15,7 +15,6 @@ ghost use Rattle.cdb_causal.specs.Indexed.{IsIndexed};
 ghost use Rattle.cdb_causal.specs.LastCauses.{IsNoCause, HasNoCauseAsStep, IsEndOfCauses, IsEndBetween};
 ghost use Rattle.cdb_causal.specs.Listed.{HasRoomFor};
 ghost use Rattle.cdb_causal.specs.Names.{IsNewName, IsPositionOf, IsEndOfSteps};
-ghost use Rattle.cdb_causal.specs.Own.{IsLastOfItsProcess};
 ghost use Rattle.cdb_causal.specs.Rollback.{without};
 ghost use Rattle.cdb_causal.specs.Standing.{IsStanding, HasNoLostCopy};
 ghost use Rattle.cdb_log.specs.Marks.{CanGrow, HasRoom, IsPushed};
@@ -127,6 +126,7 @@ fn reserve_for(
 
 /// Adds an event at the end of a log, where there is room for it, with its bounds and in its accesses. It
 /// takes no memory.
+#[inline(always)]
 fn add(events: &mut Log<Event>, bounds: &mut Bounds, accesses: &mut Accesses, event: &Event)
     requires indexed { IsIndexed events.old bounds.old accesses.old }
     requires room { HasRoom events.old }
@@ -166,6 +166,8 @@ fn is_named(event: &Event, name: &StepId) -> bool
 }
 
 /// The position, from 1, of the event of that name. It stands below the end.
+#[cold]
+#[inline(never)]
 fn position_of(history: &History, name: &StepId, end: usize) -> Option<usize>
     requires standing { IsStanding history.now }
     requires within { end ≤ length history.now }
@@ -334,13 +336,22 @@ impl History {
         *self.events.get(at - 1)
     }
 
-    /// The position of the event of that name, from 1, if one stands.
+    /// The position of the event of that name, from 1, if one stands: mostly under the mark that is one below the
+    /// bound of the name.
     pub fn position(&self, name: StepId) -> Option<usize>
         ensures { MatchOption result (IsNewName self.now name)
             (λ at. IsPositionOf self.now name at) }
     {
-        let end = self.events.position_above(self.bounds.end_of_name(&name));
-        position_of(self, &name, end)
+        let bound = self.bounds.end_of_name(&name);
+        if bound == 0 {
+            return None;
+        }
+        if let Some((at, event)) = self.events.find(bound - 1) {
+            if is_named(event, &name) {
+                return Some(at + 1);
+            }
+        }
+        position_of(self, &name, self.events.position_above(bound))
     }
 
     /// Adds an event at the end. No event of its name stands, and of a send no copy is lost. Without
@@ -402,16 +413,6 @@ impl History {
         Ok(left)
     }
 
-    /// Whether by the bounds no step of its process stands after the step at a position, from 1.
-    fn last_of_its_process(&self, at: usize) -> bool
-        requires from_one { 1 ≤ at }
-        requires to_len { at ≤ length self.now }
-        ensures { IsTrue result → IsLastOfItsProcess self.now at }
-    {
-        let event = self.events.get(at - 1);
-        self.events.position_above(self.bounds.end_of_own(event)) <= at
-    }
-
     /// Takes the event at a position out, from 1 to the number of events. The others keep their order.
     pub fn remove(&mut self, at: usize) -> Event
         requires from_one { 1 ≤ at }
@@ -419,11 +420,9 @@ impl History {
         ensures event { nth self.old at ≡ Some result }
         ensures rest { self.new ≡ without self.old at }
     {
-        let last = self.last_of_its_process(at);
-        let gone = self.get(at);
-        self.accesses.forget_access(&self.events, &gone, at - 1);
-        let event = self.events.take_out(at - 1);
-        self.bounds.forget_own(&event, last);
+        let (mark, event) = self.events.take_marked(at - 1);
+        self.accesses.forget_access(mark, &event);
+        self.bounds.forget_own(mark, &event);
         self.bounds.forget(&event);
         self.bounds.forget_name(&event);
         event

@@ -4,8 +4,8 @@ use Rattle.std.proofs.lemmas.List.{map-append, length-map, get_or-map, get_or_ap
 use Rattle.std.proofs.lemmas.List.Edits.{get_or-remove_below, get_or-remove_above}
 use Rattle.std.proofs.lemmas.Option.{same_Some, none-some, slice_get-get_or, get_or_from_slice_get}
 use Rattle.std.specs.List.{AllByRecursion}
-use Rattle.cdb_log.specs.Marks.{Marked, mark, HasRoom, IsSameLog, IsPushed, IsTakenOut}
-use Rattle.cdb_log.specs.Offsets.{AreOffsets, next, marks_from, seen, AreInPieces}
+use Rattle.cdb_log.specs.Marks.{Marked, mark, HasNoMark, HasRoom, IsSameLog, IsPushed, IsTakenOut}
+use Rattle.cdb_log.specs.Offsets.{AreOffsets, HasNoOffset, next, marks_from, seen, AreInPieces}
 use Rattle.cdb_log.specs.Pieces.{joined, before, lists}
 use Rattle.cdb_log.specs.declared.ends.TheConstants.{PIECE}
 use Rattle.cdb_log.specs.declared.log.TheConstants.{ABOVE_ALL}
@@ -326,3 +326,49 @@ module _ {T Z : Type 0} where
           λ q. ⊎_elim (λ before. before) (λ from. ⊎_elim (λ after. let r = are.rise i n after less_n in absurd (omega arith)) (λ last. let e : n ≡ i = omega arith in let s = ap (slice_index o.items) e in absurd (omega arith)) (below_or_above i n)) (below_or_above n i),
         )) j less_j in
         ⊎_elim (λ lower. let b = marked.1 lower in absurd (omega arith)) (λ higher. higher) (below_or_above (mark (seen pieces offsets) j) (PIECE * k + slice_index o.items i))
+
+    -- no two items have one mark
+    pub marks_rise : (i j : ℕ) → i < j → j < length (joined (lists pieces)) → mark (seen pieces offsets) i < mark (seen pieces offsets) j
+    marks_rise i j less within =
+        let many = same_many in
+        let a = placed os h.rise i (omega arith) in
+        let b = placed os h.rise j (omega arith) in
+        let m_a : mark (seen pieces offsets) i ≡ PIECE * a.k + slice_index a.piece (i - before os a.k) = a.mark in
+        let m_b : mark (seen pieces offsets) j ≡ PIECE * b.k + slice_index b.piece (j - before os b.k) = b.mark in
+        let s_a = a.small in
+        let low_a = a.low in
+        let high_a = a.high in
+        let low_b = b.low in
+        let high_b = b.high in
+        let step_a = before_step os a.k a.piece a.at in
+        let step_b = before_step os b.k b.piece b.at in
+        ⊎_elim
+        (λ earlier. omega arith)
+        (λ not_earlier. ⊎_elim
+        (λ later. let r = before_rises os (suc b.k) a.k (omega arith) in absurd (omega arith))
+        (λ not_later.
+        let here : b.k ≡ a.k = omega arith in
+        let start_is = ap (before os) here in
+        let piece_is : b.piece ≡ a.piece = same_Some b.piece a.piece (sym b.at ∙ ap (slice_get os) here ∙ a.at) in
+        let long_is = ap length piece_is in
+        let up = (offsets_at os a.k a.piece h.rise a.at).rise (i - before os a.k) (j - before os a.k) (omega arith) (omega arith) in
+        let read : slice_index b.piece (j - before os b.k) ≡ slice_index a.piece (j - before os a.k) = ap (λ n. slice_index b.piece (j - n)) start_is ∙ ap (λ (l : List ℕ). slice_index l (j - before os a.k)) piece_is in
+        omega arith)
+        (below_or_above b.k a.k))
+        (below_or_above a.k b.k)
+
+    -- where no item of a piece has an offset, none has the mark
+    pub no_mark : (k extra : ℕ) (o : Vec ℕ Z) → o ≡ get_or offsets k o → k < length pieces → extra < PIECE → HasNoOffset o.items extra → HasNoMark (seen pieces offsets) (PIECE * k + extra)
+    no_mark k extra o is_o within less_extra none i less is =
+        let many = same_many in
+        let a = placed os h.rise i (omega arith) in
+        let m : mark (seen pieces offsets) i ≡ PIECE * a.k + slice_index a.piece (i - before os a.k) = a.mark in
+        let s = a.small in
+        let low = a.low in
+        let high = a.high in
+        let same = same_pieces in
+        let here : a.k ≡ k = omega arith in
+        let piece_is : a.piece ≡ o.items = same_Some a.piece o.items (sym a.at ∙ ap (slice_get os) here ∙ lists_at offsets k o (omega arith) is_o) in
+        let long_is = ap length piece_is in
+        let read = ap (λ (l : List ℕ). slice_index l (i - before os a.k)) piece_is in
+        none (i - before os a.k) (omega arith) (omega arith)

@@ -48,3 +48,16 @@ pub record IsTakenOut {T : Type 0} (old : Marked T) (position : ℕ) (item : T) 
   pub items : new.items ≡ remove old.items position
   pub earlier : KeepsMarks position old new
   pub later : (i : ℕ) → position ≤ i → i < length new.items → mark new i ≡ mark old (suc i)
+
+-- no item has the mark
+abbrev pub HasNoMark : {T : Type 0} → Marked T → ℕ → Type 0
+HasNoMark log m = (i : ℕ) → i < length log.items → mark log i ≡ m → ⊥
+
+-- the item stands at that position, under that mark
+pub record IsMarked {T : Type 0} (log : Marked T) (m position : ℕ) (item : T) : Type 0 where
+  pub is_mark : mark log position ≡ m
+  pub stands : slice_get log.items position ≡ Some item
+
+-- each item has a higher mark than those before it
+abbrev pub MarksRise : {T : Type 0} → Marked T → Type 0
+MarksRise log = (i j : ℕ) → i < j → j < length log.items → mark log i < mark log j

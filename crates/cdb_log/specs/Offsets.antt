@@ -1,6 +1,6 @@
 -- The marks of the items of a list in pieces. A piece has PIECE marks of its own, and the offset of a mark is how far it is above the first
 -- of them. An item that is added to a piece gets the offset that is one above that of the last item there.
-use Rattle.std.specs.Prelude.{ℕ, suc, ◌+◌, ◌<◌, List, [], ◌∷◌, Bool, false, ltb, length, map, slice_index, Vec}
+use Rattle.std.specs.Prelude.{◌≡◌, ℕ, suc, ◌+◌, ◌<◌, List, [], ◌∷◌, Bool, false, ltb, length, map, slice_index, Vec}
 use Rattle.std.specs.List.{AllByRecursion}
 use Rattle.cdb_log.specs.Ends.{HasEnds}
 use Rattle.cdb_log.specs.Marks.{Marked}
@@ -11,6 +11,10 @@ use Rattle.cdb_log.specs.declared.ends.TheConstants.{PIECE}
 pub record AreOffsets (offsets : List ℕ) : Type 0 where
   pub rise : (i j : ℕ) → i < j → j < length offsets → slice_index offsets i < slice_index offsets j
   pub small : (i : ℕ) → i < length offsets → slice_index offsets i < PIECE
+
+-- no item of a piece has the offset
+abbrev pub HasNoOffset : List ℕ → ℕ → Type 0
+HasNoOffset offsets offset = (i : ℕ) → i < length offsets → slice_index offsets i ≡ offset → ⊥
 
 -- the offset of the next item of a piece, one above the last
 abbrev pub next : List ℕ → ℕ

@@ -37,17 +37,17 @@ fn piece_from_the_end(ends: &[usize], position: usize) -> usize
 }
 
 /// The piece in which the item at a position stands: mostly the one that it would be with all pieces
-/// before it full, or with all behind it.
+/// behind it full, or with all before it.
 fn piece_of(ends: &[usize], position: usize) -> usize
     requires ends { AreEnds ends.now }
     requires within { position < slice_index ends.now (length ends.now - 1) }
     ensures { IsInPiece ends.now position result }
 {
-    let near = position / PIECE;
+    let near = piece_from_the_end(ends, position);
     if is_in_piece(ends, position, near) {
         return near;
     }
-    let near = piece_from_the_end(ends, position);
+    let near = position / PIECE;
     if is_in_piece(ends, position, near) {
         return near;
     }

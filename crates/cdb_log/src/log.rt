@@ -1,12 +1,12 @@
 //! A list in pieces.
 
-ghost use Rattle.std.specs.Prelude.{◌≡◌, ℕ, ◌+◌, ◌<◌, ◌≤◌, ◌==◌, ◌↔◌, IsTrue, Some, length, slice_get, OnOk, OnErr};
-ghost use Rattle.cdb_log.specs.Marks.{mark, without_items, CanGrow, HasRoom, IsSameLog, IsPushed, IsTakenOut};
+ghost use Rattle.std.specs.Prelude.{◌≡◌, ℕ, ◌+◌, ◌<◌, ◌≤◌, ◌==◌, ◌↔◌, IsTrue, Some, length, remove, slice_get, vec_len, vec_capacity, MatchOption, OnOk, OnErr};
+ghost use Rattle.cdb_log.specs.Marks.{mark, without_items, CanGrow, HasRoom, HasNoMark, IsMarked, IsSameLog, IsPushed, IsTakenOut, MarksRise};
 ghost use Rattle.cdb_log.specs.Offsets.{AreInPieces, seen};
 ghost use Rattle.cdb_log.specs.Pieces.{filled};
 
 use crate::ends::{PIECE, is_spare, lower, set_ends, spot_of, start_of};
-use crate::offsets::{count_below, is_open, next_of};
+use crate::offsets::{count_below, is_open, next_of, place_of};
 use cdb_base::NoMemory;
 use std::alloc::Global;
 use std::marker::Model;
@@ -65,6 +65,22 @@ fn drop_spares<T: Drop>(pieces: &mut Vec<Vec<T>>, offsets: &mut Vec<Vec<u8>>, en
         offsets.pop();
         ends.pop();
     }
+}
+
+/// Takes an item out of a piece: at once where it is the last.
+#[inline(always)]
+fn take_from<U: Drop>(items: &mut Vec<U>, i: usize) -> U
+    requires { i < vec_len items.old }
+    ensures value { slice_get items.old.items i ≡ Some result }
+    ensures items { items.new.items ≡ remove items.old.items i }
+    ensures capacity { vec_capacity items.new ≡ vec_capacity items.old }
+{
+    if i + 1 == items.len() {
+        if let Some(item) = items.pop() {
+            return item;
+        }
+    }
+    items.remove(i)
 }
 
 impl<T: Drop> Log<T> {
@@ -198,19 +214,52 @@ impl<T: Drop> Log<T> {
         (last * PIECE + offset) as Mark
     }
 
+    /// The item under a mark, with its position, if there is one.
+    pub fn find(&self, mark: Mark) -> Option<(usize, &T)>
+        ensures { MatchOption result (HasNoMark self.now mark)
+            (λ found. IsMarked self.now mark found.0 found.1.now) }
+    {
+        let k = mark as usize / PIECE;
+        if k >= self.ends.len() {
+            return None;
+        }
+        let offsets = &self.offsets[k];
+        match place_of(offsets, mark as usize % PIECE) {
+            Some(i) => {
+                let items = &self.pieces[k];
+                Some((start_of(&self.ends, k) + i, &items[i]))
+            }
+            None => None,
+        }
+    }
+
+    /// Takes the item at a position out, and returns its mark too. The others keep their order, and their
+    /// marks. It takes no memory.
+    pub fn take_marked(&mut self, position: usize) -> (Mark, T)
+        requires { position < length self.old.items }
+        ensures taken_out { IsTakenOut self.old position result.1 self.new }
+        ensures mark { result.0 ≡ mark self.old position }
+        ensures small { result.0 < ABOVE_ALL }
+        ensures rising { MarksRise self.old }
+        ensures pieces { self.new.pieces ≤ self.old.pieces }
+    {
+        let (k, i) = spot_of(&self.ends, position);
+        let piece = &mut self.pieces[k];
+        let item = take_from(piece, i);
+        let offsets = &mut self.offsets[k];
+        let offset = take_from(offsets, i);
+        lower(&mut self.ends, k);
+        drop_spares(&mut self.pieces, &mut self.offsets, &mut self.ends);
+        ((k * PIECE + offset as usize) as Mark, item)
+    }
+
     /// Takes the item at a position out. The others keep their order, and their marks. It takes no memory.
     pub fn take_out(&mut self, position: usize) -> T
         requires { position < length self.old.items }
         ensures taken_out { IsTakenOut self.old position result self.new }
         ensures pieces { self.new.pieces ≤ self.old.pieces }
     {
-        let (k, i) = spot_of(&self.ends, position);
-        let piece = &mut self.pieces[k];
-        let item = piece.remove(i);
-        let offsets = &mut self.offsets[k];
-        offsets.remove(i);
-        lower(&mut self.ends, k);
-        drop_spares(&mut self.pieces, &mut self.offsets, &mut self.ends);
+        let (_mark, item) = self.take_marked(position);
         item
     }
 

@@ -1,7 +1,7 @@
 //! The offsets of the items of a piece.
 
-ghost use Rattle.std.specs.Prelude.{◌≡◌, ℕ, ◌<◌, ◌≤◌, ◌↔◌, length, slice_index};
-ghost use Rattle.cdb_log.specs.Offsets.{AreOffsets, has_room, next};
+ghost use Rattle.std.specs.Prelude.{◌≡◌, ℕ, ◌<◌, ◌≤◌, ◌↔◌, IsTrue, length, slice_index, MatchOption};
+ghost use Rattle.cdb_log.specs.Offsets.{AreOffsets, HasNoOffset, has_room, next};
 ghost use Rattle.cdb_log.specs.Pieces.{lists};
 
 use crate::ends::PIECE;
@@ -24,6 +24,31 @@ pub(crate) fn is_open(offsets: &[Vec<u8>]) -> bool
 {
     let count = offsets.len();
     count > 0 && next_of(&offsets[count - 1]) < PIECE
+}
+
+/// Whether an item of a piece has that offset.
+fn is_at(offsets: &[u8], i: usize, offset: usize) -> bool
+    ensures { IsTrue result ↔ ((i < length offsets.now) × (slice_index offsets.now i ≡ offset)) }
+{
+    i < offsets.len() && offsets[i] as usize == offset
+}
+
+/// Which item of a piece has an offset, if one has: mostly all behind it are there still.
+pub(crate) fn place_of(offsets: &[u8], offset: usize) -> Option<usize>
+    requires rising { AreOffsets offsets.now }
+    requires small { offset < PIECE }
+    ensures { MatchOption result (HasNoOffset offsets.now offset)
+        (λ i. (i < length offsets.now) × (slice_index offsets.now i ≡ offset)) }
+{
+    let near = (offsets.len() + offset).saturating_sub(next_of(offsets));
+    if is_at(offsets, near, offset) {
+        return Some(near);
+    }
+    let i = count_below(offsets, offset);
+    if is_at(offsets, i, offset) {
+        return Some(i);
+    }
+    None
 }
 
 /// How many offsets of a piece are below a bound: as many as the bound says where all of these are

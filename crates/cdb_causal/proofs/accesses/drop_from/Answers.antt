@@ -14,7 +14,7 @@ loop-bounds-preserved c =
     let len = kept.len in
     record {
       rising = subst IsRising (sym left) (rising_take bounds (length bounds - 1) (omega arith) kept.rising);
-      kept = λ b below has. subst (λ l. HasBound l b) (sym left) (bound_take bounds c.args.bound last.0 last.1 b below (kept.kept b below has));
+      kept = λ b below has. subst (λ l. HasBound l b) (sym left) (bound_take bounds c.args.bound last.1 b below (kept.kept b below has));
       len = omega (arith, fewer, len);
       capacity = c.pop.ensures.capacity ∙ kept.capacity;
     }

@@ -1,9 +1,9 @@
 use Rattle.std.proofs.Common.{◌≡◌, ℕ, ◌-◌, ◌<◌, ◌≤◌, ◌⊎◌, ⊎_elim, List, Some, slice_get, length, ap, sym, subst, ◌∙◌, arith}
+use Rattle.std.proofs.lemmas.Option.{slice_get_within}
 use Rattle.cdb_base.specs.declared.event.Event.{Event}
 use Rattle.cdb_causal.specs.Tables.{bound_of}
 use Rattle.cdb_causal.specs.Alone.{AreAlone}
 use Rattle.cdb_causal.specs.Bounds.{AreWithin}
-use Rattle.cdb_base.specs.declared.event.Event.TheVariants.{Step}
 use Rattle.cdb_causal.specs.FromZero.{without, IsStanding}
 use Rattle.cdb_causal.specs.Listed.{AreListed}
 use Rattle.cdb_causal.specs.Named.{AreRanged, HaveNameCells}
@@ -34,15 +34,18 @@ marks_stay old new gone event removed i less =
 pub invariant_of-self : goal.invariant_of-self
 invariant_of-self c =
     let old : Marked Event = c.self.inside.events in
-    let new : Marked Event = c.take_out-event.new.self in
+    let new : Marked Event = c.take_marked-mark.new.self in
     let items : List Event = old.items in
     let gone : ℕ = c.args.at - 1 in
-    let removed = c.take_out-event.ensures.taken_out in
+    let removed = c.take_marked-mark.ensures.taken_out in
+    let m : ℕ = c.take_marked-mark.result.0 in
+    let is_mark = c.take_marked-mark.ensures.mark in
+    let rise = c.take_marked-mark.ensures.rising in
     let left = removed.items ∙ remove-without items gone in
-    let event = c.take_out-event.result in
+    let event = c.take_marked-mark.result.1 in
     let forgotten = c.forget_own.ensures in
     let unnamed = c.forget_name.ensures in
-    let leaves = leaves_then c.self.inside.bounds c.forget_own.new.self c.forget.new.self c.last_of_its_process-last.result event forgotten c.forget.ensures.leaves in
+    let leaves = leaves_then c.self.inside.bounds c.forget_own.new.self c.forget.new.self m event forgotten c.forget.ensures.leaves in
     let stay : (i : ℕ) → i < length (without items gone) → mark new i ≡ mark old (position_before gone i) = λ i less. marks_stay old new gone event removed i (subst (λ l. i < length l) (sym left) less) in
     let fall : (i : ℕ) → i < length (without items gone) → mark new i ≤ mark old (position_before gone i) = λ i less. (let same = stay i less in omega (arith, same)) in
     record {
@@ -59,23 +62,18 @@ invariant_of-self c =
       name_cells = subst HaveNameCells (sym left) (name_cells_without items gone c.self.invariant.name_cells);
       listed =
           subst (AreListed c.forget_access.new.self.lists.items (mark new)) (sym left)
-          (listed_without old (mark new) gone c.self.inside.accesses.lists.items c.forget_access.new.self.lists.items c.self.invariant.listed c.forget_access.ensures.rising c.forget_access.ensures.kept stay);
+          (listed_without old (mark new) gone m c.self.inside.accesses.lists.items c.forget_access.new.self.lists.items rise (slice_get_within items gone event removed.stood) is_mark c.self.invariant.listed c.forget_access.ensures.rising c.forget_access.ensures.kept stay);
       own =
           subst (AreOwn c.forget_name.new.self (mark new)) (sym left)
           (own_named c.forget.new.self c.forget_name.new.self (mark new) items c.self.invariant.standing c.self.invariant.ranged gone event removed.stood unnamed
           (own_same c.forget_own.new.self c.forget.new.self (mark new) (without items gone) c.forget.ensures.own c.forget.ensures.leaves.before
-          (own_without c.self.inside.bounds c.forget_own.new.self (mark old) (mark new) items gone event c.last_of_its_process-last.result c.self.invariant.standing c.self.invariant.own removed.stood forgotten
-          (λ is p k l kind other i is_step at.
-          let stood = subst (λ e. slice_get items gone ≡ Some e) is_step removed.stood in
-          let low = c.last_of_its_process-last.ensures is i p k l kind other (subst (λ h. slice_get h gone ≡ Some (Step p k kind)) c.self.view_is stood) (subst (λ h. slice_get h i ≡ Some (Step p l other)) c.self.view_is at) in
-          omega arith)
-          fall)));
+          (own_without c.self.inside.bounds c.forget_own.new.self (mark old) (mark new) items gone m event c.self.invariant.standing c.self.invariant.own removed.stood forgotten is_mark rise fall)));
     }
 
 pub returns-clause-rest : goal.returns-clause-rest
 returns-clause-rest c =
-    c.take_out-event.ensures.taken_out.items ∙ remove-without c.self.inside.events.items (c.args.at - 1) ∙ ap (λ l. without l (c.args.at - 1)) c.self.view_is
+    c.take_marked-mark.ensures.taken_out.items ∙ remove-without c.self.inside.events.items (c.args.at - 1) ∙ ap (λ l. without l (c.args.at - 1)) c.self.view_is
     ∙ sym (without_is c.args.self.now (c.args.at - 1)) ∙ ap (without_from_one c.args.self.now) (next_is c.args.at c.requires.from_one)
 
 pub returns-clause-event : goal.returns-clause-event
-returns-clause-event c = nth_before c.args.self.now c.args.at c.take_out-event.result c.requires.from_one (subst (λ l. slice_get l (c.args.at - 1) ≡ Some c.take_out-event.result) c.self.view_is c.take_out-event.ensures.taken_out.stood)
+returns-clause-event c = nth_before c.args.self.now c.args.at c.take_marked-mark.result.1 c.requires.from_one (subst (λ l. slice_get l (c.args.at - 1) ≡ Some c.take_marked-mark.result.1) c.self.view_is c.take_marked-mark.ensures.taken_out.stood)
