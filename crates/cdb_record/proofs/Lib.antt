@@ -1,2 +1,4 @@
 pub mod Free
+pub mod Pieces
 pub mod Seams
+pub mod Stacks
