@@ -2,3 +2,4 @@ pub mod Free
 pub mod Pieces
 pub mod Seams
 pub mod Stacks
+pub mod Lefts

@@ -7,3 +7,4 @@ pub mod Taken
 pub mod Search
 pub mod Stacks
 pub mod Pieces
+pub mod Kept

@@ -1,6 +1,7 @@
 //! Records of standing events, which restore the state before them.
 #![tactic(auto)]
 
+mod kept;
 mod left;
 mod recorded;
 mod records;

@@ -18,9 +18,9 @@ ghost use Rattle.cdb_record.specs.Recorded.{events_of, nothing, recorded_of};
 ghost use Rattle.cdb_record.specs.Search.{TakesFree, IsLastStepOrNone};
 ghost use Rattle.cdb_record.specs.Taken.{IsLastStepOf, TakesWhereFree};
 
+use crate::kept::Lefts;
 use crate::left::{put_on, reserve_for, take_left};
 use crate::recorded::{Left, Recorded};
-use crate::stack::Stack;
 use cdb_base::{CopyName, Event, Kind, NoMemory, Proc, StepId};
 use cdb_causal::{History, count_direct_dependents, first_dependent};
 use std::alloc::Global;
@@ -33,7 +33,7 @@ pub struct Records<B: Drop> {
     history: History,
     /// What the standing steps of each process left, the last on top: no step is taken out before a
     /// later one of its process. A process gets its stack with its first step.
-    left: Vec<Stack<Left<B>>>,
+    left: Vec<Lefts<B>>,
     alloc: Global,
 }
 
