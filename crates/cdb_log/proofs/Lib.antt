@@ -1,7 +1,6 @@
 pub mod Changing
 pub mod Counting
 pub mod Ended
-pub mod Filling
 pub mod Marking
 pub mod Offsetting
 pub mod Splitting

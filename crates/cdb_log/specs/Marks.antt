@@ -1,4 +1,4 @@
--- A list of items, each under a mark. Marks rise along the list, and an item keeps its mark until it is taken out or all get other marks.
+-- A list of items, each under a mark. Marks rise along the list, and an item keeps its mark until it is taken out.
 use Rattle.std.specs.Prelude.{◌≡◌, ℕ, suc, ◌<◌, ◌≤◌, List, [], ◌∷◌, ◌++◌, Bool, false, IsTrue, length, remove, slice_get, slice_index, Some}
 use Rattle.cdb_log.specs.declared.log.TheConstants.{PIECES}
 

@@ -1,5 +1,5 @@
 -- A list in pieces.
-use Rattle.std.specs.Prelude.{ℕ, zero, suc, ◌+◌, ◌==◌, List, [], ◌∷◌, ◌++◌, filter, length, map, not, Vec}
+use Rattle.std.specs.Prelude.{ℕ, zero, suc, ◌+◌, List, [], ◌∷◌, ◌++◌, length, map, Vec}
 
 -- the items of the pieces
 abbrev pub lists : {T Z : Type 0} → List (Vec T Z) → List (List T)
@@ -9,10 +9,6 @@ lists pieces = map (λ piece. piece.items) pieces
 abbrev pub joined : {T : Type 0} → List (List T) → List T
 joined [] = []
 joined (piece ∷ pieces) = piece ++ joined pieces
-
--- the pieces that have items
-abbrev pub filled : {T Z : Type 0} → List (Vec T Z) → List (Vec T Z)
-filled pieces = filter (λ piece. not (length piece.items == 0)) pieces
 
 -- how many items stand in the first k pieces
 abbrev pub before : {T : Type 0} → List (List T) → ℕ → ℕ

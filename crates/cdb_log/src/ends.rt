@@ -1,9 +1,7 @@
 //! Where the pieces of a list end.
 
-ghost use Rattle.std.specs.Prelude.{◌≡◌, ℕ, suc, ◌-◌, ◌<◌, ◌≤◌, ◌↔◌, IsTrue, length, slice_index};
-ghost use Rattle.cdb_log.specs.Ends.{piece_start, AreEnds, AreLastTwoEmpty, AreLoweredFrom, AreSmall, IsInPiece, IsSpot};
-ghost use Rattle.cdb_log.specs.Pieces.{before, lists};
-ghost use Rattle.cdb_log.specs.declared.log.TheConstants.{PIECES};
+ghost use Rattle.std.specs.Prelude.{◌≡◌, ℕ, ◌-◌, ◌<◌, ◌≤◌, ◌↔◌, IsTrue, length, slice_index};
+ghost use Rattle.cdb_log.specs.Ends.{piece_start, AreEnds, AreLastTwoEmpty, AreLoweredFrom, IsInPiece, IsSpot};
 
 /// How many items a piece has at most.
 pub(crate) const PIECE: usize = 128;
@@ -70,23 +68,6 @@ pub(crate) fn is_spare(ends: &[usize]) -> bool
 {
     let count = ends.len();
     count > 1 && ends[count - 1] == start_of(ends, count - 2)
-}
-
-/// Sets the ends of as many pieces as there are, of at most as many as had ends.
-pub(crate) fn set_ends<T>(ends: &mut Vec<usize>, pieces: &[Vec<T>])
-    requires many { length pieces.now ≤ length ends.old.items }
-    requires few { length pieces.now ≤ PIECES }
-    requires small { AreSmall pieces.now }
-    ensures same_length { length ends.new.items ≡ length pieces.now }
-    ensures each { (k : ℕ) → k < length pieces.now →
-        slice_index ends.new.items k ≡ before (lists pieces.now) (suc k) }
-{
-    ends.truncate(pieces.len());
-    let mut end = 0;
-    for k in 0..pieces.len() {
-        end += pieces[k].len();
-        ends[k] = end;
-    }
 }
 
 /// Lowers the ends of all pieces from piece `k` on, by one item that was taken out there.

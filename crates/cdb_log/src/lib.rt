@@ -2,13 +2,12 @@
 //! each item keeps the mark under which it was added.
 //!
 //! ```text
-//! if !log.can_grow() {
-//!     log.renumber();
+//! if log.can_grow() {
+//!     log.reserve()?;
+//!     let mark = log.push_reserved(item);
+//!     let position = log.position_above(mark);
+//!     let (mark, item) = log.take_marked(position);
 //! }
-//! log.reserve()?;
-//! let mark = log.push_reserved(item);
-//! let position = log.position_above(mark);
-//! let item = log.take_out(position);
 //! ```
 #![tactic(auto)]
 

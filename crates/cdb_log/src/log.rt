@@ -3,9 +3,8 @@
 ghost use Rattle.std.specs.Prelude.{◌≡◌, ℕ, ◌+◌, ◌<◌, ◌≤◌, ◌==◌, ◌↔◌, IsTrue, Some, length, remove, slice_get, vec_len, vec_capacity, MatchOption, OnOk, OnErr};
 ghost use Rattle.cdb_log.specs.Marks.{mark, without_items, CanGrow, HasRoom, HasNoMark, IsMarked, IsSameLog, IsPushed, IsTakenOut, MarksRise};
 ghost use Rattle.cdb_log.specs.Offsets.{AreInPieces, seen};
-ghost use Rattle.cdb_log.specs.Pieces.{filled};
 
-use crate::ends::{PIECE, is_spare, lower, set_ends, spot_of, start_of};
+use crate::ends::{PIECE, is_spare, lower, spot_of, start_of};
 use crate::offsets::{count_below, is_open, next_of, place_of};
 use cdb_base::NoMemory;
 use std::alloc::Global;
@@ -22,7 +21,7 @@ pub const ABOVE_ALL: Mark = u32::MAX;
 
 /// A list of items. To take one out moves at most the items of one piece. A contract sees the items in
 /// order, the mark of each, and how many pieces there are; positions count from 0. Marks rise along the list,
-/// and an item keeps its mark, but where all are renumbered.
+/// and an item keeps its mark.
 #[derive(Drop)]
 pub struct Log<T: Drop> {
     pieces: Vec<Vec<T>>,
@@ -43,13 +42,6 @@ impl<T: Drop> Model for Log<T> {
     ghost view = { λ log. seen log.pieces.items log.offsets.items };
 
     ghost invariant = { λ log. AreInPieces log.pieces.items log.offsets.items log.ends.items };
-}
-
-/// Drops the pieces without items.
-fn drop_empty<U: Drop>(pieces: &mut Vec<Vec<U>>)
-    ensures { pieces.new.items ≡ filled pieces.old.items }
-{
-    pieces.retain(|piece| !piece.is_empty());
 }
 
 /// Drops the last piece while it and the one before it are empty.
@@ -251,28 +243,5 @@ impl<T: Drop> Log<T> {
         lower(&mut self.ends, k);
         drop_spares(&mut self.pieces, &mut self.offsets, &mut self.ends);
         ((k * PIECE + offset as usize) as Mark, item)
-    }
-
-    /// Takes the item at a position out. The others keep their order, and their marks. It takes no memory.
-    pub fn take_out(&mut self, position: usize) -> T
-        requires { position < length self.old.items }
-        ensures taken_out { IsTakenOut self.old position result self.new }
-        ensures pieces { self.new.pieces ≤ self.old.pieces }
-    {
-        let (_mark, item) = self.take_marked(position);
-        item
-    }
-
-    /// Takes the pieces without items out, so that there are no more pieces than items. The items stay as they
-    /// stand, under other marks. It takes no memory.
-    #[cold]
-    #[inline(never)]
-    pub fn renumber(&mut self)
-        ensures items { self.new.items ≡ self.old.items }
-        ensures few { self.new.pieces ≤ length self.old.items }
-    {
-        drop_empty(&mut self.pieces);
-        drop_empty(&mut self.offsets);
-        set_ends(&mut self.ends, &self.pieces);
     }
 }

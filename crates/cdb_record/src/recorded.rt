@@ -2,16 +2,16 @@
 
 use cdb_base::{Cell, Event};
 
-/// What an event left for taking it back. `B` is what an input leaves of its machine.
+/// What a step left for taking it back. `B` is what an input leaves of its machine.
 #[derive(Drop)]
 pub struct Left<B: Drop> {
-    /// What the step consumed or overwrote in its machine; none for a crash and for the loss of a copy.
+    /// What the step consumed or overwrote in its machine; none for a crash.
     pub back: Option<B>,
     /// The cell that a write overwrote.
     pub overwritten: Option<Cell>,
 }
 
-/// A standing event with what it left.
+/// A standing event with what it left: the loss of a copy left nothing.
 #[derive(Drop)]
 pub struct Recorded<B: Drop> {
     pub event: Event,

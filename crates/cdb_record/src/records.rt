@@ -1,9 +1,10 @@
 //! The records of all standing events.
 
-ghost use Rattle.std.specs.Prelude.{◌≡◌, ◌<◌, ◌≤◌, [], ◌∷◌, ◌++◌, Some, length, IfErr, OnOk, OnErr};
-ghost use Rattle.std.specs.Fn.{FnOnceTakesAtMut};
+ghost use Rattle.std.specs.Prelude.{◌≡◌, ◌≤◌, [], ◌∷◌, ◌++◌, Ok, Some, length, IfErr, IfOk, OnOk, OnErr};
+ghost use Rattle.std.specs.Fn.{FnOnceReturnsAtMut, FnOnceTakesAtMut};
 ghost use Rattle.cdb_base.specs.Event.{event_name};
 ghost use Rattle.cdb_base.specs.Positions.{nth};
+ghost use Rattle.cdb_base.specs.declared.event.Event.TheVariants.{Step, Lost};
 ghost use Rattle.cdb_base.specs.declared.name.StepId.TheVariants as named;
 ghost use Rattle.cdb_causal.specs.Causality.{IsFree};
 ghost use Rattle.cdb_causal.specs.Changing.{HasFailed};
@@ -11,17 +12,17 @@ ghost use Rattle.cdb_causal.specs.Dependence.{depends as depends_of};
 ghost use Rattle.cdb_causal.specs.Names.{IsNamedAt, IsNewName};
 ghost use Rattle.cdb_causal.specs.Rollback.{without};
 ghost use Rattle.cdb_causal.specs.Standing.{HasNoLostCopy};
-ghost use Rattle.cdb_log.specs.Marks.{CanGrow};
 ghost use Rattle.cdb_record.specs.Adding.{IsAddedBy};
 ghost use Rattle.cdb_record.specs.Counts.{IsCountOf, IsZeroWhereFree};
-ghost use Rattle.cdb_record.specs.Recorded.{events_of, recorded_of};
+ghost use Rattle.cdb_record.specs.Recorded.{events_of, nothing, recorded_of};
 ghost use Rattle.cdb_record.specs.Search.{TakesFree, IsLastStepOrNone};
 ghost use Rattle.cdb_record.specs.Taken.{IsLastStepOf, TakesWhereFree};
 
+use crate::kept::Lefts;
+use crate::left::{put_on, reserve_for, take_left};
 use crate::recorded::{Left, Recorded};
-use cdb_base::{CopyName, Event, NoMemory, Proc, StepId};
+use cdb_base::{CopyName, Event, Kind, NoMemory, Proc, StepId};
 use cdb_causal::{History, count_direct_dependents, first_dependent};
-use cdb_log::{Log, PIECES};
 use std::alloc::Global;
 use std::marker::Model;
 
@@ -30,32 +31,23 @@ use std::marker::Model;
 #[derive(Drop)]
 pub struct Records<B: Drop> {
     history: History,
-    /// What each event left.
-    left: Log<Left<B>>,
+    /// What the standing steps of each process left, the last on top: no step is taken out before a
+    /// later one of its process. A process gets its stack with its first step.
+    left: Vec<Lefts<B>>,
+    alloc: Global,
 }
 
 impl<B: Drop> Model for Records<B> {
-    ghost use Rattle.std.specs.Prelude.{◌≡◌, List, length};
+    ghost use Rattle.std.specs.Prelude.{List, []};
     ghost use Rattle.cdb_record.specs.declared.recorded.Recorded.{Recorded};
 
     ghost Value = { List (Recorded B) };
 
-    ghost use Rattle.cdb_record.specs.Recorded.{records_of};
+    ghost use Rattle.cdb_record.specs.Stacks.{lists, recorded_after, AreAsHigh};
 
-    ghost view = { λ records. records_of records.history records.left.items };
+    ghost view = { λ records. recorded_after (lists records.left.items) [] records.history };
 
-    ghost invariant = { λ records. length records.left.items ≡ length records.history };
-}
-
-/// Sees to it that a log has marks left: where it has none, its items are renumbered. It takes no memory.
-fn let_grow<T: Drop>(log: &mut Log<T>)
-    requires { length log.old.items < PIECES }
-    ensures same { log.new.items ≡ log.old.items }
-    ensures grow { CanGrow log.new }
-{
-    if !log.can_grow() {
-        log.renumber();
-    }
+    ghost invariant = { λ records. AreAsHigh (lists records.left.items) records.history };
 }
 
 impl<B: Drop> Records<B> {
@@ -65,7 +57,8 @@ impl<B: Drop> Records<B> {
     {
         Records {
             history: History::new(alloc),
-            left: Log::new(alloc),
+            left: Vec::new(alloc),
+            alloc,
         }
     }
 
@@ -98,41 +91,73 @@ impl<B: Drop> Records<B> {
         }
     }
 
-    /// Changes a state as an event does, and adds the event at the end, with what `change` returns for
-    /// taking it back: makes room for both, then calls `change`, then adds them, which takes no memory.
-    /// No event of its name stands, and of a send no copy is lost. Where there is no room, and where `change`
-    /// fails, nothing is added.
+    /// Changes a state as the `k`-th step of process `p` does, and adds the step at the end, with what `change`
+    /// returns for taking it back: makes room for both, then calls `change`, then adds them, which takes no
+    /// memory. No event of its name stands, and of a send no copy is lost. Where there is no room, and where
+    /// `change` fails, nothing is added.
     pub fn push_with<S, F: FnOnce(&mut S) -> Result<Left<B>, NoMemory>>(
         &mut self,
-        event: Event,
+        p: Proc,
+        k: u16,
+        kind: Kind,
         state: &mut S,
         change: F,
     ) -> Result<(), NoMemory>
-        requires new_name { IsNewName (events_of self.old) (event_name event) }
-        requires not_lost { HasNoLostCopy (events_of self.old) event }
+        requires new_name { IsNewName (events_of self.old) (event_name (Step p k kind)) }
+        requires not_lost { HasNoLostCopy (events_of self.old) (Step p k kind) }
         requires callable { FnOnceTakesAtMut F.FnOnce change state.old }
         ensures ok { OnOk result
-            (IsAddedBy F.FnOnce change state.old state.new event self.old self.new) }
+            (IsAddedBy F.FnOnce change state.old state.new (Step p k kind) self.old self.new) }
         ensures failed { IfErr result (λ e. HasFailed F.FnOnce change state.old e state.new) }
         ensures err { OnErr result (self.new ≡ self.old) }
     {
-        let _few = self.history.len();
-        let_grow(&mut self.left);
-        self.left.reserve()?;
+        reserve_for(self.alloc, &mut self.left, p)?;
+        let event = Event::Step { p, k, kind };
         let left = self.history.push_with(event, state, change)?;
-        self.left.push_reserved(left);
+        put_on(&mut self.left, p, left);
         Ok(())
     }
 
-    /// Adds an event at the end, with what it left. No event of its name stands, and of a send no copy is
-    /// lost. After `NoMemory` nothing is added, and what it left is given up.
-    pub fn push(&mut self, event: Event, left: Left<B>) -> Result<(), NoMemory>
-        requires new_name { IsNewName (events_of self.old) (event_name event) }
-        requires not_lost { HasNoLostCopy (events_of self.old) event }
-        ensures ok { OnOk result (self.new ≡ self.old ++ recorded_of event left ∷ []) }
+    /// Changes a state as the loss of a copy does, and adds the loss at the end, which leaves nothing: makes room
+    /// for it, then calls `change`, then adds it, which takes no memory. No loss of that copy stands. Where
+    /// there is no room, and where `change` fails, nothing is added.
+    pub fn push_loss_with<S, F: FnOnce(&mut S) -> Result<(), NoMemory>>(
+        &mut self,
+        copy: CopyName,
+        state: &mut S,
+        change: F,
+    ) -> Result<(), NoMemory>
+        requires new_name { IsNewName (events_of self.old) (named.Lost copy) }
+        requires callable { FnOnceTakesAtMut F.FnOnce change state.old }
+        ensures changed { IfOk result
+            (λ done. FnOnceReturnsAtMut F.FnOnce change state.old (Ok done) state.new) }
+        ensures added { OnOk result (self.new ≡ self.old ++ recorded_of (Lost copy) nothing ∷ []) }
+        ensures failed { IfErr result (λ e. HasFailed F.FnOnce change state.old e state.new) }
         ensures err { OnErr result (self.new ≡ self.old) }
     {
-        self.push_with(event, &mut (), |_| Ok(left))
+        self.history.push_with(Event::Lost(copy), state, change)?;
+        Ok(())
+    }
+
+    /// Adds the `k`-th step of process `p` at the end, with what it left. No event of its name stands, and of a
+    /// send no copy is lost. After `NoMemory` nothing is added, and what it left is given up.
+    pub fn push(&mut self, p: Proc, k: u16, kind: Kind, left: Left<B>) -> Result<(), NoMemory>
+        requires new_name { IsNewName (events_of self.old) (event_name (Step p k kind)) }
+        requires not_lost { HasNoLostCopy (events_of self.old) (Step p k kind) }
+        ensures ok { OnOk result (self.new ≡ self.old ++ recorded_of (Step p k kind) left ∷ []) }
+        ensures err { OnErr result (self.new ≡ self.old) }
+    {
+        self.push_with(p, k, kind, &mut (), |_| Ok(left))
+    }
+
+    /// Adds the loss of a copy at the end, which leaves nothing. No loss of that copy stands. After `NoMemory`
+    /// nothing is added.
+    pub fn push_loss(&mut self, copy: CopyName) -> Result<(), NoMemory>
+        requires { IsNewName (events_of self.old) (named.Lost copy) }
+        ensures ok { OnOk result (self.new ≡ self.old ++ recorded_of (Lost copy) nothing ∷ []) }
+        ensures err { OnErr result (self.new ≡ self.old) }
+    {
+        self.push_loss_with(copy, &mut (), |_| Ok(()))
     }
 
     /// Takes the free event at a position out, from 1 to the number of events, with what it left. It
@@ -145,7 +170,7 @@ impl<B: Drop> Records<B> {
         ensures rest { self.new ≡ without self.old at }
     {
         let event = self.history.remove(at);
-        let Left { back, overwritten } = self.left.take_out(at - 1);
+        let Left { back, overwritten } = take_left(&mut self.left, &event);
         Recorded {
             event,
             back,

@@ -1,5 +1,5 @@
 -- What is told of an event that was planned.
-use Rattle.std.proofs.Common.{◌≡◌, Result, Ok, Err, IsOk, IfOk, OnErr, subst}
+use Rattle.std.proofs.Common.{◌≡◌, Result, IsOk, IfOk, OnErr, subst}
 use Rattle.cdb_base.specs.declared.event.Event.{Event}
 use Rattle.cdb_base.specs.declared.no_memory.NoMemory.{NoMemory}
 use Rattle.cdb_base.specs.declared.refusal.Refusal.{Refusal}

@@ -1,8 +1,8 @@
 //! What one step changes: its process, the mail and the registers.
 
-ghost use Rattle.std.specs.Prelude.{◌≡◌, ℕ, ◌<◌, ◌≤◌, false, length, None, Some, IsTrue, IsSome, IfOk, OnOk, OnErr};
+ghost use Rattle.std.specs.Prelude.{◌≡◌, ℕ, ◌<◌, ◌≤◌, Some, IsSome, IfOk, OnOk, OnErr};
 ghost use Rattle.cdb_base.specs.declared.limits.TheConstants.{MAX_STEPS};
-ghost use Rattle.cdb_message.specs.Mail.{MailState, is_sent, is_received, is_lost, add_loss};
+ghost use Rattle.cdb_message.specs.Mail.{MailState};
 ghost use Rattle.cdb_register.specs.Registers.{RegisterStates};
 ghost use Rattle.cdb_run.specs.Back.{put_back, overwritten_cell};
 ghost use Rattle.cdb_rules.specs.Taking.{mail_after, IsPostable, sight, arriving, input_of, progress_after, registers_after};
@@ -11,7 +11,7 @@ ghost use Rattle.cdb_run.specs.Plans.{local_after, payload_due, cell_due};
 ghost use Rattle.cdb_run.specs.Registers.{IsWritable};
 
 use crate::progress::{count, give_back, take_input};
-use cdb_base::{Cell, CopyName, Kind, MsgName, NoMemory, Payload, Proc};
+use cdb_base::{Cell, Kind, MsgName, NoMemory, Payload, Proc};
 use cdb_message::mail::Mail;
 use cdb_process::{Input, Process, Wish};
 use cdb_record::Left;
@@ -158,25 +158,4 @@ pub(crate) fn change<P: Process>(
     count(progress, kind);
     let overwritten = write(registers, kind, &wish);
     Ok(Left { back, overwritten })
-}
-
-/// Loses a copy, which leaves nothing for taking the loss back. A refused growth changes nothing.
-pub(crate) fn lose<B: Drop>(
-    alloc: Global,
-    mail: &mut Mail,
-    copy: &CopyName,
-) -> Result<Left<B>, NoMemory>
-    requires among { copy.now.to ≤ length mail.old.received }
-    requires sent { IsTrue (is_sent mail.old copy.now.msg) }
-    requires not_received { is_received mail.old copy.now.to copy.now.msg ≡ false }
-    requires not_lost { is_lost mail.old copy.now ≡ false }
-    ensures nothing { IfOk result (λ left. left ≡ record { back = None; overwritten = None }) }
-    ensures ok { OnOk result (mail.new ≡ add_loss mail.old copy.now) }
-    ensures err { OnErr result (mail.new ≡ mail.old) }
-{
-    mail.lose(alloc, copy.to, copy.msg)?;
-    Ok(Left {
-        back: None,
-        overwritten: None,
-    })
 }

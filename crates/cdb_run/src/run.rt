@@ -11,7 +11,6 @@ ghost use Rattle.cdb_rules.specs.Step.{is_among};
 ghost use Rattle.cdb_rules.specs.Runs.{IsNumberAmong, IsNext, IsInOrder, process_in, progress_in, alive_in, steps_in, queries_in, local_in, mail_in, registers_in, register_in, cell_in, writes_in, decisions_in, result_of_step, result_of_again, result_of_loss, with_event, with_result, IsJustTaken};
 
 use crate::among::process_among;
-use crate::change::lose;
 use crate::first::first_processes;
 use crate::plan::{plan, plan_again, plan_loss, plan_loss_again};
 use crate::progress::decided;
@@ -89,9 +88,9 @@ impl<P: Process> Run<P> {
         ensures err { OnErr result (self.new ≡ self.old) }
     {
         let _ranges = self.setup.n();
-        let event = Event::Step { p, k, kind: *kind };
+        let state = &mut self.state;
         self.records
-            .push_with(event, &mut self.state, |state| state.step(alloc, p, kind))?;
+            .push_with(p, k, *kind, state, |state| state.step(alloc, p, kind))?;
         Ok(())
     }
 
@@ -102,10 +101,9 @@ impl<P: Process> Run<P> {
         ensures err { OnErr result (self.new ≡ self.old) }
     {
         let _ranges = self.setup.n();
-        let event = Event::Lost(*copy);
         let mail = &mut self.state.mail;
         self.records
-            .push_with(event, mail, |mail| lose(alloc, mail, copy))?;
+            .push_loss_with(*copy, mail, |mail| mail.lose(alloc, copy.to, copy.msg))?;
         Ok(())
     }
 

@@ -1,8 +1,7 @@
-use Rattle.std.proofs.Common.{rules, ◌≡◌, ◌≤◌, [], ◌∷◌, ◌++◌, ⊎_elim, IsTrue, false, length, None, refl, sym, ap, ◌∙◌, subst, arith}
+use Rattle.std.proofs.Common.{rules, ◌≡◌, ◌≤◌, ⊎_elim, IsTrue, false, length, refl, sym, ap, ◌∙◌, subst, arith}
 use Rattle.cdb_base.specs.declared.event.Event.TheVariants.{Lost}
 use Rattle.cdb_message.specs.Mail.{MailState, is_sent, is_received, is_lost, add_loss}
-use Rattle.cdb_record.specs.Recorded.{events_of, recorded_of}
-use Rattle.cdb_record.specs.declared.recorded.Left.{Left}
+use Rattle.cdb_record.specs.Recorded.{events_of, nothing}
 use Rattle.cdb_record.proofs.Seams.{events_push}
 use Rattle.cdb_rules.specs.RunView.{RunView}
 use Rattle.cdb_rules.specs.Runs.{IsNext}
@@ -12,8 +11,8 @@ use Rattle.cdb_run.proofs.Held.{on_its_way, receiver_within, current_lost}
 use Rattle.cdb_run.proofs.Stepping.{current_same}
 use Rattle.cdb_run.proofs.run.Run.take_loss.Goals as goal
 
-pub push_with-requires-clause-new_name : goal.push_with-requires-clause-new_name
-push_with-requires-clause-new_name g c =
+pub push_loss_with-requires-clause-new_name : goal.push_loss_with-requires-clause-new_name
+push_loss_with-requires-clause-new_name g c =
     let process = g.P.Process in
     let event = Lost c.args.copy.now in
     let enabled = subst (λ (s : RunView). IsNext process.table s event) (sym c.self.view_is) c.requires in
@@ -24,8 +23,8 @@ push_with-requires-clause-new_name g c =
     let few = ranges.processes.1 in
     new_name (events_of c.self.inside.records) event (enabled_standing c.self.invariant event enabled (omega (arith, number, inputs, few)))
 
-pub push_with-requires-clause-callable : goal.push_with-requires-clause-callable
-push_with-requires-clause-callable g c = λ mail is a1 a2 a3 a4 a5 a6 a7 a8 a9.
+pub push_loss_with-requires-clause-callable : goal.push_loss_with-requires-clause-callable
+push_loss_with-requires-clause-callable g c = λ mail is a1 a2 a3 a4 a5 a6 a7 a8 a9 a10.
     let process = g.P.Process in
     let copy = c.args.copy.now in
     let enabled = subst (λ (s : RunView). IsNext process.table s (Lost copy)) (sym c.self.view_is) c.requires in
@@ -35,9 +34,9 @@ push_with-requires-clause-callable g c = λ mail is a1 a2 a3 a4 a5 a6 a7 a8 a9.
 
 pub invariant_of-self : goal.invariant_of-self
 invariant_of-self g c =
-    let ensures = c.in_err-push_with.ensures in
+    let ensures = c.in_err-push_loss_with.ensures in
     let old = c.self.inside.state in
-    let mail : MailState = c.push_with.new.state in
+    let mail : MailState = c.push_loss_with.new.state in
     let same : mail ≡ old.mail =
     ⊎_elim
     (λ same. same)
@@ -47,18 +46,16 @@ invariant_of-self g c =
     sym failed.leaves ∙ left ∙ failed.shows)
     ensures.failed in
     current_same g.P.Process.table c.self.inside.setup {old = old} c.self.invariant (record { processes = old.processes; mail = mail; registers = old.registers })
-    (record { processes = refl; mail = same; registers = refl }) c.push_with.new.self ensures.err
+    (record { processes = refl; mail = same; registers = refl }) c.push_loss_with.new.self ensures.err
 
 pub invariant_of-self-2 : goal.invariant_of-self-2
 invariant_of-self-2 g c =
     let process = g.P.Process in
     let copy = c.args.copy.now in
     let enabled = subst (λ (s : RunView). IsNext process.table s (Lost copy)) (sym c.self.view_is) c.requires in
-    let ok = c.in_ok-push_with.ensures.ok in
-    let changed = ok.1 in
+    let changed = c.in_ok-push_loss_with.ensures.changed in
     let met = changed.met in
-    let nothing : ok.0 ≡ record { back = None; overwritten = None } = search (rules, met) in
     let left : changed.left.now ≡ add_loss changed.shown.now copy = search (rules, met) in
     let lost = sym changed.leaves ∙ left ∙ ap (λ m. add_loss m copy) changed.shows in
-    let added = subst (λ (l : Left _). c.push_with.new.self ≡ c.self.inside.records ++ recorded_of (Lost copy) l ∷ []) nothing ok.2 in
-    current_lost c.self.invariant copy enabled lost (ap events_of added ∙ events_push c.self.inside.records (Lost copy) (record { back = None; overwritten = None })) added
+    let added = c.in_ok-push_loss_with.ensures.added in
+    current_lost c.self.invariant copy enabled lost (ap events_of added ∙ events_push c.self.inside.records (Lost copy) nothing) added
