@@ -19,6 +19,9 @@ pub(crate) fn put_reply<W: Sink>(
     ensures { Puts W.stream result out.old buffer.old out.new buffer.new
         (text_of (told reply.now)) }
 {
+    if buffer.put_short(reply) {
+        return Ok(());
+    }
     text.clear();
     push_reply(text, reply)?;
     buffer.put(out, text.as_bytes())?;
