@@ -77,6 +77,7 @@ impl From<AllocError> for OutputFault {
 /// Bytes on their way to a writer, at most a piece of them.
 #[derive(Drop)]
 pub struct Buffer {
+    /// A piece of bytes, the first of which are those that are held.
     bytes: Vec<u8>,
     count: usize,
 }
@@ -133,9 +134,11 @@ impl Buffer {
         count
     }
 
-    /// Holds the text of a reply too, if it is short and there is room for any short text. Else nothing is changed.
+    /// Holds the text of a reply too, which is written where it is held, if it is a short one and there is room for any
+    /// such. Else nothing is changed.
     pub(crate) fn put_short(&mut self, reply: &Reply) -> bool
-        ensures { MatchBool result (self.new ≡ self.old ++ text_of (told reply.now)) (self.new ≡ self.old) }
+        ensures { MatchBool result
+            (self.new ≡ self.old ++ text_of (told reply.now)) (self.new ≡ self.old) }
     {
         if PIECE - self.count < MOST_BYTES {
             return false;

@@ -9,7 +9,8 @@ use crate::sink::Sink;
 use cdb_control::Reply;
 use cdb_text::push_reply;
 
-/// Puts the text of a reply. It is made in `text`, in place of what stood there, so that all replies use one memory.
+/// Puts the text of a reply. A short one is written in the buffer; any other is made in `text`, in place of what stood
+/// there, so that all replies use one memory.
 pub(crate) fn put_reply<W: Sink>(
     reply: &Reply,
     text: &mut String,
