@@ -1,10 +1,14 @@
 //! A buffer between what is put and a writer.
 
-ghost use Rattle.std.specs.Prelude.{◌≡◌, ◌↔◌, ℕ, ◌+◌, ◌<◌, ◌≤◌, List, [], ◌++◌, take, length, vec_capacity, IsTrue, IfOk, OnOk, OnErr};
+ghost use Rattle.std.specs.Prelude.{◌≡◌, ◌↔◌, ℕ, ◌+◌, ◌<◌, ◌≤◌, List, [], ◌++◌, take, length, IsTrue, MatchBool, IfOk, OnOk, OnErr};
+ghost use Rattle.cdb_control.specs.ToldReply.{told, as_reply};
+ghost use Rattle.cdb_text.specs.Texts.{text_of};
 
 use crate::fault::PlayFault;
 use crate::sink::{Failed, Sink, write_all};
 use cdb_base::NoMemory;
+use cdb_control::EventReply;
+use cdb_text::{MOST_BYTES, write_event_reply};
 use std::alloc::{AllocError, Global};
 use std::error::Error;
 use std::fmt;
@@ -73,19 +77,21 @@ impl From<AllocError> for OutputFault {
 /// Bytes on their way to a writer, at most a piece of them.
 #[derive(Drop)]
 pub struct Buffer {
-    held: Vec<u8>,
+    /// A piece of bytes, the first of which are those that are held.
+    bytes: Vec<u8>,
+    count: usize,
 }
 
 impl Model for Buffer {
-    ghost use Rattle.std.specs.Prelude.{ℕ, ◌≤◌, List, length, vec_capacity};
+    ghost use Rattle.std.specs.Prelude.{◌≡◌, ℕ, ◌≤◌, List, length, take};
     ghost use Rattle.cdb_play.specs.Buffers.{piece};
 
     ghost Value = { List ℕ };
 
-    ghost view = { λ buffer. buffer.held.items };
+    ghost view = { λ buffer. take buffer.count buffer.bytes.items };
 
-    ghost invariant = { λ buffer. (length buffer.held.items ≤ piece)
-        × (piece ≤ vec_capacity buffer.held) };
+    ghost invariant = { λ buffer. (length buffer.bytes.items ≡ piece)
+        × (buffer.count ≤ piece) };
 }
 
 impl Buffer {
@@ -96,15 +102,15 @@ impl Buffer {
     pub fn new(alloc: Global) -> Result<Self, AllocError>
         ensures { IfOk result (λ buffer. buffer ≡ []) }
     {
-        let held = Vec::with_capacity(alloc, PIECE)?;
-        Ok(Buffer { held })
+        let bytes = vec![in alloc; 0; PIECE]?;
+        Ok(Buffer { bytes, count: 0 })
     }
 
     fn is_full(&self) -> bool
         ensures full { IsTrue result ↔ (length self.now ≡ piece) }
         ensures within { length self.now ≤ piece }
     {
-        self.held.len() == PIECE
+        self.count == PIECE
     }
 
     /// Holds the bytes too.
@@ -112,10 +118,9 @@ impl Buffer {
         requires { length self.old + length bytes.now ≤ piece }
         ensures { self.new ≡ self.old ++ bytes.now }
     {
-        match self.held.extend_from_slice(bytes) {
-            Ok(()) => (),
-            Err(_) => unreachable!(),
-        }
+        let end = self.count + bytes.len();
+        self.bytes.as_mut_slice()[self.count..end].copy_from_slice(bytes);
+        self.count = end;
     }
 
     /// Holds a beginning of the bytes too, as many as there is room for, and returns how many.
@@ -124,9 +129,27 @@ impl Buffer {
         ensures held { self.new ≡ self.old ++ take result bytes.now }
         ensures some { length self.old < piece → 0 < length bytes.now → 0 < result }
     {
-        let count = bytes.len().min(PIECE - self.held.len());
+        let count = bytes.len().min(PIECE - self.count);
         self.hold(&bytes[..count]);
         count
+    }
+
+    /// Holds the text of the reply to a command of one event too, which is written where it is held, unless the command was
+    /// refused or there may be no room. Else nothing is changed.
+    pub(crate) fn put_short(&mut self, reply: &EventReply) -> bool
+        ensures { MatchBool result
+            (self.new ≡ self.old ++ text_of (told (as_reply reply.now))) (self.new ≡ self.old) }
+    {
+        if PIECE - self.count < MOST_BYTES {
+            return false;
+        }
+        match write_event_reply(self.bytes.as_mut_slice(), self.count, reply) {
+            Some(end) => {
+                self.count = end;
+                true
+            }
+            None => false,
+        }
     }
 
     /// Writes what is held, and holds nothing then.
@@ -134,8 +157,8 @@ impl Buffer {
         ensures written { Writes W.stream result out.old out.new self.old }
         ensures emptied { OnOk result (self.new ≡ []) }
     {
-        write_all(out, self.held.as_slice())?;
-        self.held.clear();
+        write_all(out, &self.bytes.as_slice()[..self.count])?;
+        self.count = 0;
         Ok(())
     }
 
@@ -175,7 +198,7 @@ impl Buffer {
         ensures err { OnErr result
             (Fails W.stream out.old out.new (self.old ++ bytes.now)) }
     {
-        if bytes.len() <= PIECE - self.held.len() {
+        if bytes.len() <= PIECE - self.count {
             self.hold(bytes);
             return Ok(());
         }

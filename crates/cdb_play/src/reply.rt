@@ -25,7 +25,8 @@ pub(crate) fn put_reply<W: Sink>(
     Ok(())
 }
 
-/// Puts the text of the reply to a command of one event, as `put_reply` does.
+/// Puts the text of the reply to a command of one event. Mostly it is written in the buffer itself; else it is made in
+/// `text`, as that of any reply.
 pub(crate) fn put_event_reply<W: Sink>(
     reply: &EventReply,
     text: &mut String,
@@ -35,6 +36,9 @@ pub(crate) fn put_event_reply<W: Sink>(
     ensures { Puts W.stream result out.old buffer.old out.new buffer.new
         (text_of (told (as_reply reply.now))) }
 {
+    if buffer.put_short(reply) {
+        return Ok(());
+    }
     text.clear();
     push_event_reply(text, reply)?;
     buffer.put(out, text.as_bytes())?;

@@ -12,3 +12,4 @@ pub mod States
 pub mod Table
 pub mod Unique
 pub mod Whole
+pub mod Written

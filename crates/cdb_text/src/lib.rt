@@ -19,6 +19,6 @@ mod words;
 pub use fault::LineFault;
 pub use line::parse_line;
 pub use text::{
-    push_causes, push_command, push_decides, push_event, push_event_reply, push_number,
-    push_payload, push_reply, push_value, reply_text,
+    MOST_BYTES, push_causes, push_command, push_decides, push_event, push_event_reply, push_number,
+    push_payload, push_reply, push_value, reply_text, write_event_reply,
 };

@@ -14,17 +14,18 @@ mod name;
 mod number;
 mod refusal;
 mod report;
+mod short;
 
 use cdb_base::{Event, NoMemory, StepId, Val};
 use cdb_control::{EventReply, Reply};
 pub use command::push_command;
 pub use event::push_event;
-use event::push_event_line;
 use name::push_name;
 pub use number::push_number;
 use refusal::push_refusal;
 pub use report::{push_causes, push_payload, push_value};
 use report::{push_decisions, push_history, push_mail, push_process, push_registers};
+pub use short::{MOST_BYTES, write_event_reply};
 use std::alloc::{AllocError, Global};
 
 /// As many bytes as all replies but reports have, so that their texts need one allocation.
@@ -83,9 +84,9 @@ fn push_counted(text: &mut String, words: &str, number: u32) -> Result<(), Alloc
     text.push('\n')
 }
 
-/// The text of the reply to any command of one event.
-#[inline(never)]
-fn push_any_event_reply(text: &mut String, reply: &EventReply) -> Result<(), AllocError>
+/// Adds the text of the reply to a command of one event at the end of a text: its line, which ends with byte 10. Only
+/// out of memory is an error.
+pub fn push_event_reply(text: &mut String, reply: &EventReply) -> Result<(), AllocError>
     ensures { Pushes result text.old text.new (text_of (told (as_reply reply.now))) }
 {
     match reply {
@@ -112,22 +113,6 @@ fn push_any_event_reply(text: &mut String, reply: &EventReply) -> Result<(), All
             push_refusal(text, refusal)?;
             text.push('\n')
         }
-    }
-}
-
-/// Adds the text of the reply to a command of one event at the end of a text: its line, which ends with byte 10. Only
-/// out of memory is an error.
-pub fn push_event_reply(text: &mut String, reply: &EventReply) -> Result<(), AllocError>
-    ensures { Pushes result text.old text.new (text_of (told (as_reply reply.now))) }
-{
-    // Most replies are of this kind.
-    match reply {
-        EventReply::Stepped {
-            event,
-            decides: None,
-            paused: None,
-        } => push_event_line(text, event),
-        _ => push_any_event_reply(text, reply),
     }
 }
 
