@@ -1,4 +1,4 @@
-use Rattle.std.proofs.Common.{◌+◌, ◌<◌, length, subst, ap, ◌∙◌, arith}
+use Rattle.std.proofs.Common.{◌<◌, length, subst, ap, ◌∙◌, arith}
 use Rattle.cdb_causal.specs.Listed.{list_at, IsRising, HasBound}
 use Rattle.cdb_causal.proofs.Listing.{list_is, each_set}
 use Rattle.cdb_causal.proofs.accesses.Accesses.forget_access.Goals as goal

@@ -1,4 +1,4 @@
-use Rattle.std.proofs.Common.{◌≡◌, ℕ, ◌-◌, ◌≤◌, length, take}
+use Rattle.std.proofs.Common.{◌≡◌, ◌-◌, ◌≤◌, length, take}
 use Rattle.cdb_causal.specs.Flagged.{AreFlagged}
 use Rattle.cdb_causal.proofs.caught.Caught.flag_all.Given as goal
 

@@ -1,9 +1,9 @@
-use Rattle.std.proofs.Common.{◌≡◌, ℕ, ◌+◌, ◌*◌, ◌/◌, ◌%◌, ◌<◌, ◌≤◌, ◌∙◌, ap, sym, subst, refl, suc, length, slice_get, slice_index, Some, arith}
+use Rattle.std.proofs.Common.{◌≡◌, ℕ, ◌+◌, ◌*◌, ◌/◌, ◌%◌, ◌<◌, ◌≤◌, ◌∙◌, ap, sym, subst, refl, length, slice_index, arith}
 use Rattle.std.proofs.lemmas.Option.{slice_get_read}
 use Rattle.cdb_log.specs.Ends.{piece_start}
 use Rattle.cdb_log.specs.Marks.{mark, HasNoMark, IsMarked}
 use Rattle.cdb_log.specs.Offsets.{AreOffsets, HasNoOffset, seen}
-use Rattle.cdb_log.specs.Pieces.{joined, lists}
+use Rattle.cdb_log.specs.Pieces.{lists}
 use Rattle.cdb_log.specs.declared.ends.TheConstants.{PIECE}
 use Rattle.cdb_log.proofs.Ended.{start_is, bounded, lists_at, small_piece}
 use Rattle.cdb_log.proofs.Marking.{items_of, all_marked, mark_is, no_mark, same_piece}
