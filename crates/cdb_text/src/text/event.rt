@@ -11,6 +11,7 @@ use super::number::push_process_number;
 use cdb_base::{Event, Kind, MsgName, Proc, Reg};
 use std::alloc::AllocError;
 
+#[inline(always)]
 fn push_read(text: &mut String, register: Reg) -> Result<(), AllocError>
     ensures { Pushes result text.old text.new (codes " read " ++ register_text register) }
 {
@@ -23,6 +24,7 @@ fn push_read(text: &mut String, register: Reg) -> Result<(), AllocError>
     }
 }
 
+#[inline(always)]
 fn push_write(text: &mut String, register: Reg) -> Result<(), AllocError>
     ensures { Pushes result text.old text.new (codes " write " ++ register_text register) }
 {
@@ -36,6 +38,7 @@ fn push_write(text: &mut String, register: Reg) -> Result<(), AllocError>
 }
 
 /// What a step does, after a space.
+#[inline(always)]
 fn push_kind(text: &mut String, p: Proc, kind: Kind) -> Result<(), AllocError>
     ensures { Pushes result text.old text.new (codes " " ++ kind_text p kind) }
 {
@@ -60,6 +63,15 @@ fn push_kind(text: &mut String, p: Proc, kind: Kind) -> Result<(), AllocError>
     }
 }
 
+/// What a step does, after a space, to the end of a line.
+#[inline(never)]
+fn push_kind_line(text: &mut String, p: Proc, kind: Kind) -> Result<(), AllocError>
+    ensures { Pushes result text.old text.new (codes " " ++ kind_text p kind ++ codes "\n") }
+{
+    push_kind(text, p, kind)?;
+    text.push('\n')
+}
+
 /// Adds the text of an event at the end of a text, as `show history` prints it. Only out of memory is an error.
 pub fn push_event(text: &mut String, event: &Event) -> Result<(), AllocError>
     ensures { Pushes result text.old text.new (event_text event.now) }
@@ -75,9 +87,19 @@ pub fn push_event(text: &mut String, event: &Event) -> Result<(), AllocError>
 }
 
 /// An event in a line.
+#[inline(never)]
 pub(super) fn push_event_line(text: &mut String, event: &Event) -> Result<(), AllocError>
     ensures { Pushes result text.old text.new (event_line event.now) }
 {
-    push_event(text, event)?;
-    text.push('\n')
+    match *event {
+        Event::Step { p, k, kind } => {
+            let doer = p;
+            push_step(text, p, k)?;
+            push_kind_line(text, doer, kind)
+        }
+        Event::Lost(copy) => {
+            push_loss(text, copy)?;
+            text.push('\n')
+        }
+    }
 }

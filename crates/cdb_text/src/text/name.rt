@@ -8,6 +8,7 @@ use super::number::{push_number, push_process_number};
 use cdb_base::{CopyName, MsgName, Proc, Reg, StepId, StepName};
 use std::alloc::AllocError;
 
+#[inline(never)]
 pub(super) fn push_step(text: &mut String, p: Proc, k: u16) -> Result<(), AllocError>
     ensures { Pushes result text.old text.new (step_text p k) }
 {
