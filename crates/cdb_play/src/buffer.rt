@@ -134,8 +134,8 @@ impl Buffer {
         count
     }
 
-    /// Holds the text of the reply to a command of one event too, which is written where it is held, unless the command was
-    /// refused or there may be no room. Else nothing is changed.
+    /// Holds the text of the reply to a command of one event too, which is written where it is held, unless there may be no
+    /// room: then nothing is changed.
     pub(crate) fn put_short(&mut self, reply: &EventReply) -> bool
         ensures { MatchBool result
             (self.new ≡ self.old ++ text_of (told (as_reply reply.now))) (self.new ≡ self.old) }
@@ -143,13 +143,8 @@ impl Buffer {
         if PIECE - self.count < MOST_BYTES {
             return false;
         }
-        match write_event_reply(self.bytes.as_mut_slice(), self.count, reply) {
-            Some(end) => {
-                self.count = end;
-                true
-            }
-            None => false,
-        }
+        self.count = write_event_reply(self.bytes.as_mut_slice(), self.count, reply);
+        true
     }
 
     /// Writes what is held, and holds nothing then.

@@ -13,3 +13,4 @@ pub mod Table
 pub mod Unique
 pub mod Whole
 pub mod Written
+pub mod RefusalNames

@@ -1,16 +1,16 @@
-//! Short texts: of numbers, names and events, and of the replies that are one short line. Each is written in bytes that
+//! Short texts: of numbers, names and events, and of the replies to commands of one event. Each is written in bytes that
 //! are there, from some byte on, and takes no memory. So the most replies of a run are written where they are held.
 
 ghost use Rattle.std.specs.Prelude.{◌≡◌, ◌+◌, ◌/◌, ◌%◌, ◌<◌, ◌≤◌, ◌∷◌, [], ◌++◌, codes, decimal, length};
-ghost use Rattle.std.specs.Prelude.{IfSome, IfNone};
-ghost use Rattle.cdb_base.specs.NameTexts.{step_text, message_text, loss_text, register_text};
+ghost use Rattle.cdb_base.specs.NameTexts.{name_text, step_text, message_text, loss_text, register_text};
+ghost use Rattle.cdb_base.specs.Refusal.{refusal_name, refusal_detail, refusal_text};
 ghost use Rattle.cdb_control.specs.ToldReply.{told, as_reply};
 ghost use Rattle.cdb_text.specs.Events.{event_text, kind_text};
 ghost use Rattle.cdb_text.specs.Pushes.{Writes};
 ghost use Rattle.cdb_text.specs.Texts.{break_text, decides_text, text_of};
 ghost use Rattle.cdb_text.specs.declared.text.short.TheConstants.{MOST_BYTES};
 
-use cdb_base::{CopyName, Event, Kind, MsgName, Proc, Reg, Val};
+use cdb_base::{CopyName, Event, Kind, MsgName, Proc, Refusal, Reg, StepId, StepName, Val};
 use cdb_control::EventReply;
 use itoa::Buffer;
 
@@ -294,22 +294,71 @@ fn write_redone(bytes: &mut [u8], from: usize, event: &Event, decides: Option<Va
     write_byte(bytes, next, b'\n')
 }
 
+fn write_name(bytes: &mut [u8], from: usize, name: StepId) -> usize
+    requires { from + 22 ≤ length bytes.old }
+    ensures written { Writes from result bytes.old bytes.new (name_text name) }
+    ensures end { result ≤ from + 22 }
+{
+    match name {
+        StepId::Step(StepName { p, k }) => write_step(bytes, from, p, k),
+        StepId::Lost(copy) => write_loss(bytes, from, copy),
+    }
+}
+
+fn write_detail(bytes: &mut [u8], from: usize, refusal: &Refusal) -> usize
+    requires { from + 23 ≤ length bytes.old }
+    ensures written { Writes from result bytes.old bytes.new (refusal_detail refusal.now) }
+    ensures end { result ≤ from + 23 }
+{
+    match refusal {
+        Refusal::NeededBy(name) => {
+            let next = write_byte(bytes, from, b' ');
+            write_name(bytes, next, *name)
+        }
+        Refusal::Paused(number) => {
+            let next = write_byte(bytes, from, b' ');
+            write_number(bytes, next, *number)
+        }
+        _ => from,
+    }
+}
+
+/// The word of a refusal, which is short.
+#[tactic(auto, using(crate::proofs::RefusalNames::name_is_short))]
+fn write_refusal_name(bytes: &mut [u8], from: usize, refusal: &Refusal) -> usize
+    requires { from + 13 ≤ length bytes.old }
+    ensures written { Writes from result bytes.old bytes.new (refusal_name refusal.now) }
+    ensures end { result ≤ from + 13 }
+{
+    write_word(bytes, from, refusal.name())
+}
+
+fn write_refused(bytes: &mut [u8], from: usize, refusal: &Refusal) -> usize
+    requires { from + 56 ≤ length bytes.old }
+    ensures { Writes from result bytes.old bytes.new (refusal_text refusal.now ++ codes "\n") }
+{
+    let next = write_word(bytes, from, "refused ");
+    let next = write_number(bytes, next, u32::from(refusal.number()));
+    let next = write_byte(bytes, next, b' ');
+    let next = write_refusal_name(bytes, next, refusal);
+    let next = write_detail(bytes, next, refusal);
+    write_byte(bytes, next, b'\n')
+}
+
 /// Writes the text of the reply to a command of one event from this byte on, where there must be room for `MOST_BYTES`,
-/// and returns where the text ends. `None` where the command was refused: then nothing is written.
-pub fn write_event_reply(bytes: &mut [u8], from: usize, reply: &EventReply) -> Option<usize>
+/// and returns where the text ends.
+pub fn write_event_reply(bytes: &mut [u8], from: usize, reply: &EventReply) -> usize
     requires { from + MOST_BYTES ≤ length bytes.old }
-    ensures written { IfSome result (λ end.
-        Writes from end bytes.old bytes.new (text_of (told (as_reply reply.now)))) }
-    ensures unwritten { IfNone result (bytes.new ≡ bytes.old) }
+    ensures { Writes from result bytes.old bytes.new (text_of (told (as_reply reply.now))) }
 {
     match reply {
         EventReply::Stepped {
             event,
             decides,
             paused,
-        } => Some(write_stepped(bytes, from, event, *decides, *paused)),
-        EventReply::Undone(event) => Some(write_undone(bytes, from, event)),
-        EventReply::Redone { event, decides } => Some(write_redone(bytes, from, event, *decides)),
-        EventReply::Refused(_) => None,
+        } => write_stepped(bytes, from, event, *decides, *paused),
+        EventReply::Undone(event) => write_undone(bytes, from, event),
+        EventReply::Redone { event, decides } => write_redone(bytes, from, event, *decides),
+        EventReply::Refused(refusal) => write_refused(bytes, from, refusal),
     }
 }

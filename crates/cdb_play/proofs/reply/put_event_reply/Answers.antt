@@ -18,6 +18,6 @@ returns-in_err-put g c =
     let text = text_of (told (as_reply c.args.reply.now)) in
     let same : c.put_short.new.self ≡ c.args.buffer.now = search rules in
     let bytes : c.as_bytes.result.now ≡ text =
-      c.as_bytes.ensures.value ∙ c.in_ok-push_event_reply.ensures ∙ ap (λ (l : List ℕ). l ++ text) c.clear.ensures.bytes in
+    c.as_bytes.ensures.value ∙ c.in_ok-push_event_reply.ensures ∙ ap (λ (l : List ℕ). l ++ text) c.clear.ensures.bytes in
     rw (p.1, p.2) (subst (λ (held : List ℕ). Fails g.W.Sink.stream c.args.out.now c.put.new.out (held ++ text)) same
     (subst (λ (put : List ℕ). Fails g.W.Sink.stream c.args.out.now c.put.new.out (c.put_short.new.self ++ put)) bytes c.in_err-put.ensures.err))
