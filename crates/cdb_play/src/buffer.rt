@@ -1,14 +1,14 @@
 //! A buffer between what is put and a writer.
 
 ghost use Rattle.std.specs.Prelude.{◌≡◌, ◌↔◌, ℕ, ◌+◌, ◌<◌, ◌≤◌, List, [], ◌++◌, take, length, IsTrue, MatchBool, IfOk, OnOk, OnErr};
-ghost use Rattle.cdb_control.specs.ToldReply.{told, as_reply};
+ghost use Rattle.cdb_control.specs.ToldReply.{Because, told, as_reply};
 ghost use Rattle.cdb_text.specs.Texts.{text_of};
 
 use crate::fault::PlayFault;
 use crate::sink::{Failed, Sink, write_all};
-use cdb_base::NoMemory;
-use cdb_control::EventReply;
-use cdb_text::{MOST_BYTES, write_event_reply};
+use cdb_base::{NoMemory, StepId};
+use cdb_control::{EventReply, Reply};
+use cdb_text::{MOST_BECAUSE, MOST_BYTES, MOST_CAUSES, write_because, write_event_reply};
 use std::alloc::{AllocError, Global};
 use std::error::Error;
 use std::fmt;
@@ -145,6 +145,30 @@ impl Buffer {
         }
         self.count = write_event_reply(self.bytes.as_mut_slice(), self.count, reply);
         true
+    }
+
+    /// Holds the text of an event and its direct causes too, which is written where it is held, unless there may be no
+    /// room: then nothing is changed.
+    fn put_because(&mut self, name: StepId, causes: &[StepId]) -> bool
+        ensures { MatchBool result
+            (self.new ≡ self.old ++ text_of (Because name causes.now)) (self.new ≡ self.old) }
+    {
+        if causes.len() > MOST_CAUSES || PIECE - self.count < MOST_BECAUSE {
+            return false;
+        }
+        self.count = write_because(self.bytes.as_mut_slice(), self.count, name, causes);
+        true
+    }
+
+    /// The same of a reply, if it has the causes of an event.
+    pub(crate) fn put_causes(&mut self, reply: &Reply) -> bool
+        ensures { MatchBool result
+            (self.new ≡ self.old ++ text_of (told reply.now)) (self.new ≡ self.old) }
+    {
+        match reply {
+            Reply::Because(name, causes) => self.put_because(*name, causes.as_slice()),
+            _ => false,
+        }
     }
 
     /// Writes what is held, and holds nothing then.

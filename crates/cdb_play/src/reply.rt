@@ -9,7 +9,8 @@ use crate::sink::Sink;
 use cdb_control::{EventReply, Reply};
 use cdb_text::{push_event_reply, push_reply};
 
-/// Puts the text of a reply. It is made in `text`, in place of what stood there, so that all replies use one memory.
+/// Puts the text of a reply. It is made in `text`, in place of what stood there, so that all replies use one memory; but
+/// the causes of an event are written in the buffer itself.
 pub(crate) fn put_reply<W: Sink>(
     reply: &Reply,
     text: &mut String,
@@ -19,6 +20,9 @@ pub(crate) fn put_reply<W: Sink>(
     ensures { Puts W.stream result out.old buffer.old out.new buffer.new
         (text_of (told reply.now)) }
 {
+    if buffer.put_causes(reply) {
+        return Ok(());
+    }
     text.clear();
     push_reply(text, reply)?;
     buffer.put(out, text.as_bytes())?;

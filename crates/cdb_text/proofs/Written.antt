@@ -1,5 +1,5 @@
 -- Texts that are written one behind the other.
-use Rattle.std.proofs.Common.{◌≡◌, ℕ, List, ◌++◌, take, ap, ◌∙◌, append_assoc}
+use Rattle.std.proofs.Common.{ℕ, List, ◌++◌, take, ap, ◌∙◌, append_assoc}
 use Rattle.cdb_text.specs.Pushes.{Writes}
 
 pub both : (from next end : ℕ) (old middle new first second : List ℕ) → Writes from next old middle first → Writes next end middle new second → Writes from end old new (first ++ second)

@@ -25,7 +25,7 @@ pub use number::push_number;
 use refusal::push_refusal;
 pub use report::{push_causes, push_payload, push_value};
 use report::{push_decisions, push_history, push_mail, push_process, push_registers};
-pub use short::{MOST_BYTES, write_event_reply};
+pub use short::{MOST_BECAUSE, MOST_BYTES, MOST_CAUSES, write_because, write_event_reply};
 use std::alloc::{AllocError, Global};
 
 /// As many bytes as all replies but reports have, so that their texts need one allocation.

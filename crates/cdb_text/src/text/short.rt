@@ -8,7 +8,10 @@ ghost use Rattle.cdb_control.specs.ToldReply.{told, as_reply};
 ghost use Rattle.cdb_text.specs.Events.{event_text, kind_text};
 ghost use Rattle.cdb_text.specs.Pushes.{Writes};
 ghost use Rattle.cdb_text.specs.Texts.{break_text, decides_text, text_of};
-ghost use Rattle.cdb_text.specs.declared.text.short.TheConstants.{MOST_BYTES};
+ghost use Rattle.cdb_text.specs.declared.text.short.TheConstants.{MOST_BECAUSE, MOST_BYTES, MOST_CAUSES, MOST_OF_A_CAUSE};
+ghost use Rattle.cdb_text.specs.Reports.{cause_text, causes_text};
+ghost use Rattle.std.specs.List.{flat_map};
+ghost use Rattle.std.specs.Prelude.{◌*◌};
 
 use cdb_base::{CopyName, Event, Kind, MsgName, Proc, Refusal, Reg, StepId, StepName, Val};
 use cdb_control::EventReply;
@@ -361,4 +364,62 @@ pub fn write_event_reply(bytes: &mut [u8], from: usize, reply: &EventReply) -> u
         EventReply::Redone { event, decides } => write_redone(bytes, from, event, *decides),
         EventReply::Refused(refusal) => write_refused(bytes, from, refusal),
     }
+}
+
+/// As many bytes as the text of a cause has at most.
+const MOST_OF_A_CAUSE: usize = 23;
+
+fn write_cause(bytes: &mut [u8], from: usize, name: StepId) -> usize
+    requires { from + MOST_OF_A_CAUSE ≤ length bytes.old }
+    ensures written { Writes from result bytes.old bytes.new (cause_text name) }
+    ensures end { result ≤ from + MOST_OF_A_CAUSE }
+{
+    let next = write_byte(bytes, from, b' ');
+    write_name(bytes, next, name)
+}
+
+fn write_each_cause(bytes: &mut [u8], from: usize, causes: &[StepId]) -> usize
+    requires { from + MOST_OF_A_CAUSE * length causes.now ≤ length bytes.old }
+    ensures written { Writes from result bytes.old bytes.new (flat_map cause_text causes.now) }
+    ensures end { result ≤ from + MOST_OF_A_CAUSE * length causes.now }
+{
+    match causes {
+        [name, others @ ..] => {
+            let next = write_cause(bytes, from, *name);
+            write_each_cause(bytes, next, others)
+        }
+        [] => from,
+    }
+}
+
+/// The names of causes, or ` none`.
+fn write_causes(bytes: &mut [u8], from: usize, causes: &[StepId]) -> usize
+    requires { from + 5 + MOST_OF_A_CAUSE * length causes.now ≤ length bytes.old }
+    ensures written { Writes from result bytes.old bytes.new (causes_text causes.now) }
+    ensures end { result ≤ from + 5 + MOST_OF_A_CAUSE * length causes.now }
+{
+    if causes.is_empty() {
+        return write_word(bytes, from, " none");
+    }
+    write_each_cause(bytes, from, causes)
+}
+
+/// How many causes an event has at most whose text is short.
+pub const MOST_CAUSES: usize = 9;
+
+/// As many bytes as the text of an event has at most with so many causes.
+pub const MOST_BECAUSE: usize = 256;
+
+/// Writes the text of an event and its direct causes, at most `MOST_CAUSES`, from this byte on, where there must be room
+/// for `MOST_BECAUSE`, and returns where the text ends.
+pub fn write_because(bytes: &mut [u8], from: usize, name: StepId, causes: &[StepId]) -> usize
+    requires few { length causes.now ≤ MOST_CAUSES }
+    requires room { from + MOST_BECAUSE ≤ length bytes.old }
+    ensures { Writes from result bytes.old bytes.new
+        (name_text name ++ codes " because" ++ causes_text causes.now ++ codes "\n") }
+{
+    let next = write_name(bytes, from, name);
+    let next = write_word(bytes, next, " because");
+    let next = write_causes(bytes, next, causes);
+    write_byte(bytes, next, b'\n')
 }
