@@ -1,6 +1,6 @@
 -- The positions of the last causes, and what is above all of them.
-use Rattle.std.proofs.Common.{◌≡◌, ℕ, zero, suc, ◌<◌, List, Option, None, Some, get_or, replicate, refl, arith}
-use Rattle.std.proofs.lemmas.Option.{none-some, same_Some}
+use Rattle.std.proofs.Common.{◌≡◌, ◌≢◌, ℕ, zero, suc, ◌+◌, ◌<◌, ◌⊎◌, ⊎_elim, List, Option, None, Some, length, get_or, set, replicate, refl, sym, ap, ◌∙◌, arith}
+use Rattle.std.proofs.lemmas.List.{get_or-set_same, get_or-set_other}
 use Rattle.cdb_base.specs.declared.event.Event.{Event}
 use Rattle.cdb_causal.specs.Dependence.{depends}
 use Rattle.cdb_causal.specs.FromZero.{IsLink, IsStanding}
@@ -12,9 +12,20 @@ none_at_first zero k = refl
 none_at_first (suc n) zero = refl
 none_at_first (suc n) (suc k) = none_at_first n k
 
-pub last_below : (history : List Event) (j slot : ℕ) (position : Option ℕ) → IsLastOrNone history j slot position → (i : ℕ) → position ≡ Some i → i < j
-last_below history j slot None last i is = absurd (none-some i is)
-last_below history j slot (Some k) last i is = let later = last.link.later in let same = same_Some k i is in omega arith
+pub this_or_below : (k n : ℕ) → k < n + 1 → (k ≡ n) ⊎ (k < n)
+this_or_below k n h = grind arith
+
+pub this_or_other : (k n : ℕ) → (k ≡ n) ⊎ (k ≢ n)
+this_or_other k n = grind arith
+
+-- what holds of each position that was in the cells, and of the one that is written, holds of each that is in the cells then
+pub each_in_cells : (P : ℕ → Type 0) (cells : List (Option ℕ)) (n : ℕ) (found : Option ℕ) → n < length cells → ((k i : ℕ) → get_or cells k None ≡ Some i → P i) → ((i : ℕ) → found ≡ Some i → P i)
+    → (k i : ℕ) → get_or (set cells n found) k None ≡ Some i → P i
+each_in_cells P cells n found within before now k i is =
+    ⊎_elim
+    (λ same. now i (sym (get_or-set_same cells n found None within) ∙ ap (λ m. get_or (set cells n found) m None) (sym same) ∙ is))
+    (λ other. before k i (sym (get_or-set_other cells n k found None other) ∙ is))
+    (this_or_other k n)
 
 module _ (history : List Event) (standing : IsStanding history) (j end : ℕ) (positions : List (Option ℕ)) (last : AreLastCauses history j 10 positions) (above : (slot i : ℕ) → get_or positions slot None ≡ Some i → i < end) where
   pub above_causes : (k : ℕ) → IsLink depends history k j → k < end

@@ -19,6 +19,7 @@ pub mod Counting
 pub mod Dependents
 pub mod DirectByList
 pub mod SlotsOfCauses
+pub mod KindsOfCauses
 pub mod DirectCausesBelow
 -- positions from 1, where these count from 0
 pub mod FromOne

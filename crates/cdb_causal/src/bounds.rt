@@ -432,6 +432,7 @@ impl Bounds {
     }
 
     /// A mark above all events in a slot on which the event under mark `j` depends.
+    #[inline(always)]
     pub fn end(&self, event: &Event, j: Mark, slot: usize) -> Mark
         requires { slot < 10 }
         ensures { IsAboveCauses self.now event.now j slot result }

@@ -15,7 +15,9 @@ fn is_direct_cause(history: &History, i: usize, j: usize) -> bool
     requires within { j < length history.now }
     ensures { IsTrue result ↔ IsDirectCause depends_of history.now i j }
 {
-    depends(history.event(i), history.event(j)) && is_direct(history, i, j, j)
+    let cause = history.event(i);
+    let effect = history.event(j);
+    depends(cause, effect) && is_direct(history, cause, effect, i, j, j)
 }
 
 /// How many later events the event at a position, from 1 to the number of events, is a direct cause of.

@@ -1,7 +1,7 @@
 //! The direct causes of an event of a history.
 
-ghost use Rattle.std.specs.Prelude.{◌≡◌, ℕ, ◌<◌, ◌≤◌, ◌↔◌, None, Some, length, slice_get, get_or, MatchOption, IsTrue, true};
-ghost use Rattle.cdb_causal.specs.Dependence.{depends as depends_of};
+ghost use Rattle.std.specs.Prelude.{◌≡◌, ℕ, ◌<◌, ◌≤◌, ◌↔◌, None, Some, length, slice_get, get_or, MatchOption, IsTrue, true, false, replicate};
+ghost use Rattle.cdb_causal.specs.Dependence.{same_process, depends as depends_of};
 ghost use Rattle.cdb_causal.specs.DirectCauses.{AreDirectCauses};
 ghost use Rattle.cdb_causal.specs.FromZero.{IsLink, HasNothingBetween};
 ghost use Rattle.cdb_causal.specs.LastCauses.{IsSlot, IsNoCause, IsLastCause};
@@ -9,7 +9,7 @@ ghost use Rattle.cdb_causal.specs.LastCauses.{IsLastOrNone, AreLastCauses, IsDir
 
 use crate::dependence::depends;
 use crate::history::History;
-use cdb_base::{Event, StepId};
+use cdb_base::{Event, Kind, StepId};
 use smallvec::SmallVec;
 use std::alloc::Global;
 
@@ -73,17 +73,23 @@ fn leads_on(first: &Event, event: &Event, last: &Event) -> bool
     depends(first, event) && depends(event, last)
 }
 
-/// Whether no event between the two depends on the first and has the second depend on it.
-/// All such events are below the end.
-pub(crate) fn is_direct(history: &History, i: usize, j: usize, end: usize) -> bool
+/// Whether no event between the two at positions `i` and `j` depends on the first and has the second depend
+/// on it. All such events are below the end.
+pub(crate) fn is_direct(
+    history: &History,
+    cause: &Event,
+    effect: &Event,
+    i: usize,
+    j: usize,
+    end: usize,
+) -> bool
     requires order { i < j }
-    requires within { j < length history.now }
+    requires cause { slice_get history.now i ≡ Some cause.now }
+    requires effect { slice_get history.now j ≡ Some effect.now }
     requires end { (k : ℕ) → IsLink depends_of history.now i k →
         IsLink depends_of history.now k j → k < end }
     ensures { IsTrue result ↔ HasNothingBetween depends_of history.now i j }
 {
-    let cause = history.event(i);
-    let effect = history.event(j);
     for k in (i + 1..end.min(j)).rev() {
         let between = history.event(k);
         if leads_on(cause, between, effect) {
@@ -93,52 +99,109 @@ pub(crate) fn is_direct(history: &History, i: usize, j: usize, end: usize) -> bo
     true
 }
 
-/// The position of the last event in each slot on which the one at position `j` depends.
-fn last_causes(history: &History, j: usize) -> [Option<usize>; SLOTS]
-    requires { j < length history.now }
-    ensures last { AreLastCauses history.now j 10 result }
-    ensures below { (slot i : ℕ) → get_or result slot None ≡ Some i → i < j }
-{
-    let effect = history.event(j);
-    let mut causes = [None; SLOTS];
-    for slot in 0..SLOTS {
-        causes[slot] = last_in_slot(history, effect, j, slot);
-    }
-    causes
-}
-
-/// A position above all of these, which are below position `j`.
-fn end_of(positions: &[Option<usize>], j: usize) -> usize
-    requires { (slot i : ℕ) → get_or positions.now slot None ≡ Some i → i < j }
-    ensures { (slot i : ℕ) → get_or positions.now slot None ≡ Some i → i < result }
+/// Writes the position of the last event in each slot on which the one at position `j` depends into the slot's
+/// cell, and returns a position above all these. It depends on none but in the slots that are given.
+fn find_last_in(
+    history: &History,
+    effect: &Event,
+    j: usize,
+    slots: &[usize],
+    causes: &mut [Option<usize>],
+) -> usize
+    requires at { slice_get history.now j ≡ Some effect.now }
+    requires slots { (n slot : ℕ) → slice_get slots.now n ≡ Some slot → slot < 10 }
+    requires others { (slot : ℕ) → ((n : ℕ) → slice_get slots.now n ≡ Some slot → ⊥) →
+        slot < 10 → IsNoCause history.now j slot }
+    requires none { causes.old ≡ replicate 10 None }
+    ensures last { AreLastCauses history.now j 10 causes.new }
+    ensures end { (slot i : ℕ) → get_or causes.new slot None ≡ Some i → i < result }
 {
     let mut end = 0;
-    for position in positions {
-        if let Some(position) = *position {
-            end = end.max(position + 1);
+    for slot in slots {
+        let last = last_in_slot(history, effect, j, *slot);
+        causes[*slot] = last;
+        if let Some(i) = last {
+            end = end.max(i + 1);
         }
     }
     end
+}
+
+/// The same, in the slots in which an event of its kind has causes: for a receive those of its process, of the
+/// sender and of losses; for a query, a local step, a step that learns and a crash its process's alone.
+fn find_last_causes(
+    history: &History,
+    effect: &Event,
+    j: usize,
+    causes: &mut [Option<usize>],
+) -> usize
+    requires at { slice_get history.now j ≡ Some effect.now }
+    requires none { causes.old ≡ replicate 10 None }
+    ensures last { AreLastCauses history.now j 10 causes.new }
+    ensures end { (slot i : ℕ) → get_or causes.new slot None ≡ Some i → i < result }
+{
+    match effect {
+        Event::Step { p, kind, .. } => match kind {
+            Kind::Recv(s, _) => {
+                find_last_in(
+                    history,
+                    effect,
+                    j,
+                    &[p.index(), s.index(), SLOTS - 1],
+                    causes,
+                )
+            }
+            Kind::Send(_) | Kind::Read(_) | Kind::Write(_) => {
+                find_last_in(history, effect, j, &[0, 1, 2, 3, 4, 5, 6, 7, 8, 9], causes)
+            }
+            _ => find_last_in(history, effect, j, &[p.index()], causes),
+        },
+        Event::Lost(_) => find_last_in(history, effect, j, &[0, 1, 2, 3, 4, 5, 6, 7, 8, 9], causes),
+    }
+}
+
+/// A position above all events below the end that depend on the cause, but for steps of its process, and on
+/// which the effect depends.
+fn end_of_between(
+    history: &History,
+    cause: &Event,
+    effect: &Event,
+    i: usize,
+    j: usize,
+    end: usize,
+) -> usize
+    requires order { i < j }
+    requires cause { slice_get history.now i ≡ Some cause.now }
+    requires effect { slice_get history.now j ≡ Some effect.now }
+    ensures { (k : ℕ) (l : IsLink depends_of history.now i k) → IsLink depends_of history.now k j →
+        same_process l.cause l.effect ≡ false → k < end → k < result }
+{
+    if end <= i + 1 {
+        return end;
+    }
+    end.min(history.end_between(cause, effect, i, j))
 }
 
 /// The name of the direct cause in a slot, if there is one. The position of the last cause there is
 /// given, and an end above all causes.
 fn direct_cause(
     history: &History,
+    effect: &Event,
     j: usize,
     slot: usize,
     last: Option<usize>,
     end: usize,
 ) -> Option<StepId>
-    requires within { j < length history.now }
+    requires effect { slice_get history.now j ≡ Some effect.now }
     requires last { IsLastOrNone history.now j slot last }
     requires end { (k : ℕ) → IsLink depends_of history.now k j → k < end }
     ensures { IsDirectCauseOrNone history.now j slot result }
 {
     let _standing = history.len();
     if let Some(i) = last {
-        if is_direct(history, i, j, end.min(history.end_between(i, j))) {
-            let cause = history.event(i);
+        let cause = history.event(i);
+        let end = end_of_between(history, cause, effect, i, j, end);
+        if is_direct(history, cause, effect, i, j, end) {
             return Some(cause.name());
         }
     }
@@ -155,11 +218,12 @@ pub fn direct_causes(alloc: Global, history: &History, at: usize) -> SmallVec<St
     ensures { AreDirectCauses history.now at result.items }
 {
     let _standing = history.len();
-    let lasts = last_causes(history, at - 1);
-    let end = end_of(&lasts, at - 1);
+    let effect = history.event(at - 1);
+    let mut lasts = [None; SLOTS];
+    let end = find_last_causes(history, effect, at - 1, &mut lasts);
     let mut causes = SmallVec::new(alloc);
     for slot in 0..SLOTS {
-        if let Some(name) = direct_cause(history, at - 1, slot, lasts[slot], end) {
+        if let Some(name) = direct_cause(history, effect, at - 1, slot, lasts[slot], end) {
             causes.push_reserved(name);
         }
     }

@@ -296,15 +296,13 @@ impl History {
         self.events.position_above(bound)
     }
 
-    /// A position, from 0, above all events that depend on the event at position `i`, but for steps of its
-    /// process, and on which the one at position `j` depends.
-    pub(crate) fn end_between(&self, i: usize, j: usize) -> usize
-        requires order { i < j }
-        requires within { j < length self.now }
+    /// A position, from 0, above all events that depend on the cause, at position `i`, but for steps of its
+    /// process, and on which the effect, at position `j`, depends.
+    pub(crate) fn end_between(&self, cause: &Event, effect: &Event, i: usize, j: usize) -> usize
+        requires cause { slice_get self.now i ≡ Some cause.now }
+        requires effect { slice_get self.now j ≡ Some effect.now }
         ensures { IsEndBetween self.now i j result }
     {
-        let cause = self.events.get(i);
-        let effect = self.events.get(j);
         let bound = self.bounds.end_between(cause, effect, ABOVE_ALL);
         self.events.position_above(bound)
     }

@@ -1,4 +1,4 @@
-use Rattle.std.proofs.Common.{List, sym, ◌∙◌, subst, true≢false, arith}
+use Rattle.std.proofs.Common.{List, sym, ◌∙◌, subst, true≢false}
 use Rattle.cdb_base.specs.declared.event.Event.{Event}
 use Rattle.cdb_causal.specs.LastCauses.{IsLastCause, IsLastOrNone}
 use Rattle.cdb_causal.proofs.FromOne.{standing_down}
@@ -9,12 +9,10 @@ use Rattle.cdb_causal.proofs.direct.direct_cause.Goals.{in-Some+else-is_direct, 
 pub is_direct-requires-clause-end : goal.is_direct-requires-clause-end
 is_direct-requires-clause-end c =
     let history : List Event = c.args.history.now in
-    let least = c.min.ensures in
     let last : IsLastCause history c.args.j c.args.slot c.in-Some.i = subst (λ p. IsLastOrNone history c.args.j c.args.slot p) c.in-Some.is c.requires.last in
     λ k one two.
     let within = c.requires.end k two in
-    let below = c.end_between.ensures k one two (last_alone history c.args.j c.args.slot c.in-Some.i last k one two) in
-    omega arith
+    c.end_of_between-end.ensures k one two (last_alone history c.args.j c.args.slot c.in-Some.i last k one two) within
 
 pub returns-then-is_direct : goal.returns-then-is_direct
 returns-then-is_direct c =

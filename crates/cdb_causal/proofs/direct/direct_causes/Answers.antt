@@ -10,10 +10,10 @@ use Rattle.cdb_causal.proofs.direct.direct_causes.Goals.{in-Some, in_default}
 
 pub direct_cause-requires-clause-end : goal.direct_cause-requires-clause-end
 direct_cause-requires-clause-end c =
-    above_causes c.args.history.now (standing_down c.args.history.now c.len-standing.ensures.standing) (c.args.at - 1) c.end_of-end.result c.last_causes-lasts.result c.last_causes-lasts.ensures.last c.end_of-end.ensures
+    above_causes c.args.history.now (standing_down c.args.history.now c.len-standing.ensures.standing) (c.args.at - 1) c.find_last_causes-end.result c.find_last_causes-end.new.causes c.find_last_causes-end.ensures.last c.find_last_causes-end.ensures.end
 
 pub direct_cause-requires-clause-last : goal.direct_cause-requires-clause-last
-direct_cause-requires-clause-last c = c.last_causes-lasts.ensures.last c.loop-slot.slot c.loop-slot-test.true
+direct_cause-requires-clause-last c = c.find_last_causes-end.ensures.last c.loop-slot.slot c.loop-slot-test.true
 
 pub push_reserved-requires : goal.push_reserved-requires
 push_reserved-requires c =
