@@ -91,9 +91,9 @@ fn compare_effects(rt: &impl Abort, alloc: Global, history: &History) {
 }
 
 /// Whether the event is a step of the process, or where none is given the loss of a copy.
-fn is_of(event: &Event, p: Option<Proc>) -> bool {
+fn is_of(event: &Event, p: &Option<Proc>) -> bool {
     match event {
-        Event::Step { p: q, .. } => p == Some(*q),
+        Event::Step { p: q, .. } => *p == Some(*q),
         Event::Lost(_) => p.is_none(),
     }
 }
@@ -102,12 +102,13 @@ fn is_of(event: &Event, p: Option<Proc>) -> bool {
 fn add_direct_names(
     history: &History,
     j: usize,
-    p: Option<Proc>,
+    p: &Option<Proc>,
     names: &mut Vec<StepId>,
 ) -> Result<(), NoMemory> {
     for i in 0..history.len() {
         let event = history.event(i);
-        if is_of(event, p) && is_direct(history, i, j) {
+        let asked = is_of(event, p);
+        if asked && is_direct(history, i, j) {
             names.push(event.name())?;
         }
     }
@@ -118,9 +119,9 @@ fn add_direct_names(
 fn direct_names(alloc: Global, history: &History, j: usize) -> Result<Vec<StepId>, NoMemory> {
     let mut names = Vec::new(alloc);
     for p in Proc::all() {
-        add_direct_names(history, j, Some(p), &mut names)?;
+        add_direct_names(history, j, &Some(p), &mut names)?;
     }
-    add_direct_names(history, j, None, &mut names)?;
+    add_direct_names(history, j, &None, &mut names)?;
     Ok(names)
 }
 
