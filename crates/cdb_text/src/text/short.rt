@@ -407,7 +407,7 @@ fn write_causes(bytes: &mut [u8], from: usize, causes: &[StepId]) -> usize
 /// How many causes an event has at most whose text is short.
 pub const MOST_CAUSES: usize = 9;
 
-/// As many bytes as the text of an event has at most with so many causes.
+/// As many bytes as the text of an event and of so few causes has at most.
 pub const MOST_BECAUSE: usize = 256;
 
 /// Writes the text of an event and its direct causes, at most `MOST_CAUSES`, from this byte on, where there must be room
