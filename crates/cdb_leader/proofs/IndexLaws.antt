@@ -12,7 +12,8 @@ use Rattle.cdb_leader.specs.declared.firsts.Firsts.{Firsts}
 use Rattle.cdb_leader.specs.declared.row.Row.{Row}
 use Rattle.cdb_leader.specs.declared.index.Index.{Index}
 use Rattle.cdb_leader.specs.Inbox.{first_given, first_phase, second_phase, as_decision}
-use Rattle.cdb_leader.specs.Index.{message_round, first_position, noted, forgotten, position_from, ChangesFrom, reads_from, AreFirsts, vote_in, are_different, IsRowOf, IsEmptyRow, IsRoundOf, IsIndexOf}
+use Rattle.cdb_leader.specs.Spot.{noted, forgotten}
+use Rattle.cdb_leader.specs.Index.{message_round, first_position, position_from, ChangesFrom, reads_from, AreFirsts, vote_in, are_different, IsRowOf, IsEmptyRow, IsRoundOf, IsIndexOf}
 
 -- ---- the first that passes
 

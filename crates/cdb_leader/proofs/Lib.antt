@@ -5,5 +5,6 @@ pub mod Readings
 pub mod TableSteps
 pub mod IndexLaws
 pub mod LookUps
+pub mod Known
 pub mod Trace
 pub mod Promised

@@ -56,6 +56,21 @@ module _ {A : Type 0} (reading : Payload → Option A) (kept : Firsts) (inbox : 
         same ss (n + cond (is_some (position_from s kept)) 1 0)
         ∙ ap (λ b. fold (λ a t. a + cond (is_some (first_from t reading inbox)) 1 0) (n + cond b 1 0) ss) (is_kept s)
 
+-- the same, as a look-up finds a message or none
+module _ {A : Type 0} (reading : Payload → Option A) (kept : Firsts) (inbox : List Received) (s : ℕ) (h : AreFirsts reading kept inbox)
+    (spot : Option ℕ) (spot_is : spot ≡ position_from s kept) (messages : List Received) (messages_are : messages ≡ inbox)
+    (o : Option Received) (at : o ≡ option_and_then (slice_get messages) spot) where
+  look_up : option_and_then (if_from s reading) o ≡ first_from s reading inbox
+  look_up =
+      ap (option_and_then (if_from s reading)) (at ∙ ap (option_and_then (slice_get messages)) spot_is ∙ ap (λ m. option_and_then (slice_get m) (position_from s kept)) messages_are)
+      ∙ read_at reading kept inbox h s
+
+  pub read_none : o ≡ None → None ≡ first_from s reading inbox
+  read_none none = ap (option_and_then (if_from s reading)) (sym none) ∙ look_up
+
+  pub read_some : (e : Received) → o ≡ Some e → if_from s reading e ≡ first_from s reading inbox
+  read_some e some = ap (option_and_then (if_from s reading)) (sym some) ∙ look_up
+
 -- what is read at the position of the first vote
 pub vote_at : (r : ℕ) (row : Row) (inbox : List Received) → IsRowOf r row inbox
     → option_and_then (λ e. second_phase r e.payload) (option_and_then (slice_get inbox) row.vote) ≡ vote_in r inbox

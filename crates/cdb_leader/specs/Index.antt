@@ -1,6 +1,6 @@
 -- Where in an inbox the first messages of each kind stand.
-use Rattle.std.specs.Prelude.{◌≡◌, ℕ, zero, suc, ◌==◌, Bool, true, false, not, List, [], ◌∷◌, Option, Some, None, is_some, nat_eq, nat_le, count_by, if◌then◌else◌}
-use Rattle.std.specs.Option.{option_or, option_map, option_flatten}
+use Rattle.std.specs.Prelude.{◌≡◌, ℕ, zero, suc, ◌==◌, Bool, true, false, not, List, [], ◌∷◌, Option, Some, None, is_some, take, drop, nat_eq, nat_le, count_by, if◌then◌else◌}
+use Rattle.std.specs.Option.{option_map, option_flatten}
 use Rattle.std.specs.HashMap.{get}
 use Rattle.cdb_base.specs.declared.payload.Payload.{Payload}
 use Rattle.cdb_base.specs.declared.payload.Payload.TheVariants.{P1, P2, D}
@@ -10,6 +10,7 @@ use Rattle.cdb_leader.specs.declared.inbox.Received.{Received}
 use Rattle.cdb_leader.specs.declared.inbox.FirstPhase.{FirstPhase}
 use Rattle.cdb_leader.specs.declared.first_phases.FirstPhases.{FirstPhases}
 use Rattle.cdb_leader.specs.declared.firsts.Firsts.{Firsts}
+use Rattle.cdb_leader.specs.declared.spot.TheConstants.{KNOWN}
 use Rattle.cdb_leader.specs.declared.row.Row.{Row}
 use Rattle.cdb_leader.specs.declared.index.Index.{Index}
 use Rattle.cdb_leader.specs.Inbox.{first_given, if_from, names, first_phase, second_phase, as_decision}
@@ -27,14 +28,15 @@ abbrev pub first_position : {X : Type 0} → (X → Bool) → List X → Option 
 first_position test [] = None
 first_position test (x ∷ xs) = if test x then Some zero else option_map suc (first_position test xs)
 
--- a position is noted where there is none
-abbrev pub noted : ℕ → Option ℕ → Option ℕ
-noted i o = option_or o (Some i)
+-- ---- what the index knows
 
--- that position is forgotten
-abbrev pub forgotten : ℕ → Option ℕ → Option ℕ
-forgotten i None = None
-forgotten i (Some j) = if j == i then None else Some j
+-- the first messages of an inbox, which the index knows
+unfoldable pub known : List Received → List Received
+known inbox = take KNOWN inbox
+
+-- those after them
+unfoldable pub later : List Received → List Received
+later inbox = drop KNOWN inbox
 
 -- ---- by sender
 

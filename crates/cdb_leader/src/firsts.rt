@@ -1,32 +1,17 @@
 //! For each sender the position of its first message of a kind.
 
-ghost use Rattle.std.specs.Prelude.{◌≡◌, ℕ, ◌==◌, None, count_by, is_some, if◌then◌else◌};
+ghost use Rattle.std.specs.Prelude.{◌≡◌, ◌<◌, ◌↔◌, IsTrue, ℕ, ◌==◌, None, count_by, is_some, if◌then◌else◌};
 ghost use Rattle.cdb_base.specs.Processes.{all_processes};
-ghost use Rattle.cdb_leader.specs.Index.{position_from, noted, forgotten, ChangesFrom};
+ghost use Rattle.cdb_leader.specs.Spot.{noted, forgotten};
+ghost use Rattle.cdb_leader.specs.Index.{position_from, ChangesFrom};
 
+use crate::spot::{KNOWN, Position, Spot};
 use cdb_base::Proc;
-
-/// Where in an inbox a message stands, from 0.
-pub(crate) type Position = usize;
-
-/// The position that is kept, or that one where none is.
-pub(crate) fn noted(kept: Option<Position>, position: Position) -> Option<Position>
-    ensures { result ≡ noted position kept }
-{
-    kept.or(Some(position))
-}
-
-/// The position that is kept, unless it is that one.
-pub(crate) fn forgotten(kept: Option<Position>, position: Position) -> Option<Position>
-    ensures { result ≡ forgotten position kept }
-{
-    kept.filter(|i| *i != position)
-}
 
 /// For each sender where in an inbox its first message of one kind stands.
 #[derive(Clone, Copy)]
 pub struct Firsts {
-    positions: [Option<Position>; 9],
+    positions: [Spot; 9],
 }
 
 impl Firsts {
@@ -36,13 +21,13 @@ impl Firsts {
         ensures { (s : ℕ) → position_from s result ≡ None }
     {
         Firsts {
-            positions: [None; 9],
+            positions: [Spot::empty(); 9],
         }
     }
 
     /// The position that is kept for that sender.
     #[tactic(auto, unfolding(crate::specs::Index::position_from))]
-    pub(crate) fn get(&self, sender: Proc) -> Option<Position>
+    pub(crate) fn get(&self, sender: Proc) -> Spot
         ensures { result ≡ position_from sender self.now }
     {
         self.positions[sender.index()]
@@ -54,12 +39,12 @@ impl Firsts {
     {
         Proc::all()
             .iter()
-            .filter(|sender| self.get(**sender).is_some())
+            .filter(|sender| self.get(**sender).is_kept())
             .count()
     }
 
     #[tactic(auto, unfolding(crate::specs::Index::position_from))]
-    fn set(&mut self, sender: Proc, kept: Option<Position>)
+    fn set(&mut self, sender: Proc, kept: Spot)
         ensures { ChangesFrom sender (λ _. kept) self.old self.new }
     {
         self.positions[sender.index()] = kept;
@@ -67,10 +52,11 @@ impl Firsts {
 
     /// Keeps the position for that sender, where none is kept.
     pub(crate) fn note(&mut self, sender: Proc, position: Position)
+        requires { position < KNOWN }
         ensures { ChangesFrom sender (noted position) self.old self.new }
     {
         let kept = self.get(sender);
-        self.set(sender, noted(kept, position));
+        self.set(sender, kept.noted(position));
     }
 
     /// Keeps that position no longer for that sender.
@@ -78,6 +64,6 @@ impl Firsts {
         ensures { ChangesFrom sender (forgotten position) self.old self.new }
     {
         let kept = self.get(sender);
-        self.set(sender, forgotten(kept, position));
+        self.set(sender, kept.forgotten(position));
     }
 }

@@ -5,12 +5,14 @@ ghost use Rattle.std.specs.Option.{option_copied, option_and_then};
 ghost use Rattle.cdb_base.specs.Positions.{without_last};
 ghost use Rattle.cdb_base.specs.Processes.{all_processes};
 ghost use Rattle.cdb_leader.specs.Inbox.{first_phase, second_phase, first_phase_from, second_phase_from, decision_from, first_phase_senders, agreed_estimate, second_phase_senders, proposal, is_only_proposal, learnt};
-ghost use Rattle.cdb_leader.specs.Index.{AreFirsts, IsRowOf, said_by};
+ghost use Rattle.cdb_leader.specs.Index.{known, later, AreFirsts, IsRowOf, said_by};
 
 use crate::first_phases::FirstPhases;
-use crate::firsts::{Firsts, Position};
+use crate::firsts::Firsts;
 use crate::index::Index;
+use crate::later;
 use crate::row::Row;
+use crate::spot::{KNOWN, Spot};
 use cdb_base::{NoMemory, Payload, Proc, Val};
 use std::alloc::Global;
 use std::marker::Model;
@@ -54,7 +56,7 @@ impl Received {
     }
 
     /// The message as a first-phase message of that round from that sender.
-    fn first_phase(&self, in_round: u32, sender: Proc) -> Option<FirstPhase>
+    pub(crate) fn first_phase(&self, in_round: u32, sender: Proc) -> Option<FirstPhase>
         ensures { result ≡ if_from sender (first_phase in_round) self.now }
     {
         match self.payload {
@@ -69,7 +71,7 @@ impl Received {
     }
 
     /// The message as a second-phase message of that round from that sender.
-    fn second_phase(&self, in_round: u32, sender: Proc) -> Option<Option<Val>>
+    pub(crate) fn second_phase(&self, in_round: u32, sender: Proc) -> Option<Option<Val>>
         ensures { result ≡ if_from sender (second_phase in_round) self.now }
     {
         match self.payload {
@@ -79,7 +81,7 @@ impl Received {
     }
 
     /// The message as a decision of that sender.
-    fn decision(&self, sender: Proc) -> Option<Val>
+    pub(crate) fn decision(&self, sender: Proc) -> Option<Val>
         ensures { result ≡ if_from sender as_decision self.now }
     {
         match self.payload {
@@ -89,11 +91,11 @@ impl Received {
     }
 }
 
-/// The message at that position, if one is given.
-pub(crate) fn message_at(messages: &[Received], position: Option<Position>) -> Option<&Received>
-    ensures { option_copied result ≡ option_and_then (slice_get messages.now) position }
+/// The message at the position that is kept, if one is.
+pub(crate) fn message_at(messages: &[Received], kept: Spot) -> Option<&Received>
+    ensures { option_copied result ≡ option_and_then (slice_get messages.now) kept }
 {
-    messages.get(position?)
+    messages.get(kept.position()?)
 }
 
 /// The messages that a process has received. A contract sees the list of them, in the order of
@@ -107,17 +109,18 @@ pub struct Inbox {
 impl Model for Inbox {
     ghost use Rattle.std.specs.Prelude.{List};
     ghost use Rattle.cdb_leader.specs.declared.inbox.Received.{Received};
-    ghost use Rattle.cdb_leader.specs.Index.{IsIndexOf};
+    ghost use Rattle.cdb_leader.specs.Index.{known, IsIndexOf};
 
     ghost Value = { List Received };
 
     ghost view = { λ x. x.messages.items };
 
-    ghost invariant = { λ x. IsIndexOf x.index x.messages.items };
+    ghost invariant = { λ x. IsIndexOf x.index (known x.messages.items) };
 }
 
 impl Inbox {
     /// Nothing was received.
+    #[tactic(auto, unfolding(crate::specs::Index::known))]
     pub(crate) fn new(alloc: Global) -> Self
         ensures { result ≡ [] }
     {
@@ -147,75 +150,130 @@ impl Inbox {
         }
     }
 
+    /// The messages that the index knows.
+    fn known(&self) -> &[Received]
+        ensures { result.now ≡ known self.now }
+    {
+        &self.messages[..KNOWN.min(self.messages.len())]
+    }
+
+    /// The messages that the index does not know.
+    fn later(&self) -> &[Received]
+        ensures { result.now ≡ later self.now }
+    {
+        &self.messages[KNOWN.min(self.messages.len())..]
+    }
+
+    /// The first-phase message of the round from that sender that the index knows, by what is kept of the round.
+    fn known_first_phase(&self, kept: &Firsts, round: u32, sender: Proc) -> Option<FirstPhase>
+        ensures { AreFirsts (first_phase round) kept.now (known self.now)
+            → result ≡ first_phase_from round sender (known self.now) }
+    {
+        message_at(self.known(), kept.get(sender))?.first_phase(round, sender)
+    }
+
     /// The first-phase message of the round from that sender, by what is kept of the round.
-    #[tactic(auto, using(crate::proofs::LookUps::read_at))]
     fn first_phase_at(&self, kept: &Firsts, round: u32, sender: Proc) -> Option<FirstPhase>
-        ensures { AreFirsts (first_phase round) kept.now self.now
+        ensures { AreFirsts (first_phase round) kept.now (known self.now)
             → result ≡ first_phase_from round sender self.now }
     {
-        message_at(&self.messages, kept.get(sender))?.first_phase(round, sender)
+        self.known_first_phase(kept, round, sender)
+            .or_else(|| later::find_first_phase(self.later(), round, sender))
+    }
+
+    /// The second-phase message of the round from that sender that the index knows, by what is kept of the round.
+    fn known_second_phase(&self, kept: &Firsts, round: u32, sender: Proc) -> Option<Option<Val>>
+        ensures { AreFirsts (second_phase round) kept.now (known self.now)
+            → result ≡ second_phase_from round sender (known self.now) }
+    {
+        message_at(self.known(), kept.get(sender))?.second_phase(round, sender)
     }
 
     /// The second-phase message of the round from that sender, by what is kept of the round.
-    #[tactic(auto, using(crate::proofs::LookUps::read_at))]
     fn second_phase_at(&self, kept: &Firsts, round: u32, sender: Proc) -> Option<Option<Val>>
-        ensures { AreFirsts (second_phase round) kept.now self.now
+        ensures { AreFirsts (second_phase round) kept.now (known self.now)
             → result ≡ second_phase_from round sender self.now }
     {
-        message_at(&self.messages, kept.get(sender))?.second_phase(round, sender)
+        self.known_second_phase(kept, round, sender)
+            .or_else(|| later::find_second_phase(self.later(), round, sender))
     }
 
-    /// The decision of that sender: the first of its kind.
-    #[tactic(auto, using(crate::proofs::LookUps::read_at))]
+    /// The first decision of that sender that the index knows.
+    fn known_decision(&self, sender: Proc) -> Option<Val>
+        ensures { result ≡ decision_from sender (known self.now) }
+    {
+        message_at(self.known(), self.index.decision(sender))?.decision(sender)
+    }
+
+    /// The first decision of that sender.
     fn find_decision(&self, sender: Proc) -> Option<Val>
         ensures { result ≡ decision_from sender self.now }
     {
-        message_at(&self.messages, self.index.decision(sender))?.decision(sender)
+        self.known_decision(sender)
+            .or_else(|| later::find_decision(self.later(), sender))
     }
 
     /// Where the first-phase messages of that round stand.
     fn first_phase_positions(&self, round: u32) -> Firsts
-        ensures { AreFirsts (first_phase round) result self.now }
+        ensures { AreFirsts (first_phase round) result (known self.now) }
     {
         self.index.first_phases(round)
     }
 
     /// Where the second-phase messages of that round stand.
     fn second_phase_positions(&self, round: u32) -> Firsts
-        ensures { AreFirsts (second_phase round) result self.now }
+        ensures { AreFirsts (second_phase round) result (known self.now) }
     {
         self.index.second_phases(round)
     }
 
     /// Where the first messages of that round stand.
     fn row(&self, round: u32) -> Row
-        ensures { IsRowOf round result self.now }
+        ensures { IsRowOf round result (known self.now) }
     {
         self.index.row(round)
     }
 
     /// Whether a first-phase message of that round came from that sender.
-    #[tactic(auto, using(crate::proofs::LookUps::is_kept))]
     pub(crate) fn has_first_phase(&self, round: u32, sender: Proc) -> bool
         ensures { result ≡ is_some (first_phase_from round sender self.now) }
     {
-        self.first_phase_positions(round).get(sender).is_some()
+        self.first_phase_positions(round).get(sender).is_kept()
+            || later::find_first_phase(self.later(), round, sender).is_some()
+    }
+
+    /// Whether a second-phase message of that round came from that sender.
+    fn has_second_phase(&self, round: u32, sender: Proc) -> bool
+        ensures { result ≡ is_some (second_phase_from round sender self.now) }
+    {
+        self.second_phase_positions(round).get(sender).is_kept()
+            || later::find_second_phase(self.later(), round, sender).is_some()
     }
 
     /// From how many different senders a first-phase message of that round came.
-    #[tactic(auto, using(crate::proofs::LookUps::count_kept))]
     pub(crate) fn count_first_phase(&self, round: u32) -> usize
         ensures { result ≡ first_phase_senders round self.now }
     {
-        self.first_phase_positions(round).count()
+        if self.later().is_empty() {
+            return self.first_phase_positions(round).count();
+        }
+        Proc::all()
+            .iter()
+            .filter(|sender| self.has_first_phase(round, **sender))
+            .count()
     }
 
     /// From how many different senders a second-phase message of that round came.
-    #[tactic(auto, using(crate::proofs::LookUps::count_kept))]
     pub(crate) fn count_second_phase(&self, round: u32) -> usize
         ensures { result ≡ second_phase_senders round self.now }
     {
-        self.second_phase_positions(round).count()
+        if self.later().is_empty() {
+            return self.second_phase_positions(round).count();
+        }
+        Proc::all()
+            .iter()
+            .filter(|sender| self.has_second_phase(round, **sender))
+            .count()
     }
 
     /// The first-phase message of that round from each sender.
@@ -251,15 +309,22 @@ impl Inbox {
         None
     }
 
+    /// Whether every second-phase message of that round that the index knows carries the value.
+    fn known_propose(&self, round: u32, value: Val) -> bool
+        ensures { result ≡ is_only_proposal round value (known self.now) }
+    {
+        let row = self.row(round);
+        match row.find_vote(round, self.known()) {
+            Some(aux) => aux == Some(value) && !row.has_other_vote(),
+            None => true,
+        }
+    }
+
     /// Whether every second-phase message of that round carries the value.
     pub(crate) fn all_propose(&self, round: u32, value: Val) -> bool
         ensures { result ≡ is_only_proposal round value self.now }
     {
-        let row = self.row(round);
-        match row.find_vote(round, &self.messages) {
-            Some(aux) => aux == Some(value) && !row.has_other_vote(),
-            None => true,
-        }
+        self.known_propose(round, value) && later::all_propose(self.later(), round, value)
     }
 
     /// The first decision of the least sender that sent one.

@@ -1,13 +1,14 @@
-//! An index of an inbox: for each round and sender the first message of each phase, and for each sender its first decision.
+//! An index of the first messages of an inbox: for each round and sender the first message of each phase, and for each sender its first decision.
 
-ghost use Rattle.std.specs.Prelude.{◌≡◌, List, [], ◌∷◌, ◌++◌, OnOk, OnErr};
+ghost use Rattle.std.specs.Prelude.{◌≡◌, ◌<◌, length, List, [], ◌∷◌, ◌++◌, OnOk, OnErr};
 ghost use Rattle.cdb_leader.specs.declared.inbox.Received.{Received};
 ghost use Rattle.cdb_leader.specs.Inbox.{first_phase, second_phase, as_decision};
-ghost use Rattle.cdb_leader.specs.Index.{position_from, AreFirsts, IsRowOf, IsIndexOf};
+ghost use Rattle.cdb_leader.specs.Index.{position_from, known, AreFirsts, IsRowOf, IsIndexOf};
 
-use crate::firsts::{Firsts, Position};
+use crate::firsts::Firsts;
 use crate::inbox::Received;
 use crate::row::Row;
+use crate::spot::{KNOWN, Spot};
 use cdb_base::{NoMemory, Proc};
 use std::alloc::Global;
 use std::collections::HashMap;
@@ -64,14 +65,15 @@ impl Index {
     }
 
     /// Where the decision of that sender stands.
-    pub(crate) fn decision(&self, sender: Proc) -> Option<Position>
+    pub(crate) fn decision(&self, sender: Proc) -> Spot
         ensures { result ≡ position_from sender self.now.decisions }
     {
         self.decisions.get(sender)
     }
 
-    /// Notes the message that comes after those. Where an allocation fails, the index is as it was.
-    pub(crate) fn note(&mut self, messages: &[Received], message: &Received) -> Result<(), NoMemory>
+    /// Notes the message that comes after those, which are few enough that the index knows it.
+    fn note_known(&mut self, messages: &[Received], message: &Received) -> Result<(), NoMemory>
+        requires { length messages.now < KNOWN }
         ensures ok { IsIndexOf self.old messages.now
             → OnOk result (IsIndexOf self.new (messages.now ++ message.now ∷ [])) }
         ensures err { IsIndexOf self.old messages.now
@@ -92,8 +94,32 @@ impl Index {
         Ok(())
     }
 
+    /// Notes the message that comes after those. Where an allocation fails, the index is as it was.
+    pub(crate) fn note(&mut self, messages: &[Received], message: &Received) -> Result<(), NoMemory>
+        ensures ok { IsIndexOf self.old (known messages.now)
+            → OnOk result (IsIndexOf self.new (known (messages.now ++ message.now ∷ []))) }
+        ensures err { IsIndexOf self.old (known messages.now)
+            → OnErr result (IsIndexOf self.new (known messages.now)) }
+    {
+        if messages.len() < KNOWN {
+            self.note_known(messages, message)
+        } else {
+            Ok(())
+        }
+    }
+
     /// Forgets the message that came after those. It allocates nothing.
     pub(crate) fn forget(&mut self, messages: &[Received], message: &Received)
+        ensures { IsIndexOf self.old (known (messages.now ++ message.now ∷ []))
+            → IsIndexOf self.new (known messages.now) }
+    {
+        if messages.len() < KNOWN {
+            self.forget_known(messages, message);
+        }
+    }
+
+    /// Forgets the message that came after those, if the index knows it.
+    fn forget_known(&mut self, messages: &[Received], message: &Received)
         ensures { IsIndexOf self.old (messages.now ++ message.now ∷ [])
             → IsIndexOf self.new messages.now }
     {

@@ -1,10 +1,12 @@
 //! What an index holds of one round.
 
-ghost use Rattle.std.specs.Prelude.{◌≡◌, ◌≤◌, ℕ, Some, ◌++◌, ◌∷◌, [], length, is_some, if◌then◌else◌};
-ghost use Rattle.cdb_leader.specs.Index.{message_round, noted, forgotten, ChangesFrom, vote_in, are_different, IsRowOf, IsEmptyRow};
+ghost use Rattle.std.specs.Prelude.{◌≡◌, ◌<◌, ℕ, Some, ◌++◌, ◌∷◌, [], length, is_some, if◌then◌else◌};
+ghost use Rattle.cdb_leader.specs.Spot.{noted, forgotten};
+ghost use Rattle.cdb_leader.specs.Index.{message_round, ChangesFrom, vote_in, are_different, IsRowOf, IsEmptyRow};
 
-use crate::firsts::{Firsts, Position, forgotten, noted};
+use crate::firsts::Firsts;
 use crate::inbox::{Received, message_at};
+use crate::spot::{KNOWN, Position, Spot};
 use cdb_base::{Payload, Proc, Val};
 
 /// Where in an inbox the first messages of one round stand.
@@ -12,8 +14,8 @@ use cdb_base::{Payload, Proc, Val};
 pub struct Row {
     pub(crate) first_phases: Firsts,
     pub(crate) second_phases: Firsts,
-    vote: Option<Position>,
-    other_vote: Option<Position>,
+    vote: Spot,
+    other_vote: Spot,
 }
 
 /// Whether the vote that came first is there and carries something else.
@@ -34,8 +36,8 @@ impl Row {
         Row {
             first_phases: Firsts::new(),
             second_phases: Firsts::new(),
-            vote: None,
-            other_vote: None,
+            vote: Spot::empty(),
+            other_vote: Spot::empty(),
         }
     }
 
@@ -50,10 +52,11 @@ impl Row {
     pub(crate) fn has_other_vote(&self) -> bool
         ensures { result ≡ is_some self.now.other_vote }
     {
-        self.other_vote.is_some()
+        self.other_vote.is_kept()
     }
 
     fn note_vote(&mut self, sender: Proc, position: Position, other: bool)
+        requires { position < KNOWN }
         ensures first_phases { self.new.first_phases ≡ self.old.first_phases }
         ensures second_phases { ChangesFrom sender
             (noted position) self.old.second_phases self.new.second_phases }
@@ -62,9 +65,9 @@ impl Row {
             ≡ (if other then noted position self.old.other_vote else self.old.other_vote) }
     {
         self.second_phases.note(sender, position);
-        self.vote = noted(self.vote, position);
+        self.vote = self.vote.noted(position);
         if other {
-            self.other_vote = noted(self.other_vote, position);
+            self.other_vote = self.other_vote.noted(position);
         }
     }
 
@@ -76,12 +79,13 @@ impl Row {
         ensures other_vote { self.new.other_vote ≡ forgotten position self.old.other_vote }
     {
         self.second_phases.forget(sender, position);
-        self.vote = forgotten(self.vote, position);
-        self.other_vote = forgotten(self.other_vote, position);
+        self.vote = self.vote.forgotten(position);
+        self.other_vote = self.other_vote.forgotten(position);
     }
 
     /// Notes a message of the round, which comes after those.
     pub(crate) fn note(&mut self, round: u32, messages: &[Received], message: &Received)
+        requires { length messages.now < KNOWN }
         ensures { message_round message.now.payload ≡ Some round
             → IsRowOf round self.old messages.now
             → IsRowOf round self.new (messages.now ++ message.now ∷ []) }

@@ -1,32 +1,19 @@
-use Rattle.std.proofs.Common.{rules, ◌≡◌, Some, true, false, ap, sym, ◌∙◌}
-use Rattle.std.specs.Prelude.{◌&&◌, not, is_some}
-use Rattle.cdb_leader.specs.Inbox.{carries}
-use Rattle.cdb_leader.specs.Index.{vote_in, IsRowOf}
-use Rattle.cdb_leader.proofs.LookUps.{only_alike, only_none}
+use Rattle.std.proofs.Common.{ap, sym, ◌∙◌}
+use Rattle.std.specs.Prelude.{◌&&◌}
+use Rattle.cdb_leader.specs.Inbox.{is_only_proposal}
+use Rattle.cdb_leader.specs.Index.{later}
+use Rattle.cdb_leader.proofs.Known.{only_parts}
 use Rattle.cdb_leader.proofs.inbox.Inbox.all_propose.Goals as goal
 
-pub returns-then-eq : goal.returns-then-eq
-returns-then-eq c =
-    let row_is : IsRowOf c.args.round c.row-row.result c.deref.result.now = rw (c.deref.ensures.value, c.self.view_is) c.row-row.ensures in
-    let found : vote_in c.args.round c.deref.result.now ≡ Some c.in-Some.aux = sym (c.find_vote.ensures row_is) ∙ c.in-Some.is in
-    let carried : carries c.args.value (Some c.in-Some.aux) ≡ true = search rules in
-    rw (← c.self.view_is, ← c.deref.ensures.value)
-    (ap not c.has_other_vote.ensures
-    ∙ sym (only_alike c.args.round c.args.value c.row-row.result c.deref.result.now row_is c.in-Some.aux found
-    ∙ ap (λ b. b && not (is_some c.row-row.result.other_vote)) carried))
+pub returns-then-known_propose : goal.returns-then-known_propose
+returns-then-known_propose c =
+    c.all_propose.ensures
+    ∙ ap (is_only_proposal c.args.round c.args.value) c.later.ensures
+    ∙ ap (λ b. b && is_only_proposal c.args.round c.args.value (later c.args.self.now)) (sym c.if-known_propose.true ∙ c.known_propose.ensures)
+    ∙ only_parts c.args.round c.args.value c.args.self.now
 
-pub returns-else-eq : goal.returns-else-eq
-returns-else-eq c =
-    let row_is : IsRowOf c.args.round c.row-row.result c.deref.result.now = rw (c.deref.ensures.value, c.self.view_is) c.row-row.ensures in
-    let found : vote_in c.args.round c.deref.result.now ≡ Some c.in-Some.aux = sym (c.find_vote.ensures row_is) ∙ c.in-Some.is in
-    let carried : carries c.args.value (Some c.in-Some.aux) ≡ false = search rules in
-    rw (← c.self.view_is, ← c.deref.ensures.value)
-    (c.if-eq.false
-    ∙ sym (only_alike c.args.round c.args.value c.row-row.result c.deref.result.now row_is c.in-Some.aux found
-    ∙ ap (λ b. b && not (is_some c.row-row.result.other_vote)) carried))
-
-pub returns-in-None : goal.returns-in-None
-returns-in-None c =
-    let row_is : IsRowOf c.args.round c.row-row.result c.deref.result.now = rw (c.deref.ensures.value, c.self.view_is) c.row-row.ensures in
-    rw (← c.self.view_is, ← c.deref.ensures.value)
-    (sym (only_none c.args.round c.args.value c.row-row.result c.deref.result.now row_is (sym (c.find_vote.ensures row_is) ∙ c.in-None.is)))
+pub returns-else-known_propose : goal.returns-else-known_propose
+returns-else-known_propose c =
+    c.if-known_propose.false
+    ∙ ap (λ b. b && is_only_proposal c.args.round c.args.value (later c.args.self.now)) (sym c.if-known_propose.false ∙ c.known_propose.ensures)
+    ∙ only_parts c.args.round c.args.value c.args.self.now

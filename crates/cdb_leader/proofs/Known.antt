@@ -1,0 +1,104 @@
+-- The messages of an inbox that its index knows, and those after them.
+use Rattle.std.proofs.Common.{◌≡◌, ℕ, zero, suc, ◌<◌, ◌≤◌, List, [], ◌∷◌, ◌++◌, Option, Some, None, length, length-append, length-drop, true, false, ◌-◌, take, drop, arith, refl, ap, sym, subst, ◌∙◌}
+use Rattle.std.proofs.lemmas.List.{take-append-drop, take_all, take_min, take-append-le}
+use Rattle.std.proofs.lemmas.List.Folds.{list_all-append}
+use Rattle.std.specs.Prelude.{min, ◌&&◌, is_some, ◌||◌, count_by}
+use Rattle.std.specs.Option.{option_or}
+use Rattle.cdb_base.specs.Processes.{all_processes}
+use Rattle.cdb_base.specs.declared.payload.Payload.{Payload}
+use Rattle.cdb_leader.specs.declared.inbox.Received.{Received}
+use Rattle.cdb_leader.specs.declared.firsts.Firsts.{Firsts}
+use Rattle.cdb_leader.specs.declared.spot.TheConstants.{KNOWN}
+use Rattle.cdb_leader.specs.Inbox.{first_given, if_from, first_from, carries, second_phase, is_only_proposal}
+use Rattle.cdb_leader.specs.Index.{known, later, AreFirsts, position_from}
+use Rattle.cdb_leader.proofs.LookUps.{is_kept, count_kept}
+
+-- what is dropped, where no more is asked for than there is
+pub drop_min : {X : Type 0} (n : ℕ) (xs : List X) → drop (min n (length xs)) xs ≡ drop n xs
+drop_min zero xs = let least : min zero (length xs) ≡ zero = omega arith in rw least refl
+drop_min (suc n) [] = let least : min (suc n) zero ≡ zero = omega arith in rw least refl
+drop_min (suc n) (x ∷ xs) = let least : min (suc n) (length (x ∷ xs)) ≡ suc (min n (length xs)) = omega arith in rw least (drop_min n xs)
+
+-- the two parts, as slices give them
+module _ (inbox : List Received) (long at : ℕ) (is_long : long ≡ length inbox) (is_at : at ≡ min KNOWN long) where
+  pub known_is : take at inbox ≡ known inbox
+  unfolding known
+  known_is = ap (λ k. take k inbox) (is_at ∙ ap (min KNOWN) is_long) ∙ take_min KNOWN inbox
+
+  pub later_is : take (length inbox - at) (drop at inbox) ≡ later inbox
+  unfolding later
+  later_is =
+      take_all (length inbox - at) (drop at inbox) (let rest = length-drop at inbox in omega arith)
+      ∙ ap (λ k. drop k inbox) (is_at ∙ ap (min KNOWN) is_long) ∙ drop_min KNOWN inbox
+
+-- ---- one message more
+
+pub known_short : (inbox : List Received) (y : Received) → length inbox < KNOWN → known (inbox ++ y ∷ []) ≡ inbox ++ y ∷ []
+unfolding known
+known_short inbox y short = let long = length-append inbox (y ∷ []) in take_all KNOWN (inbox ++ y ∷ []) (omega arith)
+
+pub known_all : (inbox : List Received) → length inbox < KNOWN → known inbox ≡ inbox
+unfolding known
+known_all inbox short = take_all KNOWN inbox (omega arith)
+
+pub known_long : (inbox : List Received) (y : Received) → KNOWN ≤ length inbox → known (inbox ++ y ∷ []) ≡ known inbox
+unfolding known
+known_long inbox y long = take-append-le KNOWN inbox (y ∷ []) long
+
+-- ---- what is read of both parts
+
+moved : {A : Type 0} (o p q : Option A) → option_or (option_or o p) q ≡ option_or o (option_or p q)
+moved (Some v) p q = refl
+moved None p q = refl
+
+given_parts : {X A : Type 0} (f : X → Option A) (xs ys : List X) → option_or (first_given f xs) (first_given f ys) ≡ first_given f (xs ++ ys)
+given_parts f [] ys = refl
+given_parts f (x ∷ xs) ys = moved (f x) (first_given f xs) (first_given f ys) ∙ ap (option_or (f x)) (given_parts f xs ys)
+
+parts : (inbox : List Received) → known inbox ++ later inbox ≡ inbox
+unfolding known later
+parts inbox = take-append-drop KNOWN inbox
+
+pub first_from_parts : {A : Type 0} (reading : Payload → Option A) (inbox : List Received) (s : ℕ)
+    → option_or (first_from s reading (known inbox)) (first_from s reading (later inbox)) ≡ first_from s reading inbox
+first_from_parts reading inbox s = given_parts (if_from s reading) (known inbox) (later inbox) ∙ ap (first_from s reading) (parts inbox)
+
+either : {A : Type 0} (o p : Option A) → (is_some o || is_some p) ≡ is_some (option_or o p)
+either (Some v) p = refl
+either None p = refl
+
+module _ {A : Type 0} (reading : Payload → Option A) (kept : Firsts) (inbox : List Received) (h : AreFirsts reading kept (known inbox)) (s : ℕ) where
+  is_read : (is_some (position_from s kept) || is_some (first_from s reading (later inbox))) ≡ is_some (first_from s reading inbox)
+  is_read =
+      ap (λ b. b || is_some (first_from s reading (later inbox))) (is_kept reading kept (known inbox) h s)
+      ∙ either (first_from s reading (known inbox)) (first_from s reading (later inbox))
+      ∙ ap is_some (first_from_parts reading inbox s)
+
+  -- a message is known, or it is one of the later
+  pub is_known : is_some (position_from s kept) ≡ true → true ≡ is_some (first_from s reading inbox)
+  is_known there = ap (λ b. b || is_some (first_from s reading (later inbox))) (sym there) ∙ is_read
+
+  pub is_later : is_some (position_from s kept) ≡ false → is_some (first_from s reading (later inbox)) ≡ is_some (first_from s reading inbox)
+  is_later nowhere = ap (λ b. b || is_some (first_from s reading (later inbox))) (sym nowhere) ∙ is_read
+
+pub only_parts : (r w : ℕ) (inbox : List Received)
+    → (is_only_proposal r w (known inbox) && is_only_proposal r w (later inbox)) ≡ is_only_proposal r w inbox
+only_parts r w inbox =
+    sym (list_all-append (λ e. carries w (second_phase r e.payload)) (known inbox) (later inbox)) ∙ ap (is_only_proposal r w) (parts inbox)
+
+-- ---- where the index knows all
+
+without_end : {X : Type 0} (xs ys : List X) → ys ≡ [] → xs ++ ys ≡ xs
+without_end [] ys none = none
+without_end (x ∷ xs) ys none = ap (λ zs. x ∷ zs) (without_end xs ys none)
+
+pub is_nil : {X : Type 0} (xs : List X) → length xs ≡ 0 → xs ≡ []
+is_nil [] none = refl
+is_nil (x ∷ xs) none = absurd (omega arith)
+
+pub knows_all : (inbox : List Received) → later inbox ≡ [] → known inbox ≡ inbox
+knows_all inbox none = sym (without_end (known inbox) (later inbox) none) ∙ parts inbox
+
+pub count_all_kept : {A : Type 0} (reading : Payload → Option A) (kept : Firsts) (inbox : List Received) → AreFirsts reading kept (known inbox) → later inbox ≡ []
+    → count_by (λ s. is_some (position_from s kept)) all_processes ≡ count_by (λ s. is_some (first_from s reading inbox)) all_processes
+count_all_kept reading kept inbox h none = count_kept reading kept inbox (subst (AreFirsts reading kept) (knows_all inbox none) h)
