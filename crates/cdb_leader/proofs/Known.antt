@@ -2,15 +2,16 @@
 use Rattle.std.proofs.Common.{◌≡◌, ℕ, zero, suc, ◌<◌, ◌≤◌, List, [], ◌∷◌, ◌++◌, Option, Some, None, length, length-append, length-drop, true, false, ◌-◌, take, drop, arith, refl, ap, sym, subst, ◌∙◌}
 use Rattle.std.proofs.lemmas.List.{take-append-drop, take_all, take_min, take-append-le}
 use Rattle.std.proofs.lemmas.List.Folds.{list_all-append}
-use Rattle.std.specs.Prelude.{min, ◌&&◌, is_some, ◌||◌, count_by}
-use Rattle.std.specs.Option.{option_or}
+use Rattle.std.specs.Prelude.{min, ◌&&◌, is_some, ◌||◌, count_by, not, slice_get}
+use Rattle.std.specs.Option.{option_or, option_flatten}
+use Rattle.std.specs.List.{list_all}
 use Rattle.cdb_base.specs.Processes.{all_processes}
 use Rattle.cdb_base.specs.declared.payload.Payload.{Payload}
 use Rattle.cdb_leader.specs.declared.inbox.Received.{Received}
 use Rattle.cdb_leader.specs.declared.firsts.Firsts.{Firsts}
 use Rattle.cdb_leader.specs.declared.spot.TheConstants.{KNOWN}
-use Rattle.cdb_leader.specs.Inbox.{first_given, if_from, first_from, carries, second_phase, is_only_proposal}
-use Rattle.cdb_leader.specs.Index.{known, later, AreFirsts, position_from}
+use Rattle.cdb_leader.specs.Inbox.{first_given, if_from, first_from, carries, second_phase, is_only_proposal, as_decision, decision_from, learnt}
+use Rattle.cdb_leader.specs.Index.{known, later, AreFirsts, position_from, keeps_none}
 use Rattle.cdb_leader.proofs.LookUps.{is_kept, count_kept}
 
 -- what is dropped, where no more is asked for than there is
@@ -102,3 +103,31 @@ knows_all inbox none = sym (without_end (known inbox) (later inbox) none) ∙ pa
 pub count_all_kept : {A : Type 0} (reading : Payload → Option A) (kept : Firsts) (inbox : List Received) → AreFirsts reading kept (known inbox) → later inbox ≡ []
     → count_by (λ s. is_some (position_from s kept)) all_processes ≡ count_by (λ s. is_some (first_from s reading inbox)) all_processes
 count_all_kept reading kept inbox h none = count_kept reading kept inbox (subst (AreFirsts reading kept) (knows_all inbox none) h)
+
+-- ---- no decision
+
+kept_nowhere : (os : List (Option ℕ)) (i : ℕ) → list_all (λ position. not (is_some position)) os ≡ true → option_flatten (slice_get os i) ≡ None
+kept_nowhere [] i h = refl
+kept_nowhere (None ∷ os) zero h = refl
+kept_nowhere (None ∷ os) (suc i) h = kept_nowhere os i h
+kept_nowhere (Some j ∷ os) i h = absurd (cc)
+
+nowhere : (kept : Firsts) → keeps_none kept ≡ true → (s : ℕ) → position_from s kept ≡ None
+unfolding position_from
+nowhere kept h zero = refl
+nowhere kept h (suc i) = kept_nowhere kept.positions i h
+
+is_none : {A : Type 0} (o : Option A) → false ≡ is_some o → o ≡ None
+is_none None h = refl
+is_none (Some v) h = absurd (cc)
+
+none_given : {X A : Type 0} (f : X → Option A) (xs : List X) → ((x : X) → f x ≡ None) → None ≡ first_given f xs
+none_given f [] h = refl
+none_given f (x ∷ xs) h = none_given f xs h ∙ ap (λ o. option_or o (first_given f xs)) (sym (h x))
+
+pub no_decision : (kept : Firsts) (inbox : List Received) → AreFirsts as_decision kept (known inbox) → keeps_none kept ≡ true → later inbox ≡ [] → None ≡ learnt inbox
+no_decision kept inbox h empty none = none_given (λ s. decision_from s inbox) all_processes by_sender where
+  by_sender : (s : ℕ) → decision_from s inbox ≡ None
+  by_sender s =
+      ap (decision_from s) (sym (knows_all inbox none))
+      ∙ is_none (decision_from s (known inbox)) (ap is_some (sym (nowhere kept empty s)) ∙ is_kept as_decision kept (known inbox) h s)

@@ -1,6 +1,7 @@
 -- Where in an inbox the first messages of each kind stand.
 use Rattle.std.specs.Prelude.{◌≡◌, ℕ, zero, suc, ◌==◌, Bool, true, false, not, List, [], ◌∷◌, Option, Some, None, is_some, take, drop, nat_eq, nat_le, count_by, if◌then◌else◌}
 use Rattle.std.specs.Option.{option_map, option_flatten}
+use Rattle.std.specs.List.{list_all}
 use Rattle.std.specs.HashMap.{get}
 use Rattle.cdb_base.specs.declared.payload.Payload.{Payload}
 use Rattle.cdb_base.specs.declared.payload.Payload.TheVariants.{P1, P2, D}
@@ -43,6 +44,10 @@ later inbox = drop KNOWN inbox
 -- the position that is kept for s
 unfoldable pub position_from : ℕ → Firsts → Option ℕ
 position_from s kept = option_flatten (nth kept.positions s)
+
+-- nothing is kept
+abbrev pub keeps_none : Firsts → Bool
+keeps_none kept = list_all (λ position. not (is_some position)) kept.positions
 
 -- only what is kept for s changes
 abbrev pub ChangesFrom : ℕ → (Option ℕ → Option ℕ) → Firsts → Firsts → Type 0

@@ -3,7 +3,7 @@
 ghost use Rattle.std.specs.Prelude.{◌≡◌, ◌<◌, ◌↔◌, IsTrue, ℕ, ◌==◌, None, count_by, is_some, if◌then◌else◌};
 ghost use Rattle.cdb_base.specs.Processes.{all_processes};
 ghost use Rattle.cdb_leader.specs.Spot.{noted, forgotten};
-ghost use Rattle.cdb_leader.specs.Index.{position_from, ChangesFrom};
+ghost use Rattle.cdb_leader.specs.Index.{position_from, keeps_none, ChangesFrom};
 
 use crate::spot::{KNOWN, Position, Spot};
 use cdb_base::Proc;
@@ -31,6 +31,13 @@ impl Firsts {
         ensures { result ≡ position_from sender self.now }
     {
         self.positions[sender.index()]
+    }
+
+    /// Whether no position is kept.
+    pub(crate) fn is_empty(&self) -> bool
+        ensures { result ≡ keeps_none self.now }
+    {
+        self.positions.iter().all(|kept| !kept.is_kept())
     }
 
     /// For how many senders a position is kept.

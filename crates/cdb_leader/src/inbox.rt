@@ -331,6 +331,9 @@ impl Inbox {
     pub(crate) fn find_learnt(&self) -> Option<Val>
         ensures { result ≡ learnt self.now }
     {
+        if self.index.has_no_decision() && self.later().is_empty() {
+            return None;
+        }
         for sender in Proc::all() {
             if let Some(value) = self.find_decision(sender) {
                 return Some(value);

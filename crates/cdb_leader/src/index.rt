@@ -3,7 +3,7 @@
 ghost use Rattle.std.specs.Prelude.{◌≡◌, ◌<◌, length, List, [], ◌∷◌, ◌++◌, OnOk, OnErr};
 ghost use Rattle.cdb_leader.specs.declared.inbox.Received.{Received};
 ghost use Rattle.cdb_leader.specs.Inbox.{first_phase, second_phase, as_decision};
-ghost use Rattle.cdb_leader.specs.Index.{position_from, known, AreFirsts, IsRowOf, IsIndexOf};
+ghost use Rattle.cdb_leader.specs.Index.{position_from, keeps_none, known, AreFirsts, IsRowOf, IsIndexOf};
 
 use crate::firsts::Firsts;
 use crate::inbox::Received;
@@ -62,6 +62,13 @@ impl Index {
             Some(row) => row.second_phases,
             None => Firsts::new(),
         }
+    }
+
+    /// Whether no decision stands anywhere.
+    pub(crate) fn has_no_decision(&self) -> bool
+        ensures { result ≡ keeps_none self.now.decisions }
+    {
+        self.decisions.is_empty()
     }
 
     /// Where the decision of that sender stands.

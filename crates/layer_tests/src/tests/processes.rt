@@ -4,8 +4,8 @@ ghost use Rattle.std.specs.Prelude.{◌≤◌};
 
 use cdb_alpha::Alpha;
 use cdb_base::{Cell, Payload, Proc, Reg, Val};
-use cdb_leader::Leader;
-use cdb_process::{Input, SameState, Wish};
+use cdb_leader::{Back, Leader};
+use cdb_process::{Input, Process, SameState, Wish};
 use std::process::Abort;
 
 /// Has a process take each input, before which it wishes for what stands beside it, and keeps what going back needs.
@@ -23,9 +23,9 @@ fn go<P: SameState>(
     }
 }
 
-/// Has a process go back all the way.
-fn go_back<P: SameState>(process: &mut P, backs: &mut Vec<P::Back>) {
-    for _ in 0..backs.len() {
+/// Has a process go back by that many steps, or all the way.
+fn go_back<P: SameState>(process: &mut P, steps: usize, backs: &mut Vec<P::Back>) {
+    for _ in 0..steps {
         if let Some(back) = backs.pop() {
             process.put_back(back);
         }
@@ -49,7 +49,7 @@ fn goes_and_goes_back<P: SameState>(
     go(rt, &mut process, steps, &mut backs);
     assert_eq!(rt; process.decision(), decided);
     assert!(rt; !process.has_same_state(&first));
-    go_back(&mut process, &mut backs);
+    go_back(&mut process, steps.len(), &mut backs);
     assert!(rt; process.has_same_state(&first));
 }
 
@@ -100,6 +100,84 @@ fn a_quorum_is_of_different_senders(rt: HostRuntime) {
         (Some(Wish::Send(second_phase())), Input::Send),
     ];
     goes_and_goes_back::<Leader>(&rt, 3, Val::new(7), &steps, None);
+}
+
+/// Has a leader machine receive a message of process 1 that many times.
+fn hear_often(
+    rt: &(impl Abort + AllocGlobal),
+    process: &mut Leader,
+    payload: Payload,
+    times: usize,
+    backs: &mut Vec<Back>,
+) {
+    let hear = Input::Recv(Proc::new(1), payload);
+    for _ in 0..times {
+        assert!(rt; process.accepts(&hear));
+        let back = process.take(rt.alloc(), hear).expect(rt, "memory");
+        assert!(rt; backs.push(back).is_ok());
+    }
+}
+
+/// The index of an inbox knows 65,535 messages. Here two more are among them, and those after them are not; no run has
+/// so many. What is heard counts all the same, of each sender once, and what is taken back counts no longer.
+#[test]
+fn an_inbox_is_exact_beyond_its_index(rt: HostRuntime) {
+    let (one, two, three) = (Proc::new(1), Proc::new(2), Proc::new(3));
+    let seven = Val::new(7);
+    let begin = [
+        (None, Input::Query(one)),
+        (Some(Wish::Send(first_phase(1))), Input::Send),
+    ];
+    let nothing = Payload::P2 {
+        round: 1,
+        aux: None,
+    };
+    let decision = Payload::D { est: seven };
+    let learns = [
+        (None, Input::Recv(one, first_phase(1))),
+        (None, Input::Recv(two, first_phase(1))),
+        (None, Input::Recv(two, first_phase(1))),
+        (None, Input::Recv(three, first_phase(1))),
+        (Some(Wish::Local), Input::Local),
+        (Some(Wish::Send(second_phase())), Input::Send),
+        (None, Input::Recv(one, second_phase())),
+        (None, Input::Recv(one, second_phase())),
+        (None, Input::Recv(three, second_phase())),
+        (None, Input::Recv(two, nothing)),
+        (Some(Wish::Local), Input::Local),
+        (None, Input::Query(one)),
+        (Some(Wish::Send(first_phase(2))), Input::Send),
+        (None, Input::Recv(two, first_phase(2))),
+        (None, Input::Recv(three, decision)),
+        (None, Input::Learn),
+        (Some(Wish::Send(decision)), Input::Send),
+    ];
+    let decides = [
+        (None, Input::Recv(three, first_phase(1))),
+        (None, Input::Recv(three, first_phase(1))),
+        (None, Input::Recv(one, first_phase(1))),
+        (None, Input::Recv(two, first_phase(1))),
+        (Some(Wish::Local), Input::Local),
+        (Some(Wish::Send(second_phase())), Input::Send),
+        (None, Input::Recv(two, second_phase())),
+        (None, Input::Recv(three, second_phase())),
+        (None, Input::Recv(one, second_phase())),
+        (Some(Wish::Local), Input::Local),
+        (Some(Wish::Send(decision)), Input::Send),
+    ];
+    let mut process = Leader::first(rt.alloc(), one, 3, 3, seven).expect(&rt, "memory");
+    let first = Leader::first(rt.alloc(), one, 3, 3, seven).expect(&rt, "memory");
+    let mut backs = Vec::new(rt.alloc());
+    go(&rt, &mut process, &begin, &mut backs);
+    hear_often(&rt, &mut process, first_phase(2), 65_533, &mut backs);
+    go(&rt, &mut process, &learns, &mut backs);
+    assert_eq!(rt; process.decision(), Some(seven));
+    go_back(&mut process, learns.len(), &mut backs);
+    go(&rt, &mut process, &decides, &mut backs);
+    assert_eq!(rt; process.decision(), Some(seven));
+    let taken = backs.len();
+    go_back(&mut process, taken, &mut backs);
+    assert!(rt; process.has_same_state(&first));
 }
 
 /// The register of process 1.
