@@ -99,7 +99,7 @@ pub(crate) fn message_at(messages: &[Received], kept: Spot) -> Option<&Received>
 }
 
 /// The messages that a process has received. A contract sees the list of them, in the order of
-/// receipt. Beside the list stands an index, so that no question goes over the list.
+/// receipt. Beside the list stands an index of its first 65,535, so that no question goes over these.
 #[derive(Drop)]
 pub struct Inbox {
     messages: Vec<Received>,
@@ -327,6 +327,20 @@ impl Inbox {
         self.known_propose(round, value) && later::all_propose(self.later(), round, value)
     }
 
+    /// The first decision of the least sender that sent one, where one may have come.
+    // Few steps get there, and a caller that had it inside would do more for each.
+    #[inline(never)]
+    fn look_for_learnt(&self) -> Option<Val>
+        ensures { result ≡ learnt self.now }
+    {
+        for sender in Proc::all() {
+            if let Some(value) = self.find_decision(sender) {
+                return Some(value);
+            }
+        }
+        None
+    }
+
     /// The first decision of the least sender that sent one.
     pub(crate) fn find_learnt(&self) -> Option<Val>
         ensures { result ≡ learnt self.now }
@@ -334,12 +348,7 @@ impl Inbox {
         if self.index.has_no_decision() && self.later().is_empty() {
             return None;
         }
-        for sender in Proc::all() {
-            if let Some(value) = self.find_decision(sender) {
-                return Some(value);
-            }
-        }
-        None
+        self.look_for_learnt()
     }
 
     /// Whether the inboxes have the same messages, in the same order.

@@ -1,7 +1,7 @@
 use Rattle.std.proofs.Common.{◌≡◌, drop}
 use Rattle.cdb_base.specs.Processes.{all_processes}
 use Rattle.cdb_leader.specs.Inbox.{first_given, decision_from, learnt}
-use Rattle.cdb_leader.proofs.inbox.Inbox.find_learnt.Given as goal
+use Rattle.cdb_leader.proofs.inbox.Inbox.look_for_learnt.Given as goal
 
 -- no sender so far sent a decision
 abbrev pub invariant-loop-sender : goal.invariant-loop-sender
