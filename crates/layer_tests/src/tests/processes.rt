@@ -102,6 +102,20 @@ fn a_quorum_is_of_different_senders(rt: HostRuntime) {
     goes_and_goes_back::<Leader>(&rt, 3, Val::new(7), &steps, None);
 }
 
+/// What one that was told of no value sends there.
+fn no_value() -> Payload {
+    Payload::P2 {
+        round: 1,
+        aux: None,
+    }
+}
+
+/// The decision of the value 7.
+fn decision() -> Payload {
+    let est = Val::new(7);
+    Payload::D { est }
+}
+
 /// Has a leader machine receive a message of process 1 that many times.
 fn hear_often(
     rt: &(impl Abort + AllocGlobal),
@@ -128,11 +142,6 @@ fn an_inbox_is_exact_beyond_its_index(rt: HostRuntime) {
         (None, Input::Query(one)),
         (Some(Wish::Send(first_phase(1))), Input::Send),
     ];
-    let nothing = Payload::P2 {
-        round: 1,
-        aux: None,
-    };
-    let decision = Payload::D { est: seven };
     let learns = [
         (None, Input::Recv(one, first_phase(1))),
         (None, Input::Recv(two, first_phase(1))),
@@ -143,14 +152,14 @@ fn an_inbox_is_exact_beyond_its_index(rt: HostRuntime) {
         (None, Input::Recv(one, second_phase())),
         (None, Input::Recv(one, second_phase())),
         (None, Input::Recv(three, second_phase())),
-        (None, Input::Recv(two, nothing)),
+        (None, Input::Recv(two, no_value())),
         (Some(Wish::Local), Input::Local),
         (None, Input::Query(one)),
         (Some(Wish::Send(first_phase(2))), Input::Send),
         (None, Input::Recv(two, first_phase(2))),
-        (None, Input::Recv(three, decision)),
+        (None, Input::Recv(three, decision())),
         (None, Input::Learn),
-        (Some(Wish::Send(decision)), Input::Send),
+        (Some(Wish::Send(decision())), Input::Send),
     ];
     let decides = [
         (None, Input::Recv(three, first_phase(1))),
@@ -163,7 +172,7 @@ fn an_inbox_is_exact_beyond_its_index(rt: HostRuntime) {
         (None, Input::Recv(three, second_phase())),
         (None, Input::Recv(one, second_phase())),
         (Some(Wish::Local), Input::Local),
-        (Some(Wish::Send(decision)), Input::Send),
+        (Some(Wish::Send(decision())), Input::Send),
     ];
     let mut process = Leader::first(rt.alloc(), one, 3, 3, seven).expect(&rt, "memory");
     let first = Leader::first(rt.alloc(), one, 3, 3, seven).expect(&rt, "memory");
