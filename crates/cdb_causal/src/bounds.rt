@@ -14,6 +14,7 @@ ghost use Rattle.cdb_causal.specs.Cells.{row, register_cell as register_cell_of,
 ghost use Rattle.cdb_causal.specs.Tables.{bound_of, HasCell};
 ghost use Rattle.cdb_causal.specs.Dependence.{accesses as accesses_of, same_process};
 ghost use Rattle.cdb_causal.specs.LastCauses.{IsSlot};
+ghost use Rattle.cdb_causal.specs.Alone.{IsFreeBelow};
 ghost use Rattle.cdb_causal.specs.Raised.{IsRaised};
 
 use crate::dependence::accesses;
@@ -97,6 +98,13 @@ fn highest(table: &[Mark], register: &Reg) -> Mark
         end = end.max(table[first + slot]);
     }
     end
+}
+
+/// Whether the bound of a cell says that no event under a mark below that one is a receive in the cell.
+fn is_free_below(mark: Mark, bound: Mark) -> bool
+    ensures { IsTrue result → IsFreeBelow mark bound }
+{
+    bound == 0 || (bound > mark && bound != SEVERAL)
 }
 
 /// Whether the slot is that of the event's process.
@@ -187,7 +195,7 @@ impl Bounds {
         ensures steps { self.new.steps ≡ self.old.steps }
         ensures own { self.new.own ≡ self.old.own }
         ensures before { self.new.before ≡ self.old.before }
-        ensures receives { (k : ℕ) → JoinsCell self.old self.new (Step p k kind) }
+        ensures receives { (k : ℕ) → JoinsCell self.old self.new (mark + 1) (Step p k kind) }
         ensures within { IsKindWithin self.new mark p kind }
     {
         match kind {
@@ -230,7 +238,7 @@ impl Bounds {
         requires mark { mark < ABOVE_ALL }
         requires room { HasCellsFor self.old event.now }
         ensures others { AreRaised (mark + 1) self.old self.new }
-        ensures receives { JoinsCell self.old self.new event.now }
+        ensures receives { JoinsCell self.old self.new (mark + 1) event.now }
         ensures within { IsEventWithin self.new mark event.now }
         ensures own { IsOwnNoted self.old self.new mark event.now }
         ensures copy { (copy : ACopy) → event.now ≡ Lost copy → IsRanged copy }
@@ -343,6 +351,19 @@ impl Bounds {
         ensures { IsTrue result → receive_bound self.now (named_copy_cell s m slot) ≢ SEVERAL }
     {
         self.end_of_receives(s, m, slot) != SEVERAL
+    }
+
+    /// Whether by the bounds no event under a mark below that one receives the message.
+    pub fn is_unreceived_below(&self, mark: Mark, s: Proc, m: u16) -> bool
+        ensures { IsTrue result → (slot : ℕ) → slot < 9 →
+            IsFreeBelow mark (receive_bound self.now (named_copy_cell s m slot)) }
+    {
+        for slot in 0..9 {
+            if !is_free_below(mark, self.end_of_receives(s, m, slot)) {
+                return false;
+            }
+        }
+        true
     }
 
     /// The bound of the losses of a copy for the slot's process.

@@ -1,10 +1,10 @@
 //! The direct causes of an event of a history.
 
-ghost use Rattle.std.specs.Prelude.{◌≡◌, ℕ, ◌<◌, ◌≤◌, ◌↔◌, None, Some, length, slice_get, get_or, MatchOption, IsTrue, true, false, replicate};
+ghost use Rattle.std.specs.Prelude.{◌≡◌, ℕ, ◌<◌, ◌≤◌, ◌↔◌, None, Some, length, slice_get, get_or, MatchOption, IfSome, IsTrue, true, false, replicate};
 ghost use Rattle.cdb_causal.specs.Dependence.{same_process, depends as depends_of};
-ghost use Rattle.cdb_causal.specs.DirectCauses.{AreDirectCauses};
-ghost use Rattle.cdb_causal.specs.FromZero.{IsLink, HasNothingBetween};
-ghost use Rattle.cdb_causal.specs.LastCauses.{IsSlot, IsNoCause, IsLastCause};
+ghost use Rattle.cdb_causal.specs.DirectCauses.{AreDirectCauses as AreDirectCausesFromOne};
+ghost use Rattle.cdb_causal.specs.FromZero.{IsLink, HasNothingBetween, AreDirectCauses};
+ghost use Rattle.cdb_causal.specs.LastCauses.{IsSlot, IsNoCause, IsLastCause, HasCausesOnlyIn};
 ghost use Rattle.cdb_causal.specs.LastCauses.{IsLastOrNone, AreLastCauses, IsDirectCauseOrNone};
 
 use crate::dependence::depends;
@@ -15,6 +15,9 @@ use std::alloc::Global;
 
 /// Causes are sought in a slot for each process, and then in one for losses.
 const SLOTS: usize = 10;
+
+/// All slots.
+const ALL_SLOTS: [usize; SLOTS] = [0, 1, 2, 3, 4, 5, 6, 7, 8, 9];
 
 /// The slot of an event as a cause.
 fn slot_of(event: &Event) -> usize
@@ -58,9 +61,6 @@ fn last_in_slot(history: &History, effect: &Event, j: usize, slot: usize) -> Opt
     requires slot { slot < 10 }
     ensures { IsLastOrNone history.now j slot result }
 {
-    if history.is_received_later(effect, j, slot) {
-        return None;
-    }
     let end = history.end_of_causes(effect, slot);
     last_cause(history, effect, j, slot, end)
 }
@@ -128,7 +128,7 @@ fn find_last_in(
 }
 
 /// The same, in the slots in which an event of its kind has causes: for a receive those of its process, of the
-/// sender and of losses; for a query, a local step, a step that learns and a crash its process's alone.
+/// sender and of losses.
 fn find_last_causes(
     history: &History,
     effect: &Event,
@@ -143,20 +143,30 @@ fn find_last_causes(
     match effect {
         Event::Step { p, kind, .. } => match kind {
             Kind::Recv(s, _) => {
-                find_last_in(
-                    history,
-                    effect,
-                    j,
-                    &[p.index(), s.index(), SLOTS - 1],
-                    causes,
-                )
+                let slots = [p.index(), s.index(), SLOTS - 1];
+                find_last_in(history, effect, j, &slots, causes)
             }
-            Kind::Send(_) | Kind::Read(_) | Kind::Write(_) => {
-                find_last_in(history, effect, j, &[0, 1, 2, 3, 4, 5, 6, 7, 8, 9], causes)
-            }
-            _ => find_last_in(history, effect, j, &[p.index()], causes),
+            _ => find_last_in(history, effect, j, &ALL_SLOTS, causes),
         },
-        Event::Lost(_) => find_last_in(history, effect, j, &[0, 1, 2, 3, 4, 5, 6, 7, 8, 9], causes),
+        Event::Lost(_) => find_last_in(history, effect, j, &ALL_SLOTS, causes),
+    }
+}
+
+/// The slot of its process, for a step that has no causes but those: so has one that neither receives, reads nor
+/// writes, and, where it sends, sends what has not been received.
+fn only_slot(history: &History, effect: &Event, j: usize) -> Option<usize>
+    requires at { slice_get history.now j ≡ Some effect.now }
+    ensures within { IfSome result (λ slot. slot < 10) }
+    ensures only { IfSome result (HasCausesOnlyIn history.now j) }
+{
+    let _standing = history.len();
+    match effect {
+        Event::Step { p, kind, .. } => match kind {
+            Kind::Recv(..) | Kind::Read(_) | Kind::Write(_) => None,
+            Kind::Send(m) if !history.is_unreceived_before(j, *p, *m) => None,
+            _ => Some(p.index()),
+        },
+        Event::Lost(_) => None,
     }
 }
 
@@ -208,6 +218,44 @@ fn direct_cause(
     None
 }
 
+/// The name of the direct cause of the event at position `j`, if there is one, where all its causes are in one slot.
+fn only_cause(
+    alloc: Global,
+    history: &History,
+    effect: &Event,
+    j: usize,
+    slot: usize,
+) -> SmallVec<StepId, 9>
+    requires at { slice_get history.now j ≡ Some effect.now }
+    requires slot { slot < 10 }
+    requires only { HasCausesOnlyIn history.now j slot }
+    ensures { AreDirectCauses history.now j result.items }
+{
+    let _standing = history.len();
+    let mut causes = SmallVec::new(alloc);
+    if let Some(i) = last_in_slot(history, effect, j, slot) {
+        causes.push_reserved(history.event(i).name());
+    }
+    causes
+}
+
+/// The names of the direct causes of the event at position `j`, looked for slot by slot.
+fn causes_by_slot(alloc: Global, history: &History, effect: &Event, j: usize) -> SmallVec<StepId, 9>
+    requires at { slice_get history.now j ≡ Some effect.now }
+    ensures { AreDirectCauses history.now j result.items }
+{
+    let _standing = history.len();
+    let mut lasts = [None; SLOTS];
+    let end = find_last_causes(history, effect, j, &mut lasts);
+    let mut causes = SmallVec::new(alloc);
+    for slot in 0..SLOTS {
+        if let Some(name) = direct_cause(history, effect, j, slot, lasts[slot], end) {
+            causes.push_reserved(name);
+        }
+    }
+    causes
+}
+
 /// The names of the earlier events on which the event at a position, from 1 to the number of events,
 /// depends directly: no event between depends on such an event and has the one at the position depend
 /// on it. Steps stand first, by process, at most one of each; a loss stands last. So nine cells
@@ -215,17 +263,11 @@ fn direct_cause(
 pub fn direct_causes(alloc: Global, history: &History, at: usize) -> SmallVec<StepId, 9>
     requires from_one { 1 ≤ at }
     requires to_len { at ≤ length history.now }
-    ensures { AreDirectCauses history.now at result.items }
+    ensures { AreDirectCausesFromOne history.now at result.items }
 {
-    let _standing = history.len();
     let effect = history.event(at - 1);
-    let mut lasts = [None; SLOTS];
-    let end = find_last_causes(history, effect, at - 1, &mut lasts);
-    let mut causes = SmallVec::new(alloc);
-    for slot in 0..SLOTS {
-        if let Some(name) = direct_cause(history, effect, at - 1, slot, lasts[slot], end) {
-            causes.push_reserved(name);
-        }
+    match only_slot(history, effect, at - 1) {
+        Some(slot) => only_cause(alloc, history, effect, at - 1, slot),
+        None => causes_by_slot(alloc, history, effect, at - 1),
     }
-    causes
 }

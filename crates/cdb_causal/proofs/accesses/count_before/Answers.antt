@@ -1,8 +1,12 @@
-use Rattle.std.proofs.Common.{ℕ, ◌≤◌, leb, slice_index, arith, rules}
+use Rattle.std.proofs.Common.{◌≡◌, ℕ, ◌<◌, ◌≤◌, ◌⊎◌, ⊎_elim, leb, slice_index, ap, arith, rules}
 use Rattle.std.proofs.lemmas.Bool.Decides.{nat_tests}
 use Rattle.std.proofs.lemmas.List.{get_or_default}
 use Rattle.std.proofs.lemmas.List.Sorted.{IsPartitionPoint-from_clause}
+use Rattle.cdb_log.specs.Marks as Marks
 use Rattle.cdb_causal.proofs.accesses.count_before.Goals as goal
+
+at_or_behind : (i j : ℕ) → i ≤ j → (i ≡ j) ⊎ (i < j)
+at_or_behind i j h = grind arith
 
 pub returns-clause-before : goal.returns-clause-before
 returns-clause-before c =
@@ -19,5 +23,8 @@ returns-clause-before c =
     let bound = c.partition_point.ensures.bound in
     let t = point.0 k 0 (omega arith) before in
     let low : slice_index bounds k ≤ mark = grind (arith, nat_tests, t) in
-    let rises = c.mark_at-mark.ensures.rising j from less in
-    omega (arith, low, rises)
+    let is_mark = c.mark_at-mark.ensures.mark in
+    ⊎_elim
+    (λ here. let same = ap (Marks.mark c.args.log.now) here in omega (arith, low, is_mark, same))
+    (λ later. let rises = c.mark_at-mark.ensures.rising c.args.from j later less in omega (arith, low, is_mark, rises))
+    (at_or_behind c.args.from j from)
