@@ -16,17 +16,17 @@ use Rattle.cdb_causal.proofs.Effects.{by_effect}
 same_turned : (x y : Reg) → same_register x y ≡ true → same_register y x ≡ true
 same_turned x y h = subst (λ z. same_register z x ≡ true) (same_register-true x y h) (same_register-itself x)
 
-other_true : (a b : Bool) → a ≡ false → (a || b) ≡ true → b ≡ true
+pub other_true : (a b : Bool) → a ≡ false → (a || b) ≡ true → b ≡ true
 other_true true b none h = absurd (true≢false none)
 other_true false b none h = h
 
-turned : (a b : Bool) → (a || b) ≡ true → (b || a) ≡ true
+pub turned : (a b : Bool) → (a || b) ≡ true → (b || a) ≡ true
 turned true true h = refl
 turned true false h = refl
 turned false true h = refl
 turned false false h = h
 
-true_or_false : (b : Bool) → (b ≡ true) ⊎ (b ≡ false)
+pub true_or_false : (b : Bool) → (b ≡ true) ⊎ (b ≡ false)
 true_or_false true = inl refl
 true_or_false false = inr refl
 
@@ -61,7 +61,7 @@ pub record IsStepBetween (bounds : Bounds) (q : ℕ) (first : Kind) (p : ℕ) (s
   pub from_first : (kind_affects q first kind || kind_affects x kind first) ≡ true
   pub to_second : (nat_eq x p || (kind_affects x kind second || kind_affects p second kind)) ≡ true
 
-no_loss : (a : Bool) → ((a && false) || false) ≡ true → ⊥
+pub no_loss : (a : Bool) → ((a && false) || false) ≡ true → ⊥
 no_loss true h = true≢false (sym h)
 no_loss false h = true≢false (sym h)
 

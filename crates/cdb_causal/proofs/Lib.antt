@@ -7,6 +7,7 @@ pub mod Chains
 pub mod LeastSet
 pub mod Exact
 pub mod OneSlot
+pub mod Accessed
 pub mod Exchanges
 pub mod Orders
 pub mod Reaches

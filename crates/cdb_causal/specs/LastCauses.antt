@@ -6,7 +6,7 @@ use Rattle.cdb_base.specs.declared.event.Event.{Event}
 use Rattle.cdb_base.specs.declared.event.Event.TheVariants.{Step, Lost}
 use Rattle.cdb_base.specs.declared.name.StepId.{StepId}
 use Rattle.cdb_causal.specs.Dependence.{same_process, depends}
-use Rattle.cdb_causal.specs.FromZero.{IsDirectCause, IsLink}
+use Rattle.cdb_causal.specs.FromZero.{IsDirectCause, IsLink, HasNothingBetween}
 
 -- slots 0 to 8 are those of processes 1 to 9, slot 9 is that of losses
 abbrev pub IsSlot : Event → ℕ → Type 0
@@ -34,6 +34,16 @@ IsLastOrNone history j slot position = MatchOption position (IsNoCause history j
 -- the positions are those of the last causes in the first n slots
 abbrev pub AreLastCauses : List Event → ℕ → ℕ → List (Option ℕ) → Type 0
 AreLastCauses history j n positions = (slot : ℕ) → slot < n → IsLastOrNone history j slot (get_or positions slot None)
+
+-- the position is that of the last cause in the slot; none says that no cause there is a direct one
+abbrev pub IsLastOrIndirect : List Event → ℕ → ℕ → Option ℕ → Type 0
+IsLastOrIndirect history j slot position =
+    MatchOption position ((i : ℕ) (l : IsLink depends history i j) → IsSlot l.cause slot → HasNothingBetween depends history i j → ⊥)
+    (λ i. IsLastCause history j slot i)
+
+-- so are the positions in the first n slots
+abbrev pub AreLastOrIndirect : List Event → ℕ → ℕ → List (Option ℕ) → Type 0
+AreLastOrIndirect history j n positions = (slot : ℕ) → slot < n → IsLastOrIndirect history j slot (get_or positions slot None)
 
 -- the name is that of a direct cause, in that slot, of the event at position j
 pub record NamesDirectCauseIn (history : List Event) (j slot : ℕ) (name : StepId) : Type 0 where

@@ -1,8 +1,9 @@
 //! The standing events of a run, in the order in which they were taken.
 
-ghost use Rattle.std.specs.Prelude.{◌≡◌, ℕ, ◌+◌, ◌<◌, ◌≤◌, List, [], ◌∷◌, ◌++◌, Some, Ok, length, slice_get, MatchOption, OnOk, OnErr, IfOk, IfErr, IsTrue, ◌==◌, ◌↔◌};
+ghost use Rattle.std.specs.Prelude.{◌≡◌, ℕ, ◌+◌, ◌<◌, ◌≤◌, List, [], ◌∷◌, ◌++◌, None, Some, Ok, length, slice_get, MatchOption, OnOk, OnErr, IfOk, IfErr, IsTrue, ◌==◌, ◌↔◌};
 ghost use Rattle.std.specs.Fn.{FnOnceReturnsAtMut, FnOnceTakesAtMut};
 ghost use Rattle.cdb_base.specs.Event.{event_name};
+ghost use Rattle.cdb_base.specs.declared.event.Kind.TheVariants.{Read, Write};
 ghost use Rattle.cdb_base.specs.Positions.{nth};
 ghost use Rattle.cdb_causal.specs.Dependence.{depends as depends_of};
 ghost use Rattle.cdb_causal.specs.Alone.{IsReceiveIn, HasNoReceiveBefore};
@@ -15,10 +16,11 @@ ghost use Rattle.cdb_causal.specs.LastCauses.{IsEndOfCauses, IsEndBetween};
 ghost use Rattle.cdb_causal.specs.Listed.{HasRoomFor};
 ghost use Rattle.cdb_causal.specs.Names.{IsNewName, IsPositionOf, IsEndOfSteps};
 ghost use Rattle.cdb_causal.specs.Rollback.{without};
+ghost use Rattle.cdb_causal.specs.Sought.{IsLastSoughtOrNone};
 ghost use Rattle.cdb_causal.specs.Standing.{IsStanding, HasNoLostCopy};
 ghost use Rattle.cdb_log.specs.Marks.{CanGrow, HasRoom, IsPushed};
 
-use crate::accesses::Accesses;
+use crate::accesses::{Accesses, reads_of, writes_of};
 use crate::bounds::Bounds;
 use crate::history::anew::let_grow;
 use cdb_base::{Event, Kind, NoMemory, Proc, Reg, StepId};
@@ -260,6 +262,34 @@ impl History {
     {
         let bound = self.bounds.end_between(cause, effect, ABOVE_ALL);
         self.events.position_above(bound)
+    }
+
+    /// The position, from 0, of the last write of the register before position `j`.
+    pub(crate) fn last_write(&self, register: Reg, j: usize) -> Option<usize>
+        requires { j < length self.now }
+        ensures { IsLastSoughtOrNone self.now (Write register) None 0 j result }
+    {
+        let list = writes_of(&register);
+        let kind = Kind::Write(register);
+        self.accesses.last_of(&self.events, list, kind, None, 0, j)
+    }
+
+    /// The position, from 0, of the last read of the register from position `low` on, and before position `j`, by the
+    /// slot's process where a slot is given.
+    pub(crate) fn last_read(
+        &self,
+        register: Reg,
+        slot: Option<usize>,
+        low: usize,
+        j: usize,
+    ) -> Option<usize>
+        requires { j < length self.now }
+        ensures { IsLastSoughtOrNone self.now (Read register) slot low j result }
+    {
+        let list = reads_of(&register);
+        let kind = Kind::Read(register);
+        self.accesses
+            .last_of(&self.events, list, kind, slot, low, j)
     }
 
     /// A position, from 0, above all events that depend on the one at position `i`.

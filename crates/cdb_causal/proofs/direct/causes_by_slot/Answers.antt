@@ -2,14 +2,9 @@ use Rattle.std.proofs.Common.{◌≡◌, ℕ, ◌+◌, List, sym, ap, ◌∙◌,
 use Rattle.cdb_base.specs.declared.event.Event.{Event}
 use Rattle.cdb_causal.proofs.DirectCausesBelow.{AreDirectCausesBelow, below_none, below_some, below_start, below_ten, room}
 use Rattle.cdb_causal.proofs.FromOne.{standing_down}
-use Rattle.cdb_causal.proofs.LastPositions.{above_causes}
 use Rattle.cdb_causal.proofs.SlotsOfCauses.{one_name}
 use Rattle.cdb_causal.proofs.direct.causes_by_slot.Goals as goal
 use Rattle.cdb_causal.proofs.direct.causes_by_slot.Goals.{in-Some, in_default}
-
-pub direct_cause-requires-clause-end : goal.direct_cause-requires-clause-end
-direct_cause-requires-clause-end c =
-    above_causes c.args.history.now (standing_down c.args.history.now c.len-standing.ensures.standing) c.args.j c.find_last_causes-end.result c.find_last_causes-end.new.causes c.find_last_causes-end.ensures.last c.find_last_causes-end.ensures.end
 
 pub direct_cause-requires-clause-last : goal.direct_cause-requires-clause-last
 direct_cause-requires-clause-last c = c.find_last_causes-end.ensures.last c.loop-slot.slot c.loop-slot-test.true
