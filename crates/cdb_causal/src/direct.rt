@@ -106,6 +106,7 @@ fn last_access(
 }
 
 /// The position of the last event in a slot on which the one at position `j` depends.
+#[inline(always)]
 fn last_in_slot(history: &History, effect: &Event, j: usize, slot: usize) -> Option<usize>
     requires at { slice_get history.now j ≡ Some effect.now }
     requires slot { slot < 10 }

@@ -206,6 +206,7 @@ impl<T: Drop> Log<T> {
     }
 
     /// The item under a mark, with its position, if there is one.
+    #[inline(always)]
     pub fn find(&self, mark: Mark) -> Option<(usize, &T)>
         ensures { MatchOption result (HasNoMark self.now mark)
             (λ found. IsMarked self.now mark found.0 found.1.now) }
