@@ -13,6 +13,7 @@ use Rattle.cdb_causal.specs.Own.{own_bound, bound_before}
 use Rattle.cdb_causal.specs.declared.accesses.Accesses.{Accesses}
 use Rattle.cdb_causal.specs.declared.bounds.Bounds.{Bounds}
 use Rattle.cdb_causal.proofs.Bounding.{all_raised}
+use Rattle.cdb_causal.proofs.Exact.{exact_kept}
 use Rattle.cdb_causal.proofs.Owning.{own_raised}
 use Rattle.cdb_causal.proofs.Receives.{alone_kept}
 use Rattle.cdb_log.specs.Marks.{Marked, mark, IsSameLog}
@@ -31,6 +32,7 @@ module _ (old new : Marked Event) (same : IsSameLog old new) where
         standing = subst IsStanding (sym same.items) indexed.standing;
         within = λ i event at. subst (λ m. IsEventWithin bounds m event) (mark_is i event at) (indexed.within i event (stood i event at));
         alone = subst (AreAlone bounds) (sym same.items) indexed.alone;
+        exact = λ n i event single at is. indexed.exact n i event single (stood i event at) is ∙ ap (λ m. m + 1) (mark_is i event at);
         own =
             record {
               all = λ i p k kind at. subst (λ m. m < own_bound bounds p) (mark_is i (Step p k kind) at) (indexed.own.all i p k kind (stood i (Step p k kind) at));
@@ -54,6 +56,7 @@ indexed_raised log old new raised receives accesses indexed =
       standing = indexed.standing;
       within = all_raised old new (mark log) log.items raised indexed.within;
       alone = alone_kept old new log.items receives indexed.alone;
+      exact = exact_kept old new (mark log) log.items receives indexed.exact;
       own = own_raised old new (mark log) log.items raised indexed.own;
       ranged = indexed.ranged;
       name_cells = indexed.name_cells;
@@ -67,6 +70,7 @@ indexed_listed log bounds old new kept indexed =
       standing = indexed.standing;
       within = indexed.within;
       alone = indexed.alone;
+      exact = indexed.exact;
       own = indexed.own;
       ranged = indexed.ranged;
       name_cells = indexed.name_cells;

@@ -4,7 +4,7 @@ use Rattle.std.proofs.lemmas.List.{get_or-set_same, get_or-set_other}
 use Rattle.cdb_base.specs.declared.event.Event.{Event}
 use Rattle.cdb_causal.specs.Dependence.{depends}
 use Rattle.cdb_causal.specs.FromZero.{IsLink, IsStanding}
-use Rattle.cdb_causal.specs.LastCauses.{IsSlot, IsLastOrNone, AreLastCauses}
+use Rattle.cdb_causal.specs.LastCauses.{IsSlot, IsLastOrNone, IsLastOrIndirect, AreLastCauses}
 use Rattle.cdb_causal.proofs.SlotsOfCauses.{slot_within, has_slot_in}
 
 pub none_at_first : (n k : ℕ) → get_or (replicate {A = Option ℕ} n None) k None ≡ None
@@ -26,6 +26,11 @@ each_in_cells P cells n found within before now k i is =
     (λ same. now i (sym (get_or-set_same cells n found None within) ∙ ap (λ m. get_or (set cells n found) m None) (sym same) ∙ is))
     (λ other. before k i (sym (get_or-set_other cells n k found None other) ∙ is))
     (this_or_other k n)
+
+-- where there is no cause, none is direct
+pub last_or_indirect : (history : List Event) (j slot : ℕ) (position : Option ℕ) → IsLastOrNone history j slot position → IsLastOrIndirect history j slot position
+last_or_indirect history j slot None none = λ i l in_slot direct. none i l in_slot
+last_or_indirect history j slot (Some i) last = last
 
 module _ (history : List Event) (standing : IsStanding history) (j end : ℕ) (positions : List (Option ℕ)) (last : AreLastCauses history j 10 positions) (above : (slot i : ℕ) → get_or positions slot None ≡ Some i → i < end) where
   pub above_causes : (k : ℕ) → IsLink depends history k j → k < end

@@ -5,6 +5,9 @@ pub mod Walks
 pub mod Searching
 pub mod Chains
 pub mod LeastSet
+pub mod Exact
+pub mod OneSlot
+pub mod Accessed
 pub mod Exchanges
 pub mod Orders
 pub mod Reaches

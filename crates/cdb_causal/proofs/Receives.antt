@@ -32,15 +32,15 @@ right_true : (a b : Bool) → (a && b) ≡ true → b ≡ true
 right_true true b h = h
 right_true false b h = absurd (true≢false (sym h))
 
-receive_below : (bounds : Bounds) (i n : ℕ) (event : Event) → IsEventWithin bounds i event → IsReceiveIn event n → i < receive_bound bounds n
+pub receive_below : (bounds : Bounds) (i n : ℕ) (event : Event) → IsEventWithin bounds i event → IsReceiveIn event n → i < receive_bound bounds n
 receive_below bounds i n (Step p k (Recv s m)) within is = subst (λ c. i < receive_bound bounds c) is within.1
 receive_below bounds i n _ within is = absurd is
 
 pub alone_kept : (old new : Bounds) (history : List Event) → KeepsReceives old new → AreAlone old history → AreAlone new history
 alone_kept old new history kept alone n i j event other one = alone n i j event other (λ e. one (kept n ∙ e))
 
-pub alone_push : (old mid new : Bounds) (marks : ℕ → ℕ) (history : List Event) (event : Event) → KeepsReceives old mid → JoinsCell mid new event → AreWithin old marks history → AreAlone old history → AreAlone new (history ++ event ∷ [])
-alone_push old mid new marks history event kept joins within alone n i j one two single at_i at_j in_i in_j =
+pub alone_push : (old mid new : Bounds) (marks : ℕ → ℕ) (history : List Event) (bound : ℕ) (event : Event) → KeepsReceives old mid → JoinsCell mid new bound event → AreWithin old marks history → AreAlone old history → AreAlone new (history ++ event ∷ [])
+alone_push old mid new marks history bound event kept joins within alone n i j one two single at_i at_j in_i in_j =
     ⊎_elim
     (λ old_i. ⊎_elim
     (λ old_j. alone n i j one two
@@ -60,7 +60,7 @@ alone_push old mid new marks history event kept joins within alone n i j one two
         let below = receive_below old (marks i) n one (within i one at_i) in_i in
         omega arith
 
-is_several : (n : ℕ) → (n ≡ SEVERAL) ⊎ (n ≢ SEVERAL)
+pub is_several : (n : ℕ) → (n ≡ SEVERAL) ⊎ (n ≢ SEVERAL)
 is_several n = grind arith
 
 module _ (old new : Bounds) (history : List Event) (gone : ℕ) (event : Event) (at_gone : slice_get history gone ≡ Some event) (leaves : LeavesCell old new event) (alone : AreAlone old history) where

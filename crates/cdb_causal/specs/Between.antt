@@ -1,13 +1,12 @@
 -- What stands between two events, and depends on both.
-use Rattle.std.specs.Prelude.{◌≡◌, ℕ, ◌+◌, ◌<◌, ◌≤◌, true, false}
+use Rattle.std.specs.Prelude.{◌≡◌, ℕ, ◌<◌, true, false}
 use Rattle.cdb_base.specs.declared.event.Event.{Event}
 use Rattle.cdb_base.specs.declared.event.Event.TheVariants.{Step}
 use Rattle.cdb_base.specs.declared.event.Kind.{Kind}
-use Rattle.cdb_base.specs.declared.event.Kind.TheVariants.{Send, Recv, Write}
-use Rattle.cdb_base.specs.declared.register.Reg.{Reg}
+use Rattle.cdb_base.specs.declared.event.Kind.TheVariants.{Send, Recv}
 use Rattle.cdb_causal.specs.Alone.{ShareCell}
 use Rattle.cdb_causal.specs.Bounds.{IsEventWithin}
-use Rattle.cdb_causal.specs.Dependence.{accesses, same_process, depends}
+use Rattle.cdb_causal.specs.Dependence.{same_process, depends}
 use Rattle.cdb_causal.specs.LastCauses.{IsSlot}
 use Rattle.cdb_causal.specs.declared.bounds.Bounds.{Bounds}
 
@@ -26,11 +25,6 @@ abbrev pub IsAboveBetween : Bounds → ℕ → Kind → ℕ → Kind → ℕ →
 IsAboveBetween bounds q first p second j end =
     (i k l : ℕ) (between : Event) → i < j → IsBetween bounds (Step q k first) (Step p l second) i between → i < end
 
--- above all that stands between any two steps of those kinds
-abbrev pub IsAboveBetweenKinds : Bounds → Kind → Kind → ℕ → Type 0
-IsAboveBetweenKinds bounds first second end =
-    (i q k p l : ℕ) (between : Event) → IsBetween bounds (Step q k first) (Step p l second) i between → i < end
-
 -- above all receives by process p of the m-th message of process q, but for that of the r-th message of process s
 abbrev pub IsAboveOtherReceives : Bounds → ℕ → ℕ → ℕ → ℕ → ℕ → ℕ → Type 0
 IsAboveOtherReceives bounds q m p s r end =
@@ -43,19 +37,3 @@ abbrev pub IsAboveWaiting : Bounds → ℕ → ℕ → ℕ → ℕ → ℕ → �
 IsAboveWaiting bounds q m p s r end =
     (i k l : ℕ) (between : Event) → IsEventWithin bounds i between → (ShareCell bounds between (Step p l (Recv s r)) → ⊥)
     → depends (Step q k (Send m)) between ≡ true → depends between (Step p l (Recv s r)) ≡ true → i < end
-
--- above all writes of the register, by processes 1 to 9
-abbrev pub IsAboveWrites : Bounds → Reg → ℕ → Type 0
-IsAboveWrites bounds register end =
-    (i x n slot : ℕ) → IsEventWithin bounds i (Step x n (Write register)) → slot + 1 ≡ x → slot ≤ 8 → i < end
-
--- above all accesses of the register, by processes 1 to 9
-abbrev pub IsAboveAccesses : Bounds → Reg → ℕ → Type 0
-IsAboveAccesses bounds register end =
-    (i x n slot : ℕ) (kind : Kind) → accesses register kind ≡ true
-    → IsEventWithin bounds i (Step x n kind) → slot + 1 ≡ x → slot ≤ 8 → i < end
-
--- above those by process p
-abbrev pub IsAboveAccessesBy : Bounds → Reg → ℕ → ℕ → Type 0
-IsAboveAccessesBy bounds register p end =
-    (i n : ℕ) (kind : Kind) → accesses register kind ≡ true → IsEventWithin bounds i (Step p n kind) → i < end

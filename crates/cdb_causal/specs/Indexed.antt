@@ -1,6 +1,6 @@
 -- A log of events, with the bounds from which they are sought, and the lists of accesses.
 use Rattle.cdb_base.specs.declared.event.Event.{Event}
-use Rattle.cdb_causal.specs.Alone.{AreAlone}
+use Rattle.cdb_causal.specs.Alone.{AreAlone, AreExact}
 use Rattle.cdb_causal.specs.Bounds.{AreWithin}
 use Rattle.cdb_causal.specs.FromZero.{IsStanding}
 use Rattle.cdb_causal.specs.Listed.{AreListed}
@@ -14,6 +14,7 @@ pub record IsIndexed (log : Marked Event) (bounds : Bounds) (accesses : Accesses
   pub standing : IsStanding log.items
   pub within : AreWithin bounds (mark log) log.items
   pub alone : AreAlone bounds log.items
+  pub exact : AreExact bounds (mark log) log.items
   pub own : AreOwn bounds (mark log) log.items
   pub ranged : AreRanged log.items
   pub name_cells : HaveNameCells log.items

@@ -28,6 +28,7 @@ pub mod Listed
 pub mod Named
 pub mod Own
 pub mod Raised
+pub mod Sought
 pub mod Tables
 pub mod Starts
 pub mod Exchanging

@@ -1,13 +1,17 @@
 //! The bounds of the standing writes of each register, and of its reads, in order: so the first of them behind a
 //! position is found by a binary search.
 
-ghost use Rattle.std.specs.Prelude.{◌≡◌, ℕ, ◌+◌, ◌-◌, ◌<◌, ◌≤◌, ◌↔◌, [], IsTrue, OnOk, IfSome, MatchOption, length, slice_index, vec_len, vec_capacity};
+ghost use Rattle.std.specs.Prelude.{◌≡◌, ℕ, ◌+◌, ◌-◌, ◌<◌, ◌≤◌, ◌↔◌, [], IsTrue, OnOk, IfSome, MatchOption, Some, ⊤, length, slice_get, slice_index, vec_len, vec_capacity};
 ghost use Rattle.cdb_causal.specs.Cells.{row};
 ghost use Rattle.cdb_causal.specs.Listed.{list_at, HasRoomAt, HasRoomFor, IsListedIn, IsRising, AreRising, HasBound, HasBoundFor};
-ghost use Rattle.cdb_causal.specs.Listed.{KeepsBelow, KeepsOthers, KeepsLists, AllKeepBelow, AllKeepOthers, AreAtMostMarks, IsStartIn};
+ghost use Rattle.cdb_causal.specs.Listed.{KeepsBelow, KeepsOthers, KeepsLists, AllKeepBelow, AllKeepOthers, AreAtMostMarks, AreListed, IsStartIn};
+ghost use Rattle.cdb_causal.specs.Sought.{IsOfKind, IsSought, IsLastSoughtOrNone};
+ghost use Rattle.cdb_base.specs.declared.event.Event.{Event as AnEvent};
+ghost use Rattle.cdb_base.specs.declared.event.Event.TheVariants.{Step};
+ghost use Rattle.cdb_log.specs.Marks.{mark};
 
 use crate::bounds::register_row;
-use cdb_base::{Event, Kind, NoMemory, Reg};
+use cdb_base::{Event, Kind, NoMemory, Proc, Reg};
 use cdb_log::{ABOVE_ALL, Log, Mark};
 use std::alloc::Global;
 
@@ -85,6 +89,16 @@ fn join(bounds: &mut Vec<Mark>, bound: Mark)
     bounds.push_reserved(bound);
 }
 
+/// How many bounds of a list are at most a mark.
+fn count_up_to(bounds: &[Mark], mark: Mark) -> usize
+    requires { IsRising bounds.now }
+    ensures within { result ≤ length bounds.now }
+    ensures low { (k : ℕ) → k < result → slice_index bounds.now k ≤ mark }
+    ensures high { (k : ℕ) → result ≤ k → k < length bounds.now → mark < slice_index bounds.now k }
+{
+    bounds.partition_point(|bound| *bound <= mark)
+}
+
 /// How many bounds of a list are those of events before a position.
 fn count_before(log: &Log<Event>, bounds: &[Mark], from: usize) -> usize
     requires { IsRising bounds.now }
@@ -94,8 +108,56 @@ fn count_before(log: &Log<Event>, bounds: &[Mark], from: usize) -> usize
     if from >= log.len() {
         return bounds.len();
     }
-    let mark = log.mark_at(from);
-    bounds.partition_point(|bound| *bound <= mark)
+    count_up_to(bounds, log.mark_at(from))
+}
+
+/// Whether a process is that of a slot, where one is given.
+fn is_in(p: Proc, slot: Option<usize>) -> bool
+    ensures { IsTrue result ↔ MatchOption slot ⊤ (λ slot. (slot + 1 ≡ p) × (slot ≤ 8)) }
+{
+    match slot {
+        Some(slot) => p.index() == slot,
+        None => true,
+    }
+}
+
+/// Whether the event is a step of that kind, and of the slot's process where a slot is given.
+fn is_sought(event: &Event, kind: &Kind, slot: Option<usize>) -> bool
+    ensures { IsTrue result ↔ IsSought kind.now slot event.now }
+{
+    match event {
+        Event::Step { p, kind: other, .. } => *other == *kind && is_in(*p, slot),
+        Event::Lost(_) => false,
+    }
+}
+
+/// The position of the last step from position `low` on, and before position `j`, that is of that kind, and of the
+/// slot's process where a slot is given. All steps of the kind have their bounds in the list.
+fn last_in(
+    log: &Log<Event>,
+    bounds: &[Mark],
+    kind: &Kind,
+    slot: Option<usize>,
+    low: usize,
+    j: usize,
+) -> Option<usize>
+    requires rising { IsRising bounds.now }
+    requires each { (i : ℕ) (event : AnEvent) → slice_get log.now.items i ≡ Some event →
+        IsOfKind kind.now event → HasBound bounds.now (mark log.now i + 1) }
+    requires within { j < length log.now.items }
+    ensures { IsLastSoughtOrNone log.now.items kind.now slot low j result }
+{
+    for k in (0..count_up_to(bounds, log.mark_at(j))).rev() {
+        if let Some((i, event)) = log.find(bounds[k].saturating_sub(1)) {
+            if i < low {
+                return None;
+            }
+            if i < j && is_sought(event, kind, slot) {
+                return Some(i);
+            }
+        }
+    }
+    None
 }
 
 /// A position below which, from position `from` on, no event has a bound in the list.
@@ -221,6 +283,29 @@ impl Accesses {
             if n < self.lists.len() {
                 leave(&mut self.lists[n], mark + 1);
             }
+        }
+    }
+
+    /// The position of the last step from position `low` on, and before position `j`, that is of that kind, and of the
+    /// slot's process where a slot is given. Steps of the kind have their bounds in the n-th list.
+    pub fn last_of(
+        &self,
+        log: &Log<Event>,
+        n: usize,
+        kind: Kind,
+        slot: Option<usize>,
+        low: usize,
+        j: usize,
+    ) -> Option<usize>
+        requires listed { AreListed self.now.lists.items (mark log.now) log.now.items }
+        requires list { (p k : ℕ) → IsListedIn (Step p k kind) n }
+        requires within { j < length log.now.items }
+        ensures { IsLastSoughtOrNone log.now.items kind slot low j result }
+    {
+        if n < self.lists.len() {
+            last_in(log, &self.lists[n], &kind, slot, low, j)
+        } else {
+            None
         }
     }
 

@@ -12,11 +12,12 @@ ghost use Rattle.cdb_base.specs.declared.event.Kind.TheVariants.{Recv, Read, Wri
 ghost use Rattle.cdb_base.specs.declared.name.CopyName.{CopyName as ACopy};
 ghost use Rattle.cdb_causal.specs.Cells.{row, register_cell as register_cell_of, named_cell, named_copy_cell, named_cells, IsRegister};
 ghost use Rattle.cdb_causal.specs.Tables.{bound_of, HasCell};
-ghost use Rattle.cdb_causal.specs.Dependence.{accesses as accesses_of, same_process};
+ghost use Rattle.cdb_causal.specs.Dependence.{same_process};
 ghost use Rattle.cdb_causal.specs.LastCauses.{IsSlot};
+ghost use Rattle.cdb_causal.specs.Alone.{IsFreeBelow};
 ghost use Rattle.cdb_causal.specs.Raised.{IsRaised};
 
-use crate::dependence::accesses;
+use crate::dependence::is_of_message;
 use crate::table::{SEVERAL, Table};
 use cdb_base::{CopyName, Event, Kind, NoMemory, Proc, Reg, StepId};
 use cdb_log::{ABOVE_ALL, Mark};
@@ -85,18 +86,11 @@ fn raise(table: &mut [Mark], cell: usize, bound: Mark)
     table[cell] = bound;
 }
 
-/// The highest bound of a register in a table.
-fn highest(table: &[Mark], register: &Reg) -> Mark
-    requires { length table.now ≡ 90 }
-    ensures { (slot : ℕ) → slot < 9 →
-        slice_index table.now (register_cell_of register.now slot) ≤ result }
+/// Whether the bound of a cell says that no event under a mark below that one is a receive in the cell.
+fn is_free_below(mark: Mark, bound: Mark) -> bool
+    ensures { IsTrue result → IsFreeBelow mark bound }
 {
-    let first = register_cell(*register, 0);
-    let mut end = 0;
-    for slot in 0..9 {
-        end = end.max(table[first + slot]);
-    }
-    end
+    bound == 0 || (bound > mark && bound != SEVERAL)
 }
 
 /// Whether the slot is that of the event's process.
@@ -114,9 +108,8 @@ impl Bounds {
     ghost use Rattle.cdb_causal.specs.AboveCauses.{IsAboveStepsFor, IsAboveForLoss};
     ghost use Rattle.cdb_causal.specs.AboveCauses.{IsAboveLossesFor, IsAboveCauses};
     ghost use Rattle.cdb_causal.specs.AboveDependents.{IsAboveInSlot, IsAboveLosses, IsAboveOthers};
-    ghost use Rattle.cdb_causal.specs.Between.{IsBetween, IsAboveBetween, IsAboveBetweenKinds};
+    ghost use Rattle.cdb_causal.specs.Between.{IsBetween, IsAboveBetween};
     ghost use Rattle.cdb_causal.specs.Between.{IsAboveOtherReceives, IsAboveWaiting};
-    ghost use Rattle.cdb_causal.specs.Between.{IsAboveWrites, IsAboveAccesses, IsAboveAccessesBy};
     ghost use Rattle.cdb_causal.specs.Bounds.{IsEventWithin, IsKindWithin, AreRaised, HasCellsFor, HasCellsForKind};
     ghost use Rattle.cdb_causal.specs.Named.{HasNameCell, IsRanged, IsNameForgotten};
     ghost use Rattle.cdb_causal.specs.Own.{own_bound, bound_before, bound_of_slot, IsOwnNoted, IsOwnForgotten};
@@ -187,7 +180,7 @@ impl Bounds {
         ensures steps { self.new.steps ≡ self.old.steps }
         ensures own { self.new.own ≡ self.old.own }
         ensures before { self.new.before ≡ self.old.before }
-        ensures receives { (k : ℕ) → JoinsCell self.old self.new (Step p k kind) }
+        ensures receives { (k : ℕ) → JoinsCell self.old self.new (mark + 1) (Step p k kind) }
         ensures within { IsKindWithin self.new mark p kind }
     {
         match kind {
@@ -230,7 +223,7 @@ impl Bounds {
         requires mark { mark < ABOVE_ALL }
         requires room { HasCellsFor self.old event.now }
         ensures others { AreRaised (mark + 1) self.old self.new }
-        ensures receives { JoinsCell self.old self.new event.now }
+        ensures receives { JoinsCell self.old self.new (mark + 1) event.now }
         ensures within { IsEventWithin self.new mark event.now }
         ensures own { IsOwnNoted self.old self.new mark event.now }
         ensures copy { (copy : ACopy) → event.now ≡ Lost copy → IsRanged copy }
@@ -343,6 +336,19 @@ impl Bounds {
         ensures { IsTrue result → receive_bound self.now (named_copy_cell s m slot) ≢ SEVERAL }
     {
         self.end_of_receives(s, m, slot) != SEVERAL
+    }
+
+    /// Whether by the bounds no event under a mark below that one receives the message.
+    pub fn is_unreceived_below(&self, mark: Mark, s: Proc, m: u16) -> bool
+        ensures { IsTrue result → (slot : ℕ) → slot < 9 →
+            IsFreeBelow mark (receive_bound self.now (named_copy_cell s m slot)) }
+    {
+        for slot in 0..9 {
+            if !is_free_below(mark, self.end_of_receives(s, m, slot)) {
+                return false;
+            }
+        }
+        true
     }
 
     /// The bound of the losses of a copy for the slot's process.
@@ -566,68 +572,16 @@ impl Bounds {
         sent.max(lost).max(received)
     }
 
-    /// Above all writes of the register.
-    fn end_of_writes(&self, register: &Reg) -> Mark
-        ensures { IsAboveWrites self.now register.now result }
-    {
-        highest(&self.writes, register)
-    }
-
-    /// Above all accesses of the register.
-    fn end_of_accesses(&self, register: &Reg) -> Mark
-        ensures { IsAboveAccesses self.now register.now result }
-    {
-        highest(&self.accesses, register)
-    }
-
-    /// Above all accesses of the register by one process.
-    fn end_of_accesses_by(&self, p: Proc, register: &Reg) -> Mark
-        ensures { IsAboveAccessesBy self.now register.now p result }
-    {
-        self.accesses[register_cell(*register, p.index())]
-    }
-
-    /// Above what stands between a step of process `q` and a read of the register by process `p`,
-    /// under mark `j`.
-    fn end_before_read(&self, q: Proc, first: Kind, p: Proc, register: Reg, j: Mark) -> Mark
-        ensures { IsAboveBetween self.now q first p (Read register) j result }
-    {
-        if accesses(&register, &first) {
-            let written = self.end_of_writes(&register);
-            return written.max(self.end_of_accesses_by(p, &register));
-        }
-        if q == p { 0 } else { j }
-    }
-
-    /// Above what stands between two accesses of the register, the second a write.
-    fn end_before_write_of(&self, first: &Kind, register: &Reg) -> Mark
-        requires { accesses_of register.now first.now ≡ true }
-        ensures { IsAboveBetweenKinds self.now first.now (Write register.now) result }
-    {
-        match first {
-            Kind::Read(_) => self.end_of_writes(register),
-            _ => self.end_of_accesses(register),
-        }
-    }
-
-    /// Above what stands between a step of process `q` and a write of the register by process `p`,
-    /// under mark `j`.
-    fn end_before_write(&self, q: Proc, first: Kind, p: Proc, register: Reg, j: Mark) -> Mark
-        ensures { IsAboveBetween self.now q first p (Write register) j result }
-    {
-        if accesses(&register, &first) {
-            return self.end_before_write_of(&first, &register);
-        }
-        if q == p { 0 } else { j }
-    }
-
     /// Above what stands between a step of process `q` and the receive of a message by process `p`,
     /// under mark `j`.
     fn end_before_receive(&self, q: Proc, first: Kind, p: Proc, s: Proc, r: u16, j: Mark) -> Mark
         ensures { IsAboveBetween self.now q first p (Recv s r) j result }
     {
+        if q == p {
+            return if is_of_message(p, first, s, r) { j } else { 0 };
+        }
         match first {
-            Kind::Send(m) if q != p => self.end_of_waiting(q, m, p, s, r),
+            Kind::Send(m) => self.end_of_waiting(q, m, p, s, r),
             _ => j,
         }
     }
@@ -637,8 +591,6 @@ impl Bounds {
         ensures { IsAboveBetween self.now q first p second j result }
     {
         match second {
-            Kind::Read(register) => self.end_before_read(q, first, p, register, j),
-            Kind::Write(register) => self.end_before_write(q, first, p, register, j),
             Kind::Recv(s, r) => self.end_before_receive(q, first, p, s, r, j),
             _ => j,
         }

@@ -1,6 +1,6 @@
 //! Which events depend on each other.
 
-ghost use Rattle.std.specs.Prelude.{◌≡◌, ◌&&◌, nat_eq};
+ghost use Rattle.std.specs.Prelude.{◌≡◌, ◌&&◌, ◌||◌, nat_eq};
 ghost use Rattle.cdb_causal.specs.Dependence.{accesses as accesses_of, sends as sends_of, receives as receives_of, same_process as same_process_of, depends as depends_of};
 ghost use Rattle.cdb_causal.specs.Effects.{kind_affects as kind_affects_of, affects as affects_of};
 
@@ -36,6 +36,17 @@ fn sends(p: Proc, kind: Kind, copy: &CopyName) -> bool
 {
     match kind {
         Kind::Send(m) => p == copy.msg.s && m == copy.msg.m,
+        _ => false,
+    }
+}
+
+/// Whether a step of that process and kind sends or receives the m-th message of process s.
+pub(crate) fn is_of_message(p: Proc, kind: Kind, s: Proc, m: u16) -> bool
+    ensures { result ≡ (sends_of s m p kind || receives_of s m kind) }
+{
+    match kind {
+        Kind::Send(number) => p == s && number == m,
+        Kind::Recv(sender, number) => s == sender && m == number,
         _ => false,
     }
 }

@@ -1,9 +1,9 @@
 //! The standing events of a run, in the order in which they were taken.
 
-ghost use Rattle.std.specs.Prelude.{◌≡◌, ℕ, ◌+◌, ◌<◌, ◌≤◌, List, [], ◌∷◌, ◌++◌, Some, Ok, length, slice_get, MatchOption, OnOk, OnErr, IfOk, IfErr, IsTrue, ◌==◌, ◌↔◌};
+ghost use Rattle.std.specs.Prelude.{◌≡◌, ℕ, ◌+◌, ◌<◌, ◌≤◌, List, [], ◌∷◌, ◌++◌, None, Some, Ok, length, slice_get, MatchOption, OnOk, OnErr, IfOk, IfErr, IsTrue, ◌==◌, ◌↔◌};
 ghost use Rattle.std.specs.Fn.{FnOnceReturnsAtMut, FnOnceTakesAtMut};
 ghost use Rattle.cdb_base.specs.Event.{event_name};
-ghost use Rattle.cdb_base.specs.declared.event.Kind.TheVariants.{Send};
+ghost use Rattle.cdb_base.specs.declared.event.Kind.TheVariants.{Read, Write};
 ghost use Rattle.cdb_base.specs.Positions.{nth};
 ghost use Rattle.cdb_causal.specs.Dependence.{depends as depends_of};
 ghost use Rattle.cdb_causal.specs.Alone.{IsReceiveIn, HasNoReceiveBefore};
@@ -12,14 +12,15 @@ ghost use Rattle.cdb_causal.specs.Cells.{named_copy_cell};
 ghost use Rattle.cdb_causal.specs.Changing.{HasFailed};
 ghost use Rattle.cdb_causal.specs.FromZero.{IsLink, IsNamedAt};
 ghost use Rattle.cdb_causal.specs.Indexed.{IsIndexed};
-ghost use Rattle.cdb_causal.specs.LastCauses.{IsNoCause, HasNoCauseAsStep, IsEndOfCauses, IsEndBetween};
+ghost use Rattle.cdb_causal.specs.LastCauses.{IsEndOfCauses, IsEndBetween};
 ghost use Rattle.cdb_causal.specs.Listed.{HasRoomFor};
 ghost use Rattle.cdb_causal.specs.Names.{IsNewName, IsPositionOf, IsEndOfSteps};
 ghost use Rattle.cdb_causal.specs.Rollback.{without};
+ghost use Rattle.cdb_causal.specs.Sought.{IsLastSoughtOrNone};
 ghost use Rattle.cdb_causal.specs.Standing.{IsStanding, HasNoLostCopy};
 ghost use Rattle.cdb_log.specs.Marks.{CanGrow, HasRoom, IsPushed};
 
-use crate::accesses::Accesses;
+use crate::accesses::{Accesses, reads_of, writes_of};
 use crate::bounds::Bounds;
 use crate::history::anew::let_grow;
 use cdb_base::{Event, Kind, NoMemory, Proc, Reg, StepId};
@@ -232,58 +233,14 @@ impl History {
         self.events.get(i)
     }
 
-    /// Whether the slot's process receives the message at position `j`, from 0, or later, and at most once.
-    fn receives_later(&self, s: Proc, m: u16, j: usize, slot: usize) -> bool
-        requires { slot < 9 }
-        ensures { IsTrue result → HasNoReceiveBefore self.now j (named_copy_cell s m slot) }
+    /// Whether by the bounds no event before position `j`, from 0, receives the message.
+    pub(crate) fn is_unreceived_before(&self, j: usize, s: Proc, m: u16) -> bool
+        requires { j < length self.now }
+        ensures { IsTrue result → (slot : ℕ) → slot < 9 →
+            HasNoReceiveBefore self.now j (named_copy_cell s m slot) }
     {
-        if !self.bounds.is_received_once(s, m, slot) {
-            return false;
-        }
-        let end = self
-            .events
-            .position_above(self.bounds.end_of_receives(s, m, slot));
-        for i in (j..end).rev() {
-            if is_receive_of(self.events.get(i), s, m, slot) {
-                return true;
-            }
-        }
-        false
-    }
-
-    /// The same of a message that process `p` sends at position `j`, to another process.
-    fn is_message_received_later(&self, p: &Proc, m: u16, j: usize, slot: usize) -> bool
-        ensures { IsTrue result → HasNoCauseAsStep self.now j p.now (Send m) slot }
-    {
-        if slot >= 9 {
-            return false;
-        }
-        if p.index() == slot {
-            return false;
-        }
-        self.receives_later(*p, m, j, slot)
-    }
-
-    /// The same of a step of process `p` of that kind at position `j`.
-    fn is_step_received_later(&self, p: &Proc, kind: &Kind, j: usize, slot: usize) -> bool
-        ensures { IsTrue result → HasNoCauseAsStep self.now j p.now kind.now slot }
-    {
-        match kind {
-            Kind::Send(m) => self.is_message_received_later(p, *m, j, slot),
-            _ => false,
-        }
-    }
-
-    /// Whether the event at position `j`, from 0, is a send to the slot's process that is received later: so
-    /// no earlier event in that slot is a cause of it.
-    pub(crate) fn is_received_later(&self, effect: &Event, j: usize, slot: usize) -> bool
-        requires at { slice_get self.now j ≡ Some effect.now }
-        ensures { IsTrue result → IsNoCause self.now j slot }
-    {
-        match effect {
-            Event::Step { p, kind, .. } => self.is_step_received_later(p, kind, j, slot),
-            Event::Lost(_) => false,
-        }
+        self.bounds
+            .is_unreceived_below(self.events.mark_at(j), s, m)
     }
 
     /// A position, from 0, above all events in a slot on which the effect depends, where it stands.
@@ -305,6 +262,34 @@ impl History {
     {
         let bound = self.bounds.end_between(cause, effect, ABOVE_ALL);
         self.events.position_above(bound)
+    }
+
+    /// The position, from 0, of the last write of the register before position `j`.
+    pub(crate) fn last_write(&self, register: Reg, j: usize) -> Option<usize>
+        requires { j < length self.now }
+        ensures { IsLastSoughtOrNone self.now (Write register) None 0 j result }
+    {
+        let list = writes_of(&register);
+        let kind = Kind::Write(register);
+        self.accesses.last_of(&self.events, list, kind, None, 0, j)
+    }
+
+    /// The position, from 0, of the last read of the register from position `low` on, and before position `j`, by the
+    /// slot's process where a slot is given.
+    pub(crate) fn last_read(
+        &self,
+        register: Reg,
+        slot: Option<usize>,
+        low: usize,
+        j: usize,
+    ) -> Option<usize>
+        requires { j < length self.now }
+        ensures { IsLastSoughtOrNone self.now (Read register) slot low j result }
+    {
+        let list = reads_of(&register);
+        let kind = Kind::Read(register);
+        self.accesses
+            .last_of(&self.events, list, kind, slot, low, j)
     }
 
     /// A position, from 0, above all events that depend on the one at position `i`.

@@ -134,12 +134,11 @@ impl<T: Drop> Log<T> {
         start_of(&self.ends, k) + count_below(offsets, bound % PIECE)
     }
 
-    /// The mark of the item at a position. Those behind it have higher marks.
+    /// The mark of the item at a position.
     pub fn mark_at(&self, position: usize) -> Mark
         requires { position < length self.now.items }
         ensures mark { result ≡ mark self.now position }
-        ensures rising { (j : ℕ) → position ≤ j → j < length self.now.items →
-            result ≤ mark self.now j }
+        ensures rising { MarksRise self.now }
     {
         let (k, i) = spot_of(&self.ends, position);
         let offsets = &self.offsets[k];
@@ -207,6 +206,7 @@ impl<T: Drop> Log<T> {
     }
 
     /// The item under a mark, with its position, if there is one.
+    #[inline(always)]
     pub fn find(&self, mark: Mark) -> Option<(usize, &T)>
         ensures { MatchOption result (HasNoMark self.now mark)
             (λ found. IsMarked self.now mark found.0 found.1.now) }

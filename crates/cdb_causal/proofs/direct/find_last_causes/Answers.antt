@@ -1,6 +1,8 @@
 use Rattle.std.proofs.Common.{◌≡◌, Some, sym, ap, ◌∙◌, arith}
 use Rattle.cdb_base.specs.declared.event.Event.TheVariants.{Step}
-use Rattle.cdb_causal.proofs.KindsOfCauses.{none_but_for_receive, none_but_own, has_slot_among_all}
+use Rattle.cdb_causal.proofs.KindsOfCauses.{none_but_for_receive, has_slot_among_all}
+use Rattle.cdb_causal.proofs.FromOne.{standing_down}
+use Rattle.cdb_causal.proofs.LastPositions.{above_causes, last_or_indirect}
 use Rattle.cdb_causal.proofs.direct.find_last_causes.Goals as goal
 
 pub find_last_in-requires-clause-others : goal.find_last_in-requires-clause-others
@@ -14,17 +16,19 @@ find_last_in-requires-clause-others c =
     (λ same. not_in 1 (ap Some (let is : c.index-in-Recv.result ≡ slot = omega arith in is)))
     (λ same. not_in 2 (ap Some (sym same)))
 
-pub find_last_in-requires-in_default-clause-others : goal.find_last_in-requires-in_default-clause-others
-find_last_in-requires-in_default-clause-others c =
-    let own = c.index-in_default.ensures.value in
-    λ slot not_in below.
-    none_but_own c.args.history.now c.args.j c.in-Step.p c.in-Step.k slot c.in-Step.kind
-    (record { not_send = c.in_default.not-Send; not_receive = c.in_default.not-Recv; not_read = c.in_default.not-Read; not_write = c.in_default.not-Write })
-    (c.requires.at ∙ ap Some c.in-Step.is)
-    (λ same. not_in 0 (ap Some (let is : c.index-in_default.result ≡ slot = omega arith in is)))
+pub find_last_in-requires-2-clause-others : goal.find_last_in-requires-2-clause-others
+find_last_in-requires-2-clause-others c = λ slot not_in below. absurd (not_in slot (has_slot_among_all slot below))
 
-pub find_last_in-requires-in-Send-clause-others : goal.find_last_in-requires-in-Send-clause-others
-find_last_in-requires-in-Send-clause-others c = λ slot not_in below. absurd (not_in slot (has_slot_among_all slot below))
+pub returns-in-Recv-clause-last : goal.returns-in-Recv-clause-last
+returns-in-Recv-clause-last c = λ slot below. last_or_indirect c.args.history.now c.args.j slot _ (c.find_last_in.ensures.last slot below)
 
-pub find_last_in-requires-in-Lost-clause-others : goal.find_last_in-requires-in-Lost-clause-others
-find_last_in-requires-in-Lost-clause-others c = λ slot not_in below. absurd (not_in slot (has_slot_among_all slot below))
+pub returns-in-Recv-clause-end : goal.returns-in-Recv-clause-end
+returns-in-Recv-clause-end c =
+    above_causes c.args.history.now (standing_down c.args.history.now c.len-standing.ensures.standing) c.args.j c.find_last_in.result c.find_last_in.new.causes c.find_last_in.ensures.last c.find_last_in.ensures.end
+
+pub returns-clause-last : goal.returns-clause-last
+returns-clause-last c = λ slot below. last_or_indirect c.args.history.now c.args.j slot _ (c.find_last_in-2.ensures.last slot below)
+
+pub returns-clause-end : goal.returns-clause-end
+returns-clause-end c =
+    above_causes c.args.history.now (standing_down c.args.history.now c.len-standing.ensures.standing) c.args.j c.find_last_in-2.result c.find_last_in-2.new.causes c.find_last_in-2.ensures.last c.find_last_in-2.ensures.end

@@ -1,13 +1,14 @@
 use Rattle.std.proofs.Common.{◌+◌, List, refl, sym, subst, arith}
 use Rattle.cdb_base.specs.Event.{event_name}
 use Rattle.cdb_base.specs.declared.event.Event.{Event}
-use Rattle.cdb_causal.specs.Alone.{AreAlone}
+use Rattle.cdb_causal.specs.Alone.{AreAlone, AreExact}
 use Rattle.cdb_causal.specs.Bounds.{IsEventWithin, AreWithin}
 use Rattle.cdb_causal.specs.FromZero.{IsStanding}
 use Rattle.cdb_causal.specs.Listed.{AreListed}
 use Rattle.cdb_causal.specs.Named.{AreRanged, HaveNameCells}
 use Rattle.cdb_causal.specs.Own.{AreOwn, IsOwnNoted}
 use Rattle.cdb_causal.proofs.Bounding.{within_push}
+use Rattle.cdb_causal.proofs.Exact.{exact_push}
 use Rattle.cdb_causal.proofs.FromOne.{new_down, lost_down}
 use Rattle.cdb_causal.proofs.Keeping.{standing_push}
 use Rattle.cdb_causal.proofs.Listing.{listed_push}
@@ -36,7 +37,10 @@ returns-clause-indexed c =
           (subst (λ n. IsEventWithin noted n event) (sym pushed.last) c.note.ensures.within));
       alone =
           subst (AreAlone noted) (sym pushed.items)
-          (alone_push bounds bounds noted (mark old) items event (λ n. refl) c.note.ensures.receives indexed.within indexed.alone);
+          (alone_push bounds bounds noted (mark old) items top event (λ n. refl) c.note.ensures.receives indexed.within indexed.alone);
+      exact =
+          subst (AreExact noted (mark log)) (sym pushed.items)
+          (exact_push bounds noted (mark old) (mark log) items c.append_to_log-mark.result event c.note.ensures.receives indexed.within indexed.exact pushed.marks pushed.last);
       own =
           subst (AreOwn noted (mark log)) (sym pushed.items)
           (own_push top bounds noted (mark old) (mark log) items event c.note.ensures.others (λ i less. let above = pushed.above i less in omega arith) indexed.own pushed.marks

@@ -28,9 +28,10 @@ pub returns-in-Step-clause-receives : goal.returns-in-Step-clause-receives
 returns-in-Step-clause-receives c =
     let joins = c.note_kind.ensures.receives c.in-Step.k in
     let same = c.note_own.ensures.receives in
-    subst (λ e. JoinsCell c.args.self.now c.note_own.new.self e) (sym c.in-Step.is)
+    subst (λ e. JoinsCell c.args.self.now c.note_own.new.self (c.args.mark + 1) e) (sym c.in-Step.is)
     (record {
       alone = λ n is single. joins.alone n is (λ e. single (ap (λ t. bound_of t n) same ∙ e));
+      exact = λ n is single. ap (λ t. bound_of t n) same ∙ joins.exact n is (λ e. single (ap (λ t. bound_of t n) same ∙ e));
       others = λ n none. ap (λ t. bound_of t n) same ∙ joins.others n none;
     })
 

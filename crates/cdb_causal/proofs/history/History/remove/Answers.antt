@@ -2,7 +2,7 @@ use Rattle.std.proofs.Common.{◌≡◌, ℕ, ◌-◌, ◌<◌, ◌≤◌, ◌�
 use Rattle.std.proofs.lemmas.Option.{slice_get_within}
 use Rattle.cdb_base.specs.declared.event.Event.{Event}
 use Rattle.cdb_causal.specs.Tables.{bound_of}
-use Rattle.cdb_causal.specs.Alone.{AreAlone}
+use Rattle.cdb_causal.specs.Alone.{AreAlone, AreExact}
 use Rattle.cdb_causal.specs.Bounds.{AreWithin}
 use Rattle.cdb_causal.specs.FromZero.{without, IsStanding}
 use Rattle.cdb_causal.specs.Listed.{AreListed}
@@ -17,6 +17,7 @@ use Rattle.cdb_causal.proofs.Listing.{listed_without}
 use Rattle.cdb_causal.proofs.Naming.{ranged_without, name_cells_without, within_named, own_named}
 use Rattle.cdb_causal.proofs.Owning.{leaves_then, own_same, own_without}
 use Rattle.cdb_causal.proofs.Receives.{alone_kept, alone_without}
+use Rattle.cdb_causal.proofs.Exact.{exact_kept, exact_without}
 use Rattle.cdb_log.specs.Marks.{Marked, mark, IsTakenOut}
 use Rattle.cdb_causal.proofs.history.History.remove.Goals as goal
 
@@ -58,6 +59,10 @@ invariant_of-self c =
           subst (AreAlone c.forget_name.new.self) (sym left)
           (alone_kept c.forget.new.self c.forget_name.new.self (without items gone) (λ n. ap (λ t. bound_of t n) unnamed.receives)
           (alone_without c.self.inside.bounds c.forget.new.self items gone event removed.stood leaves c.self.invariant.alone));
+      exact =
+          subst (AreExact c.forget_name.new.self (mark new)) (sym left)
+          (exact_kept c.forget.new.self c.forget_name.new.self (mark new) (without items gone) (λ n. ap (λ t. bound_of t n) unnamed.receives)
+          (exact_without c.self.inside.bounds c.forget.new.self (mark old) (mark new) items gone event removed.stood leaves c.self.invariant.alone c.self.invariant.exact stay));
       ranged = subst AreRanged (sym left) (ranged_without items gone c.self.invariant.ranged);
       name_cells = subst HaveNameCells (sym left) (name_cells_without items gone c.self.invariant.name_cells);
       listed =
