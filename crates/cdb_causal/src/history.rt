@@ -83,6 +83,7 @@ fn append_to_log(log: &mut Log<Event>, event: Event) -> Mark
 
 /// Makes room for an event in a log, in its bounds and in its accesses, which are built anew where there are no
 /// marks left. The events stay, whatever is returned.
+#[inline(always)]
 fn make_room(
     alloc: Global,
     events: &mut Log<Event>,
