@@ -413,6 +413,7 @@ impl History {
     }
 
     /// Takes the event at a position out, from 1 to the number of events. The others keep their order.
+    #[inline(always)]
     pub fn remove(&mut self, at: usize) -> Event
         requires from_one { 1 ≤ at }
         requires to_len { at ≤ length self.old }
