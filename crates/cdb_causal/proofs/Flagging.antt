@@ -1,8 +1,6 @@
 -- Whether an event depends on one of a list, by the flags of what these do.
-use Rattle.std.proofs.Common.{◌≡◌, ℕ, Bool, true, false, ◌&&◌, ◌||◌, nat_eq, List, [], ◌∷◌, refl, sym, ap, ap₂, ◌∙◌, true≢false, eqb-true, eq-eqb, ◌-◌, take, drop}
+use Rattle.std.proofs.Common.{◌≡◌, ℕ, Bool, true, false, ◌&&◌, ◌||◌, nat_eq, List, [], ◌∷◌, refl, sym, ap, ap₂, ◌∙◌, true≢false, eqb-true, eq-eqb}
 use Rattle.std.specs.List.{list_any}
-use Rattle.std.proofs.lemmas.List.{take-append-drop}
-use Rattle.std.proofs.lemmas.List.Folds.{list_any-append}
 use Rattle.cdb_base.specs.Event.{is_step_of}
 use Rattle.cdb_base.specs.Registers.{same_register}
 use Rattle.cdb_base.specs.declared.event.Event.{Event}
@@ -14,10 +12,8 @@ use Rattle.cdb_base.specs.declared.register.Reg.{Reg}
 use Rattle.cdb_base.specs.declared.register.Reg.TheVariants.{R, Dec}
 use Rattle.cdb_causal.specs.Dependence.{sends, receives, accesses, same_process, depends}
 use Rattle.cdb_causal.specs.Effects.{affects}
-use Rattle.cdb_causal.specs.Cells.{row, named_cell, named_copy_cell}
-use Rattle.cdb_causal.specs.Flagged.{flag_in, writes, does, loses, loses_copy, takes, AreFlagged, HasSameFlags}
+use Rattle.cdb_causal.specs.Flagged.{writes, does, loses, loses_copy, takes}
 use Rattle.cdb_causal.specs.Rollback.{depends_on_one}
-use Rattle.cdb_causal.specs.declared.flags.Flags.{Flags}
 use Rattle.cdb_causal.proofs.Effects.{by_effect}
 
 -- ---- tests of a list
@@ -149,23 +145,3 @@ by_first a b same is h = is ∙ ap (λ x. x || b) (sym is ∙ same) ∙ h
 
 pub by_second : (a b : Bool) {r s dep : Bool} → r ≡ a → r ≡ false → s ≡ b → (a || b) ≡ dep → s ≡ dep
 by_second a b same is other h = other ∙ ap (λ x. x || b) (sym is ∙ same) ∙ h
-
--- ---- lists of which the first events are flagged
-
-pub on_parts : (events : List Event) (count : ℕ) (event : Event) → (depends_on_one depends (take count events) event || depends_on_one depends (drop count events) event) ≡ depends_on_one depends events event
-on_parts events count event =
-    sym (list_any-append (λ c. depends c event) (take count events) (drop count events))
-    ∙ ap (λ l. depends_on_one depends l event) (take-append-drop count events)
-
-pub flagged_same : (old new : Flags) (events : List Event) → HasSameFlags old new → AreFlagged old events → AreFlagged new events
-flagged_same old new events same flagged =
-    record {
-      stepped = λ p h. ap (λ l. flag_in l (p - 1)) same.stepped ∙ flagged.stepped p h;
-      written = λ x h. ap (λ l. flag_in l (row x)) same.written ∙ flagged.written x h;
-      accessed = λ x h. ap (λ l. flag_in l (row x)) same.accessed ∙ flagged.accessed x h;
-      sent = λ s m h. same.sent (named_cell s m) ∙ flagged.sent s m h;
-      received = λ s m h. same.received (named_cell s m) ∙ flagged.received s m h;
-      lost = λ s m h. same.lost (named_cell s m) ∙ flagged.lost s m h;
-      received_copies = λ s m q h k. same.received_copies (named_copy_cell s m (q - 1)) ∙ flagged.received_copies s m q h k;
-      lost_copies = λ s m q h k. same.lost_copies (named_copy_cell s m (q - 1)) ∙ flagged.lost_copies s m q h k;
-    }

@@ -35,6 +35,7 @@ pub mod Numbering
 pub mod Owning
 pub mod Receives
 pub mod Bounding
+pub mod FoundAt
 pub mod Indexing
 pub mod LastPositions
 pub mod Ends

@@ -8,15 +8,15 @@ use Rattle.cdb_causal.proofs.Walks.{link_at}
 
 module _ {E : Type 0} (depends : E → E → Bool) where
   -- what is caught from one event on, by what is caught from the next on
-  pub caught_more : (history causes : List E) (j : ℕ) (event : E) (b : Bool) → slice_get history j ≡ Some event → depends_on_one depends causes event ≡ b
-      → causes ++ caught depends causes (drop j history)
-      ≡ cond b ((causes ++ event ∷ []) ++ caught depends (causes ++ event ∷ []) (drop (j + 1) history)) (causes ++ caught depends causes (drop (j + 1) history))
-  caught_more history causes j event b at is =
-      ap (λ l. causes ++ caught depends causes l) (drop_from history j event at ∙ ap (λ n. event ∷ drop n history) (let e : suc j ≡ j + 1 = omega arith in e))
-      ∙ ap (λ (c : Bool). causes ++ cond c (event ∷ caught depends (causes ++ event ∷ []) (drop (j + 1) history)) (caught depends causes (drop (j + 1) history))) is
-      ∙ elim b as (λ c. causes ++ cond c (event ∷ caught depends (causes ++ event ∷ []) (drop (j + 1) history)) (caught depends causes (drop (j + 1) history))
-      ≡ cond c ((causes ++ event ∷ []) ++ caught depends (causes ++ event ∷ []) (drop (j + 1) history)) (causes ++ caught depends causes (drop (j + 1) history))) [
-        | true ↦ sym (append_assoc causes (event ∷ []) (caught depends (causes ++ event ∷ []) (drop (j + 1) history)))
+  pub caught_next : (history : List E) (first : E) (found : List E) (j : ℕ) (event : E) (b : Bool) → slice_get history j ≡ Some event → depends_on_one depends (first ∷ found) event ≡ b
+      → found ++ caught depends (first ∷ found) (drop j history)
+      ≡ cond b ((found ++ event ∷ []) ++ caught depends (first ∷ found ++ event ∷ []) (drop (j + 1) history)) (found ++ caught depends (first ∷ found) (drop (j + 1) history))
+  caught_next history first found j event b at is =
+      ap (λ l. found ++ caught depends (first ∷ found) l) (drop_from history j event at ∙ ap (λ n. event ∷ drop n history) (let e : suc j ≡ j + 1 = omega arith in e))
+      ∙ ap (λ (c : Bool). found ++ cond c (event ∷ caught depends (first ∷ found ++ event ∷ []) (drop (j + 1) history)) (caught depends (first ∷ found) (drop (j + 1) history))) is
+      ∙ elim b as (λ c. found ++ cond c (event ∷ caught depends (first ∷ found ++ event ∷ []) (drop (j + 1) history)) (caught depends (first ∷ found) (drop (j + 1) history))
+      ≡ cond c ((found ++ event ∷ []) ++ caught depends (first ∷ found ++ event ∷ []) (drop (j + 1) history)) (found ++ caught depends (first ∷ found) (drop (j + 1) history))) [
+        | true ↦ sym (append_assoc found (event ∷ []) (caught depends (first ∷ found ++ event ∷ []) (drop (j + 1) history)))
         | false ↦ refl
       ]
 

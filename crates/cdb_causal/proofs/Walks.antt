@@ -1,5 +1,5 @@
 -- One step of a walk along a history: what a link is at two events, and what is caught from a position on.
-use Rattle.std.proofs.Common.{◌≡◌, ℕ, zero, suc, ◌+◌, ◌-◌, ◌<◌, ◌≤◌, Bool, true, false, ◌⊎◌, ⊎_elim, List, [], ◌∷◌, ◌++◌, Some, length, slice_get, drop, sym, ap, ap₂, ◌∙◌, true≢false, add-one, arith}
+use Rattle.std.proofs.Common.{◌≡◌, ℕ, zero, suc, ◌-◌, ◌<◌, ◌≤◌, Bool, true, false, ◌⊎◌, ⊎_elim, List, [], ◌∷◌, Some, slice_get, sym, ap, ap₂, ◌∙◌, true≢false, arith}
 use Rattle.std.proofs.lemmas.Option.{same_Some, none-some}
 use Rattle.cdb_causal.specs.FromZero.{IsLink, consequences, rolled_back}
 use Rattle.cdb_causal.specs.Rollback.{caught}
@@ -16,22 +16,6 @@ module _ {E : Type 0} (depends : E → E → Bool) where
       ∙ ap₂ depends (same_Some l.cause cause (sym l.at_cause ∙ at_cause)) (same_Some l.effect effect (sym l.at_effect ∙ at_effect))
       ∙ h)
 
-  drop_at_suc : (history : List E) (j : ℕ) (event : E) → slice_get history j ≡ Some event → drop j history ≡ event ∷ drop (suc j) history
-  drop_at_suc [] j event at = absurd (none-some event at)
-  drop_at_suc (x ∷ xs) zero event at = ap (λ e. e ∷ xs) (same_Some x event at)
-  drop_at_suc (x ∷ xs) (suc j) event at = drop_at_suc xs j event at
-
-  drop_at : (history : List E) (j : ℕ) (event : E) → slice_get history j ≡ Some event → drop j history ≡ event ∷ drop (j + 1) history
-  drop_at history j event at = drop_at_suc history j event at ∙ ap (λ k. event ∷ drop k history) (sym (add-one j))
-
-  rolled_back_suc : (history : List E) (i : ℕ) (event : E) → slice_get history i ≡ Some event → rolled_back depends history i ≡ event ∷ caught depends (event ∷ []) (drop (suc i) history)
-  rolled_back_suc [] i event at = absurd (none-some event at)
-  rolled_back_suc (x ∷ xs) zero event at = ap (λ e. e ∷ caught depends (e ∷ []) xs) (same_Some x event at)
-  rolled_back_suc (x ∷ xs) (suc i) event at = rolled_back_suc xs i event at
-
-  pub rolled_back_start : (history : List E) (i : ℕ) (event : E) → slice_get history i ≡ Some event → rolled_back depends history i ≡ (event ∷ []) ++ caught depends (event ∷ []) (drop (i + 1) history)
-  rolled_back_start history i event at = rolled_back_suc history i event at ∙ ap (λ k. event ∷ caught depends (event ∷ []) (drop k history)) (sym (add-one i))
-
   pub rolled_back_split : (history : List E) (i : ℕ) (event : E) → slice_get history i ≡ Some event → rolled_back depends history i ≡ event ∷ consequences depends history i
   rolled_back_split [] i event at = absurd (none-some event at)
   rolled_back_split (x ∷ xs) zero event at = ap (λ e. e ∷ caught depends (x ∷ []) xs) (same_Some x event at)
@@ -39,12 +23,6 @@ module _ {E : Type 0} (depends : E → E → Bool) where
 
 pub above_suc : (k j : ℕ) → (k < j → ⊥) → j ≤ k
 above_suc k j h = grind (arith, h)
-
-module _ {E : Type 0} (depends : E → E → Bool) where
-  pub rolled_back_some : (history : List E) (i : ℕ) → i < length history → 1 ≤ length (rolled_back depends history i)
-  rolled_back_some [] i h = absurd (omega arith)
-  rolled_back_some (x ∷ xs) zero h = omega arith
-  rolled_back_some (x ∷ xs) (suc i) h = rolled_back_some xs i (omega arith)
 
 -- a position from a bound on, of which all above are ruled out, is the bound
 pub below_or_at : {P : Type 0} (k n : ℕ) → n - 1 ≤ k → 0 < n → (n ≤ k → P) → (k ≡ n - 1 → P) → P

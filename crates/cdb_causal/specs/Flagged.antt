@@ -1,5 +1,5 @@
 -- Flags that say what the events of a list do, by which it shows at once whether another event depends on one of them.
-use Rattle.std.specs.Prelude.{◌≡◌, ℕ, ◌-◌, ◌<◌, ◌==◌, ◌&&◌, ◌||◌, Bool, true, false, nat_eq, ⊤, List, slice_index_or, vec_len, if◌then◌else◌}
+use Rattle.std.specs.Prelude.{◌≡◌, ℕ, ◌-◌, ◌<◌, ◌==◌, ◌&&◌, ◌||◌, Bool, true, false, nat_eq, ⊤, List, [], slice_index_or, vec_len, MatchBool, if◌then◌else◌}
 use Rattle.std.specs.List.{list_any}
 use Rattle.cdb_base.specs.Event.{is_step_of}
 use Rattle.cdb_base.specs.Registers.{same_register}
@@ -11,6 +11,7 @@ use Rattle.cdb_base.specs.declared.register.Reg.{Reg}
 use Rattle.cdb_causal.specs.Cells.{row, named_cell, named_copy_cell, IsProcess, IsRegister}
 use Rattle.cdb_causal.specs.Dependence.{sends, receives, accesses, depends}
 use Rattle.cdb_causal.specs.Rollback.{depends_on_one}
+use Rattle.cdb_causal.specs.declared.caught.Caught.{Caught}
 use Rattle.cdb_causal.specs.declared.flags.Flags.{Flags}
 
 -- the flag in a cell; beyond the end of the table none is set
@@ -112,3 +113,8 @@ pub record IsKindNoted (old new : Flags) (p : ℕ) (kind : Kind) : Type 0 where
   pub lost : new.lost ≡ old.lost
   pub received_copies : AddsCopies old.received_copies.items new.received_copies.items (λ s m q. nat_eq p q && receives s m kind)
   pub lost_copies : new.lost_copies ≡ old.lost_copies
+
+-- these are the events that were found: all are flagged, or where they are few they are kept, and none is flagged
+abbrev pub AreCaught : Caught → List Event → Type 0
+AreCaught caught events =
+    MatchBool caught.are_flagged (AreFlagged caught.flags events) ((caught.few.items ≡ events) × AreFlagged caught.flags [])

@@ -1,12 +1,11 @@
 -- The events of a history by their names.
-use Rattle.std.specs.Prelude.{◌≡◌, ℕ, ◌≤◌, IsTrue, List, map, Option, Some, MatchOption}
+use Rattle.std.specs.Prelude.{◌≡◌, ℕ, ◌≤◌, IsTrue, List, Option, Some, MatchOption}
 use Rattle.cdb_base.specs.Event.{event_name, is_step_of}
 use Rattle.cdb_base.specs.Positions.{nth}
 use Rattle.cdb_base.specs.declared.event.Event.{Event}
 use Rattle.cdb_base.specs.declared.name.StepId.{StepId}
 use Rattle.cdb_causal.specs.Causality.{IsFree, IsLink}
 use Rattle.cdb_causal.specs.Dependence.{depends}
-use Rattle.cdb_causal.specs.Rollback.{consequences}
 
 -- the event at a position has the name
 abbrev pub IsNamedAt : List Event → ℕ → StepId → Type 0
@@ -32,10 +31,6 @@ pub record IsFirstDependent (history : List Event) (at : ℕ) (name : StepId) : 
 -- the name is that of the first event linked to a position; none says that the event there is free
 abbrev pub IsFirstDependentOrFree : List Event → ℕ → Option StepId → Type 0
 IsFirstDependentOrFree history at found = MatchOption found (IsFree depends history at) (IsFirstDependent history at)
-
--- the names of the consequences of the event at a position, in order
-abbrev pub consequence_names : List Event → ℕ → List StepId
-consequence_names history at = map event_name (consequences depends history at)
 
 -- no step of process p stands behind that position
 abbrev pub IsEndOfSteps : List Event → ℕ → ℕ → Type 0

@@ -139,6 +139,7 @@ impl Bounds {
     }
 
     /// Makes room for what a step of that kind sends or receives.
+    #[inline(always)]
     fn reserve_kind(&mut self, p: Proc, kind: Kind) -> Result<(), NoMemory>
         ensures others { (top : ℕ) → AreRaised top self.old self.new }
         ensures steps { self.new.steps ≡ self.old.steps }

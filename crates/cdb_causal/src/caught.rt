@@ -1,7 +1,9 @@
 //! The events that a search for consequences has found.
 
-ghost use Rattle.std.specs.Prelude.{◌≡◌, [], ◌∷◌, ◌++◌, OnOk, OnErr};
+ghost use Rattle.std.specs.Prelude.{◌≡◌, List, [], ◌∷◌, ◌++◌, OnOk};
+ghost use Rattle.cdb_base.specs.declared.event.Event.{Event as AnEvent};
 ghost use Rattle.cdb_causal.specs.Dependence.{depends as depends_of};
+ghost use Rattle.cdb_causal.specs.Flagged.{AreFlagged};
 ghost use Rattle.cdb_causal.specs.Rollback.{depends_on_one as depends_on_one_of};
 
 use crate::dependence::depends;
@@ -9,32 +11,19 @@ use crate::flags::Flags;
 use crate::history::append;
 use cdb_base::{Event, NoMemory};
 use std::alloc::Global;
-use std::marker::Model;
 
 /// As long as there are fewer events, none is flagged: flags take memory for all messages up to the
 /// highest.
 const FEW: usize = 32;
 
-/// The events found, in order, with flags of what they do. A contract sees their list.
+/// Tells whether another event depends on one of those found.
 #[derive(Drop)]
 pub(crate) struct Caught {
-    events: Vec<Event>,
-    /// Of the first events, as many as `flagged` says.
+    /// The first events.
+    few: Vec<Event>,
+    /// Of all events, once these are more than a few.
     flags: Flags,
-    flagged: usize,
-}
-
-impl Model for Caught {
-    ghost use Rattle.std.specs.Prelude.{List, ◌≤◌, length, take};
-    ghost use Rattle.cdb_base.specs.declared.event.Event.{Event};
-    ghost use Rattle.cdb_causal.specs.Flagged.{AreFlagged};
-
-    ghost Value = { List Event };
-
-    ghost view = { λ c. c.events.items };
-
-    ghost invariant = { λ c. (c.flagged ≤ length c.events.items) ×
-        AreFlagged c.flags (take c.flagged c.events.items) };
+    are_flagged: bool,
 }
 
 /// Whether the event depends on one of the causes.
@@ -44,55 +33,68 @@ fn depends_on_one(causes: &[Event], event: &Event) -> bool
     causes.iter().any(|cause| depends(cause, event))
 }
 
+/// Flags an event.
+#[inline(always)]
+fn flag(flags: &mut Flags, event: &Event) -> Result<(), NoMemory>
+    ensures { (events : List AnEvent) → AreFlagged flags.old events →
+        OnOk result (AreFlagged flags.new (events ++ event.now ∷ [])) }
+{
+    flags.reserve(event)?;
+    flags.note(event);
+    Ok(())
+}
+
+/// Flags events, in order.
+#[cold]
+#[inline(never)]
+fn flag_all(flags: &mut Flags, events: &[Event]) -> Result<(), NoMemory>
+    ensures { AreFlagged flags.old [] → OnOk result (AreFlagged flags.new events.now) }
+{
+    for event in events {
+        flag(flags, event)?;
+    }
+    Ok(())
+}
+
 impl Caught {
-    /// Without events.
+    ghost use Rattle.cdb_causal.specs.Flagged.{AreCaught};
+
+    /// Of no events.
     pub(crate) fn new(alloc: Global) -> Self
-        ensures { result ≡ [] }
+        ensures { AreCaught result [] }
     {
         Caught {
-            events: Vec::new(alloc),
+            few: Vec::new(alloc),
             flags: Flags::new(alloc),
-            flagged: 0,
+            are_flagged: false,
         }
     }
 
-    /// Whether the event depends on one of those found. Each is asked that is not flagged.
+    /// Whether the event depends on one of those found.
     pub(crate) fn has_cause_of(&self, event: &Event) -> bool
-        ensures { result ≡ depends_on_one_of depends_of self.now event.now }
+        ensures { (events : List AnEvent) → AreCaught self.now events →
+            result ≡ depends_on_one_of depends_of events event.now }
     {
-        self.flags.depends(event) || depends_on_one(&self.events[self.flagged..], event)
+        if self.are_flagged {
+            return self.flags.depends(event);
+        }
+        depends_on_one(self.few.as_slice(), event)
     }
 
-    /// Flags the events that are not flagged: mostly the last alone.
+    /// Adds an event to those found.
     #[inline(always)]
-    fn flag_all(&mut self) -> Result<(), NoMemory>
-        ensures { self.new ≡ self.old }
+    pub(crate) fn add(&mut self, event: &Event) -> Result<(), NoMemory>
+        ensures { (events : List AnEvent) → AreCaught self.old events →
+            OnOk result (AreCaught self.new (events ++ event.now ∷ [])) }
     {
-        while self.flagged < self.events.len() {
-            let event = self.events[self.flagged];
-            self.flags.reserve(&event)?;
-            self.flags.note(&event);
-            self.flagged += 1;
+        if self.are_flagged {
+            return flag(&mut self.flags, event);
+        }
+        append(&mut self.few, *event)?;
+        if self.few.len() >= FEW {
+            flag_all(&mut self.flags, self.few.as_slice())?;
+            self.are_flagged = true;
         }
         Ok(())
-    }
-
-    /// Adds an event at the end. Without memory nothing is added.
-    #[inline(always)]
-    pub(crate) fn push(&mut self, event: Event) -> Result<(), NoMemory>
-        ensures ok { OnOk result (self.new ≡ self.old ++ event ∷ []) }
-        ensures err { OnErr result (self.new ≡ self.old) }
-    {
-        if self.events.len() >= FEW {
-            self.flag_all()?;
-        }
-        append(&mut self.events, event)
-    }
-
-    /// The events, in order.
-    pub(crate) fn into_events(self) -> Vec<Event>
-        ensures { result.items ≡ self }
-    {
-        self.events
     }
 }

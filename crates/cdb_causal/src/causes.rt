@@ -1,16 +1,16 @@
 //! What depends on an event of a history.
 
-ghost use Rattle.std.specs.Prelude.{◌≡◌, ℕ, ◌<◌, ◌≤◌, length, map, IfOk};
-ghost use Rattle.cdb_base.specs.Event.{event_name};
+ghost use Rattle.std.specs.Prelude.{ℕ, ◌<◌, ◌≤◌, length, IfOk};
 ghost use Rattle.cdb_causal.specs.Dependence.{depends as depends_of};
-ghost use Rattle.cdb_causal.specs.FromZero.{IsFirstDependentOrFree as IsFirstLinkedOrFree, IsLink, rolled_back};
-ghost use Rattle.cdb_causal.specs.Names.{IsFirstDependentOrFree, consequence_names};
+ghost use Rattle.cdb_causal.specs.FromZero.{IsFirstDependentOrFree as IsFirstLinkedOrFree, IsLink};
+ghost use Rattle.cdb_causal.specs.Names.{IsFirstDependentOrFree};
+ghost use Rattle.cdb_causal.specs.Rollback.{consequences as consequences_of, AreAt};
 ghost use Rattle.cdb_causal.specs.Starts.{IsFirstAmong};
 
 use crate::caught::Caught;
 use crate::dependence::depends;
 use crate::history::History;
-use cdb_base::{Event, NoMemory, StepId};
+use cdb_base::{NoMemory, StepId};
 use std::alloc::Global;
 
 /// The first event from position `from` on that depends on the one at position `i`, where it stands before the end.
@@ -70,46 +70,29 @@ fn end_with(history: &History, end: usize, j: usize) -> usize
     end.max(history.end_of_dependents(j))
 }
 
-/// The event at a position, from 0, with its consequences, in order.
-fn rolled_back_events(alloc: Global, history: &History, i: usize) -> Result<Vec<Event>, NoMemory>
-    requires { i < length history.now }
-    ensures { IfOk result (λ removed. removed.items ≡ rolled_back depends_of history.now i) }
+/// The positions, from 1, of the consequences of the event at a position, from 1 to the number of events: of the
+/// later events to which a chain of dependences leads from it, in the order of the history. It can
+/// fail only where memory is out.
+pub fn consequences(alloc: Global, history: &History, at: usize) -> Result<Vec<usize>, NoMemory>
+    requires from_one { 1 ≤ at }
+    requires to_len { at ≤ length history.now }
+    ensures { IfOk result (λ positions. AreAt history.now positions.items
+        (consequences_of depends_of history.now at)) }
 {
+    let mut positions = Vec::new(alloc);
     let mut causes = Caught::new(alloc);
-    causes.push(*history.event(i))?;
+    causes.add(history.event(at - 1))?;
     let count = history.len();
-    let mut end = history.end_of_dependents(i);
-    let mut j = history.start_of_dependents(i).min(count);
+    let mut end = history.end_of_dependents(at - 1);
+    let mut j = history.start_of_dependents(at - 1).min(count);
     while j < count && j < end {
         let event = history.event(j);
         if causes.has_cause_of(event) {
-            causes.push(*event)?;
+            causes.add(event)?;
+            positions.push(j + 1)?;
             end = end_with(history, end, j);
         }
         j += 1;
     }
-    Ok(causes.into_events())
-}
-
-/// The names of the events, in order.
-fn names(alloc: Global, events: &[Event]) -> Result<Vec<StepId>, NoMemory>
-    ensures { IfOk result (λ names. names.items ≡ map event_name events.now) }
-{
-    let mut names = Vec::with_capacity(alloc, events.len())?;
-    for event in events {
-        names.push_reserved(event.name());
-    }
-    Ok(names)
-}
-
-/// The names of the consequences of the event at a position, from 1 to the number of events: of the
-/// later events to which a chain of dependences leads from it, in the order of the history. It can
-/// fail only where memory is out.
-pub fn consequences(alloc: Global, history: &History, at: usize) -> Result<Vec<StepId>, NoMemory>
-    requires from_one { 1 ≤ at }
-    requires to_len { at ≤ length history.now }
-    ensures { IfOk result (λ names. names.items ≡ consequence_names history.now at) }
-{
-    let removed = rolled_back_events(alloc, history, at - 1)?;
-    names(alloc, &removed[1..])
+    Ok(positions)
 }

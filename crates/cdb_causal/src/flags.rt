@@ -108,6 +108,7 @@ impl Flags {
     }
 
     /// Makes room for what a step of that kind sends or receives.
+    #[inline(always)]
     fn reserve_kind(&mut self, p: Proc, kind: Kind) -> Result<(), NoMemory>
         ensures same { HasSameFlags self.old self.new }
         ensures room { OnOk result (HasFlagForKind self.new p kind) }

@@ -84,6 +84,7 @@ fn append_to_log(log: &mut Log<Event>, event: Event) -> Mark
 
 /// Makes room for an event in a log, in its bounds and in its accesses, which are built anew where there are no
 /// marks left. The events stay, whatever is returned.
+#[inline(always)]
 fn make_room(
     alloc: Global,
     events: &mut Log<Event>,
@@ -397,6 +398,7 @@ impl History {
     }
 
     /// Takes the event at a position out, from 1 to the number of events. The others keep their order.
+    #[inline(always)]
     pub fn remove(&mut self, at: usize) -> Event
         requires from_one { 1 ≤ at }
         requires to_len { at ≤ length self.old }

@@ -44,6 +44,7 @@ pub(crate) fn put_on<B: Drop>(stacks: &mut Vec<Lefts<B>>, p: Proc, item: Left<B>
 
 /// Takes what an event left from the top of its process's stack. The loss of a copy left nothing. It takes no
 /// memory.
+#[inline(always)]
 pub(crate) fn take_left<B: Drop>(stacks: &mut Vec<Lefts<B>>, event: &Event) -> Left<B>
     requires { HasLeft (lists stacks.old.items) event.now }
     ensures { IsPut (lists stacks.new.items) event.now result (lists stacks.old.items) }

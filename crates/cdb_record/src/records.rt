@@ -162,6 +162,7 @@ impl<B: Drop> Records<B> {
 
     /// Takes the free event at a position out, from 1 to the number of events, with what it left. It
     /// takes no memory.
+    #[inline(always)]
     pub fn take_out(&mut self, at: usize) -> Recorded<B>
         requires from_one { 1 ≤ at }
         requires to_len { at ≤ length self.old }

@@ -1,7 +1,7 @@
 -- A rollback, event by event, from the last consequence back.
-use Rattle.std.proofs.Common.{◌≡◌, ℕ, zero, suc, ◌+◌, ◌≤◌, List, [], ◌∷◌, ◌++◌, length, map, filter, reverse, Some, Result, Ok, Err, append_assoc, refl, sym, ap, ap₂, ◌∙◌, arith}
-use Rattle.std.proofs.lemmas.List.{length-map, length-reverse, reverse-append}
-use Rattle.std.proofs.lemmas.Option.{same_Some}
+use Rattle.std.proofs.Common.{◌≡◌, ℕ, zero, suc, ◌+◌, ◌≤◌, List, [], ◌∷◌, ◌++◌, length, map, filter, reverse, Some, Result, Ok, Err, append_assoc, refl, sym, ap, ◌∙◌, subst, arith}
+use Rattle.std.proofs.lemmas.List.{length-reverse, reverse-append}
+use Rattle.std.proofs.lemmas.Option.{none-some, same_Some}
 use Rattle.std.specs.List.{flat_map}
 use Rattle.cdb_base.specs.Event.{event_name, is_step_of}
 use Rattle.cdb_base.specs.Positions.{nth}
@@ -11,8 +11,13 @@ use Rattle.cdb_base.specs.declared.name.StepId.{StepId}
 use Rattle.cdb_causal.specs.Causality.{IsFree}
 use Rattle.cdb_causal.specs.Dependence.{depends}
 use Rattle.cdb_causal.specs.DirectCauses.{AreDirectCauses}
+use Rattle.cdb_causal.specs.FromZero as from_zero
 use Rattle.cdb_causal.specs.Names.{IsNamedAt}
-use Rattle.cdb_causal.specs.Rollback.{without, consequences, rolled_back, remaining}
+use Rattle.cdb_causal.specs.Rollback.{AreAt, without, consequences, rolled_back, remaining}
+use Rattle.cdb_causal.specs.Standing.{IsStanding}
+use Rattle.cdb_causal.proofs.FoundAt.{last_at, number_at}
+use Rattle.cdb_causal.proofs.FromOne.{standing_down, standing_up, without_is}
+use Rattle.cdb_causal.proofs.Keeping.{standing_without}
 use Rattle.cdb_causal.proofs.LawsFromOne.{rolled_back_split, rolled_back_alone, rolled_back_last}
 use Rattle.cdb_base.specs.declared.refusal.Refusal.{Refusal}
 use Rattle.cdb_rules.specs.RunView.{RunView}
@@ -21,43 +26,27 @@ use Rattle.cdb_rules.specs.State.{Machine}
 use Rattle.cdb_rules.specs.Step.{IsValid}
 use Rattle.cdb_rules.specs.Undo.{Found, event_named, found_at, for_standing, rollback_of, causes_of, result_alone, left_by, number_removed, with_removed, direct_among}
 use Rattle.cdb_rules.proofs.WhereOk.{found_named}
+use Rattle.cdb_rules.proofs.Positions.{nth_within}
 use Rattle.cdb_rules.proofs.Results.{found_is}
 use Rattle.cdb_run.proofs.Causes.{causes_at}
 
--- the last of the names is that of the last of the events
-record IsSplit (left : List Event) (rest : List StepId) (name : StepId) : Type 0 where
-  more : List Event
-  last : Event
-  left_is : left ≡ more ++ last ∷ []
-  rest_is : rest ≡ map event_name more
-  name_is : event_name last ≡ name
-
-split : (left : List Event) (rest : List StepId) (name : StepId) → rest ++ name ∷ [] ≡ map event_name left → IsSplit left rest name
-split [] [] name h = absurd (cc)
-split [] (r ∷ rest) name h = absurd (cc)
-split (x ∷ []) [] name h = record { more = []; last = x; left_is = refl; rest_is = refl; name_is = cc }
-split (x ∷ y ∷ ys) [] name h = absurd (cc)
-split (x ∷ xs) (r ∷ rest) name h =
-    let tails : rest ++ name ∷ [] ≡ map event_name xs = cc in
-    let heads : r ≡ event_name x = cc in
-    let s = split xs rest name tails in
-    record {
-      more = x ∷ s.more;
-      last = s.last;
-      left_is = ap (λ l. x ∷ l) s.left_is;
-      rest_is = ap₂ (λ a l. a ∷ l) heads s.rest_is;
-      name_is = s.name_is;
-    }
-
--- What is left to take back, by names, of the event at a position and its consequences, the first of which is that event; what
+-- What is left to take back, by positions, of the event at a position and its consequences, the first of which is that event; what
 -- has been taken back stands at the end of the list into which it goes.
-pub record IsLeft (before : List Event) (i : ℕ) (into : List Event) (history : List Event) (names : List StepId) (removed : List Event) : Type 0 where
+pub record IsLeft (before : List Event) (i : ℕ) (into history : List Event) (positions : List ℕ) (removed : List Event) : Type 0 where
   pub event : Event
   pub left : List Event
   pub rolled : rolled_back depends history i ≡ event ∷ left
-  pub names_are : names ≡ map event_name left
+  pub at : AreAt history positions left
+  pub standing : IsStanding history
   pub remains : remaining depends history i ≡ remaining depends before i
   pub went : removed ++ reverse (event ∷ left) ≡ into ++ reverse (rolled_back depends before i)
+
+-- the last of the positions is that of a free event, and the others are left without it
+pub record IsNextFree (before : List Event) (i : ℕ) (into history : List Event) (rest : List ℕ) (at : ℕ) (removed : List Event) : Type 0 where
+  pub from_one : 1 ≤ at
+  pub to_len : at ≤ length history
+  pub free : IsFree depends history at
+  pub then : (event : Event) → nth history at ≡ Some event → IsLeft before i into (without history at) rest (removed ++ event ∷ [])
 
 -- only the event itself is left
 pub record IsAlone (before : List Event) (i : ℕ) (into history removed : List Event) : Type 0 where
@@ -67,53 +56,65 @@ pub record IsAlone (before : List Event) (i : ℕ) (into history removed : List 
   pub remains : without history i ≡ remaining depends before i
   pub went : removed ++ event ∷ [] ≡ into ++ reverse (rolled_back depends before i)
 
+position_from_one : (history : List Event) (at : ℕ) (event : Event) → nth history at ≡ Some event → 1 ≤ at
+position_from_one history zero event at = absurd (none-some event at)
+position_from_one history (suc i) event at = omega arith
+
+standing_without_at : (history : List Event) (at : ℕ) (event : Event) → nth history at ≡ Some event → IsStanding history → IsStanding (without history at)
+standing_without_at history zero event at standing = absurd (none-some event at)
+standing_without_at history (suc i) event at standing =
+    standing_up (without history (suc i)) (subst from_zero.IsStanding (sym (without_is history i)) (standing_without history i (standing_down history standing)))
+
 module _ (before : List Event) (i : ℕ) (into : List Event) where
-  pub left_first : (event : Event) → nth before i ≡ Some event → IsLeft before i into before (map event_name (consequences depends before i)) into
-  left_first event at =
+  pub left_first : (event : Event) (positions : List ℕ) → nth before i ≡ Some event → IsStanding before → AreAt before positions (consequences depends before i) → IsLeft before i into before positions into
+  left_first event positions at standing are =
       let rolled = rolled_back_split depends before i event at in
       record {
         event = event;
         left = consequences depends before i;
         rolled = rolled;
-        names_are = refl;
+        at = are;
+        standing = standing;
         remains = refl;
         went = ap (λ l. into ++ reverse l) (sym rolled);
       }
 
-  pub number_left : (event : Event) → nth before i ≡ Some event → length (map event_name (consequences depends before i)) + 1 ≡ length (rolled_back depends before i)
-  number_left event at =
+  pub number_left : (event : Event) (positions : List ℕ) → nth before i ≡ Some event → AreAt before positions (consequences depends before i) → length positions + 1 ≡ length (rolled_back depends before i)
+  number_left event positions at are =
       let rolled = ap length (rolled_back_split depends before i event at) in
-      let names = length-map (consequences depends before i) event_name in
-      omega (arith, rolled, names)
+      let number = number_at before positions (consequences depends before i) are in
+      omega (arith, rolled, number)
 
   module _ {history : List Event} {removed : List Event} (from_one : 1 ≤ i) where
-    pub next_free : (rest : List StepId) (name : StepId) → IsLeft before i into history (rest ++ name ∷ []) removed
-        → (j : ℕ) × IsNamedAt history j name × IsFree depends history j × ((event : Event) → nth history j ≡ Some event → IsLeft before i into (without history j) rest (removed ++ event ∷ []))
-    next_free rest name h =
-        let s = split h.left rest name h.names_are in
-        let q = rolled_back_last depends history i from_one h.event s.last s.more (h.rolled ∙ ap (λ l. h.event ∷ l) s.left_is) in (
-          q.0,
-          (s.last, q.1, s.name_is),
-          q.2,
-          λ event at.
+    pub next_free : (rest : List ℕ) (at : ℕ) → IsLeft before i into history (rest ++ at ∷ []) removed → IsNextFree before i into history rest at removed
+    next_free rest at h =
+        let s = last_at history rest at h.left h.at in
+        let q = rolled_back_last depends history i from_one h.event s.last s.more (h.rolled ∙ ap (λ l. h.event ∷ l) s.events_are) in
+        let same : q.0 ≡ at = h.standing.names_differ q.0 at (event_name s.last) (s.last, q.1, refl) (s.last, s.stands, refl) in
+        record {
+          from_one = position_from_one history at s.last s.stands;
+          to_len = nth_within history at s.last s.stands;
+          free = subst (IsFree depends history) same q.2;
+          then = λ event stands.
               record {
                 event = h.event;
                 left = s.more;
-                rolled = q.3;
-                names_are = s.rest_is;
-                remains = q.4 ∙ h.remains;
+                rolled = ap (λ n. rolled_back depends (without history n) i) (sym same) ∙ q.3;
+                at = s.others;
+                standing = standing_without_at history at s.last s.stands h.standing;
+                remains = ap (λ n. remaining depends (without history n) i) (sym same) ∙ q.4 ∙ h.remains;
                 went =
                     append_assoc removed (event ∷ []) (reverse (h.event ∷ s.more))
-                    ∙ ap (λ e. removed ++ e ∷ reverse (h.event ∷ s.more)) (same_Some event s.last (sym at ∙ q.1))
+                    ∙ ap (λ e. removed ++ e ∷ reverse (h.event ∷ s.more)) (same_Some event s.last (sym stands ∙ s.stands))
                     ∙ ap (λ l. removed ++ l) (sym (reverse-append (h.event ∷ s.more) (s.last ∷ [])))
-                    ∙ ap (λ l. removed ++ reverse (h.event ∷ l)) (sym s.left_is)
+                    ∙ ap (λ l. removed ++ reverse (h.event ∷ l)) (sym s.events_are)
                     ∙ h.went;
-              },
-        )
+              };
+        }
 
-    pub alone_left : (names : List StepId) {len : ℕ} → len ≡ length names → len ≡ 0 → IsLeft before i into history names removed → IsAlone before i into history removed
-    alone_left names {len = len} is none h =
-        let no_more : h.left ≡ [] = empty h.left (sym (ap length h.names_are ∙ length-map h.left event_name) ∙ sym is ∙ none) in
+    pub alone_left : (positions : List ℕ) {len : ℕ} → len ≡ length positions → len ≡ 0 → IsLeft before i into history positions removed → IsAlone before i into history removed
+    alone_left positions {len = len} is none h =
+        let no_more : h.left ≡ [] = empty h.left (sym (number_at history positions h.left h.at) ∙ sym is ∙ none) in
         let q = rolled_back_alone depends history i from_one h.event (h.rolled ∙ ap (λ l. h.event ∷ l) no_more) in
         record {
           event = h.event;

@@ -30,6 +30,7 @@ fn payload_arriving(mail: &Mail, p: Proc, name: &MsgName) -> Option<Payload>
 }
 
 /// What the machine of process `p` is given at a step of that kind.
+#[inline(always)]
 pub(crate) fn input_at(mail: &Mail, registers: &Registers, p: Proc, kind: &Kind) -> Option<Input>
     ensures { result ≡ input_of kind.now (sight mail.now registers.now p kind.now) }
 {

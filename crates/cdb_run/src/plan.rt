@@ -49,6 +49,7 @@ fn is_possible<P: Process>(
 }
 
 /// Whether a machine accepts a step of that kind now.
+#[inline(always)]
 fn does_accept<P: Process>(
     setup: &Setup,
     local: &P,

@@ -30,6 +30,7 @@ pub(crate) fn take_input<P: Process>(
 }
 
 /// Puts back what an input left.
+#[inline(always)]
 pub(crate) fn give_back<P: Process>(local: &mut P, back: Option<P::Back>)
     ensures { local.new ≡ put_back P.before local.old back }
 {

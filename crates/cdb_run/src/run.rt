@@ -135,8 +135,8 @@ impl<P: Process> Run<P> {
         ensures err { OnErr result (self.new ≡ self.old) }
         ensures memory { OnErr result (IsOk planned) }
     {
-        if let Ok(event) = &planned {
-            self.take(alloc, event)?;
+        if let Ok(next) = &planned {
+            self.take(alloc, next)?;
         }
         Ok(planned)
     }
@@ -310,8 +310,11 @@ impl<P: Process> Run<P> {
         ensures err { OnErr result (self.new ≡ self.old) }
         ensures memory { OnErr result (IsOk (result_of_again P.table self.old event.now)) }
     {
-        let returned = self.plan_again(event);
-        self.take_planned(alloc, returned)
+        if let Err(refusal) = self.plan_again(event) {
+            return Ok(Err(refusal));
+        }
+        self.take(alloc, event)?;
+        Ok(Ok(*event))
     }
 
     /// Loses the copy of the `m`-th message of process `s` for process `p`, or returns the first

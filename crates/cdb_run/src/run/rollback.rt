@@ -1,15 +1,11 @@
 //! Steps and losses of a run, removed with their consequences, and why they cannot be removed
 //! alone.
 
-ghost use Rattle.std.specs.Prelude.{◌≡◌, ℕ, ◌+◌, ◌<◌, ◌≤◌, [], ◌∷◌, ◌++◌, length, reverse, Some, vec_len, vec_capacity, IfOk, IsOk, OnOk, OnErr};
+ghost use Rattle.std.specs.Prelude.{◌≡◌, ℕ, ◌+◌, ◌<◌, ◌≤◌, [], ◌∷◌, ◌++◌, length, reverse, vec_len, vec_capacity, IfOk, IsOk, OnOk, OnErr};
 ghost use Rattle.std.specs.Vec.{vec_items};
-ghost use Rattle.cdb_base.specs.Positions.{nth};
-ghost use Rattle.cdb_causal.specs.Names.{IsNamedAt};
-ghost use Rattle.cdb_causal.specs.Rollback.{without};
 ghost use Rattle.cdb_rules.specs.EventRefs.{name_given};
-ghost use Rattle.cdb_rules.specs.Runs.{step_name, loss_name, AllLeadTo, RollsBackOnto, Tells, result_of_rollback, causes_in, after_rollback, RollbackLeadsBack, IsExactRollback, AreCausesOf, with_history};
+ghost use Rattle.cdb_rules.specs.Runs.{step_name, loss_name, AllLeadTo, RollsBackOnto, Tells, result_of_rollback, causes_in, after_rollback, RollbackLeadsBack, IsExactRollback, AreCausesOf};
 ghost use Rattle.cdb_rules.specs.AtPositions.{rolled_back_at, after_rollback_at};
-ghost use Rattle.cdb_rules.specs.Undo.{IsFreeName};
 
 use crate::run::Run;
 use cdb_base::{Event, Kind, NoMemory, Refusal, Reg, StepId};
@@ -32,20 +28,6 @@ fn push_reserved(events: &mut Vec<Event>, event: &Event)
 }
 
 impl<P: Process> Run<P> {
-    /// Removes the free event of that name, which stands, and restores the state before it.
-    fn restore_named(&mut self, name: StepId) -> Event
-        requires { IsFreeName self.old.history name }
-        ensures event { (at : ℕ) → IsNamedAt self.old.history at name →
-            nth self.old.history at ≡ Some result }
-        ensures after { (at : ℕ) → IsNamedAt self.old.history at name →
-            self.new ≡ with_history self.old (without self.old.history at) }
-    {
-        match self.history().position(name) {
-            Some(at) => self.restore_at(at),
-            None => unreachable!(),
-        }
-    }
-
     /// Removes the event at a position, from 1, with its consequences, from the last of them back, and
     /// adds each to the end of a list. Returns how many events that are.
     fn roll_back(
@@ -64,11 +46,12 @@ impl<P: Process> Run<P> {
         ensures list_err { OnErr result (removed.new.items ≡ removed.old.items) }
         ensures capacity { vec_capacity removed.old ≤ vec_capacity removed.new }
     {
-        let mut names = consequences(alloc, self.history(), at)?;
-        let number = names.len() + 1;
+        let _standing = self.history().len();
+        let mut positions = consequences(alloc, self.history(), at)?;
+        let number = positions.len() + 1;
         removed.reserve(number)?;
-        while let Some(name) = names.pop() {
-            let event = self.restore_named(name);
+        while let Some(position) = positions.pop() {
+            let event = self.restore_at(position);
             push_reserved(removed, &event);
         }
         let event = self.restore_at(at);

@@ -69,24 +69,24 @@ fn compare_firsts(rt: &impl Abort, history: &History) -> usize {
     farthest
 }
 
-/// The names of the events behind one that go when it is rolled back.
-fn rolled_back_names(alloc: Global, history: &History, i: usize) -> Result<Vec<StepId>, NoMemory> {
+/// The positions, from 1 and in order, of the events behind one that go when it is rolled back.
+fn rolled_back_behind(alloc: Global, history: &History, i: usize) -> Result<Vec<usize>, NoMemory> {
     let positions = rolled_back(alloc, history, i)?;
-    let mut names = Vec::new(alloc);
+    let mut behind = Vec::new(alloc);
     for j in 0..history.len() {
         if i < j && positions.contains(&j) {
-            names.push(history.event(j).name())?;
+            behind.push(j + 1)?;
         }
     }
-    Ok(names)
+    Ok(behind)
 }
 
 /// Compares what comes after each event.
 fn compare_effects(rt: &impl Abort, alloc: Global, history: &History) {
     for i in 0..history.len() {
-        let names = rolled_back_names(alloc, history, i).expect(rt, "memory");
+        let positions = rolled_back_behind(alloc, history, i).expect(rt, "memory");
         let found = consequences(alloc, history, i + 1).expect(rt, "memory");
-        assert_eq!(rt; found.as_slice(), names.as_slice());
+        assert_eq!(rt; found.as_slice(), positions.as_slice());
     }
 }
 
