@@ -8,7 +8,7 @@ use Rattle.cdb_base.specs.declared.event.Kind.{Kind}
 use Rattle.cdb_base.specs.declared.event.Kind.TheVariants.{Send, Recv, Read, Write}
 use Rattle.cdb_base.specs.declared.name.CopyName.{CopyName}
 use Rattle.cdb_base.specs.declared.register.Reg.{Reg}
-use Rattle.cdb_causal.specs.Dependence.{depends}
+use Rattle.cdb_causal.specs.Dependence.{sends, receives, depends}
 use Rattle.cdb_causal.specs.Effects.{kind_affects}
 use Rattle.cdb_causal.specs.LastCauses.{IsSlot, IsNoCause}
 use Rattle.cdb_causal.proofs.Effects.{by_effect}
@@ -54,6 +54,23 @@ receive_apart (Lost copy) slot p k s m not_own not_sender not_last in_slot = abs
 pub none_but_for_receive : (history : List Event) (j p k s m slot : ℕ) → slice_get history j ≡ Some (Step p k (Recv s m)) → slot + 1 ≢ p → slot + 1 ≢ s → slot ≢ 9 → IsNoCause history j slot
 none_but_for_receive history j p k s m slot at_j not_own not_sender not_last =
     no_cause history j slot (Step p k (Recv s m)) at_j (λ cause in_slot. receive_apart cause slot p k s m not_own not_sender not_last in_slot)
+
+-- ---- losses
+
+loss_apart : (cause : Event) (slot : ℕ) (copy : CopyName) → slot + 1 ≢ copy.msg.s → slot + 1 ≢ copy.to → IsSlot cause slot → depends cause (Lost copy) ≡ false
+loss_apart (Step q l other) slot copy not_sender not_receiver in_slot =
+    by_effect (Step q l other) (Lost copy)
+    ∙ or_false (sends copy.msg.s copy.msg.m q other) (nat_eq q copy.to && receives copy.msg.s copy.msg.m other) (not_sent other)
+    (is_false (nat_eq q copy.to && receives copy.msg.s copy.msg.m other) (λ both. not_receiver (in_slot.0 ∙ eqb-true q copy.to (and_first (nat_eq q copy.to) (receives copy.msg.s copy.msg.m other) both))))
+  where
+    not_sent : (other : Kind) → sends copy.msg.s copy.msg.m q other ≡ false
+    not_sent (Send n) = is_false (nat_eq q copy.msg.s && nat_eq n copy.msg.m) (λ both. not_sender (in_slot.0 ∙ eqb-true q copy.msg.s (and_first (nat_eq q copy.msg.s) (nat_eq n copy.msg.m) both)))
+    not_sent _ = refl
+loss_apart (Lost other) slot copy not_sender not_receiver in_slot = refl
+
+pub none_but_for_loss : (history : List Event) (j slot : ℕ) (copy : CopyName) → slice_get history j ≡ Some (Lost copy) → slot + 1 ≢ copy.msg.s → slot + 1 ≢ copy.to → IsNoCause history j slot
+none_but_for_loss history j slot copy at_j not_sender not_receiver =
+    no_cause history j slot (Lost copy) at_j (λ cause in_slot. loss_apart cause slot copy not_sender not_receiver in_slot)
 
 -- ---- steps of other kinds
 

@@ -218,7 +218,7 @@ fn find_accesses(
 
 /// Writes the position of the last cause in each slot of the event at position `j` into its cell, or none where no cause
 /// there is a direct one, and returns a position above all causes. A receive has them in the slots of its process, of
-/// the sender and of losses.
+/// the sender and of losses, a loss in those of the sender and of the receiver.
 fn find_last_causes(
     history: &History,
     effect: &Event,
@@ -240,6 +240,10 @@ fn find_last_causes(
             find_accesses(history, effect, *p, *kind, register, j, causes);
             return j;
         }
+    }
+    if let Event::Lost(copy) = effect {
+        let slots = [copy.msg.s.index(), copy.to.index()];
+        return find_last_in(history, effect, j, &slots, causes);
     }
     find_last_in(history, effect, j, &ALL_SLOTS, causes)
 }

@@ -1,6 +1,6 @@
 use Rattle.std.proofs.Common.{◌≡◌, Some, sym, ap, ◌∙◌, arith}
 use Rattle.cdb_base.specs.declared.event.Event.TheVariants.{Step}
-use Rattle.cdb_causal.proofs.KindsOfCauses.{none_but_for_receive, has_slot_among_all}
+use Rattle.cdb_causal.proofs.KindsOfCauses.{none_but_for_receive, none_but_for_loss, has_slot_among_all}
 use Rattle.cdb_causal.proofs.FromOne.{standing_down}
 use Rattle.cdb_causal.proofs.LastPositions.{above_causes, last_or_indirect}
 use Rattle.cdb_causal.proofs.direct.find_last_causes.Goals as goal
@@ -32,3 +32,19 @@ returns-clause-last c = λ slot below. last_or_indirect c.args.history.now c.arg
 pub returns-clause-end : goal.returns-clause-end
 returns-clause-end c =
     above_causes c.args.history.now (standing_down c.args.history.now c.len-standing.ensures.standing) c.args.j c.find_last_in-2.result c.find_last_in-2.new.causes c.find_last_in-2.ensures.last c.find_last_in-2.ensures.end
+
+pub find_last_in-requires-in-Lost-clause-others : goal.find_last_in-requires-in-Lost-clause-others
+find_last_in-requires-in-Lost-clause-others c =
+    let sender = c.index-in-Lost.ensures.value in
+    let receiver = c.index-in-Lost-2.ensures.value in
+    λ slot not_in below.
+    none_but_for_loss c.args.history.now c.args.j slot c.in-Lost.copy (c.requires.at ∙ ap Some c.in-Lost.is)
+    (λ same. not_in 0 (ap Some (let is : c.index-in-Lost.result ≡ slot = omega arith in is)))
+    (λ same. not_in 1 (ap Some (let is : c.index-in-Lost-2.result ≡ slot = omega arith in is)))
+
+pub returns-in-Lost-clause-last : goal.returns-in-Lost-clause-last
+returns-in-Lost-clause-last c = λ slot below. last_or_indirect c.args.history.now c.args.j slot _ (c.find_last_in-in-Lost.ensures.last slot below)
+
+pub returns-in-Lost-clause-end : goal.returns-in-Lost-clause-end
+returns-in-Lost-clause-end c =
+    above_causes c.args.history.now (standing_down c.args.history.now c.len-standing.ensures.standing) c.args.j c.find_last_in-in-Lost.result c.find_last_in-in-Lost.new.causes c.find_last_in-in-Lost.ensures.last c.find_last_in-in-Lost.ensures.end
