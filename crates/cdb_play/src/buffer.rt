@@ -1,14 +1,19 @@
 //! A buffer between what is put and a writer.
 
 ghost use Rattle.std.specs.Prelude.{◌≡◌, ◌↔◌, ℕ, ◌+◌, ◌<◌, ◌≤◌, List, [], ◌++◌, take, length, IsTrue, MatchBool, IfOk, OnOk, OnErr};
-ghost use Rattle.cdb_control.specs.ToldReply.{Because, told, as_reply};
+ghost use Rattle.std.specs.List.{flat_map};
+ghost use Rattle.cdb_control.specs.ToldReply.{told, as_reply};
 ghost use Rattle.cdb_text.specs.Texts.{text_of};
+ghost use Rattle.cdb_text.specs.declared.text.short_report.TheConstants.{MOST_LINE};
 
 use crate::fault::PlayFault;
 use crate::sink::{Failed, Sink, write_all};
-use cdb_base::{NoMemory, StepId};
+use cdb_base::NoMemory;
 use cdb_control::{EventReply, Reply};
-use cdb_text::{MOST_BECAUSE, MOST_BYTES, MOST_CAUSES, write_because, write_event_reply};
+use cdb_text::{
+    Line, MOST_BYTES, MOST_CAUSES, MOST_ITEMS, MOST_LINE, MOST_REPORT, write_because,
+    write_decisions, write_event_reply, write_registers, write_view,
+};
 use std::alloc::{AllocError, Global};
 use std::error::Error;
 use std::fmt;
@@ -96,6 +101,7 @@ impl Model for Buffer {
 
 impl Buffer {
     ghost use Rattle.cdb_play.specs.Buffers.{piece, IsPut};
+    ghost use Rattle.cdb_play.specs.Putting.{Puts};
     ghost use Rattle.cdb_play.specs.Streams.{Fails, Writes};
 
     /// An empty buffer, which has all the memory that it will need.
@@ -147,28 +153,30 @@ impl Buffer {
         true
     }
 
-    /// Holds the text of an event and its direct causes too, which is written where it is held, unless there may be no
-    /// room: then nothing is changed.
-    fn put_because(&mut self, name: StepId, causes: &[StepId]) -> bool
-        ensures { MatchBool result
-            (self.new ≡ self.old ++ text_of (Because name causes.now)) (self.new ≡ self.old) }
-    {
-        if causes.len() > MOST_CAUSES || PIECE - self.count < MOST_BECAUSE {
-            return false;
-        }
-        self.count = write_because(self.bytes.as_mut_slice(), self.count, name, causes);
-        true
-    }
-
-    /// The same of a reply, if it has the causes of an event.
-    pub(crate) fn put_causes(&mut self, reply: &Reply) -> bool
+    /// Holds the text of a reply too, which is written where it is held, unless it may be long or there may be no room:
+    /// then nothing is changed.
+    pub(crate) fn put_report(&mut self, reply: &Reply) -> bool
         ensures { MatchBool result
             (self.new ≡ self.old ++ text_of (told reply.now)) (self.new ≡ self.old) }
     {
-        match reply {
-            Reply::Because(name, causes) => self.put_because(*name, causes.as_slice()),
-            _ => false,
+        if PIECE - self.count < MOST_REPORT {
+            return false;
         }
+        let (bytes, from) = (self.bytes.as_mut_slice(), self.count);
+        self.count = match reply {
+            Reply::Because(name, causes) if causes.len() <= MOST_CAUSES => {
+                write_because(bytes, from, *name, causes.as_slice())
+            }
+            Reply::Proc(view) => write_view(bytes, from, view),
+            Reply::Regs(cells) if cells.len() <= MOST_ITEMS => {
+                write_registers(bytes, from, cells.as_slice())
+            }
+            Reply::Decisions(decisions) if decisions.len() <= MOST_ITEMS => {
+                write_decisions(bytes, from, decisions.as_slice())
+            }
+            _ => return false,
+        };
+        true
     }
 
     /// Writes what is held, and holds nothing then.
@@ -222,5 +230,57 @@ impl Buffer {
             return Ok(());
         }
         self.put_in_pieces(out, bytes)
+    }
+
+    /// Holds a line too, which is written where it is held.
+    #[inline(always)]
+    fn hold_line<L: Line>(&mut self, line: &L)
+        requires { length self.old + MOST_LINE ≤ piece }
+        ensures { self.new ≡ self.old ++ L.text line.now }
+    {
+        self.count = line.write(self.bytes.as_mut_slice(), self.count);
+    }
+
+    /// Puts a line for which there may be no room, as `put_line` does.
+    #[inline(never)]
+    fn put_line_in_pieces<W: Sink, L: Line>(&mut self, out: &mut W, line: &L) -> Result<(), Failed>
+        ensures ok { OnOk result
+            (IsPut W.stream out.old self.old out.new self.new (L.text line.now)) }
+        ensures err { OnErr result
+            (Fails W.stream out.old out.new (self.old ++ L.text line.now)) }
+    {
+        let mut bytes = [0; MOST_LINE];
+        let end = line.write(&mut bytes, 0);
+        self.put(out, &bytes[..end])
+    }
+
+    /// Puts a line as `put` does its bytes. Mostly it is written where it is held.
+    #[inline(always)]
+    fn put_line<W: Sink, L: Line>(&mut self, out: &mut W, line: &L) -> Result<(), Failed>
+        ensures ok { OnOk result
+            (IsPut W.stream out.old self.old out.new self.new (L.text line.now)) }
+        ensures err { OnErr result
+            (Fails W.stream out.old out.new (self.old ++ L.text line.now)) }
+    {
+        if PIECE - self.count < MOST_LINE {
+            return self.put_line_in_pieces(out, line);
+        }
+        self.hold_line(line);
+        Ok(())
+    }
+
+    /// Puts lines, one after the other.
+    pub(crate) fn put_lines<W: Sink, L: Line>(
+        &mut self,
+        out: &mut W,
+        lines: &[L],
+    ) -> Result<(), OutputFault>
+        ensures { Puts W.stream result out.old self.old out.new self.new
+            (flat_map L.text lines.now) }
+    {
+        for line in lines {
+            self.put_line(out, line)?;
+        }
+        Ok(())
     }
 }

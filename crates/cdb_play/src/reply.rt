@@ -9,8 +9,25 @@ use crate::sink::Sink;
 use cdb_control::{EventReply, Reply};
 use cdb_text::{push_event_reply, push_reply};
 
-/// Puts the text of a reply. It is made in `text`, in place of what stood there, so that all replies use one memory; but
-/// the causes of an event are written in the buffer itself.
+/// Puts the text of a reply. It is made in `text`, in place of what stood there, so that all replies use one memory.
+#[inline(never)]
+fn put_made<W: Sink>(
+    reply: &Reply,
+    text: &mut String,
+    buffer: &mut Buffer,
+    out: &mut W,
+) -> Result<(), OutputFault>
+    ensures { Puts W.stream result out.old buffer.old out.new buffer.new
+        (text_of (told reply.now)) }
+{
+    text.clear();
+    push_reply(text, reply)?;
+    buffer.put(out, text.as_bytes())?;
+    Ok(())
+}
+
+/// Puts the text of a reply. A short report is written in the buffer itself, and so are the lines of the mail and of the
+/// history; else the text is made in `text`.
 pub(crate) fn put_reply<W: Sink>(
     reply: &Reply,
     text: &mut String,
@@ -20,13 +37,14 @@ pub(crate) fn put_reply<W: Sink>(
     ensures { Puts W.stream result out.old buffer.old out.new buffer.new
         (text_of (told reply.now)) }
 {
-    if buffer.put_causes(reply) {
+    if buffer.put_report(reply) {
         return Ok(());
     }
-    text.clear();
-    push_reply(text, reply)?;
-    buffer.put(out, text.as_bytes())?;
-    Ok(())
+    match reply {
+        Reply::Mail(copies) if !copies.is_empty() => buffer.put_lines(out, copies.as_slice()),
+        Reply::History(events) if !events.is_empty() => buffer.put_lines(out, events.as_slice()),
+        _ => put_made(reply, text, buffer, out),
+    }
 }
 
 /// Puts the text of the reply to a command of one event. Mostly it is written in the buffer itself; else it is made in

@@ -19,7 +19,7 @@ mod words;
 pub use fault::LineFault;
 pub use line::parse_line;
 pub use text::{
-    MOST_BECAUSE, MOST_BYTES, MOST_CAUSES, push_causes, push_command, push_decides, push_event,
-    push_event_reply, push_number, push_payload, push_reply, push_value, reply_text, write_because,
-    write_event_reply,
+    Line, MOST_BYTES, MOST_CAUSES, MOST_ITEMS, MOST_LINE, MOST_REPORT, push_causes, push_command,
+    push_decides, push_event, push_event_reply, push_number, push_payload, push_reply, push_value,
+    reply_text, write_because, write_decisions, write_event_reply, write_registers, write_view,
 };

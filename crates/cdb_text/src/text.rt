@@ -15,6 +15,7 @@ mod number;
 mod refusal;
 mod report;
 mod short;
+mod short_report;
 
 use cdb_base::{Event, NoMemory, StepId, Val};
 use cdb_control::{EventReply, Reply};
@@ -25,7 +26,8 @@ pub use number::push_number;
 use refusal::push_refusal;
 pub use report::{push_causes, push_payload, push_value};
 use report::{push_decisions, push_history, push_mail, push_process, push_registers};
-pub use short::{MOST_BECAUSE, MOST_BYTES, MOST_CAUSES, write_because, write_event_reply};
+pub use short::{MOST_BYTES, MOST_CAUSES, MOST_REPORT, write_because, write_event_reply};
+pub use short_report::{Line, MOST_ITEMS, MOST_LINE, write_decisions, write_registers, write_view};
 use std::alloc::{AllocError, Global};
 
 /// As many bytes as all replies but reports have, so that their texts need one allocation.

@@ -58,14 +58,14 @@ pub fn push_payload(text: &mut String, payload: &Payload) -> Result<(), AllocErr
 }
 
 /// The letter of the machine.
-fn machine_letter(alpha: bool) -> &'static str
+pub(super) fn machine_letter(alpha: bool) -> &'static str
     ensures { result.now ≡ machine_letter alpha }
 {
     if alpha { "A" } else { "L" }
 }
 
 /// Whether the process is alive, in a word.
-fn life_word(alive: bool) -> &'static str
+pub(super) fn life_word(alive: bool) -> &'static str
     ensures { result.now ≡ life_word alive }
 {
     if alive { "alive" } else { "crashed" }

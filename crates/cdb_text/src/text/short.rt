@@ -8,7 +8,7 @@ ghost use Rattle.cdb_control.specs.ToldReply.{told, as_reply};
 ghost use Rattle.cdb_text.specs.Events.{event_text, kind_text};
 ghost use Rattle.cdb_text.specs.Pushes.{Writes};
 ghost use Rattle.cdb_text.specs.Texts.{break_text, decides_text, text_of};
-ghost use Rattle.cdb_text.specs.declared.text.short.TheConstants.{MOST_BECAUSE, MOST_BYTES, MOST_CAUSES, MOST_OF_A_CAUSE};
+ghost use Rattle.cdb_text.specs.declared.text.short.TheConstants.{MOST_BYTES, MOST_CAUSES, MOST_OF_A_CAUSE, MOST_REPORT};
 ghost use Rattle.cdb_text.specs.Reports.{cause_text, causes_text};
 ghost use Rattle.std.specs.List.{flat_map};
 ghost use Rattle.std.specs.Prelude.{◌*◌};
@@ -20,8 +20,11 @@ use itoa::Buffer;
 /// As many bytes as a short text has at most.
 pub const MOST_BYTES: usize = 80;
 
+/// As many bytes as a short report has at most.
+pub const MOST_REPORT: usize = 640;
+
 #[inline(always)]
-fn write_byte(bytes: &mut [u8], from: usize, byte: u8) -> usize
+pub(super) fn write_byte(bytes: &mut [u8], from: usize, byte: u8) -> usize
     requires { from < length bytes.old }
     ensures written { Writes from result bytes.old bytes.new (byte ∷ []) }
     ensures end { result ≡ from + 1 }
@@ -31,7 +34,7 @@ fn write_byte(bytes: &mut [u8], from: usize, byte: u8) -> usize
 }
 
 #[inline(always)]
-fn write_word(bytes: &mut [u8], from: usize, word: &str) -> usize
+pub(super) fn write_word(bytes: &mut [u8], from: usize, word: &str) -> usize
     requires { from + length word.now ≤ length bytes.old }
     ensures written { Writes from result bytes.old bytes.new word.now }
     ensures end { result ≡ from + length word.now }
@@ -104,7 +107,7 @@ fn write_digits(bytes: &mut [u8], from: usize, number: u32) -> usize
 }
 
 #[inline(always)]
-fn write_number(bytes: &mut [u8], from: usize, number: u32) -> usize
+pub(super) fn write_number(bytes: &mut [u8], from: usize, number: u32) -> usize
     requires { from + 10 ≤ length bytes.old }
     ensures written { Writes from result bytes.old bytes.new (decimal number) }
     ensures end { result ≤ from + 10 }
@@ -117,7 +120,7 @@ fn write_number(bytes: &mut [u8], from: usize, number: u32) -> usize
 
 /// The number of a process, which has one digit.
 #[inline(always)]
-fn write_process(bytes: &mut [u8], from: usize, p: Proc) -> usize
+pub(super) fn write_process(bytes: &mut [u8], from: usize, p: Proc) -> usize
     requires { from < length bytes.old }
     ensures written { Writes from result bytes.old bytes.new (decimal p) }
     ensures end { result ≡ from + 1 }
@@ -137,7 +140,7 @@ fn write_step(bytes: &mut [u8], from: usize, p: Proc, k: u16) -> usize
 }
 
 #[inline(always)]
-fn write_message(bytes: &mut [u8], from: usize, name: MsgName) -> usize
+pub(super) fn write_message(bytes: &mut [u8], from: usize, name: MsgName) -> usize
     requires { from + 12 ≤ length bytes.old }
     ensures written { Writes from result bytes.old bytes.new (message_text name.s name.m) }
     ensures end { result ≤ from + 12 }
@@ -206,7 +209,7 @@ fn write_kind(bytes: &mut [u8], from: usize, p: Proc, kind: Kind) -> usize
     }
 }
 
-fn write_event(bytes: &mut [u8], from: usize, event: &Event) -> usize
+pub(super) fn write_event(bytes: &mut [u8], from: usize, event: &Event) -> usize
     requires { from + 30 ≤ length bytes.old }
     ensures written { Writes from result bytes.old bytes.new (event_text event.now) }
     ensures end { result ≤ from + 30 }
@@ -407,14 +410,11 @@ fn write_causes(bytes: &mut [u8], from: usize, causes: &[StepId]) -> usize
 /// How many causes an event has at most whose text is short.
 pub const MOST_CAUSES: usize = 9;
 
-/// As many bytes as the text of an event and of so few causes has at most.
-pub const MOST_BECAUSE: usize = 256;
-
 /// Writes the text of an event and its direct causes, at most `MOST_CAUSES`, from this byte on, where there must be room
-/// for `MOST_BECAUSE`, and returns where the text ends.
+/// for `MOST_REPORT`, and returns where the text ends.
 pub fn write_because(bytes: &mut [u8], from: usize, name: StepId, causes: &[StepId]) -> usize
     requires few { length causes.now ≤ MOST_CAUSES }
-    requires room { from + MOST_BECAUSE ≤ length bytes.old }
+    requires room { from + MOST_REPORT ≤ length bytes.old }
     ensures { Writes from result bytes.old bytes.new
         (name_text name ++ codes " because" ++ causes_text causes.now ++ codes "\n") }
 {
