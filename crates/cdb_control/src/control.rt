@@ -137,6 +137,7 @@ impl<R: Runs> Control<R> {
     /// Carries a command out for a seat, from 1, and adds it to the journal, a refused one too. `JournalFull` comes
     /// before `NoMemory`, and either changes nothing. Where the seat has room, an undo, an undo of a loss, `forget`,
     /// `unbreak` and `resume` need no memory, nor does any command that is refused.
+    #[inline(always)]
     pub fn execute(&mut self, alloc: Global, seat: u8, command: Command) -> Result<Reply, CallFault>
         requires from_one { 1 ≤ seat }
         requires to_last { seat ≤ self.old.seats }

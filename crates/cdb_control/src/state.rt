@@ -524,8 +524,8 @@ impl<R: Runs> ControlState<R> {
         Ok(Reply::Decisions(self.run.decisions(alloc)?))
     }
 
-    /// Carries a command out that is not of one event.
-    #[inline(never)]
+    /// Carries a command out that is not of one event. It is inlined, so that a `Reply` is handed on once less.
+    #[inline(always)]
     pub fn perform_other(
         &mut self,
         alloc: Global,
