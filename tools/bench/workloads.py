@@ -4,6 +4,7 @@ Full size is scale 1. A script has at most 1,048,576 bytes, and a process at mos
 """
 
 import itertools
+import random
 
 LIMIT = 1_048_576
 STEPS = 9_999
@@ -120,6 +121,37 @@ def far_dependents_alpha(scale):
     return alpha_setup(), filled([*early, *steps, *["auto 1"] * 3], [f"undo {p} 4" for p in (7, 8, 9)], scale)
 
 
+def at_random(act, steps):
+    """Endless commands on steps at random, the same each time."""
+    choice = random.Random(len(steps))
+    while True:
+        yield f"{act} {' '.join(map(str, choice.choice(steps)))}"
+
+
+def why_any(scale):
+    """Why of steps at random."""
+    steps = leader_steps(int(45_000 * scale))
+    return leader_setup(), filled(autos(steps), at_random("why", steps), scale)
+
+
+def why_any_alpha(scale):
+    steps = alpha_steps(int(45_000 * scale))
+    return alpha_setup(), filled(autos(steps), at_random("why", steps), scale)
+
+
+def undo_any(scale):
+    """Undos of steps at random, nearly all refused."""
+    steps = leader_steps(int(45_000 * scale))
+    return leader_setup(), filled(autos(steps), at_random("undo", steps), scale)
+
+
+def rollback_near(scale):
+    """A step near the end rolled back and redone, with some 150 consequences."""
+    steps = leader_steps(int(30_000 * scale))
+    p, k = steps[-400]
+    return leader_setup(), filled(autos(steps), [f"rollback {p} {k}", *["redo"] * 150], scale)
+
+
 def rollback_leader(scale):
     steps = leader_steps(int(20_000 * scale))
     p, k = steps[len(steps) // 4]
@@ -153,6 +185,14 @@ def losses(scale):
     return alone_setup(2), [*alone(1, rounds), *lost, *found, *["redo"] * len(copies)]
 
 
+def losses_in_any_order(scale):
+    """Copies lost, and found again, in an order at random."""
+    rounds, choice = int(1_200 * scale), random.Random(0)
+    copies = [f"1 {m} {p}" for m in range(1, 2 * rounds + 1) for p in range(2, 10)]
+    lost, found = ([f"{act} {it}" for it in choice.sample(copies, len(copies))] for act in ("lose", "undo lost"))
+    return alone_setup(2), filled([*alone(1, rounds), *lost, *found], ["redo"], scale)
+
+
 def losses_in_the_middle(scale):
     """Copies lost, many steps after them, and then found again and lost again."""
     rounds, more = int(300 * scale), int(1_000 * scale)
@@ -176,19 +216,38 @@ def show_history(scale):
     return leader_setup(), autos(leader_steps(int(10_000 * scale))) + ["show history"] * int(400 * scale)
 
 
+def show_mail(scale):
+    """The mail of many waiting copies; the cost is counted by line."""
+    return alone_setup(), list(alone(1, int(120 * scale))) + ["show mail"] * int(400 * scale)
+
+
+def show_regs(scale):
+    """Registers; the cost is counted by line."""
+    return alpha_setup(), autos(alpha_steps(int(3_000 * scale))) + ["show regs"] * int(8_000 * scale)
+
+
 WORKLOADS = {
     "leader-long": leader_long,
     "alpha-long": alpha_long,
     "last-step": last_step,
     "early-steps": early_steps,
+    "why-any": why_any,
+    "why-any-alpha": why_any_alpha,
+    "undo-any": undo_any,
     "far-dependents": far_dependents,
     "far-dependents-alpha": far_dependents_alpha,
     "rollback-leader": rollback_leader,
     "rollback-alpha": rollback_alpha,
     "rollback-apart": rollback_apart,
     "rollback-few": rollback_few,
+    "rollback-near": rollback_near,
     "losses": losses,
+    "losses-in-any-order": losses_in_any_order,
     "losses-in-the-middle": losses_in_the_middle,
     "waiting-copies": waiting_copies,
     "show-history": show_history,
+    "show-mail": show_mail,
+    "show-regs": show_regs,
 }
+# Reports, whose cost is counted by line.
+REPORTS = {"show-history", "show-mail", "show-regs"}
