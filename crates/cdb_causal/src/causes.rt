@@ -71,8 +71,8 @@ fn end_with(history: &History, end: usize, j: usize) -> usize
 }
 
 /// The positions, from 1, of the consequences of the event at a position, from 1 to the number of events: of the
-/// later events to which a chain of dependences leads from it, in the order of the history. It can
-/// fail only where memory is out.
+/// later events to which a chain of dependences leads from it, in the order of the history. The only
+/// error is that an allocation fails.
 pub fn consequences(alloc: Global, history: &History, at: usize) -> Result<Vec<usize>, NoMemory>
     requires from_one { 1 ≤ at }
     requires to_len { at ≤ length history.now }

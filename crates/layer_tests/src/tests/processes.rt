@@ -132,8 +132,9 @@ fn hear_often(
     }
 }
 
-/// The index of an inbox knows 65,535 messages. Here two more are among them, and those after them are not; no run has
-/// so many. What is heard counts all the same, of each sender once, and what is taken back counts no longer.
+/// The index of an inbox covers its first 65,535 messages, more than any run has. After 65,533 messages the next two are
+/// still covered, and the others are not. Each sender counts once in either place, and no longer once its messages
+/// are taken back.
 #[test]
 fn an_inbox_is_exact_beyond_its_index(rt: HostRuntime) {
     let (one, two, three) = (Proc::new(1), Proc::new(2), Proc::new(3));
