@@ -23,7 +23,7 @@ use cdb_alpha::Alpha;
 use cdb_base::{
     Act, Cell, CopyName, Event, MsgName, NoMemory, Payload, Proc, Refusal, Reg, StepId, Val,
 };
-use cdb_causal::History;
+use cdb_history::History;
 use cdb_leader::Leader;
 use cdb_process::Process;
 use cdb_rules::{Chronicle, EventRef};

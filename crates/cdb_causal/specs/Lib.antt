@@ -12,23 +12,7 @@ pub mod Paths
 pub mod Reach
 pub mod Rollback
 pub mod Standing
--- what the code keeps for itself: tests by effect, steps in another order, and the bounds from which events are sought
-pub mod AboveCauses
-pub mod AboveDependents
-pub mod Alone
-pub mod Between
-pub mod Bounds
-pub mod Cells
+-- what the code keeps for itself: tests by effect, positions from 0, and steps in another order
 pub mod Effects
-pub mod Flagged
 pub mod FromZero
-pub mod Indexed
-pub mod LastCauses
-pub mod Listed
-pub mod Named
-pub mod Own
-pub mod Raised
-pub mod Sought
-pub mod Tables
-pub mod Starts
 pub mod Exchanging

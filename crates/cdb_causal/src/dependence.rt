@@ -1,10 +1,10 @@
 //! Which events depend on each other.
 
 ghost use Rattle.std.specs.Prelude.{◌≡◌, ◌&&◌, ◌||◌, nat_eq};
-ghost use Rattle.cdb_causal.specs.Dependence.{accesses as accesses_of, sends as sends_of, receives as receives_of, same_process as same_process_of, depends as depends_of};
+ghost use Rattle.cdb_causal.specs.Dependence.{sends as sends_of, receives as receives_of, same_process as same_process_of, depends as depends_of};
 ghost use Rattle.cdb_causal.specs.Effects.{kind_affects as kind_affects_of, affects as affects_of};
 
-use cdb_base::{CopyName, Event, Kind, Proc, Reg};
+use cdb_base::{CopyName, Event, Kind, Proc};
 
 /// Whether a step of that process and kind sends what one of the other kind receives, or writes a
 /// register that it reads or writes.
@@ -19,34 +19,12 @@ fn kind_affects(p: Proc, kind: Kind, other: Kind) -> bool
     }
 }
 
-/// Whether a step of that kind reads or writes the register.
-pub(crate) fn accesses(register: &Reg, kind: &Kind) -> bool
-    ensures { result ≡ accesses_of register.now kind.now }
-{
-    match kind {
-        Kind::Read(other) => *register == *other,
-        Kind::Write(other) => *register == *other,
-        _ => false,
-    }
-}
-
 /// Whether a step of that process and kind sends the message of the copy.
 fn sends(p: Proc, kind: Kind, copy: &CopyName) -> bool
     ensures { result ≡ sends_of copy.now.msg.s copy.now.msg.m p kind }
 {
     match kind {
         Kind::Send(m) => p == copy.msg.s && m == copy.msg.m,
-        _ => false,
-    }
-}
-
-/// Whether a step of that process and kind sends or receives the m-th message of process s.
-pub(crate) fn is_of_message(p: Proc, kind: Kind, s: Proc, m: u16) -> bool
-    ensures { result ≡ (sends_of s m p kind || receives_of s m kind) }
-{
-    match kind {
-        Kind::Send(number) => p == s && number == m,
-        Kind::Recv(sender, number) => s == sender && m == number,
         _ => false,
     }
 }
@@ -63,7 +41,7 @@ fn receives(p: Proc, kind: Kind, copy: &CopyName) -> bool
 
 /// Whether the event is a step that affects the other, or sends the message of a lost copy, or is the
 /// loss of a copy that the other receives.
-pub(crate) fn affects(event: &Event, other: &Event) -> bool
+fn affects(event: &Event, other: &Event) -> bool
     ensures { result ≡ affects_of event.now other.now }
 {
     match event {

@@ -9,7 +9,7 @@ use crate::piece::{push, push_number, push_process, push_register, push_val};
 use crate::sends::crashed_at;
 use cdb_base::limits::MAX_ENTRIES;
 use cdb_base::{Proc, Reg, Val};
-use cdb_causal::History;
+use cdb_history::History;
 use cdb_rules::Chronicle;
 use cdb_setup::Algorithm;
 use std::alloc::AllocError;

@@ -12,8 +12,8 @@ ghost use Rattle.cdb_setup.specs.declared.fault.SetupFault.{SetupFault as SetupF
 
 use crate::draws::draw_run;
 use cdb_base::limits::MAX_ENTRIES;
-use cdb_causal::History;
 use cdb_explain::{ExplainFault, chronicle_of, position_of_step};
+use cdb_history::History;
 use cdb_play::{Sink, Source, left_by};
 use cdb_rules::{Chronicle, Runs};
 use std::alloc::Global;

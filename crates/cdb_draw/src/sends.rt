@@ -7,7 +7,7 @@ ghost use Rattle.cdb_draw.specs.Positions.{crashed_at, is_crash_of, sent_at};
 ghost use Rattle.cdb_draw.specs.Sends.{AreSendsOf, HasNoted, kept_or_noted, message_code, message_of};
 
 use cdb_base::{Event, Kind, MsgName, NoMemory, Proc};
-use cdb_causal::History;
+use cdb_history::History;
 use std::alloc::Global;
 use std::collections::HashMap;
 

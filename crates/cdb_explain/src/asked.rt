@@ -4,7 +4,7 @@ ghost use Rattle.std.specs.Prelude.{◌≡◌, MatchOption};
 ghost use Rattle.cdb_explain.specs.Asked.{is_asked, IsStepAsked, StandsNoStep};
 
 use cdb_base::Event;
-use cdb_causal::History;
+use cdb_history::History;
 
 /// Whether the event is a step of process `p`, the `k`-th where a number is given.
 fn is_asked(event: &Event, p: u32, k: Option<u32>) -> bool

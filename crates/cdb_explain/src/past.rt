@@ -4,7 +4,7 @@ ghost use Rattle.cdb_past.specs.Flags.{FlagsPast};
 ghost use Rattle.std.specs.Prelude.{◌≤◌, length, IfOk};
 
 use cdb_base::NoMemory;
-use cdb_causal::History;
+use cdb_history::History;
 use cdb_past::flag_past;
 use std::alloc::Global;
 

@@ -11,7 +11,7 @@ use Rattle.cdb_causal.specs.FromZero.{IsDirectCause, AreDirectCauses, NamesDirec
 use Rattle.cdb_causal.specs.DirectCauses.{AreDirectCauses as direct_causes_from_one}
 use Rattle.cdb_causal.proofs.FromOne.{next_is, direct_causes_down}
 use Rattle.cdb_causal.proofs.Lists.{push_cases, push_front, push_back}
-use Rattle.cdb_causal.proofs.Prefixes.{direct_shorter, direct_longer}
+use Rattle.cdb_history.proofs.Prefixes.{direct_shorter, direct_longer}
 use Rattle.cdb_past.specs.Pairs.{ArePairs}
 use Rattle.cdb_past.specs.declared.pairs.Pair.{Pair}
 

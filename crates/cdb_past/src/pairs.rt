@@ -6,7 +6,7 @@ ghost use Rattle.cdb_causal.specs.FromZero.{IsNamedAt};
 ghost use Rattle.cdb_past.specs.Pairs.{ArePairs};
 
 use cdb_base::{NoMemory, StepId};
-use cdb_causal::{History, direct_causes};
+use cdb_history::{History, direct_causes};
 use std::alloc::Global;
 
 /// An event and one of its direct causes, by their positions, from 0.

@@ -5,7 +5,7 @@ ghost use Rattle.cdb_past.specs.Flags.{FlagsPast};
 
 use crate::pairs::pairs_of_first;
 use cdb_base::NoMemory;
-use cdb_causal::History;
+use cdb_history::History;
 use std::alloc::Global;
 
 /// Flags what led to the event at a position, from 1 to the number of events: the event itself, and each

@@ -11,7 +11,7 @@ use Rattle.cdb_causal.specs.FromZero.{IsFree}
 use Rattle.cdb_causal.specs.Names.{IsNamedAt, IsPositionOf}
 use Rattle.cdb_causal.proofs.Dependents.{no_direct_dependent, no_dependent, free_behind, behind_free}
 use Rattle.cdb_causal.proofs.FromOne.{free_up, free_down}
-use Rattle.cdb_causal.proofs.Prefixes.{get_drop}
+use Rattle.cdb_history.proofs.Prefixes.{get_drop}
 use Rattle.cdb_record.specs.Counts.{dependents_at, IsCountOf, IsZeroWhereFree}
 
 position_behind : (i j : ℕ) → i < j → suc i + (j - suc i) ≡ j

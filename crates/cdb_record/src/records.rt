@@ -22,7 +22,7 @@ use crate::kept::Lefts;
 use crate::left::{put_on, reserve_for, take_left};
 use crate::recorded::{Left, Recorded};
 use cdb_base::{CopyName, Event, Kind, NoMemory, Proc, StepId};
-use cdb_causal::{History, count_direct_dependents, first_dependent};
+use cdb_history::{History, count_direct_dependents, first_dependent};
 use std::alloc::Global;
 use std::marker::Model;
 

@@ -2,7 +2,7 @@
 
 ghost use Rattle.std.specs.Prelude.{◌≡◌};
 
-use cdb_causal::History;
+use cdb_history::History;
 use cdb_setup::Setup;
 use std::marker::Model;
 

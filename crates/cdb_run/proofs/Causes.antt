@@ -22,7 +22,7 @@ use Rattle.cdb_causal.specs.DirectCauses as from_one
 use Rattle.cdb_causal.specs.Rollback.{events_before}
 use Rattle.cdb_causal.proofs.DirectByList.{direct_between}
 use Rattle.cdb_causal.proofs.FromOne.{standing_down, direct_causes_down}
-use Rattle.cdb_causal.proofs.SlotsOfCauses.{lost_received}
+use Rattle.cdb_history.proofs.SlotsOfCauses.{lost_received}
 use Rattle.cdb_rules.specs.State.{Machine}
 use Rattle.cdb_rules.specs.Step.{IsValid}
 use Rattle.cdb_rules.specs.Undo.{direct_among}

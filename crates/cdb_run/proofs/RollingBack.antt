@@ -15,9 +15,9 @@ use Rattle.cdb_causal.specs.FromZero as from_zero
 use Rattle.cdb_causal.specs.Names.{IsNamedAt}
 use Rattle.cdb_causal.specs.Rollback.{AreAt, without, consequences, rolled_back, remaining}
 use Rattle.cdb_causal.specs.Standing.{IsStanding}
-use Rattle.cdb_causal.proofs.FoundAt.{last_at, number_at}
+use Rattle.cdb_history.proofs.FoundAt.{last_at, number_at}
 use Rattle.cdb_causal.proofs.FromOne.{standing_down, standing_up, without_is}
-use Rattle.cdb_causal.proofs.Keeping.{standing_without}
+use Rattle.cdb_history.proofs.Keeping.{standing_without}
 use Rattle.cdb_causal.proofs.LawsFromOne.{rolled_back_split, rolled_back_alone, rolled_back_last}
 use Rattle.cdb_base.specs.declared.refusal.Refusal.{Refusal}
 use Rattle.cdb_rules.specs.RunView.{RunView}

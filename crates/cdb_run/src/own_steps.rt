@@ -7,7 +7,7 @@ ghost use Rattle.std.specs.Iterator.{YieldsFirst, item_count};
 ghost use Rattle.cdb_rules.specs.OwnSteps.{no_writes, with_write, writes_with, writes_met, as_own_events, own_steps};
 
 use cdb_base::{Event, Kind, Proc, Reg};
-use cdb_causal::History;
+use cdb_history::History;
 use cdb_rules::OwnEvent;
 use std::marker::Model;
 

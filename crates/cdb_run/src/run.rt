@@ -18,7 +18,7 @@ use crate::state::State;
 use cdb_base::{
     Act, Cell, CopyName, Event, Kind, MsgName, NoMemory, Payload, Proc, Refusal, Reg, Val,
 };
-use cdb_causal::History;
+use cdb_history::History;
 use cdb_message::mail::Mail;
 use cdb_process::{Input, Process, accepts_receive};
 use cdb_record::Records;

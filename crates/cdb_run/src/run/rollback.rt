@@ -9,7 +9,7 @@ ghost use Rattle.cdb_rules.specs.AtPositions.{rolled_back_at, after_rollback_at}
 
 use crate::run::Run;
 use cdb_base::{Event, Kind, NoMemory, Refusal, Reg, StepId};
-use cdb_causal::{consequences, direct_causes};
+use cdb_history::{consequences, direct_causes};
 use cdb_process::Process;
 use cdb_rules::EventRef;
 use smallvec::SmallVec;

@@ -12,7 +12,7 @@ ghost use Rattle.cdb_rules.specs.Runs.{AreInSameState};
 use crate::own_steps::same_steps;
 use crate::run::Run;
 use cdb_base::{Event, Proc};
-use cdb_causal::History;
+use cdb_history::History;
 use cdb_message::mail::Mail;
 use cdb_process::Process;
 

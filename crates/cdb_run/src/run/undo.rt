@@ -14,7 +14,7 @@ ghost use Rattle.cdb_rules.specs.Undo.{result_alone};
 use crate::restore::restore_change;
 use crate::run::Run;
 use cdb_base::{CopyName, Event, MsgName, Refusal, StepId, StepName};
-use cdb_causal::first_dependent;
+use cdb_history::first_dependent;
 use cdb_process::Process;
 use cdb_record::{Left, Recorded};
 use cdb_rules::EventRef;

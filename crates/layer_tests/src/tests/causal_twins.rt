@@ -4,7 +4,8 @@ ghost use Rattle.std.specs.Prelude.{◌<◌};
 
 use super::dependence::{add, copy, step};
 use cdb_base::{Event, Kind, NoMemory, Proc, Reg, StepId};
-use cdb_causal::{History, consequences, depends, direct_causes, first_dependent};
+use cdb_causal::depends;
+use cdb_history::{History, consequences, direct_causes, first_dependent};
 use std::alloc::Global;
 use std::process::Abort;
 

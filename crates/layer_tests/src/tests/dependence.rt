@@ -9,7 +9,8 @@ ghost use Rattle.cdb_causal.specs.Names.{IsNewName};
 ghost use Rattle.cdb_causal.specs.Standing.{HasNoLostCopy};
 
 use cdb_base::{CopyName, Event, Kind, MsgName, NoMemory, Proc, Reg};
-use cdb_causal::{History, depends};
+use cdb_causal::depends;
+use cdb_history::History;
 use std::process::Abort;
 
 pub fn step(p: Proc, k: u16, kind: Kind) -> Event {

@@ -2,7 +2,7 @@
 
 use super::dependence::{add, step};
 use cdb_base::{Event, Kind, Proc};
-use cdb_causal::History;
+use cdb_history::History;
 use std::process::Abort;
 
 /// The n-th event: steps of nine processes in turn.

@@ -5,8 +5,8 @@ use super::example::{Example, command_of};
 use super::scripts::{TWELVE_STEPS, WITH_LOSSES};
 use super::setups::{ALPHA_PAIR, LOSSY};
 use cdb_base::Event;
-use cdb_causal::History;
 use cdb_control::Command;
+use cdb_history::History;
 use cdb_rules::EventRef;
 use std::process::Abort;
 
