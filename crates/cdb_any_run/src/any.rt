@@ -26,7 +26,7 @@ use cdb_base::{
 use cdb_history::History;
 use cdb_leader::Leader;
 use cdb_process::Process;
-use cdb_rules::{Chronicle, EventRef};
+use cdb_rules::EventRef;
 use cdb_run::Run;
 use cdb_setup::{Algorithm, Setup};
 use smallvec::SmallVec;
@@ -354,15 +354,17 @@ impl AnyRun {
         }
     }
 
-    /// What stands in the run: each event was enabled in its turn. All else of the run is given up.
-    pub fn into_chronicle(self) -> Chronicle
+    /// The setup of the run and the standing events, each of which was enabled in its turn. All else of the run is
+    /// given up.
+    pub fn into_parts(self) -> (Setup, History)
         requires { IsTrueToSetup self }
-        ensures run { result ≡ run_view self }
+        ensures setup { result.0 ≡ (run_view self).setup }
+        ensures history { result.1 ≡ (run_view self).history }
         ensures valid { IsInOrder rules (run_view self) }
     {
         match self {
-            AnyRun::Leader(run) => run.into_chronicle(),
-            AnyRun::Alpha(run) => run.into_chronicle(),
+            AnyRun::Leader(run) => run.into_parts(),
+            AnyRun::Alpha(run) => run.into_parts(),
         }
     }
 

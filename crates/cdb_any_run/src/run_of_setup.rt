@@ -12,7 +12,8 @@ ghost use Rattle.cdb_rules.specs.SameState.{ReachSameState};
 
 use crate::any::AnyRun;
 use cdb_base::{Act, Cell, Event, MsgName, NoMemory, Payload, Proc, Refusal, Reg, StepId, Val};
-use cdb_rules::{Chronicle, EventRef, ProcView, Runs};
+use cdb_past::{Chronicle, Chronicled};
+use cdb_rules::{EventRef, ProcView, Runs};
 use cdb_setup::{Algorithm, Setup};
 use smallvec::SmallVec;
 use std::alloc::Global;
@@ -145,10 +146,6 @@ impl Runs for RunOfSetup {
         self.run.setup()
     }
 
-    fn into_chronicle(self) -> Chronicle {
-        self.run.into_chronicle()
-    }
-
     fn payload(&self, name: MsgName) -> Option<&Payload> {
         self.run.payload(name)
     }
@@ -235,4 +232,11 @@ impl Runs for RunOfSetup {
     ghost lawful = { rules_are_lawful };
 
     ghost histories = { rules_keep_histories };
+}
+
+impl Chronicled for RunOfSetup {
+    fn into_chronicle(self) -> Chronicle {
+        let (setup, history) = self.run.into_parts();
+        Chronicle::new(setup, history)
+    }
 }

@@ -11,7 +11,7 @@ use crate::piece::{push, push_number};
 use crate::sends::{Sends, position_of_send};
 use cdb_base::limits::MAX_ENTRIES;
 use cdb_base::{Event, Kind, MsgName, Proc, Reg};
-use cdb_rules::Chronicle;
+use cdb_past::Chronicle;
 use cdb_setup::Setup;
 use std::alloc::AllocError;
 

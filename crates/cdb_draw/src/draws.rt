@@ -10,8 +10,9 @@ use crate::picture::write_picture;
 use cdb_base::NoMemory;
 use cdb_base::limits::MAX_ENTRIES;
 use cdb_explain::past_of;
+use cdb_past::Chronicle;
 use cdb_play::{OutputFault, Sink};
-use cdb_rules::{Chronicle, Runs};
+use cdb_rules::Runs;
 use std::alloc::Global;
 
 /// Marks what is drawn in full: everything, or what led to the event at a position.

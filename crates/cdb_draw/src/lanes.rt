@@ -10,7 +10,7 @@ use crate::sends::crashed_at;
 use cdb_base::limits::MAX_ENTRIES;
 use cdb_base::{Proc, Reg, Val};
 use cdb_history::History;
-use cdb_rules::Chronicle;
+use cdb_past::Chronicle;
 use cdb_setup::Algorithm;
 use std::alloc::AllocError;
 

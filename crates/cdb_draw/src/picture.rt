@@ -23,8 +23,9 @@ use crate::sends::{Sends, sends_of};
 use crate::style::{NAMESPACE, SHAPES, STYLE};
 use cdb_base::limits::MAX_ENTRIES;
 use cdb_explain::{fresh, take_next};
+use cdb_past::Chronicle;
 use cdb_play::{Buffer, OutputFault, Sink};
-use cdb_rules::{Chronicle, Runs};
+use cdb_rules::Runs;
 use cdb_setup::Algorithm;
 use std::alloc::{AllocError, Global};
 

@@ -14,8 +14,9 @@ use crate::draws::draw_run;
 use cdb_base::limits::MAX_ENTRIES;
 use cdb_explain::{ExplainFault, chronicle_of, position_of_step};
 use cdb_history::History;
+use cdb_past::{Chronicle, Chronicled};
 use cdb_play::{Sink, Source, left_by};
-use cdb_rules::{Chronicle, Runs};
+use cdb_rules::Runs;
 use std::alloc::Global;
 
 /// A step, to which what led is drawn in full: the `k`-th standing step of process `p`, or without `k` its last one.
@@ -65,7 +66,7 @@ fn write_drawing<T: Runs, W: Sink>(
 /// written. So after `Write` what was written is a beginning of the picture; after `NoMemory` nothing was, or whole
 /// pieces of 65,536 bytes; and after any other fault nothing. After `Setup` the script is not read; `Read` comes only
 /// where the reader failed in this call, and `Write` only where the writer did.
-pub fn draw<T: Runs, R: Source, W: Sink>(
+pub fn draw<T: Chronicled, R: Source, W: Sink>(
     alloc: Global,
     setup: &[u8],
     script: &mut R,

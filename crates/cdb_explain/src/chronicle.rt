@@ -6,11 +6,11 @@ ghost use Rattle.std.specs.Prelude.{◌≡◌, ◌≤◌, length};
 
 use cdb_base::limits::MAX_ENTRIES;
 use cdb_control::Control;
-use cdb_rules::{Chronicle, Runs};
+use cdb_past::{Chronicle, Chronicled};
 
 /// What stands in the run of a control: no more events than the journal has entries. All else of the control is
 /// given up.
-pub fn chronicle_of<T: Runs>(control: Control<T>) -> Chronicle
+pub fn chronicle_of<T: Chronicled>(control: Control<T>) -> Chronicle
     ensures is { result ≡ run_of T.rules control }
     ensures valid { IsInOrder T.rules result }
     ensures few { length result.history ≤ MAX_ENTRIES }

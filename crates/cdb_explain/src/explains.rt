@@ -15,8 +15,9 @@ ghost use Rattle.cdb_setup.specs.declared.fault.SetupFault.{SetupFault as SetupF
 use crate::chronicle::chronicle_of;
 use crate::fault::ExplainFault;
 use crate::step::explain_step;
+use cdb_past::{Chronicle, Chronicled};
 use cdb_play::{Sink, Source, left_by, write_text};
-use cdb_rules::{Chronicle, Runs};
+use cdb_rules::Runs;
 use std::alloc::Global;
 
 /// Writes the explanation of a step of this run, which is whole before any of it is written. `NoStep` where no such step
@@ -47,7 +48,7 @@ fn write_explanation<T: Runs, W: Sink>(
 /// it is written. So after `Write` what was written is a beginning of the explanation, and after any other
 /// fault nothing was written. After `Setup` the script is not read; `Read` comes only where the reader failed in
 /// this call, and `Write` only where the writer did.
-pub fn explain<T: Runs, R: Source, W: Sink>(
+pub fn explain<T: Chronicled, R: Source, W: Sink>(
     alloc: Global,
     setup: &[u8],
     script: &mut R,

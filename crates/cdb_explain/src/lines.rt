@@ -11,7 +11,8 @@ use crate::line::push_line;
 use crate::past::past_of;
 use crate::replay::{fresh, take_next};
 use cdb_base::NoMemory;
-use cdb_rules::{Chronicle, Runs};
+use cdb_past::Chronicle;
+use cdb_rules::Runs;
 use std::alloc::{AllocError, Global};
 
 /// Adds the lines of the flagged events, in the order of the history, and returns how many they are.

@@ -5,7 +5,8 @@ ghost use Rattle.cdb_rules.specs.Runs.{with_event, with_history};
 ghost use Rattle.std.specs.Prelude.{◌≡◌, [], IfOk, OnOk};
 
 use cdb_base::{CopyName, Event, Kind, MsgName, NoMemory, Reg, StepId, StepName};
-use cdb_rules::{Chronicle, Runs};
+use cdb_past::Chronicle;
+use cdb_rules::Runs;
 use std::alloc::Global;
 
 /// A run of the same setup in which nothing has happened.

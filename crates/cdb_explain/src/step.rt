@@ -7,7 +7,8 @@ ghost use Rattle.std.specs.Prelude.{IfOk};
 use crate::asked::position_of_step;
 use crate::lines::explanation;
 use cdb_base::NoMemory;
-use cdb_rules::{Chronicle, Runs};
+use cdb_past::Chronicle;
+use cdb_rules::Runs;
 use std::alloc::Global;
 
 /// The explanation of the `k`-th standing step of process `p`; without `k` that of its last standing step,

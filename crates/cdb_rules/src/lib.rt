@@ -8,14 +8,12 @@
 //! ```
 #![tactic(auto)]
 
-mod chronicle;
 mod event_ref;
 mod own_event;
 mod proc_view;
 mod progress;
 mod runs;
 
-pub use chronicle::Chronicle;
 pub use event_ref::EventRef;
 pub use own_event::OwnEvent;
 pub use proc_view::ProcView;

@@ -6,7 +6,7 @@ ghost use Rattle.std.specs.Result.{result_err};
 ghost use Rattle.cdb_base.specs.declared.limits.TheConstants.{MAX_ENTRIES};
 ghost use Rattle.cdb_base.specs.declared.event.Event.{Event};
 ghost use Rattle.cdb_rules.specs.Auto.{first_step_by};
-ghost use Rattle.cdb_rules.specs.ByRules.{result_of_step, result_of_again, result_of_loss, process_in, mail_in, registers_in, cell_in, decisions_in, IsInOrder};
+ghost use Rattle.cdb_rules.specs.ByRules.{result_of_step, result_of_again, result_of_loss, process_in, mail_in, registers_in, cell_in, decisions_in};
 ghost use Rattle.cdb_rules.specs.RunView.{RunView};
 ghost use Rattle.cdb_rules.specs.Lawful.{AreLawful, KeepHistories};
 ghost use Rattle.cdb_rules.specs.Refusals.{IsOfRun};
@@ -18,7 +18,6 @@ ghost use Rattle.cdb_rules.specs.Views.{seen_as, cells_of, all_open_copies};
 ghost use Rattle.cdb_message.specs.Mail.{next_pending, payload_of};
 ghost use Rattle.cdb_setup.specs.Parts.{Parts, AreInRange};
 
-use crate::chronicle::Chronicle;
 use crate::event_ref::EventRef;
 use crate::proc_view::ProcView;
 use cdb_base::{Act, Cell, Event, MsgName, NoMemory, Payload, Proc, Refusal, Reg, StepId, Val};
@@ -112,11 +111,6 @@ pub trait Runs: Sized + Drop {
     /// The setup.
     fn setup(&self) -> &Setup
         ensures { result.now ≡ (run self.now).setup };
-
-    /// What stands in the run: each event was enabled in its turn. All else of the run is given up.
-    fn into_chronicle(self) -> Chronicle
-        ensures run { result ≡ run self }
-        ensures valid { IsInOrder rules (run self) };
 
     /// The payload of a message, where it was sent.
     fn payload(&self, name: MsgName) -> Option<&Payload>

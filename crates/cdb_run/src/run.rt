@@ -23,7 +23,7 @@ use cdb_message::mail::Mail;
 use cdb_process::{Input, Process, accepts_receive};
 use cdb_record::Records;
 use cdb_register::Registers;
-use cdb_rules::{Chronicle, Progress};
+use cdb_rules::Progress;
 use cdb_setup::{Algorithm, Setup};
 use std::alloc::Global;
 use std::marker::Model;
@@ -361,13 +361,15 @@ impl<P: Process> Run<P> {
         self.records.history()
     }
 
-    /// What stands in the run: each event was enabled in its turn. All else of the run is given up.
-    pub fn into_chronicle(self) -> Chronicle
-        ensures run { result ≡ self }
+    /// The setup of the run and the standing events, each of which was enabled in its turn. All else of the run is
+    /// given up.
+    pub fn into_parts(self) -> (Setup, History)
+        ensures setup { result.0 ≡ self.setup }
+        ensures history { result.1 ≡ self.history }
         ensures valid { IsInOrder P.table self }
     {
         let Run { setup, records, .. } = self;
-        Chronicle::new(setup, records.into_history())
+        (setup, records.into_history())
     }
 
     /// Whether no crash of the process stands.

@@ -36,7 +36,7 @@ fn begun<R: Abort + AllocGlobal>(rt: &R) -> AnyRun
 fn end(run: AnyRun)
     requires { IsTrueToSetup run }
 {
-    run.into_chronicle();
+    run.into_parts();
 }
 
 /// The copy of the first message of process 1 for a process from 1 to 9.

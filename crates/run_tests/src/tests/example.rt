@@ -8,6 +8,7 @@ use cdb_any_run::RunOfSetup;
 use cdb_base::{Event, Kind, MsgName, NoMemory, Proc, Refusal, Reg};
 use cdb_control::Command;
 use cdb_history::History;
+use cdb_past::Chronicled;
 use cdb_rules::{EventRef, Runs};
 use cdb_setup::{Setup, SetupFault};
 use cdb_text::parse_line;

@@ -1,8 +1,10 @@
-//! What stands in a run.
+//! What stands in a run, and the runs of which that alone can be kept.
 
 ghost use Rattle.std.specs.Prelude.{◌≡◌};
+ghost use Rattle.cdb_rules.specs.ByRules.{IsInOrder};
 
 use cdb_history::History;
+use cdb_rules::Runs;
 use cdb_setup::Setup;
 use std::marker::Model;
 
@@ -42,4 +44,12 @@ impl Chronicle {
     {
         &self.history
     }
+}
+
+/// A run of which what stands in it can be kept alone.
+pub trait Chronicled: Runs {
+    /// What stands in the run: each event was enabled in its turn. All else of the run is given up.
+    fn into_chronicle(self) -> Chronicle
+        ensures run { result ≡ Self.run self }
+        ensures valid { IsInOrder Self.rules (Self.run self) };
 }
