@@ -3,7 +3,7 @@ use Rattle.std.proofs.Common.{◌≡◌, ℕ, zero, suc, ◌<◌, ◌≤◌, Lis
 use Rattle.std.proofs.lemmas.List.Sums.{fold-append}
 use Rattle.cdb_base.specs.declared.event.Event.{Event}
 use Rattle.cdb_base.specs.declared.limits.TheConstants.{MAX_ENTRIES, MAX_SEATS}
-use Rattle.cdb_control.specs.declared.command.Command.{Command}
+use Rattle.cdb_commands.specs.declared.command.Command.{Command}
 use Rattle.cdb_control.specs.declared.control.Entry.{Entry}
 use Rattle.cdb_setup.proofs.Walk.{push_all}
 use Rattle.cdb_setup.specs.Parts.{Parts, AreInRange}

@@ -10,8 +10,8 @@ use Rattle.cdb_control.specs.Commands.{outcome}
 use Rattle.cdb_control.specs.Journal.{replay_from, replay}
 use Rattle.cdb_control.specs.State.{State, first_control_state}
 use Rattle.cdb_control.specs.Stops.{Stops, fires, first_fired, IsFired, IsLeastFired}
-use Rattle.cdb_control.specs.declared.command.Command.TheVariants.{Step, Auto}
-use Rattle.cdb_control.specs.declared.command.Stop.{Stop}
+use Rattle.cdb_commands.specs.declared.command.Command.TheVariants.{Step, Auto}
+use Rattle.cdb_commands.specs.declared.command.Stop.{Stop}
 use Rattle.cdb_control.specs.declared.control.Entry.{Entry}
 use Rattle.cdb_control.specs.declared.stops.TakenStep.{TakenStep}
 use Rattle.cdb_control.proofs.Numbers.{AreNumbered, AreRising}

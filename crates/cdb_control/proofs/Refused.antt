@@ -8,11 +8,11 @@ use Rattle.cdb_base.specs.declared.refusal.Refusal.{Refusal}
 use Rattle.cdb_base.specs.declared.refusal.Refusal.TheVariants.{NoProcess, NothingToRedo, NoBreak, BreakLimit}
 use Rattle.cdb_base.specs.declared.act.Act.{Act}
 use Rattle.cdb_base.specs.declared.limits.TheConstants.{MAX_BREAKPOINTS}
-use Rattle.cdb_control.specs.declared.command.Command.{Command}
-use Rattle.cdb_control.specs.declared.command.Command.TheVariants.{Step, Auto, Lose, Undo, UndoLost, Redo, Forget, Rollback, RollbackLost, Why, WhyLost, Break, Unbreak, Resume, Show, Decisions}
-use Rattle.cdb_control.specs.declared.command.View.{View}
-use Rattle.cdb_control.specs.declared.command.View.TheVariants as view
-use Rattle.cdb_control.specs.ToldReply as reply
+use Rattle.cdb_commands.specs.declared.command.Command.{Command}
+use Rattle.cdb_commands.specs.declared.command.Command.TheVariants.{Step, Auto, Lose, Undo, UndoLost, Redo, Forget, Rollback, RollbackLost, Why, WhyLost, Break, Unbreak, Resume, Show, Decisions}
+use Rattle.cdb_commands.specs.declared.command.View.{View}
+use Rattle.cdb_commands.specs.declared.command.View.TheVariants as view
+use Rattle.cdb_commands.specs.ToldReply as reply
 use Rattle.cdb_control.specs.Auto.{choice}
 use Rattle.cdb_rules.specs.Rules.{Rules}
 use Rattle.cdb_control.specs.Stops.{names_none_of}

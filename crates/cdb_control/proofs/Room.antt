@@ -9,7 +9,7 @@ use Rattle.cdb_base.specs.declared.name.StepId.{StepId}
 use Rattle.cdb_base.specs.declared.refusal.Refusal.{Refusal}
 use Rattle.cdb_base.specs.declared.refusal.Refusal.TheVariants.{NoProcess, NothingToRedo, NoBreak, BreakLimit}
 use Rattle.cdb_base.specs.declared.limits.TheConstants.{MAX_BREAKPOINTS}
-use Rattle.cdb_control.specs.ToldReply.{told, as_reply}
+use Rattle.cdb_commands.specs.ToldReply.{told, as_reply}
 use Rattle.cdb_control.specs.Auto.{choice}
 use Rattle.cdb_control.specs.Commands.{Outcome, unless, granted, found, unpaused, step_done, step, lost, undo, rollback, why, redone, show, outcome}
 use Rattle.cdb_control.specs.Done.{NoneShrinks}
@@ -19,12 +19,12 @@ use Rattle.cdb_control.specs.Room.{StoredList, StoredState, cost, room_of, lower
 use Rattle.cdb_control.specs.Kept.{HoldsRooms, rooms_at}
 use Rattle.cdb_control.specs.State.{State, redo_of, last_of}
 use Rattle.cdb_control.specs.Stops.{names_none_of}
-use Rattle.cdb_control.specs.declared.command.Command.{Command}
-use Rattle.cdb_control.specs.declared.command.Command.TheVariants.{Step, Auto, Lose, Undo, UndoLost, Redo, Forget, Rollback, RollbackLost, Why, WhyLost, Break, Unbreak, Resume, Show, Decisions}
-use Rattle.cdb_control.specs.declared.command.View.{View}
-use Rattle.cdb_control.specs.declared.reply.EventReply.{EventReply}
-use Rattle.cdb_control.specs.declared.reply.EventReply.TheVariants as of_event
-use Rattle.cdb_control.specs.declared.command.View.TheVariants as view
+use Rattle.cdb_commands.specs.declared.command.Command.{Command}
+use Rattle.cdb_commands.specs.declared.command.Command.TheVariants.{Step, Auto, Lose, Undo, UndoLost, Redo, Forget, Rollback, RollbackLost, Why, WhyLost, Break, Unbreak, Resume, Show, Decisions}
+use Rattle.cdb_commands.specs.declared.command.View.{View}
+use Rattle.cdb_commands.specs.declared.reply.EventReply.{EventReply}
+use Rattle.cdb_commands.specs.declared.reply.EventReply.TheVariants as of_event
+use Rattle.cdb_commands.specs.declared.command.View.TheVariants as view
 use Rattle.cdb_rules.specs.declared.event_ref.EventRef.TheVariants as named
 use Rattle.cdb_message.specs.Mail.{message_name}
 use Rattle.cdb_rules.specs.Rules.{Rules}

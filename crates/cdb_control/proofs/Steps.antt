@@ -9,17 +9,17 @@ use Rattle.cdb_base.specs.declared.no_memory.NoMemory.{NoMemory}
 use Rattle.cdb_base.specs.declared.event.Event.{Event}
 use Rattle.cdb_base.specs.declared.refusal.Refusal.{Refusal}
 use Rattle.cdb_base.specs.declared.refusal.Refusal.TheVariants.{NothingToRedo}
-use Rattle.cdb_control.specs.ToldReply.{is_refused, AsReply}
-use Rattle.cdb_control.specs.ToldReply as reply
+use Rattle.cdb_commands.specs.ToldReply.{is_refused, AsReply}
+use Rattle.cdb_commands.specs.ToldReply as reply
 use Rattle.cdb_control.specs.Auto.{choice}
 use Rattle.cdb_control.specs.Commands.{Outcome, granted, found, unpaused, undone_by, redone, decides, step, undo, rollback, why, reply_of, outcome}
 use Rattle.cdb_rules.specs.EventRefs.{name_given}
 use Rattle.cdb_control.specs.State.{State, redo_of, last_of}
 use Rattle.cdb_control.specs.Done.{CameOutAs, IsNoRefusal}
-use Rattle.cdb_control.specs.declared.command.Command.{Command}
-use Rattle.cdb_control.specs.declared.command.Command.TheVariants as command
-use Rattle.cdb_control.specs.declared.reply.EventReply.{EventReply}
-use Rattle.cdb_control.specs.declared.reply.Reply.{Reply}
+use Rattle.cdb_commands.specs.declared.command.Command.{Command}
+use Rattle.cdb_commands.specs.declared.command.Command.TheVariants as command
+use Rattle.cdb_commands.specs.declared.reply.EventReply.{EventReply}
+use Rattle.cdb_commands.specs.declared.reply.Reply.{Reply}
 use Rattle.cdb_rules.specs.declared.event_ref.EventRef.TheVariants.{Step, Lost}
 use Rattle.cdb_rules.specs.Refusals.{with_taken}
 use Rattle.cdb_rules.specs.Rules.{Rules}

@@ -17,10 +17,10 @@ use Rattle.cdb_rules.specs.EventRefs.{name_given}
 use Rattle.cdb_control.specs.State.{State, redo_of, last_of}
 use Rattle.cdb_control.specs.Kept.{events_kept, AreOfRun}
 use Rattle.cdb_control.specs.Stops.{names_none_of}
-use Rattle.cdb_control.specs.declared.command.Command.{Command}
-use Rattle.cdb_control.specs.declared.command.Command.TheVariants.{Step, Auto, Lose, Undo, UndoLost, Redo, Forget, Rollback, RollbackLost, Why, WhyLost, Break, Unbreak, Resume, Show, Decisions}
-use Rattle.cdb_control.specs.declared.command.View.{View}
-use Rattle.cdb_control.specs.declared.command.View.TheVariants as view
+use Rattle.cdb_commands.specs.declared.command.Command.{Command}
+use Rattle.cdb_commands.specs.declared.command.Command.TheVariants.{Step, Auto, Lose, Undo, UndoLost, Redo, Forget, Rollback, RollbackLost, Why, WhyLost, Break, Unbreak, Resume, Show, Decisions}
+use Rattle.cdb_commands.specs.declared.command.View.{View}
+use Rattle.cdb_commands.specs.declared.command.View.TheVariants as view
 use Rattle.cdb_rules.specs.declared.event_ref.EventRef.TheVariants as named
 use Rattle.cdb_rules.proofs.Alls.{all-append, all-take, all-set, all-get_or, all-slice_get}
 use Rattle.cdb_control.proofs.Held.{waiting-set}

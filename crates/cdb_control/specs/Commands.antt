@@ -10,18 +10,18 @@ use Rattle.cdb_base.specs.declared.limits.TheConstants.{MAX_BREAKPOINTS}
 use Rattle.cdb_base.specs.declared.name.StepId.{StepId}
 use Rattle.cdb_base.specs.declared.refusal.Refusal.{Refusal}
 use Rattle.cdb_base.specs.declared.refusal.Refusal.TheVariants.{NoProcess, Paused, NothingToRedo, NoBreak, BreakLimit}
-use Rattle.cdb_control.specs.ToldReply.{ToldReply}
-use Rattle.cdb_control.specs.ToldReply as reply
+use Rattle.cdb_commands.specs.ToldReply.{ToldReply}
+use Rattle.cdb_commands.specs.ToldReply as reply
 use Rattle.cdb_control.specs.Auto.{choice}
 use Rattle.cdb_rules.specs.EventRefs.{name_given}
 use Rattle.cdb_control.specs.State.{State, redo_of, with_redo, last_of}
 use Rattle.cdb_control.specs.Stops.{Stops, first_fired, names_none_of, IsLeastFired}
 use Rattle.cdb_rules.specs.Views.{seen_as, round_of, decision_of, cells_of, all_open_copies}
-use Rattle.cdb_control.specs.declared.command.Command.{Command}
-use Rattle.cdb_control.specs.declared.command.Command.TheVariants.{Step, Auto, Lose, Undo, UndoLost, Redo, Forget, Rollback, RollbackLost, Why, WhyLost, Break, Unbreak, Resume, Show, Decisions}
-use Rattle.cdb_control.specs.declared.command.Stop.{Stop}
-use Rattle.cdb_control.specs.declared.command.View.{View}
-use Rattle.cdb_control.specs.declared.command.View.TheVariants as view
+use Rattle.cdb_commands.specs.declared.command.Command.{Command}
+use Rattle.cdb_commands.specs.declared.command.Command.TheVariants.{Step, Auto, Lose, Undo, UndoLost, Redo, Forget, Rollback, RollbackLost, Why, WhyLost, Break, Unbreak, Resume, Show, Decisions}
+use Rattle.cdb_commands.specs.declared.command.Stop.{Stop}
+use Rattle.cdb_commands.specs.declared.command.View.{View}
+use Rattle.cdb_commands.specs.declared.command.View.TheVariants as view
 use Rattle.cdb_rules.specs.declared.event_ref.EventRef.TheVariants as named
 use Rattle.cdb_control.specs.declared.stops.TakenStep.{TakenStep}
 use Rattle.cdb_message.specs.Mail.{message_name}

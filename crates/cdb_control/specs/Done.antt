@@ -1,10 +1,10 @@
 -- What a contract says of a command that was carried out.
 use Rattle.std.specs.Prelude.{◌≡◌, ℕ, ◌≤◌, false, List, slice_index_or}
-use Rattle.cdb_control.specs.ToldReply.{told, is_refused}
+use Rattle.cdb_commands.specs.ToldReply.{told, is_refused}
 use Rattle.cdb_control.specs.Commands.{Outcome, outcome}
 use Rattle.cdb_control.specs.State.{State}
-use Rattle.cdb_control.specs.declared.command.Command.{Command}
-use Rattle.cdb_control.specs.declared.reply.Reply.{Reply}
+use Rattle.cdb_commands.specs.declared.command.Command.{Command}
+use Rattle.cdb_commands.specs.declared.reply.Reply.{Reply}
 use Rattle.cdb_rules.specs.Rules.{Rules}
 use Rattle.cdb_setup.specs.Parts.{Parts}
 

@@ -12,13 +12,13 @@ use Rattle.cdb_causal.specs.Causality.{IsFree}
 use Rattle.cdb_causal.specs.Dependence.{depends}
 use Rattle.cdb_causal.specs.Names.{IsFirstDependent}
 use Rattle.cdb_causal.specs.Rollback.{IsParted, IsRolledBack, without}
-use Rattle.cdb_control.specs.ToldReply.{ToldReply, Stepped, Undone, Redone, RolledBack, Refused}
-use Rattle.cdb_control.specs.ToldReply as reply
+use Rattle.cdb_commands.specs.ToldReply.{ToldReply, Stepped, Undone, Redone, RolledBack, Refused}
+use Rattle.cdb_commands.specs.ToldReply as reply
 use Rattle.cdb_control.specs.Commands.{reply_of, obey}
 use Rattle.cdb_control.specs.Journal.{replay_from, replay}
 use Rattle.cdb_control.specs.State.{State, redo_of}
-use Rattle.cdb_control.specs.declared.command.Command.{Command}
-use Rattle.cdb_control.specs.declared.command.Command.TheVariants.{Undo, UndoLost, Redo, Rollback, RollbackLost, Decisions}
+use Rattle.cdb_commands.specs.declared.command.Command.{Command}
+use Rattle.cdb_commands.specs.declared.command.Command.TheVariants.{Undo, UndoLost, Redo, Rollback, RollbackLost, Decisions}
 use Rattle.cdb_control.specs.declared.control.Entry.{Entry}
 use Rattle.cdb_rules.specs.Agreement.{AllAgree, HasMajorityIfNeeded}
 use Rattle.cdb_rules.specs.Rules.{Rules}

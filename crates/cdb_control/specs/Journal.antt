@@ -2,14 +2,14 @@
 -- is the journal's replay.
 use Rattle.std.specs.Prelude.{◌≡◌, ℕ, ◌<◌, ◌≤◌, ◌==◌, ◌⊎◌, true, List, [], ◌∷◌, ◌++◌, replicate, fold, if◌then◌else◌}
 use Rattle.std.specs.List.{AllByRecursion}
-use Rattle.cdb_control.specs.declared.command.Command.{Command}
+use Rattle.cdb_commands.specs.declared.command.Command.{Command}
 use Rattle.cdb_control.specs.declared.control.Entry.{Entry}
 use Rattle.cdb_setup.specs.Parts.{Parts}
 use Rattle.cdb_rules.specs.Rules.{Rules}
 use Rattle.cdb_control.specs.State.{State, first_control_state}
 use Rattle.cdb_control.specs.Commands.{reply_of, obey}
 use Rattle.cdb_control.specs.Room.{is_spared, lowered, room_of}
-use Rattle.cdb_control.specs.ToldReply.{ToldReply, is_refused}
+use Rattle.cdb_commands.specs.ToldReply.{ToldReply, is_refused}
 
 pub record Journaled : Type 0 where
   pub setup : Parts

@@ -4,8 +4,8 @@ use Rattle.cdb_base.specs.declared.refusal.Refusal.{Refusal}
 use Rattle.cdb_control.specs.Commands.{reply_of}
 use Rattle.cdb_control.specs.Journal.{Journaled, AreOfSeats, own, replies_in, extended, reply_in, replay}
 use Rattle.cdb_control.specs.State.{State}
-use Rattle.cdb_control.specs.ToldReply.{Refused}
-use Rattle.cdb_control.specs.declared.command.Command.{Command}
+use Rattle.cdb_commands.specs.ToldReply.{Refused}
+use Rattle.cdb_commands.specs.declared.command.Command.{Command}
 use Rattle.cdb_control.specs.declared.control.Entry.{Entry}
 use Rattle.cdb_rules.specs.Rules.{Rules}
 use Rattle.cdb_setup.specs.Parts.{Parts, AreInRange}

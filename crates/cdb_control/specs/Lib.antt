@@ -1,5 +1,4 @@
 -- what a reader of the contracts believes: the table of the commands, journals, and the headline over them
-pub mod ToldReply
 pub mod Auto
 pub mod Stops
 pub mod State
@@ -18,4 +17,3 @@ pub mod WorkedJournals
 pub mod Trying
 pub mod Done
 pub mod Kept
-pub mod OneEvent

@@ -1,10 +1,10 @@
 -- Room: how many more commands of any seat there may be before a seat's undo can need memory.
 use Rattle.std.specs.Prelude.{ℕ, ◌-◌, Bool, true, false, List, map, max, slice_index_or, slice_set}
 use Rattle.cdb_base.specs.declared.event.Event.{Event}
-use Rattle.cdb_control.specs.ToldReply.{ToldReply, RolledBack}
+use Rattle.cdb_commands.specs.ToldReply.{ToldReply, RolledBack}
 use Rattle.cdb_control.specs.State.{State}
-use Rattle.cdb_control.specs.declared.command.Command.{Command}
-use Rattle.cdb_control.specs.declared.command.Command.TheVariants.{Undo, UndoLost, Forget, Unbreak, Resume}
+use Rattle.cdb_commands.specs.declared.command.Command.{Command}
+use Rattle.cdb_commands.specs.declared.command.Command.TheVariants.{Undo, UndoLost, Forget, Unbreak, Resume}
 
 -- the commands that need no memory where their seat has room
 abbrev pub is_spared : Command → Bool

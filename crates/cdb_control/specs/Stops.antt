@@ -7,8 +7,8 @@ use Rattle.cdb_base.specs.declared.event.Event.TheVariants.{Step}
 use Rattle.cdb_base.specs.declared.event.Kind.TheVariants as kind
 use Rattle.cdb_base.specs.declared.register.Reg.{Reg}
 use Rattle.cdb_base.specs.declared.register.Reg.TheVariants.{R, Dec}
-use Rattle.cdb_control.specs.declared.command.Stop.{Stop}
-use Rattle.cdb_control.specs.declared.command.Stop.TheVariants as stop
+use Rattle.cdb_commands.specs.declared.command.Stop.{Stop}
+use Rattle.cdb_commands.specs.declared.command.Stop.TheVariants as stop
 use Rattle.cdb_control.specs.declared.stops.TakenStep.{TakenStep}
 use Rattle.cdb_rules.specs.Step.{is_among}
 

@@ -6,10 +6,10 @@ use Rattle.cdb_base.specs.declared.event.Event.{Event}
 use Rattle.cdb_base.specs.declared.event.Event.TheVariants as event
 use Rattle.cdb_base.specs.declared.event.Kind.TheVariants as kind
 use Rattle.cdb_base.specs.declared.refusal.Refusal.TheVariants.{NeededBy}
-use Rattle.cdb_control.specs.ToldReply.{ToldReply, Stepped, Refused}
+use Rattle.cdb_commands.specs.ToldReply.{ToldReply, Stepped, Refused}
 use Rattle.cdb_control.specs.Journal.{entry, replies_of}
-use Rattle.cdb_control.specs.declared.command.Command.TheVariants.{Step, Undo, Redo, Rollback, Show, Decisions}
-use Rattle.cdb_control.specs.declared.command.View.TheVariants.{History}
+use Rattle.cdb_commands.specs.declared.command.Command.TheVariants.{Step, Undo, Redo, Rollback, Show, Decisions}
+use Rattle.cdb_commands.specs.declared.command.View.TheVariants.{History}
 use Rattle.cdb_control.specs.declared.control.Entry.{Entry}
 use Rattle.cdb_rules.specs.Algorithms.{rules}
 use Rattle.cdb_setup.specs.Parts.{Parts}

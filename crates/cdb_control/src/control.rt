@@ -1,18 +1,17 @@
 //! The control: the control state, and the journal that led to it.
 ghost use Rattle.std.specs.Prelude.{◌≡◌, ◌≢◌, true, false, ◌+◌, ◌-◌, ◌<◌, ◌≤◌, ◌↔◌, ◌⊎◌, max, Err, IfOk, OnOk, OnErr, length, replicate, vec_len, vec_capacity, ◌++◌, ◌∷◌, []};
 ghost use Rattle.std.specs.Result.{result_ok};
-ghost use Rattle.cdb_control.specs.OneEvent.{is_of_one_event};
-ghost use Rattle.cdb_control.specs.ToldReply.{told, as_reply};
+ghost use Rattle.cdb_commands.specs.OneEvent.{is_of_one_event};
+ghost use Rattle.cdb_commands.specs.ToldReply.{told, as_reply};
 ghost use Rattle.cdb_control.specs.Auto.{choice};
 ghost use Rattle.cdb_control.specs.Headline.{Headline};
 ghost use Rattle.cdb_control.specs.Journal.{entry, opened, extended, reply_in, control_state, AreOfSeats, NeedsNoMemory};
 ghost use Rattle.cdb_control.specs.Room.{cost, room_of, with_room, raised};
 
-use crate::command::{Command, Stop, View};
-use crate::reply::{EventReply, Reply};
 use crate::state::ControlState;
 use cdb_base::limits::{MAX_ENTRIES, MAX_SEATS};
 use cdb_base::{Act, NoMemory, Reg};
+use cdb_commands::{Command, EventReply, Reply, Stop, View};
 use cdb_rules::Runs;
 use cdb_setup::Setup;
 use std::alloc::Global;

@@ -2,9 +2,9 @@
 ghost use Rattle.std.specs.Prelude.{◌≡◌, ◌≤◌, ℕ, [], ◌∷◌, None};
 ghost use Rattle.cdb_base.specs.declared.refusal.Refusal.TheVariants.{NothingToRedo};
 ghost use Rattle.cdb_base.specs.declared.act.Act.{Act};
-ghost use Rattle.cdb_control.specs.declared.command.Command.{Command};
-ghost use Rattle.cdb_control.specs.declared.command.Command.TheVariants.{Step, Auto};
-ghost use Rattle.cdb_control.specs.ToldReply.{Undone, Redone, RolledBack, History, Decisions, Refused};
+ghost use Rattle.cdb_commands.specs.declared.command.Command.{Command};
+ghost use Rattle.cdb_commands.specs.declared.command.Command.TheVariants.{Step, Auto};
+ghost use Rattle.cdb_commands.specs.ToldReply.{Undone, Redone, RolledBack, History, Decisions, Refused};
 ghost use Rattle.cdb_control.specs.Commands.{TellsPause, reply_of, obey};
 ghost use Rattle.cdb_control.specs.Headline.{Headline};
 ghost use Rattle.cdb_control.specs.Journal.{replies_in};

@@ -1,4 +1,4 @@
-//! Commands and replies of sessions on one run, with breakpoints, redo lists and the journal of all
+//! What the commands of sessions do to one run, with breakpoints, redo lists and the journal of all
 //! commands. The state of a control is the replay of its journal.
 //!
 //! ```text
@@ -8,16 +8,13 @@
 //! ```
 #![tactic(auto)]
 
-mod command;
 mod control;
 pub mod laws;
 mod redo;
-mod reply;
 mod state;
 mod stops;
 
 pub use cdb_base::Act;
+pub use cdb_commands::{Command, EventReply, Reply, Stop, View};
 pub use cdb_rules::{EventRef, ProcView, Runs};
-pub use command::{Command, Stop, View};
 pub use control::{CallFault, Control, Entry, OpenFault};
-pub use reply::{EventReply, Reply};

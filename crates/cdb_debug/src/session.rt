@@ -2,7 +2,7 @@
 
 ghost use Rattle.std.specs.Prelude.{◌≡◌, ◌-◌, ◌<◌, ◌^◌, ◌++◌, IfOk, OnOk};
 ghost use Rattle.cdb_debug.specs.Dialogues.{session_by, begun, after_request, response_to, shown};
-ghost use Rattle.cdb_control.specs.ToldReply.{told};
+ghost use Rattle.cdb_commands.specs.ToldReply.{told};
 ghost use Rattle.cdb_debug.specs.Requests.{Asks};
 ghost use Rattle.cdb_text.specs.Texts.{text_of};
 

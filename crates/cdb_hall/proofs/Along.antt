@@ -1,7 +1,7 @@
 -- A dialogue grows by one response after the other.
 use Rattle.std.proofs.Common.{◌≡◌, ℕ, List, [], ◌∷◌, ◌++◌, sym, ap, ◌∙◌, append_assoc, append-nil}
 use Rattle.std.proofs.lemmas.Grind.{fold-append}
-use Rattle.cdb_control.specs.ToldReply.{ToldReply}
+use Rattle.cdb_commands.specs.ToldReply.{ToldReply}
 use Rattle.cdb_debug.specs.declared.request.Request.{Request}
 use Rattle.cdb_hall.specs.Dialogues.{Along, begun_along, next_along, along_after, seat_shown, seat_shown_from, seat_dialogue}
 

@@ -3,7 +3,7 @@ use Rattle.std.proofs.Common.{◌≡◌, inl, inr, ℕ, ◌≤◌, List, ◌++�
 use Rattle.std.specs.Prelude.{Result, Ok, Err}
 use Rattle.cdb_base.specs.declared.limits.TheConstants.{MAX_ENTRIES}
 use Rattle.cdb_control.proofs.Own.{replies_of-same}
-use Rattle.cdb_control.specs.ToldReply.{ToldReply}
+use Rattle.cdb_commands.specs.ToldReply.{ToldReply}
 use Rattle.cdb_control.specs.Journal.{Journaled, own, replies_of}
 use Rattle.cdb_play.specs.declared.fault.PlayFault.{PlayFault}
 use Rattle.cdb_play.specs.declared.fault.PlayFault.TheVariants as fault

@@ -1,7 +1,7 @@
 -- A seat's session looks at the bytes that it was given, whatever replies will follow.
 use Rattle.std.proofs.Common.{◌≡◌, ◌≢◌, rules, ℕ, ◌+◌, ◌<◌, Bool, true, false, List, [], ◌∷◌, ◌++◌, length, take, refl, sym, ap, subst, ◌∙◌, append_assoc, append-nil}
 use Rattle.std.specs.Prelude.{Result, Ok, Err, IsTrue}
-use Rattle.cdb_control.specs.ToldReply.{ToldReply}
+use Rattle.cdb_commands.specs.ToldReply.{ToldReply}
 use Rattle.cdb_play.specs.declared.buffer.OutputFault.{OutputFault}
 use Rattle.cdb_play.specs.declared.buffer.OutputFault.TheVariants as output
 use Rattle.cdb_play.specs.declared.fault.PlayFault.{PlayFault}

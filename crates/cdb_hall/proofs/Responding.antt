@@ -2,8 +2,8 @@
 use Rattle.std.proofs.Common.{◌≡◌, ◌≢◌, ◌≤◌, ◌+◌, ℕ, true, List, [], ◌∷◌, ◌++◌, length, refl, sym, ap, subst, ◌∙◌, arith, Vec, Global}
 use Rattle.std.specs.Prelude.{Result, Ok, Err, IfOk, IsTrue, ◌↔◌, Bool}
 use Rattle.cdb_base.specs.declared.limits.TheConstants.{MAX_ENTRIES}
-use Rattle.cdb_control.specs.ToldReply.{ToldReply}
-use Rattle.cdb_control.specs.declared.command.Command.{Command}
+use Rattle.cdb_commands.specs.ToldReply.{ToldReply}
+use Rattle.cdb_commands.specs.declared.command.Command.{Command}
 use Rattle.cdb_text.specs.Texts.{text_of}
 use Rattle.cdb_debug.specs.Moves.{Says, Known, Makes}
 use Rattle.cdb_debug.specs.Requests.{Asks}

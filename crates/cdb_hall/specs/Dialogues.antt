@@ -1,6 +1,6 @@
 -- The responses of a seat's session, along its lines.
 use Rattle.std.specs.Prelude.{◌≡◌, ℕ, ◌+◌, List, [], ◌∷◌, ◌++◌, fold}
-use Rattle.cdb_control.specs.ToldReply.{ToldReply}
+use Rattle.cdb_commands.specs.ToldReply.{ToldReply}
 use Rattle.cdb_debug.specs.Dialogues.{full_text, faulty_line_text, long_line_text}
 use Rattle.cdb_debug.specs.Requests.{AreAsked}
 use Rattle.cdb_debug.specs.declared.request.Request.{Request}

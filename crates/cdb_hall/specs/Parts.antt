@@ -2,9 +2,9 @@
 use Rattle.std.specs.Prelude.{◌≡◌, ◌⊎◌, ℕ, List, [], ◌∷◌, ◌++◌, length}
 use Rattle.std.specs.List.{flat_map}
 use Rattle.cdb_base.specs.declared.limits.TheConstants.{MAX_ENTRIES}
-use Rattle.cdb_control.specs.ToldReply.{ToldReply}
+use Rattle.cdb_commands.specs.ToldReply.{ToldReply}
 use Rattle.cdb_control.specs.Journal.{Journaled, own, replies_of}
-use Rattle.cdb_control.specs.declared.command.Command.{Command}
+use Rattle.cdb_commands.specs.declared.command.Command.{Command}
 use Rattle.cdb_debug.specs.Requests.{AreAsked}
 use Rattle.cdb_debug.specs.declared.request.Request.{Request}
 use Rattle.cdb_debug.specs.declared.request.Request.TheVariants.{Call, Seat, Help, Quit, Fault, TooLong}

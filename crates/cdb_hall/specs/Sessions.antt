@@ -1,6 +1,6 @@
 -- What a seat's session has done, by its moves and by what the journal has of the seat.
 use Rattle.std.specs.Prelude.{◌≡◌, ℕ, ◌≤◌, List, ◌∷◌, ◌++◌, length, Result, Ok, Err}
-use Rattle.cdb_control.specs.ToldReply.{ToldReply}
+use Rattle.cdb_commands.specs.ToldReply.{ToldReply}
 use Rattle.cdb_play.specs.Lines.{lines_of}
 use Rattle.cdb_play.specs.declared.fault.PlayFault.{PlayFault}
 use Rattle.cdb_play.specs.declared.fault.PlayFault.TheVariants as fault

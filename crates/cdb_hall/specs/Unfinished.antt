@@ -1,7 +1,7 @@
 -- A seat's session in the middle of its input.
 use Rattle.std.specs.Prelude.{◌≡◌, ℕ, ◌+◌, ◌≤◌, Bool, true, false, List, [], ◌++◌, length, Result, Ok, Err, IsTrue, ◌↔◌}
 use Rattle.std.specs.List.{AllZip, AllByRecursion}
-use Rattle.cdb_control.specs.ToldReply.{ToldReply}
+use Rattle.cdb_commands.specs.ToldReply.{ToldReply}
 use Rattle.cdb_debug.specs.Unfinished.{with_ends, unfinished_of, ended_well, ended_by, IsOver}
 use Rattle.cdb_debug.specs.Requests.{HasNoEnd, Asks, quit_line}
 use Rattle.cdb_debug.specs.Moves.{Known, Move, read_in, written_in, AreWrites, FailsToWrite, EndsWith, Makes}

@@ -2,7 +2,7 @@
 use Rattle.std.proofs.Common.{ℕ, List, [], ◌∷◌, arith}
 use Rattle.cdb_control.specs.Headline.{Headline}
 use Rattle.cdb_control.specs.Journal.{AreOfSeats}
-use Rattle.cdb_control.specs.declared.command.Command.{Command}
+use Rattle.cdb_commands.specs.declared.command.Command.{Command}
 use Rattle.cdb_control.specs.declared.control.Entry.{Entry}
 use Rattle.cdb_base.specs.declared.event.Event.{Event}
 use Rattle.cdb_rules.specs.Rules.{Rules}

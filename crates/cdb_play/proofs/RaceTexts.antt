@@ -2,10 +2,10 @@
 use Rattle.std.proofs.Common.{◌≡◌, ℕ, suc, ◌+◌, ◌-◌, ◌<◌, List, [], ◌∷◌, ◌++◌, length, map, get_or, take, drop, Vec, Global, refl, sym, ap, ◌∙◌, arith, append_assoc, length-drop}
 use Rattle.std.specs.List.{range_with_len}
 use Rattle.std.proofs.lemmas.List.{get_or-drop, drop-map, take_rest}
-use Rattle.cdb_control.specs.ToldReply.{ToldReply, told}
+use Rattle.cdb_commands.specs.ToldReply.{ToldReply, told}
 use Rattle.cdb_control.specs.Journal.{Journaled}
-use Rattle.cdb_control.specs.declared.command.Command.{Command}
-use Rattle.cdb_control.specs.declared.reply.Reply.{Reply}
+use Rattle.cdb_commands.specs.declared.command.Command.{Command}
+use Rattle.cdb_commands.specs.declared.reply.Reply.{Reply}
 use Rattle.cdb_race.specs.Races.{IsRaced, replies_in, all_told}
 use Rattle.cdb_rules.specs.Rules.{Rules}
 use Rattle.cdb_setup.specs.Parts.{Parts}

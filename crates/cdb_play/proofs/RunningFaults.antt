@@ -1,7 +1,7 @@
 -- The faults of a race, of those of its parts.
 use Rattle.std.proofs.Common.{◌≡◌, ◌≢◌, inl, inr, ℕ, suc, ◌+◌, ◌<◌, ◌≤◌, Bool, List, [], ◌∷◌, length, Option, Result, Ok, Err, refl, ap, arith}
 use Rattle.std.specs.Prelude.{IfErr}
-use Rattle.cdb_control.specs.declared.command.Command.{Command}
+use Rattle.cdb_commands.specs.declared.command.Command.{Command}
 use Rattle.cdb_race.specs.Faults.{IsAmongSeats, IsFaultBehind, IsTold}
 use Rattle.cdb_race.specs.Faults as of_race_threads
 use Rattle.cdb_race.specs.Races.{MayFill}

@@ -1,7 +1,7 @@
 -- Scripts are read one after the other.
 use Rattle.std.proofs.Common.{◌≡◌, ℕ, ◌+◌, ◌<◌, ◌≤◌, List, [], ◌∷◌, ◌++◌, length, get_or, take, drop, Vec, Global, sym, ap, subst, ◌∙◌, arith, length-take}
 use Rattle.std.proofs.lemmas.List.{length-map, map-append, take_more}
-use Rattle.cdb_control.specs.declared.command.Command.{Command}
+use Rattle.cdb_commands.specs.declared.command.Command.{Command}
 use Rattle.cdb_play.specs.Races.{race_fault_of_script, AreScripts, IsFirstNotTooLong, bytes_of}
 use Rattle.cdb_play.specs.RaceStages.{IsFaultOfScripts}
 use Rattle.cdb_setup.specs.Format.{longest}

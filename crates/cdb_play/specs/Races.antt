@@ -2,9 +2,9 @@
 use Rattle.std.specs.Prelude.{◌≡◌, ℕ, ◌+◌, ◌-◌, ◌≤◌, ◌==◌, Bool, true, List, [], ◌∷◌, ◌++◌, length, map, codes, decimal, if◌then◌else◌}
 use Rattle.std.specs.List.{AllZip, flat_map, list_all, range_with_len}
 use Rattle.std.proofs.Common.{Vec, Global}
-use Rattle.cdb_control.specs.ToldReply.{ToldReply}
+use Rattle.cdb_commands.specs.ToldReply.{ToldReply}
 use Rattle.cdb_control.specs.Journal.{Journaled, control_state}
-use Rattle.cdb_control.specs.declared.command.Command.{Command}
+use Rattle.cdb_commands.specs.declared.command.Command.{Command}
 use Rattle.cdb_race.specs.Faults as of_threads
 use Rattle.cdb_race.specs.Races.{IsRaced, MayFill, replies_in}
 use Rattle.cdb_race.specs.declared.threads.RaceFault.{RaceFault as ThreadFault}

@@ -2,7 +2,7 @@
 use Rattle.std.specs.Prelude.{◌≡◌, ℕ, ◌≤◌, List, length, map}
 use Rattle.std.specs.List.{flat_map}
 use Rattle.cdb_base.specs.declared.event.Event.{Event}
-use Rattle.cdb_control.specs.declared.command.Command.{Command}
+use Rattle.cdb_commands.specs.declared.command.Command.{Command}
 use Rattle.cdb_control.specs.declared.control.Entry.{Entry}
 use Rattle.cdb_control.specs.Headline.{Headline}
 use Rattle.cdb_control.specs.Journal.{Journaled, entry, reply_in, replies_of}

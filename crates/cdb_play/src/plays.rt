@@ -3,7 +3,7 @@
 ghost use Rattle.std.specs.Prelude.{◌≡◌, true, ◌<◌, ◌≤◌, [], length, Err, IfOk, IfErr, OnOk};
 ghost use Rattle.cdb_base.specs.declared.limits.TheConstants.{MAX_ENTRIES};
 ghost use Rattle.cdb_control.specs.Journal.{extended};
-ghost use Rattle.cdb_control.specs.OneEvent.{is_of_one_event};
+ghost use Rattle.cdb_commands.specs.OneEvent.{is_of_one_event};
 ghost use Rattle.cdb_setup.specs.declared.fault.SetupFault.{SetupFault as SetupFaultName};
 ghost use Rattle.cdb_play.specs.PlayStages.{HasCarriedOut};
 ghost use Rattle.cdb_play.specs.Putting.{Puts};

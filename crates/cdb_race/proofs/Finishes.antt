@@ -1,8 +1,8 @@
 -- From what a thread has done to what its seat has finished.
 use Rattle.std.proofs.Common.{◌≡◌, inl, inr, ℕ, List, None, refl, length, take, ap, ◌∙◌, subst, arith}
 use Rattle.std.proofs.lemmas.List.{take_all}
-use Rattle.cdb_control.specs.ToldReply.{ToldReply}
-use Rattle.cdb_control.specs.declared.command.Command.{Command}
+use Rattle.cdb_commands.specs.ToldReply.{ToldReply}
+use Rattle.cdb_commands.specs.declared.command.Command.{Command}
 use Rattle.cdb_race.specs.Faults.{fault_at}
 use Rattle.cdb_race.specs.Plans.{script_of}
 use Rattle.cdb_race.specs.Runs.{HasDriven, HasServed, HasRun, EndsWell, IsDrivenOut, HasFinished}

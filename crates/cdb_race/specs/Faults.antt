@@ -3,8 +3,8 @@ use Rattle.std.specs.Prelude.{◌≡◌, ◌≢◌, ◌⊎◌, ℕ, ◌+◌, ◌
 use Rattle.std.specs.Global.{Global}
 use Rattle.atomic_table.specs.Seated.{TableId}
 use Rattle.cdb_control.specs.Journal.{opened}
-use Rattle.cdb_control.specs.declared.command.Command.{Command}
-use Rattle.cdb_control.specs.declared.reply.Reply.{Reply}
+use Rattle.cdb_commands.specs.declared.command.Command.{Command}
+use Rattle.cdb_commands.specs.declared.reply.Reply.{Reply}
 use Rattle.cdb_race.specs.Plans.{seats_of}
 use Rattle.cdb_race.specs.Races.{all_told, AllRan, AllEnded, AllFinished}
 use Rattle.cdb_race.specs.declared.plan.Plan.{Plan}

@@ -1,6 +1,6 @@
 -- What each seat of a race is to do.
 use Rattle.std.specs.Prelude.{ℕ, ◌+◌, ◌-◌, List, [], length, slice_index_or}
-use Rattle.cdb_control.specs.declared.command.Command.{Command}
+use Rattle.cdb_commands.specs.declared.command.Command.{Command}
 use Rattle.cdb_race.specs.declared.plan.Plan.{Plan}
 
 -- the seats of the processes come first, and then those of the scripts

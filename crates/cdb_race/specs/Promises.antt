@@ -2,7 +2,7 @@
 use Rattle.std.specs.Prelude.{◌≡◌, ◌≢◌, ℕ, ◌-◌, ◌<◌, Bool, true, List, Option, map, slice_index_or, Vec, vec_len, ◌≤◌, []}
 use Rattle.std.specs.Global.{Global}
 use Rattle.std.specs.declared.thread.PromisedHandle.{PromisedHandle}
-use Rattle.cdb_control.specs.ToldReply.{told}
+use Rattle.cdb_commands.specs.ToldReply.{told}
 use Rattle.cdb_race.specs.Runs.{HasRun}
 use Rattle.cdb_race.specs.declared.plan.Plan.{Plan}
 use Rattle.cdb_race.specs.declared.worker.Ran.{Ran}

@@ -1,9 +1,9 @@
 -- What the seats of a race have done.
 use Rattle.std.specs.Prelude.{◌≡◌, ◌≢◌, ◌⊎◌, ℕ, ◌<◌, ◌≤◌, List, [], length, take, replicate}
 use Rattle.cdb_base.specs.declared.limits.TheConstants.{MAX_ENTRIES}
-use Rattle.cdb_control.specs.ToldReply.{ToldReply}
-use Rattle.cdb_control.specs.declared.command.Command.{Command}
-use Rattle.cdb_control.specs.declared.command.Command.TheVariants.{Auto}
+use Rattle.cdb_commands.specs.ToldReply.{ToldReply}
+use Rattle.cdb_commands.specs.declared.command.Command.{Command}
+use Rattle.cdb_commands.specs.declared.command.Command.TheVariants.{Auto}
 use Rattle.cdb_race.specs.Plans.{script_of}
 use Rattle.cdb_race.specs.declared.plan.Plan.{Plan}
 use Rattle.cdb_rules.specs.Rules.{Rules}

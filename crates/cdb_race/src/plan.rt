@@ -13,7 +13,7 @@ pub struct Script {
 
 impl Model for Script {
     ghost use Rattle.std.specs.Prelude.{List};
-    ghost use Rattle.cdb_control.specs.declared.command.Command.{Command};
+    ghost use Rattle.cdb_commands.specs.declared.command.Command.{Command};
 
     ghost Value = { List Command };
 

@@ -1,6 +1,6 @@
 -- What a gate has heard after one call more.
 use Rattle.std.proofs.Common.{◌≡◌, ℕ, ◌+◌, Bool, true, List, [], ◌∷◌, ◌++◌, length, Option, Some, None, refl, sym, ap, ◌∙◌, append-nil, append_assoc, arith}
-use Rattle.cdb_control.specs.declared.command.Command.{Command}
+use Rattle.cdb_commands.specs.declared.command.Command.{Command}
 use Rattle.cdb_shared.specs.Gates.{Heard, Asked, Told, heard_more, heard_of, heard_last, Hears}
 use Rattle.cdb_shared.specs.Seats.{SeatView}
 use Rattle.cdb_control.specs.declared.control.CallFault.{CallFault}

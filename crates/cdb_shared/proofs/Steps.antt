@@ -1,9 +1,9 @@
 -- What one call adds to a seat's own calls and to the replies.
 use Rattle.std.proofs.Common.{◌≡◌, ◌≢◌, ℕ, length-append, suc, ◌+◌, ◌<◌, ◌≤◌, ◌==◌, Bool, true, false, cond, List, [], ◌∷◌, ◌++◌, length, get_or, take, replicate, refl, sym, ap, ◌∙◌, subst, arith, append_assoc}
 use Rattle.std.proofs.lemmas.List.{replicate-append-replicate, take_more}
-use Rattle.cdb_control.specs.declared.command.Command.{Command}
+use Rattle.cdb_commands.specs.declared.command.Command.{Command}
 use Rattle.cdb_base.specs.declared.refusal.Refusal.TheVariants as refusal
-use Rattle.cdb_control.specs.ToldReply.{ToldReply, Refused}
+use Rattle.cdb_commands.specs.ToldReply.{ToldReply, Refused}
 use Rattle.cdb_control.specs.declared.control.Entry.{Entry}
 use Rattle.cdb_control.specs.declared.control.CallFault.{CallFault}
 use Rattle.cdb_control.specs.declared.control.CallFault.TheVariants.{JournalFull, NoMemory}

@@ -1,6 +1,6 @@
 -- The calls of a gate by a session: it is asked before each call, and notified after each reply.
 use Rattle.std.specs.Prelude.{◌≡◌, ℕ, ◌+◌, Bool, true, false, List, [], ◌∷◌, ◌++◌, length, Option, Some, None}
-use Rattle.cdb_control.specs.declared.command.Command.{Command}
+use Rattle.cdb_commands.specs.declared.command.Command.{Command}
 use Rattle.cdb_shared.specs.Seats.{SeatView}
 use Rattle.cdb_shared.specs.Sessions.{calls_of}
 use Rattle.cdb_shared.specs.declared.session.End.{End}

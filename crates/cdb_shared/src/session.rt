@@ -1,6 +1,6 @@
 //! Sessions: a seat's calls in order, each after its gate was asked.
 ghost use Rattle.std.specs.Prelude.{◌≡◌, ◌≢◌, ◌++◌, ◌≤◌, ◌↔◌, length, map, take, replicate, vec_len, List, Bool, true, false, Option, None, IsTrue};
-ghost use Rattle.cdb_control.specs.ToldReply.{Refused, told};
+ghost use Rattle.cdb_commands.specs.ToldReply.{Refused, told};
 ghost use Rattle.cdb_shared.specs.Gates.{Heard, HearsAsked, HearsTold, Hears};
 ghost use Rattle.cdb_shared.specs.Seats.{RestsAt, IsLater, SeesFull, SeesRoom};
 ghost use Rattle.cdb_shared.specs.Sessions.{calls_of, replies_to, end_at, IsDrivenFrom};

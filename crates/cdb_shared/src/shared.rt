@@ -1,6 +1,6 @@
 //! The shared control: opening it, calling it, meeting and finishing.
 ghost use Rattle.std.specs.Prelude.{◌≡◌, ◌<◌, ◌≤◌, ◌↔◌, [], length, vec_len, vec_capacity, All, IfOk, IfErr, OnErr};
-ghost use Rattle.cdb_control.specs.ToldReply.{told};
+ghost use Rattle.cdb_commands.specs.ToldReply.{told};
 ghost use Rattle.cdb_control.specs.Journal.{Journaled, Begins};
 ghost use Rattle.cdb_shared.specs.Seats.{RestsAt, fresh_seats, IsLater, IsCall, IsKnownBy, SameCalls, SeesFull, SeesHeadline, HasHeadline};
 ghost use Rattle.cdb_shared.specs.Turn.{story, resting, known_seats_from, AllKnow};

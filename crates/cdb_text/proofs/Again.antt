@@ -2,10 +2,10 @@
 use Rattle.std.proofs.Common.{◌≡◌, ℕ, [], ◌∷◌, map, Some, None, refl}
 use Rattle.std.specs.Prelude.{Ok, codes, decimal}
 use Rattle.cdb_base.specs.declared.act.Act.TheVariants as act
-use Rattle.cdb_control.specs.declared.command.Command.{Command}
-use Rattle.cdb_control.specs.declared.command.Command.TheVariants.{Step, Auto, Lose, Undo, UndoLost, Redo, Forget, Rollback, RollbackLost, Why, WhyLost, Break, Unbreak, Resume, Show, Decisions}
-use Rattle.cdb_control.specs.declared.command.Stop.TheVariants as stop
-use Rattle.cdb_control.specs.declared.command.View.TheVariants as view
+use Rattle.cdb_commands.specs.declared.command.Command.{Command}
+use Rattle.cdb_commands.specs.declared.command.Command.TheVariants.{Step, Auto, Lose, Undo, UndoLost, Redo, Forget, Rollback, RollbackLost, Why, WhyLost, Break, Unbreak, Resume, Show, Decisions}
+use Rattle.cdb_commands.specs.declared.command.Stop.TheVariants as stop
+use Rattle.cdb_commands.specs.declared.command.View.TheVariants as view
 use Rattle.cdb_text.specs.declared.keyword.Keyword.TheVariants as key
 use Rattle.cdb_text.specs.declared.verb.Verb.{Verb}
 use Rattle.cdb_text.specs.declared.verb.Verb.TheVariants as verb

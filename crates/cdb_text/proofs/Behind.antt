@@ -3,7 +3,7 @@ use Rattle.std.proofs.Common.{◌≡◌, ℕ, List, [], ◌∷◌, ◌++◌, map
 use Rattle.std.specs.Prelude.{ok_or, Result, Ok, Err, codes, decimal}
 use Rattle.std.specs.List.{AllByRecursion}
 use Rattle.std.proofs.lemmas.List.{map-append}
-use Rattle.cdb_control.specs.declared.command.Command.{Command}
+use Rattle.cdb_commands.specs.declared.command.Command.{Command}
 use Rattle.cdb_text.specs.declared.fault.LineFault.{LineFault}
 use Rattle.cdb_text.specs.declared.fault.LineFault.TheVariants.{Number}
 use Rattle.cdb_text.specs.declared.keyword.Keyword.{Keyword}

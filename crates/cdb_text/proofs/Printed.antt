@@ -11,10 +11,10 @@ use Rattle.std.proofs.lemmas.List.Splits.{slice_split_none, slice_split_at, join
 use Rattle.std.proofs.lemmas.Str.Parse.{numerals_by_value, tells_digits}
 use Rattle.cdb_base.specs.declared.act.Act.TheVariants as act
 use Rattle.cdb_base.specs.declared.register.Reg.TheVariants.{R, Dec}
-use Rattle.cdb_control.specs.declared.command.Command.{Command}
-use Rattle.cdb_control.specs.declared.command.Command.TheVariants.{Step, Break, Show}
-use Rattle.cdb_control.specs.declared.command.Stop.TheVariants as stop
-use Rattle.cdb_control.specs.declared.command.View.TheVariants as view
+use Rattle.cdb_commands.specs.declared.command.Command.{Command}
+use Rattle.cdb_commands.specs.declared.command.Command.TheVariants.{Step, Break, Show}
+use Rattle.cdb_commands.specs.declared.command.Stop.TheVariants as stop
+use Rattle.cdb_commands.specs.declared.command.View.TheVariants as view
 use Rattle.cdb_text.specs.Commands.{CommandPart, fixed, number, register, command_parts}
 use Rattle.cdb_text.specs.Grammar.{IsInRange, HasNumbersInRange, IsLineOf, printed, words_of, part_text}
 use Rattle.cdb_text.specs.Laws.{EachCommandHasOneLine}

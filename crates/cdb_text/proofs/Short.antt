@@ -4,7 +4,7 @@ use Rattle.std.specs.Prelude.{codes, decimal}
 use Rattle.std.proofs.lemmas.Bool.{ne_eqb}
 use Rattle.std.proofs.lemmas.Fmt.{decimal_digit}
 use Rattle.std.proofs.lemmas.Slice.Eq.{HasBytesAt, text_from_reads}
-use Rattle.cdb_control.specs.declared.command.Command.TheVariants.{Auto}
+use Rattle.cdb_commands.specs.declared.command.Command.TheVariants.{Auto}
 use Rattle.cdb_text.specs.Grammar.{AreWordsOf, words_of}
 
 cut : (digit : ℕ) → 49 ≤ digit → words_of (97 ∷ 117 ∷ 116 ∷ 111 ∷ 32 ∷ digit ∷ []) ≡ codes "auto" ∷ (digit ∷ []) ∷ []

@@ -5,10 +5,10 @@ use Prim.Native.String.{String}
 use Rattle.cdb_base.specs.declared.act.Act.TheVariants as act
 use Rattle.cdb_base.specs.declared.register.Reg.{Reg}
 use Rattle.cdb_base.specs.declared.register.Reg.TheVariants.{Dec}
-use Rattle.cdb_control.specs.declared.command.Command.{Command}
-use Rattle.cdb_control.specs.declared.command.Command.TheVariants.{Step, Auto, Lose, Redo, Forget, Break, Unbreak, Resume, Show, Decisions}
-use Rattle.cdb_control.specs.declared.command.Stop.TheVariants as stop
-use Rattle.cdb_control.specs.declared.command.View.TheVariants as view
+use Rattle.cdb_commands.specs.declared.command.Command.{Command}
+use Rattle.cdb_commands.specs.declared.command.Command.TheVariants.{Step, Auto, Lose, Redo, Forget, Break, Unbreak, Resume, Show, Decisions}
+use Rattle.cdb_commands.specs.declared.command.Stop.TheVariants as stop
+use Rattle.cdb_commands.specs.declared.command.View.TheVariants as view
 use Rattle.cdb_text.specs.declared.fault.LineFault.TheVariants.{Word, Number}
 use Rattle.cdb_text.specs.declared.keyword.Keyword.{Keyword}
 use Rattle.cdb_text.specs.declared.keyword.Keyword.TheVariants as key

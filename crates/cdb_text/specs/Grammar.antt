@@ -3,7 +3,7 @@ use Rattle.std.specs.Prelude.{◌≡◌, ℕ, ◌≤◌, List, map, codes, decim
 use Rattle.std.specs.List.{AllByRecursion, join_with_byte, slice_split}
 use Rattle.cdb_base.specs.declared.limits.TheConstants.{MAX_PROCESSES}
 use Rattle.cdb_base.specs.declared.register.Reg.TheVariants.{R, Dec}
-use Rattle.cdb_control.specs.declared.command.Command.{Command}
+use Rattle.cdb_commands.specs.declared.command.Command.{Command}
 use Rattle.cdb_text.specs.Commands.{CommandPart, fixed, number, register, command_parts}
 use Rattle.cdb_base.specs.NameTexts.{register_text}
 

@@ -1,6 +1,6 @@
 -- The texts of replies. Each line ends with byte 10, and numbers are decimal.
 use Rattle.std.specs.Prelude.{ℕ, List, [], ◌++◌, codes, decimal, Option, Some, None}
-use Rattle.cdb_control.specs.ToldReply.{ToldReply, Stepped, Undone, Redone, RolledBack, Because, BreakSet, BreakGone, Resumed, Forgot, Proc, Regs, Mail, History, Decisions, Refused}
+use Rattle.cdb_commands.specs.ToldReply.{ToldReply, Stepped, Undone, Redone, RolledBack, Because, BreakSet, BreakGone, Resumed, Forgot, Proc, Regs, Mail, History, Decisions, Refused}
 use Rattle.cdb_text.specs.Events.{event_text}
 use Rattle.cdb_base.specs.NameTexts.{name_text}
 use Rattle.cdb_base.specs.Refusal.{refusal_text}

@@ -1,7 +1,7 @@
 -- The commands that name an event.
 use Rattle.std.specs.Prelude.{ℕ, List, codes}
-use Rattle.cdb_control.specs.declared.command.Command.{Command}
-use Rattle.cdb_control.specs.declared.command.Command.TheVariants as command
+use Rattle.cdb_commands.specs.declared.command.Command.{Command}
+use Rattle.cdb_commands.specs.declared.command.Command.TheVariants as command
 use Rattle.cdb_text.specs.declared.verb.Verb.{Verb}
 use Rattle.cdb_text.specs.declared.verb.Verb.TheVariants.{Undo, Rollback, Why}
 

@@ -1,7 +1,7 @@
 //! Lines of a script.
 
 ghost use Rattle.std.specs.Prelude.{◌≡◌, ◌↔◌, ◌∷◌, [], codes, decimal, Ok, Err, IfSome};
-ghost use Rattle.cdb_control.specs.declared.command.Command.{Command as CommandName};
+ghost use Rattle.cdb_commands.specs.declared.command.Command.{Command as CommandName};
 ghost use Rattle.cdb_text.specs.declared.fault.LineFault.{LineFault as LineFaultName};
 ghost use Rattle.cdb_text.specs.Grammar.{IsInRange, IsLineOf, words_of};
 ghost use Rattle.cdb_text.specs.Faults.{IsFaultOf};
@@ -14,7 +14,7 @@ use crate::keyword::Keyword;
 use crate::verb::Verb;
 use crate::words::{Words, number_of};
 use cdb_base::Act;
-use cdb_control::{Command, Stop, View};
+use cdb_commands::{Command, Stop, View};
 
 /// The words after `step P query`.
 fn query(p: u32, mut words: Words<'_>) -> Result<Command, LineFault>

@@ -2,7 +2,7 @@
 
 ghost use Rattle.std.specs.Prelude.{◌≡◌, ◌++◌, IfOk, codes, decimal};
 ghost use Rattle.cdb_text.specs.Pushes.{Pushes};
-ghost use Rattle.cdb_control.specs.ToldReply.{told, as_reply};
+ghost use Rattle.cdb_commands.specs.ToldReply.{told, as_reply};
 ghost use Rattle.cdb_text.specs.Events.{event_text};
 ghost use Rattle.cdb_base.specs.NameTexts.{name_text};
 ghost use Rattle.cdb_text.specs.Reports.{causes_text};
@@ -18,7 +18,7 @@ mod short;
 mod short_report;
 
 use cdb_base::{Event, NoMemory, StepId, Val};
-use cdb_control::{EventReply, Reply};
+use cdb_commands::{EventReply, Reply};
 pub use command::push_command;
 pub use event::push_event;
 use name::push_name;

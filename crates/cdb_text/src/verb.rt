@@ -3,7 +3,7 @@
 ghost use Rattle.std.specs.Prelude.{◌≡◌};
 ghost use Rattle.cdb_text.specs.Verbs.{on_step, on_loss};
 
-use cdb_control::Command;
+use cdb_commands::Command;
 
 /// What is to be done with an event that a line names.
 #[derive(Clone, Copy)]

@@ -12,7 +12,7 @@ ghost use Rattle.cdb_text.specs.Reading.{word_at, number_at, register_at, ended}
 
 use crate::fault::LineFault;
 use cdb_base::{Proc, Reg};
-use cdb_control::Command;
+use cdb_commands::Command;
 use std::marker::Model;
 
 /// The words of a line that are left. A contract sees them as a list.

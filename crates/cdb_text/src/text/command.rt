@@ -5,7 +5,7 @@ ghost use Rattle.cdb_text.specs.Pushes.{Pushes};
 
 use super::name::push_register;
 use cdb_base::Act;
-use cdb_control::{Command, Stop, View};
+use cdb_commands::{Command, Stop, View};
 use std::alloc::AllocError;
 
 fn push_act(text: &mut String, p: u32, act: Act) -> Result<(), AllocError>

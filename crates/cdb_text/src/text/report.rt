@@ -13,7 +13,7 @@ use super::event::push_event_line;
 use super::name::{push_message, push_name};
 use super::number::push_number;
 use cdb_base::{Cell, Event, MsgName, Payload, Proc, StepId, Val};
-use cdb_control::ProcView;
+use cdb_rules::ProcView;
 use std::alloc::AllocError;
 
 /// Adds a value at the end of a text, or `none`. Only out of memory is an error.

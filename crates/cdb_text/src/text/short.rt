@@ -4,7 +4,7 @@
 ghost use Rattle.std.specs.Prelude.{◌≡◌, ◌+◌, ◌/◌, ◌%◌, ◌<◌, ◌≤◌, ◌∷◌, [], ◌++◌, codes, decimal, length};
 ghost use Rattle.cdb_base.specs.NameTexts.{name_text, step_text, message_text, loss_text, register_text};
 ghost use Rattle.cdb_base.specs.Refusal.{refusal_name, refusal_detail, refusal_text};
-ghost use Rattle.cdb_control.specs.ToldReply.{told, as_reply};
+ghost use Rattle.cdb_commands.specs.ToldReply.{told, as_reply};
 ghost use Rattle.cdb_text.specs.Events.{event_text, kind_text};
 ghost use Rattle.cdb_text.specs.Pushes.{Writes};
 ghost use Rattle.cdb_text.specs.Texts.{break_text, decides_text, text_of};
@@ -14,7 +14,7 @@ ghost use Rattle.std.specs.List.{flat_map};
 ghost use Rattle.std.specs.Prelude.{◌*◌};
 
 use cdb_base::{CopyName, Event, Kind, MsgName, Proc, Refusal, Reg, StepId, StepName, Val};
-use cdb_control::EventReply;
+use cdb_commands::EventReply;
 use itoa::Buffer;
 
 /// As many bytes as a short text has at most.

@@ -14,7 +14,7 @@ use super::short::{
     MOST_REPORT, write_byte, write_event, write_message, write_number, write_process, write_word,
 };
 use cdb_base::{Cell, Event, MsgName, Payload, Proc, Val};
-use cdb_control::ProcView;
+use cdb_rules::ProcView;
 
 /// How many registers a report shows at most that is short, or decisions.
 pub const MOST_ITEMS: usize = 10;

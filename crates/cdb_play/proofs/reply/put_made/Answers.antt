@@ -1,6 +1,6 @@
 use Rattle.std.proofs.Common.{◌≡◌, ◌++◌, List, ℕ, ap, ◌∙◌, subst}
 use Rattle.std.proofs.lemmas.Result.{err_from_is_err_and}
-use Rattle.cdb_control.specs.ToldReply.{told}
+use Rattle.cdb_commands.specs.ToldReply.{told}
 use Rattle.cdb_text.specs.Texts.{text_of}
 use Rattle.cdb_play.specs.Streams.{Fails}
 use Rattle.cdb_play.proofs.Putting.{puts_nothing}

@@ -1,7 +1,7 @@
 use Rattle.std.proofs.Common.{◌≡◌, ℕ, ◌-◌, ◌∙◌, sym, ap, subst, arith, List, [], ◌∷◌, ◌++◌, append-nil, append_assoc, None, map, get_or, vec_len, length, Vec, Global}
 use Rattle.std.proofs.lemmas.List.{length-map, map-append}
-use Rattle.cdb_control.specs.ToldReply.{ToldReply, told}
-use Rattle.cdb_control.specs.declared.reply.Reply.{Reply}
+use Rattle.cdb_commands.specs.ToldReply.{ToldReply, told}
+use Rattle.cdb_commands.specs.declared.reply.Reply.{Reply}
 use Rattle.cdb_race.specs.Faults.{fault_in}
 use Rattle.cdb_race.specs.Promises.{HasRan}
 use Rattle.cdb_race.specs.Races.{all_told}

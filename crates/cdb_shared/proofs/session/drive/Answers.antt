@@ -1,8 +1,8 @@
 use Rattle.std.proofs.Common.{◌≡◌, ◌+◌, ap, sym, ◌∙◌, rules, arith, ◌∷◌, [], ◌++◌, length, replicate, refl, true, false, true≢false}
 use Rattle.std.proofs.lemmas.List.{length-replicate}
 use Rattle.cdb_base.specs.declared.refusal.Refusal.TheVariants.{Done}
-use Rattle.cdb_control.specs.ToldReply.{Refused, told}
-use Rattle.cdb_control.specs.declared.command.Command.TheVariants.{Auto}
+use Rattle.cdb_commands.specs.ToldReply.{Refused, told}
+use Rattle.cdb_commands.specs.declared.command.Command.TheVariants.{Auto}
 use Rattle.cdb_shared.specs.Gates.{Asked, heard_more, heard_of}
 use Rattle.cdb_shared.specs.Sessions.{calls_of, replies_to}
 use Rattle.cdb_shared.proofs.Hears.{heard_asked, heard_told, hears_all, hears_asked, hears_fault}

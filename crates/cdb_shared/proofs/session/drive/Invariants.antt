@@ -1,6 +1,6 @@
 use Rattle.std.proofs.Common.{◌≡◌, ◌++◌, List, replicate, true}
-use Rattle.cdb_control.specs.declared.command.Command.TheVariants.{Auto}
-use Rattle.cdb_control.specs.ToldReply.{ToldReply}
+use Rattle.cdb_commands.specs.declared.command.Command.TheVariants.{Auto}
+use Rattle.cdb_commands.specs.ToldReply.{ToldReply}
 use Rattle.cdb_shared.specs.Gates.{heard_more, heard_of}
 use Rattle.cdb_shared.specs.Seats.{IsLater}
 use Rattle.cdb_shared.specs.Sessions.{calls_of, replies_to, NoneDone}

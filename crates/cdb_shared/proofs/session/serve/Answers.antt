@@ -1,7 +1,7 @@
 use Rattle.std.proofs.Common.{◌≡◌, ◌+◌, ◌∙◌, rules, refl, sym, ap, arith, true, false, true≢false, List, [], ◌∷◌, ◌++◌, length, length-take, map, take}
 use Rattle.std.proofs.lemmas.List.{map-append}
-use Rattle.cdb_control.specs.ToldReply.{told}
-use Rattle.cdb_control.specs.declared.reply.Reply.{Reply}
+use Rattle.cdb_commands.specs.ToldReply.{told}
+use Rattle.cdb_commands.specs.declared.reply.Reply.{Reply}
 use Rattle.cdb_shared.specs.Gates.{Asked, heard_more, heard_of}
 use Rattle.cdb_shared.specs.Sessions.{calls_of, replies_to}
 use Rattle.cdb_shared.proofs.Hears.{heard_asked, heard_told, hears_all, hears_asked, hears_fault}

@@ -1,5 +1,5 @@
 use Rattle.std.proofs.Common.{◌≡◌, ◌≤◌, ◌++◌, map, take, true, vec_len}
-use Rattle.cdb_control.specs.ToldReply.{told}
+use Rattle.cdb_commands.specs.ToldReply.{told}
 use Rattle.cdb_shared.specs.Gates.{heard_more, heard_of}
 use Rattle.cdb_shared.specs.Seats.{IsLater}
 use Rattle.cdb_shared.specs.Sessions.{calls_of, replies_to}

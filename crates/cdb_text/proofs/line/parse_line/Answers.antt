@@ -2,7 +2,7 @@ use Rattle.std.proofs.Common.{ap, sym, subst, length, ℕ, List, []}
 use Rattle.std.proofs.lemmas.Bool.{eqb-true, eqb-false}
 use Rattle.std.proofs.lemmas.List.{nil_from_length}
 use Rattle.std.specs.Prelude.{Ok}
-use Rattle.cdb_control.specs.declared.command.Command.TheVariants.{Auto}
+use Rattle.cdb_commands.specs.declared.command.Command.TheVariants.{Auto}
 use Rattle.cdb_text.specs.Reading.{IsReadAfter}
 use Rattle.cdb_text.proofs.Whole.{one_command, fault_of_line, empty_is_none, empty_is_empty}
 use Rattle.cdb_text.proofs.line.parse_line.Goals as goal

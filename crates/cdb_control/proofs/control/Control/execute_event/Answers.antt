@@ -1,6 +1,6 @@
 use Rattle.std.proofs.Common.{ℕ, ◌+◌, ◌-◌, ◌<◌, ◌≤◌, arith, ap, ◌∙◌, sym, subst, List, [], ◌∷◌, ◌++◌, length, map, vec_len, vec_capacity, inl, inr, true≢false}
 use Rattle.std.proofs.lemmas.List.{length-map}
-use Rattle.cdb_control.specs.ToldReply.{told, as_reply, is_refused}
+use Rattle.cdb_commands.specs.ToldReply.{told, as_reply, is_refused}
 use Rattle.cdb_control.specs.declared.control.Entry.{Entry}
 use Rattle.cdb_control.specs.Commands.{Outcome, reply_of, outcome}
 use Rattle.cdb_control.specs.Headline.{Headline}

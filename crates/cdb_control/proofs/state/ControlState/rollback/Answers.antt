@@ -1,8 +1,8 @@
 use Rattle.std.proofs.Common.{◌≡◌, false, length, rules, refl, subst, IsOk, arith, ◌-◌, ap, ◌∙◌, sym, List, set, map}
 use Rattle.std.proofs.lemmas.Grind.{common_steps}
 use Rattle.cdb_base.specs.declared.event.Event.{Event}
-use Rattle.cdb_control.specs.ToldReply.{is_refused}
-use Rattle.cdb_control.specs.ToldReply as reply
+use Rattle.cdb_commands.specs.ToldReply.{is_refused}
+use Rattle.cdb_commands.specs.ToldReply as reply
 use Rattle.cdb_control.specs.Commands.{rollback, undone_by}
 use Rattle.cdb_control.proofs.Steps.{unchanged, rolled_back-as, rollback_refused-as, granted_goes_on, alone_ok}
 use Rattle.cdb_control.proofs.Room.{swap}

@@ -1,8 +1,8 @@
 use Rattle.std.proofs.Common.{◌≡◌, List, Vec, Global, subst, sym, take, drop, ◌+◌, map, arith}
 use Rattle.std.proofs.lemmas.List.{take_all}
 use Rattle.std.proofs.lemmas.Result.{err_from_is_err_and}
-use Rattle.cdb_control.specs.ToldReply.{told}
-use Rattle.cdb_control.specs.declared.reply.Reply.{Reply}
+use Rattle.cdb_commands.specs.ToldReply.{told}
+use Rattle.cdb_commands.specs.declared.reply.Reply.{Reply}
 use Rattle.cdb_race.specs.Races.{all_told}
 use Rattle.cdb_play.specs.Buffers.{IsPut}
 use Rattle.cdb_play.specs.Races.{seat_text, seats_text}

@@ -1,7 +1,7 @@
 -- Which commands take one event, undo one or take one again.
 use Rattle.std.specs.Prelude.{Bool, true, false}
-use Rattle.cdb_control.specs.declared.command.Command.{Command}
-use Rattle.cdb_control.specs.declared.command.Command.TheVariants.{Step, Auto, Lose, Undo, UndoLost, Redo}
+use Rattle.cdb_commands.specs.declared.command.Command.{Command}
+use Rattle.cdb_commands.specs.declared.command.Command.TheVariants.{Step, Auto, Lose, Undo, UndoLost, Redo}
 
 abbrev pub is_of_one_event : Command → Bool
 is_of_one_event (Step p act) = true

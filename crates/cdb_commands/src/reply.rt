@@ -23,7 +23,7 @@ pub enum EventReply {
 
 impl From<EventReply> for Reply {
     ghost use Rattle.std.specs.Prelude.{◌≡◌};
-    ghost use Rattle.cdb_control.specs.ToldReply.{as_reply};
+    ghost use Rattle.cdb_commands.specs.ToldReply.{as_reply};
 
     ghost from_gives = { λ reply made. made ≡ as_reply reply };
 

@@ -1,7 +1,7 @@
 //! What a session can ask for.
 
 ghost use Rattle.std.specs.Prelude.{◌≡◌};
-ghost use Rattle.cdb_control.specs.OneEvent.{is_of_one_event};
+ghost use Rattle.cdb_commands.specs.OneEvent.{is_of_one_event};
 
 use cdb_base::{Act, Reg};
 

@@ -7,10 +7,10 @@ use Rattle.cdb_base.specs.declared.payload.Payload.{Payload}
 use Rattle.cdb_base.specs.declared.refusal.Refusal.{Refusal}
 use Rattle.cdb_base.specs.declared.register.Cell.{Cell}
 use Rattle.cdb_rules.specs.declared.proc_view.ProcView.{ProcView}
-use Rattle.cdb_control.specs.declared.reply.EventReply.{EventReply}
-use Rattle.cdb_control.specs.declared.reply.EventReply.TheVariants as of_event
-use Rattle.cdb_control.specs.declared.reply.Reply.{Reply}
-use Rattle.cdb_control.specs.declared.reply.Reply.TheVariants as reply
+use Rattle.cdb_commands.specs.declared.reply.EventReply.{EventReply}
+use Rattle.cdb_commands.specs.declared.reply.EventReply.TheVariants as of_event
+use Rattle.cdb_commands.specs.declared.reply.Reply.{Reply}
+use Rattle.cdb_commands.specs.declared.reply.Reply.TheVariants as reply
 
 pub data ToldReply : Type 0 where
   Stepped : Event → Option ℕ → Option ℕ → ToldReply

@@ -1,0 +1,3 @@
+-- what a reader of the contracts believes: a reply as a contract sees it, and which commands are of one event
+pub mod ToldReply
+pub mod OneEvent

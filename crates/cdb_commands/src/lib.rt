@@ -1,0 +1,15 @@
+//! What a session can ask for, and the replies that it gets: the types alone. What a command does is said by the
+//! crates of the control, and how a command and a reply are written by that of the texts.
+//!
+//! ```text
+//! let command = Command::Step(1, Act::Go);
+//! let by_itself = command.is_of_one_event();
+//! let reply = Reply::from(EventReply::Undone(event));
+//! ```
+#![tactic(auto)]
+
+mod command;
+mod reply;
+
+pub use command::{Command, Stop, View};
+pub use reply::{EventReply, Reply};
