@@ -3,10 +3,11 @@ use Rattle.std.proofs.lemmas.Result.{err_from_is_err_and}
 use Rattle.cdb_race.specs.Faults.{IsFaultBehind}
 use Rattle.cdb_race.specs.Races.{all_told}
 use Rattle.cdb_race.specs.declared.threads.RaceFault.{RaceFault as ThreadFault}
-use Rattle.cdb_play.specs.Endings.{Complete}
+use Rattle.cdb_streams.specs.Endings.{Complete}
 use Rattle.cdb_play.specs.Races.{last_decisions, EndsInAgreement}
 use Rattle.cdb_play.specs.RaceStages.{IsTextOfCommands}
-use Rattle.cdb_play.proofs.Ending.{only_as, race_unwritten_threads, race_wrote}
+use Rattle.cdb_play.proofs.Ending.{race_unwritten_threads, race_wrote}
+use Rattle.cdb_streams.proofs.Ending.{only_as}
 use Rattle.cdb_play.proofs.RaceTexts.{text_of_replies}
 use Rattle.cdb_play.proofs.RunningFaults.{of_threads, of_writing, not_of_threads, not_of_writing}
 use Rattle.cdb_play.proofs.Agreeing.{agrees, ends_in_agreement}
