@@ -61,7 +61,7 @@ EndsInAgreement text = (before : List ℕ) × (text ≡ before ++ codes "\n" ++ 
 module _ {W : Type 0} (stream : W → Stream) where
   -- where the race ended well, the last line that the writer took says that the decisions agree
   abbrev pub AgreesAtEnd : {A : Type 0} → Result A RaceFault → W → W → Type 0
-  AgreesAtEnd outcome old new = OnOk outcome (IsWritten Complete old new EndsInAgreement)
+  AgreesAtEnd outcome old new = OnOk outcome (IsWritten stream Complete old new EndsInAgreement)
 
 -- the decisions, and whether they agree
 abbrev pub end_text : List (ℕ × ℕ) → List ℕ
