@@ -1,11 +1,11 @@
 -- A session from its first line to its last.
 use Rattle.std.proofs.Common.{◌≡◌, inl, inr, ℕ, ◌+◌, ◌<◌, ◌≤◌, Bool, true, false, List, [], ◌∷◌, ◌++◌, length, refl, sym, ap, subst, ◌∙◌, append-nil, arith, length-append}
 use Rattle.std.specs.Prelude.{Result, Ok, Err}
-use Rattle.cdb_play.specs.declared.buffer.OutputFault.{OutputFault}
-use Rattle.cdb_play.specs.declared.buffer.OutputFault.TheVariants as output
-use Rattle.cdb_play.specs.declared.fault.PlayFault.{PlayFault}
-use Rattle.cdb_play.specs.declared.fault.PlayFault.TheVariants as fault
-use Rattle.cdb_play.specs.Faults.{of_setup}
+use Rattle.cdb_streams.specs.declared.buffer.OutputFault.{OutputFault}
+use Rattle.cdb_streams.specs.declared.buffer.OutputFault.TheVariants as output
+use Rattle.cdb_streams.specs.declared.fault.PlayFault.{PlayFault}
+use Rattle.cdb_streams.specs.declared.fault.PlayFault.TheVariants as fault
+use Rattle.cdb_streams.specs.Faults.{of_setup}
 use Rattle.cdb_rules.specs.Rules.{Rules}
 use Rattle.cdb_setup.specs.Faults.{IfFault}
 use Rattle.cdb_setup.specs.Format.{Encodes}

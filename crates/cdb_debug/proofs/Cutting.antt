@@ -4,7 +4,7 @@ use Rattle.std.specs.List.{AllByRecursion, slice_split}
 use Rattle.std.proofs.lemmas.List.Splits.{slice_split_none, slice_split_at, length-slice_split}
 use Rattle.std.proofs.Math.Seq.{take-append_seam, take-append-add}
 use Rattle.cdb_base.specs.Positions.{without_last}
-use Rattle.cdb_play.specs.Lines.{without_empty_end, lines_of}
+use Rattle.cdb_streams.specs.Lines.{without_empty_end, lines_of}
 use Rattle.cdb_debug.specs.Unfinished.{with_ends}
 use Rattle.cdb_debug.specs.Requests.{HasNoEnd, ended_lines}
 

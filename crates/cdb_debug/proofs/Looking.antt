@@ -1,8 +1,8 @@
 -- A session looks at the bytes that it was given.
 use Rattle.std.proofs.Common.{◌≡◌, ℕ, ◌+◌, Bool, true, false, List, [], ◌∷◌, ◌++◌, take, sym, ap, subst, ◌∙◌, append_assoc, append-nil}
 use Rattle.std.specs.Prelude.{Ok, Err}
-use Rattle.cdb_play.specs.declared.buffer.OutputFault.{OutputFault}
-use Rattle.cdb_play.specs.declared.buffer.OutputFault.TheVariants as output
+use Rattle.cdb_streams.specs.declared.buffer.OutputFault.{OutputFault}
+use Rattle.cdb_streams.specs.declared.buffer.OutputFault.TheVariants as output
 use Rattle.cdb_setup.specs.Format.{longest}
 use Rattle.cdb_debug.specs.Dialogues.{Session}
 use Rattle.cdb_debug.specs.Unfinished.{IsAt, RespondsToLine, HearsBytes, ended_well, ended_by}

@@ -3,7 +3,7 @@ use Rattle.std.proofs.Common.{◌≡◌, ℕ, ◌⊎◌, inl, inr, Bool, List, [
 use Rattle.std.specs.Io.KnownBytes.{Appends, Consumes}
 use Rattle.std.proofs.KnownBytes.{Appends-nil, Appends-trans, Consumes-nil, Consumes-trans}
 use Rattle.std.proofs.lemmas.Grind.{flat_map-append, fold-append}
-use Rattle.cdb_play.specs.Streams.{counted}
+use Rattle.cdb_streams.specs.Streams.{counted}
 use Rattle.cdb_debug.specs.Moves.{Known, Move, Read, ReadFailed, Wrote, WriteFailed, given_by, written_by, read_in, written_in, AsksForInput, AreWrites, EndsWith, FindsTheEnd, Continues, AreAllOf, Makes, count_on, is_failed_read, is_failed_write}
 
 -- such a property holds at each move that asks, of those before it

@@ -4,7 +4,7 @@ use Rattle.cdb_base.specs.declared.limits.TheConstants.{MAX_ENTRIES}
 use Rattle.cdb_control.specs.FaultTexts.{call_fault_text}
 use Rattle.cdb_control.specs.declared.control.CallFault.TheVariants.{JournalFull}
 use Rattle.cdb_control.specs.Journal.{Journaled, opened, extended, reply_in}
-use Rattle.cdb_play.specs.FaultTexts.{as_line}
+use Rattle.cdb_streams.specs.FaultTexts.{as_line}
 use Rattle.cdb_rules.specs.Rules.{Rules}
 use Rattle.cdb_setup.specs.Parts.{Parts}
 use Rattle.cdb_text.specs.LineFaults.{line_fault_text}

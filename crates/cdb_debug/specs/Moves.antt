@@ -2,7 +2,7 @@
 use Rattle.std.specs.Prelude.{◌≡◌, ℕ, ◌==◌, Bool, true, false, List, [], ◌∷◌, ◌++◌, length, take, fold, Option, Some, None, Result, Ok, Err}
 use Rattle.std.specs.Io.KnownBytes.{Appends, Consumes}
 use Rattle.std.specs.List.{AllByRecursion, flat_map}
-use Rattle.cdb_play.specs.Streams.{counted}
+use Rattle.cdb_streams.specs.Streams.{counted}
 
 -- The session asked for input, and was given these bytes, none at the end of input; or the reading failed. Or it handed
 -- a text over, of which these first bytes were written; or the writing failed.

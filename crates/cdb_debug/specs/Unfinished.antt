@@ -1,10 +1,10 @@
 -- What the code keeps for itself: a session in the middle of its input.
 use Rattle.std.specs.Prelude.{◌≡◌, ◌⊎◌, ◌↔◌, ℕ, ◌+◌, ◌≤◌, Bool, true, false, List, [], ◌∷◌, ◌++◌, length, take, Result, Ok, Err, IsTrue}
 use Rattle.std.specs.List.{AllZip, AllByRecursion, flat_map}
-use Rattle.cdb_play.specs.declared.buffer.OutputFault.{OutputFault}
-use Rattle.cdb_play.specs.declared.buffer.OutputFault.TheVariants as output
-use Rattle.cdb_play.specs.declared.fault.PlayFault.{PlayFault}
-use Rattle.cdb_play.specs.Faults.{of_output}
+use Rattle.cdb_streams.specs.declared.buffer.OutputFault.{OutputFault}
+use Rattle.cdb_streams.specs.declared.buffer.OutputFault.TheVariants as output
+use Rattle.cdb_streams.specs.declared.fault.PlayFault.{PlayFault}
+use Rattle.cdb_streams.specs.Faults.{of_output}
 use Rattle.cdb_setup.specs.Format.{longest}
 use Rattle.cdb_rules.specs.Rules.{Rules}
 use Rattle.cdb_setup.specs.Parts.{Parts}

@@ -8,9 +8,9 @@ ghost use Rattle.cdb_debug.specs.Sessions.{Debugs};
 use crate::hearing::{hear, respond_to_line};
 use crate::session::Session;
 use crate::talk::{Talk, say};
-use cdb_play::PlayFault;
 use cdb_rules::Runs;
 use cdb_setup::Setup;
+use cdb_streams::PlayFault;
 use std::alloc::Global;
 
 /// How many bytes are asked for at a time.

@@ -8,8 +8,8 @@ use crate::request::{Request, request_of};
 use crate::session::Session;
 use crate::talk::{Talk, say};
 use crate::unfinished::{cut, hold};
-use cdb_play::OutputFault;
 use cdb_rules::Runs;
+use cdb_streams::OutputFault;
 use std::alloc::Global;
 
 /// Responds to the line that has ended, and keeps nothing then. Returns whether the line was `quit`.

@@ -3,7 +3,7 @@
 ghost use Rattle.std.specs.Prelude.{◌≡◌};
 
 use crate::talk::Talk;
-use cdb_play::{Failed, Sink, Source};
+use cdb_streams::{Failed, Sink, Source};
 
 /// A session reads from the one and writes to the other. In which order that was, only the two together know, so of its
 /// moves it is known what they read and wrote, and which failed, and not their order.

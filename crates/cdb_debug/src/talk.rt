@@ -4,7 +4,7 @@ ghost use Rattle.std.specs.Prelude.{◌≡◌, ◌<◌, ◌++◌, ◌∷◌, [],
 ghost use Rattle.std.specs.Io.{ReadsAtMost, WritesAtMost};
 ghost use Rattle.cdb_debug.specs.Moves.{Known, Makes, move_of_read, move_of_write, Says};
 
-use cdb_play::Failed;
+use cdb_streams::Failed;
 
 /// What gives the lines of a session, and takes the responses.
 pub trait Talk {

@@ -5,12 +5,12 @@ use Rattle.cdb_explain.proofs.Returned.{output_fault}
 use Rattle.cdb_explain.specs.StepFaults.{IsFaultOfStep}
 use Rattle.cdb_explain.specs.declared.fault.ExplainFault.{ExplainFault}
 use Rattle.cdb_explain.specs.declared.fault.ExplainFault.TheVariants.{NoStep, Play}
-use Rattle.cdb_play.specs.Endings.{pieces_ending}
-use Rattle.cdb_play.specs.Faults.{IsFaultOfPlay, of_output}
-use Rattle.cdb_play.specs.Left.{Leaves}
-use Rattle.cdb_play.specs.Streams.{Stream}
-use Rattle.cdb_play.specs.declared.buffer.OutputFault.{OutputFault}
-use Rattle.cdb_play.specs.declared.buffer.OutputFault.TheVariants as output
+use Rattle.cdb_streams.specs.Endings.{pieces_ending}
+use Rattle.cdb_streams.specs.Faults.{IsFaultOfPlay, of_output}
+use Rattle.cdb_streams.specs.Left.{Leaves}
+use Rattle.cdb_streams.specs.Streams.{Stream}
+use Rattle.cdb_streams.specs.declared.buffer.OutputFault.{OutputFault}
+use Rattle.cdb_streams.specs.declared.buffer.OutputFault.TheVariants as output
 use Rattle.cdb_rules.specs.RunView.{RunView}
 use Rattle.cdb_rules.specs.Rules.{Rules}
 use Rattle.cdb_setup.specs.Parts.{Parts}

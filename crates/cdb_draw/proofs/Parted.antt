@@ -2,11 +2,11 @@
 use Rattle.std.proofs.Common.{◌≡◌, ℕ, zero, suc, ◌+◌, ◌<◌, ◌≤◌, List, [], ◌∷◌, ◌++◌, length, take, Err, refl, sym, ap, subst, ◌∙◌, arith}
 use Rattle.std.specs.List.{flat_map, range_with_len}
 use Rattle.std.proofs.lemmas.List.FromFn.{get_or-range_with_len, length-range_with_len}
-use Rattle.cdb_play.specs.Buffers.{IsPut}
-use Rattle.cdb_play.specs.Putting.{Puts}
-use Rattle.cdb_play.specs.Streams.{Stream}
-use Rattle.cdb_play.specs.declared.buffer.OutputFault.{OutputFault}
-use Rattle.cdb_play.proofs.Putting.{cut_at_item, cut_short, put_more, put_nothing}
+use Rattle.cdb_streams.specs.Buffers.{IsPut}
+use Rattle.cdb_streams.specs.Putting.{Puts}
+use Rattle.cdb_streams.specs.Streams.{Stream}
+use Rattle.cdb_streams.specs.declared.buffer.OutputFault.{OutputFault}
+use Rattle.cdb_streams.proofs.Putting.{cut_at_item, cut_short, put_more, put_nothing}
 use Rattle.cdb_draw.proofs.Growing.{each_more}
 
 take_range : (a i n : ℕ) → i ≤ n → take i (range_with_len a n) ≡ range_with_len a i

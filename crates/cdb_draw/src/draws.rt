@@ -3,16 +3,16 @@
 ghost use Rattle.std.specs.Prelude.{◌≡◌, ◌≤◌, length, IfOk, IfSome};
 ghost use Rattle.cdb_draw.specs.Picture.{AreInFull, IsPicture};
 ghost use Rattle.cdb_rules.specs.ByRules.{IsInOrder};
-ghost use Rattle.cdb_play.specs.Endings.{pieces_ending};
-ghost use Rattle.cdb_play.specs.Written.{IsWritten};
+ghost use Rattle.cdb_streams.specs.Endings.{pieces_ending};
+ghost use Rattle.cdb_streams.specs.Written.{IsWritten};
 
 use crate::picture::write_picture;
 use cdb_base::NoMemory;
 use cdb_base::limits::MAX_ENTRIES;
 use cdb_explain::past_of;
 use cdb_past::Chronicle;
-use cdb_play::{OutputFault, Sink};
 use cdb_rules::Runs;
+use cdb_streams::{OutputFault, Sink};
 use std::alloc::Global;
 
 /// Marks what is drawn in full: everything, or what led to the event at a position.

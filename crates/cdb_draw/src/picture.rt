@@ -8,9 +8,9 @@ ghost use Rattle.cdb_draw.specs.Lanes.{lanes_text};
 ghost use Rattle.cdb_draw.specs.Picture.{algorithm_text, arrows_text, document_text, foot, head_text, heading_text, marks_text, namespace_text, picture_text, shapes_text, size_text, style_text};
 ghost use Rattle.cdb_draw.specs.Sends.{AreSendsOf};
 ghost use Rattle.cdb_explain.specs.Explanations.{run_after};
-ghost use Rattle.cdb_play.specs.Putting.{Puts};
-ghost use Rattle.cdb_play.specs.Endings.{pieces_ending};
-ghost use Rattle.cdb_play.specs.Written.{IsWritten, Only};
+ghost use Rattle.cdb_streams.specs.Putting.{Puts};
+ghost use Rattle.cdb_streams.specs.Endings.{pieces_ending};
+ghost use Rattle.cdb_streams.specs.Written.{IsWritten, Only};
 ghost use Rattle.cdb_rules.specs.ByRules.{IsInOrder};
 ghost use Rattle.cdb_text.specs.Pushes.{Pushes};
 
@@ -24,9 +24,9 @@ use crate::style::{NAMESPACE, SHAPES, STYLE};
 use cdb_base::limits::MAX_ENTRIES;
 use cdb_explain::{fresh, take_next};
 use cdb_past::Chronicle;
-use cdb_play::{Buffer, OutputFault, Sink};
 use cdb_rules::Runs;
 use cdb_setup::Algorithm;
+use cdb_streams::{Buffer, OutputFault, Sink};
 use std::alloc::{AllocError, Global};
 
 /// Adds the name of an algorithm.

@@ -4,9 +4,9 @@ ghost use Rattle.std.specs.Prelude.{◌≡◌, ◌<◌, ◌≤◌, length, Err, 
 ghost use Rattle.cdb_draw.specs.Drawn.{draw_ending, Draws, IsFaultOfDraw, IsMissing, IsPictureFor, IsPositionFor};
 ghost use Rattle.cdb_explain.specs.StepFaults.{IsFaultOfStep};
 ghost use Rattle.cdb_explain.specs.declared.fault.ExplainFault.TheVariants.{NoStep as no_step, Play as of_play};
-ghost use Rattle.cdb_play.specs.Streams.{FailsWhere};
-ghost use Rattle.cdb_play.specs.Written.{IsWritten};
-ghost use Rattle.cdb_play.specs.declared.fault.PlayFault.TheVariants as play;
+ghost use Rattle.cdb_streams.specs.Streams.{FailsWhere};
+ghost use Rattle.cdb_streams.specs.Written.{IsWritten};
+ghost use Rattle.cdb_streams.specs.declared.fault.PlayFault.TheVariants as play;
 ghost use Rattle.cdb_rules.specs.ByRules.{IsInOrder};
 ghost use Rattle.cdb_setup.specs.declared.fault.SetupFault.{SetupFault as SetupFaultName};
 
@@ -15,8 +15,8 @@ use cdb_base::limits::MAX_ENTRIES;
 use cdb_explain::{ExplainFault, chronicle_of, position_of_step};
 use cdb_history::History;
 use cdb_past::{Chronicle, Chronicled};
-use cdb_play::{Sink, Source, left_by};
 use cdb_rules::Runs;
+use cdb_streams::{Sink, Source, left_by};
 use std::alloc::Global;
 
 /// A step, to which what led is drawn in full: the `k`-th standing step of process `p`, or without `k` its last one.

@@ -5,12 +5,12 @@ use Rattle.cdb_base.specs.declared.name.StepId.{StepId}
 use Rattle.cdb_base.specs.declared.refusal.Refusal.{Refusal}
 use Rattle.cdb_explain.specs.Explanations.{because_text}
 use Rattle.cdb_control.specs.Journal.{Journaled, control_state}
-use Rattle.cdb_play.specs.Faults.{IsFaultOfPlay, IsSetup, of_output}
-use Rattle.cdb_play.specs.Left.{Leaves, run_of}
-use Rattle.cdb_play.specs.Streams.{Stream}
-use Rattle.cdb_play.specs.declared.buffer.OutputFault.{OutputFault}
-use Rattle.cdb_play.specs.declared.buffer.OutputFault.TheVariants as output
-use Rattle.cdb_play.specs.declared.fault.PlayFault.TheVariants as play
+use Rattle.cdb_streams.specs.Faults.{IsFaultOfPlay, IsSetup, of_output}
+use Rattle.cdb_streams.specs.Left.{Leaves, run_of}
+use Rattle.cdb_streams.specs.Streams.{Stream}
+use Rattle.cdb_streams.specs.declared.buffer.OutputFault.{OutputFault}
+use Rattle.cdb_streams.specs.declared.buffer.OutputFault.TheVariants as output
+use Rattle.cdb_streams.specs.declared.fault.PlayFault.TheVariants as play
 use Rattle.cdb_explain.specs.declared.fault.ExplainFault.{ExplainFault}
 use Rattle.cdb_explain.specs.declared.fault.ExplainFault.TheVariants.{NoStep, Play}
 use Rattle.cdb_explain.specs.Asked.{StandsNoStep}

@@ -1,10 +1,10 @@
 -- What the subcommand writes: the explanation of a step of the run that a script leaves.
 use Rattle.std.specs.Prelude.{ℕ, List, Option, Result, Ok, Err}
-use Rattle.cdb_play.specs.Endings.{Ending, Complete, WriterFailed, NotBegun}
-use Rattle.cdb_play.specs.Faults.{IsFaultOfPlay}
-use Rattle.cdb_play.specs.Left.{Leaves}
-use Rattle.cdb_play.specs.Streams.{Stream}
-use Rattle.cdb_play.specs.declared.fault.PlayFault.TheVariants as play
+use Rattle.cdb_streams.specs.Endings.{Ending, Complete, WriterFailed, NotBegun}
+use Rattle.cdb_streams.specs.Faults.{IsFaultOfPlay}
+use Rattle.cdb_streams.specs.Left.{Leaves}
+use Rattle.cdb_streams.specs.Streams.{Stream}
+use Rattle.cdb_streams.specs.declared.fault.PlayFault.TheVariants as play
 use Rattle.cdb_rules.specs.RunView.{RunView}
 use Rattle.cdb_rules.specs.Rules.{Rules}
 use Rattle.cdb_setup.specs.Parts.{Parts}

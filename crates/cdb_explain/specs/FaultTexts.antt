@@ -2,7 +2,7 @@
 use Rattle.std.specs.Prelude.{ℕ, List, codes}
 use Rattle.cdb_base.specs.Refusal.{refusal_text}
 use Rattle.cdb_base.specs.declared.refusal.Refusal.TheVariants as refusal
-use Rattle.cdb_play.specs.FaultTexts.{play_fault_text}
+use Rattle.cdb_streams.specs.FaultTexts.{play_fault_text}
 use Rattle.cdb_explain.specs.declared.fault.ExplainFault.{ExplainFault}
 use Rattle.cdb_explain.specs.declared.fault.ExplainFault.TheVariants.{NoStep, Play}
 

@@ -1,7 +1,7 @@
 -- Why nothing was written of a step that was asked for.
 use Rattle.std.specs.Prelude.{◌≡◌}
-use Rattle.cdb_play.specs.Faults.{of_output}
-use Rattle.cdb_play.specs.declared.buffer.OutputFault.{OutputFault}
+use Rattle.cdb_streams.specs.Faults.{of_output}
+use Rattle.cdb_streams.specs.declared.buffer.OutputFault.{OutputFault}
 use Rattle.cdb_explain.specs.declared.fault.ExplainFault.{ExplainFault}
 use Rattle.cdb_explain.specs.declared.fault.ExplainFault.TheVariants.{NoStep, Play}
 

@@ -6,9 +6,9 @@ ghost use Rattle.cdb_explain.specs.Explained.{explain_ending, Explains, IsFaultO
 ghost use Rattle.cdb_explain.specs.Explanations.{IsStepExplained};
 ghost use Rattle.cdb_explain.specs.StepFaults.{IsFaultOfStep};
 ghost use Rattle.cdb_explain.specs.declared.fault.ExplainFault.TheVariants.{Play as of_play};
-ghost use Rattle.cdb_play.specs.Streams.{FailsWhere};
-ghost use Rattle.cdb_play.specs.Written.{IsWritten};
-ghost use Rattle.cdb_play.specs.declared.fault.PlayFault.TheVariants as play;
+ghost use Rattle.cdb_streams.specs.Streams.{FailsWhere};
+ghost use Rattle.cdb_streams.specs.Written.{IsWritten};
+ghost use Rattle.cdb_streams.specs.declared.fault.PlayFault.TheVariants as play;
 ghost use Rattle.cdb_rules.specs.ByRules.{IsInOrder};
 ghost use Rattle.cdb_setup.specs.declared.fault.SetupFault.{SetupFault as SetupFaultName};
 
@@ -16,8 +16,8 @@ use crate::chronicle::chronicle_of;
 use crate::fault::ExplainFault;
 use crate::step::explain_step;
 use cdb_past::{Chronicle, Chronicled};
-use cdb_play::{Sink, Source, left_by, write_text};
 use cdb_rules::Runs;
+use cdb_streams::{Sink, Source, left_by, write_text};
 use std::alloc::Global;
 
 /// Writes the explanation of a step of this run, which is whole before any of it is written. `NoStep` where no such step

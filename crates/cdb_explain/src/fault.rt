@@ -4,7 +4,7 @@ ghost use Rattle.std.specs.Prelude.{Some};
 ghost use Rattle.cdb_explain.specs.FaultTexts.{explain_fault_text};
 
 use cdb_base::{NoMemory, Refusal};
-use cdb_play::{OutputFault, PlayFault};
+use cdb_streams::{OutputFault, PlayFault};
 use std::error::Error;
 use std::fmt;
 
@@ -48,7 +48,7 @@ impl From<PlayFault> for ExplainFault {
 impl From<NoMemory> for ExplainFault {
     ghost use Rattle.std.specs.Prelude.{◌≡◌};
     ghost use Rattle.cdb_explain.specs.declared.fault.ExplainFault.TheVariants.{Play as play};
-    ghost use Rattle.cdb_play.specs.declared.fault.PlayFault.TheVariants.{NoMemory as no_memory};
+    ghost use Rattle.cdb_streams.specs.declared.fault.PlayFault.TheVariants.{NoMemory as no_memory};
 
     ghost from_gives = { λ _ made. made ≡ play no_memory };
 
@@ -60,7 +60,7 @@ impl From<NoMemory> for ExplainFault {
 impl From<OutputFault> for ExplainFault {
     ghost use Rattle.std.specs.Prelude.{◌≡◌};
     ghost use Rattle.cdb_explain.specs.declared.fault.ExplainFault.TheVariants.{Play as play};
-    ghost use Rattle.cdb_play.specs.Faults.{of_output};
+    ghost use Rattle.cdb_streams.specs.Faults.{of_output};
 
     ghost from_gives = { λ fault made. made ≡ play (of_output fault) };
 

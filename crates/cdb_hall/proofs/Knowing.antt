@@ -5,9 +5,9 @@ use Rattle.cdb_base.specs.declared.limits.TheConstants.{MAX_ENTRIES}
 use Rattle.cdb_control.proofs.Own.{replies_of-same}
 use Rattle.cdb_commands.specs.ToldReply.{ToldReply}
 use Rattle.cdb_control.specs.Journal.{Journaled, own, replies_of}
-use Rattle.cdb_play.specs.declared.fault.PlayFault.{PlayFault}
-use Rattle.cdb_play.specs.declared.fault.PlayFault.TheVariants as fault
-use Rattle.cdb_play.specs.Lines.{lines_of}
+use Rattle.cdb_streams.specs.declared.fault.PlayFault.{PlayFault}
+use Rattle.cdb_streams.specs.declared.fault.PlayFault.TheVariants as fault
+use Rattle.cdb_streams.specs.Lines.{lines_of}
 use Rattle.cdb_debug.specs.Moves.{Move, read_in, written_in}
 use Rattle.cdb_debug.specs.Requests.{ended_lines}
 use Rattle.cdb_debug.specs.declared.request.Request.{Request}

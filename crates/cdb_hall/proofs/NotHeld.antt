@@ -1,6 +1,6 @@
 -- Sessions that did not begin.
 use Rattle.std.proofs.Common.{◌≢◌, List, ℕ}
-use Rattle.cdb_play.specs.Races.{race_fault_of_setup}
+use Rattle.cdb_streams.specs.RaceFaults.{race_fault_of_setup}
 use Rattle.cdb_setup.specs.Order.{IsFirstFault}
 use Rattle.cdb_setup.specs.declared.fault.SetupFault.{SetupFault}
 use Rattle.cdb_setup.specs.declared.fault.SetupFault.TheVariants as setup

@@ -3,8 +3,8 @@ use Rattle.std.proofs.Common.{◌≡◌, ℕ, suc, ◌+◌, ◌<◌, List, [], �
 use Rattle.std.specs.Prelude.{Result, Ok, Err}
 use Rattle.std.proofs.Math.Seq.{drop-cons}
 use Rattle.std.proofs.lemmas.List.{length-map, map-append}
-use Rattle.cdb_play.specs.Statuses.{play_status}
-use Rattle.cdb_play.specs.declared.fault.PlayFault.{PlayFault}
+use Rattle.cdb_streams.specs.Statuses.{play_status}
+use Rattle.cdb_streams.specs.declared.fault.PlayFault.{PlayFault}
 use Rattle.cdb_shared.proofs.Steps.{take_one_more}
 use Rattle.cdb_hall.specs.Reports.{outcomes, failed_seat_line, failed_seat_lines, seats_status}
 use Rattle.cdb_hall.specs.declared.station.Attended.{Attended}

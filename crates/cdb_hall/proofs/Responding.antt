@@ -9,7 +9,7 @@ use Rattle.cdb_debug.specs.Moves.{Says, Known, Makes}
 use Rattle.cdb_debug.specs.Requests.{Asks}
 use Rattle.cdb_debug.specs.declared.request.Request.{Request}
 use Rattle.cdb_debug.specs.declared.request.Request.TheVariants.{Call, Seat, Help, Quit, Fault, TooLong}
-use Rattle.cdb_play.specs.declared.buffer.OutputFault.TheVariants as output
+use Rattle.cdb_streams.specs.declared.buffer.OutputFault.TheVariants as output
 use Rattle.cdb_shared.specs.Seats.{IsLater, IsCall}
 use Rattle.cdb_hall.specs.Dialogues.{prompt_after}
 use Rattle.cdb_hall.specs.Unfinished.{SeatRespondsToLine}

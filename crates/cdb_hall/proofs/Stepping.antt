@@ -5,10 +5,10 @@ use Rattle.std.specs.List.{AllZip, AllByRecursion}
 use Rattle.std.proofs.lemmas.List.{length-take, take_all, nil_from_length}
 use Rattle.std.proofs.lemmas.List.Elements.{All-append, All-nil}
 use Rattle.cdb_commands.specs.ToldReply.{ToldReply}
-use Rattle.cdb_play.specs.Lines.{lines_of}
-use Rattle.cdb_play.specs.declared.buffer.OutputFault.TheVariants as output
-use Rattle.cdb_play.specs.declared.fault.PlayFault.{PlayFault}
-use Rattle.cdb_play.specs.declared.fault.PlayFault.TheVariants as fault
+use Rattle.cdb_streams.specs.Lines.{lines_of}
+use Rattle.cdb_streams.specs.declared.buffer.OutputFault.TheVariants as output
+use Rattle.cdb_streams.specs.declared.fault.PlayFault.{PlayFault}
+use Rattle.cdb_streams.specs.declared.fault.PlayFault.TheVariants as fault
 use Rattle.cdb_setup.specs.Format.{longest}
 use Rattle.cdb_debug.specs.Unfinished.{IsOver, with_ends, unfinished_of, ended_well, ended_by}
 use Rattle.cdb_debug.specs.Requests.{HasNoEnd, Asks, AreAsked, HaveQuit, ended_lines, up_to_quit, quit_line}

@@ -1,8 +1,8 @@
 -- Why there were no sessions.
 use Rattle.std.specs.Prelude.{ℕ, List}
-use Rattle.cdb_play.specs.FaultTexts.{race_fault_text}
-use Rattle.cdb_play.specs.declared.fault.RaceFault.{RaceFault}
-use Rattle.cdb_play.specs.declared.fault.RaceFault.TheVariants as race
+use Rattle.cdb_streams.specs.FaultTexts.{race_fault_text}
+use Rattle.cdb_streams.specs.declared.fault.RaceFault.{RaceFault}
+use Rattle.cdb_streams.specs.declared.fault.RaceFault.TheVariants as race
 use Rattle.cdb_hall.specs.declared.threads.HallFault.{HallFault}
 use Rattle.cdb_hall.specs.declared.threads.HallFault.TheVariants as hall
 

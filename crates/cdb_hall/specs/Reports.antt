@@ -1,10 +1,10 @@
 -- What is reported of sessions of several seats.
 use Rattle.std.specs.Prelude.{ℕ, ◌+◌, List, [], ◌∷◌, ◌++◌, codes, decimal, map, Result, Ok, Err}
-use Rattle.cdb_play.specs.Faults.{of_output}
-use Rattle.cdb_play.specs.FaultTexts.{as_line, play_fault_text}
-use Rattle.cdb_play.specs.Statuses.{play_status}
-use Rattle.cdb_play.specs.declared.buffer.OutputFault.{OutputFault}
-use Rattle.cdb_play.specs.declared.fault.PlayFault.{PlayFault}
+use Rattle.cdb_streams.specs.Faults.{of_output}
+use Rattle.cdb_streams.specs.FaultTexts.{as_line, play_fault_text}
+use Rattle.cdb_streams.specs.Statuses.{play_status}
+use Rattle.cdb_streams.specs.declared.buffer.OutputFault.{OutputFault}
+use Rattle.cdb_streams.specs.declared.fault.PlayFault.{PlayFault}
 use Rattle.cdb_hall.specs.declared.station.Attended.{Attended}
 
 -- how the sessions ended

@@ -1,9 +1,9 @@
 -- What a seat's session has done, by its moves and by what the journal has of the seat.
 use Rattle.std.specs.Prelude.{◌≡◌, ℕ, ◌≤◌, List, ◌∷◌, ◌++◌, length, Result, Ok, Err}
 use Rattle.cdb_commands.specs.ToldReply.{ToldReply}
-use Rattle.cdb_play.specs.Lines.{lines_of}
-use Rattle.cdb_play.specs.declared.fault.PlayFault.{PlayFault}
-use Rattle.cdb_play.specs.declared.fault.PlayFault.TheVariants as fault
+use Rattle.cdb_streams.specs.Lines.{lines_of}
+use Rattle.cdb_streams.specs.declared.fault.PlayFault.{PlayFault}
+use Rattle.cdb_streams.specs.declared.fault.PlayFault.TheVariants as fault
 use Rattle.cdb_debug.specs.Moves.{Move, ReadFailed, read_in, written_in, AsksForInput, FailsToWrite, EndsWith}
 use Rattle.cdb_debug.specs.Requests.{ended_lines, HaveQuit, AreAsked}
 use Rattle.cdb_debug.specs.Sessions.{HasEnded}

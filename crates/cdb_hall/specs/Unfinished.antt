@@ -7,9 +7,9 @@ use Rattle.cdb_debug.specs.Requests.{HasNoEnd, Asks, quit_line}
 use Rattle.cdb_debug.specs.Moves.{Known, Move, read_in, written_in, AreWrites, FailsToWrite, EndsWith, Makes}
 use Rattle.cdb_debug.specs.declared.request.Request.{Request}
 use Rattle.cdb_debug.specs.declared.request.Request.TheVariants.{Quit}
-use Rattle.cdb_play.specs.declared.buffer.OutputFault.{OutputFault}
-use Rattle.cdb_play.specs.declared.buffer.OutputFault.TheVariants as output
-use Rattle.cdb_play.specs.declared.fault.PlayFault.{PlayFault}
+use Rattle.cdb_streams.specs.declared.buffer.OutputFault.{OutputFault}
+use Rattle.cdb_streams.specs.declared.buffer.OutputFault.TheVariants as output
+use Rattle.cdb_streams.specs.declared.fault.PlayFault.{PlayFault}
 use Rattle.cdb_shared.specs.Seats.{SeatView, SeesFull}
 use Rattle.cdb_shared.specs.Sessions.{replies_to}
 use Rattle.cdb_hall.specs.Dialogues.{Along, begun_along, along_after, seat_shown, seat_dialogue}

@@ -7,9 +7,9 @@ ghost use Rattle.cdb_shared.specs.Seats.{RestsAt, IsLater};
 use crate::hearing::{hear, respond_to_line};
 use crate::session::Session;
 use cdb_debug::{Talk, say};
-use cdb_play::PlayFault;
 use cdb_rules::Runs;
 use cdb_shared::Shared;
+use cdb_streams::PlayFault;
 use std::alloc::Global;
 use std::sync::Wait;
 

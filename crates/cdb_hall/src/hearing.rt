@@ -7,9 +7,9 @@ ghost use Rattle.cdb_shared.specs.Seats.{RestsAt, IsLater};
 
 use crate::session::Session;
 use cdb_debug::{Request, Talk, cut, hold, request_of, say};
-use cdb_play::OutputFault;
 use cdb_rules::Runs;
 use cdb_shared::Shared;
+use cdb_streams::OutputFault;
 use std::alloc::Global;
 use std::sync::Wait;
 

@@ -2,8 +2,8 @@
 
 ghost use Rattle.std.specs.Prelude.{◌≡◌, ◌≤◌, ◌++◌, length, string_bytes, OnOk, IfOk};
 ghost use Rattle.cdb_text.specs.Pushes.{Pushes};
-ghost use Rattle.cdb_play.specs.Endings.{whole_ending};
-ghost use Rattle.cdb_play.specs.Written.{IsWritten, Only};
+ghost use Rattle.cdb_streams.specs.Endings.{whole_ending};
+ghost use Rattle.cdb_streams.specs.Written.{IsWritten, Only};
 ghost use Rattle.cdb_hall.specs.Halls.{journal_text};
 ghost use Rattle.cdb_hall.specs.Reports.{outcomes, failed_seat_line, failed_seat_lines, seats_status};
 ghost use Rattle.cdb_hall.specs.Reports.{journal_line, failures_text, status_of as status_is};
@@ -13,7 +13,7 @@ use crate::station::Attended;
 use cdb_base::NoMemory;
 use cdb_base::limits::MAX_SEATS;
 use cdb_control::Entry;
-use cdb_play::{OutputFault, PlayFault, Sink, status_of, write_all};
+use cdb_streams::{OutputFault, PlayFault, Sink, status_of, write_all};
 use std::alloc::{AllocError, Global};
 
 /// Writes a text.

@@ -1,6 +1,6 @@
 //! Where a seat sits, before its session and after it.
 
-use cdb_play::PlayFault;
+use cdb_streams::PlayFault;
 
 /// Whom a seat's session talks with, and the prompt that it shows before each line.
 #[derive(Drop)]

@@ -1,17 +1,19 @@
 -- What was written, by how a play or a race ended.
-use Rattle.std.proofs.Common.{◌≡◌, ℕ, List, Err, refl, sym, subst, inl, inr}
+use Rattle.std.proofs.Common.{◌≡◌, ℕ, List, Err, refl, inl}
 use Rattle.cdb_setup.specs.declared.fault.SetupFault.{SetupFault}
 use Rattle.cdb_setup.specs.declared.fault.SetupFault.TheVariants as setup
-use Rattle.cdb_play.specs.Endings.{Ending, Complete, WriterFailed, CutShort, NotBegun, pieces_ending, play_ending, race_ending}
-use Rattle.cdb_play.specs.Faults.{of_output}
-use Rattle.cdb_play.specs.Races.{race_fault_of_setup, race_fault_of_threads, race_fault_of_output}
+use Rattle.cdb_streams.specs.Endings.{pieces_ending, play_ending, race_ending}
+use Rattle.cdb_streams.specs.Faults.{of_output}
+use Rattle.cdb_streams.specs.RaceFaults.{race_fault_of_setup, race_fault_of_output}
+use Rattle.cdb_streams.specs.Streams.{Stream}
+use Rattle.cdb_streams.specs.Written.{IsWritten, Only}
+use Rattle.cdb_streams.proofs.Ending.{only_as}
+use Rattle.cdb_play.specs.Races.{race_fault_of_threads}
 use Rattle.cdb_play.specs.RaceStages.{IsFaultOfScripts}
-use Rattle.cdb_play.specs.Streams.{Stream}
-use Rattle.cdb_play.specs.Written.{IsWritten, Only}
-use Rattle.cdb_play.specs.declared.buffer.OutputFault.{OutputFault}
-use Rattle.cdb_play.specs.declared.buffer.OutputFault.TheVariants as output
-use Rattle.cdb_play.specs.declared.fault.RaceFault.{RaceFault}
-use Rattle.cdb_play.specs.declared.fault.RaceFault.TheVariants.{Line, ScriptTooLong, NoMemory}
+use Rattle.cdb_streams.specs.declared.buffer.OutputFault.{OutputFault}
+use Rattle.cdb_streams.specs.declared.buffer.OutputFault.TheVariants as output
+use Rattle.cdb_streams.specs.declared.fault.RaceFault.{RaceFault}
+use Rattle.cdb_streams.specs.declared.fault.RaceFault.TheVariants.{Line, ScriptTooLong, NoMemory}
 use Rattle.cdb_race.specs.declared.threads.RaceFault.{RaceFault as ThreadFault}
 use Rattle.cdb_race.specs.declared.threads.RaceFault.TheVariants as threads
 
@@ -24,19 +26,6 @@ play_ends A output.NoMemory = refl
 pub race_ends : (A : Type 0) (why : OutputFault) → race_ending {A = A} (Err (race_fault_of_output why)) ≡ pieces_ending {A = A} (Err why)
 race_ends A output.Write = refl
 race_ends A output.NoMemory = refl
-
-module _ {W : Type 0} (stream : W → Stream) where
-  -- a text of one kind is one of another
-  pub written_as : (ending : Ending) (old new : W) (IsText Other : List ℕ → Type 0) → ((text : List ℕ) → IsText text → Other text) → IsWritten stream ending old new IsText → IsWritten stream ending old new Other
-  written_as Complete old new IsText Other is wrote = (wrote.0, is wrote.0 wrote.1, wrote.2)
-  written_as WriterFailed old new IsText Other is wrote = (wrote.0, is wrote.0 wrote.1, wrote.2)
-  written_as CutShort old new IsText Other is (inl same) = inl same
-  written_as CutShort old new IsText Other is (inr wrote) = inr (wrote.0, is wrote.0 wrote.1, wrote.2)
-  written_as NotBegun old new IsText Other is same = same
-
-  -- this text is one of that kind
-  pub only_as : (ending : Ending) (old new : W) (text : List ℕ) (Other : List ℕ → Type 0) → Other text → IsWritten stream ending old new (Only text) → IsWritten stream ending old new Other
-  only_as ending old new text Other is wrote = written_as ending old new (Only text) Other (λ other same. subst Other (sym same) is) wrote
 
 module _ {W : Type 0} (stream : W → Stream) (A : Type 0) (IsText : List ℕ → Type 0) where
   -- ---- a fault that comes before the text is known leaves the writer as it was

@@ -1,10 +1,5 @@
-pub mod Added
-pub mod Putting
-pub mod Cutting
-pub mod Reading
 pub mod Transcribing
 pub mod Ending
-pub mod Numbered
 pub mod ScriptsRead
 pub mod RaceTexts
 pub mod RaceGrowth
@@ -12,4 +7,3 @@ pub mod SeatsFit
 pub mod RunningFaults
 pub mod Agreeing
 pub mod OnHeadline
-pub mod WholeTexts

@@ -8,7 +8,7 @@ use Rattle.cdb_commands.specs.declared.reply.Reply.{Reply}
 use Rattle.cdb_race.specs.Races.{all_told}
 use Rattle.cdb_text.specs.Texts.{text_of}
 use Rattle.cdb_play.specs.Races.{seat_text, seats_text}
-use Rattle.cdb_play.proofs.Added.{parted}
+use Rattle.cdb_streams.proofs.Added.{parted}
 use Rattle.cdb_play.proofs.RaceTexts.{seats_text-append}
 
 -- the texts of replies

@@ -14,12 +14,13 @@ use Rattle.cdb_setup.specs.Parts.{Parts}
 use Rattle.cdb_setup.specs.declared.fault.SetupFault.{SetupFault}
 use Rattle.cdb_setup.specs.declared.fault.SetupFault.TheVariants as setup
 use Rattle.cdb_shared.specs.Gates.{Heard}
-use Rattle.cdb_play.specs.Races.{race_fault_of_setup, race_fault_of_threads, race_fault_of_output, AreScripts, IsFaultUngated, IsFaultOnSetup, IsFaultOfRace, IsFirstNotTooLong, StopsNoSeat}
+use Rattle.cdb_play.specs.Races.{race_fault_of_threads, AreScripts, IsFaultUngated, IsFaultOnSetup, IsFaultOfRace, IsFirstNotTooLong, StopsNoSeat}
+use Rattle.cdb_streams.specs.RaceFaults.{race_fault_of_setup, race_fault_of_output}
 use Rattle.cdb_play.specs.RaceStages.{IsFaultOfCommands, IsFaultOfScripts}
-use Rattle.cdb_play.specs.declared.buffer.OutputFault.{OutputFault}
-use Rattle.cdb_play.specs.declared.buffer.OutputFault.TheVariants as output
-use Rattle.cdb_play.specs.declared.fault.RaceFault.{RaceFault}
-use Rattle.cdb_play.specs.declared.fault.RaceFault.TheVariants.{Setup, Line, ScriptTooLong, Write, NoMemory, JournalFull, Spawn, Stopped}
+use Rattle.cdb_streams.specs.declared.buffer.OutputFault.{OutputFault}
+use Rattle.cdb_streams.specs.declared.buffer.OutputFault.TheVariants as output
+use Rattle.cdb_streams.specs.declared.fault.RaceFault.{RaceFault}
+use Rattle.cdb_streams.specs.declared.fault.RaceFault.TheVariants.{Setup, Line, ScriptTooLong, Write, NoMemory, JournalFull, Spawn, Stopped}
 
 -- what two clauses say of an error gives a third
 pub both : {A E : Type 0} (result : Result A E) (P Q R : E → Type 0) → ((e : E) → P e → Q e → R e) → IfErr result P → IfErr result Q → IfErr result R

@@ -5,10 +5,10 @@ use Rattle.cdb_commands.specs.declared.command.Command.{Command}
 use Rattle.cdb_play.specs.Races.{race_fault_of_script, AreScripts, IsFirstNotTooLong, bytes_of}
 use Rattle.cdb_play.specs.RaceStages.{IsFaultOfScripts}
 use Rattle.cdb_setup.specs.Format.{longest}
-use Rattle.cdb_play.specs.Scripts.{IsScript, IsFaultOfScript}
-use Rattle.cdb_play.specs.declared.script.ScriptFault.{ScriptFault}
-use Rattle.cdb_play.specs.declared.script.ScriptFault.TheVariants.{Line, TooLong, NoMemory}
-use Rattle.cdb_play.proofs.Added.{parted}
+use Rattle.cdb_streams.specs.Scripts.{IsScript, IsFaultOfScript}
+use Rattle.cdb_streams.specs.declared.script.ScriptFault.{ScriptFault}
+use Rattle.cdb_streams.specs.declared.script.ScriptFault.TheVariants.{Line, TooLong, NoMemory}
+use Rattle.cdb_streams.proofs.Added.{parted}
 
 -- one script more
 pub one_script : (read : List (List Command)) (good : List (List ℕ)) (commands : List Command) (script : List ℕ) → AreScripts read good → IsScript commands script

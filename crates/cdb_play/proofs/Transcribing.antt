@@ -5,15 +5,15 @@ use Rattle.std.proofs.lemmas.List.{map-append}
 use Rattle.std.proofs.lemmas.Grind.{flat_map-append}
 use Rattle.cdb_commands.specs.declared.command.Command.{Command}
 use Rattle.cdb_control.specs.Commands.{obey}
-use Rattle.cdb_control.specs.Journal.{Journaled, entry, extended, replay, replay_from, replies_from}
+use Rattle.cdb_control.specs.Journal.{Journaled, entry, replay, replay_from, replies_from}
 use Rattle.cdb_control.specs.State.{first_control_state}
 use Rattle.cdb_control.proofs.Own.{replies_from-append}
 use Rattle.cdb_rules.specs.Rules.{Rules}
 use Rattle.cdb_setup.specs.Parts.{Parts}
 use Rattle.cdb_text.specs.Texts.{text_of}
-use Rattle.cdb_play.specs.Left.{carried_out, run_of}
-use Rattle.cdb_play.specs.PlayStages.{HasCarriedOut}
-use Rattle.cdb_play.specs.Transcripts.{journal_of, reply_to, transcript}
+use Rattle.cdb_streams.specs.Left.{carried_out, journal_of}
+use Rattle.cdb_streams.specs.PlayStages.{HasCarriedOut}
+use Rattle.cdb_play.specs.Transcripts.{reply_to, transcript}
 
 pub no_texts : (rules : Rules) (setup : Parts) → transcript rules setup [] ≡ []
 unfolding transcript
@@ -37,14 +37,6 @@ module _ (rules : Parts → Rules) (setup : Parts) (done : List Command) (comman
   same_text : reply_to rules control command ≡ reply_to rules (carried_out setup done) command
   same_text = rw (along.of_setup, along.one_seat, along.carried_out) refl
 
-  pub one_command : (left : Journaled) → left ≡ extended rules control 1 command → HasCarriedOut setup (done ++ command ∷ []) left
-  one_command left is =
-      record {
-        of_setup = ap (λ c. c.setup) is ∙ along.of_setup;
-        one_seat = ap (λ c. c.seats) is ∙ along.one_seat;
-        carried_out = ap (λ c. c.journal) is ∙ ap (λ journal. journal ++ entry 1 command ∷ []) along.carried_out ∙ sym (map-append (entry 1) done (command ∷ []));
-      }
-
   -- the transcript so far, and the text of the reply to one command more
   pub one_reply : transcript (rules setup) setup (done ++ command ∷ []) ≡ transcript (rules setup) setup done ++ reply_to rules control command
   one_reply =
@@ -55,7 +47,3 @@ module _ (rules : Parts → Rules) (setup : Parts) (done : List Command) (comman
       → transcript (rules setup) setup (done ++ command ∷ rest) ≡ transcript (rules setup) setup done ++ (reply_to rules control command ++ texts_behind (rules setup) setup done command rest)
   parted_transcript rest =
       one_text rules setup done command rest ∙ ap (λ text. transcript (rules setup) setup done ++ (text ++ texts_behind (rules setup) setup done command rest)) (sym same_text)
-
--- the run of a control is that of its commands
-pub run_left : (rules : Parts → Rules) (setup : Parts) (commands : List Command) (control : Journaled) → HasCarriedOut setup commands control → run_of rules control ≡ run_of rules (carried_out setup commands)
-run_left rules setup commands control along = rw (along.of_setup, along.one_seat, along.carried_out) refl

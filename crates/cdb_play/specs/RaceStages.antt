@@ -8,9 +8,9 @@ use Rattle.cdb_race.specs.declared.threads.RaceFault.{RaceFault as ThreadFault}
 use Rattle.cdb_race.specs.declared.threads.RaceFault.TheVariants as threads
 use Rattle.cdb_rules.specs.Rules.{Rules}
 use Rattle.cdb_setup.specs.Parts.{Parts, IsWithin}
-use Rattle.cdb_play.specs.declared.fault.RaceFault.{RaceFault}
-use Rattle.cdb_play.specs.declared.fault.RaceFault.TheVariants.{Line, ScriptTooLong, Write, NoMemory, JournalFull, Spawn, Stopped}
-use Rattle.cdb_play.specs.declared.script.ScriptFault.TheVariants as script
+use Rattle.cdb_streams.specs.declared.fault.RaceFault.{RaceFault}
+use Rattle.cdb_streams.specs.declared.fault.RaceFault.TheVariants.{Line, ScriptTooLong, Write, NoMemory, JournalFull, Spawn, Stopped}
+use Rattle.cdb_streams.specs.declared.script.ScriptFault.TheVariants as script
 use Rattle.cdb_play.specs.Races.{IsFirstBad, IsFirstNotTooLong, race_text}
 
 module _ (IsFaultOfSessions : Parts → ℕ → List (List Command) → ThreadFault → Type 0) where

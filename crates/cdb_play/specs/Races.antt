@@ -1,5 +1,5 @@
 -- What a race reads and writes.
-use Rattle.std.specs.Prelude.{◌≡◌, ℕ, ◌+◌, ◌-◌, ◌≤◌, ◌==◌, Bool, true, List, [], ◌∷◌, ◌++◌, length, map, codes, decimal, if◌then◌else◌}
+use Rattle.std.specs.Prelude.{◌≡◌, ℕ, ◌+◌, ◌-◌, ◌≤◌, ◌==◌, Bool, true, List, [], ◌∷◌, ◌++◌, length, map, codes, decimal, Result, OnOk, if◌then◌else◌}
 use Rattle.std.specs.List.{AllZip, flat_map, list_all, range_with_len}
 use Rattle.std.proofs.Common.{Vec, Global}
 use Rattle.cdb_commands.specs.ToldReply.{ToldReply}
@@ -14,17 +14,16 @@ use Rattle.cdb_rules.specs.Rules.{Rules}
 use Rattle.cdb_setup.specs.Format.{Encodes, longest}
 use Rattle.cdb_setup.specs.Order.{IsFirstFault}
 use Rattle.cdb_setup.specs.Parts.{Parts, IsWithin}
-use Rattle.cdb_setup.specs.declared.fault.SetupFault.{SetupFault}
-use Rattle.cdb_setup.specs.declared.fault.SetupFault.TheVariants as setup
 use Rattle.cdb_text.specs.Reports.{decisions_text}
 use Rattle.cdb_text.specs.Texts.{text_of}
-use Rattle.cdb_play.specs.Scripts.{IsScript, IsFaultOfScript}
-use Rattle.cdb_play.specs.declared.buffer.OutputFault.{OutputFault}
-use Rattle.cdb_play.specs.declared.buffer.OutputFault.TheVariants as output
-use Rattle.cdb_play.specs.declared.fault.RaceFault.{RaceFault}
-use Rattle.cdb_play.specs.declared.fault.RaceFault.TheVariants.{Setup, Line, ScriptTooLong, Write, NoMemory, JournalFull, Spawn, Stopped}
-use Rattle.cdb_play.specs.declared.script.ScriptFault.{ScriptFault}
-use Rattle.cdb_play.specs.declared.script.ScriptFault.TheVariants as script
+use Rattle.cdb_streams.specs.Endings.{Complete}
+use Rattle.cdb_streams.specs.Scripts.{IsScript, IsFaultOfScript}
+use Rattle.cdb_streams.specs.Streams.{Stream}
+use Rattle.cdb_streams.specs.Written.{IsWritten}
+use Rattle.cdb_streams.specs.declared.fault.RaceFault.{RaceFault}
+use Rattle.cdb_streams.specs.declared.fault.RaceFault.TheVariants.{Setup, Line, ScriptTooLong, Write, NoMemory, JournalFull, Spawn, Stopped}
+use Rattle.cdb_streams.specs.declared.script.ScriptFault.{ScriptFault}
+use Rattle.cdb_streams.specs.declared.script.ScriptFault.TheVariants as script
 
 -- ---- the text
 
@@ -57,6 +56,12 @@ IsSetupWithMajority json = (setup : Parts) × Encodes json setup × HasMajorityI
 -- the last line of the text says that the decisions agree
 abbrev pub EndsInAgreement : List ℕ → Type 0
 EndsInAgreement text = (before : List ℕ) × (text ≡ before ++ codes "\n" ++ codes "decisions agree\n")
+
+-- Of a writer before and after, each seen as a stream
+module _ {W : Type 0} (stream : W → Stream) where
+  -- where the race ended well, the last line that the writer took says that the decisions agree
+  abbrev pub AgreesAtEnd : {A : Type 0} → Result A RaceFault → W → W → Type 0
+  AgreesAtEnd outcome old new = OnOk outcome (IsWritten stream Complete old new EndsInAgreement)
 
 -- the decisions, and whether they agree
 abbrev pub end_text : List (ℕ × ℕ) → List ℕ
@@ -116,11 +121,7 @@ pub record IsTextOnSetup (rules : Parts → Rules) (setup : Parts) (turns : ℕ)
 abbrev pub IsTextOfRace : (Parts → Rules) → List ℕ → ℕ → List (List ℕ) → List ℕ → Type 0
 IsTextOfRace rules json turns scripts text = (setup : Parts) × Encodes json setup × IsTextOnSetup rules setup turns scripts text
 
--- ---- which fault of a race each fault of its parts is; out of memory is one fault
-
-abbrev pub race_fault_of_setup : SetupFault → RaceFault
-race_fault_of_setup setup.NoMemory = NoMemory
-race_fault_of_setup fault = Setup fault
+-- ---- which fault of a race each fault of its scripts and of its threads is; out of memory is one fault
 
 -- of the script of this number
 abbrev pub race_fault_of_script : ℕ → ScriptFault → RaceFault
@@ -133,10 +134,6 @@ race_fault_of_threads threads.NoMemory = NoMemory
 race_fault_of_threads threads.JournalFull = JournalFull
 race_fault_of_threads (threads.Spawn refused) = Spawn refused
 race_fault_of_threads (threads.Stopped seat) = Stopped seat
-
-abbrev pub race_fault_of_output : OutputFault → RaceFault
-race_fault_of_output output.Write = Write
-race_fault_of_output output.NoMemory = NoMemory
 
 -- ---- what they say
 

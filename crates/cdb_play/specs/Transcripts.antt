@@ -1,26 +1,22 @@
 -- What a play writes.
-use Rattle.std.specs.Prelude.{◌≡◌, ℕ, ◌≤◌, List, length, map}
+use Rattle.std.specs.Prelude.{◌≡◌, ℕ, ◌≤◌, List, length}
 use Rattle.std.specs.List.{flat_map}
 use Rattle.cdb_base.specs.declared.event.Event.{Event}
 use Rattle.cdb_commands.specs.declared.command.Command.{Command}
-use Rattle.cdb_control.specs.declared.control.Entry.{Entry}
 use Rattle.cdb_control.specs.Headline.{Headline}
-use Rattle.cdb_control.specs.Journal.{Journaled, entry, reply_in, replies_of}
+use Rattle.cdb_control.specs.Journal.{Journaled, reply_in, replies_of}
 use Rattle.cdb_rules.specs.Rules.{Rules}
 use Rattle.cdb_setup.specs.Parts.{Parts}
 use Rattle.cdb_setup.specs.Format.{Encodes, longest}
 use Rattle.cdb_text.specs.Texts.{text_of}
-use Rattle.cdb_play.specs.Lines.{lines_of}
-use Rattle.cdb_play.specs.Scripts.{AreCommandsOf}
-use Rattle.cdb_play.specs.Streams.{IsReadToEnd, Stream}
+use Rattle.cdb_streams.specs.Left.{journal_of}
+use Rattle.cdb_streams.specs.Lines.{lines_of}
+use Rattle.cdb_streams.specs.Scripts.{AreCommandsOf}
+use Rattle.cdb_streams.specs.Streams.{IsReadToEnd, Stream}
 
 -- the text of the reply to a command of the only seat
 abbrev pub reply_to : (Parts → Rules) → Journaled → Command → List ℕ
 reply_to rules control command = text_of (reply_in rules control 1 command)
-
--- the commands as the journal of the only seat
-abbrev pub journal_of : List Command → List Entry
-journal_of commands = map (entry 1) commands
 
 -- the texts of the replies to these commands, one after the other
 unfoldable pub transcript : Rules → Parts → List Command → List ℕ

@@ -1,27 +1,24 @@
 //! A script is played: its commands are carried out one after the other, and each reply is written.
 
-ghost use Rattle.std.specs.Prelude.{◌≡◌, true, ◌<◌, ◌≤◌, [], length, Err, IfOk, IfErr, OnOk};
+ghost use Rattle.std.specs.Prelude.{◌≡◌, true, ◌<◌, [], length, Err, IfErr, OnOk};
 ghost use Rattle.cdb_base.specs.declared.limits.TheConstants.{MAX_ENTRIES};
 ghost use Rattle.cdb_control.specs.Journal.{extended};
 ghost use Rattle.cdb_commands.specs.OneEvent.{is_of_one_event};
 ghost use Rattle.cdb_setup.specs.declared.fault.SetupFault.{SetupFault as SetupFaultName};
-ghost use Rattle.cdb_play.specs.PlayStages.{HasCarriedOut};
-ghost use Rattle.cdb_play.specs.Putting.{Puts};
-ghost use Rattle.cdb_play.specs.Endings.{pieces_ending, play_ending};
-ghost use Rattle.cdb_play.specs.Faults.{IsFaultOfPlay};
-ghost use Rattle.cdb_play.specs.Streams.{FailsWhere};
+ghost use Rattle.cdb_streams.specs.PlayStages.{HasCarriedOut};
+ghost use Rattle.cdb_streams.specs.Putting.{Puts};
+ghost use Rattle.cdb_streams.specs.Endings.{pieces_ending, play_ending};
+ghost use Rattle.cdb_streams.specs.Faults.{IsFaultOfPlay};
+ghost use Rattle.cdb_streams.specs.Streams.{FailsWhere};
 ghost use Rattle.cdb_play.specs.Transcripts.{reply_to, transcript, Plays, RestsOnHeadline};
-ghost use Rattle.cdb_play.specs.Written.{IsWritten, Only};
+ghost use Rattle.cdb_streams.specs.Written.{IsWritten, Only};
 
-use crate::buffer::{Buffer, OutputFault};
-use crate::fault::PlayFault;
-use crate::reply::{put_event_reply, put_reply};
-use crate::script::read_commands;
-use crate::sink::Sink;
-use crate::source::Source;
-use cdb_base::NoMemory;
 use cdb_control::{CallFault, Command, Control, Runs, laws};
 use cdb_setup::Setup;
+use cdb_streams::{
+    Buffer, OutputFault, PlayFault, Sink, Source, open_for, put_event_reply, put_reply,
+    read_commands,
+};
 use std::alloc::Global;
 
 /// Carries a command of one event out for the only seat, and puts the text of the reply, which is made in `text`.
@@ -91,28 +88,6 @@ fn perform<T: Runs, W: Sink>(
         return perform_event(alloc, control, command, text, buffer, out);
     }
     perform_any(alloc, control, command, text, buffer, out)
-}
-
-/// A control with one seat in which nothing has happened, with room for this many commands: so their journal is
-/// allocated once.
-pub(crate) fn open_for<T: Runs>(
-    alloc: Global,
-    setup: Setup,
-    count: u32,
-) -> Result<Control<T>, NoMemory>
-    requires { count ≤ MAX_ENTRIES }
-    ensures { IfOk result (HasCarriedOut setup []) }
-{
-    let Ok(mut control) = Control::<T>::open(alloc, setup, 1) else {
-        return Err(NoMemory);
-    };
-    match control.reserve(alloc, 1, count) {
-        Ok(()) => Ok(control),
-        Err(fault) => {
-            control.close();
-            Err(fault)
-        }
-    }
 }
 
 /// Carries the commands out, one after the other, for the only seat of a control in which nothing has happened, and

@@ -7,79 +7,32 @@ ghost use Rattle.cdb_race.specs.Races.{AllPass};
 ghost use Rattle.cdb_rules.specs.Agreement.{HasMajorityIfNeeded};
 ghost use Rattle.cdb_setup.specs.Format.{Encodes};
 ghost use Rattle.cdb_setup.specs.Parts.{Parts};
-ghost use Rattle.cdb_play.specs.Races.{race_fault_of_script, bytes_of, AreScripts, IsTextOnSetup, IsTextOfRace, StopsNoSeat, IsFaultUngated, IsFaultOnSetup, IsFaultOfRace, IsSetupWithMajority};
+ghost use Rattle.cdb_play.specs.Races.{race_fault_of_script, race_fault_of_threads, bytes_of, AreScripts, IsTextOnSetup, IsTextOfRace, StopsNoSeat, IsFaultUngated, IsFaultOnSetup, IsFaultOfRace, IsSetupWithMajority, AgreesAtEnd};
 ghost use Rattle.cdb_play.specs.RaceStages.{IsTextOfCommands, IsFaultOfScripts, IsFaultOfCommands};
-ghost use Rattle.cdb_play.specs.Endings.{race_ending};
-ghost use Rattle.cdb_play.specs.Written.{AgreesAtEnd, IsWritten};
+ghost use Rattle.cdb_streams.specs.Endings.{race_ending};
+ghost use Rattle.cdb_streams.specs.Written.{IsWritten};
 
 mod text;
 
-use crate::buffer::{Buffer, OutputFault};
-use crate::fault::RaceFault;
-use crate::script::{ScriptFault, commands_of};
-use crate::sink::Sink;
 use cdb_control::Runs;
 use cdb_race::{RaceFault as ThreadFault, Script};
-use cdb_setup::{Setup, SetupFault};
+use cdb_setup::Setup;
 use cdb_shared::{Gate, Seat};
+use cdb_streams::{Buffer, RaceFault, ScriptFault, Sink, commands_of};
 use std::alloc::{AllocError, Global};
 use std::sync::Wait;
 use std::thread::Threads;
 use text::write_race;
 
-impl From<SetupFault> for RaceFault {
-    ghost use Rattle.std.specs.Prelude.{◌≡◌};
-    ghost use Rattle.cdb_play.specs.Races.{race_fault_of_setup};
-
-    ghost from_gives = { λ fault made. made ≡ race_fault_of_setup fault };
-
-    fn from(fault: SetupFault) -> Self {
-        match fault {
-            SetupFault::NoMemory => RaceFault::NoMemory,
-            fault => RaceFault::Setup(fault),
-        }
-    }
-}
-
-impl From<OutputFault> for RaceFault {
-    ghost use Rattle.std.specs.Prelude.{◌≡◌};
-    ghost use Rattle.cdb_play.specs.Races.{race_fault_of_output};
-
-    ghost from_gives = { λ fault made. made ≡ race_fault_of_output fault };
-
-    fn from(fault: OutputFault) -> Self {
-        match fault {
-            OutputFault::Write => RaceFault::Write,
-            OutputFault::NoMemory => RaceFault::NoMemory,
-        }
-    }
-}
-
-impl From<AllocError> for RaceFault {
-    ghost use Rattle.std.specs.Prelude.{◌≡◌};
-    ghost use Rattle.cdb_play.specs.declared.fault.RaceFault.TheVariants.{NoMemory as no_memory};
-
-    ghost from_gives = { λ _ made. made ≡ no_memory };
-
-    fn from(_error: AllocError) -> Self {
-        RaceFault::NoMemory
-    }
-}
-
 /// A fault of the threads. Nothing was written then.
-impl From<ThreadFault> for RaceFault {
-    ghost use Rattle.std.specs.Prelude.{◌≡◌};
-    ghost use Rattle.cdb_play.specs.Races.{race_fault_of_threads};
-
-    ghost from_gives = { λ fault made. made ≡ race_fault_of_threads fault };
-
-    fn from(fault: ThreadFault) -> Self {
-        match fault {
-            ThreadFault::NoMemory => RaceFault::NoMemory,
-            ThreadFault::JournalFull => RaceFault::JournalFull,
-            ThreadFault::Spawn(refused) => RaceFault::Spawn(refused),
-            ThreadFault::Stopped(seat) => RaceFault::Stopped(seat),
-        }
+fn of_threads(fault: ThreadFault) -> RaceFault
+    ensures { result ≡ race_fault_of_threads fault }
+{
+    match fault {
+        ThreadFault::NoMemory => RaceFault::NoMemory,
+        ThreadFault::JournalFull => RaceFault::JournalFull,
+        ThreadFault::Spawn(refused) => RaceFault::Spawn(refused),
+        ThreadFault::Stopped(seat) => RaceFault::Stopped(seat),
     }
 }
 
@@ -159,7 +112,10 @@ fn run_race<T: Runs + Send, G: Gate + Drop + Send, R: Threads + Wait + Sync, W: 
 {
     let buffer = Buffer::new(alloc)?;
     let processes = usize::from(setup.n());
-    let raced = cdb_race::race::<T, G, R>(rt, alloc, setup, turns, scripts, gates)?;
+    let raced = match cdb_race::race::<T, G, R>(rt, alloc, setup, turns, scripts, gates) {
+        Ok(raced) => raced,
+        Err(fault) => return Err(of_threads(fault)),
+    };
     let written = write_race(
         alloc,
         &raced.control,

@@ -5,9 +5,9 @@ use Rattle.cdb_draw.specs.Drawn.{draw_ending, Draws, IsFaultOfDraw}
 use Rattle.cdb_draw.specs.declared.script.StepAsked.{StepAsked}
 use Rattle.cdb_explain.specs.declared.fault.ExplainFault.{ExplainFault}
 use Rattle.cdb_explain.specs.declared.fault.ExplainFault.TheVariants.{Play}
-use Rattle.cdb_play.specs.Streams.{FailsWhere, Stream}
-use Rattle.cdb_play.specs.Written.{IsWritten}
-use Rattle.cdb_play.specs.declared.fault.PlayFault.TheVariants as play
+use Rattle.cdb_streams.specs.Streams.{FailsWhere, Stream}
+use Rattle.cdb_streams.specs.Written.{IsWritten}
+use Rattle.cdb_streams.specs.declared.fault.PlayFault.TheVariants as play
 use Rattle.cdb_rules.specs.Algorithms.{rules}
 use Rattle.cdb_setup.specs.declared.fault.SetupFault.{SetupFault}
 use Rattle.cdb_program.specs.Drawing.{IsDrawn}

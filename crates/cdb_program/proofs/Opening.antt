@@ -3,11 +3,11 @@ use Rattle.std.proofs.Common.{◌≡◌, ℕ, ◌+◌, ◌<◌, List, [], ◌∷
 use Rattle.std.specs.Prelude.{option_map}
 use Rattle.std.proofs.lemmas.List.{map-append, take_more}
 use Rattle.std.specs.List.{AllZip}
-use Rattle.cdb_play.specs.Faults.{of_reading}
+use Rattle.cdb_streams.specs.Faults.{of_reading}
 use Rattle.cdb_play.specs.Races.{bytes_of}
-use Rattle.cdb_play.specs.declared.fault.PlayFault.TheVariants as play
-use Rattle.cdb_play.specs.declared.source.ReadFault.{ReadFault}
-use Rattle.cdb_play.specs.declared.source.ReadFault.TheVariants as reading
+use Rattle.cdb_streams.specs.declared.fault.PlayFault.TheVariants as play
+use Rattle.cdb_streams.specs.declared.source.ReadFault.{ReadFault}
+use Rattle.cdb_streams.specs.declared.source.ReadFault.TheVariants as reading
 use Rattle.cdb_program.specs.Known.{FilesSeen, after_opening, after_failing}
 use Rattle.cdb_program.specs.Reading.{AreFirstBytes, FailsToRead, HasRead, ReadsFile, most_read, file_names}
 use Rattle.cdb_program.specs.declared.fault.Fault.{Fault}

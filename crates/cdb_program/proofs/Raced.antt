@@ -2,13 +2,15 @@
 use Rattle.std.proofs.Common.{◌≡◌, ◌≢◌, ◌⊎◌, inl, inr, ℕ, ◌+◌, ◌<◌, ◌≤◌, List, length, Result, Ok, Err, sym, ap, subst}
 use Rattle.std.specs.Prelude.{IfErr}
 use Rattle.std.proofs.lemmas.Result.{IfErr-weaker}
-use Rattle.cdb_play.proofs.Ending.{race_unwritten_setup, written_as}
+use Rattle.cdb_play.proofs.Ending.{race_unwritten_setup}
+use Rattle.cdb_streams.proofs.Ending.{written_as}
 use Rattle.cdb_play.proofs.RunningFaults.{of_race, of_setup_read}
-use Rattle.cdb_play.specs.Endings.{race_ending}
-use Rattle.cdb_play.specs.Races.{race_fault_of_setup, IsFaultOnSetup, IsFaultUngated, IsTextOfRace, IsTextOnSetup}
-use Rattle.cdb_play.specs.Streams.{Stream}
-use Rattle.cdb_play.specs.Written.{AgreesAtEnd, IsWritten}
-use Rattle.cdb_play.specs.declared.fault.RaceFault.{RaceFault}
+use Rattle.cdb_streams.specs.Endings.{race_ending}
+use Rattle.cdb_play.specs.Races.{IsFaultOnSetup, IsFaultUngated, IsTextOfRace, IsTextOnSetup, AgreesAtEnd}
+use Rattle.cdb_streams.specs.RaceFaults.{race_fault_of_setup}
+use Rattle.cdb_streams.specs.Streams.{Stream}
+use Rattle.cdb_streams.specs.Written.{IsWritten}
+use Rattle.cdb_streams.specs.declared.fault.RaceFault.{RaceFault}
 use Rattle.cdb_rules.specs.Agreement.{HasMajorityIfNeeded}
 use Rattle.cdb_setup.specs.Format.{Encodes, longest}
 use Rattle.cdb_setup.specs.Order.{IsFirstFault}

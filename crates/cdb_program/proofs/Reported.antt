@@ -1,6 +1,6 @@
 -- What is done with a request leaves standard error out.
 use Rattle.std.proofs.Common.{◌≡◌, ℕ, List, Bor, refl}
-use Rattle.cdb_play.specs.Streams.{Stream}
+use Rattle.cdb_streams.specs.Streams.{Stream}
 use Rattle.cdb_program.specs.Known.{Seen}
 use Rattle.cdb_program.specs.Outcomes.{RequestEnd}
 use Rattle.cdb_program.specs.Requests.{Does, IsNoHall, Performs, PerformsAlone}

@@ -10,19 +10,19 @@ use Rattle.cdb_hall.specs.declared.station.Station.{Station}
 use Rattle.cdb_hall.specs.declared.station.Attended.{Attended}
 use Rattle.cdb_rules.specs.Rules.{Rules}
 use Rattle.cdb_setup.specs.Parts.{Parts}
-use Rattle.cdb_play.specs.declared.fault.PlayFault.{PlayFault}
-use Rattle.cdb_play.specs.declared.fault.PlayFault.TheVariants as play
+use Rattle.cdb_streams.specs.declared.fault.PlayFault.{PlayFault}
+use Rattle.cdb_streams.specs.declared.fault.PlayFault.TheVariants as play
 use Rattle.cdb_program.specs.Known.{FilesSeen, after_opening, after_failing}
 use Rattle.cdb_program.specs.Reading.{FailsToRead, file_names}
 use Rattle.cdb_program.specs.declared.fault.Fault.{Fault}
 use Rattle.cdb_program.specs.declared.fault.Fault.TheVariants.{Play, Race, NoStep, TooManySeats, Refused}
-use Rattle.cdb_play.specs.Faults.{of_reading}
-use Rattle.cdb_play.specs.declared.source.ReadFault.{ReadFault}
-use Rattle.cdb_play.specs.declared.source.ReadFault.TheVariants as reading
+use Rattle.cdb_streams.specs.Faults.{of_reading}
+use Rattle.cdb_streams.specs.declared.source.ReadFault.{ReadFault}
+use Rattle.cdb_streams.specs.declared.source.ReadFault.TheVariants as reading
 use Rattle.cdb_program.specs.Seating.{AreStationsOf, IsFaultOfSeats, IsStationOf, OpensSeat}
-use Rattle.cdb_play.specs.Endings.{whole_ending}
-use Rattle.cdb_play.specs.Streams.{Stream}
-use Rattle.cdb_play.specs.Written.{IsWritten, Only}
+use Rattle.cdb_streams.specs.Endings.{whole_ending}
+use Rattle.cdb_streams.specs.Streams.{Stream}
+use Rattle.cdb_streams.specs.Written.{IsWritten, Only}
 use Rattle.cdb_program.proofs.Seen.{stream_written}
 use Rattle.cdb_program.proofs.Opening.{read_none, opened_then, failed_then, fails_before, one_more_name, taken_and_left}
 

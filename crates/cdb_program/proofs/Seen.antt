@@ -1,13 +1,13 @@
 -- What is known of readers and writers, as streams.
 use Rattle.std.proofs.Common.{◌≡◌, ℕ, List, Result, Ok, Err, ap, inl, inr}
 use Rattle.std.specs.Prelude.{IfErr}
-use Rattle.cdb_play.specs.Endings.{Ending, Complete, WriterFailed, CutShort, NotBegun, play_ending}
-use Rattle.cdb_play.specs.Faults.{IsFaultOfPlay}
-use Rattle.cdb_play.specs.Streams.{FailsWhere, Stream, Writes}
+use Rattle.cdb_streams.specs.Endings.{Ending, Complete, WriterFailed, CutShort, NotBegun, play_ending}
+use Rattle.cdb_streams.specs.Faults.{IsFaultOfPlay}
+use Rattle.cdb_streams.specs.Streams.{FailsWhere, Stream, Writes}
 use Rattle.cdb_play.specs.Transcripts.{Plays, RestsOnHeadline}
-use Rattle.cdb_play.specs.Written.{IsWritten}
-use Rattle.cdb_play.specs.declared.fault.PlayFault.{PlayFault}
-use Rattle.cdb_play.specs.declared.fault.PlayFault.TheVariants as play
+use Rattle.cdb_streams.specs.Written.{IsWritten}
+use Rattle.cdb_streams.specs.declared.fault.PlayFault.{PlayFault}
+use Rattle.cdb_streams.specs.declared.fault.PlayFault.TheVariants as play
 use Rattle.cdb_rules.specs.Algorithms.{rules}
 use Rattle.cdb_rules.specs.SameState.{ReachSameState}
 use Rattle.cdb_setup.specs.declared.fault.SetupFault.{SetupFault}

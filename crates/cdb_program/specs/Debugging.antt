@@ -2,7 +2,7 @@
 use Rattle.std.specs.Prelude.{◌≡◌, ◌⊎◌, ℕ, List, [], ◌∷◌, codes, None, Result}
 use Rattle.cdb_debug.specs.Moves.{Known}
 use Rattle.cdb_debug.specs.Sessions.{Debugs}
-use Rattle.cdb_play.specs.declared.fault.PlayFault.{PlayFault}
+use Rattle.cdb_streams.specs.declared.fault.PlayFault.{PlayFault}
 use Rattle.cdb_rules.specs.Algorithms.{rules}
 use Rattle.cdb_program.specs.Known.{Seen}
 use Rattle.cdb_program.specs.Outcomes.{RequestEnd, IsOfPlay}

@@ -2,7 +2,7 @@
 use Rattle.std.specs.Prelude.{ℕ, List, ◌++◌, Option, option_map, bytes_eq}
 use Rattle.std.specs.List.{find}
 use Rattle.cdb_debug.specs.Moves.{Known}
-use Rattle.cdb_play.specs.Streams.{Stream, one_more}
+use Rattle.cdb_streams.specs.Streams.{Stream, one_more}
 
 -- Files: those that are known, each a name and its bytes; the names of those that were opened, in order, where these are known;
 -- how many could not be read, in 64 bits; and the seats that are known, each a name and whom its session talks with

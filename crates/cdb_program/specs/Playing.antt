@@ -1,12 +1,12 @@
 -- What plays do.
 use Rattle.std.specs.Prelude.{◌≡◌, ℕ, List, [], ◌∷◌, codes, Option, Some, Result, Err, IfErr}
-use Rattle.cdb_play.specs.Endings.{play_ending}
-use Rattle.cdb_play.specs.Faults.{IsFaultOfPlay}
-use Rattle.cdb_play.specs.Streams.{FailsWhere, Stream, itself}
+use Rattle.cdb_streams.specs.Endings.{play_ending}
+use Rattle.cdb_streams.specs.Faults.{IsFaultOfPlay}
+use Rattle.cdb_streams.specs.Streams.{FailsWhere, Stream, itself}
 use Rattle.cdb_play.specs.Transcripts.{Plays, RestsOnHeadline}
-use Rattle.cdb_play.specs.Written.{IsWritten}
-use Rattle.cdb_play.specs.declared.fault.PlayFault.{PlayFault}
-use Rattle.cdb_play.specs.declared.fault.PlayFault.TheVariants as play
+use Rattle.cdb_streams.specs.Written.{IsWritten}
+use Rattle.cdb_streams.specs.declared.fault.PlayFault.{PlayFault}
+use Rattle.cdb_streams.specs.declared.fault.PlayFault.TheVariants as play
 use Rattle.cdb_rules.specs.Algorithms.{rules}
 use Rattle.cdb_setup.specs.declared.fault.SetupFault.{SetupFault}
 use Rattle.cdb_program.specs.Known.{Seen, in_memory}

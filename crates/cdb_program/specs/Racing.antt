@@ -1,12 +1,12 @@
 -- What races do.
 use Rattle.std.specs.Prelude.{◌≡◌, ◌≢◌, ◌⊎◌, ℕ, ◌+◌, ◌<◌, ◌≤◌, List, [], ◌∷◌, length, Result, Err, IfErr}
 use Rattle.cdb_base.specs.declared.limits.TheConstants.{MAX_SEATS}
-use Rattle.cdb_play.specs.Endings.{race_ending}
-use Rattle.cdb_play.specs.Races.{IsTextOfRace, IsFaultOfRace, IsFaultUngated, IsSetupWithMajority}
-use Rattle.cdb_play.specs.Streams.{Stream, itself}
-use Rattle.cdb_play.specs.Written.{AgreesAtEnd, IsWritten}
-use Rattle.cdb_play.specs.declared.fault.RaceFault.{RaceFault}
-use Rattle.cdb_play.specs.declared.fault.RaceFault.TheVariants.{NoMemory}
+use Rattle.cdb_streams.specs.Endings.{race_ending}
+use Rattle.cdb_play.specs.Races.{IsTextOfRace, IsFaultOfRace, IsFaultUngated, IsSetupWithMajority, AgreesAtEnd}
+use Rattle.cdb_streams.specs.Streams.{Stream, itself}
+use Rattle.cdb_streams.specs.Written.{IsWritten}
+use Rattle.cdb_streams.specs.declared.fault.RaceFault.{RaceFault}
+use Rattle.cdb_streams.specs.declared.fault.RaceFault.TheVariants.{NoMemory}
 use Rattle.cdb_setup.specs.Format.{Encodes}
 use Rattle.cdb_setup.specs.Parts.{Parts}
 use Rattle.cdb_program.specs.Known.{Seen}

@@ -4,9 +4,9 @@ use Rattle.std.specs.Borrow.{Bor}
 use Rattle.std.specs.Global.{Global}
 use Rattle.std.specs.List.{AllZip}
 use Rattle.cdb_play.specs.Races.{bytes_of}
-use Rattle.cdb_play.specs.declared.fault.PlayFault.TheVariants.{Read, NoMemory}
-use Rattle.cdb_play.specs.declared.source.ReadFault.{ReadFault}
-use Rattle.cdb_play.specs.declared.source.ReadFault.TheVariants as reading
+use Rattle.cdb_streams.specs.declared.fault.PlayFault.TheVariants.{Read, NoMemory}
+use Rattle.cdb_streams.specs.declared.source.ReadFault.{ReadFault}
+use Rattle.cdb_streams.specs.declared.source.ReadFault.TheVariants as reading
 use Rattle.cdb_program.specs.Known.{FilesSeen, Seen, content_of, after_opening, after_failing}
 use Rattle.cdb_program.specs.Outcomes.{RequestEnd}
 use Rattle.cdb_program.specs.declared.fault.Fault.{Fault}

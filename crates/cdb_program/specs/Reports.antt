@@ -1,9 +1,9 @@
 -- How the program reports that a request ended.
 use Rattle.std.specs.Prelude.{◌≡◌, ℕ, List, codes, Result, Ok, Err}
-use Rattle.cdb_play.specs.FaultTexts.{as_line, play_fault_text, race_fault_text}
-use Rattle.cdb_play.specs.Statuses.{play_status, race_status}
-use Rattle.cdb_play.specs.Streams.{Stream, Writes, itself}
-use Rattle.cdb_play.specs.declared.sink.Failed.{Failed}
+use Rattle.cdb_streams.specs.FaultTexts.{as_line, play_fault_text, race_fault_text}
+use Rattle.cdb_streams.specs.Statuses.{play_status, race_status}
+use Rattle.cdb_streams.specs.Streams.{Stream, Writes, itself}
+use Rattle.cdb_streams.specs.declared.sink.Failed.{Failed}
 use Rattle.cdb_program.specs.declared.fault.Fault.{Fault}
 use Rattle.cdb_program.specs.declared.fault.Fault.TheVariants.{Play, Race, NoStep, TooManySeats, Refused}
 

@@ -1,7 +1,7 @@
 -- What the program does with a request.
 use Rattle.std.specs.Prelude.{◌≡◌, ℕ, ◌≤◌, List, length, Ok, Err}
-use Rattle.cdb_play.specs.Streams.{Stream, Takes, Fails, itself}
-use Rattle.cdb_play.specs.declared.fault.PlayFault.TheVariants.{Write}
+use Rattle.cdb_streams.specs.Streams.{Stream, Takes, Fails, itself}
+use Rattle.cdb_streams.specs.declared.fault.PlayFault.TheVariants.{Write}
 use Rattle.cdb_program.specs.Debugging.{DebugsFile}
 use Rattle.cdb_program.specs.Drawing.{DrawsFiles}
 use Rattle.cdb_program.specs.Explaining.{ExplainsFiles}

@@ -8,7 +8,7 @@ use crate::files::{Files, read_file};
 use crate::outside::Outside;
 use cdb_any_run::RunOfSetup;
 use cdb_debug::debug;
-use cdb_play::{Sink, Source};
+use cdb_streams::{Sink, Source};
 use std::alloc::Global;
 
 /// Holds a session on a run of a setup file over standard input and standard output, with this prompt before each line.

@@ -8,7 +8,7 @@ use crate::files::{Files, read_two};
 use crate::outside::Outside;
 use cdb_any_run::RunOfSetup;
 use cdb_draw::{StepAsked, draw};
-use cdb_play::{Bytes, Sink, Source};
+use cdb_streams::{Bytes, Sink, Source};
 use std::alloc::Global;
 
 /// Draws the run that a script file leaves on a setup file; with a step what led to it in full, and the rest pale.

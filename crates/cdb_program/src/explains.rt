@@ -8,7 +8,7 @@ use crate::files::{Files, read_two};
 use crate::outside::Outside;
 use cdb_any_run::RunOfSetup;
 use cdb_explain::explain;
-use cdb_play::{Bytes, Sink, Source};
+use cdb_streams::{Bytes, Sink, Source};
 use std::alloc::Global;
 
 /// Explains a step of the run that a script file leaves on a setup file: the `k`-th standing step of process `p`;

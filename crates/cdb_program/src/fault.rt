@@ -3,7 +3,7 @@
 ghost use Rattle.cdb_program.specs.Outcomes.{IsOfExplain, IsOfPlay, IsOfRace};
 
 use cdb_explain::ExplainFault;
-use cdb_play::{PlayFault, RaceFault};
+use cdb_streams::{PlayFault, RaceFault};
 use std::error::Error;
 use std::fmt;
 

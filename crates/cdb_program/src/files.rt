@@ -6,9 +6,10 @@ ghost use Rattle.cdb_program.specs.Reading.{both, many, single, file_names, Read
 ghost use Rattle.cdb_program.specs.Seating.{OpensSeat};
 
 use crate::fault::Fault;
+use cdb_base::limits::MAX_BYTES;
 use cdb_debug::Talk;
 use cdb_hall::Station;
-use cdb_play::{MAX_BYTES, PlayFault, ReadFault};
+use cdb_streams::{PlayFault, ReadFault};
 use std::alloc::Global;
 
 /// How many bytes of a file are read: one more than a setup or a script may have, which shows that it is too long.

@@ -4,7 +4,7 @@ ghost use Rattle.cdb_program.specs.Known.{Seen};
 
 use crate::files::Files;
 use cdb_debug::Streams;
-use cdb_play::{Sink, Source};
+use cdb_streams::{Sink, Source};
 use std::marker::Model;
 
 /// The outside of the program. Contracts see it as what is known of its files and streams.

@@ -7,7 +7,8 @@ use crate::fault::{Fault, of_play};
 use crate::files::{Files, read_two};
 use crate::outside::Outside;
 use cdb_any_run::RunOfSetup;
-use cdb_play::{HeldBytes, Sink, Source, play};
+use cdb_play::play;
+use cdb_streams::{HeldBytes, Sink, Source};
 use std::alloc::Global;
 
 /// The setup that a script from standard input is played on.

@@ -2,10 +2,12 @@
 
 ghost use Rattle.std.specs.Prelude.{◌≡◌};
 ghost use Rattle.cdb_program.specs.Reports.{fault_text, fault_status, IsReported};
-ghost use Rattle.cdb_play.specs.Streams.{Writes};
+ghost use Rattle.cdb_streams.specs.Streams.{Writes};
 
 use crate::fault::Fault;
-use cdb_play::{Failed, Sink, race_status_of, status_of, write_all, write_fault, write_race_fault};
+use cdb_streams::{
+    Failed, Sink, race_status_of, status_of, write_all, write_fault, write_race_fault,
+};
 
 /// The status after a step that doesn't stand.
 const NO_STEP: u8 = 1;

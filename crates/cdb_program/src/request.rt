@@ -14,7 +14,7 @@ use crate::races::race_files;
 use crate::reports::report;
 use crate::seats::perform_hall;
 use cdb_draw::StepAsked;
-use cdb_play::{PlayFault, Sink, Source, write_all};
+use cdb_streams::{PlayFault, Sink, Source, write_all};
 use std::alloc::Global;
 use std::sync::Wait;
 use std::thread::Threads;

@@ -12,7 +12,7 @@ use crate::reports::report;
 use cdb_any_run::RunOfSetup;
 use cdb_base::limits::MAX_SEATS;
 use cdb_hall::{Station, hold};
-use cdb_play::{PlayFault, Sink, Source};
+use cdb_streams::{PlayFault, Sink, Source};
 use std::alloc::Global;
 use std::sync::Wait;
 use std::thread::Threads;

@@ -1,11 +1,8 @@
 -- The texts of faults of a race.
 use Rattle.std.specs.Prelude.{ℕ, List, codes}
+use Rattle.cdb_start.specs.FaultTexts.{refused_start_text}
 use Rattle.cdb_race.specs.declared.threads.RaceFault.{RaceFault}
 use Rattle.cdb_race.specs.declared.threads.RaceFault.TheVariants as fault
-
--- the start of a thread was refused
-abbrev pub refused_start_text : List ℕ
-refused_start_text = codes "no thread"
 
 abbrev pub thread_fault_text : RaceFault → List ℕ
 thread_fault_text fault.NoMemory = codes "no memory"

@@ -8,10 +8,8 @@
 #![tactic(auto)]
 
 mod plan;
-mod starting;
 mod threads;
 mod worker;
 
 pub use plan::Script;
-pub use starting::{RefusedStart, start};
 pub use threads::{RaceFault, Raced, race};

@@ -9,12 +9,12 @@ ghost use Rattle.cdb_control.specs.Journal.{opened};
 ghost use Rattle.cdb_shared.specs.Seats.{fresh_seats, HasHeadline};
 
 use crate::plan::{Plan, Script};
-use crate::starting::{RefusedStart, start};
 use crate::worker::{Ran, SeatPromise, run};
 use cdb_control::{Control, Reply};
 use cdb_rules::Runs;
 use cdb_setup::Setup;
 use cdb_shared::{End, Gate, Seat, Shared};
+use cdb_start::{RefusedStart, start};
 use std::alloc::Global;
 use std::error::Error;
 use std::snapshot::Snapshot;

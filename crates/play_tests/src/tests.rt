@@ -6,7 +6,7 @@ mod plays;
 mod races;
 mod sessions;
 
-use cdb_play::{Failed, Sink, Source};
+use cdb_streams::{Failed, Sink, Source};
 
 const ONE_PROCESS: &str =
     r#"{"algorithm":"leader","processes":1,"quorum":1,"inputs":[7],"oracle":[[1]]}"#;

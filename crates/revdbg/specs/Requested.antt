@@ -10,7 +10,7 @@ use Rattle.cdb_arguments.specs.Plain.{IsNameAlone, IsPlayLine, IsRaceLine, IsExp
 use Rattle.cdb_arguments.specs.declared.request.Asked.{Asked}
 use Rattle.cdb_arguments.specs.declared.request.Asked.TheVariants as asked
 use Rattle.cdb_draw.specs.declared.script.StepAsked.{StepAsked}
-use Rattle.cdb_play.specs.declared.fault.PlayFault.TheVariants.{NoMemory}
+use Rattle.cdb_streams.specs.declared.fault.PlayFault.TheVariants.{NoMemory}
 use Rattle.cdb_program.specs.Known.{Seen}
 use Rattle.cdb_program.specs.Requests.{Performs}
 use Rattle.cdb_program.specs.declared.fault.Fault.TheVariants as fault

@@ -5,8 +5,8 @@ mod run;
 mod system_files;
 
 use cdb_debug::Streams;
-use cdb_play::{Input, Output};
 use cdb_program::Outside;
+use cdb_streams::{Input, Output};
 use run::begin;
 use std::io::IsTerminal;
 use std::process::ExitCode;

@@ -9,8 +9,8 @@ ghost use Rattle.revdbg.specs.Requested.{IsOutOfMemory, IsRefusal, IsRequestOf, 
 
 use cdb_arguments::{AskFault, Asked, ask_status, asked};
 use cdb_draw::StepAsked;
-use cdb_play::{PlayFault, Sink, Source};
 use cdb_program::{Fault, Files, Outside, Request, perform};
+use cdb_streams::{PlayFault, Sink, Source};
 use std::alloc::{AllocError, Global};
 use std::io;
 use std::io::ErrorKind;

@@ -2,8 +2,8 @@
 
 use cdb_debug::Streams;
 use cdb_hall::Station;
-use cdb_play::{Input, Output, ReadFault, read_up_to};
 use cdb_program::Files;
+use cdb_streams::{Input, Output, ReadFault, read_up_to};
 use std::alloc::Global;
 use std::fs::File;
 use std::io;

@@ -7,15 +7,13 @@ ghost use Rattle.cdb_commands.specs.ToldReply.{told};
 ghost use Rattle.cdb_race.specs.Races.{all_told};
 ghost use Rattle.cdb_text.specs.Texts.{text_of};
 ghost use Rattle.cdb_play.specs.Races.{seat_heading, seat_text, seats_text, end_text, verdict_text, have_one_value, text_with};
-ghost use Rattle.cdb_play.specs.Putting.{Puts};
-ghost use Rattle.cdb_play.specs.Endings.{pieces_ending};
-ghost use Rattle.cdb_play.specs.Written.{IsWritten, Only};
+ghost use Rattle.cdb_streams.specs.Putting.{Puts};
+ghost use Rattle.cdb_streams.specs.Endings.{pieces_ending};
+ghost use Rattle.cdb_streams.specs.Written.{IsWritten, Only};
 
-use crate::buffer::{Buffer, OutputFault};
-use crate::reply::put_reply;
-use crate::sink::Sink;
 use cdb_base::{Proc, Val};
 use cdb_control::{Control, Reply, Runs};
+use cdb_streams::{Buffer, OutputFault, Sink, put_reply};
 use itoa::Buffer as Digits;
 use std::alloc::Global;
 

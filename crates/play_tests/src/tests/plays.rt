@@ -2,7 +2,9 @@
 
 use super::{Halting, MAJORITY, Memory, ONE_PROCESS, writer};
 use cdb_any_run::RunOfSetup;
-use cdb_play::{Bytes, Input, MAX_BYTES, Output, PlayFault, Source, play};
+use cdb_base::limits::MAX_BYTES;
+use cdb_play::play;
+use cdb_streams::{Bytes, Input, Output, PlayFault, Source};
 use std::alloc::{AllocError, Global};
 use std::process::Abort;
 

@@ -2,8 +2,8 @@
 
 use super::streams::Visitor;
 use cdb_hall::Station;
-use cdb_play::ReadFault;
 use cdb_program::Files;
+use cdb_streams::ReadFault;
 use std::alloc::Global;
 
 /// A name and the bytes of the file of this name.

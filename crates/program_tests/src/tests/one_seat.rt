@@ -3,8 +3,8 @@
 use super::person::{Person, with_lines};
 use cdb_any_run::RunOfSetup;
 use cdb_debug::debug;
-use cdb_play::PlayFault;
 use cdb_setup::SetupFault;
+use cdb_streams::PlayFault;
 use std::alloc::Global;
 use std::process::Abort;
 

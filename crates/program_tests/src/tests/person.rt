@@ -1,7 +1,7 @@
 //! Whom sessions talk with.
 
 use cdb_debug::Talk;
-use cdb_play::Failed;
+use cdb_streams::Failed;
 use std::alloc::Global;
 
 /// Someone who gives at most `most` bytes when asked, takes at most `most`, and keeps what was written, with its length

@@ -1,7 +1,7 @@
 //! A reader and a writer over memory, which move few bytes a call, and fail once their good calls are over.
 
 use cdb_debug::Talk;
-use cdb_play::{Failed, Sink, Source};
+use cdb_streams::{Failed, Sink, Source};
 use std::alloc::Global;
 
 /// How many bytes a call moves at most.

@@ -1,6 +1,6 @@
 use Rattle.std.specs.List.{flat_map, range_with_len}
 use Rattle.cdb_draw.specs.Arrows.{arrow_at}
-use Rattle.cdb_play.specs.Buffers.{IsPut}
+use Rattle.cdb_streams.specs.Buffers.{IsPut}
 use Rattle.cdb_draw.proofs.picture.put_arrows.Given as goal
 
 abbrev pub invariant-loop-i : goal.invariant-loop-i

@@ -1,7 +1,7 @@
 use Rattle.std.proofs.Common.{List, ℕ, subst}
 use Rattle.std.proofs.lemmas.Result.{err_from_is_err_and}
-use Rattle.cdb_play.specs.Putting.{Puts}
-use Rattle.cdb_play.proofs.Putting.{puts_nothing}
+use Rattle.cdb_streams.specs.Putting.{Puts}
+use Rattle.cdb_streams.proofs.Putting.{puts_nothing}
 use Rattle.cdb_draw.proofs.picture.put_mark.Goals as goal
 
 pub returns-in_err-text : goal.returns-in_err-text

@@ -3,10 +3,10 @@ use Rattle.std.proofs.lemmas.Result.{err_from_is_err_and}
 use Rattle.cdb_base.specs.declared.event.Event.{Event}
 use Rattle.std.specs.List.{flat_map, range_with_len}
 use Rattle.cdb_draw.specs.EventMarks.{mark_at}
-use Rattle.cdb_play.specs.Buffers.{IsPut}
+use Rattle.cdb_streams.specs.Buffers.{IsPut}
 use Rattle.cdb_explain.proofs.Along.{next_along, next_valid}
-use Rattle.cdb_play.specs.declared.buffer.OutputFault.TheVariants.{NoMemory}
-use Rattle.cdb_play.proofs.Putting.{put_nothing, puts_nothing}
+use Rattle.cdb_streams.specs.declared.buffer.OutputFault.TheVariants.{NoMemory}
+use Rattle.cdb_streams.proofs.Putting.{put_nothing, puts_nothing}
 use Rattle.cdb_rules.specs.RunView.{RunView}
 use Rattle.cdb_setup.specs.Parts.{AreInRange}
 use Rattle.cdb_draw.proofs.Parted.{cut_one, put_one}

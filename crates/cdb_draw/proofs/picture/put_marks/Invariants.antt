@@ -1,7 +1,7 @@
 use Rattle.std.proofs.Common.{◌≡◌, take}
 use Rattle.std.specs.List.{flat_map, range_with_len}
 use Rattle.cdb_draw.specs.EventMarks.{mark_at}
-use Rattle.cdb_play.specs.Buffers.{IsPut}
+use Rattle.cdb_streams.specs.Buffers.{IsPut}
 use Rattle.cdb_rules.specs.Runs.{with_history}
 use Rattle.cdb_draw.proofs.picture.put_marks.Given as goal
 

@@ -5,7 +5,7 @@ use Rattle.cdb_draw.specs.Arrows.{arrow_at}
 use Rattle.cdb_draw.specs.EventMarks.{mark_at}
 use Rattle.cdb_draw.specs.Lanes.{lanes_text}
 use Rattle.cdb_draw.specs.Picture.{foot, head_text, positions}
-use Rattle.cdb_play.proofs.Putting.{put_last, put_more}
+use Rattle.cdb_streams.proofs.Putting.{put_last, put_more}
 use Rattle.cdb_rules.specs.RunView.{RunView}
 use Rattle.cdb_draw.proofs.Parted.{cut_before}
 use Rattle.cdb_draw.proofs.picture.put_picture.Goals as goal

@@ -1,6 +1,6 @@
 use Rattle.std.proofs.Common.{refl}
 use Rattle.std.proofs.lemmas.Result.{err_from_is_err_and}
-use Rattle.cdb_play.proofs.Putting.{left_written, written_at_end, fails_at_end}
+use Rattle.cdb_streams.proofs.Putting.{left_written, written_at_end, fails_at_end}
 use Rattle.cdb_draw.proofs.picture.write_pieces.Goals as goal
 
 pub returns-in_err-put_picture : goal.returns-in_err-put_picture

@@ -1,7 +1,7 @@
 use Rattle.std.proofs.Common.{sym, subst}
-use Rattle.cdb_play.specs.Left.{Leaves}
+use Rattle.cdb_streams.specs.Left.{Leaves}
 use Rattle.cdb_rules.specs.RunView.{RunView}
-use Rattle.cdb_play.proofs.Ending.{written_as}
+use Rattle.cdb_streams.proofs.Ending.{written_as}
 use Rattle.cdb_explain.proofs.Returned.{is_no_setup, reads_none, no_err}
 use Rattle.cdb_draw.specs.Drawn.{draw_ending, Draws, IsPictureFor}
 use Rattle.cdb_draw.proofs.Ended.{fault_left}

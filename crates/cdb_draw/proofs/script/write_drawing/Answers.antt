@@ -1,8 +1,8 @@
 use Rattle.std.proofs.Common.{List, Err, subst}
 use Rattle.std.proofs.lemmas.Result.{err_from_is_err_and}
 use Rattle.cdb_base.specs.declared.event.Event.{Event}
-use Rattle.cdb_play.proofs.Ending.{written_as}
-use Rattle.cdb_play.specs.Endings.{pieces_ending}
+use Rattle.cdb_streams.proofs.Ending.{written_as}
+use Rattle.cdb_streams.specs.Endings.{pieces_ending}
 use Rattle.cdb_rules.specs.RunView.{RunView}
 use Rattle.cdb_draw.specs.Drawn.{IsPictureFor, IsPositionFor}
 use Rattle.cdb_draw.specs.Picture.{IsPicture}

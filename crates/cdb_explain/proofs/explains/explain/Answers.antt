@@ -1,9 +1,9 @@
 use Rattle.std.proofs.Common.{sym, subst}
 use Rattle.cdb_rules.specs.RunView.{RunView}
-use Rattle.cdb_play.specs.Left.{Leaves}
+use Rattle.cdb_streams.specs.Left.{Leaves}
 use Rattle.cdb_explain.specs.Explained.{explain_ending, Explains}
 use Rattle.cdb_explain.specs.Explanations.{IsStepExplained}
-use Rattle.cdb_play.proofs.Ending.{written_as}
+use Rattle.cdb_streams.proofs.Ending.{written_as}
 use Rattle.cdb_explain.proofs.Returned.{fault_left, is_no_setup, reads_none, no_err}
 use Rattle.cdb_explain.proofs.explains.explain.Goals as goal
 

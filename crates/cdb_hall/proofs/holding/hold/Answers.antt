@@ -1,7 +1,7 @@
 use Rattle.std.proofs.Common.{sym, ap, subst, ◌∙◌, arith, length, List}
 use Rattle.cdb_control.specs.declared.control.Entry.{Entry}
-use Rattle.cdb_play.specs.Endings.{whole_ending}
-use Rattle.cdb_play.specs.Written.{IsWritten, Only}
+use Rattle.cdb_streams.specs.Endings.{whole_ending}
+use Rattle.cdb_streams.specs.Written.{IsWritten, Only}
 use Rattle.cdb_hall.specs.Halls.{journal_text}
 use Rattle.cdb_hall.specs.Holding.{IsFaultOfHall}
 use Rattle.cdb_hall.specs.Reports.{outcomes, failures_text, status_of}

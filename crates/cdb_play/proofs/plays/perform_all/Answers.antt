@@ -1,9 +1,9 @@
 use Rattle.std.proofs.Common.{refl, subst}
 use Rattle.std.proofs.lemmas.Result.{err_from_is_err_and}
 use Rattle.cdb_setup.specs.Parts.{Parts}
-use Rattle.cdb_play.specs.Putting.{Puts}
+use Rattle.cdb_streams.specs.Putting.{Puts}
 use Rattle.cdb_play.specs.Transcripts.{transcript}
-use Rattle.cdb_play.proofs.Putting.{puts_nothing}
+use Rattle.cdb_streams.proofs.Putting.{puts_nothing}
 use Rattle.cdb_play.proofs.plays.perform_all.Goals as goal
 
 pub returns-in_err-control : goal.returns-in_err-control

@@ -1,7 +1,7 @@
 use Rattle.std.proofs.Common.{◌≡◌, ap, subst, List, ℕ}
 use Rattle.cdb_commands.specs.ToldReply.{told}
 use Rattle.cdb_text.specs.Texts.{text_of}
-use Rattle.cdb_play.specs.Putting.{Puts}
+use Rattle.cdb_streams.specs.Putting.{Puts}
 use Rattle.cdb_play.specs.Transcripts.{reply_to}
 use Rattle.cdb_play.proofs.plays.perform_any.Goals as goal
 

@@ -1,6 +1,6 @@
-use Rattle.cdb_play.specs.Endings.{play_ending}
+use Rattle.cdb_streams.specs.Endings.{play_ending}
 use Rattle.cdb_play.specs.Transcripts.{Plays, RestsOnHeadline}
-use Rattle.cdb_play.proofs.Ending.{written_as}
+use Rattle.cdb_streams.proofs.Ending.{written_as}
 use Rattle.cdb_play.proofs.OnHeadline.{rests_on_headline}
 use Rattle.cdb_play.proofs.plays.play.Goals as goal
 

@@ -1,9 +1,10 @@
 use Rattle.std.proofs.Common.{Ok, refl, sym, subst}
 use Rattle.std.proofs.lemmas.Result.{err_from_is_err_and, IfErr-weaker}
 use Rattle.cdb_rules.specs.Agreement.{HasMajorityIfNeeded}
-use Rattle.cdb_play.specs.Endings.{race_ending}
+use Rattle.cdb_streams.specs.Endings.{race_ending}
 use Rattle.cdb_play.specs.Races.{IsFaultUngated, bytes_of, IsTextOnSetup, IsTextOfRace}
-use Rattle.cdb_play.proofs.Ending.{race_unwritten_setup, written_as}
+use Rattle.cdb_play.proofs.Ending.{race_unwritten_setup}
+use Rattle.cdb_streams.proofs.Ending.{written_as}
 use Rattle.cdb_play.proofs.RunningFaults.{of_race, of_setup_read}
 use Rattle.cdb_play.proofs.SeatsFit.{same_setup}
 use Rattle.cdb_play.proofs.races.race.Goals as goal

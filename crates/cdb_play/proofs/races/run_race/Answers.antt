@@ -3,35 +3,33 @@ use Rattle.std.proofs.lemmas.Result.{err_from_is_err_and}
 use Rattle.cdb_race.specs.Faults.{IsFaultBehind}
 use Rattle.cdb_race.specs.Races.{all_told}
 use Rattle.cdb_race.specs.declared.threads.RaceFault.{RaceFault as ThreadFault}
-use Rattle.cdb_play.specs.Endings.{Complete}
+use Rattle.cdb_streams.specs.Endings.{Complete}
 use Rattle.cdb_play.specs.Races.{last_decisions, EndsInAgreement}
 use Rattle.cdb_play.specs.RaceStages.{IsTextOfCommands}
-use Rattle.cdb_play.proofs.Ending.{only_as, race_unwritten_threads, race_wrote}
+use Rattle.cdb_play.proofs.Ending.{race_unwritten_threads, race_wrote}
+use Rattle.cdb_streams.proofs.Ending.{only_as}
 use Rattle.cdb_play.proofs.RaceTexts.{text_of_replies}
 use Rattle.cdb_play.proofs.RunningFaults.{of_threads, of_writing, not_of_threads, not_of_writing}
 use Rattle.cdb_play.proofs.Agreeing.{agrees, ends_in_agreement}
 use Rattle.cdb_play.proofs.races.run_race.Goals as goal
 
-pub returns-in_err-raced-clause-wrote : goal.returns-in_err-raced-clause-wrote
-returns-in_err-raced-clause-wrote g c =
-    let p = err_from_is_err_and c.from_residual-in_err-raced.result c.from_residual-in_err-raced.ensures.1 in
-    rw (p.1, p.2) (race_unwritten_threads g.W.Sink.stream (Unit {0}) _ _ c.in_err-raced.field-0.0)
+pub returns-in-Err-clause-wrote : goal.returns-in-Err-clause-wrote
+returns-in-Err-clause-wrote g c = rw c.of_threads.ensures (race_unwritten_threads g.W.Sink.stream (Unit {0}) _ _ c.in-Err.fault)
 
-pub returns-in_err-raced-clause-fault : goal.returns-in_err-raced-clause-fault
-returns-in_err-raced-clause-fault g c =
-    let p = err_from_is_err_and c.from_residual-in_err-raced.result c.from_residual-in_err-raced.ensures.1 in
-    let said = c.in_err-raced.ensures in
-    rw (p.1, p.2)
-    (of_threads g.row.T.Denot g.T.Runs.rules g.G.Gate.heard g.G.Gate.passes c.args.gates.items c.args.setup c.args.turns c.args.scripts.now c.in_err-raced.field-0.0 said.fault (λ is. said.most (ap (λ (f : ThreadFault). Err f) is)) said.told)
+pub returns-in-Err-clause-fault : goal.returns-in-Err-clause-fault
+returns-in-Err-clause-fault g c =
+    let said = c.in-Err.ensures in
+    rw c.of_threads.ensures
+    (of_threads g.row.T.Denot g.T.Runs.rules g.G.Gate.heard g.G.Gate.passes c.args.gates.items c.args.setup c.args.turns c.args.scripts.now c.in-Err.fault said.fault (λ is. said.most (ap (λ (f : ThreadFault). Err f) is)) said.told)
 
 pub returns-in_err-written-clause-wrote : goal.returns-in_err-written-clause-wrote
 returns-in_err-written-clause-wrote g c =
     let p = err_from_is_err_and c.from_residual-in_err-written.result c.from_residual-in_err-written.ensures.1 in
-    let raced = c.in_ok-raced.raced in
+    let raced = c.in-Ok.raced in
     let same =
-    text_of_replies g.T.Runs.rules c.args.setup c.args.turns c.args.scripts.now raced.control raced.replies.items c.deref.result.now c.from-processes.result c.deref.ensures.value (c.from-processes.ensures ∙ c.n.ensures.value) c.in_ok-raced.ensures.raced in
+    text_of_replies g.T.Runs.rules c.args.setup c.args.turns c.args.scripts.now raced.control raced.replies.items c.deref.result.now c.from-processes.result c.deref.ensures.value (c.from-processes.ensures ∙ c.n.ensures.value) c.in-Ok.ensures.raced in
     rw (p.1, p.2)
-    (race_wrote g.W.Sink.stream (Unit {0}) (IsTextOfCommands g.T.Runs.rules c.args.setup c.args.turns c.args.scripts.now) c.in_err-written.field-0.0 c.args.out.now c.write_race-written.new.out _ (raced.control, all_told raced.replies.items, c.in_ok-raced.ensures.raced, same) (rw c.in_err-written.was at c.write_race-written.ensures))
+    (race_wrote g.W.Sink.stream (Unit {0}) (IsTextOfCommands g.T.Runs.rules c.args.setup c.args.turns c.args.scripts.now) c.in_err-written.field-0.0 c.args.out.now c.write_race-written.new.out _ (raced.control, all_told raced.replies.items, c.in-Ok.ensures.raced, same) (rw c.in_err-written.was at c.write_race-written.ensures))
 
 pub returns-in_err-written-clause-fault : goal.returns-in_err-written-clause-fault
 returns-in_err-written-clause-fault g c =
@@ -40,32 +38,25 @@ returns-in_err-written-clause-fault g c =
 
 pub returns-clause-wrote : goal.returns-clause-wrote
 returns-clause-wrote g c =
-    let raced = c.in_ok-raced.raced in
+    let raced = c.in-Ok.raced in
     let same =
-    text_of_replies g.T.Runs.rules c.args.setup c.args.turns c.args.scripts.now raced.control raced.replies.items c.deref.result.now c.from-processes.result c.deref.ensures.value (c.from-processes.ensures ∙ c.n.ensures.value) c.in_ok-raced.ensures.raced in
-    only_as g.W.Sink.stream Complete c.args.out.now c.write_race-written.new.out _ (IsTextOfCommands g.T.Runs.rules c.args.setup c.args.turns c.args.scripts.now) (raced.control, all_told raced.replies.items, c.in_ok-raced.ensures.raced, same) (rw c.in_ok-written.was at c.write_race-written.ensures)
+    text_of_replies g.T.Runs.rules c.args.setup c.args.turns c.args.scripts.now raced.control raced.replies.items c.deref.result.now c.from-processes.result c.deref.ensures.value (c.from-processes.ensures ∙ c.n.ensures.value) c.in-Ok.ensures.raced in
+    only_as g.W.Sink.stream Complete c.args.out.now c.write_race-written.new.out _ (IsTextOfCommands g.T.Runs.rules c.args.setup c.args.turns c.args.scripts.now) (raced.control, all_told raced.replies.items, c.in-Ok.ensures.raced, same) (rw c.in_ok-written.was at c.write_race-written.ensures)
 
 pub returns-clause-agree : goal.returns-clause-agree
 returns-clause-agree g c = λ majority.
-    let raced = c.in_ok-raced.raced in
-    let said = c.in_ok-raced.ensures in
+    let raced = c.in-Ok.raced in
+    let said = c.in-Ok.ensures in
     only_as g.W.Sink.stream Complete c.args.out.now c.write_race-written.new.out _ EndsInAgreement
     (ends_in_agreement _ (last_decisions g.T.Runs.rules raced.control) (agrees g.T.Runs.rules g.T.Runs.same_state raced.control c.args.setup said.raced.setup_is said.headline majority)) (rw c.in_ok-written.was at c.write_race-written.ensures)
-
-pub returns-in_err-raced-clause-agree : goal.returns-in_err-raced-clause-agree
-returns-in_err-raced-clause-agree g c = λ majority.
-    let p = err_from_is_err_and c.from_residual-in_err-raced.result c.from_residual-in_err-raced.ensures.1 in
-    rw p.1 tt
 
 pub returns-in_err-written-clause-agree : goal.returns-in_err-written-clause-agree
 returns-in_err-written-clause-agree g c = λ majority.
     let p = err_from_is_err_and c.from_residual-in_err-written.result c.from_residual-in_err-written.ensures.1 in
     rw p.1 tt
 
-pub returns-in_err-raced-clause-passes : goal.returns-in_err-raced-clause-passes
-returns-in_err-raced-clause-passes g c = λ all.
-    let p = err_from_is_err_and c.from_residual-in_err-raced.result c.from_residual-in_err-raced.ensures.1 in
-    rw (p.1, p.2) (not_of_threads c.in_err-raced.field-0.0 (c.in_err-raced.ensures.passes all))
+pub returns-in-Err-clause-passes : goal.returns-in-Err-clause-passes
+returns-in-Err-clause-passes g c = λ all. rw c.of_threads.ensures (not_of_threads c.in-Err.fault (c.in-Err.ensures.passes all))
 
 pub returns-in_err-written-clause-passes : goal.returns-in_err-written-clause-passes
 returns-in_err-written-clause-passes g c = λ all.

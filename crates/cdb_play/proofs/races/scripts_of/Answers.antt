@@ -1,6 +1,6 @@
 use Rattle.std.proofs.Common.{◌≡◌, ◌+◌, [], ◌∷◌, ◌++◌, length, take, drop, rules, arith}
 use Rattle.cdb_play.specs.Races.{bytes_of}
-use Rattle.cdb_play.specs.Scripts.{IsScript}
+use Rattle.cdb_streams.specs.Scripts.{IsScript}
 use Rattle.cdb_play.proofs.ScriptsRead.{bad_script, first_so_far, one_script, script_at, one_more_taken, so_many}
 use Rattle.cdb_play.proofs.races.scripts_of.Goals as goal
 

@@ -1,5 +1,5 @@
 use Rattle.std.proofs.Common.{◌≡◌, ◌∙◌, ℕ, List, Some, Bor, ap, refl, inl, inr, ◌∷◌, []}
-use Rattle.cdb_play.specs.declared.input.Bytes.{Bytes}
+use Rattle.cdb_streams.specs.declared.input.Bytes.{Bytes}
 use Rattle.std.proofs.lemmas.Result.{err_from_is_err_and}
 use Rattle.cdb_program.proofs.Explained.{explain_seen}
 use Rattle.cdb_program.specs.Known.{in_memory}

@@ -1,4 +1,4 @@
-use Rattle.cdb_play.specs.declared.sink.Failed.{Failed}
+use Rattle.cdb_streams.specs.declared.sink.Failed.{Failed}
 use Rattle.cdb_program.proofs.Seen.{stream_writes}
 use Rattle.cdb_program.proofs.reports.report.Goals as goal
 

@@ -4,8 +4,8 @@ use Rattle.std.proofs.lemmas.Result.{err_from_is_err_and}
 use Rattle.cdb_commands.specs.ToldReply.{told}
 use Rattle.cdb_commands.specs.declared.reply.Reply.{Reply}
 use Rattle.cdb_text.specs.Texts.{text_of}
-use Rattle.cdb_play.specs.Buffers.{IsPut}
-use Rattle.cdb_play.proofs.Putting.{put_nothing, put_more, cut_short}
+use Rattle.cdb_streams.specs.Buffers.{IsPut}
+use Rattle.cdb_streams.proofs.Putting.{put_nothing, put_more, cut_short}
 use Rattle.cdb_play.proofs.RaceGrowth.{texts, one_reply, parted_replies}
 use Rattle.cdb_play.proofs.races.text.put_replies.Goals as goal
 

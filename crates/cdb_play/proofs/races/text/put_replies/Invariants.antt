@@ -1,5 +1,5 @@
 use Rattle.std.proofs.Common.{take}
-use Rattle.cdb_play.specs.Buffers.{IsPut}
+use Rattle.cdb_streams.specs.Buffers.{IsPut}
 use Rattle.cdb_play.proofs.RaceGrowth.{texts}
 use Rattle.cdb_play.proofs.races.text.put_replies.Given as goal
 

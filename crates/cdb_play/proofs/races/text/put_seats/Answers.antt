@@ -4,9 +4,9 @@ use Rattle.std.proofs.lemmas.Result.{err_from_is_err_and}
 use Rattle.cdb_commands.specs.ToldReply.{told}
 use Rattle.cdb_commands.specs.declared.reply.Reply.{Reply}
 use Rattle.cdb_race.specs.Races.{all_told}
-use Rattle.cdb_play.specs.Buffers.{IsPut}
+use Rattle.cdb_streams.specs.Buffers.{IsPut}
 use Rattle.cdb_play.specs.Races.{seat_text, seats_text}
-use Rattle.cdb_play.proofs.Putting.{put_nothing, put_more, cut_short}
+use Rattle.cdb_streams.proofs.Putting.{put_nothing, put_more, cut_short}
 use Rattle.cdb_play.proofs.RaceGrowth.{one_seat, parted_seats}
 use Rattle.cdb_play.proofs.races.text.put_seats.Goals as goal
 

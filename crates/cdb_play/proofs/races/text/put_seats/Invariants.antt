@@ -1,6 +1,6 @@
 use Rattle.std.proofs.Common.{◌≡◌, ◌+◌, take}
 use Rattle.cdb_race.specs.Races.{all_told}
-use Rattle.cdb_play.specs.Buffers.{IsPut}
+use Rattle.cdb_streams.specs.Buffers.{IsPut}
 use Rattle.cdb_play.specs.Races.{seats_text}
 use Rattle.cdb_play.proofs.races.text.put_seats.Given as goal
 

@@ -1,0 +1,16 @@
+-- ---- what the public contracts name
+pub mod Streams
+pub mod Lines
+pub mod Scripts
+pub mod Faults
+pub mod RaceFaults
+pub mod FaultTexts
+pub mod Statuses
+pub mod Endings
+pub mod Written
+pub mod Left
+pub mod PlayStages
+pub mod Buffers
+pub mod Putting
+-- ---- what the code keeps for itself
+pub mod Pieces

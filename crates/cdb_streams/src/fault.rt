@@ -1,0 +1,203 @@
+//! Why a play or a race ended early.
+
+ghost use Rattle.std.specs.Prelude.{Some, codes};
+ghost use Rattle.cdb_streams.specs.FaultTexts.{play_fault_text, race_fault_text};
+
+use crate::buffer::OutputFault;
+use crate::script::ScriptFault;
+use crate::source::ReadFault;
+use cdb_base::NoMemory;
+use cdb_setup::SetupFault;
+use cdb_start::RefusedStart;
+use cdb_text::LineFault;
+use std::alloc::AllocError;
+use std::error::Error;
+use std::fmt;
+
+/// Why a play ended early. Scripts and lines count from 1, and a play has one script.
+#[derive(Clone, Copy, Debug, PartialEq, Eq)]
+pub enum PlayFault {
+    /// The setup's first fault, which is never out of memory.
+    Setup(SetupFault),
+    /// Of this script this line is no command: the first such line, with its first fault.
+    Line(usize, usize, LineFault),
+    /// This script has more than 1,048,576 bytes.
+    ScriptTooLong(usize),
+    /// The reader failed in this call.
+    Read,
+    /// The writer failed in this call.
+    Write,
+    NoMemory,
+}
+
+/// Why a race ended early. Scripts, lines and seats count from 1.
+#[derive(Clone, Copy, Debug, PartialEq, Eq)]
+pub enum RaceFault {
+    /// The setup's first fault, which is never out of memory.
+    Setup(SetupFault),
+    /// Of this script this line is no command: the first such line, with its first fault.
+    Line(usize, usize, LineFault),
+    /// This script has more than 1,048,576 bytes.
+    ScriptTooLong(usize),
+    /// The writer failed in this call.
+    Write,
+    NoMemory,
+    /// The journal took no further entry.
+    JournalFull,
+    /// The start of a thread was refused.
+    Spawn(RefusedStart),
+    /// The gate of this seat stopped its calls.
+    Stopped(u8),
+}
+
+/// The text that the program reports, without the end of the line; the program names what could not be read, which here is the
+/// input.
+impl fmt::Display for PlayFault {
+    ghost output = { λ fault. Some (play_fault_text fault (codes "the input")) };
+
+    fn fmt<W: fmt::Write>(&self, f: &mut fmt::Formatter<W>) -> fmt::Result {
+        match self {
+            PlayFault::Setup(fault) => write!(f, "{fault}"),
+            PlayFault::Line(script, line, fault) => write!(
+                f,
+                "script {script} line {line} {fault}"
+            ),
+            PlayFault::ScriptTooLong(script) => write!(f, "script {script} too long"),
+            PlayFault::Read => f.write_str("cannot read the input"),
+            PlayFault::Write => f.write_str("output failed"),
+            PlayFault::NoMemory => f.write_str("no memory"),
+        }
+    }
+}
+
+impl Error for PlayFault {}
+
+/// The text that the program reports, without the end of the line.
+impl fmt::Display for RaceFault {
+    ghost output = { λ fault. Some (race_fault_text fault) };
+
+    fn fmt<W: fmt::Write>(&self, f: &mut fmt::Formatter<W>) -> fmt::Result {
+        match self {
+            RaceFault::Setup(fault) => write!(f, "{fault}"),
+            RaceFault::Line(script, line, fault) => write!(
+                f,
+                "script {script} line {line} {fault}"
+            ),
+            RaceFault::ScriptTooLong(script) => write!(f, "script {script} too long"),
+            RaceFault::Write => f.write_str("output failed"),
+            RaceFault::NoMemory => f.write_str("no memory"),
+            RaceFault::JournalFull => f.write_str("journal full"),
+            RaceFault::Spawn(_) | RaceFault::Stopped(_) => f.write_str("no thread"),
+        }
+    }
+}
+
+impl Error for RaceFault {}
+
+impl From<SetupFault> for PlayFault {
+    ghost use Rattle.std.specs.Prelude.{◌≡◌};
+    ghost use Rattle.cdb_streams.specs.Faults.{of_setup};
+
+    ghost from_gives = { λ fault made. made ≡ of_setup fault };
+
+    fn from(fault: SetupFault) -> Self {
+        match fault {
+            SetupFault::NoMemory => PlayFault::NoMemory,
+            fault => PlayFault::Setup(fault),
+        }
+    }
+}
+
+/// A fault of the only script.
+impl From<ScriptFault> for PlayFault {
+    ghost use Rattle.std.specs.Prelude.{◌≡◌};
+    ghost use Rattle.cdb_streams.specs.Faults.{of_script};
+
+    ghost from_gives = { λ fault made. made ≡ of_script fault };
+
+    fn from(fault: ScriptFault) -> Self {
+        match fault {
+            ScriptFault::Line(line, fault) => PlayFault::Line(1, line, fault),
+            ScriptFault::TooLong => PlayFault::ScriptTooLong(1),
+            ScriptFault::NoMemory => PlayFault::NoMemory,
+        }
+    }
+}
+
+impl From<ReadFault> for PlayFault {
+    ghost use Rattle.std.specs.Prelude.{◌≡◌};
+    ghost use Rattle.cdb_streams.specs.Faults.{of_reading};
+
+    ghost from_gives = { λ fault made. made ≡ of_reading fault };
+
+    fn from(fault: ReadFault) -> Self {
+        match fault {
+            ReadFault::Failed => PlayFault::Read,
+            ReadFault::NoMemory => PlayFault::NoMemory,
+        }
+    }
+}
+
+impl From<NoMemory> for PlayFault {
+    ghost use Rattle.std.specs.Prelude.{◌≡◌};
+    ghost use Rattle.cdb_streams.specs.declared.fault.PlayFault.TheVariants.{NoMemory as no_memory};
+
+    ghost from_gives = { λ _ made. made ≡ no_memory };
+
+    fn from(_error: NoMemory) -> Self {
+        PlayFault::NoMemory
+    }
+}
+
+impl From<OutputFault> for PlayFault {
+    ghost use Rattle.std.specs.Prelude.{◌≡◌};
+    ghost use Rattle.cdb_streams.specs.Faults.{of_output};
+
+    ghost from_gives = { λ fault made. made ≡ of_output fault };
+
+    fn from(fault: OutputFault) -> Self {
+        match fault {
+            OutputFault::Write => PlayFault::Write,
+            OutputFault::NoMemory => PlayFault::NoMemory,
+        }
+    }
+}
+
+impl From<SetupFault> for RaceFault {
+    ghost use Rattle.std.specs.Prelude.{◌≡◌};
+    ghost use Rattle.cdb_streams.specs.RaceFaults.{race_fault_of_setup};
+
+    ghost from_gives = { λ fault made. made ≡ race_fault_of_setup fault };
+
+    fn from(fault: SetupFault) -> Self {
+        match fault {
+            SetupFault::NoMemory => RaceFault::NoMemory,
+            fault => RaceFault::Setup(fault),
+        }
+    }
+}
+
+impl From<OutputFault> for RaceFault {
+    ghost use Rattle.std.specs.Prelude.{◌≡◌};
+    ghost use Rattle.cdb_streams.specs.RaceFaults.{race_fault_of_output};
+
+    ghost from_gives = { λ fault made. made ≡ race_fault_of_output fault };
+
+    fn from(fault: OutputFault) -> Self {
+        match fault {
+            OutputFault::Write => RaceFault::Write,
+            OutputFault::NoMemory => RaceFault::NoMemory,
+        }
+    }
+}
+
+impl From<AllocError> for RaceFault {
+    ghost use Rattle.std.specs.Prelude.{◌≡◌};
+    ghost use Rattle.cdb_streams.specs.declared.fault.RaceFault.TheVariants.{NoMemory as no_memory};
+
+    ghost from_gives = { λ _ made. made ≡ no_memory };
+
+    fn from(_error: AllocError) -> Self {
+        RaceFault::NoMemory
+    }
+}

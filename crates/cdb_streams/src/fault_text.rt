@@ -1,0 +1,142 @@
+//! The lines that report faults. They are written without allocating.
+
+ghost use Rattle.std.specs.Prelude.{◌≡◌, ◌∷◌, [], Some};
+ghost use Rattle.cdb_setup.specs.Numbers.{numbered_text, setup_detail, setup_fault_text};
+ghost use Rattle.cdb_streams.specs.FaultTexts.{as_line, play_fault_text, race_fault_text, script_line_text, long_script_text};
+ghost use Rattle.cdb_streams.specs.Pieces.{pieces_text};
+ghost use Rattle.cdb_streams.specs.Streams.{Writes};
+
+use crate::fault::{PlayFault, RaceFault};
+use crate::piece::Piece::{Number, Text};
+use crate::piece::{Piece, write_each};
+use crate::sink::{Failed, Sink};
+use cdb_setup::SetupFault;
+use cdb_text::LineFault;
+
+const NO_MEMORY: &str = "no memory";
+
+const OUTPUT_FAILED: &str = "output failed";
+
+const END: Piece<'static> = Text("\n");
+
+/// What a fault of a setup carries: after a space its key, its position, or its process and position.
+fn detail_of(
+    fault: &SetupFault,
+) -> (
+    Piece<'static>,
+    Piece<'static>,
+    Piece<'static>,
+    Piece<'static>,
+)
+    ensures { pieces_text (result.0 ∷ result.1 ∷ result.2 ∷ result.3 ∷ [])
+        ≡ setup_detail fault.now }
+{
+    let (space, nothing) = (Text(" "), Text(""));
+    match fault {
+        SetupFault::Missing(key) => (space, Text(key.name()), nothing, nothing),
+        SetupFault::BadInput(position) => (space, Number(*position), nothing, nothing),
+        SetupFault::BadOracle(process, position) => (
+            space,
+            Number(*process),
+            space,
+            Number(*position),
+        ),
+        _ => (nothing, nothing, nothing, nothing),
+    }
+}
+
+/// A fault of a setup that has this number.
+fn write_numbered<W: Sink>(number: u8, fault: &SetupFault, err: &mut W) -> Result<(), Failed>
+    ensures { Writes W.stream result err.old err.new
+        (as_line (numbered_text (Some number) fault.now)) }
+{
+    let number = Number(usize::from(number));
+    let name = Text(fault.name());
+    let (first, second, third, fourth) = detail_of(fault);
+    let pieces = [
+        Text("setup fault "),
+        number,
+        Text(" "),
+        name,
+        first,
+        second,
+        third,
+        fourth,
+        END,
+    ];
+    write_each(err, &pieces)
+}
+
+fn write_setup_fault<W: Sink>(fault: &SetupFault, err: &mut W) -> Result<(), Failed>
+    ensures { Writes W.stream result err.old err.new (as_line (setup_fault_text fault.now)) }
+{
+    match fault.number() {
+        Some(number) => write_numbered(number, fault, err),
+        None => write_each(err, &[Text(NO_MEMORY), END]),
+    }
+}
+
+fn write_line_fault<W: Sink>(
+    script: usize,
+    line: usize,
+    fault: LineFault,
+    err: &mut W,
+) -> Result<(), Failed>
+    ensures { Writes W.stream result err.old err.new
+        (as_line (script_line_text script line fault)) }
+{
+    let (script, line) = (Number(script), Number(line));
+    let (number, name) = (Number(usize::from(fault.number())), Text(fault.name()));
+    let pieces = [
+        Text("script "),
+        script,
+        Text(" line "),
+        line,
+        Text(" fault "),
+        number,
+        Text(" "),
+        name,
+        END,
+    ];
+    write_each(err, &pieces)
+}
+
+fn write_too_long<W: Sink>(script: usize, err: &mut W) -> Result<(), Failed>
+    ensures { Writes W.stream result err.old err.new (as_line (long_script_text script)) }
+{
+    write_each(
+        err,
+        &[Text("script "), Number(script), Text(" too long"), END],
+    )
+}
+
+/// Writes the line that reports a fault. The name is that of what could not be read. Where the writer fails, what
+/// was written is a beginning of the line.
+pub fn write_fault<W: Sink>(fault: &PlayFault, name: &str, err: &mut W) -> Result<(), Failed>
+    ensures { Writes W.stream result err.old err.new
+        (as_line (play_fault_text fault.now name.now)) }
+{
+    match fault {
+        PlayFault::Setup(fault) => write_setup_fault(fault, err),
+        PlayFault::Line(script, line, fault) => write_line_fault(*script, *line, *fault, err),
+        PlayFault::ScriptTooLong(script) => write_too_long(*script, err),
+        PlayFault::Read => write_each(err, &[Text("cannot read "), Text(name), END]),
+        PlayFault::Write => write_each(err, &[Text(OUTPUT_FAILED), END]),
+        PlayFault::NoMemory => write_each(err, &[Text(NO_MEMORY), END]),
+    }
+}
+
+/// Writes the line that reports a fault of a race. Where the writer fails, what was written is a beginning of it.
+pub fn write_race_fault<W: Sink>(fault: &RaceFault, err: &mut W) -> Result<(), Failed>
+    ensures { Writes W.stream result err.old err.new (as_line (race_fault_text fault.now)) }
+{
+    match fault {
+        RaceFault::Setup(fault) => write_setup_fault(fault, err),
+        RaceFault::Line(script, line, fault) => write_line_fault(*script, *line, *fault, err),
+        RaceFault::ScriptTooLong(script) => write_too_long(*script, err),
+        RaceFault::Write => write_each(err, &[Text(OUTPUT_FAILED), END]),
+        RaceFault::NoMemory => write_each(err, &[Text(NO_MEMORY), END]),
+        RaceFault::JournalFull => write_each(err, &[Text("journal full"), END]),
+        RaceFault::Spawn(_) | RaceFault::Stopped(_) => write_each(err, &[Text("no thread"), END]),
+    }
+}

@@ -1,0 +1,136 @@
+//! The run that a script leaves: its commands are carried out one after the other, without their replies.
+
+ghost use Rattle.std.specs.Prelude.{◌≡◌, ◌≢◌, ◌<◌, ◌≤◌, [], length, Err, IfErr, IfOk, OnOk};
+ghost use Rattle.cdb_base.specs.declared.limits.TheConstants.{MAX_ENTRIES};
+ghost use Rattle.cdb_control.specs.Headline.{Headline};
+ghost use Rattle.cdb_control.specs.Journal.{extended};
+ghost use Rattle.cdb_setup.specs.declared.fault.SetupFault.{SetupFault as SetupFaultName};
+ghost use Rattle.cdb_streams.specs.Endings.{whole_ending};
+ghost use Rattle.cdb_streams.specs.Faults.{IsFaultOfPlay};
+ghost use Rattle.cdb_streams.specs.Left.{LeavesControl};
+ghost use Rattle.cdb_streams.specs.PlayStages.{HasCarriedOut};
+ghost use Rattle.cdb_streams.specs.Streams.{FailsWhere};
+ghost use Rattle.cdb_streams.specs.Written.{IsWritten, Only};
+
+use crate::buffer::{Buffer, OutputFault};
+use crate::fault::PlayFault;
+use crate::script::read_commands;
+use crate::sink::Sink;
+use crate::source::Source;
+use cdb_base::NoMemory;
+use cdb_control::{CallFault, Command, Control, Runs};
+use cdb_setup::Setup;
+use std::alloc::Global;
+
+/// A control with one seat in which nothing has happened, with room for this many commands: so their journal is
+/// allocated once.
+pub fn open_for<T: Runs>(alloc: Global, setup: Setup, count: u32) -> Result<Control<T>, NoMemory>
+    requires { count ≤ MAX_ENTRIES }
+    ensures { IfOk result (HasCarriedOut setup []) }
+{
+    let Ok(mut control) = Control::<T>::open(alloc, setup, 1) else {
+        return Err(NoMemory);
+    };
+    match control.reserve(alloc, 1, count) {
+        Ok(()) => Ok(control),
+        Err(fault) => {
+            control.close();
+            Err(fault)
+        }
+    }
+}
+
+/// Carries a command out for the only seat.
+fn carry_out<T: Runs>(
+    alloc: Global,
+    control: &mut Control<T>,
+    command: Command,
+) -> Result<(), NoMemory>
+    requires seats { control.old.seats ≡ 1 }
+    requires room { length control.old.journal < MAX_ENTRIES }
+    ensures { OnOk result (control.new ≡ extended T.rules control.old 1 command) }
+{
+    match control.execute(alloc, 1, command) {
+        Ok(reply) => {
+            reply.close();
+            Ok(())
+        }
+        Err(CallFault::JournalFull) => unreachable!(),
+        Err(CallFault::NoMemory) => Err(NoMemory),
+    }
+}
+
+/// Carries the commands out, one after the other, for the only seat of a control in which nothing has happened.
+fn carry_out_each<T: Runs>(
+    alloc: Global,
+    control: &mut Control<T>,
+    commands: &[Command],
+) -> Result<(), NoMemory>
+    requires few { length commands.now < MAX_ENTRIES }
+    requires new { HasCarriedOut control.old.setup [] control.old }
+    ensures { OnOk result (HasCarriedOut control.old.setup commands.now control.new) }
+{
+    for command in commands {
+        carry_out(alloc, control, *command)?;
+    }
+    Ok(())
+}
+
+/// A control that has carried the commands out, one after the other.
+fn control_after<T: Runs>(
+    alloc: Global,
+    setup: Setup,
+    commands: &[Command],
+) -> Result<Control<T>, NoMemory>
+    requires { length commands.now < MAX_ENTRIES }
+    ensures { IfOk result (HasCarriedOut setup commands.now) }
+{
+    let mut control = open_for(alloc, setup, commands.len() as u32)?;
+    match carry_out_each(alloc, &mut control, commands) {
+        Ok(()) => Ok(control),
+        Err(fault) => {
+            control.close();
+            Err(fault)
+        }
+    }
+}
+
+/// The control that a script leaves: its commands were carried out by seat 1 of one seat, as `play` does, and no
+/// reply was written.
+///
+/// The setup is read first, then the whole script, then all its lines. The faults are those of a play, without
+/// `Write`; after `Setup` the script is not read, and `Read` comes only where the reader failed in this call.
+pub fn left_by<T: Runs, R: Source>(
+    alloc: Global,
+    setup: &[u8],
+    script: &mut R,
+) -> Result<Control<T>, PlayFault>
+    ensures left { IfOk result
+        (LeavesControl T.rules setup.now (R.stream script.old) (R.stream script.new)) }
+    ensures headline { IfOk result (λ control.
+        Headline T.rules T.same_state control.setup control.seats control.journal) }
+    ensures fault { IfErr result
+        (IsFaultOfPlay setup.now (R.stream script.old) (R.stream script.new)) }
+    ensures written { result ≢ Err PlayFault.Write }
+    ensures unread { (fault : SetupFaultName) → result ≡ Err (PlayFault.Setup fault) →
+        script.new ≡ script.old }
+    ensures read { FailsWhere R.stream (result ≡ Err PlayFault.Read) script.old script.new }
+{
+    let setup = Setup::read(alloc, setup)?;
+    let commands = read_commands(alloc, script)?;
+    let control = control_after(alloc, setup, commands.as_slice())?;
+    // Its clause says that the headline holds of the journal.
+    let _journal = control.journal();
+    Ok(control)
+}
+
+/// Writes a text, in pieces of 65,536 bytes. After `Write` what was written is a beginning of the text, and
+/// after `NoMemory` nothing was.
+pub fn write_text<W: Sink>(alloc: Global, text: &[u8], out: &mut W) -> Result<(), OutputFault>
+    ensures { IsWritten W.stream (whole_ending result) out.old out.new (Only text.now) }
+{
+    let mut buffer = Buffer::new(alloc)?;
+    buffer.put(out, text)?;
+    buffer.flush(out)?;
+    Ok(())
+}
