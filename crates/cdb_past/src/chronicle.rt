@@ -1,4 +1,4 @@
-//! What stands in a run, and the runs of which that alone can be kept.
+//! What stands in a run, and the trait of a run that can be turned into it.
 
 ghost use Rattle.std.specs.Prelude.{◌≡◌};
 ghost use Rattle.cdb_rules.specs.ByRules.{IsInOrder};
@@ -46,7 +46,7 @@ impl Chronicle {
     }
 }
 
-/// A run of which what stands in it can be kept alone.
+/// A run that can be turned into what stands in it.
 pub trait Chronicled: Runs {
     /// What stands in the run: each event was enabled in its turn. All else of the run is given up.
     fn into_chronicle(self) -> Chronicle
