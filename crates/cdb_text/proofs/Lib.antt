@@ -11,6 +11,7 @@ pub mod Short
 pub mod States
 pub mod Table
 pub mod Unique
+pub mod Utf8
 pub mod Whole
 pub mod Written
 pub mod RefusalNames

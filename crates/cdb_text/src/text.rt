@@ -3,29 +3,28 @@
 ghost use Rattle.std.specs.Prelude.{◌≡◌, ◌++◌, IfOk, codes, decimal};
 ghost use Rattle.cdb_text.specs.Pushes.{Pushes};
 ghost use Rattle.cdb_commands.specs.ToldReply.{told, as_reply};
-ghost use Rattle.cdb_text.specs.Events.{event_text};
 ghost use Rattle.cdb_base.specs.NameTexts.{name_text};
 ghost use Rattle.cdb_text.specs.Reports.{causes_text};
-ghost use Rattle.cdb_text.specs.Texts.{decides_text, break_text, text_of};
+ghost use Rattle.cdb_text.specs.Texts.{decides_text, text_of};
 
+mod bytes;
 mod command;
 mod event;
-mod name;
 mod number;
-mod refusal;
 mod report;
 mod short;
 mod short_report;
 
-use cdb_base::{Event, NoMemory, StepId, Val};
+use bytes::push_bytes;
+use cdb_base::{NoMemory, StepId, Val};
 use cdb_commands::{EventReply, Reply};
 pub use command::push_command;
 pub use event::push_event;
-use name::push_name;
+use event::push_name;
 pub use number::push_number;
-use refusal::push_refusal;
 pub use report::{push_causes, push_payload, push_value};
 use report::{push_decisions, push_history, push_mail, push_process, push_registers};
+use short::write_decides;
 pub use short::{MOST_BYTES, MOST_CAUSES, MOST_REPORT, write_because, write_event_reply};
 pub use short_report::{Line, MOST_ITEMS, MOST_LINE, write_decisions, write_registers, write_view};
 use std::alloc::{AllocError, Global};
@@ -38,33 +37,9 @@ const MOST_REPLIES: usize = 64;
 pub fn push_decides(text: &mut String, decides: Option<Val>) -> Result<(), AllocError>
     ensures { Pushes result text.old text.new (decides_text decides) }
 {
-    match decides {
-        Some(value) => {
-            text.push_str(" decides ")?;
-            push_number(text, value.number())
-        }
-        None => Ok(()),
-    }
-}
-
-fn push_break(text: &mut String, paused: Option<u32>) -> Result<(), AllocError>
-    ensures { Pushes result text.old text.new (break_text paused) }
-{
-    match paused {
-        Some(number) => {
-            text.push_str(" break ")?;
-            push_number(text, number)
-        }
-        None => Ok(()),
-    }
-}
-
-/// An event that was taken, and the decision that it made.
-fn push_taken(text: &mut String, event: &Event, decides: Option<Val>) -> Result<(), AllocError>
-    ensures { Pushes result text.old text.new (event_text event.now ++ decides_text decides) }
-{
-    push_event(text, event)?;
-    push_decides(text, decides)
+    let mut bytes = [0; MOST_LINE];
+    let end = write_decides(&mut bytes, 0, decides);
+    push_bytes(text, &bytes[..end])
 }
 
 /// An event and its direct causes.
@@ -91,31 +66,9 @@ fn push_counted(text: &mut String, words: &str, number: u32) -> Result<(), Alloc
 pub fn push_event_reply(text: &mut String, reply: &EventReply) -> Result<(), AllocError>
     ensures { Pushes result text.old text.new (text_of (told (as_reply reply.now))) }
 {
-    match reply {
-        EventReply::Stepped {
-            event,
-            decides,
-            paused,
-        } => {
-            push_taken(text, event, *decides)?;
-            push_break(text, *paused)?;
-            text.push('\n')
-        }
-        EventReply::Undone(event) => {
-            text.push_str("undone ")?;
-            push_event(text, event)?;
-            text.push('\n')
-        }
-        EventReply::Redone { event, decides } => {
-            text.push_str("redone ")?;
-            push_taken(text, event, *decides)?;
-            text.push('\n')
-        }
-        EventReply::Refused(refusal) => {
-            push_refusal(text, refusal)?;
-            text.push('\n')
-        }
-    }
+    let mut bytes = [0; MOST_BYTES];
+    let end = write_event_reply(&mut bytes, 0, reply);
+    push_bytes(text, &bytes[..end])
 }
 
 /// Adds the text of a reply at the end of a text: its lines, each of which ends with byte 10. Only out of memory

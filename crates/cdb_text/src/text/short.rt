@@ -161,7 +161,7 @@ fn write_loss(bytes: &mut [u8], from: usize, copy: CopyName) -> usize
     write_process(bytes, next, copy.to)
 }
 
-fn write_register(bytes: &mut [u8], from: usize, register: Reg) -> usize
+pub(super) fn write_register(bytes: &mut [u8], from: usize, register: Reg) -> usize
     requires { from + 3 ≤ length bytes.old }
     ensures written { Writes from result bytes.old bytes.new (register_text register) }
     ensures end { result ≤ from + 3 }
@@ -224,7 +224,7 @@ pub(super) fn write_event(bytes: &mut [u8], from: usize, event: &Event) -> usize
     }
 }
 
-fn write_decides(bytes: &mut [u8], from: usize, decides: Option<Val>) -> usize
+pub(super) fn write_decides(bytes: &mut [u8], from: usize, decides: Option<Val>) -> usize
     requires { from + 19 ≤ length bytes.old }
     ensures written { Writes from result bytes.old bytes.new (decides_text decides) }
     ensures end { result ≤ from + 19 }
@@ -300,7 +300,7 @@ fn write_redone(bytes: &mut [u8], from: usize, event: &Event, decides: Option<Va
     write_byte(bytes, next, b'\n')
 }
 
-fn write_name(bytes: &mut [u8], from: usize, name: StepId) -> usize
+pub(super) fn write_name(bytes: &mut [u8], from: usize, name: StepId) -> usize
     requires { from + 22 ≤ length bytes.old }
     ensures written { Writes from result bytes.old bytes.new (name_text name) }
     ensures end { result ≤ from + 22 }

@@ -9,7 +9,6 @@ ghost use Rattle.cdb_text.specs.Reports.{register_line, decision_line, registers
 ghost use Rattle.cdb_text.specs.declared.text.short.TheConstants.{MOST_REPORT};
 ghost use Rattle.cdb_text.specs.declared.text.short_report.TheConstants.{MOST_ITEMS, MOST_LINE, MOST_OF_A_REGISTER, MOST_OF_A_DECISION};
 
-use super::report::{life_word, machine_letter};
 use super::short::{
     MOST_REPORT, write_byte, write_event, write_message, write_number, write_process, write_word,
 };
@@ -62,7 +61,7 @@ impl Line for (Proc, MsgName, Payload) {
 }
 
 #[inline(always)]
-fn write_value(bytes: &mut [u8], from: usize, value: Option<Val>) -> usize
+pub(super) fn write_value(bytes: &mut [u8], from: usize, value: Option<Val>) -> usize
     requires { from + 10 ≤ length bytes.old }
     ensures written { Writes from result bytes.old bytes.new (value_text value) }
     ensures end { result ≤ from + 10 }
@@ -74,7 +73,7 @@ fn write_value(bytes: &mut [u8], from: usize, value: Option<Val>) -> usize
 }
 
 #[inline(always)]
-fn write_payload(bytes: &mut [u8], from: usize, payload: &Payload) -> usize
+pub(super) fn write_payload(bytes: &mut [u8], from: usize, payload: &Payload) -> usize
     requires { from + 26 ≤ length bytes.old }
     ensures written { Writes from result bytes.old bytes.new (payload_text payload.now) }
     ensures end { result ≤ from + 26 }
@@ -99,6 +98,20 @@ fn write_payload(bytes: &mut [u8], from: usize, payload: &Payload) -> usize
             write_number(bytes, next, est.number())
         }
     }
+}
+
+/// The letter of the machine.
+fn machine_letter(alpha: bool) -> &'static str
+    ensures { result.now ≡ machine_letter alpha }
+{
+    if alpha { "A" } else { "L" }
+}
+
+/// Whether the process is alive, in a word.
+fn life_word(alive: bool) -> &'static str
+    ensures { result.now ≡ life_word alive }
+{
+    if alive { "alive" } else { "crashed" }
 }
 
 /// The process and its place in the algorithm.
@@ -139,6 +152,19 @@ pub fn write_view(bytes: &mut [u8], from: usize, view: &ProcView) -> usize
 /// As many bytes as the text of a decision has at most.
 const MOST_OF_A_DECISION: usize = 13;
 
+/// A decision after a space.
+#[inline(always)]
+pub(super) fn write_decision(bytes: &mut [u8], from: usize, p: Proc, value: Val) -> usize
+    requires { from + MOST_OF_A_DECISION ≤ length bytes.old }
+    ensures written { Writes from result bytes.old bytes.new (decision_text (p, value)) }
+    ensures end { result ≤ from + MOST_OF_A_DECISION }
+{
+    let next = write_byte(bytes, from, b' ');
+    let next = write_process(bytes, next, p);
+    let next = write_byte(bytes, next, b'=');
+    write_number(bytes, next, value.number())
+}
+
 fn write_each_decision(bytes: &mut [u8], from: usize, decisions: &[(Proc, Val)]) -> usize
     requires { from + MOST_OF_A_DECISION * length decisions.now ≤ length bytes.old }
     ensures written { Writes from result bytes.old bytes.new (flat_map decision_text decisions.now) }
@@ -146,10 +172,7 @@ fn write_each_decision(bytes: &mut [u8], from: usize, decisions: &[(Proc, Val)])
 {
     match decisions {
         [(p, value), others @ ..] => {
-            let next = write_byte(bytes, from, b' ');
-            let next = write_process(bytes, next, *p);
-            let next = write_byte(bytes, next, b'=');
-            let next = write_number(bytes, next, value.number());
+            let next = write_decision(bytes, from, *p, *value);
             write_each_decision(bytes, next, others)
         }
         [] => from,
@@ -174,6 +197,24 @@ pub fn write_decisions(bytes: &mut [u8], from: usize, decisions: &[(Proc, Val)])
 /// As many bytes as the line of a register has at most.
 const MOST_OF_A_REGISTER: usize = 58;
 
+/// What a cell holds, to the end of a line.
+#[inline(always)]
+pub(super) fn write_cell(bytes: &mut [u8], from: usize, cell: &Cell) -> usize
+    requires { from + 47 ≤ length bytes.old }
+    ensures written { Writes from result bytes.old bytes.new
+        (codes " lre " ++ decimal (cell.now).lre ++ codes " lrww " ++ decimal (cell.now).lrww
+        ++ codes " val " ++ value_text (cell.now).val ++ codes "\n") }
+    ensures end { result ≤ from + 47 }
+{
+    let next = write_word(bytes, from, " lre ");
+    let next = write_number(bytes, next, cell.lre);
+    let next = write_word(bytes, next, " lrww ");
+    let next = write_number(bytes, next, cell.lrww);
+    let next = write_word(bytes, next, " val ");
+    let next = write_value(bytes, next, cell.val);
+    write_byte(bytes, next, b'\n')
+}
+
 /// The register with this number and what it holds.
 #[inline(always)]
 fn write_register_line(bytes: &mut [u8], from: usize, number: u32, cell: &Cell) -> usize
@@ -183,17 +224,11 @@ fn write_register_line(bytes: &mut [u8], from: usize, number: u32, cell: &Cell) 
 {
     let next = write_byte(bytes, from, b'r');
     let next = write_number(bytes, next, number);
-    let next = write_word(bytes, next, " lre ");
-    let next = write_number(bytes, next, cell.lre);
-    let next = write_word(bytes, next, " lrww ");
-    let next = write_number(bytes, next, cell.lrww);
-    let next = write_word(bytes, next, " val ");
-    let next = write_value(bytes, next, cell.val);
-    write_byte(bytes, next, b'\n')
+    write_cell(bytes, next, cell)
 }
 
 /// The cell of the decision.
-fn write_decision_line(bytes: &mut [u8], from: usize, cell: &Cell) -> usize
+pub(super) fn write_decision_line(bytes: &mut [u8], from: usize, cell: &Cell) -> usize
     requires { from + MOST_OF_A_REGISTER ≤ length bytes.old }
     ensures written { Writes from result bytes.old bytes.new (decision_line cell.now) }
     ensures end { result ≤ from + MOST_OF_A_REGISTER }

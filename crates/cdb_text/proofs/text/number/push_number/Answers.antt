@@ -1,6 +1,5 @@
-use Rattle.std.proofs.Common.{arith}
-use Rattle.std.proofs.lemmas.Fmt.{decimal_digit}
+use Rattle.cdb_text.proofs.Utf8.{number, written}
 use Rattle.cdb_text.proofs.text.number.push_number.Goals as goal
 
-pub returns-then-number-lt10 : goal.returns-then-number-lt10
-returns-then-number-lt10 c = rw (decimal_digit c.args.number (omega arith)) c.push_digit.ensures
+pub push_bytes-requires : goal.push_bytes-requires
+push_bytes-requires c = written c.write_number-end.ensures.written (number c.args.number)
