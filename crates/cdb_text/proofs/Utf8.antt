@@ -22,9 +22,9 @@ use Rattle.cdb_base.specs.declared.register.Reg.{Reg}
 use Rattle.cdb_base.specs.declared.register.Reg.TheVariants.{R, Dec}
 use Rattle.cdb_base.specs.NameTexts.{step_text, message_text, loss_text, name_text, register_text}
 use Rattle.cdb_base.specs.Refusal.{refusal_name, refusal_number, refusal_detail, refusal_text}
-use Rattle.cdb_control.specs.declared.reply.EventReply.{EventReply}
-use Rattle.cdb_control.specs.declared.reply.EventReply.TheVariants as reply
-use Rattle.cdb_control.specs.ToldReply.{told, as_reply}
+use Rattle.cdb_commands.specs.declared.reply.EventReply.{EventReply}
+use Rattle.cdb_commands.specs.declared.reply.EventReply.TheVariants as reply
+use Rattle.cdb_commands.specs.ToldReply.{told, as_reply}
 use Rattle.cdb_rules.specs.declared.proc_view.ProcView.{ProcView}
 use Rattle.cdb_text.specs.Pushes.{Writes}
 use Rattle.cdb_text.specs.Events.{event_text, kind_text}
