@@ -14,30 +14,37 @@ use cdb_commands::{Command, Stop, View};
 use std::alloc::AllocError;
 
 /// Words, and a number after a space.
-fn push_one(text: &mut String, words: &str, a: u32) -> Result<(), AllocError>
-    ensures { Pushes result text.old text.new (words.now ++ codes " " ++ decimal a) }
+fn push_one(text: &mut String, words: &str, number: u32) -> Result<(), AllocError>
+    ensures { Pushes result text.old text.new (words.now ++ codes " " ++ decimal number) }
 {
     text.push_str(words)?;
     text.push(' ')?;
-    push_number(text, a)
+    push_number(text, number)
 }
 
 /// Words, and two numbers, each after a space.
-fn push_two(text: &mut String, words: &str, a: u32, b: u32) -> Result<(), AllocError>
+fn push_two(text: &mut String, words: &str, first: u32, second: u32) -> Result<(), AllocError>
     ensures { Pushes result text.old text.new
-        (words.now ++ codes " " ++ decimal a ++ codes " " ++ decimal b) }
+        (words.now ++ codes " " ++ decimal first ++ codes " " ++ decimal second) }
 {
-    push_one(text, words, a)?;
-    push_one(text, "", b)
+    push_one(text, words, first)?;
+    push_one(text, "", second)
 }
 
 /// Words, and three numbers, each after a space.
-fn push_three(text: &mut String, words: &str, a: u32, b: u32, c: u32) -> Result<(), AllocError>
+fn push_three(
+    text: &mut String,
+    words: &str,
+    first: u32,
+    second: u32,
+    third: u32,
+) -> Result<(), AllocError>
     ensures { Pushes result text.old text.new
-        (words.now ++ codes " " ++ decimal a ++ codes " " ++ decimal b ++ codes " " ++ decimal c) }
+        (words.now ++ codes " " ++ decimal first ++ codes " " ++ decimal second
+        ++ codes " " ++ decimal third) }
 {
-    push_two(text, words, a, b)?;
-    push_one(text, "", c)
+    push_two(text, words, first, second)?;
+    push_one(text, "", third)
 }
 
 fn push_act(text: &mut String, p: u32, act: Act) -> Result<(), AllocError>
