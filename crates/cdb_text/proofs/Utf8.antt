@@ -1,4 +1,4 @@
--- Each text is UTF-8.
+-- Each text is UTF-8, so what was written in bytes can stand in a `String`.
 use Rattle.std.proofs.Common.{◌≡◌, ℕ, zero, suc, Bool, true, false, ◌&&◌, List, [], ◌∷◌, ◌++◌, Option, Some, None, take, refl, sym, subst, arith}
 use Rattle.std.specs.Prelude.{codes, decimal, nat_lt}
 use Rattle.std.specs.Str.{IsAscii, IsUtf8}
