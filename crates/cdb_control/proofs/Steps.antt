@@ -2,24 +2,20 @@
 use Rattle.std.proofs.Common.{◌≡◌, ℕ, ◌-◌, false, IsOk, IfOk, OnErr, subst, List, [], ◌∷◌, ◌++◌, length, set, Option, Some, None, Result, Ok, Err, refl, sym, ap, ◌∙◌, true≢false}
 use Rattle.std.proofs.lemmas.List.{set-get_or}
 use Rattle.std.proofs.lemmas.Option.{none-some}
-use Rattle.std.specs.Option.{unwrap_or}
 use Rattle.std.specs.Result.{result_err}
 use Rattle.cdb_base.specs.Positions.{without_last}
 use Rattle.cdb_base.specs.declared.act.Act.{Act}
 use Rattle.cdb_base.specs.declared.no_memory.NoMemory.{NoMemory}
 use Rattle.cdb_base.specs.declared.event.Event.{Event}
 use Rattle.cdb_base.specs.declared.refusal.Refusal.{Refusal}
-use Rattle.cdb_base.specs.declared.refusal.Refusal.TheVariants.{NothingToRedo, Paused}
+use Rattle.cdb_base.specs.declared.refusal.Refusal.TheVariants.{NothingToRedo}
 use Rattle.cdb_commands.specs.ToldReply.{is_refused, AsReply}
 use Rattle.cdb_commands.specs.ToldReply as reply
 use Rattle.cdb_control.specs.Auto.{choice}
-use Rattle.cdb_control.specs.Commands.{Outcome, refused, granted, found, unpaused, undone_by, redone, decides, last_step, step_told, step_done, step, undo, rollback, why, reply_of, outcome}
-use Rattle.cdb_rules.specs.Auto.{first_act_of, first_step_of, step_of_chosen}
+use Rattle.cdb_control.specs.Commands.{Outcome, granted, found, unpaused, undone_by, redone, decides, step, undo, rollback, why, reply_of, outcome}
 use Rattle.cdb_rules.specs.EventRefs.{name_given}
 use Rattle.cdb_control.specs.State.{State, redo_of, last_of}
 use Rattle.cdb_control.specs.Done.{CameOutAs, IsNoRefusal}
-use Rattle.cdb_control.specs.Trying.{IsFreeForAuto, IsRefusedForAuto}
-use Rattle.cdb_control.specs.declared.stops.TakenStep.{TakenStep}
 use Rattle.cdb_commands.specs.declared.command.Command.{Command}
 use Rattle.cdb_commands.specs.declared.command.Command.TheVariants as command
 use Rattle.cdb_commands.specs.declared.reply.EventReply.{EventReply}
@@ -27,8 +23,6 @@ use Rattle.cdb_commands.specs.declared.reply.Reply.{Reply}
 use Rattle.cdb_rules.specs.declared.event_ref.EventRef.TheVariants.{Step, Lost}
 use Rattle.cdb_rules.specs.Refusals.{with_taken}
 use Rattle.cdb_rules.specs.Rules.{Rules}
-use Rattle.cdb_rules.specs.Views.{round_of}
-use Rattle.cdb_setup.specs.Parts.{Parts}
 use Rattle.cdb_rules.specs.Undo.{result_alone, left_by, number_removed, with_removed}
 
 pub undo_ok : (rules : Rules) (t u : State) (seat p k : ℕ) (it : Command) (r : Result EventReply NoMemory) → it ≡ command.Undo p k
@@ -98,68 +92,12 @@ redo_granted rules t seat undone last ok =
     ap (λ (o : Option Event). is_refused (found o NothingToRedo t (λ e. granted (rules.again t.history e) t (redone rules t seat))).reply) (sym last)
     ∙ granted_goes_on (rules.again t.history undone) t (redone rules t seat) ok (λ event. refl)
 
--- ---- `auto`
-
--- what `auto` is refused with, whatever act is possible
-pub auto_refused-as : (rules : Rules) (t : State) (seat p : ℕ) (why : Refusal) → IsRefusedForAuto rules t.history p why → refused t why ≡ outcome rules t seat (command.Auto p)
+pub auto_granted : (rules : Rules) (t : State) (seat p : ℕ) (act : Act) → choice rules t.history p ≡ Ok act → t.pause ≡ None → is_refused (step rules t p act).reply ≡ false → is_refused (reply_of rules t seat (command.Auto p)) ≡ false
 unfolding outcome
-auto_refused-as rules t seat p why refuses =
-    ap (λ (x : Result Act Refusal). granted x t (λ act. unpaused t.pause t (step rules t p act))) (sym (refuses (first_act_of rules t.history p)))
-
-paused : (possible : Result Act Refusal) (t : State) (go : Act → Outcome) (number : ℕ) (why : Refusal) → t.pause ≡ Some number → why ≡ unwrap_or (result_err possible) (Paused number)
-    → refused t why ≡ granted possible t (λ act. unpaused t.pause t (go act))
-paused (Ok act) t go number why pause is = ap (refused t) is ∙ ap (λ (o : Option ℕ). unpaused o t (go act)) (sym pause)
-paused (Err other) t go number why pause is = ap (refused t) is
-
--- and what it is refused with while a pause stands
-pub auto_paused-as : (rules : Rules) (t : State) (seat p number : ℕ) (why : Refusal) → t.pause ≡ Some number → why ≡ unwrap_or (result_err (choice rules t.history p)) (Paused number) → refused t why ≡ outcome rules t seat (command.Auto p)
-unfolding outcome
-auto_paused-as rules t seat p number why pause is = paused (choice rules t.history p) t (step rules t p) number why pause is
-
-of_chosen : (possible : Result Act Refusal) (stepped : Act → Result Event Refusal) (t : State) (go : Event → Outcome) → granted (step_of_chosen stepped possible) t go ≡ granted possible t (λ act. granted (stepped act) t go)
-of_chosen (Ok act) stepped t go = refl
-of_chosen (Err why) stepped t go = refl
-
-none_stands : (pause : Option ℕ) → ((number : ℕ) → pause ≡ Some number → ⊥) → pause ≡ None
-none_stands None never = refl
-none_stands (Some number) never = absurd (never number refl)
-
--- else it takes the first step that is possible
-pub auto_free-as : (rules : Rules) (t : State) (seat p : ℕ) → ((number : ℕ) → t.pause ≡ Some number → ⊥) → IsFreeForAuto rules t.history p
-    → granted (first_step_of rules t.history p) t (step_done rules t p) ≡ outcome rules t seat (command.Auto p)
-unfolding outcome
-auto_free-as rules t seat p no_pause free =
-    let possible = first_act_of rules t.history p in
-    of_chosen possible (rules.step t.history p) t (step_done rules t p)
-    ∙ ap (λ (o : Option ℕ). granted possible t (λ act. unpaused o t (step rules t p act))) (sym (none_stands t.pause no_pause))
-    ∙ ap (λ (x : Result Act Refusal). granted x t (λ act. unpaused t.pause t (step rules t p act))) (sym (free possible))
-
--- the state with what a step left
-abbrev pub stepped_on : State → Result Event Refusal → State
-stepped_on t r = record t { history = with_taken t.history r }
-
-pub auto_stepped-as : (rules : Parts → Rules) (t m : State) (seat p round : ℕ) (taken : TakenStep) (r : Result Event Refusal) (event : Event) → ((number : ℕ) → t.pause ≡ Some number → ⊥) → IsFreeForAuto (rules t.setup) t.history p
-    → r ≡ first_step_of (rules t.setup) t.history p → r ≡ Ok event → m ≡ stepped_on t r → taken ≡ last_step (rules m.setup) m.history p event round → round ≡ round_of (rules t.setup) t.history p
-    → step_told m taken ≡ outcome (rules t.setup) t seat (command.Auto p)
-auto_stepped-as rules t m seat p round taken r event no_pause free is ok after looks before =
-    let looked = looks ∙ ap (λ (u : State). last_step (rules u.setup) u.history p event round) after in
-    (λ i. step_told (after i) (looked i))
-    ∙ ap (λ (z : Result Event Refusal). step_told (stepped_on t z) (last_step (rules t.setup) (with_taken t.history z) p event round)) ok
-    ∙ ap (λ (n : ℕ). step_told (stepped_on t (Ok event)) (last_step (rules t.setup) (with_taken t.history (Ok event)) p event n)) before
-    ∙ ap (λ (z : Result Event Refusal). granted z t (step_done (rules t.setup) t p)) (sym ok ∙ is)
-    ∙ auto_free-as (rules t.setup) t seat p no_pause free
-
-pub auto_idle-as : (rules : Rules) (t u : State) (seat p : ℕ) (r : Result Event Refusal) (why : Refusal) → ((number : ℕ) → t.pause ≡ Some number → ⊥) → IsFreeForAuto rules t.history p
-    → r ≡ first_step_of rules t.history p → r ≡ Err why → u ≡ stepped_on t r → refused u why ≡ outcome rules t seat (command.Auto p)
-auto_idle-as rules t u seat p r why no_pause free is err after =
-    ap (λ (v : State). refused v why) (after ∙ ap (stepped_on t) err)
-    ∙ ap (λ (z : Result Event Refusal). granted z t (step_done rules t p)) (sym err ∙ is)
-    ∙ auto_free-as rules t seat p no_pause free
-
-pub auto_granted : (rules : Rules) (t : State) (seat p : ℕ) → ((number : ℕ) → t.pause ≡ Some number → ⊥) → IsFreeForAuto rules t.history p → IsOk (first_step_of rules t.history p) → is_refused (reply_of rules t seat (command.Auto p)) ≡ false
-auto_granted rules t seat p no_pause free ok =
-    ap (λ (o : Outcome). is_refused o.reply) (sym (auto_free-as rules t seat p no_pause free))
-    ∙ granted_goes_on (first_step_of rules t.history p) t (step_done rules t p) ok (λ event. refl)
+auto_granted rules t seat p act chosen unpaused_now taken =
+    ap (λ (x : Result Act Refusal). is_refused (granted x t (λ act. unpaused t.pause t (step rules t p act))).reply) chosen
+    ∙ ap (λ (o : Option ℕ). is_refused (unpaused o t (step rules t p act)).reply) unpaused_now
+    ∙ taken
 
 pub on_err : {A E P Q : Type 0} (r : Result A E) → (P → Q) → OnErr r P → OnErr r Q
 on_err (Ok a) go events_kept = events_kept

@@ -6,8 +6,7 @@ ghost use Rattle.cdb_log.specs.Offsets.{AreInPieces, seen};
 
 use crate::ends::{PIECE, is_spare, lower, spot_of, start_of};
 use crate::offsets::{count_below, is_open, next_of, place_of};
-use cdb_base::NoMemory;
-use std::alloc::Global;
+use std::alloc::{AllocError, Global};
 use std::marker::Model;
 
 /// How many pieces a log has at most, so that each mark is below `ABOVE_ALL`.
@@ -148,7 +147,7 @@ impl<T: Drop> Log<T> {
     /// Adds a piece without items.
     #[cold]
     #[inline(never)]
-    fn add_piece(&mut self) -> Result<(), NoMemory>
+    fn add_piece(&mut self) -> Result<(), AllocError>
         requires { CanGrow self.old }
         ensures same { IsSameLog self.old self.new }
         ensures ok { OnOk result (HasRoom self.new) }
@@ -174,8 +173,8 @@ impl<T: Drop> Log<T> {
         self.pieces.len() < PIECES
     }
 
-    /// Makes room for one item more, for which it may begin a piece. After `NoMemory` the log is as it was.
-    pub fn reserve(&mut self) -> Result<(), NoMemory>
+    /// Makes room for one item more, for which it may begin a piece. Where an allocation fails, the log is as it was.
+    pub fn reserve(&mut self) -> Result<(), AllocError>
         requires { CanGrow self.old }
         ensures same { IsSameLog self.old self.new }
         ensures ok { OnOk result (HasRoom self.new) }
