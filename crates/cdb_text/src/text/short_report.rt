@@ -7,7 +7,7 @@ ghost use Rattle.cdb_text.specs.Reports.{value_text, payload_text, copy_line, ev
 ghost use Rattle.cdb_text.specs.Reports.{machine_letter, life_word, decision_text, decisions_text};
 ghost use Rattle.cdb_text.specs.Reports.{register_line, decision_line, registers_from, registers_text};
 ghost use Rattle.cdb_text.specs.declared.text.short.TheConstants.{MOST_REPORT};
-ghost use Rattle.cdb_text.specs.declared.text.short_report.TheConstants.{MOST_ITEMS, MOST_LINE, MOST_OF_A_REGISTER, MOST_OF_A_DECISION};
+ghost use Rattle.cdb_text.specs.declared.text.short_report.TheConstants.{MOST_ITEMS, MOST_LINE, MOST_OF_A_CELL, MOST_OF_A_REGISTER, MOST_OF_A_DECISION};
 
 use super::short::{
     MOST_REPORT, write_byte, write_event, write_message, write_number, write_process, write_word,
@@ -197,14 +197,17 @@ pub fn write_decisions(bytes: &mut [u8], from: usize, decisions: &[(Proc, Val)])
 /// As many bytes as the line of a register has at most.
 const MOST_OF_A_REGISTER: usize = 58;
 
+/// As many bytes as what a cell holds has at most, to the end of a line.
+const MOST_OF_A_CELL: usize = 47;
+
 /// What a cell holds, to the end of a line.
 #[inline(always)]
 pub(super) fn write_cell(bytes: &mut [u8], from: usize, cell: &Cell) -> usize
-    requires { from + 47 ≤ length bytes.old }
+    requires { from + MOST_OF_A_CELL ≤ length bytes.old }
     ensures written { Writes from result bytes.old bytes.new
         (codes " lre " ++ decimal (cell.now).lre ++ codes " lrww " ++ decimal (cell.now).lrww
         ++ codes " val " ++ value_text (cell.now).val ++ codes "\n") }
-    ensures end { result ≤ from + 47 }
+    ensures end { result ≤ from + MOST_OF_A_CELL }
 {
     let next = write_word(bytes, from, " lre ");
     let next = write_number(bytes, next, cell.lre);
