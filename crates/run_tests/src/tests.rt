@@ -1,15 +1,5 @@
-//! What the calls of a run return and show, and what the commands of a control do.
+//! One crate for all of these, since to read what a test stands on takes longer than to prove most tests.
 
-mod calls;
-mod commands;
-mod example;
-mod laws;
-mod memory;
-mod room;
-mod same;
-mod scripts;
-mod session;
-mod setups;
-mod spared;
-mod texts;
-mod views;
+mod play;
+mod program;
+mod run;

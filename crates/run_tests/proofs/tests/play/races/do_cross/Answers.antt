@@ -1,6 +1,6 @@
 use Rattle.std.proofs.Common.{arith, length, vec_len}
 use Rattle.cdb_play.proofs.SeatsFit.{still_fits, still_counts}
-use Rattle.play_tests.proofs.tests.races.do_cross.Goals as goal
+use Rattle.run_tests.proofs.tests.play.races.do_cross.Goals as goal
 
 pub race_with-requires-clause-fits : goal.race_with-requires-clause-fits
 race_with-requires-clause-fits g c κs within = λ parts stands.
