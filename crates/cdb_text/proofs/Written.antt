@@ -9,3 +9,7 @@ both from next end old middle new first second a b =
       within = b.within;
       as_many = b.as_many ∙ a.as_many;
     }
+
+infixl 10 ◌then◌
+pub ◌then◌ : {from next end : ℕ} {old middle new first second : List ℕ} → Writes from next old middle first → Writes next end middle new second → Writes from end old new (first ++ second)
+◌then◌ {from} {next} {end} {old} {middle} {new} {first} {second} = both from next end old middle new first second
