@@ -6,6 +6,7 @@ pub mod Ended
 pub mod Keys
 pub mod Numbers
 pub mod Printed
+pub mod Pushed
 pub mod Reading
 pub mod Registers
 pub mod Short

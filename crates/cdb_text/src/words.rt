@@ -61,10 +61,7 @@ impl<'a> Words<'a> {
         ensures { Tells (λ n. (n, self.new)) result (number_at self.old) }
     {
         let word = self.word()?;
-        match number_of(word) {
-            Some(number) => Ok(number),
-            None => Err(LineFault::Number),
-        }
+        number_of(word).ok_or(LineFault::Number)
     }
 
     /// The next word, which is a register.
@@ -72,10 +69,7 @@ impl<'a> Words<'a> {
         ensures { Tells (λ x. (x, self.new)) result (register_at self.old) }
     {
         let word = self.word()?;
-        match register_named(word) {
-            Some(register) => Ok(register),
-            None => Err(LineFault::Word),
-        }
+        register_named(word).ok_or(LineFault::Word)
     }
 
     /// The command, where no word is left.
