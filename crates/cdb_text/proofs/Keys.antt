@@ -1,5 +1,5 @@
 -- Fixed words and registers.
-use Rattle.std.proofs.Common.{◌≡◌, ℕ, ◌+◌, ◌-◌, ◌<◌, ◌≤◌, Bool, true, ◌&&◌, cond, List, [], ◌∷◌, length, get_or, Option, Some, None, bytes_eq, eqb, refl, ap, subst, ◌∙◌, arith, inl, inr, lit≤}
+use Rattle.std.proofs.Common.{◌≡◌, ℕ, ◌+◌, ◌-◌, ◌<◌, ◌≤◌, Bool, true, ◌&&◌, cond, List, [], ◌∷◌, length, get_or, Option, Some, None, bytes_eq, eqb, refl, sym, ap, subst, ◌∙◌, arith, inl, inr, lit≤}
 use Rattle.std.specs.Prelude.{find, codes, decimal, slice_index, nat_le}
 use Rattle.std.proofs.lemmas.Bool.{and_parts, cases_Bool, le-leb, leb-true, eqb-true}
 use Rattle.std.proofs.lemmas.Slice.Eq.{bytes_eq-Decides}
@@ -91,6 +91,10 @@ no_keyword_at word (Some k) low e =
     let same = keyword_says word k e in
     let first : get_or word 0 0 ≡ get_or (keyword_name k) 0 0 = ap (λ (w : List ℕ). get_or w 0 0) same in
     absurd (omega (arith, first, letter k))
+
+-- a word that begins with less than a letter is none
+pub no_keyword_below : (word : List ℕ) → slice_index word 0 < 97 → None ≡ keyword_of word
+no_keyword_below word low = sym (no_keyword_at word (keyword_of word) low refl)
 
 first_digit : (n : ℕ) → 1 ≤ n → n ≤ 999999 → get_or (decimal n) 0 0 < 97
 first_digit n low high =

@@ -36,33 +36,33 @@ impl Keyword {
     ghost use Rattle.cdb_text.specs.Keywords.{keyword_name};
     ghost use Rattle.cdb_text.specs.Reading.{keyword_of};
 
-    /// Each fixed word.
+    /// Each fixed word, first those that long scripts have most.
     const ALL: [Keyword; 25] = [
-        Keyword::Step,
-        Keyword::Auto,
-        Keyword::Lose,
         Keyword::Undo,
         Keyword::Redo,
-        Keyword::Forget,
-        Keyword::Rollback,
         Keyword::Why,
+        Keyword::Lose,
+        Keyword::Lost,
+        Keyword::Rollback,
+        Keyword::Step,
+        Keyword::Recv,
+        Keyword::Query,
+        Keyword::Go,
+        Keyword::Learn,
+        Keyword::Crash,
+        Keyword::Auto,
+        Keyword::Forget,
         Keyword::Break,
         Keyword::Unbreak,
         Keyword::Resume,
         Keyword::Show,
         Keyword::Decisions,
-        Keyword::Go,
-        Keyword::Learn,
-        Keyword::Crash,
-        Keyword::Query,
-        Keyword::Recv,
         Keyword::Decide,
         Keyword::Round,
         Keyword::Write,
         Keyword::Regs,
         Keyword::Mail,
         Keyword::History,
-        Keyword::Lost,
     ];
 
     /// The bytes of the word.
@@ -99,8 +99,19 @@ impl Keyword {
     }
 
     /// The fixed word that this is.
-    #[tactic(auto, unfolding(crate::specs::Reading::keyword_of))]
     pub(crate) fn of(word: &[u8]) -> Option<Keyword>
+        ensures { result ≡ keyword_of word.now }
+    {
+        match word {
+            // A number is none, and most words behind the first are numbers.
+            [first, ..] if *first < b'a' => None,
+            _ => Keyword::named(word),
+        }
+    }
+
+    /// The one that has this name.
+    #[tactic(auto, unfolding(crate::specs::Reading::keyword_of))]
+    fn named(word: &[u8]) -> Option<Keyword>
         ensures { result ≡ keyword_of word.now }
     {
         Keyword::ALL
