@@ -2,7 +2,6 @@
 use Rattle.std.proofs.Common.{◌≡◌, ℕ, ◌+◌, ◌-◌, ◌<◌, ◌≤◌, Bool, true, ◌&&◌, cond, List, [], ◌∷◌, length, get_or, Option, Some, None, bytes_eq, eqb, refl, sym, ap, subst, ◌∙◌, arith, inl, inr, lit≤}
 use Rattle.std.specs.Prelude.{find, codes, decimal, slice_index, nat_le}
 use Rattle.std.proofs.lemmas.Bool.{and_parts, cases_Bool, le-leb, leb-true, eqb-true}
-use Rattle.std.proofs.lemmas.Slice.Eq.{bytes_eq-Decides}
 use Rattle.std.proofs.lemmas.Fmt.{decimal_digit, decimal_nonempty, digits_decimal}
 use Rattle.std.specs.Str.Parse.{AllDigits}
 use Rattle.std.proofs.lemmas.Str.Parse.{digit_at, numerals_by_value, tells_digits}
@@ -14,6 +13,7 @@ use Rattle.cdb_text.specs.Keywords.{keyword_name, keywords}
 use Rattle.cdb_text.specs.Commands.{register}
 use Rattle.cdb_text.specs.Grammar.{part_text, IsInRange}
 use Rattle.cdb_text.specs.Reading.{keyword_of, register_named}
+use Rattle.std.proofs.lemmas.Slice.Eq.{bytes_eq-Decides, HasBytesAt, text_from_reads}
 
 found_is : {A : Type 0} (p : A → Bool) (xs : List A) (x : A) → find p xs ≡ Some x → p x ≡ true
 found_is p [] x e = absurd cc
@@ -56,6 +56,10 @@ keyword_again key.Regs = refl
 keyword_again key.Mail = refl
 keyword_again key.History = refl
 keyword_again key.Lost = refl
+
+-- a word with the length and the bytes of a fixed word is read as that
+pub keyword_read : (k : Keyword) (word : List ℕ) → length word ≡ length (keyword_name k) → HasBytesAt word 0 (keyword_name k) → Some k ≡ keyword_of word
+keyword_read k word long reads = sym (keyword_again k) ∙ ap keyword_of (sym (text_from_reads word (keyword_name k) long reads))
 
 -- a fixed word begins with a letter
 letter : (k : Keyword) → 97 ≤ get_or (keyword_name k) 0 0

@@ -30,8 +30,8 @@ keyword_name Mail = codes "mail"
 keyword_name History = codes "history"
 keyword_name Lost = codes "lost"
 
--- each of them, first those that long scripts have most
+-- each of them
 abbrev pub keywords : List Keyword
 keywords =
-    Undo ∷ Redo ∷ Why ∷ Lose ∷ Lost ∷ Rollback ∷ Step ∷ Recv ∷ Query ∷ Go ∷ Learn ∷ Crash ∷ Auto
-    ∷ Forget ∷ Break ∷ Unbreak ∷ Resume ∷ Show ∷ Decisions ∷ Decide ∷ Round ∷ Write ∷ Regs ∷ Mail ∷ History ∷ []
+    Step ∷ Auto ∷ Lose ∷ Undo ∷ Redo ∷ Forget ∷ Rollback ∷ Why ∷ Break ∷ Unbreak ∷ Resume ∷ Show ∷ Decisions
+    ∷ Go ∷ Learn ∷ Crash ∷ Query ∷ Recv ∷ Decide ∷ Round ∷ Write ∷ Regs ∷ Mail ∷ History ∷ Lost ∷ []

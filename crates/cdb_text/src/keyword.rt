@@ -36,33 +36,33 @@ impl Keyword {
     ghost use Rattle.cdb_text.specs.Keywords.{keyword_name};
     ghost use Rattle.cdb_text.specs.Reading.{keyword_of};
 
-    /// Each fixed word, first those that long scripts have most.
+    /// Each fixed word.
     const ALL: [Keyword; 25] = [
+        Keyword::Step,
+        Keyword::Auto,
+        Keyword::Lose,
         Keyword::Undo,
         Keyword::Redo,
-        Keyword::Why,
-        Keyword::Lose,
-        Keyword::Lost,
-        Keyword::Rollback,
-        Keyword::Step,
-        Keyword::Recv,
-        Keyword::Query,
-        Keyword::Go,
-        Keyword::Learn,
-        Keyword::Crash,
-        Keyword::Auto,
         Keyword::Forget,
+        Keyword::Rollback,
+        Keyword::Why,
         Keyword::Break,
         Keyword::Unbreak,
         Keyword::Resume,
         Keyword::Show,
         Keyword::Decisions,
+        Keyword::Go,
+        Keyword::Learn,
+        Keyword::Crash,
+        Keyword::Query,
+        Keyword::Recv,
         Keyword::Decide,
         Keyword::Round,
         Keyword::Write,
         Keyword::Regs,
         Keyword::Mail,
         Keyword::History,
+        Keyword::Lost,
     ];
 
     /// The bytes of the word.
@@ -105,6 +105,12 @@ impl Keyword {
         match word {
             // A number is none, and most words behind the first are numbers.
             [first, ..] if *first < b'a' => None,
+            // Those that long scripts have most.
+            b"undo" => Some(Keyword::Undo),
+            b"redo" => Some(Keyword::Redo),
+            b"why" => Some(Keyword::Why),
+            b"lose" => Some(Keyword::Lose),
+            b"lost" => Some(Keyword::Lost),
             _ => Keyword::named(word),
         }
     }
