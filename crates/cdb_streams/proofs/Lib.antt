@@ -6,3 +6,4 @@ pub mod CarriedOut
 pub mod Ending
 pub mod Numbered
 pub mod WholeTexts
+pub mod Held

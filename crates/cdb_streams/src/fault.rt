@@ -50,6 +50,36 @@ pub enum RaceFault {
     Stopped(u8),
 }
 
+/// This line of this script, which is no command, and its fault.
+#[derive(Clone, Copy)]
+struct BadLine(usize, usize, LineFault);
+
+impl fmt::Display for BadLine {
+    ghost use Rattle.cdb_streams.specs.FaultTexts.{script_line_text};
+
+    ghost output = { λ bad. Some (script_line_text bad.0 bad.1 bad.2) };
+
+    fn fmt<W: fmt::Write>(&self, f: &mut fmt::Formatter<W>) -> fmt::Result {
+        let BadLine(script, line, fault) = self;
+        write!(f, "script {script} line {line} {fault}")
+    }
+}
+
+/// This script, which has too many bytes.
+#[derive(Clone, Copy)]
+struct LongScript(usize);
+
+impl fmt::Display for LongScript {
+    ghost use Rattle.cdb_streams.specs.FaultTexts.{long_script_text};
+
+    ghost output = { λ long. Some (long_script_text long.0) };
+
+    fn fmt<W: fmt::Write>(&self, f: &mut fmt::Formatter<W>) -> fmt::Result {
+        let LongScript(script) = self;
+        write!(f, "script {script} too long")
+    }
+}
+
 /// The text that the program reports, without the end of the line; the program names what could not be read, which here is the
 /// input.
 impl fmt::Display for PlayFault {
@@ -57,12 +87,11 @@ impl fmt::Display for PlayFault {
 
     fn fmt<W: fmt::Write>(&self, f: &mut fmt::Formatter<W>) -> fmt::Result {
         match self {
-            PlayFault::Setup(fault) => write!(f, "{fault}"),
-            PlayFault::Line(script, line, fault) => write!(
-                f,
-                "script {script} line {line} {fault}"
-            ),
-            PlayFault::ScriptTooLong(script) => write!(f, "script {script} too long"),
+            PlayFault::Setup(fault) => fmt::Display::fmt(fault, f),
+            PlayFault::Line(script, line, fault) => {
+                fmt::Display::fmt(&BadLine(*script, *line, *fault), f)
+            }
+            PlayFault::ScriptTooLong(script) => fmt::Display::fmt(&LongScript(*script), f),
             PlayFault::Read => f.write_str("cannot read the input"),
             PlayFault::Write => f.write_str("output failed"),
             PlayFault::NoMemory => f.write_str("no memory"),
@@ -78,12 +107,11 @@ impl fmt::Display for RaceFault {
 
     fn fmt<W: fmt::Write>(&self, f: &mut fmt::Formatter<W>) -> fmt::Result {
         match self {
-            RaceFault::Setup(fault) => write!(f, "{fault}"),
-            RaceFault::Line(script, line, fault) => write!(
-                f,
-                "script {script} line {line} {fault}"
-            ),
-            RaceFault::ScriptTooLong(script) => write!(f, "script {script} too long"),
+            RaceFault::Setup(fault) => fmt::Display::fmt(fault, f),
+            RaceFault::Line(script, line, fault) => {
+                fmt::Display::fmt(&BadLine(*script, *line, *fault), f)
+            }
+            RaceFault::ScriptTooLong(script) => fmt::Display::fmt(&LongScript(*script), f),
             RaceFault::Write => f.write_str("output failed"),
             RaceFault::NoMemory => f.write_str("no memory"),
             RaceFault::JournalFull => f.write_str("journal full"),

@@ -72,7 +72,7 @@ fn write_setup_fault<W: Sink>(fault: &SetupFault, err: &mut W) -> Result<(), Fai
 {
     match fault.number() {
         Some(number) => write_numbered(number, fault, err),
-        None => write_each(err, &[Text(NO_MEMORY), END]),
+        None => write_words(NO_MEMORY, err),
     }
 }
 
@@ -110,6 +110,13 @@ fn write_too_long<W: Sink>(script: usize, err: &mut W) -> Result<(), Failed>
     )
 }
 
+/// A line of these words.
+fn write_words<W: Sink>(words: &str, err: &mut W) -> Result<(), Failed>
+    ensures { Writes W.stream result err.old err.new (as_line words.now) }
+{
+    write_each(err, &[Text(words), END])
+}
+
 /// Writes the line that reports a fault. The name is that of what could not be read. Where the writer fails, what
 /// was written is a beginning of the line.
 pub fn write_fault<W: Sink>(fault: &PlayFault, name: &str, err: &mut W) -> Result<(), Failed>
@@ -121,8 +128,8 @@ pub fn write_fault<W: Sink>(fault: &PlayFault, name: &str, err: &mut W) -> Resul
         PlayFault::Line(script, line, fault) => write_line_fault(*script, *line, *fault, err),
         PlayFault::ScriptTooLong(script) => write_too_long(*script, err),
         PlayFault::Read => write_each(err, &[Text("cannot read "), Text(name), END]),
-        PlayFault::Write => write_each(err, &[Text(OUTPUT_FAILED), END]),
-        PlayFault::NoMemory => write_each(err, &[Text(NO_MEMORY), END]),
+        PlayFault::Write => write_words(OUTPUT_FAILED, err),
+        PlayFault::NoMemory => write_words(NO_MEMORY, err),
     }
 }
 
@@ -134,9 +141,9 @@ pub fn write_race_fault<W: Sink>(fault: &RaceFault, err: &mut W) -> Result<(), F
         RaceFault::Setup(fault) => write_setup_fault(fault, err),
         RaceFault::Line(script, line, fault) => write_line_fault(*script, *line, *fault, err),
         RaceFault::ScriptTooLong(script) => write_too_long(*script, err),
-        RaceFault::Write => write_each(err, &[Text(OUTPUT_FAILED), END]),
-        RaceFault::NoMemory => write_each(err, &[Text(NO_MEMORY), END]),
-        RaceFault::JournalFull => write_each(err, &[Text("journal full"), END]),
-        RaceFault::Spawn(_) | RaceFault::Stopped(_) => write_each(err, &[Text("no thread"), END]),
+        RaceFault::Write => write_words(OUTPUT_FAILED, err),
+        RaceFault::NoMemory => write_words(NO_MEMORY, err),
+        RaceFault::JournalFull => write_words("journal full", err),
+        RaceFault::Spawn(_) | RaceFault::Stopped(_) => write_words("no thread", err),
     }
 }

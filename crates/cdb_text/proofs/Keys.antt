@@ -1,8 +1,7 @@
 -- Fixed words and registers.
-use Rattle.std.proofs.Common.{◌≡◌, ℕ, ◌+◌, ◌-◌, ◌<◌, ◌≤◌, Bool, true, ◌&&◌, cond, List, [], ◌∷◌, ◌++◌, length, get_or, Option, Some, None, bytes_eq, eqb, refl, sym, ap, subst, ◌∙◌, arith, inl, inr, lit≤}
+use Rattle.std.proofs.Common.{◌≡◌, ℕ, ◌+◌, ◌-◌, ◌<◌, ◌≤◌, Bool, true, ◌&&◌, cond, List, [], ◌∷◌, length, get_or, Option, Some, None, bytes_eq, eqb, refl, sym, ap, subst, ◌∙◌, arith, inl, inr, lit≤}
 use Rattle.std.specs.Prelude.{find, codes, decimal, slice_index, nat_le}
 use Rattle.std.proofs.lemmas.Bool.{and_parts, cases_Bool, le-leb, leb-true, eqb-true}
-use Rattle.std.proofs.lemmas.Slice.Eq.{bytes_eq-Decides, HasBytesAt, text_from_reads}
 use Rattle.std.proofs.lemmas.Fmt.{decimal_digit, decimal_nonempty, digits_decimal}
 use Rattle.std.specs.Str.Parse.{AllDigits}
 use Rattle.std.proofs.lemmas.Str.Parse.{digit_at, numerals_by_value, tells_digits}
@@ -10,10 +9,11 @@ use Rattle.cdb_base.specs.declared.register.Reg.{Reg}
 use Rattle.cdb_base.specs.declared.register.Reg.TheVariants.{R, Dec}
 use Rattle.cdb_text.specs.declared.keyword.Keyword.{Keyword}
 use Rattle.cdb_text.specs.declared.keyword.Keyword.TheVariants as key
-use Rattle.cdb_text.specs.Keywords.{keyword_name, keywords, later_words, verbs}
+use Rattle.cdb_text.specs.Keywords.{keyword_name, keywords}
 use Rattle.cdb_text.specs.Commands.{register}
 use Rattle.cdb_text.specs.Grammar.{part_text, IsInRange}
-use Rattle.cdb_text.specs.Reading.{keyword_of, later_word_of, register_named, verb_of}
+use Rattle.cdb_text.specs.Reading.{keyword_of, register_named}
+use Rattle.std.proofs.lemmas.Slice.Eq.{bytes_eq-Decides, HasBytesAt, text_from_reads}
 
 found_is : {A : Type 0} (p : A → Bool) (xs : List A) (x : A) → find p xs ≡ Some x → p x ≡ true
 found_is p [] x e = absurd cc
@@ -58,37 +58,8 @@ keyword_again key.History = refl
 keyword_again key.Lost = refl
 
 -- a word with the length and the bytes of a fixed word is read as that
-pub verb_read : (k : Keyword) (word : List ℕ) → verb_of (keyword_name k) ≡ Some k → length word ≡ length (keyword_name k) → HasBytesAt word 0 (keyword_name k) → Some k ≡ verb_of word
-verb_read k word again long reads = sym again ∙ ap verb_of (sym (text_from_reads word (keyword_name k) long reads))
-
-pub later_word_read : (k : Keyword) (word : List ℕ) → later_word_of (keyword_name k) ≡ Some k → length word ≡ length (keyword_name k) → HasBytesAt word 0 (keyword_name k) → Some k ≡ later_word_of word
-later_word_read k word again long reads = sym again ∙ ap later_word_of (sym (text_from_reads word (keyword_name k) long reads))
-
--- what is found in a list is found with further ones behind it
-found_before : {A : Type 0} (p : A → Bool) (xs ys : List A) (x : A) → find p xs ≡ Some x → find p (xs ++ ys) ≡ Some x
-found_before p [] ys x e = absurd cc
-found_before p (z ∷ xs) ys x e =
-    elim (cases_Bool (p z)) [
-      | inl h ↦ (rw h (rw h at e))
-      | inr h ↦ (rw h (found_before p xs ys x (rw h at e)))
-    ]
-
--- what is not found in a list is looked for behind it
-found_behind : {A : Type 0} (p : A → Bool) (xs ys : List A) → find p xs ≡ None → find p (xs ++ ys) ≡ find p ys
-found_behind p [] ys e = refl
-found_behind p (z ∷ xs) ys e =
-    elim (cases_Bool (p z)) [
-      | inl h ↦ absurd (let bad : Some z ≡ None = (rw h at e) in cc)
-      | inr h ↦ (rw h (found_behind p xs ys (rw h at e)))
-    ]
-
-pub verb_is : (word : List ℕ) (k : Keyword) → verb_of word ≡ Some k → keyword_of word ≡ Some k
-unfolding keyword_of verb_of
-verb_is word k e = found_before (λ k. bytes_eq word (keyword_name k)) verbs later_words k e
-
-pub no_verb : (word : List ℕ) → verb_of word ≡ None → keyword_of word ≡ later_word_of word
-unfolding keyword_of verb_of later_word_of
-no_verb word e = found_behind (λ k. bytes_eq word (keyword_name k)) verbs later_words e
+pub keyword_read : (k : Keyword) (word : List ℕ) → length word ≡ length (keyword_name k) → HasBytesAt word 0 (keyword_name k) → Some k ≡ keyword_of word
+keyword_read k word long reads = sym (keyword_again k) ∙ ap keyword_of (sym (text_from_reads word (keyword_name k) long reads))
 
 -- a fixed word begins with a letter
 letter : (k : Keyword) → 97 ≤ get_or (keyword_name k) 0 0
@@ -124,6 +95,10 @@ no_keyword_at word (Some k) low e =
     let same = keyword_says word k e in
     let first : get_or word 0 0 ≡ get_or (keyword_name k) 0 0 = ap (λ (w : List ℕ). get_or w 0 0) same in
     absurd (omega (arith, first, letter k))
+
+-- a word that begins with less than a letter is none
+pub no_keyword_below : (word : List ℕ) → slice_index word 0 < 97 → None ≡ keyword_of word
+no_keyword_below word low = sym (no_keyword_at word (keyword_of word) low refl)
 
 first_digit : (n : ℕ) → 1 ≤ n → n ≤ 999999 → get_or (decimal n) 0 0 < 97
 first_digit n low high =

@@ -2,9 +2,11 @@ pub mod Again
 pub mod Behind
 pub mod Cut
 pub mod Digits
+pub mod Ended
 pub mod Keys
 pub mod Numbers
 pub mod Printed
+pub mod Pushed
 pub mod Reading
 pub mod Registers
 pub mod Short

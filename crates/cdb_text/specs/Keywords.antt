@@ -1,5 +1,5 @@
 -- The fixed words.
-use Rattle.std.specs.Prelude.{ℕ, List, [], ◌∷◌, ◌++◌, codes}
+use Rattle.std.specs.Prelude.{ℕ, List, [], ◌∷◌, codes}
 use Rattle.cdb_text.specs.declared.keyword.Keyword.{Keyword}
 use Rattle.cdb_text.specs.declared.keyword.Keyword.TheVariants.{Step, Auto, Lose, Undo, Redo, Forget, Rollback, Why, Break, Unbreak, Resume, Show, Decisions, Go, Learn, Crash, Query, Recv, Decide, Round, Write, Regs, Mail, History, Lost}
 
@@ -30,15 +30,8 @@ keyword_name Mail = codes "mail"
 keyword_name History = codes "history"
 keyword_name Lost = codes "lost"
 
--- the words that a command begins with
-abbrev pub verbs : List Keyword
-verbs =
-    Step ∷ Auto ∷ Lose ∷ Undo ∷ Redo ∷ Forget ∷ Rollback ∷ Why ∷ Break ∷ Unbreak ∷ Resume ∷ Show ∷ Decisions ∷ []
-
--- the words that stand further in a command
-abbrev pub later_words : List Keyword
-later_words =
-    Go ∷ Learn ∷ Crash ∷ Query ∷ Recv ∷ Decide ∷ Round ∷ Write ∷ Regs ∷ Mail ∷ History ∷ Lost ∷ []
-
+-- each of them
 abbrev pub keywords : List Keyword
-keywords = verbs ++ later_words
+keywords =
+    Step ∷ Auto ∷ Lose ∷ Undo ∷ Redo ∷ Forget ∷ Rollback ∷ Why ∷ Break ∷ Unbreak ∷ Resume ∷ Show ∷ Decisions
+    ∷ Go ∷ Learn ∷ Crash ∷ Query ∷ Recv ∷ Decide ∷ Round ∷ Write ∷ Regs ∷ Mail ∷ History ∷ Lost ∷ []

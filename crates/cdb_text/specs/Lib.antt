@@ -14,3 +14,4 @@ pub mod Keywords
 pub mod Verbs
 pub mod Words
 pub mod Reading
+pub mod Lines

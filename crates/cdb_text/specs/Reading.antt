@@ -10,7 +10,7 @@ use Rattle.cdb_text.specs.declared.fault.LineFault.TheVariants.{Word, Number, Ex
 use Rattle.cdb_text.specs.declared.keyword.Keyword.{Keyword}
 use Rattle.cdb_text.specs.Faults.{IsFirstFaultOfWords}
 use Rattle.cdb_text.specs.Grammar.{AreWordsOf}
-use Rattle.cdb_text.specs.Keywords.{keyword_name, keywords, later_words, verbs}
+use Rattle.cdb_text.specs.Keywords.{keyword_name, keywords}
 
 infixl 10 ◌>>=◌
 abbrev pub ◌>>=◌ : {A B : Type 0} → Result A LineFault → (A → Result B LineFault) → Result B LineFault
@@ -45,14 +45,6 @@ ended command (word ∷ words) = Err Extra
 -- the fixed word that this is
 unfoldable pub keyword_of : List ℕ → Option Keyword
 keyword_of word = find (λ k. bytes_eq word (keyword_name k)) keywords
-
--- the fixed word that this is, among those that a command begins with
-unfoldable pub verb_of : List ℕ → Option Keyword
-verb_of word = find (λ k. bytes_eq word (keyword_name k)) verbs
-
--- the fixed word that this is, among the others
-unfoldable pub later_word_of : List ℕ → Option Keyword
-later_word_of word = find (λ k. bytes_eq word (keyword_name k)) later_words
 
 -- `r1` to `r9`
 abbrev pub is_numbered : List ℕ → Bool

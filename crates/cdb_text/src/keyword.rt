@@ -3,7 +3,7 @@
 ghost use Rattle.std.specs.Prelude.{◌≡◌};
 
 /// A fixed word.
-#[derive(Clone, Copy, Debug, PartialEq, Eq)]
+#[derive(Clone, Copy)]
 pub(crate) enum Keyword {
     Step,
     Auto,
@@ -33,60 +33,96 @@ pub(crate) enum Keyword {
 }
 
 impl Keyword {
-    ghost use Rattle.cdb_text.specs.Reading.{keyword_of, verb_of, later_word_of};
+    ghost use Rattle.cdb_text.specs.Keywords.{keyword_name};
+    ghost use Rattle.cdb_text.specs.Reading.{keyword_of};
+
+    /// Each fixed word.
+    const ALL: [Keyword; 25] = [
+        Keyword::Step,
+        Keyword::Auto,
+        Keyword::Lose,
+        Keyword::Undo,
+        Keyword::Redo,
+        Keyword::Forget,
+        Keyword::Rollback,
+        Keyword::Why,
+        Keyword::Break,
+        Keyword::Unbreak,
+        Keyword::Resume,
+        Keyword::Show,
+        Keyword::Decisions,
+        Keyword::Go,
+        Keyword::Learn,
+        Keyword::Crash,
+        Keyword::Query,
+        Keyword::Recv,
+        Keyword::Decide,
+        Keyword::Round,
+        Keyword::Write,
+        Keyword::Regs,
+        Keyword::Mail,
+        Keyword::History,
+        Keyword::Lost,
+    ];
+
+    /// The bytes of the word.
+    fn name(self) -> &'static [u8]
+        ensures { result.now ≡ keyword_name self }
+    {
+        match self {
+            Keyword::Step => b"step",
+            Keyword::Auto => b"auto",
+            Keyword::Lose => b"lose",
+            Keyword::Undo => b"undo",
+            Keyword::Redo => b"redo",
+            Keyword::Forget => b"forget",
+            Keyword::Rollback => b"rollback",
+            Keyword::Why => b"why",
+            Keyword::Break => b"break",
+            Keyword::Unbreak => b"unbreak",
+            Keyword::Resume => b"resume",
+            Keyword::Show => b"show",
+            Keyword::Decisions => b"decisions",
+            Keyword::Go => b"go",
+            Keyword::Learn => b"learn",
+            Keyword::Crash => b"crash",
+            Keyword::Query => b"query",
+            Keyword::Recv => b"recv",
+            Keyword::Decide => b"decide",
+            Keyword::Round => b"round",
+            Keyword::Write => b"write",
+            Keyword::Regs => b"regs",
+            Keyword::Mail => b"mail",
+            Keyword::History => b"history",
+            Keyword::Lost => b"lost",
+        }
+    }
 
     /// The fixed word that this is.
     pub(crate) fn of(word: &[u8]) -> Option<Keyword>
         ensures { result ≡ keyword_of word.now }
     {
-        match Keyword::verb_of(word) {
-            Some(keyword) => Some(keyword),
-            None => Keyword::later_word_of(word),
-        }
-    }
-
-    /// The fixed word that this is, if a command begins with it.
-    #[tactic(auto, unfolding(crate::specs::Reading::verb_of))]
-    fn verb_of(word: &[u8]) -> Option<Keyword>
-        ensures { result ≡ verb_of word.now }
-    {
         match word {
-            b"step" => Some(Keyword::Step),
-            b"auto" => Some(Keyword::Auto),
-            b"lose" => Some(Keyword::Lose),
+            // A number is none, and most words behind the first are numbers.
+            [first, ..] if *first < b'a' => None,
+            // Those that long scripts have most.
             b"undo" => Some(Keyword::Undo),
             b"redo" => Some(Keyword::Redo),
-            b"forget" => Some(Keyword::Forget),
-            b"rollback" => Some(Keyword::Rollback),
             b"why" => Some(Keyword::Why),
-            b"break" => Some(Keyword::Break),
-            b"unbreak" => Some(Keyword::Unbreak),
-            b"resume" => Some(Keyword::Resume),
-            b"show" => Some(Keyword::Show),
-            b"decisions" => Some(Keyword::Decisions),
-            _ => None,
+            b"lose" => Some(Keyword::Lose),
+            b"lost" => Some(Keyword::Lost),
+            _ => Keyword::named(word),
         }
     }
 
-    /// The fixed word that this is, if it stands further in a command.
-    #[tactic(auto, unfolding(crate::specs::Reading::later_word_of))]
-    fn later_word_of(word: &[u8]) -> Option<Keyword>
-        ensures { result ≡ later_word_of word.now }
+    /// The one that has this name.
+    #[tactic(auto, unfolding(crate::specs::Reading::keyword_of))]
+    fn named(word: &[u8]) -> Option<Keyword>
+        ensures { result ≡ keyword_of word.now }
     {
-        match word {
-            b"go" => Some(Keyword::Go),
-            b"learn" => Some(Keyword::Learn),
-            b"crash" => Some(Keyword::Crash),
-            b"query" => Some(Keyword::Query),
-            b"recv" => Some(Keyword::Recv),
-            b"decide" => Some(Keyword::Decide),
-            b"round" => Some(Keyword::Round),
-            b"write" => Some(Keyword::Write),
-            b"regs" => Some(Keyword::Regs),
-            b"mail" => Some(Keyword::Mail),
-            b"history" => Some(Keyword::History),
-            b"lost" => Some(Keyword::Lost),
-            _ => None,
-        }
+        Keyword::ALL
+            .iter()
+            .copied()
+            .find(|keyword| word == keyword.name())
     }
 }

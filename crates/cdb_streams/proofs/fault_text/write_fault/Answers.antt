@@ -4,4 +4,4 @@ pub returns-in-Read : goal.returns-in-Read
 returns-in-Read g c = rw c.in-Read.is c.write_each.ensures
 
 pub returns-in-Write : goal.returns-in-Write
-returns-in-Write g c = rw c.in-Write.is c.write_each-in-Write.ensures
+returns-in-Write g c = rw c.in-Write.is c.write_words.ensures
