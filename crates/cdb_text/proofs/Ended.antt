@@ -1,5 +1,5 @@
 -- A command and then the end of the words: what is read from the left.
-use Rattle.std.proofs.Common.{◌≡◌, ℕ, List, [], ◌∷◌, Option, Some, refl}
+use Rattle.std.proofs.Common.{◌≡◌, ℕ, List, [], ◌∷◌, Option, Some, refl, ap, ◌∙◌}
 use Rattle.std.specs.Prelude.{ok_or, Result, Ok, Err}
 use Rattle.cdb_base.specs.declared.register.Reg.{Reg}
 use Rattle.cdb_base.specs.declared.act.Act.TheVariants as act
@@ -166,3 +166,9 @@ verb_to_the_end other words = refl
 pub command_to_the_end : (words : List (List ℕ)) → to_the_end (command_from words) ≡ command_at words
 unfolding command_from command_at
 command_to_the_end words = behind_a_word (λ word. verb_from (keyword_of word)) (λ word. command_of (keyword_of word)) (λ word. verb_to_the_end (keyword_of word)) words
+
+-- the command is read by its first word
+pub by_verb : (words : List (List ℕ)) (word : List ℕ) (rest : List (List ℕ)) (k : Keyword) → word_at words ≡ Ok (word, rest) → keyword_of word ≡ Some k → command_from words ≡ verb_from (Some k) rest
+unfolding command_from
+by_verb words word rest k next is =
+    ap (λ (read : Result (List ℕ × List (List ℕ)) LineFault). read >>= λ behind. verb_from (keyword_of behind.0) behind.1) next ∙ ap (λ (found : Option Keyword). verb_from found rest) is

@@ -116,6 +116,7 @@ fn event(verb: Verb, words: &mut Words<'_>) -> Result<Command, LineFault>
 fn command(words: &mut Words<'_>) -> Result<Command, LineFault>
     ensures { Tells (λ command. (command, words.new)) result (command_from words.old) }
 {
+    // Names the type inside a breakpoint: the checker asks for that where a breakpoint is passed on.
     let _register: Option<Reg> = None;
     let word = words.word()?;
     match Keyword::of(word) {
@@ -147,7 +148,8 @@ fn command(words: &mut Words<'_>) -> Result<Command, LineFault>
 fn whole_line(mut words: Words<'_>) -> Result<Command, LineFault>
     ensures { IsReadAfter [] words.entry result }
 {
-    let _types: Option<(Stop, Reg)> = None;
+    // Names the types inside a command: the checker asks for that where a command is passed on.
+    let _parts: Option<(Stop, Reg)> = None;
     let command = command(&mut words)?;
     words.end(command)
 }
