@@ -1,7 +1,7 @@
 //! A session: what its lines have led to.
 
 ghost use Rattle.std.specs.Prelude.{◌≡◌, ◌-◌, ◌<◌, ◌^◌, ◌++◌, IfOk, OnOk};
-ghost use Rattle.cdb_debug.specs.Dialogues.{session_by, begun, after_request, response_to, shown};
+ghost use Rattle.cdb_debug.specs.Dialogues.{Session as SessionRecord, session_by, begun, after_request, response_to, shown};
 ghost use Rattle.cdb_commands.specs.ToldReply.{told};
 ghost use Rattle.cdb_debug.specs.Requests.{Asks};
 ghost use Rattle.cdb_text.specs.Texts.{text_of};
@@ -14,7 +14,7 @@ use cdb_control::{CallFault, Command, Control, Reply};
 use cdb_rules::Runs;
 use cdb_setup::Setup;
 use cdb_text::reply_text;
-use std::alloc::Global;
+use std::alloc::{AllocError, Global};
 use std::marker::Model;
 
 /// How many seats a session has.
@@ -114,11 +114,21 @@ impl<R: Runs> Session<R> {
         ensures after { OnOk result
             (session_by R.rules self.new ≡ after_request (session_by R.rules self.old) request) }
     {
+        let again = request;
         let mut text = self.respond(alloc, line, request)?;
-        if request != Request::Quit {
-            text.extend_from_slice(prompt)?;
-        }
+        push_prompt(&mut text, prompt, again)?;
         Ok(text)
+    }
+}
+
+/// Adds the prompt to a response, and nothing to that to `quit`.
+fn push_prompt(text: &mut Vec<u8>, prompt: &[u8], request: Request) -> Result<(), AllocError>
+    ensures { OnOk result ((session : SessionRecord) → text.old.items ≡ response_to session request →
+        text.new.items ≡ shown prompt.now session request) }
+{
+    match request {
+        Request::Quit => Ok(()),
+        _ => text.extend_from_slice(prompt),
     }
 }
 

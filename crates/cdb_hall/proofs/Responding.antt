@@ -10,7 +10,8 @@ use Rattle.cdb_debug.specs.Requests.{Asks}
 use Rattle.cdb_debug.specs.declared.request.Request.{Request}
 use Rattle.cdb_debug.specs.declared.request.Request.TheVariants.{Call, Seat, Help, Quit, Fault, TooLong}
 use Rattle.cdb_streams.specs.declared.buffer.OutputFault.TheVariants as output
-use Rattle.cdb_shared.specs.Seats.{IsLater, IsCall}
+use Rattle.cdb_shared.specs.Seats.{IsLater, IsCall, SameCalls, SeesFull}
+use Rattle.cdb_debug.specs.Dialogues.{full_text}
 use Rattle.cdb_hall.specs.Dialogues.{prompt_after}
 use Rattle.cdb_hall.specs.Unfinished.{SeatRespondsToLine}
 use Rattle.cdb_hall.specs.Lines.{SeatSession, HasDone, Responds, Shows, own_response}
@@ -26,6 +27,11 @@ module _ (rules : Parts → Rules) where
   call_responds (Ok text) old new command reply later call few is =
       (reply ∷ [], record { later = later; calls = (command, refl, call, few); full = λ c asks none. let long = ap length none in absurd (omega (arith, long)) }, is)
   call_responds (Err fault) old new command reply later call few is = (reply ∷ [], record { later = later; calls = (command, refl, call, few) })
+
+  -- a command found the journal full
+  pub full_responds : {E : Type 0} (r : Result (Vec ℕ Global) E) (old new : SeatSession) (command : Command) → IsLater old.seat new.seat → SameCalls old.seat new.seat.seen → SeesFull new.seat → IfOk r (λ text. text.items ≡ full_text) → Responds rules r old (Call command) new
+  full_responds (Ok text) old new command later same full is = ([], record { later = later; calls = (same, λ was. full); full = λ other asks none. full }, is)
+  full_responds (Err fault) old new command later same full is = ([], record { later = later; calls = (same, λ was. full) })
 
   -- a line that asks for no command
   pub own_responses : {E : Type 0} (r : Result (Vec ℕ Global) E) (old : SeatSession) (request : Request) → old.seat.rests ≡ true → ((command : Command) → request ≢ Call command) → IfOk r (λ text. text.items ≡ own_response old.lines request) → Responds rules r old request old

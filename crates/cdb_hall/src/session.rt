@@ -4,6 +4,7 @@ ghost use Rattle.std.specs.Prelude.{◌≡◌, ◌+◌, ◌-◌, ◌<◌, ◌^�
 ghost use Rattle.cdb_commands.specs.ToldReply.{told};
 ghost use Rattle.cdb_text.specs.Pushes.{Pushes};
 ghost use Rattle.cdb_text.specs.Texts.{text_of};
+ghost use Rattle.cdb_debug.specs.Dialogues.{full_text};
 ghost use Rattle.cdb_hall.specs.Dialogues.{prompt_after};
 ghost use Rattle.cdb_hall.specs.Lines.{Responds, Shows, own_response};
 ghost use Rattle.cdb_shared.specs.Seats.{RestsAt};
@@ -47,12 +48,11 @@ impl<R: Runs> Session<R> {
         ensures responds { Responds R.rules result self.old (Request.Call command) self.new }
         ensures lines { self.new.lines ≡ self.old.lines }
     {
-        let reply = match shared.call(rt, alloc, &mut self.seat, command) {
-            Ok(reply) => reply,
-            Err(CallFault::JournalFull) => return Ok(b"journal full\n".to_vec(alloc)?),
-            Err(CallFault::NoMemory) => return Err(NoMemory),
-        };
-        text_of(alloc, reply)
+        match shared.call(rt, alloc, &mut self.seat, command) {
+            Ok(reply) => text_of(alloc, reply),
+            Err(CallFault::JournalFull) => text_of_full(alloc),
+            Err(CallFault::NoMemory) => Err(NoMemory),
+        }
     }
 
     /// Does what a line asks for, and returns the response. After an error the session is not to go on.
@@ -95,6 +95,13 @@ impl<R: Runs> Session<R> {
         self.lines += 1;
         Ok(text)
     }
+}
+
+/// The response to a command for which the journal has no room.
+fn text_of_full(alloc: Global) -> Result<Vec<u8>, NoMemory>
+    ensures { IfOk result (λ text. text.items ≡ full_text) }
+{
+    Ok(b"journal full\n".to_vec(alloc)?)
 }
 
 /// The text of a reply, which is given up.

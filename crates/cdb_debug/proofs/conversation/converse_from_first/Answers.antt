@@ -69,3 +69,14 @@ respond_to_last-requires-2 g c = omega (arith, c.loop-read.invariant.lines, c.lo
 pub returns : goal.returns
 returns g c =
     over_at_most c.args.prompt.now _ (session_by g.R.Runs.rules c.args.session.now) _ (session_by g.R.Runs.rules c.loop-read.session) c.loop-read.unfinished.items c.loop-read.read c.loop-read.invariant.arrives (g.T.Talk.known c.loop-read.talk) c.loop-read-test.false _ c.respond_to_last-2.result c.respond_to_last-2.ensures
+
+pub overflow_add-read : goal.overflow_add-read
+overflow_add-read g c = omega (arith, c.loop-read-test.true, c.in-Ok-read.ensures.within)
+
+pub hear-requires-clause-lines : goal.hear-requires-clause-lines
+hear-requires-clause-lines g c =
+    let buffer : List ℕ = c.read.new.buffer in
+    omega (arith, c.loop-read.invariant.lines, c.loop-read-test.true, c.in-Ok-read.ensures.within, length-take c.in-Ok-read.count buffer)
+
+pub loop-read-smaller : goal.loop-read-smaller
+loop-read-smaller g c = omega (arith, c.loop-read-test.true, c.if-count-eq0.false)

@@ -89,3 +89,17 @@ returns-clause-all g c =
 
 pub returns-clause-seat : goal.returns-clause-seat
 returns-clause-seat g c = IsLater-trans _ _ _ c.loop-read.invariant.later c.respond_to_last-2.ensures.seat
+
+pub respond_to_last-requires-clause-lines : goal.respond_to_last-requires-clause-lines
+respond_to_last-requires-clause-lines g c = omega (arith, c.loop-read.invariant.lines, c.loop-read-test.true)
+
+pub overflow_add-read : goal.overflow_add-read
+overflow_add-read g c = omega (arith, c.loop-read-test.true, c.in-Ok-read.ensures.within)
+
+pub hear-requires-clause-lines : goal.hear-requires-clause-lines
+hear-requires-clause-lines g c =
+    let buffer : List ℕ = c.read.new.buffer in
+    omega (arith, c.loop-read.invariant.lines, c.loop-read-test.true, c.in-Ok-read.ensures.within, length-take c.in-Ok-read.count buffer)
+
+pub loop-read-smaller : goal.loop-read-smaller
+loop-read-smaller g c = omega (arith, c.loop-read-test.true, c.if-count-eq0.false)

@@ -33,10 +33,10 @@ loop-seat-preserved g c =
     let seats = c.in-Some.ensures.cases in
     let stations = c.in-Some-pop.ensures.cases in
     let handles = c.loop-seat.handles.ok.0 in
-    let whole : all ≡ front ++ (seat ∷ was.left.0) = was.left.1 ∙ ap (λ l. l ++ was.left.0) popped ∙ append_assoc front (seat ∷ []) was.left.0 in
+    let whole : all ≡ front ++ (seat ∷ was.left.0) = was.left.1 ∙ ap (λ l. l ++ was.left.0) {y = front ++ (seat ∷ [])} popped ∙ append_assoc front (seat ∷ []) was.left.0 in
     let its = c.in-Some-pop.station in
     let few = c.in-Some-pop.ensures.items in
-    let all_stations : c.args.stations.items ≡ c.pop-in-Some.new.self.items ++ (its ∷ was.left_stations.0) = was.left_stations.1 ∙ ap (λ l. l ++ was.left_stations.0) few ∙ append_assoc c.pop-in-Some.new.self.items (its ∷ []) was.left_stations.0 in
+    let all_stations : c.args.stations.items ≡ c.pop-in-Some.new.self.items ++ (its ∷ was.left_stations.0) = was.left_stations.1 ∙ ap (λ l. l ++ was.left_stations.0) {y = c.pop-in-Some.new.self.items ++ (its ∷ [])} few ∙ append_assoc c.pop-in-Some.new.self.items (its ∷ []) was.left_stations.0 in
     let at_station : vec_len c.args.stations - 1 - length c.loop-seat.handles.items ≡ length c.pop-in-Some.new.self.items = omega (arith, stations, seats, c.pop-in-Some.new.self.ok.0, handles, was.count, was.stations, was.many_stations) in
     let at : vec_len c.args.seats - 1 - length c.loop-seat.handles.items ≡ length front = omega (arith, seats, c.pop.new.self.ok.0, handles, was.count) in
     record {
@@ -57,3 +57,9 @@ loop-seat-preserved g c =
 
 pub returns-clause-each : goal.returns-clause-each
 returns-clause-each g c = λ k before station handle low. c.loop-seat.invariant.each k before station handle (omega (arith, c.in_default-pop.ensures.cases.0, c.loop-seat.invariant.count))
+
+pub returns-clause-count : goal.returns-clause-count
+returns-clause-count g c = omega (arith, c.in_default-pop.ensures.cases.0, c.loop-seat.invariant.count)
+
+pub loop-seat-smaller : goal.loop-seat-smaller
+loop-seat-smaller g c = omega (arith, c.in-Some.ensures.cases)

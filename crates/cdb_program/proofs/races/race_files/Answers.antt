@@ -24,3 +24,12 @@ returns-clause-does g c =
     let raced : RacesOn json c.args.turns contents (g.O.Sink.stream c.outside.inside.streams.output) (g.O.Sink.stream c.race_bytes.new.output) c.race_bytes.result =
     rw (← c.as_slice.ensures.value, ← c.as_slice-2.ensures.value) c.race_bytes.ensures in
     rw (← c.outside.view_is) (refl, inr (json ∷ contents, read, raced))
+
+pub returns-in_err-json-clause-error : goal.returns-in_err-json-clause-error
+returns-in_err-json-clause-error g c = rw (← c.outside.view_is) refl
+
+pub returns-in_err-contents-clause-error : goal.returns-in_err-contents-clause-error
+returns-in_err-contents-clause-error g c = rw (← c.outside.view_is) refl
+
+pub returns-clause-error : goal.returns-clause-error
+returns-clause-error g c = rw (← c.outside.view_is) refl

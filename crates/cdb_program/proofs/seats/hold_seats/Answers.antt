@@ -1,4 +1,5 @@
-use Rattle.std.proofs.Common.{◌∷◌, [], map}
+use Rattle.std.proofs.Common.{ℕ, List, [], ◌∷◌, Bor, map, refl, ap, arith}
+use Rattle.std.proofs.lemmas.List.{length-map}
 use Rattle.std.proofs.lemmas.Result.{err_from_is_err_and}
 use Rattle.cdb_rules.specs.Algorithms.{rules}
 use Rattle.cdb_program.specs.Reading.{file_names}
@@ -37,3 +38,19 @@ returns-clause-fault g c =
       (opened_then _ _ _ (c.args.setup.now ∷ []) names c.in_ok-json.ensures.0 c.in_ok-stations.ensures.opened, c.in_ok-json.ensures.1.0),
       rw (← c.as_slice.ensures.value) c.in-Err.ensures.fault,
     )
+
+pub returns-then-seats-from-clause-fault : goal.returns-then-seats-from-clause-fault
+returns-then-seats-from-clause-fault g c =
+    (omega (arith, c.from.ensures, c.if-seats-from.true, length-map c.args.seats.now (λ (name : Bor (List ℕ)). name.now)), refl)
+
+pub returns-in-Ok-clause-input : goal.returns-in-Ok-clause-input
+returns-in-Ok-clause-input g c = rw (← c.outside.view_is) refl
+
+pub returns-clause-output : goal.returns-clause-output
+returns-clause-output g c = rw (← c.outside.view_is) (ap g.O.Sink.stream c.in-Err.ensures.unwritten.0)
+
+pub returns-clause-error : goal.returns-clause-error
+returns-clause-error g c = rw (← c.outside.view_is) (ap g.E.Sink.stream c.in-Err.ensures.unwritten.1)
+
+pub returns-clause-input : goal.returns-clause-input
+returns-clause-input g c = rw (← c.outside.view_is) refl
