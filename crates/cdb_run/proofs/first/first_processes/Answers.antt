@@ -12,6 +12,6 @@ loop-i-preserved g c =
     c.loop-i.processes.items c.push.new.self.items (map fresh_progress (first_states first 1 setup.processes setup.quorum setup.inputs))
     c.new-p.ensures.value
     c.input.ensures
-    (c.in_ok-local.ensures ∙ ap₂ (λ n q. first c.new-p.result n q c.input.result) c.n-n.ensures.value c.q.ensures)
+    (◌∙◌ {b = first c.new-p.result c.n-n.result c.q.result c.input.result} c.in_ok-local.ensures (ap₂ (λ n q. first c.new-p.result n q c.input.result) c.n-n.ensures.value c.q.ensures))
     c.in_ok-push.ensures.items
     c.loop-i.invariant
