@@ -319,18 +319,17 @@ module _ {L B : Type 0} {machine : Machine L} {before : L → B → L} {processe
       may_count_back = subst (λ (x : Progress L). IsCountable x kind) (sym progress_is) (progress_countable machine last current.state p k kind step_taken)
 
       -- what is held once the step is taken back
-      pub current_undone : (left_progress : Progress L) (index : ℕ) {left_mail : MailState} {left_registers : RegisterStates} {left_history : List Event} {left_entries : List (Recorded B)}
-          → index + 1 ≡ p
-          → left_progress ≡ progress_before before progress kind entry.back
+      pub current_undone : {left_processes : List (Progress L)} {left_mail : MailState} {left_registers : RegisterStates} {left_history : List Event} {left_entries : List (Recorded B)}
+          → left_processes ≡ set_nth processes p (progress_before before progress kind entry.back)
           → left_mail ≡ mail_before mail p kind
           → left_registers ≡ registers_before registers kind entry.overwritten
           → left_history ≡ without history i
           → left_entries ≡ without entries i
-          → IsCurrent machine before (slice_set processes index left_progress) left_mail left_registers left_history left_entries
-      current_undone left_progress index position progress_left mail_left registers_left history_left entries_left =
+          → IsCurrent machine before left_processes left_mail left_registers left_history left_entries
+      current_undone processes_left mail_left registers_left history_left entries_left =
           current_left
-          (set_at processes index p left_progress position
-          ∙ ap₂ (λ l x. set_nth l p x) current.processes_are (progress_left ∙ ap (λ (x : Progress L). progress_before before x kind entry.back) progress_is)
+          (processes_left
+          ∙ ap₂ (λ l (x : Progress L). set_nth l p (progress_before before x kind entry.back)) current.processes_are progress_is
           ∙ processes_restored machine last current.state p k kind step_taken before entry.back step_leads_back)
           (mail_left ∙ ap (λ m. mail_before m p kind) current.mail_is ∙ mail_restored machine last current.state p k kind step_taken)
           (registers_left ∙ ap₂ (λ r o. registers_before r kind o) current.registers_are cell_is ∙ registers_restored machine last current.state p k kind step_taken)

@@ -2,6 +2,7 @@
 
 use crate::change::change;
 use crate::first::{first_processes, with_registers};
+use crate::restore::restore_change;
 use cdb_base::{Kind, NoMemory, Proc};
 use cdb_message::mail::Mail;
 use cdb_process::Process;
@@ -25,6 +26,7 @@ impl<P: Process> State<P> {
     ghost use Rattle.cdb_register.specs.Registers.{fresh_registers};
     ghost use Rattle.cdb_rules.specs.Machines.{progress_at_start, uses_registers};
     ghost use Rattle.cdb_run.specs.Stepped.{MayStep, HasStepped, IsSameState};
+    ghost use Rattle.cdb_run.specs.Restored.{MayTakeBack, HasTakenBack};
 
     /// The state of a run of a setup in which nothing has happened.
     pub(crate) fn first(alloc: Global, setup: &Setup) -> Result<Self, NoMemory>
@@ -68,5 +70,22 @@ impl<P: Process> State<P> {
             kind,
         )?;
         Ok(left)
+    }
+
+    /// Takes back the last step of process `p`, with all that it changed. It takes no memory.
+    pub(crate) fn take_back(&mut self, p: Proc, kind: &Kind, left: Left<P::Back>)
+        requires process { p ≤ length self.old.processes.items }
+        requires may_take_back { MayTakeBack self.old p kind.now left.overwritten }
+        ensures { HasTakenBack P.before self.old p kind.now left self.new }
+    {
+        let progress = &mut self.processes[p.index()];
+        restore_change(
+            progress,
+            &mut self.mail,
+            &mut self.registers,
+            p,
+            kind,
+            left,
+        );
     }
 }
