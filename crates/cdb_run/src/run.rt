@@ -298,11 +298,8 @@ impl<P: Process> Run<P> {
         ensures err { OnErr result (self.new ≡ self.old) }
         ensures memory { OnErr result (IsOk (result_of_again P.table self.old event.now)) }
     {
-        if let Err(refusal) = self.plan_again(event) {
-            return Ok(Err(refusal));
-        }
-        self.take(alloc, event)?;
-        Ok(Ok(*event))
+        let planned = self.plan_again(event);
+        self.take_planned(alloc, planned)
     }
 
     /// Loses the copy of the `m`-th message of process `s` for process `p`, or returns the first
