@@ -1,6 +1,7 @@
 use Rattle.std.proofs.Common.{◌≡◌, ◌+◌, ◌≤◌, [], ◌∷◌, ◌++◌, length, length-set, length-append, ap, ◌∙◌, arith}
+use Rattle.std.proofs.lemmas.Result.{err_from_is_err_and}
 use Rattle.cdb_message.specs.Mail.{MailState, message_name, sent_by, next_name, add_send}
-use Rattle.cdb_message.proofs.Changed.{stands_at, changed_at}
+use Rattle.cdb_message.proofs.Changed.{stands_at, changed_at, kept_at}
 use Rattle.cdb_message.proofs.mail.Mail.send.Goals as goal
 
 pub invariant_of-self : goal.invariant_of-self
@@ -9,6 +10,13 @@ invariant_of-self c =
     let few = kept.1 in
     let long = length-set c.self.inside.sent.items c.index.result c.push.new.self in
     (long ∙ kept.0, omega (arith, long, few), kept.2)
+
+pub returns-in_err-push-clause-err : goal.returns-in_err-push-clause-err
+returns-in_err-push-clause-err c =
+    let mail : MailState = record { sent = c.self.inside.sent.items; received = c.self.inside.received.items; lost = c.self.inside.lost } in
+    let same = kept_at mail.sent c.index.result c.index_mut-outbox.result.now c.push.new.self c.in_err-push.ensures.err c.index_mut-outbox.ensures.value in
+    rw (err_from_is_err_and c.from_residual.result c.from_residual.ensures.1).1
+    ((λ j. record { sent = same j; received = mail.received; lost = mail.lost }) ∙ c.self.view_is)
 
 pub invariant_of-self-2 : goal.invariant_of-self-2
 invariant_of-self-2 c =
