@@ -1,4 +1,4 @@
-use Rattle.std.proofs.Common.{◌≡◌, Option, Some, None, subst, sym}
+use Rattle.std.proofs.Common.{◌≡◌, Option, subst, sym}
 use Rattle.std.specs.Prelude.{IsSome}
 use Rattle.std.specs.Option.{ForSome}
 use Rattle.cdb_process.specs.declared.Input.{Input}
@@ -7,8 +7,7 @@ use Rattle.cdb_run.proofs.change.change.Goals as goal
 
 -- the machine accepts the input, if there is one
 accepted : {L : Type 0} (next : L → Input → Option L) (local : L) (input : Option Input) → IsSome (taken_local next local input) → ForSome input (λ given. IsSome (next local given))
-accepted next local None may = tt
-accepted next local (Some given) may = may
+accepted next local input may = λ given is. subst (λ (i : Option Input). IsSome (taken_local next local i)) is may
 
 pub take_input-requires : goal.take_input-requires
 take_input-requires g c =
