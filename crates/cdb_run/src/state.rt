@@ -79,13 +79,6 @@ impl<P: Process> State<P> {
         ensures { HasTakenBack P.before self.old p kind.now left self.new }
     {
         let progress = &mut self.processes[p.index()];
-        restore_change(
-            progress,
-            &mut self.mail,
-            &mut self.registers,
-            p,
-            kind,
-            left,
-        );
+        restore_change(progress, &mut self.mail, &mut self.registers, p, kind, left);
     }
 }

@@ -13,14 +13,14 @@ loop-i-preserved g c =
     let more : c.match-decision.found.items ≡ found ++ option_to_list (option_map (λ v. (i + 1, v)) (decision progress.local)) =
     elim c.match-decision.branch [
       | in-Some+in_ok-push w ↦
-        ap (λ l. l.items) w.found-is
-        ∙ w.in_ok-push.ensures.items
-        ∙ ap (λ p. found ++ (p, w.in-Some.value) ∷ []) w.new.ensures.value
-        ∙ ap (λ o. found ++ option_to_list (option_map (λ v. (i + 1, v)) o)) (sym w.in-Some.is ∙ c.decision.ensures.value)
+          ap (λ l. l.items) w.found-is
+          ∙ w.in_ok-push.ensures.items
+          ∙ ap (λ p. found ++ (p, w.in-Some.value) ∷ []) w.new.ensures.value
+          ∙ ap (λ o. found ++ option_to_list (option_map (λ v. (i + 1, v)) o)) (sym w.in-Some.is ∙ c.decision.ensures.value)
       | in_default w ↦
-        ap (λ l. l.items) w.found-is
-        ∙ sym (append-nil found)
-        ∙ ap (λ o. found ++ option_to_list (option_map (λ v. (i + 1, v)) o)) (sym w.in_default.is ∙ c.decision.ensures.value)
+          ap (λ l. l.items) w.found-is
+          ∙ sym (append-nil found)
+          ∙ ap (λ o. found ++ option_to_list (option_map (λ v. (i + 1, v)) o)) (sym w.in_default.is ∙ c.decision.ensures.value)
     ]
     in
     decided_next decision c.args.processes.now i found c.loop-i.invariant progress c.match-decision.found.items c.loop-i-test.true c.index-processes-i.is more

@@ -12,8 +12,7 @@ pub invariant_of-self : goal.invariant_of-self
 invariant_of-self c =
     let kept = c.self.invariant in
     let mail : MailState = record { sent = c.self.inside.sent.items; received = c.self.inside.received.items; lost = c.self.inside.lost } in
-    let same = kept_at mail.received c.index.result c.index_mut-names.result.now c.insert.new.self c.in_err-insert.ensures.err c.index_mut-names.ensures.value in
-    (
+    let same = kept_at mail.received c.index.result c.index_mut-names.result.now c.insert.new.self c.in_err-insert.ensures.err c.index_mut-names.ensures.value in (
       kept.0 ∙ sym (length-set mail.received c.index.result c.insert.new.self),
       kept.1,
       subst (λ (received : List NameSet). AreClosed c.self.inside.passed (record mail { received = received })) (sym same) kept.2,
@@ -33,8 +32,7 @@ invariant_of-self-2 c =
     let longer = ap (λ (m : MailState). length m.received) c.self.view_is in
     let among = c.requires.among in
     let within : c.args.p ≤ length mail.received = omega (arith, longer, among) in
-    let set_by = changed_at mail.received c.index.result c.args.p c.index_mut-names.result.now finite.empty c.index.ensures.value within c.index_mut-names.ensures.value (λ s. finite.insert s c.args.name) c.insert.new.self c.in_ok-insert.ensures.ok in
-    (
+    let set_by = changed_at mail.received c.index.result c.args.p c.index_mut-names.result.now finite.empty c.index.ensures.value within c.index_mut-names.ensures.value (λ s. finite.insert s c.args.name) c.insert.new.self c.in_ok-insert.ensures.ok in (
       kept.0 ∙ sym (length-set mail.received c.index.result c.insert.new.self),
       kept.1,
       rw set_by (closed-add_receive c.self.inside.passed mail kept.2 c.args.p c.args.name),

@@ -13,8 +13,7 @@ invariant_of-self c =
     let longer = ap (λ (m : MailState). length m.received) c.self.view_is in
     let among = c.requires.among in
     let within : c.args.p ≤ length mail.received = omega (arith, longer, among) in
-    let set_by = changed_at mail.received c.index.result c.args.p c.index_mut-names.result.now finite.empty c.index.ensures.value within c.index_mut-names.ensures.value (λ s. finite.remove s c.args.name) c.remove.new.self c.remove.ensures in
-    (
+    let set_by = changed_at mail.received c.index.result c.args.p c.index_mut-names.result.now finite.empty c.index.ensures.value within c.index_mut-names.ensures.value (λ s. finite.remove s c.args.name) c.remove.new.self c.remove.ensures in (
       kept.0 ∙ sym (length-set mail.received c.index.result c.remove.new.self),
       kept.1,
       rw set_by (closed-remove_receive c.self.inside.passed mail kept.2 c.leave_out.new.self c.args.p c.args.name.s c.args.name.m c.leave_out.ensures),

@@ -41,9 +41,9 @@ invariant_of-self g c =
     elim ensures.failed [
       | inl same ↦ same
       | inr failed ↦
-        let met = failed.met in
-        let left : failed.left.now ≡ failed.shown.now = search (rules, met) in
-        sym failed.leaves ∙ left ∙ failed.shows
+          let met = failed.met in
+          let left : failed.left.now ≡ failed.shown.now = search (rules, met) in
+          sym failed.leaves ∙ left ∙ failed.shows
     ]
     in
     current_same g.P.Process.table c.self.inside.setup {old = old} c.self.invariant (record { processes = old.processes; mail = mail; registers = old.registers })

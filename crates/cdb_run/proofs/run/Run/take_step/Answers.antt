@@ -59,9 +59,9 @@ invariant_of-self g c =
     elim ensures.failed [
       | inl same ↦ subst (IsSameState old) (sym same) (record { processes = refl; mail = refl; registers = refl })
       | inr failed ↦
-        let met = failed.met in
-        let left : IsSameState failed.shown.now failed.left.now = search (rules, met) in
-        subst (λ s. IsSameState s new) failed.shows (subst (IsSameState failed.shown.now) failed.leaves left)
+          let met = failed.met in
+          let left : IsSameState failed.shown.now failed.left.now = search (rules, met) in
+          subst (λ s. IsSameState s new) failed.shows (subst (IsSameState failed.shown.now) failed.leaves left)
     ]
     in
     current_same g.P.Process.table c.self.inside.setup c.self.invariant new same c.push_with.new.self ensures.err
