@@ -8,7 +8,7 @@ use Rattle.cdb_base.specs.declared.event.Event.{Event}
 use Rattle.cdb_base.specs.declared.event.Event.TheVariants.{Step}
 use Rattle.cdb_base.specs.declared.event.Kind.{Kind}
 use Rattle.cdb_causal.specs.Dependence.{sends, receives, accesses}
-use Rattle.cdb_history.specs.Cells.{row, named_cell, named_copy_cell}
+use Rattle.cdb_history.specs.Cells.{named_cell, named_copy_cell}
 use Rattle.cdb_history.specs.Flagged.{AreFlagged, IsKindNoted, flag_in, writes, does, takes, loses, loses_copy}
 use Rattle.cdb_history.specs.declared.flags.Flags.{Flags}
 

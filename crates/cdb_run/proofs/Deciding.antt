@@ -1,5 +1,5 @@
 -- Of the processes those that have decided, one after another.
-use Rattle.std.proofs.Common.{◌≡◌, ℕ, suc, ◌+◌, ◌<◌, ◌≤◌, List, [], ◌∷◌, ◌++◌, length, map, drop, get_or, Option, sym, ap, ap₂, ◌∙◌, subst, add-one, append_assoc, append-nil, drop-cons}
+use Rattle.std.proofs.Common.{◌≡◌, ℕ, suc, ◌+◌, ◌<◌, ◌≤◌, List, ◌∷◌, ◌++◌, length, map, drop, get_or, Option, sym, ap, ap₂, ◌∙◌, add-one, append_assoc, append-nil, drop-cons}
 use Rattle.std.proofs.lemmas.List.{drop_all}
 use Rattle.std.specs.Prelude.{option_map, option_to_list}
 use Rattle.cdb_rules.specs.Decisions.{decided_from}

@@ -1,5 +1,5 @@
 -- The last event of a run is taken back: what its record restores is the state that the other events reach.
-use Rattle.std.proofs.Common.{◌==◌, option_to_list, ◌≡◌, ℕ, zero, suc, ◌+◌, ◌-◌, ◌<◌, ◌≤◌, Bool, true, false, ◌&&◌, List, [], ◌∷◌, ◌++◌, length, map, take, Option, Some, IsSome, is_some, option_map, unwrap_or, slice_get, slice_set, get_or, nat_eq, refl, sym, ap, ap₂, ◌∙◌, subst, arith}
+use Rattle.std.proofs.Common.{◌==◌, option_to_list, ◌≡◌, ℕ, zero, suc, ◌+◌, ◌-◌, ◌<◌, ◌≤◌, Bool, true, false, ◌&&◌, List, [], ◌∷◌, ◌++◌, length, map, take, Option, Some, IsSome, is_some, option_map, unwrap_or, slice_get, get_or, nat_eq, refl, sym, ap, ap₂, ◌∙◌, subst, arith}
 use Rattle.std.proofs.Math.Seq.{take-append_seam}
 use Rattle.std.proofs.lemmas.List.{length_push}
 use Rattle.std.proofs.lemmas.Option.{same_Some, slice_get_read}
@@ -42,7 +42,7 @@ use Rattle.cdb_rules.proofs.Kept.{is_false, left, at_left, lost_kept, received_k
 use Rattle.cdb_rules.proofs.Mails.{sent_is, mail_left}
 use Rattle.cdb_rules.proofs.Members.{now_lost, losable}
 use Rattle.cdb_rules.proofs.Numbers.{sends_of, send_number, received_first, received_now}
-use Rattle.cdb_rules.proofs.Positions.{nth-map, nth-update_nth_same, map-set_nth, set_at, get_at, set_nth_same, nth-set_nth_same, nth_within}
+use Rattle.cdb_rules.proofs.Positions.{nth-map, nth-update_nth_same, map-set_nth, get_at, set_nth_same, nth-set_nth_same, nth_within}
 use Rattle.cdb_run.proofs.Records.{free_recorded_last}
 use Rattle.cdb_run.proofs.SentFirst.{IsSentFirst, sent_first}
 use Rattle.cdb_rules.proofs.Taken.{IsTaken, IsAccepted, taken_from, parts, some_of, both}

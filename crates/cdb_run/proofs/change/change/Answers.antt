@@ -1,4 +1,4 @@
-use Rattle.std.proofs.Common.{◌≡◌, Option, subst, sym}
+use Rattle.std.proofs.Common.{Option, subst, sym}
 use Rattle.std.specs.Prelude.{IsSome}
 use Rattle.std.specs.Option.{ForSome}
 use Rattle.cdb_process.specs.declared.Input.{Input}

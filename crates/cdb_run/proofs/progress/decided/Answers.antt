@@ -1,4 +1,4 @@
-use Rattle.std.proofs.Common.{◌≡◌, ◌+◌, ◌++◌, sym, ap, ap₂, ◌∙◌, append-nil, [], ◌∷◌}
+use Rattle.std.proofs.Common.{◌≡◌, ◌+◌, ◌++◌, sym, ap, ◌∙◌, append-nil, [], ◌∷◌}
 use Rattle.std.specs.Prelude.{option_map, option_to_list}
 use Rattle.cdb_run.proofs.Deciding.{decided_next, decided_all}
 use Rattle.cdb_run.proofs.progress.decided.Goals as goal

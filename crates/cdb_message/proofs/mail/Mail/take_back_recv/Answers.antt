@@ -1,4 +1,4 @@
-use Rattle.std.proofs.Common.{◌≡◌, ◌≤◌, length, length-set, ap, ◌∙◌, sym, arith}
+use Rattle.std.proofs.Common.{◌≤◌, length, length-set, ap, ◌∙◌, sym, arith}
 use Rattle.std.specs.FinSet as finite
 use Rattle.cdb_message.specs.Mail.{MailState, remove_receive}
 use Rattle.cdb_message.proofs.Changed.{changed_at}

@@ -1,4 +1,4 @@
-use Rattle.std.proofs.Common.{◌≡◌, ◌≤◌, [], length, length-set, ap, ◌∙◌, arith}
+use Rattle.std.proofs.Common.{◌≤◌, [], length, length-set, ap, ◌∙◌, arith}
 use Rattle.cdb_base.specs.Positions.{without_last}
 use Rattle.cdb_message.specs.Mail.{MailState, remove_send}
 use Rattle.cdb_message.proofs.Changed.{changed_at}

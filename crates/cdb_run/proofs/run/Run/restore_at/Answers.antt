@@ -1,6 +1,5 @@
-use Rattle.std.proofs.Common.{rules, ℕ, ◌≡◌, ◌-◌, ◌<◌, ◌≤◌, length, Some, List, sym, ap, ap₂, ◌∙◌, subst, arith}
+use Rattle.std.proofs.Common.{ℕ, ◌≡◌, ◌-◌, ◌≤◌, length, Some, List, sym, ap, ap₂, ◌∙◌, subst, arith}
 use Rattle.std.proofs.lemmas.List.{length-map}
-use Rattle.std.proofs.lemmas.Grind.{common_steps}
 use Rattle.cdb_base.specs.Positions.{nth}
 use Rattle.cdb_causal.specs.Causality.{IsFree}
 use Rattle.cdb_causal.specs.Dependence.{depends}
@@ -14,7 +13,7 @@ use Rattle.cdb_record.proofs.Seams.{before_nth, events_without, without_below}
 use Rattle.cdb_rules.specs.RunView.{RunView}
 use Rattle.cdb_setup.specs.Parts.{Parts}
 use Rattle.cdb_run.proofs.Admitting.{nth_events}
-use Rattle.cdb_run.proofs.Restoring.{stepped_within, stepped_there, may_unpost, may_restore, may_count_back, current_undone, is_lost_now, current_found}
+use Rattle.cdb_run.proofs.Restoring.{stepped_within, may_unpost, may_restore, may_count_back, current_undone, is_lost_now, current_found}
 use Rattle.cdb_run.proofs.run.Run.restore_at.Goals as goal
 use Rattle.cdb_run.proofs.run.Run.restore_at.Goals.{in-Some-1, in-None-1}
 
