@@ -27,3 +27,4 @@ pub mod Listing
 pub mod Tabling
 pub mod Accessing
 pub mod Waiting
+pub mod Noting

@@ -88,11 +88,7 @@ impl Index {
     {
         match message.round() {
             Some(round) => {
-                if let Some(row) = self.rows.get_mut(&round) {
-                    row.note(round, messages, message);
-                    return Ok(());
-                }
-                let mut row = Row::new();
+                let mut row = self.row(round);
                 row.note(round, messages, message);
                 self.rows.insert(round, row)?;
             }

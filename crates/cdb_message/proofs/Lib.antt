@@ -7,3 +7,4 @@ pub mod TakenBack
 pub mod Sent
 pub mod Rising
 pub mod Least
+pub mod Changed

@@ -1,11 +1,13 @@
--- A receive or a loss that is taken back leaves the mail as it was.
-use Rattle.std.proofs.Common.{◌≡◌, ℕ, suc, zero, List, [], ◌∷◌, false, refl, ap}
+-- A send, a receive or a loss that is taken back leaves the mail as it was.
+use Rattle.std.proofs.Common.{◌≡◌, ℕ, suc, zero, ◌-◌, List, [], ◌∷◌, ◌++◌, length, take, false, refl, ap, ◌∙◌, length-append, arith}
+use Rattle.std.proofs.Math.Seq.{take-append_seam}
 use Rattle.std.specs.Prelude.{slice_get, slice_set, unwrap_or}
 use Rattle.std.specs.FinSet as finite
-use Rattle.cdb_base.specs.Positions.{nth, set_nth}
+use Rattle.cdb_base.specs.Positions.{nth, set_nth, without_last}
 use Rattle.cdb_base.specs.declared.name.MsgName.{MsgName}
 use Rattle.cdb_base.specs.declared.name.CopyName.{CopyName}
-use Rattle.cdb_message.specs.Mail.{MailState, received_by, is_received, is_lost, add_receive, add_loss, remove_receive, remove_loss}
+use Rattle.cdb_base.specs.declared.payload.Payload.{Payload}
+use Rattle.cdb_message.specs.Mail.{MailState, sent_by, received_by, is_received, is_lost, add_send, add_receive, add_loss, remove_send, remove_receive, remove_loss}
 use Rattle.cdb_message.proofs.Sets.{remove-insert, name_cmp_total, name_cmp-IsAntisymmetric, copy_cmp_total, copy_cmp-IsAntisymmetric}
 
 module _ {A : Type 0} (d : A) (change back : A → A) where
@@ -22,6 +24,15 @@ module _ {A : Type 0} (d : A) (change back : A → A) where
       set_nth changed p (back (unwrap_or (nth changed p) d)) ≡ xs)
   set_nth-back xs zero h = refl
   set_nth-back xs (suc i) h = slice_set-back xs i h
+
+pub remove_send-add_send : (mail : MailState) (p : ℕ) (payload : Payload) → remove_send (add_send mail p payload) p ≡ mail
+remove_send-add_send mail p payload =
+    let sent = sent_by mail p in
+    let grown : List Payload = sent ++ payload ∷ [] in
+    let long = length-append sent (payload ∷ []) in
+    let less : length grown - 1 ≡ length sent = omega (arith, long) in
+    let same = ap (λ n. take n grown) less ∙ take-append_seam sent (payload ∷ []) in
+    λ i. record mail { sent = set_nth-back [] (λ l. l ++ payload ∷ []) without_last mail.sent p same i }
 
 pub remove_receive-add_receive : (mail : MailState) (p : ℕ) (name : MsgName) → is_received mail p name ≡ false
     → remove_receive (add_receive mail p name) p name ≡ mail

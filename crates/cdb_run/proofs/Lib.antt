@@ -1,6 +1,7 @@
 -- what is held of a run: at the start, before and after an event, and what it shows
 pub mod Starting
 pub mod FirstStep
+pub mod Deciding
 pub mod Held
 pub mod Stepping
 pub mod Planned

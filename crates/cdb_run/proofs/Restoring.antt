@@ -1,5 +1,5 @@
 -- The last event of a run is taken back: what its record restores is the state that the other events reach.
-use Rattle.std.proofs.Common.{◌==◌, option_to_list, ◌≡◌, ℕ, zero, suc, ◌+◌, ◌-◌, ◌<◌, ◌≤◌, Bool, true, false, ◌&&◌, List, [], ◌∷◌, ◌++◌, length, map, take, Option, Some, IsSome, is_some, option_map, unwrap_or, slice_get, slice_set, get_or, nat_eq, refl, sym, ap, ap₂, ◌∙◌, subst, arith}
+use Rattle.std.proofs.Common.{◌==◌, option_to_list, ◌≡◌, ℕ, zero, suc, ◌+◌, ◌-◌, ◌<◌, ◌≤◌, Bool, true, false, ◌&&◌, List, [], ◌∷◌, ◌++◌, length, map, take, Option, Some, IsSome, is_some, option_map, unwrap_or, slice_get, get_or, nat_eq, refl, sym, ap, ap₂, ◌∙◌, subst, arith}
 use Rattle.std.proofs.Math.Seq.{take-append_seam}
 use Rattle.std.proofs.lemmas.List.{length_push}
 use Rattle.std.proofs.lemmas.Option.{same_Some, slice_get_read}
@@ -42,7 +42,7 @@ use Rattle.cdb_rules.proofs.Kept.{is_false, left, at_left, lost_kept, received_k
 use Rattle.cdb_rules.proofs.Mails.{sent_is, mail_left}
 use Rattle.cdb_rules.proofs.Members.{now_lost, losable}
 use Rattle.cdb_rules.proofs.Numbers.{sends_of, send_number, received_first, received_now}
-use Rattle.cdb_rules.proofs.Positions.{nth-map, nth-update_nth_same, map-set_nth, set_at, get_at, set_nth_same, nth-set_nth_same, nth_within}
+use Rattle.cdb_rules.proofs.Positions.{nth-map, nth-update_nth_same, map-set_nth, get_at, set_nth_same, nth-set_nth_same, nth_within}
 use Rattle.cdb_run.proofs.Records.{free_recorded_last}
 use Rattle.cdb_run.proofs.SentFirst.{IsSentFirst, sent_first}
 use Rattle.cdb_rules.proofs.Taken.{IsTaken, IsAccepted, taken_from, parts, some_of, both}
@@ -319,18 +319,17 @@ module _ {L B : Type 0} {machine : Machine L} {before : L → B → L} {processe
       may_count_back = subst (λ (x : Progress L). IsCountable x kind) (sym progress_is) (progress_countable machine last current.state p k kind step_taken)
 
       -- what is held once the step is taken back
-      pub current_undone : (left_progress : Progress L) (index : ℕ) {left_mail : MailState} {left_registers : RegisterStates} {left_history : List Event} {left_entries : List (Recorded B)}
-          → index + 1 ≡ p
-          → left_progress ≡ progress_before before progress kind entry.back
+      pub current_undone : {left_processes : List (Progress L)} {left_mail : MailState} {left_registers : RegisterStates} {left_history : List Event} {left_entries : List (Recorded B)}
+          → left_processes ≡ set_nth processes p (progress_before before progress kind entry.back)
           → left_mail ≡ mail_before mail p kind
           → left_registers ≡ registers_before registers kind entry.overwritten
           → left_history ≡ without history i
           → left_entries ≡ without entries i
-          → IsCurrent machine before (slice_set processes index left_progress) left_mail left_registers left_history left_entries
-      current_undone left_progress index position progress_left mail_left registers_left history_left entries_left =
+          → IsCurrent machine before left_processes left_mail left_registers left_history left_entries
+      current_undone processes_left mail_left registers_left history_left entries_left =
           current_left
-          (set_at processes index p left_progress position
-          ∙ ap₂ (λ l x. set_nth l p x) current.processes_are (progress_left ∙ ap (λ (x : Progress L). progress_before before x kind entry.back) progress_is)
+          (processes_left
+          ∙ ap₂ (λ l (x : Progress L). set_nth l p (progress_before before x kind entry.back)) current.processes_are progress_is
           ∙ processes_restored machine last current.state p k kind step_taken before entry.back step_leads_back)
           (mail_left ∙ ap (λ m. mail_before m p kind) current.mail_is ∙ mail_restored machine last current.state p k kind step_taken)
           (registers_left ∙ ap₂ (λ r o. registers_before r kind o) current.registers_are cell_is ∙ registers_restored machine last current.state p k kind step_taken)

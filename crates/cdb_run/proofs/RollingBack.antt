@@ -1,5 +1,5 @@
 -- A rollback, event by event, from the last consequence back.
-use Rattle.std.proofs.Common.{◌≡◌, ℕ, zero, suc, ◌+◌, ◌≤◌, List, [], ◌∷◌, ◌++◌, length, map, filter, reverse, Some, Result, Ok, Err, append_assoc, refl, sym, ap, ◌∙◌, subst, arith}
+use Rattle.std.proofs.Common.{◌≡◌, ℕ, zero, suc, ◌+◌, ◌≤◌, List, [], ◌∷◌, ◌++◌, length, map, filter, reverse, Some, Result, Ok, Err, IsOk, append_assoc, refl, sym, ap, ◌∙◌, subst, arith}
 use Rattle.std.proofs.lemmas.List.{length-reverse, reverse-append}
 use Rattle.std.proofs.lemmas.Option.{none-some, same_Some}
 use Rattle.std.specs.List.{flat_map}
@@ -21,7 +21,7 @@ use Rattle.cdb_history.proofs.Keeping.{standing_without}
 use Rattle.cdb_causal.proofs.LawsFromOne.{rolled_back_split, rolled_back_alone, rolled_back_last}
 use Rattle.cdb_base.specs.declared.refusal.Refusal.{Refusal}
 use Rattle.cdb_rules.specs.RunView.{RunView}
-use Rattle.cdb_rules.specs.Runs.{with_left, after_rollback}
+use Rattle.cdb_rules.specs.Runs.{RollsBackOnto, with_left, after_rollback}
 use Rattle.cdb_rules.specs.State.{Machine}
 use Rattle.cdb_rules.specs.Step.{IsValid}
 use Rattle.cdb_rules.specs.Undo.{Found, event_named, found_at, for_standing, rollback_of, causes_of, result_alone, left_by, number_removed, with_removed, direct_among}
@@ -154,6 +154,9 @@ module _ (n : ℕ) (history : List Event) (name : StepId) (at : ℕ) (found : ev
   pub list_result : (old new : List Event) → new ≡ old ++ reverse (rolled_back depends history at) → new ≡ with_removed old (result_alone (rollback_of n history name))
   list_result old new is = is ∙ sym (ap (λ a. with_removed old (result_alone a)) rolled_result)
 
+  pub ok_result : IsOk (result_alone (rollback_of n history name))
+  ok_result = rw rolled_result refl
+
   -- the event that was found has the name
   pub named_result : IsNamedAt history at name
   named_result = found_named n history name at found_event.0 found_event.1 found
@@ -171,3 +174,17 @@ refused_result run name why is =
     ap
     (λ (f : Result Found Refusal). with_left run (for_standing f (λ stands. Ok (reverse (rolled_back depends run.history stands.position), remaining depends run.history stands.position))))
     is
+
+-- as is the list of what was removed; and none is removed
+pub refused_onto : {E : Type 0} (run : RunView) (name : StepId) (why : Refusal) (onto : List Event) → event_named run.setup.processes run.history name ≡ Err why → RollsBackOnto {E = E} run run name onto onto (Ok (Err why))
+refused_onto run name why onto is =
+    let refused : rollback_of run.setup.processes run.history name ≡ Err why =
+    ap (λ (f : Result Found Refusal). for_standing f (λ stands. Ok (reverse (rolled_back depends run.history stands.position), remaining depends run.history stands.position))) is in
+    record {
+      returns = sym (ap (λ a. number_removed (result_alone a)) refused);
+      after = sym (refused_result run name why is);
+      list = sym (ap (λ a. with_removed onto (result_alone a)) refused);
+      err = tt;
+      list_err = tt;
+      memory = tt;
+    }

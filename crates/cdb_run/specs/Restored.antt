@@ -8,6 +8,9 @@ use Rattle.cdb_message.specs.Mail.{MailState, message_name, copy_name, sent_by, 
 use Rattle.cdb_register.specs.Registers.{RegisterStates, register_of, with_register, restored}
 use Rattle.cdb_run.specs.Back.{put_back}
 use Rattle.cdb_rules.specs.declared.progress.Progress.{Progress}
+use Rattle.cdb_base.specs.Positions.{nth, set_nth}
+use Rattle.cdb_record.specs.declared.recorded.Left.{Left}
+use Rattle.cdb_run.specs.declared.state.State.{State}
 
 abbrev pub queries_before : ℕ → Kind → ℕ
 queries_before queries (Query leader) = queries - 1
@@ -54,3 +57,19 @@ abbrev pub IsRestorable : RegisterStates → Kind → Option Cell → Type 0
 IsRestorable registers (Write register) overwritten =
     IsSome (register_of registers register) × ForSome (register_of registers register) (λ stands. 0 < stands.writes) × IsSome overwritten
 IsRestorable registers _ overwritten = Unit {0}
+
+-- The state of a run before its last step of a process.
+
+-- process p may take back a step of that kind, which overwrote the cell
+pub record MayTakeBack {L : Type 0} (state : State L) (p : ℕ) (kind : Kind) (overwritten : Option Cell) : Type 0 where
+  pub countable : (progress : Progress L) → nth state.processes.items p ≡ Some progress → IsCountable progress kind
+  pub unpostable : IsUnpostable state.mail p kind
+  pub restorable : IsRestorable state.registers kind overwritten
+
+-- it has taken it back, with what it left
+pub record HasTakenBack {L B : Type 0} (before : L → B → L) (old : State L) (p : ℕ) (kind : Kind) (left : Left B) (new : State L) : Type 0 where
+  pub progress : Progress L
+  pub stood : nth old.processes.items p ≡ Some progress
+  pub processes : new.processes.items ≡ set_nth old.processes.items p (progress_before before progress kind left.back)
+  pub mail : new.mail ≡ mail_before old.mail p kind
+  pub registers : new.registers ≡ registers_before old.registers kind left.overwritten

@@ -11,7 +11,6 @@ ghost use Rattle.cdb_rules.specs.Step.{is_among};
 ghost use Rattle.cdb_rules.specs.Runs.{IsNumberAmong, IsNext, IsInOrder, process_in, progress_in, alive_in, steps_in, queries_in, local_in, mail_in, registers_in, register_in, cell_in, writes_in, decisions_in, result_of_step, result_of_again, result_of_loss, with_event, with_result, IsJustTaken};
 
 use crate::among::process_among;
-use crate::first::first_processes;
 use crate::plan::{plan, plan_again, plan_loss, plan_loss_again};
 use crate::progress::decided;
 use crate::state::State;
@@ -24,7 +23,7 @@ use cdb_process::{Input, Process, accepts_receive};
 use cdb_record::Records;
 use cdb_register::Registers;
 use cdb_rules::Progress;
-use cdb_setup::{Algorithm, Setup};
+use cdb_setup::Setup;
 use std::alloc::Global;
 use std::marker::Model;
 
@@ -61,19 +60,8 @@ impl<P: Process> Run<P> {
     pub fn start(alloc: Global, setup: Setup) -> Result<Self, NoMemory>
         ensures { IfOk result (λ run. run ≡ record { setup = setup; history = [] }) }
     {
-        let n = setup.n();
-        let processes = first_processes(alloc, &setup)?;
-        let mail = Mail::new(alloc, n)?;
-        let with_registers = match setup.algorithm() {
-            Algorithm::Leader => 0,
-            Algorithm::Alpha => n,
-        };
-        let registers = Registers::new(alloc, with_registers)?;
-        let state = State {
-            processes,
-            mail,
-            registers,
-        };
+        let _ranges = setup.n();
+        let state = State::first(alloc, &setup)?;
         Ok(Run {
             setup,
             state,
@@ -310,11 +298,8 @@ impl<P: Process> Run<P> {
         ensures err { OnErr result (self.new ≡ self.old) }
         ensures memory { OnErr result (IsOk (result_of_again P.table self.old event.now)) }
     {
-        if let Err(refusal) = self.plan_again(event) {
-            return Ok(Err(refusal));
-        }
-        self.take(alloc, event)?;
-        Ok(Ok(*event))
+        let planned = self.plan_again(event);
+        self.take_planned(alloc, planned)
     }
 
     /// Loses the copy of the `m`-th message of process `s` for process `p`, or returns the first

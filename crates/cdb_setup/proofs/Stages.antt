@@ -1,5 +1,5 @@
 -- The parts are read one after the other: what was read leaves no fault of its rank.
-use Rattle.std.proofs.Common.{◌≡◌, ℕ, ◌+◌, List, length, map, arith, inl, inr}
+use Rattle.std.proofs.Common.{◌≡◌, ℕ, ◌+◌, List, length, map, subst, arith, inl, inr}
 use Rattle.std.specs.List.{AllByRecursion}
 use Rattle.std.proofs.lemmas.Bool.{cases_lt}
 use Rattle.serde_json.specs.Data.{Data, Members, object}
@@ -11,7 +11,7 @@ use Rattle.cdb_setup.specs.declared.fault.SetupFault.TheVariants.{NotJson, NotOb
 use Rattle.cdb_setup.specs.Parts.{IsWithin}
 use Rattle.cdb_setup.specs.Format.{whole, array_of, array_of_whole, HasAt, HasAlgorithm, HasKnownKeys}
 use Rattle.cdb_setup.specs.Faults.{Holds, IsCount}
-use Rattle.cdb_setup.specs.Order.{rank, IsLookedForBefore}
+use Rattle.cdb_setup.specs.Order.{rank, numbers_in, IsPairBefore, IsLookedForBefore}
 use Rattle.cdb_setup.specs.Ranks.{IsFirstOfRank, HasNeededKeys, IsFirstOf, IsClearBelow}
 use Rattle.cdb_setup.proofs.NoFault.{no_bad_input, no_bad_answer}
 
@@ -24,6 +24,22 @@ joined t fault json clear found = record {
     | inr le ↦ found.first other (omega (arith, found.in_rank)) before holds
   ];
 }
+
+-- as is a fault that is alone in its rank
+pub alone_first : (fault : SetupFault) (json : Data) → IsClearBelow (rank fault) json → numbers_in fault ≡ (0, 0) → Holds fault json → IsFirstOf fault json
+alone_first fault json clear none holds = record {
+  holds = holds;
+  first = λ other before. elim before [
+    | inl lt ↦ clear other lt
+    | inr same ↦ absurd (no_pair (numbers_in other) (subst (IsPairBefore (numbers_in other)) none same.1))
+  ];
+}
+  where
+    no_pair : (a : ℕ × ℕ) → ¬ IsPairBefore a (0, 0)
+    no_pair a before = elim before [
+      | inl lt ↦ omega (arith, lt)
+      | inr same ↦ (let lt = same.1 in omega (arith, lt))
+    ]
 
 passes : (t : ℕ) (json : Data) → IsClearBelow t json → ((other : SetupFault) → rank other ≡ t → ¬ Holds other json) → IsClearBelow (t + 1) json
 passes t json clear none other below =
@@ -59,14 +75,21 @@ no_answer : (n : ℕ) (lists : List (List ℕ)) (json : Data) → IsCount n json
 no_answer n lists json count at len all (BadOracle process position) is holds = no_bad_answer n lists json count at len all process position holds
 no_answer n lists json count at len all other is holds = absurd (omega arith)
 
+pub after_algorithm : (algorithm : Algorithm) (json : Data) → IsClearBelow 5 json → HasAlgorithm algorithm json → IsClearBelow 6 json
+after_algorithm algorithm json five named = passes 5 json five (no_bad_algorithm algorithm json named)
+
+pub after_count : (algorithm : Algorithm) (n : ℕ) (json : Data) → IsClearBelow 5 json → HasAlgorithm algorithm json → IsCount n json → IsClearBelow 7 json
+after_count algorithm n json five named count = passes 6 json (after_algorithm algorithm json five named) (no_bad_count n json count)
+
+pub after_quorum : (algorithm : Algorithm) (n q : ℕ) (json : Data) → IsClearBelow 5 json → HasAlgorithm algorithm json → IsCount n json
+    → HasAt key.Quorum (whole q) json → IsWithin 1 n q → IsClearBelow 8 json
+after_quorum algorithm n q json five named count quorum within = passes 7 json (after_count algorithm n json five named count) (no_bad_quorum n q json count quorum within)
+
 -- once the inputs are read, no fault of a rank up to theirs is left
 pub after_inputs : (algorithm : Algorithm) (n q : ℕ) (inputs : List ℕ) (json : Data) → IsClearBelow 5 json → HasAlgorithm algorithm json → IsCount n json
     → HasAt key.Quorum (whole q) json → IsWithin 1 n q → HasAt key.Inputs (array_of_whole inputs) json → length inputs ≡ n → AllByRecursion (IsWithin 0 MAX_VALUE) inputs → IsClearBelow 9 json
 after_inputs algorithm n q inputs json five named count quorum within at len all =
-    let six = passes 5 json five (no_bad_algorithm algorithm json named) in
-    let seven = passes 6 json six (no_bad_count n json count) in
-    let eight = passes 7 json seven (no_bad_quorum n q json count quorum within) in
-    passes 8 json eight (no_input n inputs json count at len all)
+    passes 8 json (after_quorum algorithm n q json five named count quorum within) (no_input n inputs json count at len all)
 
 pub after_answers : (n : ℕ) (lists : List (List ℕ)) (json : Data) → IsClearBelow 9 json → IsCount n json → HasAt key.Oracle (array_of (map array_of_whole lists)) json → length lists ≡ n
     → AllByRecursion (AllByRecursion (IsWithin 1 n)) lists → IsClearBelow 10 json

@@ -2,7 +2,7 @@
 
 ghost use Rattle.std.specs.Prelude.{◌≡◌, Some};
 ghost use Rattle.cdb_setup.specs.declared.fault.SetupFault.TheVariants.{NoMemory};
-ghost use Rattle.cdb_setup.specs.Numbers.{fault_number, fault_name, setup_fault_text};
+ghost use Rattle.cdb_setup.specs.Numbers.{fault_number, fault_name, setup_detail, setup_fault_text};
 
 use crate::key::Key;
 use std::alloc::{AllocError, AllocFailed};
@@ -93,8 +93,23 @@ impl fmt::Display for SetupFault {
             return f.write_str("no memory");
         };
         let name = self.name();
-        write!(f, "setup fault {number} {name}")?;
-        match self {
+        let detail = Detail { fault: *self };
+        write!(f, "setup fault {number} {name}{detail}")
+    }
+}
+
+/// What a fault carries, as its text ends with it.
+#[derive(Drop)]
+struct Detail {
+    fault: SetupFault,
+}
+
+/// After a space the key, the position, or the process and the position; nothing where the fault carries none.
+impl fmt::Display for Detail {
+    ghost output = { λ detail. Some (setup_detail detail.fault) };
+
+    fn fmt<W: fmt::Write>(&self, f: &mut fmt::Formatter<W>) -> fmt::Result {
+        match self.fault {
             SetupFault::Missing(key) => {
                 let key = key.name();
                 write!(f, " {key}")

@@ -11,7 +11,6 @@ ghost use Rattle.cdb_rules.specs.Runs.{step_name, loss_name, CanUndo, LeadsTo, r
 ghost use Rattle.cdb_rules.specs.AtPositions.{IsPositionFound, undo_at_position};
 ghost use Rattle.cdb_rules.specs.Undo.{result_alone};
 
-use crate::restore::restore_change;
 use crate::run::Run;
 use cdb_base::{CopyName, Event, MsgName, Refusal, StepId, StepName};
 use cdb_history::first_dependent;
@@ -84,17 +83,7 @@ impl<P: Process> Run<P> {
         let taken = event;
         match event {
             Event::Step { p, k: _, kind } => {
-                let state = &mut self.state;
-                let progress = &mut state.processes[p.index()];
-                let left = Left { back, overwritten };
-                restore_change(
-                    progress,
-                    &mut state.mail,
-                    &mut state.registers,
-                    p,
-                    &kind,
-                    left,
-                );
+                self.state.take_back(p, &kind, Left { back, overwritten });
             }
             Event::Lost(copy) => self.state.mail.take_back_lose(copy.to, copy.msg),
         }

@@ -1,6 +1,5 @@
-use Rattle.std.proofs.Common.{rules, ℕ, ◌≡◌, ◌-◌, ◌<◌, ◌≤◌, length, Some, List, sym, ap, ap₂, ◌∙◌, subst, arith}
+use Rattle.std.proofs.Common.{ℕ, ◌≡◌, ◌-◌, ◌≤◌, length, Some, List, sym, ap, ap₂, ◌∙◌, subst, arith}
 use Rattle.std.proofs.lemmas.List.{length-map}
-use Rattle.std.proofs.lemmas.Grind.{common_steps}
 use Rattle.cdb_base.specs.Positions.{nth}
 use Rattle.cdb_causal.specs.Causality.{IsFree}
 use Rattle.cdb_causal.specs.Dependence.{depends}
@@ -14,7 +13,7 @@ use Rattle.cdb_record.proofs.Seams.{before_nth, events_without, without_below}
 use Rattle.cdb_rules.specs.RunView.{RunView}
 use Rattle.cdb_setup.specs.Parts.{Parts}
 use Rattle.cdb_run.proofs.Admitting.{nth_events}
-use Rattle.cdb_run.proofs.Restoring.{stepped_within, stepped_there, may_unpost, may_restore, may_count_back, current_undone, is_lost_now, current_found}
+use Rattle.cdb_run.proofs.Restoring.{stepped_within, may_unpost, may_restore, may_count_back, current_undone, is_lost_now, current_found}
 use Rattle.cdb_run.proofs.run.Run.restore_at.Goals as goal
 use Rattle.cdb_run.proofs.run.Run.restore_at.Goals.{in-Some-1, in-None-1}
 
@@ -39,8 +38,8 @@ take_out-back-requires-clause-to_len g c =
 pub take_out-back-requires-clause-free : goal.take_out-back-requires-clause-free
 take_out-back-requires-clause-free g c = subst (λ (s : RunView). IsFree depends s.history c.args.at) (sym c.self.view_is) c.requires.free
 
-pub index_mut-progress-requires : goal.index_mut-progress-requires
-index_mut-progress-requires g c =
+pub take_back-requires-clause-process : goal.take_back-requires-clause-process
+take_back-requires-clause-process g c =
     let i = c.args.at - 1 in
     let same = ap (λ (s : RunView). s.history) c.self.view_is in
     let first = c.requires.from_one in
@@ -51,13 +50,10 @@ index_mut-progress-requires g c =
     let k = c.in-Step.k in
     let kind = c.in-Step.kind in
     let is = c.in-Step.is in
-    let here_within = stepped_within c.self.invariant i entry at free p k kind is in
-    let position = c.index.ensures.value in
-    let below_len : c.index.result < length c.self.inside.state.processes.items = omega (arith, here_within, position) in
-    first_of (search (rules, below_len), grind (arith, below_len, common_steps))
+    stepped_within c.self.invariant i entry at free p k kind is
 
-pub restore_change-requires-clause-countable : goal.restore_change-requires-clause-countable
-restore_change-requires-clause-countable g c =
+pub take_back-requires-clause-may_take_back : goal.take_back-requires-clause-may_take_back
+take_back-requires-clause-may_take_back g c =
     let i = c.args.at - 1 in
     let same = ap (λ (s : RunView). s.history) c.self.view_is in
     let first = c.requires.from_one in
@@ -68,37 +64,11 @@ restore_change-requires-clause-countable g c =
     let k = c.in-Step.k in
     let kind = c.in-Step.kind in
     let is = c.in-Step.is in
-    let progress = c.index_mut-progress.result.now in
-    let held = stepped_there c.self.invariant i entry at free p k kind is c.index.result progress c.index.ensures.value c.index_mut-progress.ensures.value in
-    may_count_back c.self.invariant i entry at free p k kind is progress held
-
-pub restore_change-requires-clause-unpostable : goal.restore_change-requires-clause-unpostable
-restore_change-requires-clause-unpostable g c =
-    let i = c.args.at - 1 in
-    let same = ap (λ (s : RunView). s.history) c.self.view_is in
-    let first = c.requires.from_one in
-    let free = free_below c.self.inside.records c.args.at first (subst (λ h. IsFree depends h c.args.at) (sym same) c.requires.free) in
-    let entry = c.take_out-back.result in
-    let at = before_nth c.self.inside.records c.args.at entry first c.take_out-back.ensures.recorded in
-    let p = c.in-Step.p in
-    let k = c.in-Step.k in
-    let kind = c.in-Step.kind in
-    let is = c.in-Step.is in
-    may_unpost c.self.invariant i entry at free p k kind is
-
-pub restore_change-requires-clause-restorable : goal.restore_change-requires-clause-restorable
-restore_change-requires-clause-restorable g c =
-    let i = c.args.at - 1 in
-    let same = ap (λ (s : RunView). s.history) c.self.view_is in
-    let first = c.requires.from_one in
-    let free = free_below c.self.inside.records c.args.at first (subst (λ h. IsFree depends h c.args.at) (sym same) c.requires.free) in
-    let entry = c.take_out-back.result in
-    let at = before_nth c.self.inside.records c.args.at entry first c.take_out-back.ensures.recorded in
-    let p = c.in-Step.p in
-    let k = c.in-Step.k in
-    let kind = c.in-Step.kind in
-    let is = c.in-Step.is in
-    may_restore c.self.invariant i entry at free p k kind is
+    record {
+      countable = may_count_back c.self.invariant i entry at free p k kind is;
+      unpostable = may_unpost c.self.invariant i entry at free p k kind is;
+      restorable = may_restore c.self.invariant i entry at free p k kind is;
+    }
 
 pub invariant_of-self : goal.invariant_of-self
 invariant_of-self g c =
@@ -112,10 +82,8 @@ invariant_of-self g c =
     let k = c.in-Step.k in
     let kind = c.in-Step.kind in
     let is = c.in-Step.is in
-    let progress = c.index_mut-progress.result.now in
-    let held = stepped_there c.self.invariant i entry at free p k kind is c.index.result progress c.index.ensures.value c.index_mut-progress.ensures.value in
-    current_undone c.self.invariant i entry at free p k kind is progress held c.restore_change.new.progress c.index.result c.index.ensures.value
-    c.restore_change.ensures.progress c.restore_change.ensures.mail c.restore_change.ensures.registers
+    let did = c.take_back.ensures in
+    current_undone c.self.invariant i entry at free p k kind is did.progress did.stood did.processes did.mail did.registers
     (ap events_of (rest_below c.self.inside.records c.args.at first c.take_out-back.ensures.rest) ∙ events_without c.self.inside.records i)
     (rest_below c.self.inside.records c.args.at first c.take_out-back.ensures.rest)
 

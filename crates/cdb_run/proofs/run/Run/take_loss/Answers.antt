@@ -1,4 +1,4 @@
-use Rattle.std.proofs.Common.{rules, ◌≡◌, ◌≤◌, ⊎_elim, IsTrue, false, length, refl, sym, ap, ◌∙◌, subst, arith}
+use Rattle.std.proofs.Common.{rules, ◌≡◌, ◌≤◌, inl, inr, IsTrue, false, length, refl, sym, ap, ◌∙◌, subst, arith}
 use Rattle.cdb_base.specs.declared.event.Event.TheVariants.{Lost}
 use Rattle.cdb_message.specs.Mail.{MailState, is_sent, is_received, is_lost, add_loss}
 use Rattle.cdb_record.specs.Recorded.{events_of, nothing}
@@ -38,13 +38,14 @@ invariant_of-self g c =
     let old = c.self.inside.state in
     let mail : MailState = c.push_loss_with.new.state in
     let same : mail ≡ old.mail =
-    ⊎_elim
-    (λ same. same)
-    (λ failed.
-    let met = failed.met in
-    let left : failed.left.now ≡ failed.shown.now = search (rules, met) in
-    sym failed.leaves ∙ left ∙ failed.shows)
-    ensures.failed in
+    elim ensures.failed [
+      | inl same ↦ same
+      | inr failed ↦
+          let met = failed.met in
+          let left : failed.left.now ≡ failed.shown.now = search (rules, met) in
+          sym failed.leaves ∙ left ∙ failed.shows
+    ]
+    in
     current_same g.P.Process.table c.self.inside.setup {old = old} c.self.invariant (record { processes = old.processes; mail = mail; registers = old.registers })
     (record { processes = refl; mail = same; registers = refl }) c.push_loss_with.new.self ensures.err
 

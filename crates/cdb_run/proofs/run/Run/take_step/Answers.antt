@@ -1,4 +1,4 @@
-use Rattle.std.proofs.Common.{rules, ◌≤◌, ⊎_elim, length, refl, sym, subst, arith}
+use Rattle.std.proofs.Common.{rules, ◌≤◌, inl, inr, length, refl, sym, subst, arith}
 use Rattle.cdb_base.specs.declared.event.Event.TheVariants.{Step}
 use Rattle.cdb_record.specs.Recorded.{events_of}
 use Rattle.cdb_rules.specs.RunView.{RunView}
@@ -56,13 +56,14 @@ invariant_of-self g c =
     let old = c.self.inside.state in
     let new = c.push_with.new.state in
     let same : IsSameState old new =
-    ⊎_elim
-    (λ same. subst (IsSameState old) (sym same) (record { processes = refl; mail = refl; registers = refl }))
-    (λ failed.
-    let met = failed.met in
-    let left : IsSameState failed.shown.now failed.left.now = search (rules, met) in
-    subst (λ s. IsSameState s new) failed.shows (subst (IsSameState failed.shown.now) failed.leaves left))
-    ensures.failed in
+    elim ensures.failed [
+      | inl same ↦ subst (IsSameState old) (sym same) (record { processes = refl; mail = refl; registers = refl })
+      | inr failed ↦
+          let met = failed.met in
+          let left : IsSameState failed.shown.now failed.left.now = search (rules, met) in
+          subst (λ s. IsSameState s new) failed.shows (subst (IsSameState failed.shown.now) failed.leaves left)
+    ]
+    in
     current_same g.P.Process.table c.self.inside.setup c.self.invariant new same c.push_with.new.self ensures.err
 
 pub invariant_of-self-2 : goal.invariant_of-self-2
