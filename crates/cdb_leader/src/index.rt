@@ -88,7 +88,11 @@ impl Index {
     {
         match message.round() {
             Some(round) => {
-                let mut row = self.row(round);
+                if let Some(row) = self.rows.get_mut(&round) {
+                    row.note(round, messages, message);
+                    return Ok(());
+                }
+                let mut row = Row::new();
                 row.note(round, messages, message);
                 self.rows.insert(round, row)?;
             }
