@@ -1,5 +1,5 @@
 -- Commands that share a word of the table.
-use Rattle.std.proofs.Common.{◌≡◌, ℕ, ◌-◌, false, IsOk, IfOk, OnErr, subst, List, [], ◌∷◌, ◌++◌, length, set, Option, Some, None, Result, Ok, Err, refl, sym, ap, ◌∙◌, true≢false}
+use Rattle.std.proofs.Common.{◌≡◌, ◌≤◌, ℕ, arith, ◌-◌, false, IsOk, IfOk, OnErr, subst, List, [], ◌∷◌, ◌++◌, length, set, Option, Some, None, Result, Ok, Err, refl, sym, ap, ◌∙◌, true≢false}
 use Rattle.std.proofs.lemmas.List.{set-get_or}
 use Rattle.std.proofs.lemmas.Option.{none-some}
 use Rattle.std.specs.Result.{result_err}
@@ -15,7 +15,7 @@ use Rattle.cdb_control.specs.Auto.{choice}
 use Rattle.cdb_control.specs.Commands.{Outcome, granted, found, unpaused, undone_by, redone, decides, step, undo, rollback, why, reply_of, outcome}
 use Rattle.cdb_rules.specs.EventRefs.{name_given}
 use Rattle.cdb_control.specs.State.{State, redo_of, last_of}
-use Rattle.cdb_control.specs.Done.{CameOutAs, IsNoRefusal}
+use Rattle.cdb_control.specs.Done.{CameOutAs, IsNoRefusal, IsCarriedOut, IsCarriedOutForAny, IsGranted, IsGrantedFromAny, NoneShrinks}
 use Rattle.cdb_commands.specs.declared.command.Command.{Command}
 use Rattle.cdb_commands.specs.declared.command.Command.TheVariants as command
 use Rattle.cdb_commands.specs.declared.reply.EventReply.{EventReply}
@@ -23,6 +23,7 @@ use Rattle.cdb_commands.specs.declared.reply.Reply.{Reply}
 use Rattle.cdb_rules.specs.declared.event_ref.EventRef.TheVariants.{Step, Lost}
 use Rattle.cdb_rules.specs.Refusals.{with_taken}
 use Rattle.cdb_rules.specs.Rules.{Rules}
+use Rattle.cdb_setup.specs.Parts.{Parts}
 use Rattle.cdb_rules.specs.Undo.{result_alone, left_by, number_removed, with_removed}
 
 pub undo_ok : (rules : Rules) (t u : State) (seat p k : ℕ) (it : Command) (r : Result EventReply NoMemory) → it ≡ command.Undo p k
@@ -54,6 +55,28 @@ pub why_lost_ok : (rules : Rules) (t : State) (seat s m p : ℕ) (it : Command) 
     → CameOutAs (why t (name_given (Lost s m p))) t r → CameOutAs (outcome rules t seat it) t r
 unfolding outcome
 why_lost_ok rules t seat s m p it r is ok = subst (λ (c : Command). CameOutAs (outcome rules t seat c) t r) (sym is) ok
+
+-- ---- commands that are carried out by a method of their own
+
+module _ (rules : Parts → Rules) (t u : State) (seat : ℕ) (one it : Command) (is : it ≡ one) {A : Type 0} (reply : A → Reply) where
+  pub same_ok : (r : Result A NoMemory) → IfOk r (λ a. IsCarriedOut rules t seat one u (reply a)) → IfOk r (λ a. IsCarriedOut rules t seat it u (reply a))
+  same_ok (Ok a) ok = subst (λ (c : Command). IsCarriedOut rules t seat c u (reply a)) (sym is) ok
+  same_ok (Err fault) ok = ok
+
+  pub any_ok : (r : Result A NoMemory) → IfOk r (λ a. IsCarriedOutForAny rules t one u (reply a)) → IfOk r (λ a. IsCarriedOut rules t seat it u (reply a))
+  any_ok (Ok a) ok = same_ok (Ok a) (ok seat)
+  any_ok (Err fault) ok = ok
+
+  pub same_granted : (r : Result A NoMemory) → OnErr r (IsGranted rules t seat one) → OnErr r (IsGranted rules t seat it)
+  same_granted (Ok a) granted = granted
+  same_granted (Err fault) granted = subst (λ (c : Command). IsGranted rules t seat c) (sym is) granted
+
+  pub any_granted : (r : Result A NoMemory) → OnErr r (IsGrantedFromAny rules t one) → OnErr r (IsGranted rules t seat it)
+  any_granted (Ok a) granted = granted
+  any_granted (Err fault) granted = same_granted (Err fault) (granted seat)
+
+pub as_many : (old new : List ℕ) → new ≡ old → NoneShrinks old new
+as_many old new same = subst (λ (l : List ℕ). NoneShrinks old l) (sym same) (λ i. omega arith)
 
 -- ---- commands that are not refused
 
