@@ -211,10 +211,7 @@ pub struct Raced<T: Runs> {
 impl<T: Runs> Raced<T> {
     /// Gives up what a race left. Code above drops it by this call, since the proof of what drops one goes through all
     /// its parts.
-    pub fn close(self) {
-        let Raced { control, .. } = self;
-        control.close();
-    }
+    pub fn close(self) {}
 }
 
 /// A control of the setup in which nothing has happened, shared, with this many seats.
