@@ -12,7 +12,8 @@ use Rattle.cdb_base.specs.declared.refusal.Refusal.TheVariants.{NothingToRedo}
 use Rattle.cdb_commands.specs.ToldReply.{is_refused, AsReply}
 use Rattle.cdb_commands.specs.ToldReply as reply
 use Rattle.cdb_control.specs.Auto.{choice}
-use Rattle.cdb_control.specs.Commands.{Outcome, granted, found, unpaused, undone_by, redone, decides, step, undo, rollback, why, reply_of, outcome}
+use Rattle.cdb_control.specs.Commands.{Outcome, granted, found, unpaused, undone_by, redone, decides, step, step_done, undo, rollback, why, reply_of, outcome}
+use Rattle.cdb_rules.specs.Auto.{step_of_chosen}
 use Rattle.cdb_rules.specs.EventRefs.{name_given}
 use Rattle.cdb_control.specs.State.{State, redo_of, last_of}
 use Rattle.cdb_control.specs.Done.{CameOutAs, IsNoRefusal, IsCarriedOut, IsCarriedOutForAny, IsGranted, IsGrantedFromAny, NoneShrinks}
@@ -193,4 +194,45 @@ redone-as rules t u seat undone event given r last is after tells ok =
     ap (λ (v : State). let o : Outcome = record { reply = reply.Redone event given; after = v } in o) (after ∙ ap (λ (z : Result Event Refusal). with_lists t seat (with_taken t.history z) (without_last (redo_of t seat))) ok)
     ∙ ap (λ (d : Option ℕ). let o : Outcome = record { reply = reply.Redone event d; after = with_lists t seat (t.history ++ event ∷ []) (without_last (redo_of t seat)) } in o) (tells ∙ ap (λ (z : Result Event Refusal). decides rules (with_taken t.history z) event) ok)
     ∙ ap (λ (z : Result Event Refusal). granted z t (redone rules t seat)) (sym ok ∙ is)
+    ∙ ap (λ (o : Option Event). found o NothingToRedo t (λ e. granted (rules.again t.history e) t (redone rules t seat))) last
+
+-- ---- what a refused step, redo or `auto` answers, together with what it leaves
+
+-- the state with what was taken, if anything was
+abbrev pub taken_in : State → Result Event Refusal → State
+taken_in t r = record t { history = with_taken t.history r }
+
+refused-as : (t u : State) (x r : Result Event Refusal) (why : Refusal) (go : Event → Outcome) → r ≡ x → u ≡ taken_in t r → r ≡ Err why
+    → (let o : Outcome = record { reply = reply.Refused why; after = u } in o) ≡ granted x t go
+refused-as t u x r why go is after err =
+    ap (λ (v : State). let o : Outcome = record { reply = reply.Refused why; after = v } in o) (after ∙ ap (taken_in t) err)
+    ∙ ap (λ (z : Result Event Refusal). granted z t go) (sym err ∙ is)
+
+pub step_refused-as : (rules : Rules) (t u : State) (seat p : ℕ) (act : Act) (r : Result Event Refusal) (why : Refusal) → r ≡ rules.step t.history p act → u ≡ taken_in t r → r ≡ Err why
+    → (let o : Outcome = record { reply = reply.Refused why; after = u } in o) ≡ outcome rules t seat (command.Step p act)
+unfolding outcome
+step_refused-as rules t u seat p act r why is after err = refused-as t u _ r why (step_done rules t p) is after err
+
+pub auto_refused-as : (rules : Rules) (t u : State) (seat p : ℕ) (x : Result Act Refusal) (r : Result Event Refusal) (why : Refusal)
+    → choice rules t.history p ≡ x → t.pause ≡ None → r ≡ step_of_chosen (rules.step t.history p) x → u ≡ taken_in t r → r ≡ Err why
+    → (let o : Outcome = record { reply = reply.Refused why; after = u } in o) ≡ outcome rules t seat (command.Auto p)
+unfolding outcome
+auto_refused-as rules t u seat p (Ok act) r why chosen unpaused_now is after err =
+    refused-as t u _ r why (step_done rules t p) is after err
+    ∙ ap (λ (o : Option ℕ). unpaused o t (step rules t p act)) (sym unpaused_now)
+    ∙ ap (λ (y : Result Act Refusal). granted y t (λ act. unpaused t.pause t (step rules t p act))) (sym chosen)
+auto_refused-as rules t u seat p (Err other) r why chosen unpaused_now is after err =
+    refused-as t u _ r why (step_done rules t p) is after err
+    ∙ ap (λ (y : Result Act Refusal). granted y t (λ act. unpaused t.pause t (step rules t p act))) (sym chosen)
+
+pub redo_none : (rules : Rules) (t : State) (seat : ℕ) → None ≡ last_of (redo_of t seat) → (let o : Outcome = record { reply = reply.Refused NothingToRedo; after = t } in o) ≡ outcome rules t seat command.Redo
+unfolding outcome
+redo_none rules t seat none = ap (λ (o : Option Event). found o NothingToRedo t (λ e. granted (rules.again t.history e) t (redone rules t seat))) none
+
+pub redo_refused-as : (rules : Rules) (t u : State) (seat : ℕ) (undone : Event) (r : Result Event Refusal) (why : Refusal)
+    → Some undone ≡ last_of (redo_of t seat) → r ≡ rules.again t.history undone → u ≡ taken_in t r → r ≡ Err why
+    → (let o : Outcome = record { reply = reply.Refused why; after = u } in o) ≡ outcome rules t seat command.Redo
+unfolding outcome
+redo_refused-as rules t u seat undone r why last is after err =
+    refused-as t u _ r why (redone rules t seat) is after err
     ∙ ap (λ (o : Option Event). found o NothingToRedo t (λ e. granted (rules.again t.history e) t (redone rules t seat))) last
