@@ -1,5 +1,5 @@
 -- Commands that share a word of the table.
-use Rattle.std.proofs.Common.{◌≡◌, ◌≤◌, ℕ, arith, ◌-◌, false, IsOk, IfOk, OnErr, subst, List, [], ◌∷◌, ◌++◌, length, set, Option, Some, None, Result, Ok, Err, refl, sym, ap, ◌∙◌, true≢false}
+use Rattle.std.proofs.Common.{◌≡◌, ℕ, arith, ◌-◌, false, IsOk, IfOk, OnErr, subst, List, [], ◌∷◌, ◌++◌, length, set, Option, Some, None, Result, Ok, Err, refl, sym, ap, ◌∙◌, true≢false}
 use Rattle.std.proofs.lemmas.List.{set-get_or}
 use Rattle.std.proofs.lemmas.Option.{none-some}
 use Rattle.std.specs.Result.{result_err}

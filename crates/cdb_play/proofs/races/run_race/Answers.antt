@@ -1,4 +1,4 @@
-use Rattle.std.proofs.Common.{◌≡◌, ◌+◌, ◌-◌, ◌∙◌, sym, ap, Err, arith, length, map, drop}
+use Rattle.std.proofs.Common.{◌-◌, ◌∙◌, sym, ap, Err, arith, length, map, drop}
 use Rattle.std.proofs.lemmas.List.{length-map, length-take, length-drop}
 use Rattle.cdb_commands.specs.ToldReply.{told}
 use Rattle.cdb_setup.specs.Parts.{Parts}
