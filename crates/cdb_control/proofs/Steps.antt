@@ -127,6 +127,11 @@ pub on_err : {A E P Q : Type 0} (r : Result A E) → (P → Q) → OnErr r P →
 on_err (Ok a) go events_kept = events_kept
 on_err (Err e) go events_kept = go events_kept
 
+-- what holds anyway holds on an error
+pub on_error : {A E P : Type 0} (r : Result A E) → P → OnErr r P
+on_error (Ok a) holds = tt
+on_error (Err e) holds = holds
+
 -- what is refused leaves the history as it was
 pub refused_leaves : (x : Result (Event × List Event) Refusal) (history : List Event) (why : Refusal) → Some why ≡ result_err (result_alone x) → left_by history x ≡ history
 refused_leaves (Ok done) history why is = absurd (none-some why (sym is))
