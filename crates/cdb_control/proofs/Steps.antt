@@ -1,5 +1,5 @@
 -- Commands that share a word of the table.
-use Rattle.std.proofs.Common.{◌≡◌, ℕ, ◌-◌, false, IsOk, IfOk, OnErr, subst, List, [], ◌∷◌, ◌++◌, length, set, Option, Some, None, Result, Ok, Err, refl, sym, ap, ◌∙◌, true≢false}
+use Rattle.std.proofs.Common.{◌≡◌, ℕ, arith, ◌-◌, false, IsOk, IfOk, OnErr, subst, List, [], ◌∷◌, ◌++◌, length, set, Option, Some, None, Result, Ok, Err, refl, sym, ap, ◌∙◌, true≢false}
 use Rattle.std.proofs.lemmas.List.{set-get_or}
 use Rattle.std.proofs.lemmas.Option.{none-some}
 use Rattle.std.specs.Result.{result_err}
@@ -12,10 +12,11 @@ use Rattle.cdb_base.specs.declared.refusal.Refusal.TheVariants.{NothingToRedo}
 use Rattle.cdb_commands.specs.ToldReply.{is_refused, AsReply}
 use Rattle.cdb_commands.specs.ToldReply as reply
 use Rattle.cdb_control.specs.Auto.{choice}
-use Rattle.cdb_control.specs.Commands.{Outcome, granted, found, unpaused, undone_by, redone, decides, step, undo, rollback, why, reply_of, outcome}
+use Rattle.cdb_control.specs.Commands.{Outcome, granted, found, unpaused, undone_by, redone, decides, step, step_done, undo, rollback, why, reply_of, outcome}
+use Rattle.cdb_rules.specs.Auto.{step_of_chosen}
 use Rattle.cdb_rules.specs.EventRefs.{name_given}
 use Rattle.cdb_control.specs.State.{State, redo_of, last_of}
-use Rattle.cdb_control.specs.Done.{CameOutAs, IsNoRefusal}
+use Rattle.cdb_control.specs.Done.{CameOutAs, IsNoRefusal, IsCarriedOut, IsCarriedOutForAny, IsGranted, IsGrantedFromAny, NoneShrinks}
 use Rattle.cdb_commands.specs.declared.command.Command.{Command}
 use Rattle.cdb_commands.specs.declared.command.Command.TheVariants as command
 use Rattle.cdb_commands.specs.declared.reply.EventReply.{EventReply}
@@ -23,6 +24,7 @@ use Rattle.cdb_commands.specs.declared.reply.Reply.{Reply}
 use Rattle.cdb_rules.specs.declared.event_ref.EventRef.TheVariants.{Step, Lost}
 use Rattle.cdb_rules.specs.Refusals.{with_taken}
 use Rattle.cdb_rules.specs.Rules.{Rules}
+use Rattle.cdb_setup.specs.Parts.{Parts}
 use Rattle.cdb_rules.specs.Undo.{result_alone, left_by, number_removed, with_removed}
 
 pub undo_ok : (rules : Rules) (t u : State) (seat p k : ℕ) (it : Command) (r : Result EventReply NoMemory) → it ≡ command.Undo p k
@@ -54,6 +56,28 @@ pub why_lost_ok : (rules : Rules) (t : State) (seat s m p : ℕ) (it : Command) 
     → CameOutAs (why t (name_given (Lost s m p))) t r → CameOutAs (outcome rules t seat it) t r
 unfolding outcome
 why_lost_ok rules t seat s m p it r is ok = subst (λ (c : Command). CameOutAs (outcome rules t seat c) t r) (sym is) ok
+
+-- ---- commands that are carried out by a method of their own
+
+module _ (rules : Parts → Rules) (t u : State) (seat : ℕ) (one it : Command) (is : it ≡ one) {A : Type 0} (reply : A → Reply) where
+  pub same_ok : (r : Result A NoMemory) → IfOk r (λ a. IsCarriedOut rules t seat one u (reply a)) → IfOk r (λ a. IsCarriedOut rules t seat it u (reply a))
+  same_ok (Ok a) ok = subst (λ (c : Command). IsCarriedOut rules t seat c u (reply a)) (sym is) ok
+  same_ok (Err fault) ok = ok
+
+  pub any_ok : (r : Result A NoMemory) → IfOk r (λ a. IsCarriedOutForAny rules t one u (reply a)) → IfOk r (λ a. IsCarriedOut rules t seat it u (reply a))
+  any_ok (Ok a) ok = same_ok (Ok a) (ok seat)
+  any_ok (Err fault) ok = ok
+
+  pub same_granted : (r : Result A NoMemory) → OnErr r (IsGranted rules t seat one) → OnErr r (IsGranted rules t seat it)
+  same_granted (Ok a) granted = granted
+  same_granted (Err fault) granted = subst (λ (c : Command). IsGranted rules t seat c) (sym is) granted
+
+  pub any_granted : (r : Result A NoMemory) → OnErr r (IsGrantedFromAny rules t one) → OnErr r (IsGranted rules t seat it)
+  any_granted (Ok a) granted = granted
+  any_granted (Err fault) granted = same_granted (Err fault) (granted seat)
+
+pub as_many : (old new : List ℕ) → new ≡ old → NoneShrinks old new
+as_many old new same = subst (λ (l : List ℕ). NoneShrinks old l) (sym same) (λ i. omega arith)
 
 -- ---- commands that are not refused
 
@@ -102,6 +126,11 @@ auto_granted rules t seat p act chosen unpaused_now taken =
 pub on_err : {A E P Q : Type 0} (r : Result A E) → (P → Q) → OnErr r P → OnErr r Q
 on_err (Ok a) go events_kept = events_kept
 on_err (Err e) go events_kept = go events_kept
+
+-- what holds anyway holds on an error
+pub on_error : {A E P : Type 0} (r : Result A E) → P → OnErr r P
+on_error (Ok a) holds = tt
+on_error (Err e) holds = holds
 
 -- what is refused leaves the history as it was
 pub refused_leaves : (x : Result (Event × List Event) Refusal) (history : List Event) (why : Refusal) → Some why ≡ result_err (result_alone x) → left_by history x ≡ history
@@ -170,4 +199,45 @@ redone-as rules t u seat undone event given r last is after tells ok =
     ap (λ (v : State). let o : Outcome = record { reply = reply.Redone event given; after = v } in o) (after ∙ ap (λ (z : Result Event Refusal). with_lists t seat (with_taken t.history z) (without_last (redo_of t seat))) ok)
     ∙ ap (λ (d : Option ℕ). let o : Outcome = record { reply = reply.Redone event d; after = with_lists t seat (t.history ++ event ∷ []) (without_last (redo_of t seat)) } in o) (tells ∙ ap (λ (z : Result Event Refusal). decides rules (with_taken t.history z) event) ok)
     ∙ ap (λ (z : Result Event Refusal). granted z t (redone rules t seat)) (sym ok ∙ is)
+    ∙ ap (λ (o : Option Event). found o NothingToRedo t (λ e. granted (rules.again t.history e) t (redone rules t seat))) last
+
+-- ---- what a refused step, redo or `auto` answers, together with what it leaves
+
+-- the state with what was taken, if anything was
+abbrev pub taken_in : State → Result Event Refusal → State
+taken_in t r = record t { history = with_taken t.history r }
+
+refused-as : (t u : State) (x r : Result Event Refusal) (why : Refusal) (go : Event → Outcome) → r ≡ x → u ≡ taken_in t r → r ≡ Err why
+    → (let o : Outcome = record { reply = reply.Refused why; after = u } in o) ≡ granted x t go
+refused-as t u x r why go is after err =
+    ap (λ (v : State). let o : Outcome = record { reply = reply.Refused why; after = v } in o) (after ∙ ap (taken_in t) err)
+    ∙ ap (λ (z : Result Event Refusal). granted z t go) (sym err ∙ is)
+
+pub step_refused-as : (rules : Rules) (t u : State) (seat p : ℕ) (act : Act) (r : Result Event Refusal) (why : Refusal) → r ≡ rules.step t.history p act → u ≡ taken_in t r → r ≡ Err why
+    → (let o : Outcome = record { reply = reply.Refused why; after = u } in o) ≡ outcome rules t seat (command.Step p act)
+unfolding outcome
+step_refused-as rules t u seat p act r why is after err = refused-as t u _ r why (step_done rules t p) is after err
+
+pub auto_refused-as : (rules : Rules) (t u : State) (seat p : ℕ) (x : Result Act Refusal) (r : Result Event Refusal) (why : Refusal)
+    → choice rules t.history p ≡ x → t.pause ≡ None → r ≡ step_of_chosen (rules.step t.history p) x → u ≡ taken_in t r → r ≡ Err why
+    → (let o : Outcome = record { reply = reply.Refused why; after = u } in o) ≡ outcome rules t seat (command.Auto p)
+unfolding outcome
+auto_refused-as rules t u seat p (Ok act) r why chosen unpaused_now is after err =
+    refused-as t u _ r why (step_done rules t p) is after err
+    ∙ ap (λ (o : Option ℕ). unpaused o t (step rules t p act)) (sym unpaused_now)
+    ∙ ap (λ (y : Result Act Refusal). granted y t (λ act. unpaused t.pause t (step rules t p act))) (sym chosen)
+auto_refused-as rules t u seat p (Err other) r why chosen unpaused_now is after err =
+    refused-as t u _ r why (step_done rules t p) is after err
+    ∙ ap (λ (y : Result Act Refusal). granted y t (λ act. unpaused t.pause t (step rules t p act))) (sym chosen)
+
+pub redo_none : (rules : Rules) (t : State) (seat : ℕ) → None ≡ last_of (redo_of t seat) → (let o : Outcome = record { reply = reply.Refused NothingToRedo; after = t } in o) ≡ outcome rules t seat command.Redo
+unfolding outcome
+redo_none rules t seat none = ap (λ (o : Option Event). found o NothingToRedo t (λ e. granted (rules.again t.history e) t (redone rules t seat))) none
+
+pub redo_refused-as : (rules : Rules) (t u : State) (seat : ℕ) (undone : Event) (r : Result Event Refusal) (why : Refusal)
+    → Some undone ≡ last_of (redo_of t seat) → r ≡ rules.again t.history undone → u ≡ taken_in t r → r ≡ Err why
+    → (let o : Outcome = record { reply = reply.Refused why; after = u } in o) ≡ outcome rules t seat command.Redo
+unfolding outcome
+redo_refused-as rules t u seat undone r why last is after err =
+    refused-as t u _ r why (redone rules t seat) is after err
     ∙ ap (λ (o : Option Event). found o NothingToRedo t (λ e. granted (rules.again t.history e) t (redone rules t seat))) last

@@ -96,10 +96,10 @@ impl RedoList {
         let _register: Option<Reg> = None;
         if self.events.reserve(1).is_err() {
             // A refusal needs no room in the list.
-            return match run.refuses_undo(event) {
-                Some(refusal) => Ok(Err(refusal)),
-                None => Err(NoMemory),
+            let Some(refusal) = run.refuses_undo(event) else {
+                return Err(NoMemory);
             };
+            return Ok(Err(refusal));
         }
         let undone = run.undo(event);
         if let Ok(event) = &undone {

@@ -272,13 +272,12 @@ impl<R: Runs> ControlState<R> {
         ensures memory { OnErr result (IsGranted R.rules self.old.state seat Command.Redo) }
         ensures capacities { NoneShrinks self.old.capacities self.new.capacities }
     {
-        let list = &mut self.redo[seat as usize - 1];
-        let Some(undone) = list.last() else {
+        let Some(undone) = self.redo[seat as usize - 1].last() else {
             return refused_event(Refusal::NothingToRedo);
         };
         match self.run.again(alloc, &undone)? {
             Ok(event) => {
-                list.drop_last();
+                self.redo[seat as usize - 1].drop_last();
                 let decides = self.decides(&event);
                 Ok(EventReply::Redone { event, decides })
             }

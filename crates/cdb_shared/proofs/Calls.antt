@@ -1,5 +1,5 @@
 -- What a seat knows after it had the turn.
-use Rattle.std.proofs.Common.{◌≡◌, inl, inr, ℕ, zero, suc, ◌+◌, ◌-◌, ◌<◌, ◌≤◌, arith, true, List, [], ◌∷◌, ◌++◌, Ok, Err, Result, IfOk, OnErr, All, length, get_or, length-append, refl, sym, ap, ◌∙◌, subst}
+use Rattle.std.proofs.Common.{◌≡◌, inl, inr, ℕ, zero, suc, ◌+◌, ◌-◌, ◌<◌, ◌≤◌, arith, true, List, [], ◌∷◌, ◌++◌, Ok, Err, Result, IfOk, IfErr, OnErr, ◌↔◌, All, length, get_or, length-append, refl, sym, ap, ◌∙◌, subst}
 use Rattle.std.proofs.lemmas.List.Elements.{All-push}
 use Rattle.std.proofs.lemmas.List.FromFn.{map-range_with_len_more}
 use Rattle.atomic_table.specs.Seated.{TableId}
@@ -7,6 +7,8 @@ use Rattle.cdb_commands.specs.declared.command.Command.{Command}
 use Rattle.cdb_control.specs.declared.control.Entry.{Entry}
 use Rattle.cdb_commands.specs.declared.reply.Reply.{Reply}
 use Rattle.cdb_control.specs.declared.control.CallFault.{CallFault}
+use Rattle.cdb_control.specs.declared.control.CallFault.TheVariants.{JournalFull}
+use Rattle.cdb_base.specs.declared.limits.TheConstants.{MAX_ENTRIES}
 use Rattle.cdb_commands.specs.ToldReply.{ToldReply, told}
 use Rattle.cdb_control.specs.Commands.{reply_of}
 use Rattle.cdb_control.specs.Headline.{Headline}
@@ -248,6 +250,27 @@ pub is_call : (rules : Parts → Rules) (number : ℕ) (home home' : TableId) (v
 is_call rules number home home' v w x c after command (Ok reply) old one other is its taken given replied extends =
     subst (λ (s : SeatView). IsCall rules s command (told reply) (seat_of_pass home' x other)) is (call_at rules number home home' v w x c after command (told reply) one other its taken given replied extends)
 is_call rules number home home' v w x c after command (Err fault) old one other is its taken given replied extends = tt
+
+-- where the control that was given back is the one that was taken, the seat has made no call
+pub same_calls : (home : TableId) (v w x : Knowledge) (c after : Journaled) (old : SeatView) (one : IsOfOneSeat v) (other : IsOfOneSeat x) → seat_of_pass home v one ≡ old → TurnTaken v c w → TurnGiven w after x → after ≡ c → SameCalls old (known_seat_of x other).seen
+same_calls home v w x c after old one other is taken given same =
+    let known = knows_one v (story c) one taken.1 in
+    let seen : (known_seat_of x other).seen ≡ c.journal = ap (λ (p : KnownSeat). p.seen) (seen_one v w x c after one other taken given) ∙ ap (λ (y : Journaled). y.journal) same in
+    subst (λ (s : SeatView × List Entry). SameCalls s.0 s.1) (λ i. (is i, sym seen i)) known.calls
+
+-- a call that was not answered
+pub fault_calls : (home : TableId) (v w x : Knowledge) (c after : Journaled) (r : Result Reply CallFault) (old : SeatView) (one : IsOfOneSeat v) (other : IsOfOneSeat x) → seat_of_pass home v one ≡ old → TurnTaken v c w → TurnGiven w after x → OnErr r (after ≡ c) → OnErr r (SameCalls old (known_seat_of x other).seen)
+fault_calls home v w x c after (Ok reply) old one other is taken given err = tt
+fault_calls home v w x c after (Err fault) old one other is taken given err = same_calls home v w x c after old one other is taken given err
+
+-- it has found a full journal just where the seat sees one
+pub fault_full : (v w x : Knowledge) (c after : Journaled) (r : Result Reply CallFault) (one : IsOfOneSeat v) (other : IsOfOneSeat x) → TurnTaken v c w → TurnGiven w after x → OnErr r (after ≡ c) → ((r ≡ Err JournalFull) ↔ (length c.journal ≡ MAX_ENTRIES)) → IfErr r (λ f. (f ≡ JournalFull) ↔ (length (known_seat_of x other).seen ≡ MAX_ENTRIES))
+fault_full v w x c after (Ok reply) one other taken given err full = tt
+fault_full v w x c after (Err fault) one other taken given err full =
+    let long = ap (λ (p : KnownSeat). length p.seen) (seen_one v w x c after one other taken given) ∙ ap (λ (y : Journaled). length y.journal) err in (
+      (λ is. long ∙ full.0 (ap (λ (f : CallFault). let r : Result Reply CallFault = Err f in r) is)),
+      (λ many. let is = full.1 (sym long ∙ many) in cc),
+    )
 
 -- a call leaves the setup and the number of seats
 same_parts : (rules : Parts → Rules) (c after : Journaled) (number : ℕ) (command : Command) (r : Result Reply CallFault) → IfOk r (λ _. after ≡ extended rules c number command) → OnErr r (after ≡ c) → (after.setup ≡ c.setup) × (after.seats ≡ c.seats)

@@ -1,4 +1,7 @@
-use Rattle.std.proofs.Common.{◌∙◌, ap, Err}
+use Rattle.std.proofs.Common.{◌-◌, ◌∙◌, sym, ap, Err, arith, length, map, drop}
+use Rattle.std.proofs.lemmas.List.{length-map, length-take, length-drop}
+use Rattle.cdb_commands.specs.ToldReply.{told}
+use Rattle.cdb_setup.specs.Parts.{Parts}
 use Rattle.std.proofs.lemmas.Result.{err_from_is_err_and}
 use Rattle.cdb_race.specs.Faults.{IsFaultBehind}
 use Rattle.cdb_race.specs.Races.{all_told}
@@ -62,3 +65,25 @@ pub returns-in_err-written-clause-passes : goal.returns-in_err-written-clause-pa
 returns-in_err-written-clause-passes g c = λ all.
     let p = err_from_is_err_and c.from_residual-in_err-written.result c.from_residual-in_err-written.ensures.1 in
     rw (p.1, p.2) (not_of_writing c.in_err-written.field-0.0)
+
+-- how many lists of replies there are
+pub slice_bounds-write_race-count : goal.slice_bounds-write_race-count
+slice_bounds-write_race-count g c =
+    let replies = c.in-Ok.raced.replies.items in
+    let processes = c.from-processes.ensures ∙ c.n.ensures.value in
+    let long = ap length c.deref.ensures.value ∙ sym (length-map replies (λ list. map told list.items)) ∙ c.in-Ok.ensures.raced.many ∙ c.in-Ok.ensures.raced.seats_are in
+    omega (arith, processes, long)
+
+pub slice_bounds-write_race-start : goal.slice_bounds-write_race-start
+slice_bounds-write_race-start g c = slice_bounds-write_race-count g c
+
+pub write_race-written-requires-clause-seats : goal.write_race-written-requires-clause-seats
+write_race-written-requires-clause-seats g c =
+    let replies = c.in-Ok.raced.replies.items in
+    let processes = c.from-processes.ensures ∙ c.n.ensures.value in
+    let long = ap length c.deref.ensures.value ∙ sym (length-map replies (λ list. map told list.items)) ∙ c.in-Ok.ensures.raced.many ∙ c.in-Ok.ensures.raced.seats_are in
+    let same = ap (λ (s : Parts). s.processes) c.in-Ok.ensures.raced.setup_is in
+    let all = c.deref.result.now in
+    let first = c.from-processes.result in
+    let fits = c.requires.fits in
+    omega (arith, processes, long, same, fits, length-take (length all - first) (drop first all), length-drop first all)

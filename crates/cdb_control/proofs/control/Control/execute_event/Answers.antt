@@ -1,12 +1,12 @@
-use Rattle.std.proofs.Common.{ℕ, ◌+◌, ◌-◌, ◌<◌, ◌≤◌, arith, ap, ◌∙◌, sym, subst, List, [], ◌∷◌, ◌++◌, length, map, vec_len, vec_capacity, inl, inr, true≢false}
+use Rattle.std.proofs.Common.{ℕ, ◌+◌, ◌-◌, ◌<◌, arith, ap, ◌∙◌, sym, subst, List, [], ◌∷◌, ◌++◌, length, map, vec_len, vec_capacity, inl, inr, true≢false}
 use Rattle.std.proofs.lemmas.List.{length-map}
-use Rattle.cdb_commands.specs.ToldReply.{told, as_reply, is_refused}
+use Rattle.cdb_commands.specs.ToldReply.{is_refused}
 use Rattle.cdb_control.specs.declared.control.Entry.{Entry}
 use Rattle.cdb_control.specs.Commands.{Outcome, reply_of, outcome}
 use Rattle.cdb_control.specs.Headline.{Headline}
 use Rattle.cdb_control.specs.Journal.{Journaled, entry, extended, reply_in}
 use Rattle.cdb_control.specs.Kept.{IsReplayed, HoldsRooms, rooms_at}
-use Rattle.cdb_control.specs.Room.{cost, lowered, room_of, with_room}
+use Rattle.cdb_control.specs.Room.{lowered, room_of, with_room}
 use Rattle.cdb_control.specs.State.{State}
 use Rattle.cdb_control.proofs.Along.{obey-setup, IsReplayed-next}
 use Rattle.cdb_control.proofs.Headline.{replayed-headline}

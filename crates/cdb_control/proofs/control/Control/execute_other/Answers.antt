@@ -138,3 +138,13 @@ returns-in_default-clause-spared g c = λ needs same.
       | inl spared ↦ absurd (let impossible = c.in_default.ensures.spared spared (omega (arith, some, events_kept)) in cc)
       | inr refused ↦ absurd (true≢false (sym refused ∙ sym as_shown ∙ c.in_default.ensures.memory))
     ]
+
+pub lower-requires-clause-to_last : goal.lower-requires-clause-to_last
+lower-requires-clause-to_last g c =
+    let i = c.self.inside in
+    let many = length-map i.room_ends.items (λ room_end. room_end - vec_len i.journal) in
+    let high = ap (λ (v : Journaled). v.seats) c.self.view_is in
+    let to_last = c.requires.to_last in
+    let lists = c.self.invariant.0.lists in
+    let seats = c.self.invariant.1.seats in
+    omega (arith, many, high, to_last, lists, seats)

@@ -1,10 +1,9 @@
-use Rattle.std.proofs.Common.{◌≡◌, false, length, rules, refl, subst, IsOk, arith, ◌-◌, ap, ◌∙◌, sym, List, set, map}
-use Rattle.std.proofs.lemmas.Grind.{common_steps}
+use Rattle.std.proofs.Common.{◌≡◌, false, length, refl, subst, IsOk, ◌-◌, ap, ◌∙◌, sym, List, set, map}
 use Rattle.cdb_base.specs.declared.event.Event.{Event}
 use Rattle.cdb_commands.specs.ToldReply.{is_refused}
 use Rattle.cdb_commands.specs.ToldReply as reply
 use Rattle.cdb_control.specs.Commands.{rollback, undone_by}
-use Rattle.cdb_control.proofs.Steps.{unchanged, rolled_back-as, rollback_refused-as, granted_goes_on, alone_ok}
+use Rattle.cdb_control.proofs.Steps.{on_error, unchanged, rolled_back-as, rollback_refused-as, granted_goes_on, alone_ok}
 use Rattle.cdb_control.proofs.Room.{swap}
 use Rattle.cdb_rules.specs.EventRefs.{name_given}
 use Rattle.cdb_control.specs.Room.{StoredState, StoredList}
@@ -49,7 +48,7 @@ returns-in_err-count-clause-err g c =
     (λ j. let u : State = record { setup = (did.err j).setup; history = (did.err j).history; stops = c.self.inside.breakpoints.stops; next = c.self.inside.breakpoints.next; pause = c.self.inside.pause; redo = list j } in u)
     ∙ ap (λ (v : StoredState). let u : State = record v.state { redo = set now.state.redo (c.args.seat - 1) (redo_of now.state c.args.seat) } in u) c.self.view_is
     ∙ unchanged now.state c.args.seat in
-    first_of (search (rules, after), grind (arith, common_steps, after))
+    on_error c.from_residual.result after
 
 pub returns-in_err-count-clause-capacities : goal.returns-in_err-count-clause-capacities
 returns-in_err-count-clause-capacities g c =
@@ -66,4 +65,4 @@ returns-in_err-count-clause-memory g c =
     granted_goes_on removed now.state (λ (done : List Event × List Event). record { reply = reply.RolledBack (length done.0); after = undone_by now.state c.args.seat done.0 done.1 })
     (alone_ok removed (subst (λ (v : StoredState). IsOk (result_alone (rollback_of v.state.setup.processes v.state.history name))) c.self.view_is c.in_err-count.ensures.rolled_back.memory))
     (λ done. refl) in
-    first_of (search (rules, taken), grind (arith, common_steps, taken))
+    on_error c.from_residual.result taken

@@ -1,10 +1,9 @@
-use Rattle.std.proofs.Common.{◌≡◌, false, [], ◌∷◌, refl, rules, subst, IsOk, arith, ◌-◌, ap, ◌∙◌, sym, length, List, set, map}
-use Rattle.std.proofs.lemmas.Grind.{common_steps}
+use Rattle.std.proofs.Common.{◌≡◌, false, [], ◌∷◌, refl, subst, IsOk, arith, ◌-◌, ap, ◌∙◌, sym, length, List, set, map}
 use Rattle.cdb_base.specs.declared.event.Event.{Event}
 use Rattle.cdb_commands.specs.ToldReply.{is_refused}
 use Rattle.cdb_commands.specs.ToldReply as reply
 use Rattle.cdb_control.specs.Commands.{undo, undone_by}
-use Rattle.cdb_control.proofs.Steps.{unchanged, undone-as, undo_refused-as, granted_goes_on, alone_ok}
+use Rattle.cdb_control.proofs.Steps.{on_error, unchanged, undone-as, undo_refused-as, granted_goes_on, alone_ok}
 use Rattle.cdb_control.proofs.Room.{swap}
 use Rattle.cdb_rules.specs.EventRefs.{name_given}
 use Rattle.cdb_control.specs.Room.{StoredState, StoredList}
@@ -64,7 +63,7 @@ returns-in_err-event-clause-err g c =
     (λ j. let u : State = record { setup = (did.err j).setup; history = (did.err j).history; stops = c.self.inside.breakpoints.stops; next = c.self.inside.breakpoints.next; pause = c.self.inside.pause; redo = list j } in u)
     ∙ ap (λ (v : StoredState). let u : State = record v.state { redo = set now.state.redo (c.args.seat - 1) (redo_of now.state c.args.seat) } in u) c.self.view_is
     ∙ unchanged now.state c.args.seat in
-    first_of (search (rules, after), grind (arith, common_steps, after))
+    on_error c.from_residual.result after
 
 pub returns-in_err-event-clause-capacities : goal.returns-in_err-event-clause-capacities
 returns-in_err-event-clause-capacities g c =
@@ -81,4 +80,4 @@ returns-in_err-event-clause-memory g c =
     granted_goes_on undone now.state (λ (done : Event × List Event). record { reply = reply.Undone done.0; after = undone_by now.state c.args.seat (done.0 ∷ []) done.1 })
     (alone_ok undone (subst (λ (v : StoredState). IsOk (result_alone (undo_of v.state.setup.processes v.state.history name))) c.self.view_is c.in_err-event.ensures.memory))
     (λ done. refl) in
-    first_of (search (rules, taken), grind (arith, common_steps, taken))
+    on_error c.from_residual.result taken

@@ -2,7 +2,7 @@ use Rattle.std.proofs.Common.{◌∙◌}
 use Rattle.crossbeam_queue.specs.Passes.{view}
 use Rattle.cdb_shared.specs.Passes.{known_seat_of}
 use Rattle.cdb_shared.specs.Turn.{story}
-use Rattle.cdb_shared.proofs.Calls.{knows_one, may_give, begins_after, later, is_call, sees_headline}
+use Rattle.cdb_shared.proofs.Calls.{knows_one, may_give, begins_after, still_one, fault_calls, fault_full, later, is_call, sees_headline}
 use Rattle.cdb_shared.proofs.shared.Shared.call.Goals as goal
 
 pub give-requires-clause-control : goal.give-requires-clause-control
@@ -31,3 +31,16 @@ pub returns-clause-headline : goal.returns-clause-headline
 returns-clause-headline g c =
     let done = c.execute-reply.ensures in
     sees_headline g.T.Runs.rules g.T.Runs.same_state c.seat.inside.number c.give.new.pass.table_id (view c.seat.inside.pass) _ _ c.take-control.result c.execute-reply.new.self c.args.command c.execute-reply.result c.seat.inside.one _ c.take-control.ensures.taken c.give.ensures.given done.journal done.fault done.headline
+
+pub invariant_of-seat-inside : goal.invariant_of-seat-inside
+invariant_of-seat-inside g c =
+    (still_one (view c.seat.inside.pass) _ _ c.take-control.result c.execute-reply.new.self c.seat.inside.one c.take-control.ensures.taken c.give.ensures.given, tt)
+
+pub returns-clause-fault : goal.returns-clause-fault
+returns-clause-fault g c =
+    fault_calls _ (view c.seat.inside.pass) _ _ c.take-control.result c.execute-reply.new.self c.execute-reply.result _ c.seat.inside.one _ c.seat.view_is c.take-control.ensures.taken c.give.ensures.given c.execute-reply.ensures.fault
+
+pub returns-clause-full : goal.returns-clause-full
+returns-clause-full g c =
+    let done = c.execute-reply.ensures in
+    fault_full (view c.seat.inside.pass) _ _ c.take-control.result c.execute-reply.new.self c.execute-reply.result c.seat.inside.one _ c.take-control.ensures.taken c.give.ensures.given done.fault done.full

@@ -1,5 +1,6 @@
-use Rattle.std.proofs.Common.{ap, ◌∙◌}
+use Rattle.std.proofs.Common.{sym, ap, ◌∙◌}
 use Rattle.crossbeam_queue.specs.Passes.{view}
+use Rattle.cdb_shared.specs.Seats.{SeatView}
 use Rattle.cdb_shared.specs.Turn.{story, first_alone, without_first}
 use Rattle.cdb_shared.specs.declared.knowledge.Knowledge.{Knowledge}
 use Rattle.cdb_shared.proofs.Keeps.{merges, forks}
@@ -24,6 +25,18 @@ invariant_of-result-4 g c =
       cut.queue.0.2 ∙ c.give.ensures.queue.2 ∙ c.take-control.ensures.queue.2 ∙ c.absorb.ensures.queue.2 ∙ c.b.invariant.0,
       met_numbered _ (story c.take-control.result) _ _ _ c.b.invariant.1 (cut.rule.0 ∙ ap without_first after),
     )
+
+pub returns-clause-a : goal.returns-clause-a
+returns-clause-a g c =
+    let u = view c.a.inside.pass in
+    let v = view c.b.inside.pass in
+    let control = c.take-control.result in
+    let taken = c.take-control.ensures.taken in
+    let cut = c.another-alone.ensures in
+    let after = met_pass u v _ _ _ control c.a.inside.one c.b.inside.one c.absorb.ensures.rule taken c.give.ensures.given in
+    let known = met_known u v _ _ control c.a.inside.one c.b.inside.one c.absorb.ensures.rule taken in
+    let home = cut.queue.1.0 ∙ c.self.view_is ∙ sym c.requires.a.0 ∙ sym (ap (λ (s : SeatView). s.home) c.a.view_is) in
+    met_later _ _ u _ control _ c.a.inside.one _ c.a.view_is home known.0 (cut.rule.1 ∙ ap first_alone after)
 
 pub returns-clause-b : goal.returns-clause-b
 returns-clause-b g c =

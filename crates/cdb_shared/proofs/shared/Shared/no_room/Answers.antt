@@ -1,0 +1,20 @@
+use Rattle.std.proofs.Common.{refl, ◌∙◌}
+use Rattle.crossbeam_queue.specs.Passes.{view}
+use Rattle.cdb_shared.specs.Turn.{story}
+use Rattle.cdb_shared.proofs.Calls.{knows_one, still_one, same_calls, later}
+use Rattle.cdb_shared.proofs.shared.Shared.no_room.Goals as goal
+
+pub invariant_of-seat-inside : goal.invariant_of-seat-inside
+invariant_of-seat-inside g c =
+    (still_one (view c.seat.inside.pass) _ _ c.take-held.result c.take-held.result c.seat.inside.one c.take-held.ensures.taken c.give.ensures.given, tt)
+
+pub returns-clause-seat : goal.returns-clause-seat
+returns-clause-seat g c =
+    let v = view c.seat.inside.pass in
+    let control = c.take-held.result in
+    let one = c.seat.inside.one in
+    let taken = c.take-held.ensures.taken in
+    let known = knows_one v (story control) one taken.1 in (
+      later _ _ v _ _ control control _ one _ c.seat.view_is (c.give.ensures.queue.0 ∙ c.take-held.ensures.queue.0) taken c.give.ensures.given known.begins,
+      same_calls _ v _ _ control control _ one _ c.seat.view_is taken c.give.ensures.given refl,
+    )
