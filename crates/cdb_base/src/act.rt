@@ -2,7 +2,7 @@
 
 /// What a process is asked to do in a step. The numbers are as a session gave them: whether they name
 /// anything is checked when the step is taken.
-#[derive(Clone, Copy, Debug, PartialEq, Eq)]
+#[derive(Clone, Copy, PartialEq, Eq)]
 pub enum Act {
     /// What its machine does of itself: a send, a read, a write or a local step.
     Go,

@@ -8,7 +8,7 @@ use crate::register::Reg;
 
 /// What a step does. A send is named by its number among the sends of the process, a receive by its
 /// message.
-#[derive(Clone, Copy, Debug, PartialEq, Eq)]
+#[derive(Clone, Copy, PartialEq, Eq)]
 pub enum Kind {
     Query(Proc),
     Send(u16),
@@ -21,7 +21,7 @@ pub enum Kind {
 }
 
 /// What stands in a history: a step of a process, or the loss of a copy by the network.
-#[derive(Clone, Copy, Debug, PartialEq, Eq)]
+#[derive(Clone, Copy, PartialEq, Eq)]
 pub enum Event {
     /// The `k`-th standing step of process `p`, and what it does; in a run `k` is from 1 to 9,999.
     Step { p: Proc, k: u16, kind: Kind },

@@ -57,7 +57,7 @@ pub why_lost_ok : (rules : Rules) (t : State) (seat s m p : ℕ) (it : Command) 
 unfolding outcome
 why_lost_ok rules t seat s m p it r is ok = subst (λ (c : Command). CameOutAs (outcome rules t seat c) t r) (sym is) ok
 
--- ---- commands that are carried out by a method of their own
+-- ---- commands that are carried out by a method of their own: what it does is done by the command, for its seat or for any
 
 module _ (rules : Parts → Rules) (t u : State) (seat : ℕ) (one it : Command) (is : it ≡ one) {A : Type 0} (reply : A → Reply) where
   pub same_ok : (r : Result A NoMemory) → IfOk r (λ a. IsCarriedOut rules t seat one u (reply a)) → IfOk r (λ a. IsCarriedOut rules t seat it u (reply a))
@@ -76,6 +76,7 @@ module _ (rules : Parts → Rules) (t u : State) (seat : ℕ) (one it : Command)
   any_granted (Ok a) granted = granted
   any_granted (Err fault) granted = same_granted (Err fault) (granted seat)
 
+-- what stays the same does not shrink
 pub as_many : (old new : List ℕ) → new ≡ old → NoneShrinks old new
 as_many old new same = subst (λ (l : List ℕ). NoneShrinks old l) (sym same) (λ i. omega arith)
 
@@ -109,12 +110,6 @@ granted_goes_on (Err why) t go ok each = absurd (true≢false (sym ok))
 pub alone_ok : {A : Type 0} (x : Result (A × List Event) Refusal) → IsOk (result_alone x) → IsOk x
 alone_ok (Ok done) ok = refl
 alone_ok (Err why) ok = ok
-
-pub redo_granted : (rules : Rules) (t : State) (seat : ℕ) (undone : Event) → Some undone ≡ last_of (redo_of t seat) → IsOk (rules.again t.history undone) → is_refused (reply_of rules t seat command.Redo) ≡ false
-unfolding outcome
-redo_granted rules t seat undone last ok =
-    ap (λ (o : Option Event). is_refused (found o NothingToRedo t (λ e. granted (rules.again t.history e) t (redone rules t seat))).reply) (sym last)
-    ∙ granted_goes_on (rules.again t.history undone) t (redone rules t seat) ok (λ event. refl)
 
 pub auto_granted : (rules : Rules) (t : State) (seat p : ℕ) (act : Act) → choice rules t.history p ≡ Ok act → t.pause ≡ None → is_refused (step rules t p act).reply ≡ false → is_refused (reply_of rules t seat (command.Auto p)) ≡ false
 unfolding outcome
@@ -201,7 +196,7 @@ redone-as rules t u seat undone event given r last is after tells ok =
     ∙ ap (λ (z : Result Event Refusal). granted z t (redone rules t seat)) (sym ok ∙ is)
     ∙ ap (λ (o : Option Event). found o NothingToRedo t (λ e. granted (rules.again t.history e) t (redone rules t seat))) last
 
--- ---- what a refused step, redo or `auto` answers, together with what it leaves
+-- ---- the outcome of a refused step, redo or `auto`: its reply, together with what it leaves
 
 -- the state with what was taken, if anything was
 abbrev pub taken_in : State → Result Event Refusal → State

@@ -20,7 +20,7 @@ use cdb_streams::{Sink, Source, left_by};
 use std::alloc::Global;
 
 /// A step, to which what led is drawn in full: the `k`-th standing step of process `p`, or without `k` its last one.
-#[derive(Clone, Copy, Debug)]
+#[derive(Clone, Copy)]
 pub struct StepAsked {
     pub p: u32,
     pub k: Option<u32>,

@@ -18,14 +18,14 @@ use std::alloc::Global;
 use std::marker::Model;
 
 /// A message that was received, and its sender.
-#[derive(Clone, Copy, Debug, PartialEq, Eq)]
+#[derive(Clone, Copy, PartialEq, Eq)]
 pub struct Received {
     pub from: Proc,
     pub payload: Payload,
 }
 
 /// What a first-phase message says of its sender.
-#[derive(Clone, Copy, Debug, PartialEq, Eq)]
+#[derive(Clone, Copy, PartialEq, Eq)]
 pub struct FirstPhase {
     pub estimate: Val,
     pub lead: Proc,

@@ -1,4 +1,4 @@
--- What stands for one process in a list of all, by its position from 0 and its number, and what a change of it leaves.
+-- A list with one item for each process: the item of process p, at the position i, and the list once that item is changed.
 use Rattle.std.proofs.Common.{◌≡◌, ℕ, suc, ◌+◌, ◌<◌, ◌≤◌, List, length, Some, slice_get, slice_set, get_or, refl, sym, ap, ◌∙◌, add-one, arith}
 use Rattle.std.proofs.lemmas.List.{set-get_or}
 use Rattle.std.proofs.lemmas.Option.{slice_get_read}
@@ -21,5 +21,6 @@ module _ {A : Type 0} (xs : List A) (i p : ℕ) (x default : A) (position : i + 
   changed_at change new is =
       ap (λ y. slice_set xs i y) (is ∙ ap change stands_at) ∙ ap (λ q. set_nth xs q (change (unwrap_or (nth xs p) default))) at
 
+-- an item that is put back as it was changes nothing
 pub kept_at : {A : Type 0} (xs : List A) (i : ℕ) (x new : A) → new ≡ x → x ≡ get_or xs i x → slice_set xs i new ≡ xs
 kept_at xs i x new is read = ap (λ y. slice_set xs i y) (is ∙ read) ∙ set-get_or xs i x

@@ -37,7 +37,7 @@ fn of_threads(fault: ThreadFault) -> RaceFault
 }
 
 /// A gate that always passes.
-#[derive(Clone, Copy, Debug, PartialEq, Eq)]
+#[derive(Clone, Copy, PartialEq, Eq)]
 pub struct Open;
 
 impl Gate for Open {

@@ -20,7 +20,7 @@ use cdb_base::{Cell, NoMemory, Payload, Proc, Reg, Val};
 use std::alloc::Global;
 
 /// What a machine takes in one step. A crash is no input: the run keeps it.
-#[derive(Clone, Copy, Debug, PartialEq, Eq)]
+#[derive(Clone, Copy, PartialEq, Eq)]
 pub enum Input {
     /// The oracle is asked, and names this leader.
     Query(Proc),
@@ -39,7 +39,7 @@ pub enum Input {
 }
 
 /// What a machine would do next of itself: the payload, register or cell is the one that is due.
-#[derive(Clone, Copy, Debug, PartialEq, Eq)]
+#[derive(Clone, Copy, PartialEq, Eq)]
 pub enum Wish {
     /// It would broadcast this payload.
     Send(Payload),

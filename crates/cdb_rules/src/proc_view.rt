@@ -3,7 +3,7 @@
 use cdb_base::{Proc, Val};
 
 /// A process as it is shown.
-#[derive(Clone, Copy, Debug, PartialEq, Eq)]
+#[derive(Clone, Copy, PartialEq, Eq)]
 pub struct ProcView {
     pub p: Proc,
     /// Whether it runs Alpha; else it runs the leader-based algorithm.

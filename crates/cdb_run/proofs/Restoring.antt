@@ -1,8 +1,8 @@
 -- The last event of a run is taken back: what its record restores is the state that the other events reach.
-use Rattle.std.proofs.Common.{◌==◌, option_to_list, ◌≡◌, ℕ, zero, suc, ◌+◌, ◌-◌, ◌<◌, ◌≤◌, Bool, true, false, ◌&&◌, List, [], ◌∷◌, ◌++◌, length, map, take, Option, Some, IsSome, is_some, option_map, unwrap_or, slice_get, get_or, nat_eq, refl, sym, ap, ap₂, ◌∙◌, subst, arith}
+use Rattle.std.proofs.Common.{◌==◌, option_to_list, ◌≡◌, ℕ, zero, suc, ◌+◌, ◌-◌, ◌<◌, ◌≤◌, Bool, true, false, ◌&&◌, List, [], ◌∷◌, ◌++◌, length, map, take, Option, Some, IsSome, is_some, option_map, unwrap_or, slice_get, nat_eq, refl, sym, ap, ap₂, ◌∙◌, subst, arith}
 use Rattle.std.proofs.Math.Seq.{take-append_seam}
 use Rattle.std.proofs.lemmas.List.{length_push}
-use Rattle.std.proofs.lemmas.Option.{same_Some, slice_get_read}
+use Rattle.std.proofs.lemmas.Option.{same_Some}
 use Rattle.std.specs.FinSet as set
 use Rattle.cdb_base.specs.Positions.{nth, set_nth}
 use Rattle.cdb_base.specs.declared.event.Event.{Event}
@@ -42,7 +42,7 @@ use Rattle.cdb_rules.proofs.Kept.{is_false, left, at_left, lost_kept, received_k
 use Rattle.cdb_rules.proofs.Mails.{sent_is, mail_left}
 use Rattle.cdb_rules.proofs.Members.{now_lost, losable}
 use Rattle.cdb_rules.proofs.Numbers.{sends_of, send_number, received_first, received_now}
-use Rattle.cdb_rules.proofs.Positions.{nth-map, nth-update_nth_same, map-set_nth, get_at, set_nth_same, nth-set_nth_same, nth_within}
+use Rattle.cdb_rules.proofs.Positions.{nth-map, nth-update_nth_same, map-set_nth, set_nth_same, nth-set_nth_same, nth_within}
 use Rattle.cdb_run.proofs.Records.{free_recorded_last}
 use Rattle.cdb_run.proofs.SentFirst.{IsSentFirst, sent_first}
 use Rattle.cdb_rules.proofs.Taken.{IsTaken, IsAccepted, taken_from, parts, some_of, both}
@@ -296,12 +296,6 @@ module _ {L B : Type 0} {machine : Machine L} {before : L → B → L} {processe
 
     pub stepped_within : p ≤ length processes
     stepped_within = nth_within processes p stands_now.progress stands_held
-
-    -- what stands at the position from 0
-    pub stepped_there : (index : ℕ) (progress : Progress L) → index + 1 ≡ p → progress ≡ get_or processes index progress → nth processes p ≡ Some progress
-    stepped_there index progress position read =
-        let below : index < length processes = (let w = stepped_within in omega (arith, position, w)) in
-        sym (get_at processes index p position) ∙ slice_get_read processes (length processes) index progress refl below read
 
     pub may_unpost : IsUnpostable mail p kind
     may_unpost = subst (λ m. IsUnpostable m p kind) (sym current.mail_is) (unpostable_by machine last current.state p k kind step_taken kind refl earlier_sent_first)

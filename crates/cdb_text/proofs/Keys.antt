@@ -2,6 +2,7 @@
 use Rattle.std.proofs.Common.{◌≡◌, ℕ, ◌+◌, ◌-◌, ◌<◌, ◌≤◌, Bool, true, ◌&&◌, cond, List, [], ◌∷◌, length, get_or, Option, Some, None, bytes_eq, eqb, refl, sym, ap, subst, ◌∙◌, arith, inl, inr, lit≤}
 use Rattle.std.specs.Prelude.{find, codes, decimal, slice_index, nat_le}
 use Rattle.std.proofs.lemmas.Bool.{and_parts, cases_Bool, le-leb, leb-true, eqb-true}
+use Rattle.std.proofs.lemmas.Slice.Eq.{bytes_eq-Decides, HasBytesAt, text_from_reads}
 use Rattle.std.proofs.lemmas.Fmt.{decimal_digit, decimal_nonempty, digits_decimal}
 use Rattle.std.specs.Str.Parse.{AllDigits}
 use Rattle.std.proofs.lemmas.Str.Parse.{digit_at, numerals_by_value, tells_digits}
@@ -13,7 +14,6 @@ use Rattle.cdb_text.specs.Keywords.{keyword_name, keywords}
 use Rattle.cdb_text.specs.Commands.{register}
 use Rattle.cdb_text.specs.Grammar.{part_text, IsInRange}
 use Rattle.cdb_text.specs.Reading.{keyword_of, register_named}
-use Rattle.std.proofs.lemmas.Slice.Eq.{bytes_eq-Decides, HasBytesAt, text_from_reads}
 
 found_is : {A : Type 0} (p : A → Bool) (xs : List A) (x : A) → find p xs ≡ Some x → p x ≡ true
 found_is p [] x e = absurd cc

@@ -2,7 +2,6 @@ pub mod Again
 pub mod Behind
 pub mod Cut
 pub mod Digits
-pub mod Ended
 pub mod Keys
 pub mod Numbers
 pub mod Printed

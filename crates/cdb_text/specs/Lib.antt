@@ -14,4 +14,3 @@ pub mod Keywords
 pub mod Verbs
 pub mod Words
 pub mod Reading
-pub mod Lines

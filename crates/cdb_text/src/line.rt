@@ -1,157 +1,157 @@
 //! Lines of a script.
 
-ghost use Rattle.std.specs.Prelude.{◌≡◌, ◌↔◌, [], Ok, Err, IfSome};
+ghost use Rattle.std.specs.Prelude.{◌≡◌, ◌↔◌, ◌∷◌, [], codes, decimal, Ok, Err, IfSome};
 ghost use Rattle.cdb_commands.specs.declared.command.Command.{Command as CommandName};
 ghost use Rattle.cdb_text.specs.declared.fault.LineFault.{LineFault as LineFaultName};
-ghost use Rattle.cdb_rules.specs.Runs.{Tells};
-ghost use Rattle.cdb_text.specs.Grammar.{IsLineOf, words_of};
+ghost use Rattle.cdb_text.specs.Grammar.{IsInRange, IsLineOf, words_of};
 ghost use Rattle.cdb_text.specs.Faults.{IsFaultOf};
-ghost use Rattle.cdb_text.specs.Lines.{query_from, recv_from, step_from, stop_from, view_from, copy_from, event_from, command_from};
+ghost use Rattle.cdb_text.specs.Commands.{number};
 ghost use Rattle.cdb_text.specs.Reading.{IsReadAfter};
+ghost use Rattle.cdb_text.specs.Verbs.{verb_name};
 
 use crate::fault::LineFault;
 use crate::keyword::Keyword;
 use crate::verb::Verb;
 use crate::words::{Words, number_of};
-use cdb_base::{Act, Reg};
+use cdb_base::Act;
 use cdb_commands::{Command, Stop, View};
 
-/// The command `step P query` or `step P query L`, by the words after `query`.
-fn query(p: u32, words: &mut Words<'_>) -> Result<Command, LineFault>
-    ensures { Tells (λ command. (command, words.new)) result (query_from p words.old) }
+/// The words after `step P query`.
+fn query(p: u32, mut words: Words<'_>) -> Result<Command, LineFault>
+    requires { IsInRange (number p) }
+    ensures { IsReadAfter (codes "step" ∷ decimal p ∷ codes "query" ∷ []) words.entry result }
 {
     if words.is_empty() {
         return Ok(Command::Step(p, Act::Query(None)));
     }
     let answer = words.number()?;
-    Ok(Command::Step(p, Act::Query(Some(answer))))
+    words.end(Command::Step(p, Act::Query(Some(answer))))
 }
 
-/// The command `step P recv S M`, by the words after `recv`.
-fn recv(p: u32, words: &mut Words<'_>) -> Result<Command, LineFault>
-    ensures { Tells (λ command. (command, words.new)) result (recv_from p words.old) }
+/// The words after `step P recv`.
+fn recv(p: u32, mut words: Words<'_>) -> Result<Command, LineFault>
+    requires { IsInRange (number p) }
+    ensures { IsReadAfter (codes "step" ∷ decimal p ∷ codes "recv" ∷ []) words.entry result }
 {
     let sender = words.number()?;
     let number = words.number()?;
-    Ok(Command::Step(p, Act::Recv(sender, number)))
+    words.end(Command::Step(p, Act::Recv(sender, number)))
 }
 
-/// The command of the words after `step`.
-#[tactic(auto, unfolding(crate::specs::Lines::step_from))]
-fn step(words: &mut Words<'_>) -> Result<Command, LineFault>
-    ensures { Tells (λ command. (command, words.new)) result (step_from words.old) }
+/// The words after `step`.
+fn step(mut words: Words<'_>) -> Result<Command, LineFault>
+    ensures { IsReadAfter (codes "step" ∷ []) words.entry result }
 {
     let p = words.number()?;
     let word = words.word()?;
     match Keyword::of(word) {
-        Some(Keyword::Go) => Ok(Command::Step(p, Act::Go)),
-        Some(Keyword::Learn) => Ok(Command::Step(p, Act::Learn)),
-        Some(Keyword::Crash) => Ok(Command::Step(p, Act::Crash)),
+        Some(Keyword::Go) => words.end(Command::Step(p, Act::Go)),
+        Some(Keyword::Learn) => words.end(Command::Step(p, Act::Learn)),
+        Some(Keyword::Crash) => words.end(Command::Step(p, Act::Crash)),
         Some(Keyword::Query) => query(p, words),
         Some(Keyword::Recv) => recv(p, words),
         _ => Err(LineFault::Word),
     }
 }
 
-/// The breakpoint that the words after `break` name.
-#[tactic(auto, unfolding(crate::specs::Lines::stop_from))]
-fn stop(words: &mut Words<'_>) -> Result<Stop, LineFault>
-    ensures { Tells (λ stop. (stop, words.new)) result (stop_from words.old) }
+/// The words after `break`.
+fn break_at(mut words: Words<'_>) -> Result<Command, LineFault>
+    ensures { IsReadAfter (codes "break" ∷ []) words.entry result }
 {
     let word = words.word()?;
     match Keyword::of(word) {
-        Some(Keyword::Decide) => words.number().map(Stop::Decide),
+        Some(Keyword::Decide) => {
+            let p = words.number()?;
+            words.end(Command::Break(Stop::Decide(p)))
+        }
         Some(Keyword::Round) => {
             let p = words.number()?;
             let round = words.number()?;
-            Ok(Stop::Round(p, round))
+            words.end(Command::Break(Stop::Round(p, round)))
         }
-        Some(Keyword::Recv) => words.number().map(Stop::Recv),
-        Some(Keyword::Write) => words.register().map(Stop::Write),
+        Some(Keyword::Recv) => {
+            let p = words.number()?;
+            words.end(Command::Break(Stop::Recv(p)))
+        }
+        Some(Keyword::Write) => {
+            let register = words.register()?;
+            words.end(Command::Break(Stop::Write(register)))
+        }
         _ => Err(LineFault::Word),
     }
 }
 
-/// What the words after `show` name.
-#[tactic(auto, unfolding(crate::specs::Lines::view_from))]
-fn view(words: &mut Words<'_>) -> Result<View, LineFault>
-    ensures { Tells (λ view. (view, words.new)) result (view_from words.old) }
+/// The words after `show`.
+fn show(mut words: Words<'_>) -> Result<Command, LineFault>
+    ensures { IsReadAfter (codes "show" ∷ []) words.entry result }
 {
     let word = words.word()?;
     match Keyword::of(word) {
-        Some(Keyword::Regs) => Ok(View::Regs),
-        Some(Keyword::Mail) => Ok(View::Mail),
-        Some(Keyword::History) => Ok(View::History),
-        _ => number_of(word).map(View::Proc).ok_or(LineFault::Word),
+        Some(Keyword::Regs) => words.end(Command::Show(View::Regs)),
+        Some(Keyword::Mail) => words.end(Command::Show(View::Mail)),
+        Some(Keyword::History) => words.end(Command::Show(View::History)),
+        _ => match number_of(word) {
+            Some(p) => words.end(Command::Show(View::Proc(p))),
+            None => Err(LineFault::Word),
+        },
     }
 }
 
-/// The sender and the number of a message, and the receiver of a copy of it.
-fn copy(words: &mut Words<'_>) -> Result<(u32, u32, u32), LineFault>
-    ensures { Tells (λ copy. (copy, words.new)) result (copy_from words.old) }
+/// The words after `undo`, `rollback` or `why`.
+fn event(verb: Verb, mut words: Words<'_>) -> Result<Command, LineFault>
+    ensures { IsReadAfter (verb_name verb ∷ []) words.entry result }
 {
-    let sender = words.number()?;
-    let number = words.number()?;
-    let receiver = words.number()?;
-    Ok((sender, number, receiver))
-}
-
-/// The command of the words after `undo`, `rollback` or `why`.
-#[tactic(auto, unfolding(crate::specs::Lines::event_from))]
-fn event(verb: Verb, words: &mut Words<'_>) -> Result<Command, LineFault>
-    ensures { Tells (λ command. (command, words.new)) result (event_from verb words.old) }
-{
-    let word = words.word()?;
-    if let Some(Keyword::Lost) = Keyword::of(word) {
-        let (sender, number, p) = copy(words)?;
-        return Ok(verb.on_loss(sender, number, p));
-    }
-    let p = number_of(word).ok_or(LineFault::Number)?;
-    let k = words.number()?;
-    Ok(verb.on_step(p, k))
-}
-
-/// The command that the words begin with.
-#[tactic(auto, unfolding(crate::specs::Lines::command_from))]
-fn command(words: &mut Words<'_>) -> Result<Command, LineFault>
-    ensures { Tells (λ command. (command, words.new)) result (command_from words.old) }
-{
-    // Names the type inside a breakpoint: the checker asks for that where a breakpoint is passed on.
-    let _register: Option<Reg> = None;
     let word = words.word()?;
     match Keyword::of(word) {
-        Some(Keyword::Step) => step(words),
-        Some(Keyword::Auto) => words.number().map(Command::Auto),
-        Some(Keyword::Lose) => {
-            let (sender, number, p) = copy(words)?;
-            Ok(Command::Lose(sender, number, p))
+        Some(Keyword::Lost) => {
+            let sender = words.number()?;
+            let number = words.number()?;
+            let p = words.number()?;
+            words.end(verb.on_loss(sender, number, p))
         }
-        Some(Keyword::Undo) => event(Verb::Undo, words),
-        Some(Keyword::Redo) => Ok(Command::Redo),
-        Some(Keyword::Forget) => Ok(Command::Forget),
-        Some(Keyword::Rollback) => event(Verb::Rollback, words),
-        Some(Keyword::Why) => event(Verb::Why, words),
-        Some(Keyword::Break) => {
-            let stop = stop(words)?;
-            Ok(Command::Break(stop))
-        }
-        Some(Keyword::Unbreak) => words.number().map(Command::Unbreak),
-        Some(Keyword::Resume) => Ok(Command::Resume),
-        Some(Keyword::Show) => view(words).map(Command::Show),
-        Some(Keyword::Decisions) => Ok(Command::Decisions),
-        _ => Err(LineFault::Word),
+        _ => match number_of(word) {
+            Some(p) => {
+                let k = words.number()?;
+                words.end(verb.on_step(p, k))
+            }
+            None => Err(LineFault::Number),
+        },
     }
 }
 
 /// The command of a line of words.
 #[inline(never)]
-fn whole_line(mut words: Words<'_>) -> Result<Command, LineFault>
+fn command(mut words: Words<'_>) -> Result<Command, LineFault>
     ensures { IsReadAfter [] words.entry result }
 {
-    // Names the types inside a command: the checker asks for that where a command is passed on.
-    let _parts: Option<(Stop, Reg)> = None;
-    let command = command(&mut words)?;
-    words.end(command)
+    let word = words.word()?;
+    match Keyword::of(word) {
+        Some(Keyword::Step) => step(words),
+        Some(Keyword::Auto) => {
+            let p = words.number()?;
+            words.end(Command::Auto(p))
+        }
+        Some(Keyword::Lose) => {
+            let sender = words.number()?;
+            let number = words.number()?;
+            let p = words.number()?;
+            words.end(Command::Lose(sender, number, p))
+        }
+        Some(Keyword::Undo) => event(Verb::Undo, words),
+        Some(Keyword::Redo) => words.end(Command::Redo),
+        Some(Keyword::Forget) => words.end(Command::Forget),
+        Some(Keyword::Rollback) => event(Verb::Rollback, words),
+        Some(Keyword::Why) => event(Verb::Why, words),
+        Some(Keyword::Break) => break_at(words),
+        Some(Keyword::Unbreak) => {
+            let number = words.number()?;
+            words.end(Command::Unbreak(number))
+        }
+        Some(Keyword::Resume) => words.end(Command::Resume),
+        Some(Keyword::Show) => show(words),
+        Some(Keyword::Decisions) => words.end(Command::Decisions),
+        _ => Err(LineFault::Word),
+    }
 }
 
 /// The process of a line `auto P`, where its number has one digit.
@@ -182,5 +182,5 @@ pub fn parse_line(line: &[u8]) -> Result<Command, LineFault>
     if let Some(p) = short_auto(line) {
         return Ok(Command::Auto(p));
     }
-    whole_line(Words::of(line))
+    command(Words::of(line))
 }

@@ -1,9 +1,10 @@
 //! The words of a line, taken one after the other.
 
 ghost use Rattle.std.specs.Prelude.{◌≡◌, ◌≢◌, ◌≤◌, ◌∷◌, [], length};
-ghost use Rattle.std.specs.Prelude.{MatchOption, MatchBool};
+ghost use Rattle.std.specs.Prelude.{MatchOption, MatchBool, IfOk};
 ghost use Rattle.std.specs.Str.Parse.{AllDigits, digits_value};
-ghost use Rattle.cdb_text.specs.Grammar.{words_of};
+ghost use Rattle.cdb_text.specs.Commands.{number};
+ghost use Rattle.cdb_text.specs.Grammar.{IsInRange, words_of};
 ghost use Rattle.cdb_text.specs.Words.{words_left};
 ghost use Rattle.cdb_rules.specs.Runs.{Tells};
 ghost use Rattle.cdb_text.specs.Reading.{number_of, register_named};
@@ -58,10 +59,14 @@ impl<'a> Words<'a> {
 
     /// The next word, which is a number.
     pub(crate) fn number(&mut self) -> Result<u32, LineFault>
-        ensures { Tells (λ n. (n, self.new)) result (number_at self.old) }
+        ensures next { Tells (λ n. (n, self.new)) result (number_at self.old) }
+        ensures in_range { IfOk result (λ n. IsInRange (number n)) }
     {
         let word = self.word()?;
-        number_of(word).ok_or(LineFault::Number)
+        match number_of(word) {
+            Some(number) => Ok(number),
+            None => Err(LineFault::Number),
+        }
     }
 
     /// The next word, which is a register.
@@ -69,7 +74,10 @@ impl<'a> Words<'a> {
         ensures { Tells (λ x. (x, self.new)) result (register_at self.old) }
     {
         let word = self.word()?;
-        register_named(word).ok_or(LineFault::Word)
+        match register_named(word) {
+            Some(register) => Ok(register),
+            None => Err(LineFault::Word),
+        }
     }
 
     /// The command, where no word is left.

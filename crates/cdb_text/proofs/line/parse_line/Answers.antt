@@ -20,9 +20,9 @@ pub returns-in-Some-clause-fault : goal.returns-in-Some-clause-fault
 returns-in-Some-clause-fault c = fault_of_line c.args.line.now (Ok (Auto c.in-Some.p)) (λ empty. eqb-false (length c.args.line.now) 0 (sym c.if-is_empty.ensures) (ap length empty)) c.in-Some.ensures
 
 pub returns-clause-command : goal.returns-clause-command
-returns-clause-command c = λ command. one_command _ c.whole_line.result command (subst (λ (ws : List (List ℕ)). IsReadAfter [] ws c.whole_line.result) c.of.ensures c.whole_line.ensures)
+returns-clause-command c = λ command. one_command _ c.command.result command (subst (λ (ws : List (List ℕ)). IsReadAfter [] ws c.command.result) c.of.ensures c.command.ensures)
 
 pub returns-clause-fault : goal.returns-clause-fault
 returns-clause-fault c =
-    fault_of_line c.args.line.now c.whole_line.result (λ empty. eqb-false (length c.args.line.now) 0 (sym c.if-is_empty.ensures) (ap length empty))
-    (subst (λ (ws : List (List ℕ)). IsReadAfter [] ws c.whole_line.result) c.of.ensures c.whole_line.ensures)
+    fault_of_line c.args.line.now c.command.result (λ empty. eqb-false (length c.args.line.now) 0 (sym c.if-is_empty.ensures) (ap length empty))
+    (subst (λ (ws : List (List ℕ)). IsReadAfter [] ws c.command.result) c.of.ensures c.command.ensures)

@@ -8,8 +8,8 @@ use std::process::Abort;
 #[test]
 fn what_auto_would_do_is_picked(rt: HostRuntime) {
     let session = Session::open(&rt, LOSSY);
-    assert_eq!(rt; session.control.pick(1), Some(Act::Query(None)));
-    assert_eq!(rt; session.control.pick(3), None);
+    assert!(rt; session.control.pick(1) == Some(Act::Query(None)));
+    assert!(rt; session.control.pick(3) == None);
     session.end();
 }
 
