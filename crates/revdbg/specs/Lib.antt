@@ -1,2 +1,4 @@
--- what a contract names
+-- ---- what the public contracts name
 pub mod Requested
+-- ---- what the code keeps for itself
+pub mod RequestFor

@@ -74,28 +74,32 @@ abbrev pub IsOutOfMemory : Request → Type 0
 IsOutOfMemory (Refuse (fault.Play NoMemory name)) = Unit {0}
 IsOutOfMemory request = ⊥
 
--- a request of this kind was performed, or an allocation failed before that was reported
-abbrev pub PerformsOne : (Request → Type 0) → Seen → Seen → ℕ → Type 0
-PerformsOne IsIt old new status = (request : Request) × (IsIt request ⊎ IsOutOfMemory request) × Performs request old new status
+-- a request of this kind, or the report that an allocation failed
+abbrev pub OrOutOfMemory : (Request → Type 0) → Request → Type 0
+OrOutOfMemory IsIt request = IsIt request ⊎ IsOutOfMemory request
 
--- Of arguments with these texts, the program's name first, what they ask for was performed. Plain ones are told without the terms
--- of `clap`. A session has this prompt.
-pub record PerformsAsked (prompt : Text) (words : List Text) (old new : Seen) (status : ℕ) : Type 0 where
-  pub script : IsNameAlone words → PerformsOne (λ it. it ≡ Script) old new status
-  pub play : (setup script : Text) → IsPlayLine words setup script → PerformsOne (IsPlayRequest setup script) old new status
+-- The request for what arguments with these texts ask for, the program's name first. Plain ones are told without the terms of
+-- `clap`. A session has this prompt.
+pub record IsAskedBy (prompt : Text) (words : List Text) (request : Request) : Type 0 where
+  pub script : IsNameAlone words → OrOutOfMemory (λ it. it ≡ Script) request
+  pub play : (setup script : Text) → IsPlayLine words setup script → OrOutOfMemory (IsPlayRequest setup script) request
   pub race : (setup : Text) (turns : ℕ) (script : Text) (more : List Text)
-      → IsRaceLine words setup turns script more → PerformsOne (IsRaceRequest setup turns (script ∷ more)) old new status
+      → IsRaceLine words setup turns script more → OrOutOfMemory (IsRaceRequest setup turns (script ∷ more)) request
   pub explain : (setup script : Text) (p : ℕ) (k : Option ℕ)
-      → IsExplainLine words setup script p k → PerformsOne (IsExplainRequest setup script p k) old new status
+      → IsExplainLine words setup script p k → OrOutOfMemory (IsExplainRequest setup script p k) request
   pub draw : (setup script : Text) (p k : Option ℕ)
-      → IsDrawLine words setup script p k → PerformsOne (IsDrawRequest setup script p k) old new status
+      → IsDrawLine words setup script p k → OrOutOfMemory (IsDrawRequest setup script p k) request
   pub debug : (setup : Text) (seats : List Text)
-      → IsDebugLine words setup seats → PerformsOne (IsDebugRequest prompt setup seats) old new status
-  pub taken : fault_of program words ≡ [] → PerformsOne (IsRequested prompt (subcommand_of program words)) old new status
-  pub refused : fault_of program words ≢ [] → PerformsOne (IsRefusal (fault_of program words)) old new status
+      → IsDebugLine words setup seats → OrOutOfMemory (IsDebugRequest prompt setup seats) request
+  pub taken : fault_of program words ≡ [] → OrOutOfMemory (IsRequested prompt (subcommand_of program words)) request
+  pub refused : fault_of program words ≢ [] → OrOutOfMemory (IsRefusal (fault_of program words)) request
 
--- what is performed where the arguments could not be read: an allocation failed, or one is no text
+-- the request where the arguments could not be read: an allocation failed, or one is no text
 abbrev pub IsUnread : IoKind → Request → Type 0
 IsUnread io_kind.OutOfMemory request = IsOutOfMemory request
 IsUnread kind (Refuse (fault.Refused text)) = text.now ≡ codes "an argument is not valid UTF-8\n"
 IsUnread kind request = ⊥
+
+-- a request of this kind was performed
+abbrev pub PerformsOne : (Request → Type 0) → Seen → Seen → ℕ → Type 0
+PerformsOne IsIt old new status = (request : Request) × IsIt request × Performs request old new status

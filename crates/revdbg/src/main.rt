@@ -1,6 +1,7 @@
 //! revdbg: a causal reversible debugger for indulgent consensus.
 #![tactic(auto)]
 
+mod requested;
 mod run;
 mod system_files;
 

@@ -1,5 +1,7 @@
--- Which request was performed.
-use Rattle.std.proofs.Common.{◌≡◌, ◌⊎◌, inl, inr, ℕ, List, [], Option, subst, sym}
+-- Which request is made.
+use Rattle.std.proofs.Common.{◌≡◌, ◌∷◌, inl, inr, ℕ, List, [], Option, Result, Ok, Err, IfOk, IfErr, subst, sym}
+use Rattle.std.specs.declared.io.ErrorKind.{ErrorKind as IoKind}
+use Rattle.std.specs.declared.io.ErrorKind.TheVariants as io_kind
 use Rattle.clap.specs.Words.{Text}
 use Rattle.cdb_arguments.specs.Asking.{IsDebugOf, IsDrawOf, IsExplainOf, IsOfKinds, IsPlayOf, IsRaceOf}
 use Rattle.cdb_arguments.specs.declared.request.AskFault.{AskFault}
@@ -11,13 +13,7 @@ use Rattle.cdb_program.specs.Known.{Seen}
 use Rattle.cdb_program.specs.declared.fault.Fault.TheVariants as fault
 use Rattle.cdb_program.specs.declared.request.Request.{Request}
 use Rattle.cdb_program.specs.declared.request.Request.TheVariants.{Script, Play, Race, Explain, Draw, Debug, Hall, Print, Refuse}
-use Rattle.cdb_program.specs.Requests.{Performs}
-use Rattle.revdbg.specs.Requested.{IsDebugRequest, IsDrawRequest, IsExplainRequest, IsOutOfMemory, IsPlayRequest, IsRaceRequest, IsRequestOf, IsRefusal, PerformsAsked, PerformsOne}
-
--- a request of one kind is one of another kind
-pub performs_other : (IsIt IsOther : Request → Type 0) (old new : Seen) (status : ℕ) → ((request : Request) → IsIt request → IsOther request) → PerformsOne IsIt old new status → PerformsOne IsOther old new status
-performs_other IsIt IsOther old new status other (request, inl it, performed) = (request, inl (other request it), performed)
-performs_other IsIt IsOther old new status other (request, inr memory, performed) = (request, inr memory, performed)
+use Rattle.revdbg.specs.Requested.{IsAskedBy, IsDebugRequest, IsDrawRequest, IsExplainRequest, IsOutOfMemory, IsPlayRequest, IsRaceRequest, IsRequestOf, IsRefusal, IsUnread, OrOutOfMemory, PerformsOne}
 
 -- where nothing can be wrong with the arguments, an allocation failed
 no_refusal : (request : Request) → IsRefusal [] request → ⊥
@@ -35,8 +31,9 @@ no_refusal (Debug setup prompt) is = is
 no_refusal (Hall setup seats) is = is
 no_refusal (Refuse fault.NoStep) is = is
 
-pub only_memory : (IsIt : Request → Type 0) (old new : Seen) (status : ℕ) → PerformsOne (IsRefusal []) old new status → PerformsOne IsIt old new status
-only_memory IsIt old new status = performs_other (IsRefusal []) IsIt old new status (λ request is. absurd (no_refusal request is))
+pub only_memory : (request : Request) → OrOutOfMemory (IsRefusal []) request → IsOutOfMemory request
+only_memory request (inl refusal) = absurd (no_refusal request refusal)
+only_memory request (inr memory) = memory
 
 pub memory_has_no_kinds : (fault : AskFault) → fault ≡ fault_of_asking.NoMemory → IsOfKinds [] fault
 memory_has_no_kinds fault is = subst (IsOfKinds []) (sym is) tt
@@ -89,14 +86,38 @@ module _ (prompt : Text) where
 
 -- ---- an allocation failed before it was known what is asked for
 
-pub performs_memory : (prompt : Text) (words : List Text) (old new : Seen) (status : ℕ) (request : Request) → IsOutOfMemory request → Performs request old new status → PerformsAsked prompt words old new status
-performs_memory prompt words old new status request is done = record {
-  script = λ alone. (request, inr is, done);
-  play = λ setup script line. (request, inr is, done);
-  race = λ setup turns script more line. (request, inr is, done);
-  explain = λ setup script p k line. (request, inr is, done);
-  draw = λ setup script p k line. (request, inr is, done);
-  debug = λ setup seats line. (request, inr is, done);
-  taken = λ none. (request, inr is, done);
-  refused = λ some. (request, inr is, done);
+pub memory_is_asked : (prompt : Text) (words : List Text) (request : Request) → IsOutOfMemory request → IsAskedBy prompt words request
+memory_is_asked prompt words request is = record {
+  script = λ alone. inr is;
+  play = λ setup script line. inr is;
+  race = λ setup turns script more line. inr is;
+  explain = λ setup script p k line. inr is;
+  draw = λ setup script p k line. inr is;
+  debug = λ setup seats line. inr is;
+  taken = λ none. inr is;
+  refused = λ some. inr is;
 }
+
+-- ---- the arguments as they were read
+
+pub ok_then : {A E : Type 0} (P Q : A → Type 0) (it : Result A E) → ((value : A) → P value → Q value) → IfOk it P → IfOk it Q
+ok_then P Q (Ok value) then is = then value is
+ok_then P Q (Err error) then is = tt
+
+pub err_then : {A E : Type 0} (P Q : E → Type 0) (it : Result A E) → ((error : E) → P error → Q error) → IfErr it P → IfErr it Q
+err_then P Q (Ok value) then is = tt
+err_then P Q (Err error) then is = then error is
+
+-- where the arguments were read, but not their texts, an allocation failed
+pub asked_of_words : {W E S : Type 0} (words_of : W → List Text) (texts_of : S → List Text) (prompt : Text) (old new : Seen) (status : ℕ) (words : Result W E) (found : Result S IoKind)
+    → IfOk found (λ found. IfOk words (λ words. texts_of found ≡ words_of words))
+    → IfErr found (λ kind. IfOk words (λ words. kind ≡ io_kind.OutOfMemory))
+    → IfOk found (λ found. PerformsOne (IsAskedBy prompt (texts_of found)) old new status)
+    → IfErr found (λ kind. PerformsOne (IsUnread kind) old new status)
+    → IfOk words (λ words. PerformsOne (IsAskedBy prompt (words_of words)) old new status)
+asked_of_words words_of texts_of prompt old new status (Ok words) (Ok found) same memory asked unread =
+    subst (λ (words : List Text). PerformsOne (IsAskedBy prompt words) old new status) same asked
+asked_of_words words_of texts_of prompt old new status (Ok words) (Err kind) same memory asked unread =
+    let done = subst (λ (kind : IoKind). PerformsOne (IsUnread kind) old new status) memory unread in
+    (done.0, memory_is_asked prompt (words_of words) done.0 done.1, done.2)
+asked_of_words words_of texts_of prompt old new status (Err error) found same memory asked unread = tt

@@ -1,0 +1,197 @@
+//! The request for what the arguments ask for.
+
+ghost use Rattle.std.specs.Prelude.{◌≡◌, List, Option, Err, IfErr, IfOk, IsOk, OnOk, map, string_bytes};
+ghost use Rattle.std.specs.IoError.{error_kind};
+ghost use Rattle.clap.specs.Words.{Kinds, Row, Text};
+ghost use Rattle.cdb_arguments.specs.Asking.{IsOfKinds, NamesAsked, texts};
+ghost use Rattle.cdb_program.specs.Requests.{HasTurns};
+ghost use Rattle.revdbg.specs.RequestFor.{IsRequestFor, Makes};
+ghost use Rattle.revdbg.specs.Requested.{IsAskedBy, IsOutOfMemory, IsRefusal, IsRequestOf, IsUnread, OrOutOfMemory};
+
+use cdb_arguments::{AskFault, Asked, ask_status, asked};
+use cdb_draw::StepAsked;
+use cdb_program::{Fault, Request};
+use cdb_streams::PlayFault;
+use std::alloc::{AllocError, Global};
+use std::io;
+use std::io::ErrorKind;
+
+/// What is reported where an argument is no text.
+const NOT_UTF8: &str = "an argument is not valid UTF-8\n";
+
+/// Why the arguments ask for nothing that could be performed.
+#[derive(Drop)]
+pub enum Unasked {
+    /// They could not be read.
+    Unread(ErrorKind),
+    /// They are wrong, or ask for help or the version, as this text says.
+    Refused(AskFault, String),
+}
+
+/// The request to report that an allocation failed.
+fn no_memory() -> Request<'static>
+    ensures memory { IsOutOfMemory result }
+    ensures turns { HasTurns result }
+{
+    Request::Refuse(Fault::Play(PlayFault::NoMemory, ""))
+}
+
+/// The request for what was asked for, where sessions have this prompt.
+fn request_of<'a>(asked: &'a Asked<'a>, prompt: &'a str) -> Request<'a>
+    ensures request { IsRequestOf prompt.now asked.now result }
+    ensures turns { (found : Option (Text × List Row)) → NamesAsked found asked.now →
+        HasTurns result }
+{
+    match asked {
+        Asked::Script => Request::Script,
+        Asked::Play { setup, script } => Request::Play { setup, script },
+        Asked::Race {
+            setup,
+            turns,
+            scripts,
+        } => Request::Race {
+            setup,
+            turns: *turns,
+            scripts: scripts.as_slice(),
+        },
+        Asked::Explain {
+            setup,
+            script,
+            p,
+            k,
+        } => Request::Explain {
+            setup,
+            script,
+            p: *p,
+            k: *k,
+        },
+        Asked::Draw {
+            setup,
+            script,
+            p,
+            k,
+        } => Request::Draw {
+            setup,
+            script,
+            step: p.map(|p| StepAsked { p, k: *k }),
+        },
+        Asked::Debug { setup, seats } if seats.is_empty() => Request::Debug { setup, prompt },
+        Asked::Debug { setup, seats } => Request::Hall {
+            setup,
+            seats: seats.as_slice(),
+        },
+    }
+}
+
+/// The text that says what is wrong with the arguments, or help or the version.
+fn text_of(alloc: Global, fault: &AskFault) -> Result<String, AllocError> {
+    match fault {
+        AskFault::Words(error) => format!(in alloc; "{error}"),
+        AskFault::NoMemory => Err(AllocError),
+    }
+}
+
+/// The request to print help or the version, or to report what is wrong with the arguments, where this is the text.
+fn refusal_of<'a>(fault: &AskFault, text: &'a str) -> Request<'a>
+    ensures refusal { (kinds : Kinds) → IsOfKinds kinds fault.now →
+        OrOutOfMemory (IsRefusal kinds) result }
+    ensures turns { HasTurns result }
+{
+    match fault {
+        AskFault::NoMemory => no_memory(),
+        AskFault::Words(_) if ask_status(fault) == 0 => Request::Print(text),
+        AskFault::Words(_) => Request::Refuse(Fault::Refused(text)),
+    }
+}
+
+/// The request where the arguments could not be read, for this reason.
+fn unread(kind: ErrorKind) -> Request<'static>
+    ensures unread { IsUnread kind result }
+    ensures turns { HasTurns result }
+{
+    match kind {
+        ErrorKind::OutOfMemory => no_memory(),
+        _ => Request::Refuse(Fault::Refused(NOT_UTF8)),
+    }
+}
+
+/// The request for what the arguments were found to ask for, where sessions have this prompt.
+pub fn request_for<'a>(asked: &'a Result<Asked<'a>, Unasked>, prompt: &'a str) -> Request<'a>
+    requires { IfOk asked.now
+        (λ asked. (found : Option (Text × List Row)) × NamesAsked found asked) }
+    ensures request { IsRequestFor prompt.now asked.now result }
+    ensures turns { HasTurns result }
+{
+    match asked {
+        Ok(asked) => request_of(asked, prompt),
+        Err(Unasked::Unread(kind)) => unread(*kind),
+        Err(Unasked::Refused(fault, text)) => refusal_of(fault, text.as_str()),
+    }
+}
+
+/// The texts of these arguments.
+fn texts_of_each<'a>(alloc: Global, words: &'a [String]) -> Result<Vec<&'a str>, AllocError>
+    ensures { IfOk result (λ found. texts found.items ≡ map string_bytes words.now) }
+{
+    let mut texts = Vec::new(alloc);
+    for word in words {
+        texts.push(word.as_str())?;
+    }
+    Ok(texts)
+}
+
+/// The texts of the arguments, as they were read from the system.
+///
+/// # Errors
+/// The kind of the error where they could not be read, and `OutOfMemory` where an allocation fails.
+pub fn texts_of<'a>(
+    alloc: Global,
+    words: &'a io::Result<Vec<String>>,
+) -> Result<Vec<&'a str>, ErrorKind>
+    ensures texts { IfOk result (λ found. IfOk words.now
+        (λ words. texts found.items ≡ map string_bytes words.items)) }
+    ensures read { OnOk result (IsOk words.now) }
+    ensures memory { IfErr result (λ kind. IfOk words.now
+        (λ words. kind ≡ ErrorKind.OutOfMemory)) }
+    ensures fault { IfErr result (λ kind. IfErr words.now
+        (λ error. kind ≡ error_kind error)) }
+{
+    match words {
+        Ok(words) => texts_of_each(alloc, words.as_slice()).map_err(|_| ErrorKind::OutOfMemory),
+        Err(error) => Err(error.kind()),
+    }
+}
+
+/// Why arguments that are refused ask for nothing.
+fn refused(alloc: Global, fault: AskFault) -> Unasked
+    ensures { (kinds : Kinds) → IsOfKinds kinds fault →
+        Makes (Err result) (λ _. OrOutOfMemory (IsRefusal kinds)) }
+{
+    match text_of(alloc, &fault) {
+        Ok(text) => Unasked::Refused(fault, text),
+        Err(_) => Unasked::Unread(ErrorKind::OutOfMemory),
+    }
+}
+
+/// What the arguments with these texts ask for, the program's name first.
+///
+/// # Errors
+/// `Unread` where there are none, as they could not be read, and where an allocation fails; `Refused` where they are wrong,
+/// and where they ask for help or the version.
+pub fn asked_in<'a>(
+    alloc: Global,
+    read: &'a Result<Vec<&'a str>, ErrorKind>,
+) -> Result<Asked<'a>, Unasked>
+    ensures asked { IfOk read.entry.now (λ found. Makes result
+        (λ prompt. IsAskedBy prompt (texts found.items))) }
+    ensures named { IfOk result (λ asked. (found : Option (Text × List Row)) × NamesAsked found asked) }
+    ensures unread { IfErr read.entry.now (λ kind. result ≡ Err (Unasked.Unread kind)) }
+{
+    match read {
+        Ok(texts) => match asked(alloc, texts.as_slice()) {
+            Ok(asked) => Ok(asked),
+            Err(fault) => Err(refused(alloc, fault)),
+        },
+        Err(kind) => Err(Unasked::Unread(*kind)),
+    }
+}
