@@ -9,7 +9,8 @@ import os
 import re
 
 FUNCTION = re.compile(r"^( *)(pub(?:\([^)]*\))? )?(?:const )?fn (\w+)")
-IMPL = re.compile(r"^impl(?:<.*?>)? (?:(\w+(?:::\w+)*)(?:<.*?>)? for )?(?:&\w* ?)?(\w+|\()")
+IMPL = re.compile(r"^impl(?:<.*?>)? (?:(\w+(?:::\w+)*)(<.*?>)? for )?(?:&\w* ?)?(\w+|\()")
+TYPE = re.compile(r"^(?:pub(?:\([^)]*\))? )?(?:struct|enum) (\w+)", re.M)
 
 
 def read(path):
@@ -20,9 +21,14 @@ def read(path):
 class Function:
     """A function of a file: its name, its type and its trait if it has them, and the numbers of the lines that it and its body have."""
 
-    def __init__(self, match, owner, trait, head, body, calls):
-        self.name, self.owner, self.trait = match[3], owner, trait
-        self.is_public = (match[2] or "").strip() == "pub" or trait is not None
+    def __init__(self, match, impl, head, body, calls):
+        self.name, self.trait = match[3], impl and impl[1] and impl[1].split("::")[-1]
+        self.owner = impl and impl[3].replace("(", "Tuple")
+        self.is_public = (match[2] or "").strip() == "pub" or self.trait is not None
+        # Whether it stands in a trait, or is evaluated by the compiler.
+        self.is_default, self.is_const = bool(match[1]) and not impl, "const fn" in match[0]
+        # Whether its trait or its type has a name that depends on what it is applied to.
+        self.is_applied = self.owner == "Tuple" or bool(impl and impl[2])
         self.head, (self.first, self.last) = head, body
         self.calls = calls
 
@@ -46,18 +52,15 @@ def body_of(lines, at, indent):
 
 
 def functions_of(text):
-    lines, owner, trait, found = text.split("\n"), None, None, []
+    lines, impl, found = text.split("\n"), None, []
     for at, line in enumerate(lines):
-        impl = IMPL.match(line)
-        if impl and not line.endswith("{}"):
-            owner, trait = impl[2].replace("(", "Tuple"), impl[1] and impl[1].split("::")[-1]
-        elif line == "}":
-            owner, trait = None, None
+        if not line.endswith("{}"):
+            impl = None if line == "}" else IMPL.match(line) or impl
         match = FUNCTION.match(line)
         body = body_of(lines, at, match[1]) if match else None
         if body:
             calls = set(re.findall(r"\b(\w+)(?:::<[^>]*>)?\(", "\n".join(lines[body[0] + 1:body[1]])))
-            found.append(Function(match, owner, trait, at, body, calls))
+            found.append(Function(match, impl, at, body, calls))
     return found
 
 
