@@ -7,7 +7,7 @@ use Rattle.cdb_setup.specs.Parts.{Parts, AreInRange}
 use Rattle.cdb_setup.specs.declared.setup.Algorithm.{Algorithm}
 use Rattle.cdb_setup.specs.declared.setup.Algorithm.TheVariants.{Leader, Alpha}
 use Rattle.cdb_rules.specs.Agreement.{AllAgree, HasMajorityIfNeeded}
-use Rattle.cdb_rules.specs.Algorithms.{leader_machine, alpha_machine, rules, rules_by}
+use Rattle.cdb_agreement.specs.Algorithms.{leader_machine, alpha_machine, rules, rules_by}
 use Rattle.cdb_rules.specs.Decisions.{decisions_of}
 use Rattle.cdb_rules.specs.State.{Machine, RunState, start}
 use Rattle.cdb_rules.specs.Step.{fold, state_of}

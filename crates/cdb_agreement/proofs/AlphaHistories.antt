@@ -25,7 +25,7 @@ use Rattle.cdb_alpha.specs.Steps.{Traced, Step, stay, traced_of, ReadsRegisters,
 use Rattle.cdb_alpha.proofs.Promised.{each_input_is_a_step}
 use Rattle.cdb_setup.specs.Parts.{Parts, AreInRange}
 use Rattle.cdb_rules.specs.Agreement.{AllAgree}
-use Rattle.cdb_rules.specs.Algorithms.{alpha_machine}
+use Rattle.cdb_agreement.specs.Algorithms.{alpha_machine}
 use Rattle.cdb_rules.specs.Decisions.{decisions_of}
 use Rattle.cdb_rules.specs.Mail.{mail_of}
 use Rattle.cdb_rules.specs.State.{ProcessState, RunState, start, fresh_process}

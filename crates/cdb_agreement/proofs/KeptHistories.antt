@@ -18,13 +18,13 @@ use Rattle.cdb_causal.specs.Standing.{IsStanding}
 use Rattle.cdb_message.specs.Mail.{is_sent, is_received, is_lost}
 use Rattle.cdb_process.specs.Table.{Table}
 use Rattle.cdb_rules.specs.Agreement.{AllAgree, HasMajorityIfNeeded}
-use Rattle.cdb_rules.specs.Algorithms.{leader_machine, alpha_machine, rules, rules_by}
+use Rattle.cdb_agreement.specs.Algorithms.{leader_machine, alpha_machine, rules, rules_by}
 use Rattle.cdb_rules.specs.Lawful.{KeepHistories}
 use Rattle.cdb_rules.specs.Machines.{machine_of}
 use Rattle.cdb_rules.specs.Mail.{mail_of}
 use Rattle.cdb_rules.specs.Refusals.{planned, step_result, loss_result, again_result, IsOfRun, NamesProcess}
 use Rattle.cdb_rules.specs.Rules.{rules_of}
-use Rattle.cdb_rules.specs.SameState.{ReachSameState, ReachSameStateBy}
+use Rattle.cdb_agreement.specs.SameState.{ReachSameState, ReachSameStateBy}
 use Rattle.cdb_rules.specs.State.{Machine, ProcessState, start}
 use Rattle.cdb_rules.specs.Step.{after, fold, is_among, state_of, IsValid, IsEnabled}
 use Rattle.cdb_rules.proofs.Stages.{is_due}

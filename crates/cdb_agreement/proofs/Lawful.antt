@@ -24,7 +24,7 @@ use Rattle.cdb_process.specs.declared.Wish.{Wish}
 use Rattle.cdb_process.specs.declared.Wish.TheVariants as wished
 use Rattle.cdb_rules.specs.Mail.{mail_of}
 use Rattle.cdb_rules.specs.Refusals.{first_refusal, named_kind, wished_kind, names_no_leader, step_checks, named_event, unless_refused, planned, step_result, again_checks, lose_checks, loss_result, again_result, IsOfRun, NamesProcess}
-use Rattle.cdb_rules.specs.Algorithms.{leader_machine, alpha_machine, rules_by, rules}
+use Rattle.cdb_agreement.specs.Algorithms.{leader_machine, alpha_machine, rules_by, rules}
 use Rattle.cdb_alpha.specs.Machine.{alpha_table}
 use Rattle.cdb_leader.specs.Machine.{leader_table}
 use Rattle.cdb_process.specs.Table.{Table}

@@ -24,7 +24,7 @@ use Rattle.cdb_leader.specs.Table as table
 use Rattle.cdb_leader.specs.Trace.{sent_of}
 use Rattle.cdb_setup.specs.Parts.{Parts, AreInRange}
 use Rattle.cdb_rules.specs.Agreement.{AllAgree}
-use Rattle.cdb_rules.specs.Algorithms.{leader_machine}
+use Rattle.cdb_agreement.specs.Algorithms.{leader_machine}
 use Rattle.cdb_rules.specs.Decisions.{decisions_of}
 use Rattle.cdb_rules.specs.Mail.{mail_of}
 use Rattle.cdb_rules.specs.State.{ProcessState, RunState, start, fresh_process}

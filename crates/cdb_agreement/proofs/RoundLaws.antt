@@ -14,7 +14,7 @@ use Rattle.cdb_alpha.specs.Steps.{Traced}
 use Rattle.cdb_leader.specs.LocalState.{LocalState as LeaderState}
 use Rattle.cdb_leader.specs.Trace.{IsHeard}
 use Rattle.cdb_setup.specs.Parts.{Parts, AreInRange}
-use Rattle.cdb_rules.specs.Algorithms.{leader_machine, alpha_machine}
+use Rattle.cdb_agreement.specs.Algorithms.{leader_machine, alpha_machine}
 use Rattle.cdb_agreement.specs.Rounds.{HasSent, HasReceived, IsDecided, LeaderMessages, LeaderRounds, AlphaRounds}
 use Rattle.cdb_rules.specs.State.{ProcessState, RunState}
 use Rattle.cdb_rules.specs.Step.{fold}

@@ -14,7 +14,7 @@ use Rattle.cdb_causal.specs.Exchange.{IsIn, IsBefore}
 use Rattle.cdb_causal.specs.Names.{IsFirstDependent, IsNamedAt, IsNewName}
 use Rattle.cdb_causal.specs.Rollback.{without, remaining, rolled_back}
 use Rattle.cdb_rules.specs.Agreement.{AllAgree}
-use Rattle.cdb_rules.specs.Algorithms.{rules}
+use Rattle.cdb_agreement.specs.Algorithms.{rules}
 use Rattle.cdb_rules.specs.Decisions.{decisions_of}
 use Rattle.cdb_rules.specs.State.{Machine, RunState}
 use Rattle.cdb_rules.specs.Step.{after, fold, IsValid, state_of}

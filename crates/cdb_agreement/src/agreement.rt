@@ -9,7 +9,7 @@ ghost use Rattle.cdb_agreement.specs.WorkedRuns.{leader_steps, leader_decisions,
 ghost use Rattle.cdb_alpha.specs.Machine.{alpha_table};
 ghost use Rattle.cdb_leader.specs.Machine.{leader_table};
 ghost use Rattle.cdb_rules.specs.Agreement.{AllAgree, HasMajorityIfNeeded};
-ghost use Rattle.cdb_rules.specs.Algorithms.{leader_machine, alpha_machine, rules};
+ghost use Rattle.cdb_agreement.specs.Algorithms.{leader_machine, alpha_machine, rules};
 ghost use Rattle.cdb_setup.specs.Parts.{Parts};
 
 /// No two standing decisions of the leader-based algorithm differ, where a quorum is more than half of

@@ -10,10 +10,10 @@ ghost use Rattle.cdb_causal.specs.Exchange.{IsExchange, IsExchanged, IsEachOnce}
 ghost use Rattle.cdb_causal.specs.Reach.{IsCommuting};
 ghost use Rattle.cdb_causal.specs.Rollback.{without, remaining};
 ghost use Rattle.cdb_causal.specs.Standing.{IsStanding};
-ghost use Rattle.cdb_rules.specs.Algorithms.{rules};
+ghost use Rattle.cdb_agreement.specs.Algorithms.{rules};
 ghost use Rattle.cdb_rules.specs.Lawful.{KeepHistories};
 ghost use Rattle.cdb_rules.specs.OwnSteps.{own_of, own_steps};
-ghost use Rattle.cdb_rules.specs.SameState.{ReachSameState};
+ghost use Rattle.cdb_agreement.specs.SameState.{ReachSameState};
 ghost use Rattle.cdb_rules.specs.State.{Machine};
 ghost use Rattle.cdb_rules.specs.Undo.{undo_of, rollback_of};
 ghost use Rattle.cdb_rules.specs.Step.{after, IsEnabled, IsValid, state_of};

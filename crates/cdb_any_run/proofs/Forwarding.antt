@@ -5,7 +5,7 @@ use Rattle.cdb_alpha.specs.Machine.{alpha_table}
 use Rattle.cdb_base.specs.declared.event.Event.{Event}
 use Rattle.cdb_leader.specs.LocalState.{LocalState as LeaderState}
 use Rattle.cdb_leader.specs.Machine.{leader_table}
-use Rattle.cdb_rules.specs.Algorithms.{rules, rules_by}
+use Rattle.cdb_agreement.specs.Algorithms.{rules, rules_by}
 use Rattle.cdb_any_run.specs.Any.{run_view, IsTrueToSetup}
 use Rattle.cdb_rules.specs.RunView.{RunView}
 use Rattle.cdb_rules.specs.Rules.{Rules, Shown, shown_of}

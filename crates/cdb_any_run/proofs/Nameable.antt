@@ -10,7 +10,7 @@ use Rattle.cdb_rules.specs.declared.event_ref.EventRef.{EventRef}
 use Rattle.cdb_rules.specs.declared.event_ref.EventRef.TheVariants.{Step, Lost}
 use Rattle.cdb_rules.proofs.Finding.{number_of, too_great, none_named, no_process_named}
 use Rattle.cdb_rules.proofs.Taken.{both}
-use Rattle.cdb_rules.specs.Algorithms.{leader_machine, alpha_machine, rules_by, rules}
+use Rattle.cdb_agreement.specs.Algorithms.{leader_machine, alpha_machine, rules_by, rules}
 use Rattle.cdb_rules.specs.Step.{is_among}
 use Rattle.cdb_rules.specs.Undo.{names_processes, event_named, causes_of}
 use Rattle.cdb_setup.specs.Parts.{Parts, IsWithin, AreInRange}

@@ -4,16 +4,18 @@ ghost use Rattle.std.specs.Prelude.{◌≡◌, ◌≤◌, ◌++◌, OnOk, option
 ghost use Rattle.cdb_rules.specs.Views.{open_copies, shown_copy};
 ghost use Rattle.cdb_agreement.proofs.KeptHistories.{rules_keep_histories};
 ghost use Rattle.cdb_agreement.proofs.Lawful.{rules_are_lawful};
-ghost use Rattle.cdb_rules.specs.Algorithms.{rules as rules_of_setup};
+ghost use Rattle.cdb_agreement.specs.Algorithms.{rules as rules_of_setup};
 ghost use Rattle.cdb_any_run.specs.Any.{run_view, IsTrueToSetup};
 ghost use Rattle.cdb_rules.specs.ByRules.{mail_in};
 ghost use Rattle.cdb_rules.specs.RunView.{RunView};
-ghost use Rattle.cdb_rules.specs.SameState.{ReachSameState};
+ghost use Rattle.cdb_agreement.specs.SameState.{ReachSameState};
 
 use crate::any::AnyRun;
-use cdb_base::{Act, Cell, Event, MsgName, NoMemory, Payload, Proc, Refusal, Reg, StepId, Val};
+use cdb_base::{
+    Act, Cell, Event, MsgName, NoMemory, Payload, Proc, ProcView, Refusal, Reg, StepId, Val,
+};
 use cdb_past::{Chronicle, Chronicled};
-use cdb_rules::{EventRef, ProcView, Runs};
+use cdb_rules::{EventRef, Runs};
 use cdb_setup::{Algorithm, Setup};
 use smallvec::SmallVec;
 use std::alloc::Global;

@@ -6,7 +6,7 @@ use Rattle.cdb_base.specs.declared.name.StepId.{StepId}
 use Rattle.cdb_base.specs.declared.payload.Payload.{Payload}
 use Rattle.cdb_base.specs.declared.refusal.Refusal.{Refusal}
 use Rattle.cdb_base.specs.declared.register.Cell.{Cell}
-use Rattle.cdb_rules.specs.declared.proc_view.ProcView.{ProcView}
+use Rattle.cdb_base.specs.declared.proc_view.ProcView.{ProcView}
 use Rattle.cdb_commands.specs.declared.reply.EventReply.{EventReply}
 use Rattle.cdb_commands.specs.declared.reply.EventReply.TheVariants as of_event
 use Rattle.cdb_commands.specs.declared.reply.Reply.{Reply}

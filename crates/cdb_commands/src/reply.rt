@@ -1,7 +1,6 @@
 //! The replies to a session's commands.
 
-use cdb_base::{Cell, Event, MsgName, Payload, Proc, Refusal, StepId, Val};
-use cdb_rules::ProcView;
+use cdb_base::{Cell, Event, MsgName, Payload, Proc, ProcView, Refusal, StepId, Val};
 use smallvec::SmallVec;
 
 /// The reply to a command of one event: a step, a loss, an undo or a redo. It has the cases of `Reply` that such

@@ -11,7 +11,8 @@ use Rattle.cdb_control.specs.Journal.{entry, replies_of}
 use Rattle.cdb_commands.specs.declared.command.Command.TheVariants.{Step, Undo, Redo, Rollback, Show, Decisions}
 use Rattle.cdb_commands.specs.declared.command.View.TheVariants.{History}
 use Rattle.cdb_control.specs.declared.control.Entry.{Entry}
-use Rattle.cdb_rules.specs.Algorithms.{rules}
+use Rattle.cdb_leader.specs.Machine.{leader_table}
+use Rattle.cdb_rules.specs.Rules.{rules_of}
 use Rattle.cdb_setup.specs.Parts.{Parts}
 use Rattle.cdb_setup.specs.declared.setup.Algorithm.TheVariants.{Leader}
 
@@ -20,7 +21,7 @@ setup_of_one = record { version = 1; algorithm = Leader; processes = 1; quorum =
 
 -- the replies to a seat along such a journal
 abbrev pub replies : ℕ → List Entry → List ToldReply
-replies seat journal = replies_of (rules setup_of_one) setup_of_one 2 seat journal
+replies seat journal = replies_of (rules_of leader_table setup_of_one) setup_of_one 2 seat journal
 
 -- the first two steps of the process
 abbrev pub query : Event

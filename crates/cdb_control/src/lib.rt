@@ -14,7 +14,7 @@ mod redo;
 mod state;
 mod stops;
 
-pub use cdb_base::Act;
+pub use cdb_base::{Act, ProcView};
 pub use cdb_commands::{Command, EventReply, Reply, Stop, View};
-pub use cdb_rules::{EventRef, ProcView, Runs};
+pub use cdb_rules::{EventRef, Runs};
 pub use control::{CallFault, Control, Entry, OpenFault};

@@ -1,14 +1,12 @@
 -- What the final journal has of all seats.
 use Rattle.std.proofs.Common.{◌≡◌, ℕ, ◌+◌, ◌-◌, ◌<◌, ◌≤◌, List, [], ◌∷◌, All, length, get_or, refl, sym, ap, ◌∙◌, subst, arith}
-use Rattle.std.proofs.lemmas.List.FromFn.{length-map-range_with_len, get_or-map-range_with_len}
 use Rattle.atomic_table.specs.Seated.{TableId}
 use Rattle.cdb_base.specs.declared.limits.TheConstants.{MAX_ENTRIES}
 use Rattle.cdb_control.specs.Journal.{Journaled, opened, AreOfSeats}
 use Rattle.cdb_debug.specs.Moves.{Known}
-use Rattle.cdb_race.specs.Faults.{AreFresh}
 use Rattle.cdb_rules.specs.Rules.{Rules}
 use Rattle.cdb_setup.specs.Parts.{Parts}
-use Rattle.cdb_shared.specs.Seats.{SeatView, RestsAt, IsKnownBy, fresh_seat, fresh_seats}
+use Rattle.cdb_shared.specs.Seats.{SeatView, AreFresh, RestsAt, IsKnownBy, fresh_seat}
 use Rattle.cdb_hall.specs.Halls.{IsAttended, IsHall}
 use Rattle.cdb_hall.specs.Parts.{part_seen}
 use Rattle.cdb_hall.specs.Promises.{IsUnused, HasAttended, AllAttended, AreOfLefts}
@@ -17,19 +15,6 @@ use Rattle.cdb_hall.specs.declared.station.Station.{Station}
 use Rattle.cdb_hall.specs.declared.station.Attended.{Attended}
 use Rattle.cdb_hall.specs.declared.worker.Left.{Left}
 use Rattle.cdb_hall.proofs.Knowing.{session_known}
-
-pub fresh : (shared : TableId) (setup : Parts) (many count : ℕ) (c : Journaled) (seats : List SeatView) → c ≡ opened setup count → count ≡ many → seats ≡ fresh_seats shared c 1 c.seats → AreFresh shared setup many seats
-fresh shared setup many count c seats is whole dealt =
-    let seat = fresh_seat shared (opened setup many) in
-    let all : seats ≡ fresh_seats shared (opened setup many) 1 many = dealt ∙ ap (λ (x : Journaled). fresh_seats shared x 1 x.seats) (is ∙ ap (opened setup) whole) in
-    record {
-      many = ap length all ∙ length-map-range_with_len seat 1 many;
-      each = λ k d low. ap (λ l. get_or l k d) all ∙ get_or-map-range_with_len seat 1 many k (1 + k) d low refl;
-    }
-
--- the seats that were dealt of a control that was just opened
-pub fresh_of : (shared : TableId) (setup : Parts) (many count : ℕ) (seats : List SeatView) → count ≡ many → seats ≡ fresh_seats shared (opened setup count) 1 count → AreFresh shared setup many seats
-fresh_of shared setup many count seats whole dealt = fresh shared setup many count (opened setup count) seats refl whole dealt
 
 pub all_ready : (shared : TableId) (setup : Parts) (count : ℕ) (seats : List SeatView) → AreFresh shared setup count seats → All (λ seat. IsUnused shared seat) seats
 all_ready shared setup count seats new k d low =

@@ -19,7 +19,7 @@ use Rattle.cdb_setup.specs.declared.fault.SetupFault.{SetupFault}
 use Rattle.cdb_setup.specs.declared.fault.SetupFault.TheVariants as setup
 use Rattle.cdb_program.specs.Racing.{IsRace}
 use Rattle.cdb_program.proofs.Seen.{stream_written}
-use Rattle.cdb_rules.specs.Algorithms.{rules}
+use Rattle.cdb_agreement.specs.Algorithms.{rules}
 
 -- the race ran on the setup that the text encodes
 pub race_seen : {W : Type 0} (stream : W → Stream) (json : List ℕ) (turns : ℕ) (parts : Parts) (scripts : List (List ℕ)) (raced : Result (Unit {0}) RaceFault) (old new : W) → Encodes json parts

@@ -8,8 +8,8 @@ use Rattle.cdb_play.specs.Transcripts.{Plays, RestsOnHeadline}
 use Rattle.cdb_streams.specs.Written.{IsWritten}
 use Rattle.cdb_streams.specs.declared.fault.PlayFault.{PlayFault}
 use Rattle.cdb_streams.specs.declared.fault.PlayFault.TheVariants as play
-use Rattle.cdb_rules.specs.Algorithms.{rules}
-use Rattle.cdb_rules.specs.SameState.{ReachSameState}
+use Rattle.cdb_agreement.specs.Algorithms.{rules}
+use Rattle.cdb_agreement.specs.SameState.{ReachSameState}
 use Rattle.cdb_setup.specs.declared.fault.SetupFault.{SetupFault}
 use Rattle.cdb_program.specs.Playing.{IsPlay}
 

@@ -3,7 +3,7 @@ use Rattle.std.specs.Prelude.{◌≡◌, ◌⊎◌, ℕ, List, [], ◌∷◌, co
 use Rattle.cdb_debug.specs.Moves.{Known}
 use Rattle.cdb_debug.specs.Sessions.{Debugs}
 use Rattle.cdb_streams.specs.declared.fault.PlayFault.{PlayFault}
-use Rattle.cdb_rules.specs.Algorithms.{rules}
+use Rattle.cdb_agreement.specs.Algorithms.{rules}
 use Rattle.cdb_program.specs.Known.{Seen}
 use Rattle.cdb_program.specs.Outcomes.{RequestEnd, IsOfPlay}
 use Rattle.cdb_program.specs.Reading.{HasRead, CannotReadFiles}

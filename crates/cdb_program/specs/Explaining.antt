@@ -6,7 +6,7 @@ use Rattle.cdb_explain.specs.declared.fault.ExplainFault.TheVariants.{Play}
 use Rattle.cdb_streams.specs.Streams.{FailsWhere, Stream, itself}
 use Rattle.cdb_streams.specs.Written.{IsWritten}
 use Rattle.cdb_streams.specs.declared.fault.PlayFault.TheVariants as play
-use Rattle.cdb_rules.specs.Algorithms.{rules}
+use Rattle.cdb_agreement.specs.Algorithms.{rules}
 use Rattle.cdb_setup.specs.declared.fault.SetupFault.{SetupFault}
 use Rattle.cdb_program.specs.Known.{Seen, in_memory}
 use Rattle.cdb_program.specs.Outcomes.{RequestEnd, IsOfExplain}

@@ -7,12 +7,12 @@ use Rattle.cdb_play.specs.Transcripts.{Plays, RestsOnHeadline}
 use Rattle.cdb_streams.specs.Written.{IsWritten}
 use Rattle.cdb_streams.specs.declared.fault.PlayFault.{PlayFault}
 use Rattle.cdb_streams.specs.declared.fault.PlayFault.TheVariants as play
-use Rattle.cdb_rules.specs.Algorithms.{rules}
+use Rattle.cdb_agreement.specs.Algorithms.{rules}
 use Rattle.cdb_setup.specs.declared.fault.SetupFault.{SetupFault}
 use Rattle.cdb_program.specs.Known.{Seen, in_memory}
 use Rattle.cdb_program.specs.Outcomes.{RequestEnd, IsOfPlay}
 use Rattle.cdb_program.specs.Reading.{ReadsThen}
-use Rattle.cdb_rules.specs.SameState.{ReachSameState}
+use Rattle.cdb_agreement.specs.SameState.{ReachSameState}
 
 -- A play of a script on the setup of this text ended so. The script's reader and the output are seen before and after.
 pub record IsPlay (json : List ℕ) (played : Result (Unit {0}) PlayFault) (script left old new : Stream) : Type 0 where

@@ -13,7 +13,7 @@ use Rattle.cdb_program.specs.Known.{Seen}
 use Rattle.cdb_program.specs.Outcomes.{RequestEnd, IsOfRace}
 use Rattle.cdb_program.specs.Reading.{ReadsThen}
 use Rattle.cdb_program.specs.declared.fault.Fault.TheVariants.{TooManySeats}
-use Rattle.cdb_rules.specs.Algorithms.{rules}
+use Rattle.cdb_agreement.specs.Algorithms.{rules}
 
 -- the setup's processes and this many scripts need more seats than there are
 abbrev pub NeedsTooManySeats : List ℕ → ℕ → Type 0

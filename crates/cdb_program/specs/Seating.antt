@@ -8,7 +8,7 @@ use Rattle.cdb_hall.specs.declared.station.Station.{Station}
 use Rattle.cdb_streams.specs.Streams.{itself}
 use Rattle.cdb_streams.specs.declared.source.ReadFault.{ReadFault}
 use Rattle.cdb_streams.specs.declared.source.ReadFault.TheVariants as reading
-use Rattle.cdb_rules.specs.Algorithms.{rules}
+use Rattle.cdb_agreement.specs.Algorithms.{rules}
 use Rattle.cdb_program.specs.Known.{FilesSeen, Seen, seat_of, after_opening, after_failing}
 use Rattle.cdb_program.specs.Reading.{AreFirstBytes, FailsToRead, most_read}
 use Rattle.cdb_program.specs.Reports.{IsReported}

@@ -1,12 +1,10 @@
 -- What the final journal has of the seats of a race.
 use Rattle.std.proofs.Common.{◌≡◌, ℕ, ◌+◌, ◌-◌, ◌<◌, ◌≤◌, List, [], ◌∷◌, All, length, get_or, refl, sym, ap, ◌∙◌, subst, arith}
-use Rattle.std.proofs.lemmas.List.FromFn.{length-map-range_with_len, get_or-map-range_with_len}
 use Rattle.atomic_table.specs.Seated.{TableId}
 use Rattle.cdb_control.proofs.Own.{replies_of-same}
 use Rattle.cdb_commands.specs.ToldReply.{ToldReply}
 use Rattle.cdb_control.specs.Journal.{Journaled, opened, own, replies_of, AreOfSeats}
 use Rattle.cdb_commands.specs.declared.command.Command.{Command}
-use Rattle.cdb_race.specs.Faults.{AreFresh}
 use Rattle.cdb_race.specs.Plans.{seats_of}
 use Rattle.cdb_race.specs.Promises.{IsReady}
 use Rattle.cdb_race.specs.Races.{AllFinished, AllRan, AreSeatsOf, IsRaced, replies_in}
@@ -15,22 +13,8 @@ use Rattle.cdb_race.specs.declared.plan.Plan.{Plan}
 use Rattle.cdb_race.specs.declared.worker.Ran.{Ran}
 use Rattle.cdb_rules.specs.Rules.{Rules}
 use Rattle.cdb_setup.specs.Parts.{Parts}
-use Rattle.cdb_shared.specs.Seats.{SeatView, RestsAt, IsKnownBy, fresh_seat, fresh_seats}
+use Rattle.cdb_shared.specs.Seats.{SeatView, AreFresh, RestsAt, IsKnownBy, fresh_seat}
 use Rattle.cdb_shared.specs.Sessions.{calls_of, replies_to}
-
-pub fresh : (shared : TableId) (setup : Parts) (plan : Plan) (count : ℕ) (c : Journaled) (seats : List SeatView) → c ≡ opened setup count → count ≡ seats_of plan → seats ≡ fresh_seats shared c 1 c.seats → AreFresh shared setup (seats_of plan) seats
-fresh shared setup plan count c seats is planned dealt =
-    let many = seats_of plan in
-    let seat = fresh_seat shared (opened setup many) in
-    let all : seats ≡ fresh_seats shared (opened setup many) 1 many = dealt ∙ ap (λ (x : Journaled). fresh_seats shared x 1 x.seats) (is ∙ ap (opened setup) planned) in
-    record {
-      many = ap length all ∙ length-map-range_with_len seat 1 many;
-      each = λ k d low. ap (λ l. get_or l k d) all ∙ get_or-map-range_with_len seat 1 many k (1 + k) d low refl;
-    }
-
--- the seats that were dealt of a control that was just opened
-pub fresh_of : (shared : TableId) (setup : Parts) (plan : Plan) (count : ℕ) (seats : List SeatView) → count ≡ seats_of plan → seats ≡ fresh_seats shared (opened setup count) 1 count → AreFresh shared setup (seats_of plan) seats
-fresh_of shared setup plan count seats planned dealt = fresh shared setup plan count (opened setup count) seats refl planned dealt
 
 pub all_ready : (shared : TableId) (plan : Plan) (setup : Parts) (seats : List SeatView) → AreFresh shared setup (seats_of plan) seats → All (λ seat. IsReady shared plan seat) seats
 all_ready shared plan setup seats new k d low =

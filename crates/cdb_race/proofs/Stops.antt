@@ -4,7 +4,7 @@ use Rattle.atomic_table.specs.Seated.{TableId}
 use Rattle.cdb_control.specs.Journal.{opened}
 use Rattle.cdb_commands.specs.declared.command.Command.{Command}
 use Rattle.cdb_race.specs.LastFault.{IsLastFault}
-use Rattle.cdb_race.specs.Faults.{fault_at, fault_in, AreFresh, IsAmongSeats, IsFaultBehind, IsFaultOfThreads, IsNotStopped, IsOfLeastSeat, IsTold}
+use Rattle.cdb_race.specs.Faults.{fault_at, fault_in, IsAmongSeats, IsFaultBehind, IsFaultOfThreads, IsNotStopped, IsOfLeastSeat, IsTold}
 use Rattle.cdb_race.specs.Plans.{seats_of}
 use Rattle.cdb_race.specs.Races.{AllRan, AllPass}
 use Rattle.cdb_race.specs.declared.plan.Plan.{Plan}
@@ -14,7 +14,7 @@ use Rattle.cdb_race.specs.declared.worker.Ran.{Ran}
 use Rattle.cdb_rules.specs.Rules.{Rules}
 use Rattle.cdb_setup.specs.Parts.{Parts, IsWithin}
 use Rattle.cdb_shared.specs.Gates.{Heard}
-use Rattle.cdb_shared.specs.Seats.{SeatView, fresh_seat}
+use Rattle.cdb_shared.specs.Seats.{SeatView, AreFresh, fresh_seat}
 use Rattle.cdb_shared.specs.declared.session.End.{End}
 use Rattle.cdb_shared.specs.declared.session.End.TheVariants.{All, Done, Stopped, NoMemory, JournalFull}
 

@@ -5,7 +5,7 @@ use Rattle.cdb_base.specs.declared.limits.TheConstants.{MAX_ENTRIES}
 use Rattle.cdb_commands.specs.ToldReply.{told}
 use Rattle.cdb_control.specs.Journal.{Journaled, opened, own, AreOfSeats}
 use Rattle.cdb_commands.specs.declared.command.Command.TheVariants.{Auto}
-use Rattle.cdb_race.specs.Faults.{fault_at, AreFresh}
+use Rattle.cdb_race.specs.Faults.{fault_at}
 use Rattle.cdb_race.specs.Plans.{seats_of}
 use Rattle.cdb_race.specs.Promises.{HasRan}
 use Rattle.cdb_race.specs.Races.{AllRan, AreSeatsOf, IsUnderWay}
@@ -15,7 +15,7 @@ use Rattle.cdb_race.specs.declared.threads.RaceFault.TheVariants as fault
 use Rattle.cdb_race.specs.declared.worker.Ran.{Ran}
 use Rattle.cdb_rules.specs.Rules.{Rules}
 use Rattle.cdb_setup.specs.Parts.{Parts}
-use Rattle.cdb_shared.specs.Seats.{SeatView, IsKnownBy, fresh_seat}
+use Rattle.cdb_shared.specs.Seats.{SeatView, AreFresh, IsKnownBy, fresh_seat}
 use Rattle.cdb_shared.specs.declared.session.End.{End}
 use Rattle.cdb_shared.specs.declared.session.End.TheVariants.{All as AllDone, Done, Stopped, NoMemory, JournalFull}
 use Rattle.cdb_race.proofs.Outcomes.{own_known}

@@ -1,8 +1,7 @@
 -- Which fault a race returns.
-use Rattle.std.specs.Prelude.{◌≡◌, ◌≢◌, ◌⊎◌, ℕ, ◌+◌, ◌<◌, ◌≤◌, Bool, List, All, Contains, length, slice_index_or, Option, Some, None, Vec, vec_len}
+use Rattle.std.specs.Prelude.{◌≡◌, ◌≢◌, ◌⊎◌, ℕ, ◌≤◌, Bool, List, All, Contains, length, Option, Some, None, Vec, vec_len}
 use Rattle.std.specs.Global.{Global}
 use Rattle.atomic_table.specs.Seated.{TableId}
-use Rattle.cdb_control.specs.Journal.{opened}
 use Rattle.cdb_commands.specs.declared.command.Command.{Command}
 use Rattle.cdb_commands.specs.declared.reply.Reply.{Reply}
 use Rattle.cdb_race.specs.Plans.{seats_of}
@@ -14,7 +13,7 @@ use Rattle.cdb_race.specs.declared.worker.Ran.{Ran}
 use Rattle.cdb_rules.specs.Rules.{Rules}
 use Rattle.cdb_setup.specs.Parts.{Parts, IsWithin}
 use Rattle.cdb_shared.specs.Gates.{Heard}
-use Rattle.cdb_shared.specs.Seats.{SeatView, fresh_seat}
+use Rattle.cdb_shared.specs.Seats.{SeatView, AreFresh}
 use Rattle.cdb_shared.specs.declared.session.End.{End}
 use Rattle.cdb_shared.specs.declared.session.End.TheVariants.{All as AllDone, Done, Stopped, NoMemory, JournalFull}
 
@@ -62,11 +61,6 @@ abbrev pub IsFaultOfThreads : RaceFault → Type 0
 IsFaultOfThreads fault.NoMemory = Unit {0}
 IsFaultOfThreads (fault.Spawn refused) = Unit {0}
 IsFaultOfThreads other = ⊥
-
--- the seats of a control in which nothing has happened
-pub record AreFresh (shared : TableId) (setup : Parts) (count : ℕ) (seats : List SeatView) : Type 0 where
-  pub many : length seats ≡ count
-  pub each : (k : ℕ) (d : SeatView) → k < count → slice_index_or seats k d ≡ fresh_seat shared (opened setup count) (1 + k)
 
 -- Behind these gates: each seat has run, its session ended by its gate, and of the seats whose session a fault ended the least
 -- has this one.

@@ -1,9 +1,7 @@
 -- What a contract says of a run whose machine is not named: by the rules of each setup, and the run's view.
-use Rattle.std.specs.Prelude.{ℕ, Bool, List, ◌++◌, Option, option_map, Result, IfOk, IsTrue, Vec, reverse}
-use Rattle.std.specs.Global.{Global}
+use Rattle.std.specs.Prelude.{ℕ, Bool, List, Option, option_map, Result, IsTrue}
 use Rattle.cdb_base.specs.declared.act.Act.{Act}
 use Rattle.cdb_base.specs.declared.event.Event.{Event}
-use Rattle.cdb_base.specs.declared.name.StepId.{StepId}
 use Rattle.cdb_base.specs.declared.refusal.Refusal.{Refusal}
 use Rattle.cdb_base.specs.declared.register.Cell.{Cell}
 use Rattle.cdb_base.specs.declared.register.Reg.{Reg}
@@ -12,8 +10,6 @@ use Rattle.cdb_register.specs.Registers.{RegisterStates, register_of}
 use Rattle.cdb_register.specs.declared.RegisterState.{RegisterState}
 use Rattle.cdb_rules.specs.RunView.{RunView}
 use Rattle.cdb_rules.specs.Rules.{Rules, Shown}
-use Rattle.cdb_rules.specs.Runs.{with_event, with_history, removed_by_rollback}
-use Rattle.cdb_rules.specs.SameState.{AreInSameState}
 use Rattle.cdb_setup.specs.Parts.{Parts}
 
 -- the event can be taken now
@@ -73,21 +69,3 @@ writes_in rules run register = option_map (λ it. it.writes) (register_in rules 
 
 abbrev pub decisions_in : (Parts → Rules) → RunView → List (ℕ × ℕ)
 decisions_in rules run = (rules run.setup).decisions run.history
-
--- ---- back and forth
-
--- the event can be taken now, and leads to the state of that other run
-abbrev pub LeadsTo : (Parts → Rules) → RunView → Event → RunView → Type 0
-LeadsTo rules run event to = IsInOrder rules (with_event run event) × AreInSameState (with_event run event) to
-
--- the events, taken one after another, lead there
-abbrev pub AllLeadTo : RunView → List Event → RunView → Type 0
-AllLeadTo run events to = AreInSameState (with_history run (run.history ++ events)) to
-
--- what a rollback took back leads back: taken again in order, to the state of the run before
-abbrev pub RollbackLeadsBack : RunView → StepId → RunView → Type 0
-RollbackLeadsBack run name left = AllLeadTo left (reverse (removed_by_rollback run name)) run
-
--- the same of the events that it returned, the last first
-abbrev pub LeadsBack : {E : Type 0} → RunView → Result (Result (Vec Event Global) Refusal) E → RunView → Type 0
-LeadsBack left result run = IfOk result (λ r. IfOk r (λ taken. AllLeadTo left (reverse taken.items) run))

@@ -11,13 +11,11 @@ pub mod Undo
 pub mod RunView
 pub mod Runs
 pub mod Rules
-pub mod Algorithms
 pub mod ByRules
 pub mod Auto
 pub mod Views
 -- the laws: what the rules keep, histories that reach one state, and agreement
 pub mod Lawful
-pub mod SameState
 pub mod Agreement
 -- what the code keeps for itself: a step as it is taken, how runs are compared, and events by their positions
 pub mod Taking

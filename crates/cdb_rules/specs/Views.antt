@@ -6,7 +6,7 @@ use Rattle.cdb_base.specs.declared.event.Event.{Event}
 use Rattle.cdb_base.specs.declared.name.MsgName.{MsgName}
 use Rattle.cdb_base.specs.declared.payload.Payload.{Payload}
 use Rattle.cdb_base.specs.declared.register.Cell.{Cell}
-use Rattle.cdb_rules.specs.declared.proc_view.ProcView.{ProcView}
+use Rattle.cdb_base.specs.declared.proc_view.ProcView.{ProcView}
 use Rattle.cdb_message.specs.Mail.{MailState, copies_for, payload_of}
 use Rattle.cdb_register.specs.Registers.{RegisterStates}
 use Rattle.cdb_rules.specs.Machines.{uses_registers}

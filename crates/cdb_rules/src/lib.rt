@@ -10,12 +10,10 @@
 
 mod event_ref;
 mod own_event;
-mod proc_view;
 mod progress;
 mod runs;
 
 pub use event_ref::EventRef;
 pub use own_event::OwnEvent;
-pub use proc_view::ProcView;
 pub use progress::Progress;
 pub use runs::Runs;

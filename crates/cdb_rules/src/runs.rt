@@ -19,8 +19,9 @@ ghost use Rattle.cdb_message.specs.Mail.{next_pending, payload_of};
 ghost use Rattle.cdb_setup.specs.Parts.{Parts, AreInRange};
 
 use crate::event_ref::EventRef;
-use crate::proc_view::ProcView;
-use cdb_base::{Act, Cell, Event, MsgName, NoMemory, Payload, Proc, Refusal, Reg, StepId, Val};
+use cdb_base::{
+    Act, Cell, Event, MsgName, NoMemory, Payload, Proc, ProcView, Refusal, Reg, StepId, Val,
+};
 use cdb_setup::Setup;
 use smallvec::SmallVec;
 use std::alloc::Global;

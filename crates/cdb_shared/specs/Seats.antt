@@ -1,5 +1,5 @@
 -- What contracts see of a seat, and what the calls on a shared control do to it.
-use Rattle.std.specs.Prelude.{◌≡◌, ℕ, ◌<◌, Bool, true, List, [], ◌∷◌, ◌++◌, length, map}
+use Rattle.std.specs.Prelude.{◌≡◌, ℕ, ◌+◌, ◌<◌, Bool, true, List, [], ◌∷◌, ◌++◌, length, map, slice_index_or}
 use Rattle.std.specs.List.{range_with_len}
 use Rattle.atomic_table.specs.Seated.{TableId}
 use Rattle.cdb_base.specs.declared.event.Event.{Event}
@@ -9,7 +9,7 @@ use Rattle.cdb_control.specs.declared.control.Entry.{Entry}
 use Rattle.cdb_commands.specs.ToldReply.{ToldReply}
 use Rattle.cdb_control.specs.Commands.{reply_of}
 use Rattle.cdb_control.specs.Headline.{Headline}
-use Rattle.cdb_control.specs.Journal.{Journaled, Begins, entry as entry_of, own, replay}
+use Rattle.cdb_control.specs.Journal.{Journaled, Begins, entry as entry_of, opened, own, replay}
 use Rattle.cdb_rules.specs.Rules.{Rules}
 use Rattle.cdb_setup.specs.Parts.{Parts}
 
@@ -35,6 +35,11 @@ fresh_seat shared c number =
 -- this many of them, with the numbers from this one on
 abbrev pub fresh_seats : TableId → Journaled → ℕ → ℕ → List SeatView
 fresh_seats shared c first n = map (fresh_seat shared c) (range_with_len first n)
+
+-- the seats of a control in which nothing has happened
+pub record AreFresh (shared : TableId) (setup : Parts) (count : ℕ) (seats : List SeatView) : Type 0 where
+  pub many : length seats ≡ count
+  pub each : (k : ℕ) (d : SeatView) → k < count → slice_index_or seats k d ≡ fresh_seat shared (opened setup count) (1 + k)
 
 -- the same seat, at rest, which has seen no less
 pub record IsLater (old new : SeatView) : Type 0 where

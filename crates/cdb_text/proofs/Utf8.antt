@@ -25,7 +25,7 @@ use Rattle.cdb_base.specs.Refusal.{refusal_name, refusal_number, refusal_detail,
 use Rattle.cdb_commands.specs.declared.reply.EventReply.{EventReply}
 use Rattle.cdb_commands.specs.declared.reply.EventReply.TheVariants as reply
 use Rattle.cdb_commands.specs.ToldReply.{told, as_reply}
-use Rattle.cdb_rules.specs.declared.proc_view.ProcView.{ProcView}
+use Rattle.cdb_base.specs.declared.proc_view.ProcView.{ProcView}
 use Rattle.cdb_text.specs.Pushes.{Writes}
 use Rattle.cdb_text.specs.Events.{event_text, kind_text}
 use Rattle.cdb_text.specs.Reports.{value_text, payload_text, machine_letter, life_word, process_text, event_line, copy_line, decision_text, decision_line}

@@ -7,7 +7,7 @@ use Rattle.cdb_base.specs.declared.name.StepId.{StepId}
 use Rattle.cdb_base.specs.declared.payload.Payload.{Payload}
 use Rattle.cdb_base.specs.declared.payload.Payload.TheVariants.{P1, P2, D}
 use Rattle.cdb_base.specs.declared.register.Cell.{Cell}
-use Rattle.cdb_rules.specs.declared.proc_view.ProcView.{ProcView}
+use Rattle.cdb_base.specs.declared.proc_view.ProcView.{ProcView}
 use Rattle.cdb_text.specs.Events.{event_text}
 use Rattle.cdb_base.specs.NameTexts.{message_text, name_text}
 

@@ -17,8 +17,7 @@ use super::short_report::{
     Line, MOST_LINE, write_cell, write_decision, write_decision_line, write_payload, write_value,
     write_view,
 };
-use cdb_base::{Cell, Event, MsgName, Payload, Proc, StepId, Val};
-use cdb_rules::ProcView;
+use cdb_base::{Cell, Event, MsgName, Payload, Proc, ProcView, StepId, Val};
 use std::alloc::AllocError;
 
 /// Adds a value at the end of a text, or `none`. Only out of memory is an error.

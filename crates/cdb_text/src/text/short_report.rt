@@ -12,8 +12,7 @@ ghost use Rattle.cdb_text.specs.declared.text.short_report.TheConstants.{MOST_IT
 use super::short::{
     MOST_REPORT, write_byte, write_event, write_message, write_number, write_process, write_word,
 };
-use cdb_base::{Cell, Event, MsgName, Payload, Proc, Val};
-use cdb_rules::ProcView;
+use cdb_base::{Cell, Event, MsgName, Payload, Proc, ProcView, Val};
 
 /// How many registers a report shows at most that is short, or decisions.
 pub const MOST_ITEMS: usize = 10;

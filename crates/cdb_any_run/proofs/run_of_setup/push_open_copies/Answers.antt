@@ -2,7 +2,7 @@ use Rattle.std.proofs.Common.{◌≡◌, ◌++◌, Some, option_to_list, filter,
 use Rattle.std.specs.List.{flat_map}
 use Rattle.cdb_any_run.proofs.OpenCopies.{copies-rise, none-looked, one-looked, all-looked, fewer-left}
 use Rattle.cdb_message.specs.Mail.{copies_for, is_above}
-use Rattle.cdb_rules.specs.Algorithms.{rules}
+use Rattle.cdb_agreement.specs.Algorithms.{rules}
 use Rattle.cdb_rules.specs.Views.{shown_copy}
 use Rattle.cdb_any_run.specs.Any.{run_view}
 use Rattle.cdb_any_run.proofs.run_of_setup.push_open_copies.Goals as goal

@@ -1,7 +1,7 @@
 use Rattle.std.proofs.Common.{◌≡◌, ◌++◌, length, filter}
 use Rattle.std.specs.List.{flat_map}
 use Rattle.cdb_message.specs.Mail.{is_above, copies_for}
-use Rattle.cdb_rules.specs.Algorithms.{rules}
+use Rattle.cdb_agreement.specs.Algorithms.{rules}
 use Rattle.cdb_any_run.specs.Any.{run_view}
 use Rattle.cdb_rules.specs.Views.{open_copies, shown_copy}
 use Rattle.cdb_any_run.proofs.run_of_setup.push_open_copies.Given as goal

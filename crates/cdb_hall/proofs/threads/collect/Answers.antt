@@ -2,7 +2,7 @@ use Rattle.std.proofs.Common.{◌≡◌, ℕ, ◌-◌, ◌∙◌, sym, ap, arith
 use Rattle.cdb_hall.specs.declared.station.Attended.{Attended}
 use Rattle.cdb_hall.specs.declared.worker.Left.{Left}
 use Rattle.cdb_shared.specs.Seats.{SeatView}
-use Rattle.cdb_race.proofs.Ends.{each_push, get_or-middle}
+use Rattle.cdb_shared.proofs.Ends.{each_push, get_or-middle}
 use Rattle.cdb_hall.proofs.threads.collect.Goals as goal
 
 pub loop-left-init : goal.loop-left-init

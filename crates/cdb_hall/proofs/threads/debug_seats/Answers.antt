@@ -1,5 +1,6 @@
 use Rattle.std.proofs.Common.{◌≡◌, ◌≤◌, arith, length}
-use Rattle.cdb_hall.proofs.Outcomes.{fresh_of, all_ready, all_rest, hall}
+use Rattle.cdb_hall.proofs.Outcomes.{all_ready, all_rest, hall}
+use Rattle.cdb_shared.proofs.Fresh.{fresh_of}
 use Rattle.cdb_hall.proofs.threads.debug_seats.Goals as goal
 
 pub attend_all-requires-clause-ready : goal.attend_all-requires-clause-ready

@@ -5,7 +5,7 @@ use Rattle.cdb_hall.specs.declared.station.Station.{Station}
 use Rattle.cdb_hall.specs.declared.worker.Left.{Left}
 use Rattle.cdb_hall.specs.declared.worker.SeatPromise.{SeatPromise}
 use Rattle.cdb_shared.specs.Seats.{SeatView}
-use Rattle.cdb_race.proofs.Ends.{each_front, each_push, get_or-middle}
+use Rattle.cdb_shared.proofs.Ends.{each_front, each_push, get_or-middle}
 use Rattle.cdb_hall.proofs.threads.start_all.Goals as goal
 
 pub loop-seat-init : goal.loop-seat-init

@@ -1,7 +1,7 @@
 use Rattle.std.proofs.Common.{ℕ, List, [], ◌∷◌, Bor, map, refl, ap, arith}
 use Rattle.std.proofs.lemmas.List.{length-map}
 use Rattle.std.proofs.lemmas.Result.{err_from_is_err_and}
-use Rattle.cdb_rules.specs.Algorithms.{rules}
+use Rattle.cdb_agreement.specs.Algorithms.{rules}
 use Rattle.cdb_program.specs.Reading.{file_names}
 use Rattle.cdb_program.proofs.Opening.{fails_before, opened_then}
 use Rattle.cdb_program.proofs.Seated.{as_fault, fails_later, holds_seen, known_station, seats_known}

@@ -8,7 +8,7 @@ use Rattle.cdb_race.specs.Races.{all_told}
 use Rattle.cdb_race.specs.Runs.{HasFinished}
 use Rattle.cdb_race.specs.declared.worker.Ran.{Ran}
 use Rattle.cdb_shared.specs.Seats.{SeatView}
-use Rattle.cdb_race.proofs.Ends.{each_front, each_push, get_or-middle, pair_push}
+use Rattle.cdb_shared.proofs.Ends.{each_front, each_push, get_or-middle, pair_push}
 use Rattle.cdb_race.proofs.Finishes.{ends_well, finished}
 use Rattle.cdb_race.proofs.threads.collect.Goals as goal
 

@@ -8,33 +8,34 @@ use Rattle.cdb_race.specs.declared.plan.Plan.{Plan}
 use Rattle.cdb_race.specs.declared.threads.RaceFault.{RaceFault}
 use Rattle.cdb_race.specs.declared.threads.RaceFault.TheVariants as fault
 use Rattle.cdb_race.specs.declared.worker.Ran.{Ran}
-use Rattle.cdb_race.proofs.Outcomes.{fresh_of, all_ready, all_rest, raced}
+use Rattle.cdb_race.proofs.Outcomes.{all_ready, all_rest, raced}
 use Rattle.cdb_race.proofs.Most.{few_calls}
 use Rattle.cdb_race.proofs.Stops.{least_seat, of_last, told_passes}
 use Rattle.cdb_race.proofs.Underway.{same_fault, met_full, under_way, full_at}
+use Rattle.cdb_shared.proofs.Fresh.{fresh_of}
 use Rattle.cdb_race.proofs.threads.race.Goals as goal
 
 pub run_all-requires-clause-ready : goal.run_all-requires-clause-ready
 run_all-requires-clause-ready g c κs within =
     let plan : Plan = record { processes = c.n-processes.result; turns = c.args.turns; scripts = c.args.scripts } in
-    all_ready c.in_ok-shared.shared plan c.args.setup _ (fresh_of c.in_ok-shared.shared c.args.setup plan _ _ (omega arith) c.in_ok-shared.ensures.seats)
+    all_ready c.in_ok-shared.shared plan c.args.setup _ (fresh_of c.in_ok-shared.shared c.args.setup (seats_of plan) _ _ (omega arith) c.in_ok-shared.ensures.seats)
 
 pub run_all-requires-clause-gates : goal.run_all-requires-clause-gates
 run_all-requires-clause-gates g c κs within =
     let plan : Plan = record { processes = c.n-processes.result; turns = c.args.turns; scripts = c.args.scripts } in
-    let new = fresh_of c.in_ok-shared.shared c.args.setup plan _ _ (omega arith) c.in_ok-shared.ensures.seats in
+    let new = fresh_of c.in_ok-shared.shared c.args.setup (seats_of plan) _ _ (omega arith) c.in_ok-shared.ensures.seats in
     omega (arith, new.many, c.in_ok-shared.seats.ok.0, c.requires.gates, c.n-processes.ensures.value)
 
 pub finish-control-requires-clause-some : goal.finish-control-requires-clause-some
 finish-control-requires-clause-some g c =
     let plan : Plan = record { processes = c.n-processes.result; turns = c.args.turns; scripts = c.args.scripts } in
-    let new = fresh_of c.in_ok-shared.shared c.args.setup plan _ _ (omega arith) c.in_ok-shared.ensures.seats in
+    let new = fresh_of c.in_ok-shared.shared c.args.setup (seats_of plan) _ _ (omega arith) c.in_ok-shared.ensures.seats in
     omega (arith, new.many, c.in_ok-shared.seats.ok.0, c.n-processes.ensures.value, c.n-processes.ensures.ranges.processes.0, c.in-Ok.ensures.count, c.in-Ok-collect.ensures.count.0)
 
 pub finish-control-requires-clause-rest : goal.finish-control-requires-clause-rest
 finish-control-requires-clause-rest g c =
     let plan : Plan = record { processes = c.n-processes.result; turns = c.args.turns; scripts = c.args.scripts } in
-    let new = fresh_of c.in_ok-shared.shared c.args.setup plan _ _ (omega arith) c.in_ok-shared.ensures.seats in
+    let new = fresh_of c.in_ok-shared.shared c.args.setup (seats_of plan) _ _ (omega arith) c.in_ok-shared.ensures.seats in
     let rans = c.in-Ok.rans in
     let seats = c.in-Ok-collect.collected.0 in
     let before = c.in_ok-shared.seats in
@@ -45,7 +46,7 @@ finish-control-requires-clause-rest g c =
 pub returns-in-None-clause-raced : goal.returns-in-None-clause-raced
 returns-in-None-clause-raced g c =
     let plan : Plan = record { processes = c.n-processes.result; turns = c.args.turns; scripts = c.args.scripts } in
-    let new = fresh_of c.in_ok-shared.shared c.args.setup plan _ _ (omega arith) c.in_ok-shared.ensures.seats in
+    let new = fresh_of c.in_ok-shared.shared c.args.setup (seats_of plan) _ _ (omega arith) c.in_ok-shared.ensures.seats in
     let rans = c.in-Ok.rans in
     let before = c.in_ok-shared.seats in
     let seats = c.in-Ok-collect.collected.0 in
@@ -60,7 +61,7 @@ returns-in-None-clause-raced g c =
 pub returns-in-Some-clause-fault : goal.returns-in-Some-clause-fault
 returns-in-Some-clause-fault g c =
     let plan : Plan = record { processes = c.n-processes.result; turns = c.args.turns; scripts = c.args.scripts } in
-    let new = fresh_of c.in_ok-shared.shared c.args.setup plan _ _ (omega arith) c.in_ok-shared.ensures.seats in
+    let new = fresh_of c.in_ok-shared.shared c.args.setup (seats_of plan) _ _ (omega arith) c.in_ok-shared.ensures.seats in
     let rans = c.in-Ok.rans in
     let before = c.in_ok-shared.seats in
     let why = c.in-Some.fault in
@@ -72,7 +73,7 @@ returns-in-Some-clause-fault g c =
 pub returns-in-Some-clause-full : goal.returns-in-Some-clause-full
 returns-in-Some-clause-full g c = λ full.
     let plan : Plan = record { processes = c.n-processes.result; turns = c.args.turns; scripts = c.args.scripts } in
-    let new = fresh_of c.in_ok-shared.shared c.args.setup plan _ _ (omega arith) c.in_ok-shared.ensures.seats in
+    let new = fresh_of c.in_ok-shared.shared c.args.setup (seats_of plan) _ _ (omega arith) c.in_ok-shared.ensures.seats in
     let rans = c.in-Ok.rans in
     let before = c.in_ok-shared.seats in
     let seats = c.in-Ok-collect.collected.0 in
@@ -92,7 +93,7 @@ returns-in-Some-clause-full g c = λ full.
 pub returns-in-Some-clause-told : goal.returns-in-Some-clause-told
 returns-in-Some-clause-told g c =
     let plan : Plan = record { processes = c.n-processes.result; turns = c.args.turns; scripts = c.args.scripts } in
-    let new = fresh_of c.in_ok-shared.shared c.args.setup plan _ _ (omega arith) c.in_ok-shared.ensures.seats in
+    let new = fresh_of c.in_ok-shared.shared c.args.setup (seats_of plan) _ _ (omega arith) c.in_ok-shared.ensures.seats in
     let rans = c.in-Ok.rans in
     let before = c.in_ok-shared.seats in
     let why = c.in-Some.fault in

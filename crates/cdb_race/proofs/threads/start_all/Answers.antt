@@ -4,7 +4,7 @@ use Rattle.cdb_race.specs.Promises.{IsReady, IsPromise}
 use Rattle.cdb_race.specs.declared.worker.Ran.{Ran}
 use Rattle.cdb_race.specs.declared.worker.SeatPromise.{SeatPromise}
 use Rattle.cdb_shared.specs.Seats.{SeatView}
-use Rattle.cdb_race.proofs.Ends.{each_front, each_push, get_or-middle}
+use Rattle.cdb_shared.proofs.Ends.{each_front, each_push, get_or-middle}
 use Rattle.cdb_race.proofs.threads.start_all.Goals as goal
 
 pub loop-seat-preserved : goal.loop-seat-preserved

@@ -1,8 +1,8 @@
 use Rattle.std.proofs.Common.{◌≡◌, ◌↔◌, Bool, IsTrue, sym, ap, ◌∙◌, subst}
-use Rattle.cdb_rules.specs.Algorithms.{leader_machine, alpha_machine}
+use Rattle.cdb_agreement.specs.Algorithms.{leader_machine, alpha_machine}
 use Rattle.cdb_any_run.specs.Any.{run_view, IsTrueToSetup}
 use Rattle.cdb_rules.specs.RunView.{RunView}
-use Rattle.cdb_rules.specs.SameState.{ReachSameState, ReachSameStateBy}
+use Rattle.cdb_agreement.specs.SameState.{ReachSameState, ReachSameStateBy}
 use Rattle.cdb_rules.specs.Step.{fold}
 use Rattle.cdb_any_run.specs.declared.any.AnyRun.{AnyRun}
 use Rattle.cdb_any_run.specs.declared.any.AnyRun.TheVariants as run_of

@@ -1,6 +1,6 @@
 use Rattle.std.proofs.Common.{arith, ◌≤◌, ◌++◌, length, get_or, option_to_list, sym, ap, subst, ◌∙◌, append-nil}
 use Rattle.cdb_agreement.proofs.Lawful.{few_registers}
-use Rattle.cdb_rules.specs.Algorithms.{rules as rules_of_setup}
+use Rattle.cdb_agreement.specs.Algorithms.{rules as rules_of_setup}
 use Rattle.cdb_rules.specs.RunView.{RunView}
 use Rattle.cdb_setup.specs.Parts.{AreInRange}
 use Rattle.cdb_any_run.proofs.Cells.{one-more, all-cells, number_at}

@@ -1,5 +1,5 @@
 use Rattle.std.proofs.Common.{◌≡◌}
-use Rattle.cdb_rules.specs.Algorithms.{rules}
+use Rattle.cdb_agreement.specs.Algorithms.{rules}
 use Rattle.cdb_any_run.proofs.Cells.{cells_before}
 use Rattle.cdb_any_run.proofs.run_of_setup.RunOfSetupRuns.cells.Given as goal
 

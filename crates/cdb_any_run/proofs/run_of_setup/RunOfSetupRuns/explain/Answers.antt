@@ -1,6 +1,6 @@
 use Rattle.std.proofs.Common.{◌≡◌, Ok, IsTrue, IsSome, subst, sym, true≢false}
 use Rattle.cdb_any_run.proofs.Nameable.{can_name}
-use Rattle.cdb_rules.specs.Algorithms.{rules as rules_of_setup}
+use Rattle.cdb_agreement.specs.Algorithms.{rules as rules_of_setup}
 use Rattle.cdb_rules.specs.RunView.{RunView}
 use Rattle.cdb_rules.specs.EventRefs.{name_given}
 use Rattle.cdb_rules.specs.Runs.{causes_in}

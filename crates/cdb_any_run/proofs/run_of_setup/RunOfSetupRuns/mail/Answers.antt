@@ -3,7 +3,7 @@ use Rattle.std.specs.List.{flat_map, range_with_len}
 use Rattle.cdb_any_run.proofs.OpenCopies.{flat_map-more}
 use Rattle.cdb_rules.specs.Views.{open_copies}
 use Rattle.cdb_agreement.proofs.Lawful.{each_receives}
-use Rattle.cdb_rules.specs.Algorithms.{rules as rules_of_setup}
+use Rattle.cdb_agreement.specs.Algorithms.{rules as rules_of_setup}
 use Rattle.cdb_rules.specs.RunView.{RunView}
 use Rattle.cdb_setup.specs.Parts.{AreInRange}
 use Rattle.cdb_any_run.proofs.run_of_setup.RunOfSetupRuns.mail.Goals as goal

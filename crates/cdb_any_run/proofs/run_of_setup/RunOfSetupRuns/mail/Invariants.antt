@@ -1,6 +1,6 @@
 use Rattle.std.proofs.Common.{◌≡◌}
 use Rattle.std.specs.List.{flat_map, range_with_len}
-use Rattle.cdb_rules.specs.Algorithms.{rules}
+use Rattle.cdb_agreement.specs.Algorithms.{rules}
 use Rattle.cdb_rules.specs.Views.{open_copies}
 use Rattle.cdb_any_run.proofs.run_of_setup.RunOfSetupRuns.mail.Given as goal
 

@@ -1,6 +1,7 @@
 //! A process as it is shown.
 
-use cdb_base::{Proc, Val};
+use crate::name::Proc;
+use crate::value::Val;
 
 /// A process as it is shown.
 #[derive(Clone, Copy, PartialEq, Eq)]
