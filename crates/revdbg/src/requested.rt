@@ -22,7 +22,7 @@ const NOT_UTF8: &str = "an argument is not valid UTF-8\n";
 /// Why the arguments ask for nothing that could be performed.
 #[derive(Drop)]
 pub enum Unasked {
-    /// They could not be read.
+    /// They could not be read, for this reason; out of memory also where an allocation fails later.
     Unread(ErrorKind),
     /// They are wrong, or ask for help or the version, as this text says.
     Refused(AskFault, String),
@@ -184,7 +184,8 @@ pub fn asked_in<'a>(
 ) -> Result<Asked<'a>, Unasked>
     ensures asked { IfOk read.entry.now (λ found. Makes result
         (λ prompt. IsAskedBy prompt (texts found.items))) }
-    ensures named { IfOk result (λ asked. (found : Option (Text × List Row)) × NamesAsked found asked) }
+    ensures named { IfOk result
+        (λ asked. (found : Option (Text × List Row)) × NamesAsked found asked) }
     ensures unread { IfErr read.entry.now (λ kind. result ≡ Err (Unasked.Unread kind)) }
 {
     match read {
