@@ -25,7 +25,7 @@ pub struct Received {
 }
 
 /// What a first-phase message says of its sender.
-#[derive(Clone, Copy, PartialEq, Eq)]
+#[derive(Clone, Copy)]
 pub struct FirstPhase {
     pub estimate: Val,
     pub lead: Proc,

@@ -20,7 +20,7 @@ use cdb_base::{Cell, NoMemory, Payload, Proc, Reg, Val};
 use std::alloc::Global;
 
 /// What a machine takes in one step. A crash is no input: the run keeps it.
-#[derive(Clone, Copy, PartialEq, Eq)]
+#[derive(Clone, Copy)]
 pub enum Input {
     /// The oracle is asked, and names this leader.
     Query(Proc),

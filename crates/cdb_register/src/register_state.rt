@@ -5,7 +5,7 @@ ghost use Rattle.std.specs.Prelude.{◌≡◌, ◌<◌};
 use cdb_base::Cell;
 
 /// What one register holds, and how many writes of it stand.
-#[derive(Clone, Copy, PartialEq, Eq)]
+#[derive(Clone, Copy)]
 pub struct RegisterState {
     pub cell: Cell,
     pub writes: u32,

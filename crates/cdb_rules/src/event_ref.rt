@@ -5,7 +5,7 @@ ghost use Rattle.cdb_rules.specs.EventRefs.{name_given, CanName};
 use cdb_base::{CopyName, MsgName, Proc, StepId, StepName};
 
 /// An event, by the numbers that a session gives. Whether such an event stands is found where it is looked for.
-#[derive(Clone, Copy, PartialEq, Eq)]
+#[derive(Clone, Copy)]
 pub enum EventRef {
     /// The process, and the number of its step.
     Step(u32, u32),
