@@ -4,6 +4,7 @@ ghost use Rattle.std.specs.Prelude.{◌≡◌, ◌≤◌, ◌↔◌, [], None, S
 ghost use Rattle.std.specs.Option.{option_copied};
 ghost use Rattle.std.specs.Result.{result_err};
 ghost use Rattle.std.specs.Vec.{vec_items};
+ghost use Rattle.cdb_base.specs.Results.{Tells};
 ghost use Rattle.cdb_agreement.specs.Numbering.{AreStepsNumbered, AreSendsNumbered};
 ghost use Rattle.cdb_causal.specs.Dependence.{depends};
 ghost use Rattle.cdb_causal.specs.Exchange.{IsExchanged};
@@ -15,7 +16,7 @@ ghost use Rattle.cdb_rules.specs.Auto.{first_step_by};
 ghost use Rattle.cdb_rules.specs.ByRules.{IsNext, IsInOrder, process_in, alive_in, steps_in, queries_in, place_in, round_in, decision_in, mail_in, register_in, cell_in, writes_in, decisions_in, result_of_step, result_of_again, result_of_loss};
 ghost use Rattle.cdb_rules.specs.EventRefs.{name_given};
 ghost use Rattle.cdb_rules.specs.Refusals.{IsOfRun};
-ghost use Rattle.cdb_rules.specs.Runs.{step_name, loss_name, IsNumberAmong, RollsBackOnto, Tells, result_of_undo, result_of_rollback, causes_in, with_result, after_undo, after_rollback, CanUndo, IsJustTaken, IsExactRollback, AreCausesOf};
+ghost use Rattle.cdb_rules.specs.Runs.{step_name, loss_name, IsNumberAmong, RollsBackOnto, result_of_undo, result_of_rollback, causes_in, with_result, after_undo, after_rollback, CanUndo, IsJustTaken, IsExactRollback, AreCausesOf};
 ghost use Rattle.cdb_agreement.specs.SameState.{AreInSameState, LeadsBack, LeadsTo, RollbackLeadsBack};
 ghost use Rattle.cdb_rules.specs.Step.{is_among};
 

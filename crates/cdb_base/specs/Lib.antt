@@ -1,7 +1,8 @@
--- what a reader of the contracts believes: names of events, lists that count from 1, registers, and the refusals
+-- what a reader of the contracts believes: names of events, lists that count from 1, registers, results, and the refusals
 pub mod Event
 pub mod NameTexts
 pub mod Positions
 pub mod Processes
 pub mod Refusal
 pub mod Registers
+pub mod Results

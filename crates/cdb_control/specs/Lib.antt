@@ -11,8 +11,6 @@ pub mod FaultTexts
 pub mod Room
 -- the words of the laws, also what a reader believes
 pub mod Laws
--- the worked journals, as the table of the commands gives them, also what a reader believes
-pub mod WorkedJournals
 -- what the code keeps for itself: whether `auto` is refused by itself
 pub mod Trying
 pub mod Done

@@ -1,16 +1,13 @@
 //! Laws of the table of the commands and of journals. Each function does nothing: its contract is the law.
-ghost use Rattle.std.specs.Prelude.{◌≡◌, ◌≤◌, ℕ, [], ◌∷◌, None};
-ghost use Rattle.cdb_base.specs.declared.refusal.Refusal.TheVariants.{NothingToRedo};
+ghost use Rattle.std.specs.Prelude.{◌≡◌, ◌≤◌, ℕ};
 ghost use Rattle.cdb_base.specs.declared.act.Act.{Act};
 ghost use Rattle.cdb_commands.specs.declared.command.Command.{Command};
 ghost use Rattle.cdb_commands.specs.declared.command.Command.TheVariants.{Step, Auto};
-ghost use Rattle.cdb_commands.specs.ToldReply.{Undone, Redone, RolledBack, History, Decisions, Refused};
 ghost use Rattle.cdb_control.specs.Commands.{TellsPause, reply_of, obey};
 ghost use Rattle.cdb_control.specs.Headline.{Headline};
 ghost use Rattle.cdb_control.specs.Journal.{replies_in};
 ghost use Rattle.cdb_control.specs.Laws.{followed_by, AddsReply, ForCommands, ForRefused, ForOtherSeats, ForSeats, ForOthers, ForJournals, InReplayed};
 ghost use Rattle.cdb_control.specs.State.{redo_of};
-ghost use Rattle.cdb_control.specs.WorkedJournals.{replies, query, send, plain_step, needed_by, undone_and_redone, rolled_back_and_redone};
 
 use cdb_rules::Runs;
 
@@ -59,18 +56,4 @@ pub fn others_add_no_reply()
 pub fn headline<R: Runs>()
     ensures { ForJournals (λ setup seats journal.
         Headline R.rules R.same_state setup seats journal) }
-{}
-
-/// By the table of the commands: what one seat undoes or rolls back it takes again, whatever the other
-/// seat asks in between.
-pub fn worked_journals()
-    ensures undone_for_2 { replies 2 undone_and_redone
-        ≡ Undone query ∷ Redone query None ∷ [] }
-    ensures undone_for_1 { replies 1 undone_and_redone
-        ≡ plain_step query ∷ Refused NothingToRedo ∷ [] }
-    ensures rolled_back_for_2 { replies 2 rolled_back_and_redone
-        ≡ RolledBack 2 ∷ Redone query None ∷ Redone send None ∷ [] }
-    ensures rolled_back_for_1 { replies 1 rolled_back_and_redone
-        ≡ plain_step query ∷ plain_step send ∷ Decisions [] ∷ needed_by send
-        ∷ History (query ∷ send ∷ []) ∷ [] }
 {}

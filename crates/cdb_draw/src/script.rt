@@ -14,9 +14,10 @@ use crate::draws::draw_run;
 use cdb_base::limits::MAX_ENTRIES;
 use cdb_explain::{ExplainFault, chronicle_of, position_of_step};
 use cdb_history::History;
+use cdb_left::left_by;
 use cdb_past::{Chronicle, Chronicled};
 use cdb_rules::Runs;
-use cdb_streams::{Sink, Source, left_by};
+use cdb_streams::{Sink, Source};
 use std::alloc::Global;
 
 /// A step, to which what led is drawn in full: the `k`-th standing step of process `p`, or without `k` its last one.

@@ -6,7 +6,7 @@ use Rattle.cdb_base.specs.declared.refusal.Refusal.{Refusal}
 use Rattle.cdb_explain.specs.Explanations.{because_text}
 use Rattle.cdb_control.specs.Journal.{Journaled, control_state}
 use Rattle.cdb_streams.specs.Faults.{IsFaultOfPlay, IsSetup, of_output}
-use Rattle.cdb_streams.specs.Left.{Leaves, run_of}
+use Rattle.cdb_left.specs.Left.{Leaves, run_of}
 use Rattle.cdb_streams.specs.Streams.{Stream}
 use Rattle.cdb_streams.specs.declared.buffer.OutputFault.{OutputFault}
 use Rattle.cdb_streams.specs.declared.buffer.OutputFault.TheVariants as output
@@ -18,7 +18,7 @@ use Rattle.cdb_explain.specs.Explained.{IsFaultOfExplain}
 use Rattle.cdb_explain.specs.StepFaults.{IsFaultOfStep}
 use Rattle.cdb_setup.specs.declared.fault.SetupFault.{SetupFault}
 use Rattle.cdb_rules.specs.RunView.{RunView}
-use Rattle.cdb_rules.specs.Runs.{Tells}
+use Rattle.cdb_base.specs.Results.{Tells}
 use Rattle.cdb_rules.specs.Rules.{Rules}
 use Rattle.cdb_setup.specs.Parts.{Parts}
 

@@ -1,6 +1,6 @@
 //! What stands in the run that a control has come to.
 
-ghost use Rattle.cdb_streams.specs.Left.{run_of};
+ghost use Rattle.cdb_left.specs.Left.{run_of};
 ghost use Rattle.cdb_rules.specs.ByRules.{IsInOrder};
 ghost use Rattle.std.specs.Prelude.{◌≡◌, ◌≤◌, length};
 

@@ -15,9 +15,10 @@ ghost use Rattle.cdb_setup.specs.declared.fault.SetupFault.{SetupFault as SetupF
 use crate::chronicle::chronicle_of;
 use crate::fault::ExplainFault;
 use crate::step::explain_step;
+use cdb_left::left_by;
 use cdb_past::{Chronicle, Chronicled};
 use cdb_rules::Runs;
-use cdb_streams::{Sink, Source, left_by, write_text};
+use cdb_streams::{Sink, Source, write_text};
 use std::alloc::Global;
 
 /// Writes the explanation of a step of this run, which is whole before any of it is written. `NoStep` where no such step

@@ -1,5 +1,5 @@
 -- What a contract says of a run: of its setup and its standing events, with the table of its machine.
-use Rattle.std.specs.Prelude.{◌≡◌, ℕ, ◌≤◌, List, [], ◌∷◌, ◌++◌, Bool, Option, option_map, Result, Ok, Err, IfOk, OnOk, OnErr, IsOk, MatchOption, MatchResult, false, reverse}
+use Rattle.std.specs.Prelude.{◌≡◌, ℕ, ◌≤◌, List, [], ◌∷◌, ◌++◌, Bool, Option, option_map, Result, Ok, IfOk, OnOk, OnErr, IsOk, MatchOption, false, reverse}
 use Rattle.cdb_base.specs.Event.{event_name}
 use Rattle.cdb_base.specs.Positions.{nth}
 use Rattle.cdb_base.specs.declared.act.Act.{Act}
@@ -155,10 +155,6 @@ after_undo run name = with_left run (undo_in run name)
 
 abbrev pub after_rollback : RunView → StepId → RunView
 after_rollback run name = with_left run (rollback_in run name)
-
--- the result says that, through a view of what it holds
-abbrev pub Tells : {A B E : Type 0} → (A → B) → Result A E → Result B E → Type 0
-Tells view result told = MatchResult result (λ a. told ≡ Ok (view a)) (λ why. told ≡ Err why)
 
 -- where a rollback is granted, it removes the event of the name with exactly its consequences, and all else is left in order
 abbrev pub IsExactRollback : RunView → StepId → RunView → Type 0

@@ -2,7 +2,6 @@ pub mod Added
 pub mod Putting
 pub mod Cutting
 pub mod Reading
-pub mod CarriedOut
 pub mod Ending
 pub mod Numbered
 pub mod WholeTexts

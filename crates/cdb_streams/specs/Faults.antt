@@ -55,3 +55,14 @@ IsFaultOfPlay json old new (ScriptTooLong number) =
 IsFaultOfPlay json old new Read = IsSetup json
 IsFaultOfPlay json old new Write = IsSetup json
 IsFaultOfPlay json old new NoMemory = length json ≤ longest
+
+-- what a fault says that comes from reading a script and its lines; the setup was read before, and nothing is written yet
+abbrev pub IsFaultOfReading : Stream → Stream → PlayFault → Type 0
+IsFaultOfReading old new (Setup fault) = ⊥
+IsFaultOfReading old new (Line number line fault) =
+    (number ≡ 1) × ((bytes : List ℕ) × IsReadToEnd old bytes new × IsFaultOfScript (script.Line line fault) bytes)
+IsFaultOfReading old new (ScriptTooLong number) =
+    (number ≡ 1) × ((bytes : List ℕ) × Consumes old.bytes new.bytes bytes × IsFaultOfScript script.TooLong bytes)
+IsFaultOfReading old new Read = Unit {0}
+IsFaultOfReading old new Write = ⊥
+IsFaultOfReading old new NoMemory = Unit {0}

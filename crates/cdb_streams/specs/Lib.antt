@@ -8,8 +8,6 @@ pub mod FaultTexts
 pub mod Statuses
 pub mod Endings
 pub mod Written
-pub mod Left
-pub mod PlayStages
 pub mod Buffers
 pub mod Putting
 -- ---- what the code keeps for itself

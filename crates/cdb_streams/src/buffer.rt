@@ -5,11 +5,13 @@ ghost use Rattle.std.specs.List.{flat_map};
 ghost use Rattle.cdb_commands.specs.ToldReply.{told, as_reply};
 ghost use Rattle.cdb_text.specs.Texts.{text_of};
 ghost use Rattle.cdb_text.specs.declared.text.short_report.TheConstants.{MOST_LINE};
+ghost use Rattle.cdb_streams.specs.Endings.{whole_ending};
+ghost use Rattle.cdb_streams.specs.Written.{IsWritten, Only};
 
 use crate::fault::PlayFault;
 use crate::sink::{Failed, Sink, write_all};
 use cdb_base::NoMemory;
-use cdb_control::{EventReply, Reply};
+use cdb_commands::{EventReply, Reply};
 use cdb_text::{
     Line, MOST_BYTES, MOST_CAUSES, MOST_ITEMS, MOST_LINE, MOST_REPORT, write_because,
     write_decisions, write_event_reply, write_registers, write_view,
@@ -283,4 +285,15 @@ impl Buffer {
         }
         Ok(())
     }
+}
+
+/// Writes a text, in pieces of 65,536 bytes. After `Write` what was written is a beginning of the text, and
+/// after `NoMemory` nothing was.
+pub fn write_text<W: Sink>(alloc: Global, text: &[u8], out: &mut W) -> Result<(), OutputFault>
+    ensures { IsWritten W.stream (whole_ending result) out.old out.new (Only text.now) }
+{
+    let mut buffer = Buffer::new(alloc)?;
+    buffer.put(out, text)?;
+    buffer.flush(out)?;
+    Ok(())
 }

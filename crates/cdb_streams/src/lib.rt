@@ -1,12 +1,11 @@
-//! Readers and writers, scripts and what one leaves, the texts of replies on their way to a writer, and the faults of plays and
-//! races with their texts and statuses.
+//! Readers and writers, scripts, the texts of replies on their way to a writer, and the faults of plays and races with their
+//! texts and statuses.
 #![tactic(auto)]
 
 mod buffer;
 mod fault;
 mod fault_text;
 mod input;
-mod left;
 mod lines;
 mod output;
 mod piece;
@@ -16,11 +15,10 @@ mod sink;
 mod source;
 mod status;
 
-pub use buffer::{Buffer, OutputFault};
+pub use buffer::{Buffer, OutputFault, write_text};
 pub use fault::{PlayFault, RaceFault};
 pub use fault_text::{write_fault, write_race_fault};
 pub use input::{Bytes, HeldBytes, Input};
-pub use left::{left_by, open_for, write_text};
 pub use output::Output;
 pub use reply::{put_event_reply, put_reply};
 pub use script::{ScriptFault, commands_of, read_commands};

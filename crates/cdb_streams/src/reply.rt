@@ -6,7 +6,7 @@ ghost use Rattle.cdb_streams.specs.Putting.{Puts};
 
 use crate::buffer::{Buffer, OutputFault};
 use crate::sink::Sink;
-use cdb_control::{EventReply, Reply};
+use cdb_commands::{EventReply, Reply};
 use cdb_text::{push_event_reply, push_reply};
 
 /// Puts the text of a reply. It is made in `text`, in place of what stood there, so that all replies use one memory.

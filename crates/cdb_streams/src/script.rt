@@ -3,7 +3,7 @@
 ghost use Rattle.std.specs.Prelude.{◌≡◌, ◌+◌, ◌*◌, ◌<◌, ◌≤◌, [], ◌∷◌, ◌++◌, length, Err, IfOk, IfErr, OnOk};
 ghost use Rattle.cdb_base.specs.declared.limits.TheConstants.{MAX_ENTRIES};
 ghost use Rattle.cdb_setup.specs.Format.{longest};
-ghost use Rattle.cdb_streams.specs.PlayStages.{IsFaultOfReading};
+ghost use Rattle.cdb_streams.specs.Faults.{IsFaultOfReading};
 ghost use Rattle.cdb_streams.specs.Lines.{lines_of};
 ghost use Rattle.cdb_streams.specs.Scripts.{AreCommandsOf, GivesCommands, IsFaultOfScript};
 ghost use Rattle.cdb_streams.specs.Streams.{FailsWhere};
@@ -13,7 +13,7 @@ use crate::lines::first_line;
 use crate::source::{Source, read_up_to};
 use cdb_base::limits::MAX_BYTES;
 use cdb_base::{Act, Reg};
-use cdb_control::{Command, Stop, View};
+use cdb_commands::{Command, Stop, View};
 use cdb_text::{LineFault, parse_line};
 use std::alloc::{AllocError, Global};
 use std::error::Error;

@@ -3,10 +3,10 @@
 ghost use Rattle.std.specs.Prelude.{◌≡◌, ◌≢◌, ◌≤◌, ◌∷◌, [], length};
 ghost use Rattle.std.specs.Prelude.{MatchOption, MatchBool, IfOk};
 ghost use Rattle.std.specs.Str.Parse.{AllDigits, digits_value};
+ghost use Rattle.cdb_base.specs.Results.{Tells};
 ghost use Rattle.cdb_text.specs.Commands.{number};
 ghost use Rattle.cdb_text.specs.Grammar.{IsInRange, words_of};
 ghost use Rattle.cdb_text.specs.Words.{words_left};
-ghost use Rattle.cdb_rules.specs.Runs.{Tells};
 ghost use Rattle.cdb_text.specs.Reading.{number_of, register_named};
 ghost use Rattle.cdb_text.specs.Reading.{word_at, number_at, register_at, ended};
 

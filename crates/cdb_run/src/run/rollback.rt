@@ -3,8 +3,9 @@
 
 ghost use Rattle.std.specs.Prelude.{◌≡◌, ℕ, ◌+◌, ◌<◌, ◌≤◌, [], ◌∷◌, ◌++◌, length, reverse, vec_len, vec_capacity, IfOk, IsOk, OnOk, OnErr};
 ghost use Rattle.std.specs.Vec.{vec_items};
+ghost use Rattle.cdb_base.specs.Results.{Tells};
 ghost use Rattle.cdb_rules.specs.EventRefs.{name_given};
-ghost use Rattle.cdb_rules.specs.Runs.{step_name, loss_name, AllLeadTo, RollsBackOnto, Tells, result_of_rollback, causes_in, after_rollback, RollbackLeadsBack, IsExactRollback, AreCausesOf};
+ghost use Rattle.cdb_rules.specs.Runs.{step_name, loss_name, AllLeadTo, RollsBackOnto, result_of_rollback, causes_in, after_rollback, RollbackLeadsBack, IsExactRollback, AreCausesOf};
 ghost use Rattle.cdb_rules.specs.AtPositions.{rolled_back_at, after_rollback_at};
 
 use crate::run::Run;

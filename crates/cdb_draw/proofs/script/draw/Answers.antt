@@ -1,5 +1,5 @@
 use Rattle.std.proofs.Common.{sym, subst}
-use Rattle.cdb_streams.specs.Left.{Leaves}
+use Rattle.cdb_left.specs.Left.{Leaves}
 use Rattle.cdb_rules.specs.RunView.{RunView}
 use Rattle.cdb_streams.proofs.Ending.{written_as}
 use Rattle.cdb_explain.proofs.Returned.{is_no_setup, reads_none, no_err}

@@ -1,6 +1,6 @@
 use Rattle.std.proofs.Common.{sym, subst}
 use Rattle.cdb_rules.specs.RunView.{RunView}
-use Rattle.cdb_streams.specs.Left.{Leaves}
+use Rattle.cdb_left.specs.Left.{Leaves}
 use Rattle.cdb_explain.specs.Explained.{explain_ending, Explains}
 use Rattle.cdb_explain.specs.Explanations.{IsStepExplained}
 use Rattle.cdb_streams.proofs.Ending.{written_as}

@@ -1,8 +1,27 @@
-//! The laws of commands, journals and lines.
+//! The laws of commands, journals and lines, and journals worked out by the table of the commands.
+
+ghost use Rattle.std.specs.Prelude.{◌≡◌, [], ◌∷◌, None};
+ghost use Rattle.cdb_base.specs.declared.refusal.Refusal.TheVariants.{NothingToRedo};
+ghost use Rattle.cdb_commands.specs.ToldReply.{Undone, Redone, RolledBack, History, Decisions, Refused};
+ghost use Rattle.run_tests.specs.WorkedJournals.{replies, query, send, plain_step, needed_by, undone_and_redone, rolled_back_and_redone};
 
 use cdb_any_run::RunOfSetup;
 use cdb_control::laws;
 use cdb_text::laws as lines;
+
+/// By the table of the commands: what one seat undoes or rolls back it takes again, whatever the other
+/// seat asks in between.
+fn worked_journals()
+    ensures undone_for_2 { replies 2 undone_and_redone
+        ≡ Undone query ∷ Redone query None ∷ [] }
+    ensures undone_for_1 { replies 1 undone_and_redone
+        ≡ plain_step query ∷ Refused NothingToRedo ∷ [] }
+    ensures rolled_back_for_2 { replies 2 rolled_back_and_redone
+        ≡ RolledBack 2 ∷ Redone query None ∷ Redone send None ∷ [] }
+    ensures rolled_back_for_1 { replies 1 rolled_back_and_redone
+        ≡ plain_step query ∷ plain_step send ∷ Decisions [] ∷ needed_by send
+        ∷ History (query ∷ send ∷ []) ∷ [] }
+{}
 
 /// Each law holds of the runs of every setup.
 #[test]
@@ -13,6 +32,6 @@ fn laws_of_commands_and_lines() {
     laws::own_command_adds_its_reply();
     laws::others_add_no_reply();
     laws::headline::<RunOfSetup>();
-    laws::worked_journals();
+    worked_journals();
     lines::each_command_has_one_line();
 }

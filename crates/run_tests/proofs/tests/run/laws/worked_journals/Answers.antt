@@ -1,6 +1,6 @@
 use Rattle.std.proofs.Common.{refl}
 use Rattle.cdb_control.specs.Commands.{outcome}
-use Rattle.cdb_control.proofs.laws.worked_journals.Goals as goal
+use Rattle.run_tests.proofs.tests.run.laws.worked_journals.Goals as goal
 
 pub returns-clause-undone_for_2 : goal.returns-clause-undone_for_2
 unfolding outcome

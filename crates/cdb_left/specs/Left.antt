@@ -19,6 +19,12 @@ journal_of commands = map (entry 1) commands
 abbrev pub carried_out : Parts → List Command → Journaled
 carried_out setup commands = record { setup = setup; seats = 1; journal = journal_of commands; rooms = 0 ∷ [] }
 
+-- a control of one seat that has carried these commands out, whatever room there is
+pub record HasCarriedOut (setup : Parts) (commands : List Command) (control : Journaled) : Type 0 where
+  pub of_setup : control.setup ≡ setup
+  pub one_seat : control.seats ≡ 1
+  pub carried_out : control.journal ≡ journal_of commands
+
 -- the run of a control: its setup and its standing events
 abbrev pub run_of : (Parts → Rules) → Journaled → RunView
 run_of rules control = record { setup = control.setup; history = (control_state rules control).history }

@@ -1,7 +1,7 @@
-use Rattle.cdb_streams.proofs.CarriedOut.{run_left}
+use Rattle.cdb_left.proofs.CarriedOut.{run_left}
 use Rattle.std.proofs.lemmas.Result.{err_from_is_err_and}
 use Rattle.cdb_streams.proofs.WholeTexts.{no_failed_write, setup_writes_none}
-use Rattle.cdb_streams.proofs.left.left_by.Goals as goal
+use Rattle.cdb_left.proofs.left.left_by.Goals as goal
 
 pub returns-clause-left : goal.returns-clause-left
 returns-clause-left g c =

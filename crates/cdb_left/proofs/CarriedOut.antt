@@ -5,8 +5,7 @@ use Rattle.cdb_commands.specs.declared.command.Command.{Command}
 use Rattle.cdb_control.specs.Journal.{Journaled, entry, extended}
 use Rattle.cdb_rules.specs.Rules.{Rules}
 use Rattle.cdb_setup.specs.Parts.{Parts}
-use Rattle.cdb_streams.specs.Left.{carried_out, run_of}
-use Rattle.cdb_streams.specs.PlayStages.{HasCarriedOut}
+use Rattle.cdb_left.specs.Left.{HasCarriedOut, carried_out, run_of}
 
 module _ (rules : Parts → Rules) (setup : Parts) (done : List Command) (command : Command) (control : Journaled) (along : HasCarriedOut setup done control) where
   -- one command more is carried out

@@ -5,21 +5,14 @@ ghost use Rattle.cdb_base.specs.declared.limits.TheConstants.{MAX_ENTRIES};
 ghost use Rattle.cdb_control.specs.Headline.{Headline};
 ghost use Rattle.cdb_control.specs.Journal.{extended};
 ghost use Rattle.cdb_setup.specs.declared.fault.SetupFault.{SetupFault as SetupFaultName};
-ghost use Rattle.cdb_streams.specs.Endings.{whole_ending};
 ghost use Rattle.cdb_streams.specs.Faults.{IsFaultOfPlay};
-ghost use Rattle.cdb_streams.specs.Left.{LeavesControl};
-ghost use Rattle.cdb_streams.specs.PlayStages.{HasCarriedOut};
+ghost use Rattle.cdb_left.specs.Left.{HasCarriedOut, LeavesControl};
 ghost use Rattle.cdb_streams.specs.Streams.{FailsWhere};
-ghost use Rattle.cdb_streams.specs.Written.{IsWritten, Only};
 
-use crate::buffer::{Buffer, OutputFault};
-use crate::fault::PlayFault;
-use crate::script::read_commands;
-use crate::sink::Sink;
-use crate::source::Source;
 use cdb_base::NoMemory;
 use cdb_control::{CallFault, Command, Control, Runs};
 use cdb_setup::Setup;
+use cdb_streams::{PlayFault, Source, read_commands};
 use std::alloc::Global;
 
 /// A control with one seat in which nothing has happened, with room for this many commands: so their journal is
@@ -122,15 +115,4 @@ pub fn left_by<T: Runs, R: Source>(
     // Its clause says that the headline holds of the journal.
     let _journal = control.journal();
     Ok(control)
-}
-
-/// Writes a text, in pieces of 65,536 bytes. After `Write` what was written is a beginning of the text, and
-/// after `NoMemory` nothing was.
-pub fn write_text<W: Sink>(alloc: Global, text: &[u8], out: &mut W) -> Result<(), OutputFault>
-    ensures { IsWritten W.stream (whole_ending result) out.old out.new (Only text.now) }
-{
-    let mut buffer = Buffer::new(alloc)?;
-    buffer.put(out, text)?;
-    buffer.flush(out)?;
-    Ok(())
 }

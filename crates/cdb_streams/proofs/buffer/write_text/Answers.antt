@@ -1,7 +1,7 @@
 use Rattle.std.proofs.Common.{refl}
 use Rattle.std.proofs.lemmas.Result.{err_from_is_err_and}
 use Rattle.cdb_streams.proofs.Putting.{fails_at_end}
-use Rattle.cdb_streams.proofs.left.write_text.Goals as goal
+use Rattle.cdb_streams.proofs.buffer.write_text.Goals as goal
 
 pub returns-in_err-flush : goal.returns-in_err-flush
 returns-in_err-flush g c =

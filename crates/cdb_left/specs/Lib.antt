@@ -1,0 +1,2 @@
+-- what the public contracts name
+pub mod Left

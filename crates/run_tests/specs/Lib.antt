@@ -1,0 +1,2 @@
+-- short journals, whose replies a test says
+pub mod WorkedJournals
