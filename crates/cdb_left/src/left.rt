@@ -4,10 +4,11 @@ ghost use Rattle.std.specs.Prelude.{◌≡◌, ◌≢◌, ◌<◌, ◌≤◌, []
 ghost use Rattle.cdb_base.specs.declared.limits.TheConstants.{MAX_ENTRIES};
 ghost use Rattle.cdb_control.specs.Headline.{Headline};
 ghost use Rattle.cdb_control.specs.Journal.{extended};
+ghost use Rattle.cdb_control.specs.Room.{room_of};
 ghost use Rattle.cdb_setup.specs.declared.fault.SetupFault.{SetupFault as SetupFaultName};
 ghost use Rattle.cdb_streams.specs.Faults.{IsFaultOfPlay};
-ghost use Rattle.cdb_left.specs.Left.{HasCarriedOut, LeavesControl};
 ghost use Rattle.cdb_streams.specs.Streams.{FailsWhere};
+ghost use Rattle.cdb_left.specs.Left.{HasCarriedOut, LeavesControl};
 
 use cdb_base::NoMemory;
 use cdb_control::{CallFault, Command, Control, Runs};
@@ -19,7 +20,8 @@ use std::alloc::Global;
 /// allocated once.
 pub fn open_for<T: Runs>(alloc: Global, setup: Setup, count: u32) -> Result<Control<T>, NoMemory>
     requires { count ≤ MAX_ENTRIES }
-    ensures { IfOk result (HasCarriedOut setup []) }
+    ensures new { IfOk result (HasCarriedOut setup []) }
+    ensures room { IfOk result (λ control. room_of control.rooms 1 ≡ count) }
 {
     let Ok(mut control) = Control::<T>::open(alloc, setup, 1) else {
         return Err(NoMemory);

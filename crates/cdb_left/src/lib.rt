@@ -1,4 +1,4 @@
-//! The run that a script leaves, for what looks at a run and replies to no command.
+//! The control that a script leaves, and one in which its commands can be carried out.
 //!
 //! ```text
 //! let control = left_by::<RunOfSetup, _>(alloc, setup, &mut script)?;

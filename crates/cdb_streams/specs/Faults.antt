@@ -43,19 +43,6 @@ of_output output.NoMemory = NoMemory
 abbrev pub IsSetup : List ℕ → Type 0
 IsSetup json = (setup : Parts) × Encodes json setup
 
--- What a fault of a play says of the setup's text and of the script, where the reader had the first bytes left before
--- and the second after. A fault of the setup comes before those of the script, and those before the writer's. Out of memory
--- comes only where the setup's text is not too long.
-abbrev pub IsFaultOfPlay : List ℕ → Stream → Stream → PlayFault → Type 0
-IsFaultOfPlay json old new (Setup fault) = IsFirstFault fault json
-IsFaultOfPlay json old new (Line number line fault) =
-    IsSetup json × (number ≡ 1) × ((bytes : List ℕ) × IsReadToEnd old bytes new × IsFaultOfScript (script.Line line fault) bytes)
-IsFaultOfPlay json old new (ScriptTooLong number) =
-    IsSetup json × (number ≡ 1) × ((bytes : List ℕ) × Consumes old.bytes new.bytes bytes × IsFaultOfScript script.TooLong bytes)
-IsFaultOfPlay json old new Read = IsSetup json
-IsFaultOfPlay json old new Write = IsSetup json
-IsFaultOfPlay json old new NoMemory = length json ≤ longest
-
 -- what a fault says that comes from reading a script and its lines; the setup was read before, and nothing is written yet
 abbrev pub IsFaultOfReading : Stream → Stream → PlayFault → Type 0
 IsFaultOfReading old new (Setup fault) = ⊥
@@ -66,3 +53,14 @@ IsFaultOfReading old new (ScriptTooLong number) =
 IsFaultOfReading old new Read = Unit {0}
 IsFaultOfReading old new Write = ⊥
 IsFaultOfReading old new NoMemory = Unit {0}
+
+-- What a fault of a play says of the setup's text and of the script, where the reader had the first bytes left before
+-- and the second after. A fault of the setup comes before those of the script, and those before the writer's. Out of memory
+-- comes only where the setup's text is not too long.
+abbrev pub IsFaultOfPlay : List ℕ → Stream → Stream → PlayFault → Type 0
+IsFaultOfPlay json old new (Setup fault) = IsFirstFault fault json
+IsFaultOfPlay json old new (Line number line fault) = IsSetup json × IsFaultOfReading old new (Line number line fault)
+IsFaultOfPlay json old new (ScriptTooLong number) = IsSetup json × IsFaultOfReading old new (ScriptTooLong number)
+IsFaultOfPlay json old new Read = IsSetup json
+IsFaultOfPlay json old new Write = IsSetup json
+IsFaultOfPlay json old new NoMemory = length json ≤ longest

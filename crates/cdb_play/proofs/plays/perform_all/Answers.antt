@@ -13,9 +13,9 @@ returns-in_err-control g c =
 
 pub perform_each-performed-requires-clause-new : goal.perform_each-performed-requires-clause-new
 perform_each-performed-requires-clause-new g c =
-    record { of_setup = refl; one_seat = c.in_ok-control.ensures.one_seat; carried_out = c.in_ok-control.ensures.carried_out }
+    record { of_setup = refl; one_seat = c.in_ok-control.ensures.new.one_seat; carried_out = c.in_ok-control.ensures.new.carried_out }
 
 pub returns : goal.returns
 returns g c =
     subst (λ (setup : Parts). Puts g.W.Sink.stream c.perform_each-performed.result c.args.out.now c.args.buffer.now c.perform_each-performed.new.out c.perform_each-performed.new.buffer (transcript (g.T.Runs.rules setup) setup c.args.commands.now))
-    c.in_ok-control.ensures.of_setup c.perform_each-performed.ensures
+    c.in_ok-control.ensures.new.of_setup c.perform_each-performed.ensures
