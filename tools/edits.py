@@ -43,6 +43,8 @@ def body_of(lines, at, indent):
     """The first and the last line of the body of the function that begins at a line, or none where it has no statement."""
     for first in range(at, len(lines)):
         line = lines[first]
+        if first > at and (FUNCTION.match(line) or line and not line.startswith(indent)):
+            return None
         if line.startswith(indent) and not line[len(indent):].startswith(" "):
             if line.endswith("{}") or line.endswith(";") or (first > at and line.startswith(f"{indent}}}")):
                 return None

@@ -9,3 +9,4 @@ pub mod Least
 pub mod Own
 pub mod FirstDependent
 pub mod Headline
+pub mod OneSeat

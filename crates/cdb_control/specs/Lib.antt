@@ -5,6 +5,8 @@ pub mod State
 pub mod Commands
 pub mod Journal
 pub mod Headline
+-- a control of one seat
+pub mod OneSeat
 -- the texts of its faults, also what a reader believes
 pub mod FaultTexts
 -- the room that a control has, also what a reader believes

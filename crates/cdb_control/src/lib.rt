@@ -10,6 +10,7 @@
 
 mod control;
 pub mod laws;
+mod one_seat;
 mod redo;
 mod state;
 mod stops;
@@ -18,3 +19,4 @@ pub use cdb_base::{Act, ProcView};
 pub use cdb_commands::{Command, EventReply, Reply, Stop, View};
 pub use cdb_rules::{EventRef, Runs};
 pub use control::{CallFault, Control, Entry, OpenFault};
+pub use one_seat::open_for;

@@ -7,7 +7,7 @@ use Rattle.cdb_explain.specs.declared.fault.ExplainFault.{ExplainFault}
 use Rattle.cdb_explain.specs.declared.fault.ExplainFault.TheVariants.{NoStep, Play}
 use Rattle.cdb_streams.specs.Endings.{pieces_ending}
 use Rattle.cdb_streams.specs.Faults.{IsFaultOfPlay, of_output}
-use Rattle.cdb_left.specs.Left.{Leaves}
+use Rattle.cdb_explain.specs.Left.{Leaves}
 use Rattle.cdb_streams.specs.Streams.{Stream}
 use Rattle.cdb_streams.specs.declared.buffer.OutputFault.{OutputFault}
 use Rattle.cdb_streams.specs.declared.buffer.OutputFault.TheVariants as output

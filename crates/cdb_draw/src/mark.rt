@@ -12,8 +12,8 @@ use crate::arrow::{push_spot, push_weight};
 use crate::piece::{push, push_message, push_number, push_process, push_register, push_val};
 use cdb_base::limits::MAX_ENTRIES;
 use cdb_base::{CopyName, Event, Kind, MsgName, Proc, Val};
-use cdb_control::Runs;
 use cdb_explain::{decision_by, push_whole};
+use cdb_rules::Runs;
 use cdb_setup::Setup;
 use std::alloc::{AllocError, Global};
 

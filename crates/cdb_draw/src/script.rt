@@ -12,9 +12,8 @@ ghost use Rattle.cdb_setup.specs.declared.fault.SetupFault.{SetupFault as SetupF
 
 use crate::draws::draw_run;
 use cdb_base::limits::MAX_ENTRIES;
-use cdb_explain::{ExplainFault, chronicle_of, position_of_step};
+use cdb_explain::{ExplainFault, position_of_step, run_left_by};
 use cdb_history::History;
-use cdb_left::left_by;
 use cdb_past::{Chronicle, Chronicled};
 use cdb_rules::Runs;
 use cdb_streams::{Sink, Source};
@@ -82,7 +81,6 @@ pub fn draw<T: Chronicled, R: Source, W: Sink>(
         result ≡ Err (of_play (play.Setup fault)) → script.new ≡ script.old }
     ensures read { FailsWhere R.stream (result ≡ Err (of_play play.Read)) script.old script.new }
 {
-    let control = left_by::<T, R>(alloc, setup, script)?;
-    let run = chronicle_of(control);
+    let run = run_left_by::<T, R>(alloc, setup, script)?;
     write_drawing::<T, W>(alloc, &run, step, out)
 }

@@ -3,3 +3,4 @@ pub mod Flagging
 pub mod Causes
 pub mod Along
 pub mod Bounded
+pub mod CarriedOut

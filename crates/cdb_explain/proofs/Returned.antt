@@ -1,12 +1,11 @@
 -- A step that was asked for, and what was answered.
-use Rattle.std.proofs.Common.{◌≡◌, ◌∙◌, ℕ, List, Option, Result, Ok, Err, ap, sym, subst}
+use Rattle.std.proofs.Common.{◌≡◌, ℕ, List, Option, Result, Ok, Err, ap, sym, subst}
 use Rattle.std.specs.Prelude.{[], IfErr}
 use Rattle.cdb_base.specs.declared.name.StepId.{StepId}
 use Rattle.cdb_base.specs.declared.refusal.Refusal.{Refusal}
 use Rattle.cdb_explain.specs.Explanations.{because_text}
-use Rattle.cdb_control.specs.Journal.{Journaled, control_state}
 use Rattle.cdb_streams.specs.Faults.{IsFaultOfPlay, IsSetup, of_output}
-use Rattle.cdb_left.specs.Left.{Leaves, run_of}
+use Rattle.cdb_explain.specs.Left.{Leaves}
 use Rattle.cdb_streams.specs.Streams.{Stream}
 use Rattle.cdb_streams.specs.declared.buffer.OutputFault.{OutputFault}
 use Rattle.cdb_streams.specs.declared.buffer.OutputFault.TheVariants as output
@@ -21,12 +20,6 @@ use Rattle.cdb_rules.specs.RunView.{RunView}
 use Rattle.cdb_base.specs.Results.{Tells}
 use Rattle.cdb_rules.specs.Rules.{Rules}
 use Rattle.cdb_setup.specs.Parts.{Parts}
-
--- the run of a control
-pub same_run : (rules : Parts → Rules) (run : RunView) (control : Journaled) → run.setup ≡ control.setup → run.history ≡ (control_state rules control).history → run ≡ run_of rules control
-same_run rules run control setup history =
-    ap (λ s. let view : RunView = record { setup = s; history = run.history } in view) setup
-    ∙ ap (λ h. let view : RunView = record { setup = control.setup; history = h } in view) history
 
 -- ---- the step of the run that a script left
 

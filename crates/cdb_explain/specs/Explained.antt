@@ -2,7 +2,7 @@
 use Rattle.std.specs.Prelude.{ℕ, List, Option, Result, Ok, Err}
 use Rattle.cdb_streams.specs.Endings.{Ending, Complete, WriterFailed, NotBegun}
 use Rattle.cdb_streams.specs.Faults.{IsFaultOfPlay}
-use Rattle.cdb_left.specs.Left.{Leaves}
+use Rattle.cdb_explain.specs.Left.{Leaves}
 use Rattle.cdb_streams.specs.Streams.{Stream}
 use Rattle.cdb_streams.specs.declared.fault.PlayFault.TheVariants as play
 use Rattle.cdb_rules.specs.RunView.{RunView}

@@ -2,6 +2,7 @@
 pub mod Asked
 pub mod Flagged
 pub mod Explanations
+pub mod Left
 pub mod Explained
 pub mod FaultTexts
 -- ---- what the code keeps for itself

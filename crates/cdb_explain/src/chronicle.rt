@@ -1,6 +1,7 @@
 //! What stands in the run that a control has come to.
 
-ghost use Rattle.cdb_left.specs.Left.{run_of};
+ghost use Rattle.cdb_control.specs.Headline.{Headline};
+ghost use Rattle.cdb_explain.specs.Left.{run_of};
 ghost use Rattle.cdb_rules.specs.ByRules.{IsInOrder};
 ghost use Rattle.std.specs.Prelude.{◌≡◌, ◌≤◌, length};
 
@@ -10,12 +11,13 @@ use cdb_past::{Chronicle, Chronicled};
 
 /// What stands in the run of a control: no more events than the journal has entries. All else of the control is
 /// given up.
-pub fn chronicle_of<T: Chronicled>(control: Control<T>) -> Chronicle
+pub(crate) fn chronicle_of<T: Chronicled>(control: Control<T>) -> Chronicle
     ensures is { result ≡ run_of T.rules control }
     ensures valid { IsInOrder T.rules result }
     ensures few { length result.history ≤ MAX_ENTRIES }
+    ensures headline { Headline T.rules T.same_state control.setup control.seats control.journal }
 {
-    // Its clause says that each entry is of one of the seats, and how many entries there are.
+    // Its clauses say that each entry is of one of the seats, how many there are, and that the headline holds of them.
     let _journal = control.journal();
     let run = control.into_run();
     // Its clause says that the parts of the setup are in range.

@@ -7,7 +7,7 @@ ghost use Rattle.cdb_text.specs.Pushes.{Pushes};
 ghost use Rattle.std.specs.Prelude.{◌≡◌, Some};
 
 use cdb_base::{Cell, Event, Kind, MsgName, Proc, Reg};
-use cdb_control::Runs;
+use cdb_rules::Runs;
 use cdb_text::{push_payload, push_value};
 use std::alloc::AllocError;
 

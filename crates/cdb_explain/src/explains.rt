@@ -12,10 +12,9 @@ ghost use Rattle.cdb_streams.specs.declared.fault.PlayFault.TheVariants as play;
 ghost use Rattle.cdb_rules.specs.ByRules.{IsInOrder};
 ghost use Rattle.cdb_setup.specs.declared.fault.SetupFault.{SetupFault as SetupFaultName};
 
-use crate::chronicle::chronicle_of;
 use crate::fault::ExplainFault;
+use crate::left::run_left_by;
 use crate::step::explain_step;
-use cdb_left::left_by;
 use cdb_past::{Chronicle, Chronicled};
 use cdb_rules::Runs;
 use cdb_streams::{Sink, Source, write_text};
@@ -65,7 +64,6 @@ pub fn explain<T: Chronicled, R: Source, W: Sink>(
         result ≡ Err (of_play (play.Setup fault)) → script.new ≡ script.old }
     ensures read { FailsWhere R.stream (result ≡ Err (of_play play.Read)) script.old script.new }
 {
-    let control = left_by::<T, R>(alloc, setup, script)?;
-    let run = chronicle_of(control);
+    let run = run_left_by::<T, R>(alloc, setup, script)?;
     write_explanation::<T, W>(alloc, &run, p, k, out)
 }

@@ -6,6 +6,7 @@ mod chronicle;
 mod detail;
 mod explains;
 mod fault;
+mod left;
 mod line;
 mod lines;
 mod past;
@@ -13,9 +14,9 @@ mod replay;
 mod step;
 
 pub use asked::position_of_step;
-pub use chronicle::chronicle_of;
 pub use explains::explain;
 pub use fault::ExplainFault;
+pub use left::run_left_by;
 pub use line::{decision_by, push_whole};
 pub use lines::explanation;
 pub use past::past_of;

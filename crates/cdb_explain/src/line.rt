@@ -10,7 +10,7 @@ ghost use Rattle.std.specs.Prelude.{◌≡◌};
 
 use crate::detail::push_detail;
 use cdb_base::{CopyName, Event, MsgName, Val};
-use cdb_control::{EventRef, Runs};
+use cdb_rules::{EventRef, Runs};
 use cdb_text::{push_causes, push_decides, push_event};
 use std::alloc::{AllocError, Global};
 

@@ -9,7 +9,7 @@ use Rattle.cdb_rules.specs.Rules.{Rules}
 use Rattle.cdb_setup.specs.Parts.{Parts, AreInRange}
 use Rattle.cdb_streams.specs.Streams.{Stream}
 use Rattle.cdb_play.specs.Transcripts.{Plays, RestsOnHeadline}
-use Rattle.cdb_left.specs.Left.{journal_of}
+use Rattle.cdb_control.specs.OneSeat.{journal_of}
 
 of_the_only_seat : (commands : List Command) → AreOfSeats 1 (journal_of commands)
 of_the_only_seat [] = tt

@@ -11,7 +11,7 @@ use Rattle.cdb_control.proofs.Own.{replies_from-append}
 use Rattle.cdb_rules.specs.Rules.{Rules}
 use Rattle.cdb_setup.specs.Parts.{Parts}
 use Rattle.cdb_text.specs.Texts.{text_of}
-use Rattle.cdb_left.specs.Left.{HasCarriedOut, carried_out, journal_of}
+use Rattle.cdb_control.specs.OneSeat.{HasCarriedOut, carried_out, journal_of}
 use Rattle.cdb_play.specs.Transcripts.{reply_to, transcript}
 
 pub no_texts : (rules : Rules) (setup : Parts) → transcript rules setup [] ≡ []

@@ -9,7 +9,7 @@ use Rattle.cdb_rules.specs.Rules.{Rules}
 use Rattle.cdb_setup.specs.Parts.{Parts}
 use Rattle.cdb_setup.specs.Format.{Encodes, longest}
 use Rattle.cdb_text.specs.Texts.{text_of}
-use Rattle.cdb_left.specs.Left.{journal_of}
+use Rattle.cdb_control.specs.OneSeat.{journal_of}
 use Rattle.cdb_streams.specs.Lines.{lines_of}
 use Rattle.cdb_streams.specs.Scripts.{AreCommandsOf}
 use Rattle.cdb_streams.specs.Streams.{IsReadToEnd, Stream}

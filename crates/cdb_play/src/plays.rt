@@ -5,7 +5,7 @@ ghost use Rattle.cdb_base.specs.declared.limits.TheConstants.{MAX_ENTRIES};
 ghost use Rattle.cdb_control.specs.Journal.{extended};
 ghost use Rattle.cdb_commands.specs.OneEvent.{is_of_one_event};
 ghost use Rattle.cdb_setup.specs.declared.fault.SetupFault.{SetupFault as SetupFaultName};
-ghost use Rattle.cdb_left.specs.Left.{HasCarriedOut};
+ghost use Rattle.cdb_control.specs.OneSeat.{HasCarriedOut};
 ghost use Rattle.cdb_streams.specs.Putting.{Puts};
 ghost use Rattle.cdb_streams.specs.Endings.{pieces_ending, play_ending};
 ghost use Rattle.cdb_streams.specs.Faults.{IsFaultOfPlay};
@@ -13,8 +13,7 @@ ghost use Rattle.cdb_streams.specs.Streams.{FailsWhere};
 ghost use Rattle.cdb_play.specs.Transcripts.{reply_to, transcript, Plays, RestsOnHeadline};
 ghost use Rattle.cdb_streams.specs.Written.{IsWritten, Only};
 
-use cdb_control::{CallFault, Command, Control, Runs, laws};
-use cdb_left::open_for;
+use cdb_control::{CallFault, Command, Control, Runs, laws, open_for};
 use cdb_setup::Setup;
 use cdb_streams::{
     Buffer, OutputFault, PlayFault, Sink, Source, put_event_reply, put_reply, read_commands,

@@ -1,5 +1,3 @@
-use Rattle.std.proofs.Common.{sym, subst}
-use Rattle.cdb_left.specs.Left.{Leaves}
 use Rattle.cdb_rules.specs.RunView.{RunView}
 use Rattle.cdb_streams.proofs.Ending.{written_as}
 use Rattle.cdb_explain.proofs.Returned.{is_no_setup, reads_none, no_err}
@@ -10,18 +8,18 @@ use Rattle.cdb_draw.proofs.script.draw.Goals as goal
 pub returns-clause-wrote : goal.returns-clause-wrote
 returns-clause-wrote g c =
     let old = g.R.Source.stream c.args.script.now in
-    let new = g.R.Source.stream c.left_by.new.script in
-    let run : RunView = c.chronicle_of-run.result in
-    let left = subst (Leaves g.T.Runs.rules c.args.setup.now old new) (sym c.chronicle_of-run.ensures.is) c.in_ok-control.ensures.left in
+    let new = g.R.Source.stream c.run_left_by.new.script in
+    let run : RunView = c.in_ok-run.run' in
+    let left = c.in_ok-run.ensures.left.leaves in
     written_as g.W.Sink.stream (draw_ending c.write_drawing.result) c.args.out.now c.write_drawing.new.out (IsPictureFor g.T.Runs.rules run c.args.step) (Draws g.T.Runs.rules c.args.setup.now c.args.step old new)
     (λ text is. (run, left, is)) c.write_drawing.ensures.wrote
 
 pub returns-clause-fault : goal.returns-clause-fault
 returns-clause-fault g c =
     let old = g.R.Source.stream c.args.script.now in
-    let new = g.R.Source.stream c.left_by.new.script in
-    let left = subst (Leaves g.T.Runs.rules c.args.setup.now old new) (sym c.chronicle_of-run.ensures.is) c.in_ok-control.ensures.left in
-    fault_left g.T.Runs.rules c.args.setup.now c.args.step old new c.chronicle_of-run.result left c.write_drawing.result c.write_drawing.ensures.fault
+    let new = g.R.Source.stream c.run_left_by.new.script in
+    let left = c.in_ok-run.ensures.left.leaves in
+    fault_left g.T.Runs.rules c.args.setup.now c.args.step old new c.in_ok-run.run' left c.write_drawing.result c.write_drawing.ensures.fault
 
 pub returns-clause-unread : goal.returns-clause-unread
 returns-clause-unread g c = λ fault same. absurd (is_no_setup _ c.write_drawing.result fault c.write_drawing.ensures.fault same)
@@ -29,5 +27,5 @@ returns-clause-unread g c = λ fault same. absurd (is_no_setup _ c.write_drawing
 pub returns-clause-read : goal.returns-clause-read
 returns-clause-read g c = (
   λ same. absurd (reads_none _ c.write_drawing.result c.write_drawing.ensures.fault same),
-  λ _. c.in_ok-control.ensures.read.1 (λ same. absurd (no_err _ _ same)),
+  λ _. c.in_ok-run.ensures.read.1 (λ same. absurd (no_err _ _ same)),
 )

@@ -1,6 +1,4 @@
-use Rattle.std.proofs.Common.{sym, subst}
 use Rattle.cdb_rules.specs.RunView.{RunView}
-use Rattle.cdb_left.specs.Left.{Leaves}
 use Rattle.cdb_explain.specs.Explained.{explain_ending, Explains}
 use Rattle.cdb_explain.specs.Explanations.{IsStepExplained}
 use Rattle.cdb_streams.proofs.Ending.{written_as}
@@ -10,18 +8,18 @@ use Rattle.cdb_explain.proofs.explains.explain.Goals as goal
 pub returns-clause-wrote : goal.returns-clause-wrote
 returns-clause-wrote g c =
     let old = g.R.Source.stream c.args.script.now in
-    let new = g.R.Source.stream c.left_by.new.script in
-    let run : RunView = c.chronicle_of-run.result in
-    let left = subst (Leaves g.T.Runs.rules c.args.setup.now old new) (sym c.chronicle_of-run.ensures.is) c.in_ok-control.ensures.left in
+    let new = g.R.Source.stream c.run_left_by.new.script in
+    let run : RunView = c.in_ok-run.run' in
+    let left = c.in_ok-run.ensures.left.leaves in
     written_as g.W.Sink.stream (explain_ending c.write_explanation.result) c.args.out.now c.write_explanation.new.out (IsStepExplained g.T.Runs.rules run c.args.p c.args.k) (Explains g.T.Runs.rules c.args.setup.now c.args.p c.args.k old new)
     (λ text is. (run, left, is)) c.write_explanation.ensures.wrote
 
 pub returns-clause-fault : goal.returns-clause-fault
 returns-clause-fault g c =
     let old = g.R.Source.stream c.args.script.now in
-    let new = g.R.Source.stream c.left_by.new.script in
-    let run : RunView = c.chronicle_of-run.result in
-    let left = subst (Leaves g.T.Runs.rules c.args.setup.now old new) (sym c.chronicle_of-run.ensures.is) c.in_ok-control.ensures.left in
+    let new = g.R.Source.stream c.run_left_by.new.script in
+    let run : RunView = c.in_ok-run.run' in
+    let left = c.in_ok-run.ensures.left.leaves in
     fault_left g.T.Runs.rules c.args.setup.now c.args.p c.args.k old new run left c.write_explanation.result c.write_explanation.ensures.fault
 
 pub returns-clause-unread : goal.returns-clause-unread
@@ -30,5 +28,5 @@ returns-clause-unread g c = λ fault same. absurd (is_no_setup _ c.write_explana
 pub returns-clause-read : goal.returns-clause-read
 returns-clause-read g c = (
   λ same. absurd (reads_none _ c.write_explanation.result c.write_explanation.ensures.fault same),
-  λ _. c.in_ok-control.ensures.read.1 (λ same. absurd (no_err _ _ same)),
+  λ _. c.in_ok-run.ensures.read.1 (λ same. absurd (no_err _ _ same)),
 )

@@ -1,6 +1,6 @@
 use Rattle.std.proofs.Common.{take}
 use Rattle.cdb_streams.specs.Buffers.{IsPut}
-use Rattle.cdb_left.specs.Left.{HasCarriedOut}
+use Rattle.cdb_control.specs.OneSeat.{HasCarriedOut}
 use Rattle.cdb_play.specs.Transcripts.{transcript}
 use Rattle.cdb_play.proofs.plays.perform_each.Given as goal
 

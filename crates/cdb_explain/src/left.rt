@@ -2,38 +2,22 @@
 
 ghost use Rattle.std.specs.Prelude.{◌≡◌, ◌≢◌, ◌<◌, ◌≤◌, [], length, Err, IfErr, IfOk, OnOk};
 ghost use Rattle.cdb_base.specs.declared.limits.TheConstants.{MAX_ENTRIES};
-ghost use Rattle.cdb_control.specs.Headline.{Headline};
 ghost use Rattle.cdb_control.specs.Journal.{extended};
-ghost use Rattle.cdb_control.specs.Room.{room_of};
+ghost use Rattle.cdb_control.specs.OneSeat.{HasCarriedOut};
+ghost use Rattle.cdb_explain.specs.Left.{LeavesOnHeadline};
+ghost use Rattle.cdb_rules.specs.ByRules.{IsInOrder};
 ghost use Rattle.cdb_setup.specs.declared.fault.SetupFault.{SetupFault as SetupFaultName};
 ghost use Rattle.cdb_streams.specs.Faults.{IsFaultOfPlay};
 ghost use Rattle.cdb_streams.specs.Streams.{FailsWhere};
-ghost use Rattle.cdb_left.specs.Left.{HasCarriedOut, LeavesControl};
 
+use crate::chronicle::chronicle_of;
 use cdb_base::NoMemory;
-use cdb_control::{CallFault, Command, Control, Runs};
+use cdb_control::{CallFault, Command, Control, open_for};
+use cdb_past::{Chronicle, Chronicled};
+use cdb_rules::Runs;
 use cdb_setup::Setup;
 use cdb_streams::{PlayFault, Source, read_commands};
 use std::alloc::Global;
-
-/// A control with one seat in which nothing has happened, with room for this many commands: so their journal is
-/// allocated once.
-pub fn open_for<T: Runs>(alloc: Global, setup: Setup, count: u32) -> Result<Control<T>, NoMemory>
-    requires { count ≤ MAX_ENTRIES }
-    ensures new { IfOk result (HasCarriedOut setup []) }
-    ensures room { IfOk result (λ control. room_of control.rooms 1 ≡ count) }
-{
-    let Ok(mut control) = Control::<T>::open(alloc, setup, 1) else {
-        return Err(NoMemory);
-    };
-    match control.reserve(alloc, 1, count) {
-        Ok(()) => Ok(control),
-        Err(fault) => {
-            control.close();
-            Err(fault)
-        }
-    }
-}
 
 /// Carries a command out for the only seat.
 fn carry_out<T: Runs>(
@@ -90,20 +74,20 @@ fn control_after<T: Runs>(
     }
 }
 
-/// The control that a script leaves: its commands were carried out by seat 1 of one seat, as `play` does, and no
-/// reply was written.
+/// What stands in the run that a script leaves: its commands were carried out by seat 1 of one seat, as `play` does, and
+/// no reply was written.
 ///
 /// The setup is read first, then the whole script, then all its lines. The faults are those of a play, without
 /// `Write`; after `Setup` the script is not read, and `Read` comes only where the reader failed in this call.
-pub fn left_by<T: Runs, R: Source>(
+pub fn run_left_by<T: Chronicled, R: Source>(
     alloc: Global,
     setup: &[u8],
     script: &mut R,
-) -> Result<Control<T>, PlayFault>
+) -> Result<Chronicle, PlayFault>
     ensures left { IfOk result
-        (LeavesControl T.rules setup.now (R.stream script.old) (R.stream script.new)) }
-    ensures headline { IfOk result (λ control.
-        Headline T.rules T.same_state control.setup control.seats control.journal) }
+        (LeavesOnHeadline T.rules T.same_state setup.now (R.stream script.old) (R.stream script.new)) }
+    ensures valid { IfOk result (IsInOrder T.rules) }
+    ensures few { IfOk result (λ run. length run.history ≤ MAX_ENTRIES) }
     ensures fault { IfErr result
         (IsFaultOfPlay setup.now (R.stream script.old) (R.stream script.new)) }
     ensures written { result ≢ Err PlayFault.Write }
@@ -113,8 +97,7 @@ pub fn left_by<T: Runs, R: Source>(
 {
     let setup = Setup::read(alloc, setup)?;
     let commands = read_commands(alloc, script)?;
-    let control = control_after(alloc, setup, commands.as_slice())?;
-    // Its clause says that the headline holds of the journal.
-    let _journal = control.journal();
-    Ok(control)
+    let control = control_after::<T>(alloc, setup, commands.as_slice())?;
+    let run = chronicle_of(control);
+    Ok(run)
 }

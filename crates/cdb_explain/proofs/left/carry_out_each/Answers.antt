@@ -1,8 +1,8 @@
 use Rattle.std.proofs.Common.{◌≡◌, ◌∙◌, ◌∷◌, [], ◌++◌, ◌+◌, ap, sym, subst, take}
 use Rattle.std.proofs.lemmas.List.{take_more}
-use Rattle.cdb_left.specs.Left.{HasCarriedOut}
-use Rattle.cdb_left.proofs.CarriedOut.{one_command}
-use Rattle.cdb_left.proofs.left.carry_out_each.Goals as goal
+use Rattle.cdb_control.specs.OneSeat.{HasCarriedOut}
+use Rattle.cdb_control.proofs.OneSeat.{one_command}
+use Rattle.cdb_explain.proofs.left.carry_out_each.Goals as goal
 
 pub loop-command-init : goal.loop-command-init
 loop-command-init g c = c.requires.new

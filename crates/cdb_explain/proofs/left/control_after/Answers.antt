@@ -1,5 +1,5 @@
 use Rattle.std.proofs.Common.{◌∙◌, refl}
-use Rattle.cdb_left.proofs.left.control_after.Goals as goal
+use Rattle.cdb_explain.proofs.left.control_after.Goals as goal
 
 pub carry_out_each-requires-clause-new : goal.carry_out_each-requires-clause-new
 carry_out_each-requires-clause-new g c =

@@ -1,0 +1,36 @@
+use Rattle.std.proofs.Common.{◌∙◌}
+use Rattle.std.proofs.lemmas.Result.{err_from_is_err_and}
+use Rattle.cdb_control.specs.Journal.{Journaled}
+use Rattle.cdb_control.specs.OneSeat.{HasCarriedOut}
+use Rattle.cdb_explain.proofs.CarriedOut.{headline_left, run_left}
+use Rattle.cdb_streams.proofs.WholeTexts.{no_failed_write, setup_writes_none}
+use Rattle.cdb_explain.proofs.left.run_left_by.Goals as goal
+
+pub returns-clause-left : goal.returns-clause-left
+returns-clause-left g c =
+    let given = c.in_ok-commands.ensures.commands in
+    let rules = g.T.Runs.rules in
+    let setup = c.in_ok-setup.setup in
+    let commands = c.in_ok-commands.commands.items in
+    let control : Journaled = c.in_ok-control.control in
+    let along : HasCarriedOut setup commands control = rw c.as_slice.ensures.value at c.in_ok-control.ensures in
+    record {
+      leaves = (
+        given.0,
+        given.1,
+        record {
+          setup = setup;
+          commands = commands;
+          encodes = c.in_ok-setup.ensures.found;
+          short = given.2.0;
+          lines = given.2.1;
+          is = c.chronicle_of-run.ensures.is ∙ run_left rules setup commands control along;
+        },
+      );
+      headline = headline_left rules setup commands control along g.T.Runs.same_state c.chronicle_of-run.ensures.headline;
+    }
+
+pub returns-in_err-setup-clause-written : goal.returns-in_err-setup-clause-written
+returns-in_err-setup-clause-written g c =
+    let p = err_from_is_err_and c.from_residual.result c.from_residual.ensures.1 in
+    no_failed_write c.from_residual.result p.0 _ p.1 p.2 (setup_writes_none c.in_err-setup.field-0.0)
