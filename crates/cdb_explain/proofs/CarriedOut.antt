@@ -1,5 +1,5 @@
 -- The run of a control that has carried commands out, and what holds of their journal.
-use Rattle.std.proofs.Common.{◌≡◌, List, refl, subst}
+use Rattle.std.proofs.Common.{◌≡◌, List, refl}
 use Rattle.cdb_base.specs.declared.event.Event.{Event}
 use Rattle.cdb_commands.specs.declared.command.Command.{Command}
 use Rattle.cdb_control.specs.Headline.{Headline}
@@ -16,7 +16,4 @@ module _ (rules : Parts → Rules) (setup : Parts) (commands : List Command) (co
 
   -- the headline holds of the journal of its commands
   pub headline_left : (SameState : Parts → List Event → List Event → Type 0) → Headline rules SameState control.setup control.seats control.journal → Headline rules SameState setup 1 (journal_of commands)
-  headline_left SameState holds =
-      subst (λ s. Headline rules SameState s 1 (journal_of commands)) along.of_setup
-      (subst (λ n. Headline rules SameState control.setup n (journal_of commands)) along.one_seat
-      (subst (λ journal. Headline rules SameState control.setup control.seats journal) along.carried_out holds))
+  headline_left SameState holds = rw (along.of_setup, along.one_seat, along.carried_out) at holds

@@ -85,7 +85,8 @@ pub fn run_left_by<T: Chronicled, R: Source>(
     script: &mut R,
 ) -> Result<Chronicle, PlayFault>
     ensures left { IfOk result
-        (LeavesOnHeadline T.rules T.same_state setup.now (R.stream script.old) (R.stream script.new)) }
+        (LeavesOnHeadline T.rules T.same_state setup.now
+        (R.stream script.old) (R.stream script.new)) }
     ensures valid { IfOk result (IsInOrder T.rules) }
     ensures few { IfOk result (λ run. length run.history ≤ MAX_ENTRIES) }
     ensures fault { IfErr result
