@@ -1,18 +1,25 @@
--- The decisions that a valid history shows agree, by the rules of its setup.
+-- The decisions that a valid history shows agree, and were proposed, by the rules of its setup.
 use Rattle.std.proofs.Common.{◌≡◌, ℕ, List, IfOk, Result, Ok, Err, Some, IsTrue, is_some, unwrap_or, refl, sym, ap, subst}
 use Rattle.cdb_alpha.specs.LocalState.{LocalState as AlphaState}
+use Rattle.cdb_alpha.specs.Machine.{alpha_table}
+use Rattle.cdb_alpha.specs.Values.{HoldsValue as AlphaHolds}
+use Rattle.cdb_alpha.proofs.Promised as alpha
 use Rattle.cdb_base.specs.declared.event.Event.{Event}
 use Rattle.cdb_leader.specs.LocalState.{LocalState as LeaderState}
+use Rattle.cdb_leader.specs.Machine.{leader_table}
+use Rattle.cdb_leader.specs.Values.{HoldsValue as LeaderHolds}
+use Rattle.cdb_leader.proofs.Promised as leader
 use Rattle.cdb_setup.specs.Parts.{Parts, AreInRange}
 use Rattle.cdb_setup.specs.declared.setup.Algorithm.{Algorithm}
 use Rattle.cdb_setup.specs.declared.setup.Algorithm.TheVariants.{Leader, Alpha}
-use Rattle.cdb_rules.specs.Agreement.{AllAgree, HasMajorityIfNeeded}
+use Rattle.cdb_rules.specs.Agreement.{AllAgree, AreProposed, HasMajorityIfNeeded}
 use Rattle.cdb_agreement.specs.Algorithms.{leader_machine, alpha_machine, rules, rules_by}
 use Rattle.cdb_rules.specs.Decisions.{decisions_of}
 use Rattle.cdb_rules.specs.State.{Machine, RunState, start}
 use Rattle.cdb_rules.specs.Step.{fold, state_of}
 use Rattle.cdb_agreement.proofs.AlphaHistories.{alpha_agrees}
 use Rattle.cdb_agreement.proofs.LeaderHistories.{leader_agrees}
+use Rattle.cdb_agreement.proofs.Proposed.{all_proposed}
 use Rattle.cdb_rules.proofs.Taken.{some_of}
 
 -- what holds of each state that the history reaches holds of the state of a valid history
@@ -31,8 +38,33 @@ agreed setup ranges majority history valid = by_algorithm setup.algorithm refl v
     by_algorithm Alpha is valid =
         of_state (alpha_machine setup) (λ state. AllAgree (decisions_of (λ (local : AlphaState). local.decision) state)) history (alpha_agrees setup ranges history) valid
 
--- what is answered, where it is the decisions that are shown
+-- ---- what is decided was proposed
+
+pub leader_proposes : (setup : Parts) → AreInRange setup → (history : List Event) (t : RunState LeaderState) → fold (leader_machine setup) history ≡ Some t
+    → AreProposed setup (decisions_of (λ local. local.decision) t)
+leader_proposes setup ranges = all_proposed leader_table LeaderHolds leader.no_value_is_made setup ranges.an_input_each
+
+pub alpha_proposes : (setup : Parts) → AreInRange setup → (history : List Event) (t : RunState AlphaState) → fold (alpha_machine setup) history ≡ Some t
+    → AreProposed setup (decisions_of (λ local. local.decision) t)
+alpha_proposes setup ranges = all_proposed alpha_table AlphaHolds alpha.no_value_is_made setup ranges.an_input_each
+
+pub proposed : (setup : Parts) → AreInRange setup → (history : List Event) → IsTrue ((rules setup).valid history) → AreProposed setup ((rules setup).decisions history)
+proposed setup ranges history valid = by_algorithm setup.algorithm valid
+  where
+    by_algorithm : (algorithm : Algorithm) → IsTrue ((rules_by algorithm setup).valid history) → AreProposed setup ((rules_by algorithm setup).decisions history)
+    by_algorithm Leader valid =
+        of_state (leader_machine setup) (λ state. AreProposed setup (decisions_of (λ (local : LeaderState). local.decision) state)) history (leader_proposes setup ranges history) valid
+    by_algorithm Alpha valid =
+        of_state (alpha_machine setup) (λ state. AreProposed setup (decisions_of (λ (local : AlphaState). local.decision) state)) history (alpha_proposes setup ranges history) valid
+
+-- ---- what is answered, where it is the decisions that are shown
+
 pub result_agrees : {V E : Type 0} (items : V → List (ℕ × ℕ)) (returned : Result V E) (setup : Parts) → AreInRange setup → (history : List Event) → IsTrue ((rules setup).valid history)
     → IfOk returned (λ found. items found ≡ (rules setup).decisions history) → IfOk returned (λ found. HasMajorityIfNeeded setup → AllAgree (items found))
 result_agrees items (Ok found) setup ranges history valid is = λ majority. subst AllAgree (sym is) (agreed setup ranges majority history valid)
 result_agrees items (Err why) setup ranges history valid is = tt
+
+pub result_proposed : {V E : Type 0} (items : V → List (ℕ × ℕ)) (returned : Result V E) (setup : Parts) → AreInRange setup → (history : List Event) → IsTrue ((rules setup).valid history)
+    → IfOk returned (λ found. items found ≡ (rules setup).decisions history) → IfOk returned (λ found. AreProposed setup (items found))
+result_proposed items (Ok found) setup ranges history valid is = subst (AreProposed setup) (sym is) (proposed setup ranges history valid)
+result_proposed items (Err why) setup ranges history valid is = tt

@@ -1,5 +1,5 @@
 -- The states that valid histories of the Alpha machine reach, seen as runs of its steps with traces.
-use Rattle.std.proofs.Common.{◌≡◌, ℕ, zero, suc, ◌≤◌, ◌==◌, Bool, true, false, List, [], length, replicate, Option, Some, None, is_some, option_map, slice_index, if◌then◌else◌, ◌⊎◌, inl, inr, refl, sym, ap, subst, ◌∙◌, arith, true≢false, eqb-true, eq-eqb}
+use Rattle.std.proofs.Common.{◌≡◌, ℕ, zero, suc, ◌≤◌, ◌==◌, Bool, true, false, List, [], length, Option, Some, None, is_some, option_map, slice_index, if◌then◌else◌, ◌⊎◌, inl, inr, refl, sym, ap, subst, ◌∙◌, arith, true≢false, eqb-true, eq-eqb}
 use Rattle.std.specs.FinSet as set
 use Rattle.std.proofs.lemmas.Bool.{cases_eq}
 use Rattle.std.proofs.lemmas.Option.{none-some, same_Some}
@@ -16,7 +16,7 @@ use Rattle.cdb_process.specs.declared.Input.{Input}
 use Rattle.cdb_process.specs.declared.Input.TheVariants as input
 use Rattle.cdb_process.specs.Wishes.{wished_cell}
 use Rattle.cdb_message.specs.Mail.{message_name}
-use Rattle.cdb_register.specs.Registers.{RegisterStates, register_of, fresh_register, fresh_registers, put_cell}
+use Rattle.cdb_register.specs.Registers.{RegisterStates, register_of, put_cell}
 use Rattle.cdb_register.specs.declared.RegisterState.{RegisterState}
 use Rattle.cdb_alpha.specs.LocalState.{LocalState, first_state}
 use Rattle.cdb_alpha.specs.Place.{place_number}
@@ -35,7 +35,7 @@ use Rattle.cdb_rules.proofs.Stages.{sight_in, meets, process_after, state_after}
 use Rattle.cdb_agreement.proofs.AlphaRuns.{Run, first_run, own_of, RunStep, RunLaws, first_run_laws, cells_rise, run_step_keeps, laws_agree}
 use Rattle.cdb_rules.proofs.Bounds.{length-set_nth}
 use Rattle.cdb_agreement.proofs.Decided.{HasDecided, agreeing}
-use Rattle.cdb_agreement.proofs.Firsts.{length-firsts, first_at}
+use Rattle.cdb_agreement.proofs.Firsts.{length-firsts, first_at, first_cells, first_decision}
 use Rattle.cdb_rules.proofs.FoldKeeps.{reached_keeps}
 use Rattle.cdb_rules.proofs.Positions.{nth-set_nth_same, nth-set_nth_other, nth-update_nth_same, nth-update_nth_other, nth_within}
 use Rattle.cdb_rules.proofs.Taken.{mapped, taken_from, parts, where_true}
@@ -60,20 +60,6 @@ nth_low xs (suc i) x is = omega arith
 abbrev input_at : List ℕ → ℕ → ℕ
 input_at inputs zero = 0
 input_at inputs (suc k) = slice_index inputs k
-
-nth_replicate : {A : Type 0} (n i : ℕ) (x y : A) → nth (replicate n x) i ≡ Some y → y ≡ x
-nth_replicate n zero x y is = absurd (none-some y is)
-nth_replicate zero (suc i) x y is = absurd (none-some y is)
-nth_replicate (suc n) (suc zero) x y is = sym (same_Some x y is)
-nth_replicate (suc n) (suc (suc i)) x y is = nth_replicate n (suc i) x y is
-
-first_cells : (m p : ℕ) (r : RegisterState) → nth (fresh_registers m).of_processes p ≡ Some r → r ≡ fresh_register
-first_cells zero p r is = nth_replicate 0 p fresh_register r is
-first_cells (suc m) p r is = nth_replicate (suc m) p fresh_register r is
-
-first_decision : (m : ℕ) (r : RegisterState) → (fresh_registers m).of_decision ≡ Some r → r ≡ fresh_register
-first_decision zero r is = absurd (none-some r is)
-first_decision (suc m) r is = sym (same_Some fresh_register r is)
 
 module _ (setup : Parts) where
   abbrev cells : ℕ

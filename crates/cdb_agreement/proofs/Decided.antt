@@ -1,6 +1,6 @@
 -- The decisions that are listed are those of the processes.
 use Rattle.std.proofs.Common.{◌≡◌, ℕ, suc, List, [], ◌∷◌, map, Option, Some, None, option_map, option_to_list, slice_get, refl, sym, ap, ◌∙◌}
-use Rattle.std.specs.Prelude.{All}
+use Rattle.std.specs.Prelude.{All, Contains}
 use Rattle.std.proofs.lemmas.List.Elements.{All-nil, All-cons, All-append, All-weaker, All-contains}
 use Rattle.cdb_base.specs.Positions.{nth}
 use Rattle.cdb_rules.specs.Agreement.{AllAgree}
@@ -38,9 +38,13 @@ module _ {L : Type 0} (decision : L → Option ℕ) where
         let process = mapped (λ (x : ProcessState L). x.progress.local) (nth t.processes (suc it.0)) it.1 (sym (nth-map (λ (x : ProcessState L). x.progress.local) t.processes (suc it.0)) ∙ it.2) in
         (suc it.0, (process.0, process.1, ap decision process.2 ∙ it.3))
 
+    -- each pair that is listed is the decision of a process
+    pub decided_of : (one : ℕ × ℕ) → Contains (decisions_of decision t) one → (p : ℕ) × HasDecided decision t p one.1
+    decided_of one here = decided_by one (All-contains (IsDecidedIn locals) (decisions_of decision t) one (listed 1 locals) here)
+
     -- where no two processes decided two values, those listed agree
     pub agreeing : ((p o v w : ℕ) → HasDecided decision t p v → HasDecided decision t o w → v ≡ w) → AllAgree (decisions_of decision t)
     agreeing never one other mine theirs =
-        let a = decided_by one (All-contains (IsDecidedIn locals) (decisions_of decision t) one (listed 1 locals) mine) in
-        let b = decided_by other (All-contains (IsDecidedIn locals) (decisions_of decision t) other (listed 1 locals) theirs) in
+        let a = decided_of one mine in
+        let b = decided_of other theirs in
         never a.0 b.0 one.1 other.1 a.1 b.1

@@ -1,8 +1,10 @@
--- The processes of a run in which nothing has happened.
-use Rattle.std.proofs.Common.{◌≡◌, ℕ, zero, suc, ◌+◌, List, [], ◌∷◌, length, map, slice_index, Some, sym, ap, ◌∙◌, arith}
+-- The processes and the registers of a run in which nothing has happened.
+use Rattle.std.proofs.Common.{◌≡◌, ℕ, zero, suc, ◌+◌, List, [], ◌∷◌, length, map, replicate, slice_get, slice_index, Some, refl, sym, ap, ◌∙◌, arith}
 use Rattle.std.proofs.lemmas.List.{length-map}
 use Rattle.std.proofs.lemmas.Option.{none-some, same_Some}
 use Rattle.cdb_base.specs.Positions.{nth}
+use Rattle.cdb_register.specs.Registers.{fresh_register, fresh_registers}
+use Rattle.cdb_register.specs.declared.RegisterState.{RegisterState}
 use Rattle.cdb_rules.specs.Machines.{first_states}
 use Rattle.cdb_rules.specs.State.{ProcessState, fresh_process}
 use Rattle.cdb_rules.proofs.Positions.{nth-map}
@@ -29,3 +31,26 @@ module _ {L : Type 0} (first : ℕ → ℕ → ℕ → ℕ → L) (n q : ℕ) wh
 
   pub length-firsts : (values : List ℕ) → length (map fresh_process (first_states first 1 n q values)) ≡ length values
   length-firsts values = length-map (first_states first 1 n q values) fresh_process ∙ length-first_states first 1 n q values
+
+  -- each first local state is that of a process with an input that stands in the list
+  pub first_of_input : (p : ℕ) (values : List ℕ) (k : ℕ) (local : L) → slice_get (first_states first p n q values) k ≡ Some local
+      → (me value : ℕ) × (slice_get values k ≡ Some value) × (local ≡ first me n q value)
+  first_of_input p [] k local is = absurd (none-some local is)
+  first_of_input p (value ∷ values) zero local is = (p, value, refl, sym (same_Some (first p n q value) local is))
+  first_of_input p (value ∷ values) (suc k) local is = first_of_input (suc p) values k local is
+
+-- ---- registers
+
+nth_replicate : {A : Type 0} (n i : ℕ) (x y : A) → nth (replicate n x) i ≡ Some y → y ≡ x
+nth_replicate n zero x y is = absurd (none-some y is)
+nth_replicate zero (suc i) x y is = absurd (none-some y is)
+nth_replicate (suc n) (suc zero) x y is = sym (same_Some x y is)
+nth_replicate (suc n) (suc (suc i)) x y is = nth_replicate n (suc i) x y is
+
+pub first_cells : (m p : ℕ) (r : RegisterState) → nth (fresh_registers m).of_processes p ≡ Some r → r ≡ fresh_register
+first_cells zero p r is = nth_replicate 0 p fresh_register r is
+first_cells (suc m) p r is = nth_replicate (suc m) p fresh_register r is
+
+pub first_decision : (m : ℕ) (r : RegisterState) → (fresh_registers m).of_decision ≡ Some r → r ≡ fresh_register
+first_decision zero r is = absurd (none-some r is)
+first_decision (suc m) r is = sym (same_Some fresh_register r is)

@@ -17,7 +17,7 @@ use Rattle.cdb_leader.specs.TableLaws as leader_laws
 use Rattle.cdb_causal.specs.Standing.{IsStanding}
 use Rattle.cdb_message.specs.Mail.{is_sent, is_received, is_lost}
 use Rattle.cdb_process.specs.Table.{Table}
-use Rattle.cdb_rules.specs.Agreement.{AllAgree, HasMajorityIfNeeded}
+use Rattle.cdb_rules.specs.Agreement.{AllAgree, AreProposed, HasMajorityIfNeeded}
 use Rattle.cdb_agreement.specs.Algorithms.{leader_machine, alpha_machine, rules, rules_by}
 use Rattle.cdb_rules.specs.Lawful.{KeepHistories}
 use Rattle.cdb_rules.specs.Machines.{machine_of}
@@ -30,7 +30,7 @@ use Rattle.cdb_rules.specs.Step.{after, fold, is_among, state_of, IsValid, IsEna
 use Rattle.cdb_rules.proofs.Stages.{is_due}
 use Rattle.cdb_rules.specs.Undo.{IsEventNamed, names_processes}
 use Rattle.cdb_rules.proofs.Again.{loss_again, step_again, again_exact, lose_enabled}
-use Rattle.cdb_agreement.proofs.Agreed.{agreed}
+use Rattle.cdb_agreement.proofs.Agreed.{agreed, proposed}
 use Rattle.cdb_rules.proofs.Commutes.{lost_from}
 use Rattle.cdb_rules.proofs.Finding.{among_is}
 use Rattle.cdb_rules.proofs.Granted.{IsLawful}
@@ -146,8 +146,9 @@ module _ {L : Type 0} (table : Table L) (setup : Parts) (range : AreInRange setu
 
   rules_keep : (SameState : List Event → List Event → Type 0) → ((history other : List Event) → fold machine history ≡ fold machine other → SameState history other)
       → (HasMajorityIfNeeded setup → (history : List Event) → IsTrue ((rules_of table setup).valid history) → AllAgree ((rules_of table setup).decisions history))
+      → ((history : List Event) → IsTrue ((rules_of table setup).valid history) → AreProposed setup ((rules_of table setup).decisions history))
       → KeepHistories (rules_of table setup) SameState setup
-  rules_keep SameState same agree =
+  rules_keep SameState same agree proposed =
       record {
         nothing = refl;
         beginning = λ history more valid. reached_front_some (after machine) (start machine) history more valid;
@@ -164,6 +165,7 @@ module _ {L : Type 0} (table : Table L) (setup : Parts) (range : AreInRange setu
         named = λ history valid i event at. subst (λ (n : ℕ). IsEventNamed n history (event_name event) i event) number (valid_named machine history valid i event at);
         losses_free = λ history valid i copy at. loss_free machine history valid i copy at;
         agreement = agree;
+        validity = proposed;
       }
 
 leader_lawful : (setup : Parts) → IsLawful (leader_machine setup)
@@ -174,9 +176,10 @@ alpha_lawful setup = record { query = alpha_laws.next_state-query; recv = alpha_
 
 by_algorithm : (setup : Parts) → AreInRange setup → (algorithm : Algorithm)
     → (HasMajorityIfNeeded setup → (history : List Event) → IsTrue ((rules_by algorithm setup).valid history) → AllAgree ((rules_by algorithm setup).decisions history))
+    → ((history : List Event) → IsTrue ((rules_by algorithm setup).valid history) → AreProposed setup ((rules_by algorithm setup).decisions history))
     → KeepHistories (rules_by algorithm setup) (ReachSameStateBy algorithm setup) setup
-by_algorithm setup range Leader agree = rules_keep leader_table setup range (leader_lawful setup) (ReachSameStateBy Leader setup) (λ history other same. same) agree
-by_algorithm setup range Alpha agree = rules_keep alpha_table setup range (alpha_lawful setup) (ReachSameStateBy Alpha setup) (λ history other same. same) agree
+by_algorithm setup range Leader agree proposed = rules_keep leader_table setup range (leader_lawful setup) (ReachSameStateBy Leader setup) (λ history other same. same) agree proposed
+by_algorithm setup range Alpha agree proposed = rules_keep alpha_table setup range (alpha_lawful setup) (ReachSameStateBy Alpha setup) (λ history other same. same) agree proposed
 
 pub rules_keep_histories : (setup : Parts) → AreInRange setup → KeepHistories (rules setup) (ReachSameState setup) setup
-rules_keep_histories setup range = by_algorithm setup range setup.algorithm (agreed setup range)
+rules_keep_histories setup range = by_algorithm setup range setup.algorithm (agreed setup range) (proposed setup range)

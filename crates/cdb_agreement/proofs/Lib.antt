@@ -15,6 +15,7 @@ pub mod AlphaRuns
 pub mod AlphaHistories
 -- decisions and rounds of both, and worked runs
 pub mod Decided
+pub mod Proposed
 pub mod Agreed
 pub mod RoundLaws
 pub mod Worked

@@ -13,7 +13,7 @@ use Rattle.cdb_causal.specs.Dependence.{depends}
 use Rattle.cdb_causal.specs.Exchange.{IsIn, IsBefore}
 use Rattle.cdb_causal.specs.Names.{IsFirstDependent, IsNamedAt, IsNewName}
 use Rattle.cdb_causal.specs.Rollback.{without, remaining, rolled_back}
-use Rattle.cdb_rules.specs.Agreement.{AllAgree}
+use Rattle.cdb_rules.specs.Agreement.{AllAgree, AreProposed}
 use Rattle.cdb_agreement.specs.Algorithms.{rules}
 use Rattle.cdb_rules.specs.Decisions.{decisions_of}
 use Rattle.cdb_rules.specs.State.{Machine, RunState}
@@ -123,6 +123,10 @@ ForRolledBackIn L Holds =
 -- any two decisions in a state that the machine reaches have one value, where the function tells a process's decision
 abbrev pub DecisionsAgree : {L : Type 0} → Machine L → (L → Option ℕ) → Type 0
 DecisionsAgree machine decision = InReached machine (λ state. AllAgree (decisions_of decision state))
+
+-- each decision in a state that the machine of a setup reaches was the input of a process of that setup
+abbrev pub DecisionsAreProposed : {L : Type 0} → (Parts → Machine L) → (L → Option ℕ) → Parts → Type 0
+DecisionsAreProposed machine decision setup = InReached (machine setup) (λ state. AreProposed setup (decisions_of decision state))
 
 -- both histories lead to the same state, or neither leads anywhere
 abbrev pub LeadAlike : {L : Type 0} → Machine L → List Event → List Event → Type 0

@@ -1,14 +1,14 @@
-//! Agreement: no two decisions that stand in a run differ, whatever the oracle answers, whoever crashes,
-//! whatever is lost, and in whatever order the events stand. Each function does nothing: its contract
-//! is the law.
+//! Agreement: no two decisions that stand in a run differ, and validity: each was the input of a process,
+//! whatever the oracle answers, whoever crashes, whatever is lost, and in whatever order the events stand.
+//! Each function does nothing: its contract is the law.
 
 ghost use Rattle.std.specs.Prelude.{◌≡◌, [], ◌∷◌, ◌++◌, Some};
-ghost use Rattle.cdb_agreement.specs.Laws.{ForSetups, ForMajorities, ForValid, InReached, DecisionsAgree};
+ghost use Rattle.cdb_agreement.specs.Laws.{ForSetups, ForMajorities, ForValid, InReached, DecisionsAgree, DecisionsAreProposed};
 ghost use Rattle.cdb_agreement.specs.Rounds.{LeaderMessages, LeaderRounds, AlphaRounds};
 ghost use Rattle.cdb_agreement.specs.WorkedRuns.{leader_steps, leader_decisions, alpha_steps, alpha_decisions};
 ghost use Rattle.cdb_alpha.specs.Machine.{alpha_table};
 ghost use Rattle.cdb_leader.specs.Machine.{leader_table};
-ghost use Rattle.cdb_rules.specs.Agreement.{AllAgree, HasMajorityIfNeeded};
+ghost use Rattle.cdb_rules.specs.Agreement.{AllAgree, AreProposed, HasMajorityIfNeeded};
 ghost use Rattle.cdb_agreement.specs.Algorithms.{leader_machine, alpha_machine, rules};
 ghost use Rattle.cdb_setup.specs.Parts.{Parts};
 
@@ -28,6 +28,21 @@ pub fn alpha_decisions_agree()
 pub fn shown_decisions_agree()
     ensures { ForValid (λ setup history. HasMajorityIfNeeded setup →
         AllAgree ((rules setup).decisions history)) }
+{}
+
+/// Each standing decision of the leader-based algorithm was the input of a process, whatever the quorum.
+pub fn leader_decisions_are_proposed()
+    ensures { ForSetups (DecisionsAreProposed leader_machine leader_table.decision) }
+{}
+
+/// Each standing decision of Alpha was the input of a process.
+pub fn alpha_decisions_are_proposed()
+    ensures { ForSetups (DecisionsAreProposed alpha_machine alpha_table.decision) }
+{}
+
+/// The decisions that a valid history shows were inputs of processes, by the rules of its setup.
+pub fn shown_decisions_are_proposed()
+    ensures { ForValid (λ setup history. AreProposed setup ((rules setup).decisions history)) }
 {}
 
 /// By either algorithm a process alone decides its input: the laws above are about decisions that are

@@ -5,4 +5,5 @@ pub mod Written
 pub mod SameCells
 pub mod Reached
 pub mod TableSteps
+pub mod Values
 pub mod Promised

@@ -9,7 +9,7 @@ ghost use Rattle.cdb_agreement.specs.Numbering.{AreStepsNumbered, AreSendsNumber
 ghost use Rattle.cdb_causal.specs.Dependence.{depends};
 ghost use Rattle.cdb_causal.specs.Exchange.{IsExchanged};
 ghost use Rattle.cdb_message.specs.Mail.{next_pending, payload_of, is_lost};
-ghost use Rattle.cdb_rules.specs.Agreement.{AllAgree, HasMajorityIfNeeded};
+ghost use Rattle.cdb_rules.specs.Agreement.{AllAgree, AreProposed, HasMajorityIfNeeded};
 ghost use Rattle.cdb_agreement.specs.Algorithms.{rules};
 ghost use Rattle.cdb_any_run.specs.Any.{run_view, IsTrueToSetup};
 ghost use Rattle.cdb_rules.specs.Auto.{first_step_by};
@@ -543,13 +543,15 @@ impl AnyRun {
     }
 
     /// The decisions that stand: each process that has decided with its value, in order. No two values
-    /// differ, unless the algorithm is the leader-based one and a quorum at most half of the processes.
-    /// `NoMemory` if a growth is refused.
+    /// differ, unless the algorithm is the leader-based one and a quorum at most half of the processes, and
+    /// each was the input of a process. `NoMemory` if a growth is refused.
     pub fn decisions(&self, alloc: Global) -> Result<Vec<(Proc, Val)>, NoMemory>
         requires { IsTrueToSetup self.now }
         ensures value { IfOk result (λ v. v.items ≡ decisions_in rules (run_view self.now)) }
         ensures agreement { IfOk result
             (λ found. HasMajorityIfNeeded (run_view self.now).setup → AllAgree found.items) }
+        ensures validity { IfOk result
+            (λ found. AreProposed (run_view self.now).setup found.items) }
     {
         let _ranges = self.setup().n();
         let _valid = self.history();

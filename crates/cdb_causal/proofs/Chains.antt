@@ -1,6 +1,7 @@
 -- What is rolled back, by a walk along the list, is the event with its consequences, and what remains is all else.
+use Rattle.std.proofs.lemmas.Grind.{common_steps}
+use Rattle.std.proofs.lemmas.Option.{gets, same_Some}
 use Rattle.std.proofs.Common.{◌≡◌, ℕ, zero, suc, ◌+◌, ◌<◌, Bool, true, false, cond, ◌||◌, ◌⊎◌, inl, inr, List, [], ◌∷◌, ◌++◌, Some, slice_get, refl, sym, ap, ◌∙◌, subst, true≢false, arith, lt_trans, lt_irrefl, lt-suc_self, drop}
-use Rattle.std.proofs.lemmas.Option.{same_Some}
 use Rattle.cdb_causal.specs.FromZero.{IsLink, IsConsequence, direct, onward, IsRolledBack, rolled_back, remaining}
 use Rattle.cdb_causal.specs.Rollback.{IsParted, done, kept, gone, depends_on_one, caught, uncaught}
 use Rattle.cdb_causal.specs.Exchange.{IsIn, here, there}
@@ -10,10 +11,7 @@ or_true true b e = refl
 or_true false b e = e
 
 below_suc : (j k : ℕ) → j < suc k → (j < k) ⊎ (j ≡ k)
-below_suc j k h = cases_lt_eq j k h
-  where
-    cases_lt_eq : (j k : ℕ) → j < suc k → (j < k) ⊎ (j ≡ k)
-    cases_lt_eq j k h = grind arith
+below_suc j k h1 = grind (arith, common_steps, gets)
 
 module _ {E : Type 0} where
   in_front : (event cause : E) {causes : List E} → IsIn cause causes → IsIn cause (causes ++ event ∷ [])
@@ -34,10 +32,7 @@ module _ {E : Type 0} where
   in_push (c ∷ cs) cause event (there i) = elim (in_push cs cause event i) as (λ _. IsIn cause (c ∷ cs) ⊎ (cause ≡ event)) [ inl j ↦ inl (there j) | inr e ↦ inr e ]
 
   at_drop : (xs : List E) (k : ℕ) (x : E) (rest : List E) → drop k xs ≡ x ∷ rest → slice_get xs k ≡ Some x
-  at_drop [] zero x rest e = ap (λ l. slice_get l 0) e
-  at_drop [] (suc k) x rest e = ap (λ l. slice_get l 0) e
-  at_drop (y ∷ ys) zero x rest e = ap (λ l. slice_get l 0) e
-  at_drop (y ∷ ys) (suc k) x rest e = at_drop ys k x rest e
+  at_drop xs k x rest h1 = grind (arith, common_steps, gets)
 
   drop_next : (xs : List E) (k : ℕ) (x : E) (rest : List E) → drop k xs ≡ x ∷ rest → drop (suc k) xs ≡ rest
   drop_next [] zero x rest e = ap (drop 1) e

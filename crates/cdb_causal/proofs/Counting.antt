@@ -1,6 +1,7 @@
 -- An event is free exactly where it is a direct cause of none, and the other events keep their direct causes when it goes.
+use Rattle.std.proofs.lemmas.Grind.{common_steps}
+use Rattle.std.proofs.lemmas.Option.{gets, none-some}
 use Rattle.std.proofs.Common.{◌≡◌, ℕ, zero, suc, ◌<◌, ◌≤◌, ◌≢◌, Bool, true, false, ◌⊎◌, inl, inr, ⊎_elim, ◌↔◌, List, [], ◌∷◌, Option, Some, None, slice_get, refl, sym, ap, ◌∙◌, subst, arith, lt_irrefl, suc-le-suc, le_of_suc-le-suc}
-use Rattle.std.proofs.lemmas.Option.{none-some}
 use Rattle.cdb_causal.specs.FromZero.{IsLink, IsFree, IsDirectCause, without}
 use Rattle.cdb_causal.specs.Rollback.{position_before}
 use Rattle.cdb_causal.proofs.Walks.{link_at, no_link_at}
@@ -43,10 +44,7 @@ position_found (suc i) zero h = (zero, refl)
 position_found (suc i) (suc m) h = let q = position_found i m (λ e. h (ap suc e)) in (suc q.0, ap suc q.1)
 
 pub same_position : (i m : ℕ) → (m ≡ i) ⊎ (m ≢ i)
-same_position zero zero = inl refl
-same_position zero (suc m) = inr (λ e. absurd (omega arith))
-same_position (suc i) zero = inr (λ e. absurd (omega arith))
-same_position (suc i) (suc m) = ⊎_elim (λ e. inl (ap suc e)) (λ n. inr (λ e. n (let p : m ≡ i = omega arith in p))) (same_position i m)
+same_position i m = grind (arith, common_steps, gets)
 
 module _ {E : Type 0} (depends : E → E → Bool) where
   -- whether a position is linked to another can be looked up

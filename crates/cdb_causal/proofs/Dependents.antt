@@ -1,6 +1,7 @@
 -- What the number of an event's direct dependents says, and how it changes where an event is added or taken out.
+use Rattle.std.proofs.lemmas.Grind.{common_steps}
+use Rattle.std.proofs.lemmas.Option.{gets, same_Some, none-some, slice_get_within}
 use Rattle.std.proofs.Common.{◌≡◌, ℕ, zero, suc, ◌+◌, ◌<◌, ◌≤◌, Bool, true, false, ◌&&◌, ◌||◌, not, List, [], ◌∷◌, ◌++◌, length, Some, slice_get, take, refl, sym, ap, ap₂, ◌∙◌, subst, true≢false, append_assoc, append-nil, arith, suc-le-suc}
-use Rattle.std.proofs.lemmas.Option.{same_Some, none-some, slice_get_within}
 use Rattle.std.proofs.lemmas.List.{length_push}
 use Rattle.std.proofs.lemmas.List.Folds.{list_any-append}
 use Rattle.std.specs.List.{list_any}
@@ -45,9 +46,7 @@ module _ {E : Type 0} where
   get_push_back (y ∷ ys) x = get_push_back ys x
 
   pub get_append_front : (xs ys : List E) (k : ℕ) (x : E) → slice_get xs k ≡ Some x → slice_get (xs ++ ys) k ≡ Some x
-  get_append_front [] ys k x at = absurd (none-some x at)
-  get_append_front (z ∷ zs) ys zero x at = at
-  get_append_front (z ∷ zs) ys (suc k) x at = get_append_front zs ys k x at
+  get_append_front xs ys k x h1 = grind (arith, common_steps, gets)
 
   pub without_push_back : (xs : List E) (x : E) → without (xs ++ x ∷ []) (length xs) ≡ xs
   without_push_back [] x = refl

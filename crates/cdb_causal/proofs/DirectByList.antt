@@ -1,6 +1,7 @@
 -- The direct causes of the last event of a list, by the events between.
-use Rattle.std.proofs.Common.{◌≡◌, ℕ, zero, suc, ◌<◌, Bool, true, false, ◌&&◌, ◌||◌, not, ◌↔◌, List, [], ◌∷◌, ◌++◌, length, Some, slice_get, drop, refl, sym, ap, ◌∙◌, true≢false, arith, suc-le-suc}
-use Rattle.std.proofs.lemmas.Option.{same_Some, none-some, slice_get_within}
+use Rattle.std.proofs.lemmas.Grind.{common_steps}
+use Rattle.std.proofs.lemmas.Option.{gets, none-some, slice_get_within}
+use Rattle.std.proofs.Common.{◌≡◌, ℕ, zero, suc, ◌<◌, Bool, true, false, ◌&&◌, ◌||◌, not, ◌↔◌, List, [], ◌∷◌, ◌++◌, length, Some, slice_get, drop, refl, sym, ◌∙◌, true≢false, arith, suc-le-suc}
 use Rattle.std.specs.List.{list_any}
 use Rattle.cdb_causal.specs.DirectDependents.{is_direct}
 use Rattle.cdb_causal.specs.FromZero.{IsDirectCause}
@@ -33,18 +34,10 @@ module _ {E : Type 0} where
       ] refl h
 
   at_any : (test : E → Bool) (xs : List E) (i : ℕ) (x : E) → slice_get xs i ≡ Some x → test x ≡ true → list_any test xs ≡ true
-  at_any test [] i x at h = absurd (none-some x at)
-  at_any test (y ∷ ys) zero x at h = ap (λ b. b || list_any test ys) (ap test (same_Some y x at) ∙ h)
-  at_any test (y ∷ ys) (suc i) x at h = or_right (test y) (at_any test ys i x at h)
-    where
-      or_right : (a : Bool) {b : Bool} → b ≡ true → (a || b) ≡ true
-      or_right true e = refl
-      or_right false e = e
+  at_any test xs i x h1 h2 = grind (arith, common_steps, gets)
 
   get_push_front : (xs : List E) (y x : E) (i : ℕ) → i < length xs → slice_get (xs ++ y ∷ []) i ≡ Some x → slice_get xs i ≡ Some x
-  get_push_front [] y x i below at = absurd (omega (arith, below))
-  get_push_front (z ∷ zs) y x zero below at = at
-  get_push_front (z ∷ zs) y x (suc i) below at = get_push_front zs y x i (omega (arith, below)) at
+  get_push_front xs y x i h1 h2 = grind (arith, common_steps, gets)
 
   behind_at : (events : List E) (i m : ℕ) (event : E) → slice_get (drop (suc i) events) m ≡ Some event → (n : ℕ) × (i < n) × (slice_get events n ≡ Some event)
   behind_at [] i m event at = absurd (none-some event at)

@@ -1,14 +1,13 @@
 -- The consequences of an event, parted from the list by the least set.
+use Rattle.std.proofs.lemmas.Grind.{common_steps}
+use Rattle.std.proofs.lemmas.Option.{gets}
 use Rattle.std.proofs.Common.{◌≡◌, ℕ, suc, ◌<◌, Bool, ◌⊎◌, inl, inr, ⊎_elim, List, [], ◌∷◌, drop, subst, arith, lt_irrefl}
 use Rattle.cdb_causal.specs.FromZero.{IsConsequence, IsRolledBack, consequences}
 use Rattle.cdb_causal.specs.Rollback.{IsParted, done, kept, gone}
 use Rattle.cdb_causal.proofs.Chains.{later_consequence, parted}
 
 at_or_before_next : (position i : ℕ) → (position < i) ⊎ (position ≡ i) → (position ≡ i → ⊥) → (suc position < i) ⊎ (suc position ≡ i)
-at_or_before_next position i low other = ⊎_elim (λ less. next position i less) (λ same. absurd (other same)) low
-  where
-    next : (position i : ℕ) → position < i → (suc position < i) ⊎ (suc position ≡ i)
-    next position i less = grind arith
+at_or_before_next position i h1 h2 = grind (arith, common_steps, gets)
 
 not_above : (position i : ℕ) → (position < i) ⊎ (position ≡ i) → i < position → ⊥
 not_above position i low above = ⊎_elim (λ less. (let l = less in omega (arith, above))) (λ same. (let e = same in omega (arith, above))) low

@@ -1,8 +1,9 @@
 -- Dependence is symmetric: the order of the two events does not matter.
-use Rattle.std.proofs.Common.{◌≡◌, ℕ, Bool, true, false, ◌||◌, nat_eq, refl, sym, ap₂, ◌∙◌, true≢false, eq-eqb, eqb-true}
+use Rattle.std.proofs.Common.{arith, ◌≡◌, ℕ, Bool, true, false, ◌||◌, nat_eq, refl, sym, ◌∙◌, true≢false, eq-eqb, eqb-true}
+use Rattle.std.proofs.lemmas.Grind.{common_steps}
+use Rattle.std.proofs.lemmas.Option.{gets}
 use Rattle.std.specs.Cmp.{both_ways}
 use Rattle.cdb_base.specs.declared.event.Event.{Event}
-use Rattle.cdb_base.specs.declared.event.Event.TheVariants.{Step, Lost}
 use Rattle.cdb_causal.specs.Dependence.{same_process, depends}
 use Rattle.cdb_causal.specs.Effects.{affects}
 use Rattle.cdb_causal.specs.Reach.{IsSymmetric}
@@ -12,22 +13,13 @@ nat_eq-symmetric : (a b : ℕ) → nat_eq a b ≡ nat_eq b a
 nat_eq-symmetric a b = both_ways (nat_eq a b) (nat_eq b a) (λ e. eq-eqb b a (sym (eqb-true a b e))) (λ e. eq-eqb a b (sym (eqb-true b a e)))
 
 or-symmetric : (a b : Bool) → (a || b) ≡ (b || a)
-or-symmetric true true = refl
-or-symmetric true false = refl
-or-symmetric false true = refl
-or-symmetric false false = refl
+or-symmetric a b = grind (arith, common_steps, gets)
 
 same_process-symmetric : (first second : Event) → same_process first second ≡ same_process second first
-same_process-symmetric (Step p k kind) (Step q l other) = nat_eq-symmetric p q
-same_process-symmetric (Step p k kind) (Lost copy) = refl
-same_process-symmetric (Lost copy) (Step q l other) = refl
-same_process-symmetric (Lost copy) (Lost other) = refl
+same_process-symmetric first second = grind (arith, common_steps, gets)
 
 pub depends-symmetric : (first second : Event) → depends first second ≡ depends second first
-depends-symmetric first second =
-    by_effect first second
-    ∙ ap₂ (λ a b. a || b) (same_process-symmetric first second) (or-symmetric (affects first second) (affects second first))
-    ∙ sym (by_effect second first)
+depends-symmetric first second = grind (arith, common_steps, gets)
 
 pub symmetric : IsSymmetric depends
 symmetric = depends-symmetric

@@ -1,6 +1,7 @@
 -- One step of a walk along a history: what a link is at two events, and what is caught from a position on.
-use Rattle.std.proofs.Common.{◌≡◌, ℕ, zero, suc, ◌-◌, ◌<◌, ◌≤◌, Bool, true, false, ◌⊎◌, ⊎_elim, List, [], ◌∷◌, Some, slice_get, sym, ap, ap₂, ◌∙◌, true≢false, arith}
-use Rattle.std.proofs.lemmas.Option.{same_Some, none-some}
+use Rattle.std.proofs.lemmas.Grind.{common_steps}
+use Rattle.std.proofs.lemmas.Option.{gets, same_Some, none-some}
+use Rattle.std.proofs.Common.{◌≡◌, ℕ, zero, suc, ◌-◌, ◌<◌, ◌≤◌, Bool, true, false, ◌⊎◌, ⊎_elim, List, [], ◌∷◌, Some, slice_get, sym, ap, ap₂, ◌∙◌, arith}
 use Rattle.cdb_causal.specs.FromZero.{IsLink, consequences, rolled_back}
 use Rattle.cdb_causal.specs.Rollback.{caught}
 
@@ -10,11 +11,7 @@ module _ {E : Type 0} (depends : E → E → Bool) where
       record { cause = cause; effect = effect; later = later; at_cause = at_cause; at_effect = at_effect; linked = linked }
 
   pub no_link_at : (history : List E) (i j : ℕ) (cause effect : E) → slice_get history i ≡ Some cause → slice_get history j ≡ Some effect → depends cause effect ≡ false → IsLink depends history i j → ⊥
-  no_link_at history i j cause effect at_cause at_effect h l =
-      true≢false
-      (sym l.linked
-      ∙ ap₂ depends (same_Some l.cause cause (sym l.at_cause ∙ at_cause)) (same_Some l.effect effect (sym l.at_effect ∙ at_effect))
-      ∙ h)
+  no_link_at history i j cause effect h1 h2 h3 h4 = grind (arith, common_steps, gets)
 
   pub rolled_back_split : (history : List E) (i : ℕ) (event : E) → slice_get history i ≡ Some event → rolled_back depends history i ≡ event ∷ consequences depends history i
   rolled_back_split [] i event at = absurd (none-some event at)

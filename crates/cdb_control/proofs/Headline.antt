@@ -39,7 +39,7 @@ use Rattle.cdb_rules.proofs.Alls.{all-get_or, all-replicate, all-slice_get}
 use Rattle.cdb_control.proofs.FirstDependent.{free_or_needed_at}
 use Rattle.cdb_control.proofs.Table.{obey-adds}
 use Rattle.cdb_message.specs.Mail.{message_name}
-use Rattle.cdb_rules.specs.Agreement.{AllAgree, HasMajorityIfNeeded}
+use Rattle.cdb_rules.specs.Agreement.{AllAgree, AreProposed, HasMajorityIfNeeded}
 use Rattle.cdb_rules.specs.Lawful.{AreLawful, KeepHistories}
 use Rattle.cdb_rules.specs.Refusals.{IsOfRun}
 use Rattle.cdb_rules.specs.Rules.{Rules}
@@ -360,12 +360,18 @@ module _ (rules : Rules) (SameState : List Event → List Event → Type 0) (t :
           back = redone_after gone left (obey rules t seat (rolling_back name)) (rollback_to_end depends t.history i from_one) (ap (λ (o : Outcome). o.after) out);
         }
 
-  agreed : HasMajorityIfNeeded t.setup → (seat : ℕ) (pairs : List (ℕ × ℕ)) → reply_of rules t seat Decisions ≡ reply.Decisions pairs → AllAgree pairs
-  agreed majority seat pairs told =
-      subst AllAgree (same_told (rules.decisions t.history) pairs (sym (decisions-are rules t seat) ∙ told)) (keeps.agreement majority t.history valid)
+  -- what is told are the decisions that the history shows
+  are_shown : (seat : ℕ) (pairs : List (ℕ × ℕ)) → reply_of rules t seat Decisions ≡ reply.Decisions pairs → rules.decisions t.history ≡ pairs
+  are_shown seat pairs told = same_told (rules.decisions t.history) pairs (sym (decisions-are rules t seat) ∙ told)
     where
       same_told : (one other : List (ℕ × ℕ)) → reply.Decisions one ≡ reply.Decisions other → one ≡ other
       same_told one other h = cc
+
+  agreed : HasMajorityIfNeeded t.setup → (seat : ℕ) (pairs : List (ℕ × ℕ)) → reply_of rules t seat Decisions ≡ reply.Decisions pairs → AllAgree pairs
+  agreed majority seat pairs told = subst AllAgree (are_shown seat pairs told) (keeps.agreement majority t.history valid)
+
+  proposed : (seat : ℕ) (pairs : List (ℕ × ℕ)) → reply_of rules t seat Decisions ≡ reply.Decisions pairs → AreProposed t.setup pairs
+  proposed seat pairs told = subst (AreProposed t.setup) (are_shown seat pairs told) (keeps.validity t.history valid)
 
   pub holds_at : (seats : ℕ) → length t.redo ≡ seats → HoldsAt rules SameState t.setup seats t
   holds_at seats lists =
@@ -376,6 +382,7 @@ module _ (rules : Rules) (SameState : List Event → List Event → Type 0) (t :
         undo_then_redo = λ seat event within told. then_redone seat (among seat within) (event_name event) event told;
         rolled_back = λ seat i event within at. back_and_forth seat (among seat within) i event at;
         agreement = λ seat pairs majority told. agreed majority seat pairs told;
+        validity = proposed;
       }
     where
       among : (seat : ℕ) → IsWithin 1 seats seat → seat - 1 < length t.redo

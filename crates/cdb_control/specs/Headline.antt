@@ -20,7 +20,7 @@ use Rattle.cdb_control.specs.State.{State, redo_of}
 use Rattle.cdb_commands.specs.declared.command.Command.{Command}
 use Rattle.cdb_commands.specs.declared.command.Command.TheVariants.{Undo, UndoLost, Redo, Rollback, RollbackLost, Decisions}
 use Rattle.cdb_control.specs.declared.control.Entry.{Entry}
-use Rattle.cdb_rules.specs.Agreement.{AllAgree, HasMajorityIfNeeded}
+use Rattle.cdb_rules.specs.Agreement.{AllAgree, AreProposed, HasMajorityIfNeeded}
 use Rattle.cdb_rules.specs.Rules.{Rules}
 use Rattle.cdb_setup.specs.Parts.{Parts, IsWithin}
 
@@ -118,6 +118,8 @@ pub record HoldsAt (rules : Rules) (SameState : List Event → List Event → Ty
   -- where a quorum is a majority, or in Alpha, no two decisions that are reported differ
   pub agreement : (seat : ℕ) (pairs : List (ℕ × ℕ)) → HasMajorityIfNeeded setup
       → reply_of rules t seat Decisions ≡ reply.Decisions pairs → AllAgree pairs
+  -- each decision that is reported was the input of a process
+  pub validity : (seat : ℕ) (pairs : List (ℕ × ℕ)) → reply_of rules t seat Decisions ≡ reply.Decisions pairs → AreProposed setup pairs
 
 -- It holds of the control state that a journal leads to.
 abbrev pub Headline : (Parts → Rules) → (Parts → List Event → List Event → Type 0) → Parts → ℕ → List Entry → Type 0

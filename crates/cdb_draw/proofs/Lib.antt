@@ -1,4 +1,3 @@
-pub mod Pushing
 pub mod Growing
 pub mod Sending
 pub mod Parted

@@ -28,6 +28,7 @@ pub(crate) fn push_weight(text: &mut String, full: bool) -> Result<(), AllocErro
 }
 
 /// Adds a point.
+#[tactic(auto, unfolding(crate::specs::Arrows::point_text))]
 fn push_point(text: &mut String, x: usize, y: usize) -> Result<(), AllocError>
     ensures { Pushes result text.old text.new (point_text x y) }
 {
@@ -58,6 +59,7 @@ fn push_below(text: &mut String, setup: &Setup, position: usize, p: Proc) -> Res
 }
 
 /// Adds the way of a copy to another lane.
+#[tactic(auto, unfolding(crate::specs::Arrows::straight_text))]
 fn push_straight(text: &mut String, setup: &Setup, j: usize, p: Proc) -> Result<(), AllocError>
     requires { j ≤ MAX_ENTRIES }
     ensures { Pushes result text.old text.new (straight_text setup.now j p) }
@@ -67,6 +69,7 @@ fn push_straight(text: &mut String, setup: &Setup, j: usize, p: Proc) -> Result<
 }
 
 /// Adds the way of a copy for its sender, from position `i` to position `j` on one lane.
+#[tactic(auto, unfolding(crate::specs::Arrows::bend_text))]
 fn push_bend(
     text: &mut String,
     setup: &Setup,
@@ -108,6 +111,7 @@ fn push_way(
 }
 
 /// Begins an arrow of that class.
+#[tactic(auto, unfolding(crate::specs::Arrows::arrow_open))]
 fn push_open(text: &mut String, class: &str, full: bool) -> Result<(), AllocError>
     ensures { Pushes result text.old text.new (arrow_open class.now full) }
 {
@@ -127,6 +131,7 @@ fn push_close(text: &mut String) -> Result<(), AllocError>
 }
 
 /// Adds the way up or down at an x, from one y to another.
+#[tactic(auto, unfolding(crate::specs::Arrows::upright_text))]
 fn push_up(text: &mut String, x: usize, from: usize, to: usize) -> Result<(), AllocError>
     ensures { Pushes result text.old text.new (upright_text x from to) }
 {

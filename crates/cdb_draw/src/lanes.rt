@@ -46,6 +46,7 @@ fn push_open(text: &mut String, class: &str, y: usize) -> Result<(), AllocError>
 }
 
 /// Adds a process, its input, and the line of its lane.
+#[tactic(auto, unfolding(crate::specs::Lanes::process_lane_text))]
 fn push_process_text(
     text: &mut String,
     y: usize,
@@ -66,6 +67,7 @@ fn push_process_text(
 }
 
 /// Adds a register, and the line of its lane.
+#[tactic(auto, unfolding(crate::specs::Lanes::register_lane_text))]
 fn push_register_text(
     text: &mut String,
     y: usize,

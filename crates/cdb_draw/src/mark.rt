@@ -67,6 +67,7 @@ fn push_shape(text: &mut String, shape: &str) -> Result<(), AllocError>
 }
 
 /// Begins the row that stands so far above the lane.
+#[tactic(auto, unfolding(crate::specs::EventMarks::row_open))]
 fn push_row(text: &mut String, above: usize) -> Result<(), AllocError>
     ensures { Pushes result text.old text.new (row_open above) }
 {
@@ -149,6 +150,7 @@ fn push_message_row(text: &mut String, name: MsgName) -> Result<(), AllocError>
 }
 
 /// Adds `to P`.
+#[tactic(auto, unfolding(crate::specs::EventMarks::to_text))]
 fn push_to(text: &mut String, p: Proc) -> Result<(), AllocError>
     ensures { Pushes result text.old text.new (to_text p) }
 {
@@ -187,6 +189,7 @@ fn push_body(text: &mut String, event: &Event) -> Result<(), AllocError>
 }
 
 /// Adds the ring and the value of a decision.
+#[tactic(auto, unfolding(crate::specs::EventMarks::decision_mark))]
 fn push_decision(text: &mut String, value: Val) -> Result<(), AllocError>
     ensures { Pushes result text.old text.new (decision_mark value) }
 {
@@ -243,6 +246,7 @@ fn push_close(text: &mut String) -> Result<(), AllocError>
 }
 
 /// Adds the whole text of the last event of a run, which is shown where a pointer rests on the mark.
+#[tactic(auto, unfolding(crate::specs::EventMarks::title_text))]
 fn push_title<T: Runs>(
     alloc: Global,
     text: &mut String,

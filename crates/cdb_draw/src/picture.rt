@@ -62,6 +62,7 @@ fn push_size(
 }
 
 /// Adds the algorithm and the quorum.
+#[tactic(auto, unfolding(crate::specs::Picture::heading_text))]
 fn push_heading(text: &mut String, algorithm: Algorithm, quorum: usize) -> Result<(), AllocError>
     ensures { Pushes result text.old text.new (heading_text algorithm quorum) }
 {
@@ -97,6 +98,7 @@ fn push_shapes(text: &mut String) -> Result<(), AllocError>
 }
 
 /// Adds what comes before the lanes, where the picture has that size.
+#[tactic(auto, unfolding(crate::specs::Picture::document_text))]
 fn push_document(
     text: &mut String,
     w: usize,

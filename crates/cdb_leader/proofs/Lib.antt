@@ -7,4 +7,5 @@ pub mod IndexLaws
 pub mod LookUps
 pub mod Known
 pub mod Trace
+pub mod Values
 pub mod Promised

@@ -1,6 +1,8 @@
 -- Which copies are received or lost after a receive, a loss, or one that was taken back, and so what may be passed over.
-use Rattle.std.proofs.Common.{◌≡◌, ◌≢◌, ℕ, zero, suc, ◌≤◌, Bool, true, false, not, ◌&&◌, ◌||◌, List, [], ◌∷◌, Some, set, refl, ap, sym, ◌∙◌, inl, inr}
-use Rattle.std.specs.Prelude.{◌⊎◌, slice_get, unwrap_or}
+use Rattle.std.proofs.Common.{◌≡◌, ◌≢◌, ℕ, ◌≤◌, Bool, true, false, not, ◌&&◌, ◌||◌, List, Some, set, refl, ap, ◌∙◌, inl, inr, arith}
+use Rattle.std.specs.Prelude.{◌⊎◌, slice_get}
+use Rattle.std.proofs.lemmas.Grind.{common_steps}
+use Rattle.std.proofs.lemmas.Option.{gets}
 use Rattle.std.specs.Ordering.{eq_by_cmp}
 use Rattle.std.specs.Cmp.{IsTotalOrder, Equal-is}
 use Rattle.std.specs.declared.cmp.Ordering.{Ordering}
@@ -24,10 +26,6 @@ both-true : (a b : Bool) → (a ≡ true → ⊥) → b ≡ true → (not a && b
 both-true true b never h = absurd (never refl)
 both-true false b never h = h
 
-both-parts : (a b : Bool) → (a && b) ≡ true → (a ≡ true) × (b ≡ true)
-both-parts true b h = (refl, h)
-both-parts false b h = absurd (cc)
-
 module _ {K : Type 0} {R : K → K → Ordering} (total : IsTotalOrder R) (antisymmetric : finite.IsAntisymmetric R) where
   stays-insert : (s : finite.FinSet R) (k q : K) → finite.contains s q ≡ true → finite.contains (finite.insert s k) q ≡ true
   stays-insert s k q h = finite.contains-insert total s k q ∙ either-true (eq_by_cmp R q k) (finite.contains s q) h
@@ -42,31 +40,18 @@ module _ {K : Type 0} {R : K → K → Ordering} (total : IsTotalOrder R) (antis
 -- a position of a list in which one position was set holds what was set there, or what it held
 slice_get-set : {A : Type 0} (xs : List A) (i j : ℕ) (y : A)
     → ((j ≡ i) × (slice_get (set xs i y) j ≡ Some y)) ⊎ (slice_get (set xs i y) j ≡ slice_get xs j)
-slice_get-set [] i j y = inr refl
-slice_get-set (x ∷ xs) zero zero y = inl (refl, refl)
-slice_get-set (x ∷ xs) zero (suc j) y = inr refl
-slice_get-set (x ∷ xs) (suc i) zero y = inr refl
-slice_get-set (x ∷ xs) (suc i) (suc j) y =
-    elim (slice_get-set xs i j y) [ inl h ↦ inl ((λ k. suc (h.0 k)), h.1) | inr h ↦ inr h ]
+slice_get-set xs i j y = grind (arith, common_steps, gets)
 
 pub nth-set_nth : {A : Type 0} (xs : List A) (p q : ℕ) (y : A)
     → ((q ≡ p) × (nth (set_nth xs p y) q ≡ Some y)) ⊎ (nth (set_nth xs p y) q ≡ nth xs q)
-nth-set_nth xs zero q y = inr refl
-nth-set_nth xs (suc i) zero y = inr refl
-nth-set_nth xs (suc i) (suc j) y =
-    elim (slice_get-set xs i j y) [ inl h ↦ inl ((λ k. suc (h.0 k)), h.1) | inr h ↦ inr h ]
+nth-set_nth xs p q y = grind (arith, common_steps, gets)
 
 -- what process q received, where that of process p was set
 set_received-cases : (mail : MailState) (p q : ℕ) (names : NameSet) (other : MsgName)
     → (q ≡ p → finite.contains (received_by mail p) other ≡ true → finite.contains names other ≡ true)
     → is_received mail q other ≡ true
     → is_received (record mail { received = set_nth mail.received p names }) q other ≡ true
-set_received-cases mail p q names other kept h =
-    elim (nth-set_nth mail.received p q names) [
-      | inl at ↦ ap (λ found. finite.contains (unwrap_or found finite.empty) other) at.1
-          ∙ kept at.0 (ap (λ r. is_received mail r other) (sym at.0) ∙ h)
-      | inr at ↦ ap (λ found. finite.contains (unwrap_or found finite.empty) other) at ∙ h
-    ]
+set_received-cases mail p q names other h1 h2 = grind (arith, common_steps, gets)
 
 stays-add_receive : (mail : MailState) (p q : ℕ) (name other : MsgName)
     → is_received mail q other ≡ true → is_received (add_receive mail p name) q other ≡ true
@@ -85,10 +70,7 @@ stays-remove_receive mail p q name other differs h =
 -- what is not open stays so where it stays received or lost
 still_closed : (received lost received' lost' : Bool) → (received ≡ true → received' ≡ true) → (lost ≡ true → lost' ≡ true)
     → (not received && not lost) ≡ false → (not received' && not lost') ≡ false
-still_closed true lost received' lost' r l h = ap (λ b. not b && not lost') (r refl)
-still_closed false true true lost' r l h = refl
-still_closed false true false lost' r l h = ap not (l refl)
-still_closed false false received' lost' r l h = absurd (cc)
+still_closed received lost received' lost' h1 h2 h3 = grind (arith, common_steps, gets)
 
 module _ (passed : Passed) (mail : MailState) (closed : AreClosed passed mail) where
   pub closed-add_receive : (p : ℕ) (name : MsgName) → AreClosed passed (add_receive mail p name)

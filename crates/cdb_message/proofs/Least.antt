@@ -104,14 +104,14 @@ module _ (mail : MailState) where
       (numbers-sent low 1 (length (sent_by mail low)) (omega arith) (omega arith)) (senders-sent (low + 1) n)
 
   names-sent : AllByRecursion WasSent (sent_names mail)
-  names-sent = subst (λ senders. AllByRecursion WasSent (flat_map (messages_of mail) senders)) (sym (all_nine mail)) (senders-sent 1 9)
+  names-sent = rw (all_nine mail) (senders-sent 1 9)
 
   module _ (P : MsgName → Type 0) where
     at_number : (s j k m : ℕ) → j ≤ m → m < j + k → AllByRecursion P (map (message_name s) (range_with_len j k)) → P (message_name s m)
     at_number s j zero m from to all = absurd (omega arith)
     at_number s j (suc k) m from to all =
         elim (cases_eq m j) [
-          | inl same ↦ subst (λ i. P (message_name s i)) (sym same) all.0
+          | inl same ↦ rw same all.0
           | inr other ↦ at_number s (j + 1) k m (omega arith) (omega arith) all.1
         ]
 
@@ -122,8 +122,7 @@ module _ (mail : MailState) where
         let more = flat_map (messages_of mail) (range_with_len (low + 1) n) in
         elim (cases_eq s low) [
           | inl same ↦
-              let here = subst (λ i. AllByRecursion P (messages_of mail i)) (sym same) (all-left P (messages_of mail low) more all) in
-              at_number s 1 (length (sent_by mail s)) m first (omega arith) here
+              at_number s 1 (length (sent_by mail s)) m first (omega arith) (rw same (all-left P (messages_of mail low) more all))
           | inr other ↦ at_sender (low + 1) n s m (omega arith) (omega arith) first last (all-right P (messages_of mail low) more all)
         ]
 
@@ -134,7 +133,7 @@ module _ (mail : MailState) where
         let first : 1 ≤ name.m = grind (arith, nat_tests) in
         let last : name.m ≤ length (sent_by mail name.s) = grind (arith, nat_tests) in
         at_sender 1 9 name.s name.m (is_process name.s refl last first) (among name.s refl (nat_le name.s (length mail.sent)) refl) first last
-        (subst (λ senders. AllByRecursion P (flat_map (messages_of mail) senders)) (all_nine mail) all)
+        (rw (all_nine mail) at all)
       where
         is_process : (s : ℕ) → name.s ≡ s → name.m ≤ length (sent_by mail s) → 1 ≤ name.m → 1 ≤ s
         is_process zero is last first = absurd (omega arith)
@@ -156,17 +155,15 @@ module _ (mail : MailState) where
     at_pending P few all name pending =
         at_sent (λ n. is_open mail p n ≡ true → P n) few (unfiltered P (is_open mail p) (sent_names mail) all) name pending.0 pending.1
 
-    pub least_pending : (after : Option MsgName) → length mail.sent ≤ 9
-        → MatchOption (next_pending mail p after) (HasNonePending mail p after) (IsLeastPending mail p after)
-    least_pending after few = found (next_pending mail p after) refl
-      where
-        found : (o : Option MsgName) → next_pending mail p after ≡ o → MatchOption o (HasNonePending mail p after) (IsLeastPending mail p after)
-        found None none = λ name pending. at_pending (λ n. is_above after n ≡ false) few (found-none (is_above after) (copies_for mail p) none) name pending
-        found (Some name) is =
-            let one = found-all (IsPending mail p) (is_above after) (copies_for mail p) name copies-pending is in
-            record {
-              pending = one.0;
-              above = one.1;
-              least = λ other pending above. at_pending (λ n. is_above after n ≡ true → is_name_below n name ≡ false) few
-                  (found-least (is_above after) (copies_for mail p) name (copies-rise mail p) is) other pending above;
-            }
+    pub least_pending : (after : Option MsgName) → length mail.sent ≤ 9 → (o : Option MsgName) → o ≡ next_pending mail p after
+        → MatchOption o (HasNonePending mail p after) (IsLeastPending mail p after)
+    least_pending after few None none =
+        at_pending (λ n. is_above after n ≡ false) few (found-none (is_above after) (copies_for mail p) (sym none))
+    least_pending after few (Some name) is =
+        let one = found-all (IsPending mail p) (is_above after) (copies_for mail p) name copies-pending (sym is) in
+        record {
+          pending = one.0;
+          above = one.1;
+          least = λ other pending above. at_pending (λ n. is_above after n ≡ true → is_name_below n name ≡ false) few
+              (found-least (is_above after) (copies_for mail p) name (copies-rise mail p) (sym is)) other pending above;
+        }

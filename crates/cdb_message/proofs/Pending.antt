@@ -1,7 +1,9 @@
 -- The first pending message, looked for among the messages of one sender after another.
-use Rattle.std.proofs.Common.{◌≡◌, ℕ, suc, zero, ◌+◌, ◌-◌, ◌<◌, ◌≤◌, Bool, true, false, cond, List, ◌∷◌, ◌++◌, Option, None, Some, length, get_or, drop, max, refl, ap, sym, ◌∙◌, arith, map, filter, find}
-use Rattle.std.specs.Prelude.{nat_le, nat_lt}
-use Rattle.std.proofs.lemmas.Bool.Decides.{nat_tests}
+use Rattle.std.proofs.lemmas.Grind.{common_steps}
+use Rattle.std.proofs.lemmas.Option.{gets}
+use Rattle.std.proofs.Common.{◌≡◌, ℕ, suc, zero, ◌+◌, ◌-◌, ◌<◌, ◌≤◌, Bool, true, false, cond, List, ◌∷◌, Option, None, Some, length, get_or, drop, max, refl, sym, ◌∙◌, arith, map, filter, find, inl, inr, add-one}
+use Rattle.std.specs.Prelude.{nat_le}
+use Rattle.std.proofs.lemmas.Bool.{cases_lt}
 use Rattle.std.proofs.lemmas.List.Elements.{filter-append}
 use Rattle.std.proofs.lemmas.List.Folds.{find-append}
 use Rattle.std.proofs.Math.Seq.{drop-cons}
@@ -26,20 +28,15 @@ find-passed name is_open m zero end closed =
     let same : m + 0 ≡ m = omega arith in
     rw same refl
 find-passed name is_open m (suc k) end closed =
-    next (nat_lt m end) refl (find-passed name is_open (m + 1) k end (λ j from to. closed j (omega arith) (omega arith)))
-  where
-    next : (b : Bool) → nat_lt m end ≡ b
-        → find is_open (map name (range_with_len (m + 1 + k) (end - (m + 1 + k)))) ≡ find is_open (map name (range_with_len (m + 1) (end - (m + 1))))
-        → find is_open (map name (range_with_len (m + suc k) (end - (m + suc k)))) ≡ find is_open (map name (range_with_len m (end - m)))
-    next true e rest =
-        let within : m < end = grind (arith, nat_tests) in
-        let same : m + suc k ≡ m + 1 + k = omega arith in
-        rw same (rest ∙ find-closed name is_open m end within (closed m (omega arith) (omega arith)))
-    next false e rest =
-        let past : end ≤ m = grind (arith, nat_tests) in
-        let none : end - m ≡ 0 = omega arith in
-        let none_behind : end - (m + suc k) ≡ 0 = omega arith in
-        rw (none, none_behind) refl
+    elim (cases_lt m end) [
+      | inl within ↦
+          let same : m + suc k ≡ m + 1 + k = omega arith in
+          rw same (find-passed name is_open (m + 1) k end (λ j from to. closed j (omega arith) (omega arith)) ∙ find-closed name is_open m end within (closed m (omega arith) (omega arith)))
+      | inr past ↦
+          let none : end - m ≡ 0 = omega arith in
+          let none_behind : end - (m + suc k) ≡ 0 = omega arith in
+          rw (none, none_behind) refl
+    ]
 
 module _ (above is_open : MsgName → Bool) where
   abbrev first_pending : List MsgName → Option MsgName
@@ -62,14 +59,7 @@ module _ (above is_open : MsgName → Bool) where
       → ((from n : ℕ) → from ≡ max low (m + 1) → n ≡ m + 1 + k - from
       → first_pending (map name (range_with_len (m + 1) k)) ≡ find is_open (map name (range_with_len from n)))
       → first_pending (name m ∷ map name (range_with_len (m + 1) k)) ≡ find is_open (map name (range_with_len start len))
-  next-number true name low m k start len e stands s l rest =
-      let reached : low ≤ m = grind (arith, nat_tests) in
-      let at_m : start ≡ m = omega arith in
-      let all : len ≡ suc k = omega arith in
-      rw (at_m, all) (first-above (is_open (name m)) (name m) _ stands (rest (m + 1) k (omega arith) (omega arith)))
-  next-number false name low m k start len e stands s l rest =
-      let not_reached : m < low = grind (arith, nat_tests) in
-      first-below (is_open (name m)) (name m) _ stands ∙ rest start len (omega arith) (omega arith)
+  next-number b name low m k start len h1 h2 h3 h4 h5 = grind (arith, common_steps, gets)
 
   -- the names from `low` on are those that stand above
   pub first-numbers : (name : ℕ → MsgName) (low m k start len : ℕ) → ((j : ℕ) → above (name j) ≡ nat_le low j)
@@ -110,17 +100,10 @@ length-all_processes = refl
 
 module _ (above is_open : MsgName → Bool) (messages : ℕ → List MsgName) where
   -- the messages of one sender stand before those of the senders behind it
-  pub first-senders : (i s d : ℕ) (o : Option MsgName) → i < 9 → s ≡ get_or all_processes i d
+  pub first-senders : (i d : ℕ) {s : ℕ} {o : Option MsgName} → i < 9 → s ≡ get_or all_processes i d
       → o ≡ first_pending above is_open (messages s)
       → first_pending above is_open (flat_map messages (drop i all_processes))
       ≡ option_or o (first_pending above is_open (flat_map messages (drop (i + 1) all_processes)))
-  first-senders i s d o h e found =
+  first-senders i d h e found =
       let within : i < length all_processes = rw length-all_processes h in
-      let behind : suc i ≡ i + 1 = omega arith in
-      let rest = flat_map messages (drop (suc i) all_processes) in
-      ap (λ senders. first_pending above is_open (flat_map messages senders)) (drop-cons all_processes i d within)
-      ∙ ap (λ q. first_pending above is_open (messages q ++ rest)) (sym e)
-      ∙ ap (find above) (filter-append is_open (messages s) rest)
-      ∙ find-append above (filter is_open (messages s)) (filter is_open rest)
-      ∙ ap (λ f. option_or f (first_pending above is_open rest)) (sym found)
-      ∙ ap (λ j. option_or o (first_pending above is_open (flat_map messages (drop j all_processes)))) behind
+      rw (drop-cons all_processes i d within, ← e, filter-append, find-append, ← found, add-one i) refl

@@ -1,5 +1,5 @@
 -- The names of the messages that were sent, and of those still to be received, stand in order.
-use Rattle.std.proofs.Common.{◌≡◌, ℕ, zero, suc, ◌+◌, ◌<◌, Bool, true, false, cond, List, [], ◌∷◌, ◌++◌, length, map, filter, refl, sym, subst, arith}
+use Rattle.std.proofs.Common.{◌≡◌, ℕ, zero, suc, ◌+◌, ◌<◌, Bool, true, false, cond, List, [], ◌∷◌, ◌++◌, length, map, filter, refl, arith}
 use Rattle.std.specs.List.{AllByRecursion, range_with_len, flat_map}
 use Rattle.std.proofs.lemmas.Bool.Decides.{nat_tests}
 use Rattle.cdb_base.specs.Processes.{all_processes}
@@ -93,4 +93,4 @@ module _ (mail : MailState) where
   all_nine = refl
 
   pub copies-rise : (p : ℕ) → Rise (copies_for mail p)
-  copies-rise p = rise-filtered (is_open mail p) (sent_names mail) (subst (λ senders. Rise (flat_map (messages_of mail) senders)) (sym all_nine) (senders-rise 1 9))
+  copies-rise p = rise-filtered (is_open mail p) (sent_names mail) (rw all_nine (senders-rise 1 9))

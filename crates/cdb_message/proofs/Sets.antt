@@ -1,19 +1,18 @@
--- Sets of names: that their orders are total, and what a list's gain or loss of a name does to its set.
-use Rattle.std.proofs.Common.{◌≡◌, Bool, true, false, cond, not, ◌||◌, ◌&&◌, List, refl, sym, ◌∙◌, ap}
-use Rattle.std.specs.List.{list_any}
+-- Sets of names: that their orders are total, and that what joins a set and leaves it again changes nothing.
+use Rattle.std.proofs.Common.{arith, ◌≡◌, Bool, true, false, not, ◌||◌, ◌&&◌, refl, sym, ◌∙◌, ap}
+use Rattle.std.proofs.lemmas.Grind.{common_steps}
+use Rattle.std.proofs.lemmas.Option.{gets}
 use Rattle.std.specs.Ordering.{nat_cmp, ordering_then, eq_by_cmp}
 use Rattle.std.specs.declared.cmp.Ordering.{Ordering}
-use Rattle.std.specs.declared.cmp.Ordering.TheVariants.{Less, Equal, Greater}
-use Rattle.std.specs.Cmp.{IsTotalOrder, Equal-is, then_total, on_total, nat_cmp_total, eq_by_cmp_equiv}
+use Rattle.std.specs.declared.cmp.Ordering.TheVariants.{Equal}
+use Rattle.std.specs.Cmp.{IsTotalOrder, Equal-is, then_total, on_total, nat_cmp_total}
 use Rattle.std.specs.FinSet as set
 use Rattle.cdb_message.specs.Names.{name_cmp, copy_cmp}
 
 -- ---- the orders
 
 then-Equal : (a b : Ordering) → ordering_then a b ≡ Equal → (a ≡ Equal) × (b ≡ Equal)
-then-Equal Less b h = absurd (cc)
-then-Equal Equal b h = (refl, h)
-then-Equal Greater b h = absurd (cc)
+then-Equal a b h1 = grind (arith, common_steps, gets)
 
 pub name_cmp_total : IsTotalOrder name_cmp
 name_cmp_total = then_total (on_total (λ n. n.s) nat_cmp_total) (on_total (λ n. n.m) nat_cmp_total)
@@ -35,47 +34,13 @@ copy_cmp-IsAntisymmetric x y h =
     let to = set.nat_cmp-IsAntisymmetric x.to y.to parts.1 in
     λ i. record { msg = msg i; to = to i }
 
--- ---- sets of lists
-
-chosen-or : (b c : Bool) → cond b true c ≡ (b || c)
-chosen-or true c = refl
-chosen-or false c = refl
-
-chosen-and : (b c : Bool) → cond b false c ≡ (not b && c)
-chosen-and true c = refl
-chosen-and false c = refl
+-- ---- sets
 
 back-and-forth : (b c : Bool) → (b ≡ true → c ≡ false) → (not b && (b || c)) ≡ c
 back-and-forth true c h = sym (h refl)
 back-and-forth false c h = refl
 
 module _ {K : Type 0} {R : K → K → Ordering} (total : IsTotalOrder R) (antisymmetric : set.IsAntisymmetric R) where
-  abbrev lists : List K → K → Bool
-  lists names q = list_any (eq_by_cmp R q) names
-
-  tied-swap : (x y : K) → eq_by_cmp R x y ≡ eq_by_cmp R y x
-  tied-swap x y = (eq_by_cmp_equiv total).symm x y
-
-  -- the set of a list that gained a name
-  pub same_insert : (old new : List K) (k : K)
-      → ((q : K) → lists new q ≡ cond (eq_by_cmp R k q) true (lists old q))
-      → set.from_list {R = R} new ≡ set.insert (set.from_list old) k
-  same_insert old new k h =
-      set.same_set total antisymmetric _ _
-      (λ q. set.contains-from_list total new q ∙ h q ∙ chosen-or (eq_by_cmp R k q) (lists old q)
-      ∙ (λ i. tied-swap k q i || sym (set.contains-from_list total old q) i)
-      ∙ sym (set.contains-insert total (set.from_list old) k q))
-
-  -- the set of a list that lost a name
-  pub same_remove : (old new : List K) (k : K)
-      → ((q : K) → lists new q ≡ cond (eq_by_cmp R k q) false (lists old q))
-      → set.from_list {R = R} new ≡ set.remove (set.from_list old) k
-  same_remove old new k h =
-      set.same_set total antisymmetric _ _
-      (λ q. set.contains-from_list total new q ∙ h q ∙ chosen-and (eq_by_cmp R k q) (lists old q)
-      ∙ (λ i. not (tied-swap k q i) && sym (set.contains-from_list total old q) i)
-      ∙ sym (set.contains-remove total (set.from_list old) k q))
-
   -- what joins a set and leaves it again
   pub remove-insert : (s : set.FinSet R) (k : K) → set.contains s k ≡ false → set.remove (set.insert s k) k ≡ s
   remove-insert s k h =

@@ -1,5 +1,7 @@
 -- What a set flag does to the set of a table.
-use Rattle.std.proofs.Common.{◌≡◌, ⊎_elim, ℕ, zero, suc, ◌+◌, ◌-◌, ◌*◌, ◌<◌, ◌≤◌, ◌==◌, Bool, true, false, not, ◌&&◌, ◌||◌, nat_le, List, [], ◌∷◌, map, filter, refl, sym, ◌∙◌, ap, subst, true≢false, eqb-true, arith}
+use Rattle.std.proofs.lemmas.Grind.{common_steps}
+use Rattle.std.proofs.lemmas.Option.{gets}
+use Rattle.std.proofs.Common.{◌≡◌, inl, inr, ℕ, zero, suc, ◌+◌, ◌-◌, ◌*◌, ◌<◌, ◌≤◌, ◌==◌, Bool, true, false, not, ◌&&◌, ◌||◌, nat_le, List, [], ◌∷◌, map, filter, refl, sym, ◌∙◌, ap, arith}
 use Rattle.std.proofs.lemmas.Bool.{cases_eq}
 use Rattle.std.proofs.lemmas.Bool.Decides.{nat_tests}
 use Rattle.std.specs.List.{list_any, flat_map, range_with_len}
@@ -36,12 +38,9 @@ module _ {K : Type 0} {R : K → K → Ordering} (total : IsTotalOrder R) (antis
       (λ q. contains-kept new q ∙ go q (eq_by_cmp R q k) refl
       ∙ sym (set.contains-insert total (kept old) k q ∙ ap (λ b. eq_by_cmp R q k || b) (contains-kept old q)))
     where
-      at : (q : K) → q ≡ k → (new q && list_any (eq_by_cmp R q) all) ≡ true
-      at q e = subst (λ x. (new x && list_any (eq_by_cmp R x) all) ≡ true) (sym e) (rw (is, listed) refl)
-
       go : (q : K) (b : Bool) → eq_by_cmp R q k ≡ b → (new q && list_any (eq_by_cmp R q) all) ≡ (eq_by_cmp R q k || (old q && list_any (eq_by_cmp R q) all))
-      go q true e = at q (is_same q k e) ∙ sym (ap (λ b. b || (old q && list_any (eq_by_cmp R q) all)) e)
-      go q false e = ap (λ b. b && list_any (eq_by_cmp R q) all) (others q e) ∙ sym (ap (λ b. b || (old q && list_any (eq_by_cmp R q) all)) e)
+      go q true e = rw (e, is_same q k e, is, listed) refl
+      go q false e = rw (e, others q e) refl
 
   kept-remove : (old new : K → Bool) (k : K) → new k ≡ false
       → ((q : K) → eq_by_cmp R q k ≡ false → new q ≡ old q) → kept new ≡ set.remove (kept old) k
@@ -51,13 +50,13 @@ module _ {K : Type 0} {R : K → K → Ordering} (total : IsTotalOrder R) (antis
       ∙ sym (set.contains-remove total (kept old) k q ∙ ap (λ b. not (eq_by_cmp R q k) && b) (contains-kept old q)))
     where
       go : (q : K) (b : Bool) → eq_by_cmp R q k ≡ b → (new q && list_any (eq_by_cmp R q) all) ≡ (not (eq_by_cmp R q k) && (old q && list_any (eq_by_cmp R q) all))
-      go q true e = ap (λ b. b && list_any (eq_by_cmp R q) all) (ap new (is_same q k e) ∙ is) ∙ sym (ap (λ b. not b && (old q && list_any (eq_by_cmp R q) all)) e)
-      go q false e = ap (λ b. b && list_any (eq_by_cmp R q) all) (others q e) ∙ sym (ap (λ b. not b && (old q && list_any (eq_by_cmp R q) all)) e)
+      go q true e = rw (e, is_same q k e, is) refl
+      go q false e = rw (e, others q e) refl
 
   kept-none : (p : K → Bool) → ((q : K) → p q ≡ false) → kept p ≡ set.empty
   kept-none p none =
       set.same_set total antisymmetric _ _
-      (λ q. contains-kept p q ∙ ap (λ b. b && list_any (eq_by_cmp R q) all) (none q) ∙ sym (set.contains-empty R q))
+      (λ q. contains-kept p q ∙ rw (none q) (sym (set.contains-empty R q)))
 
 -- ---- tests
 
@@ -87,24 +86,14 @@ cell_itself n = grind (arith, nat_tests)
 
 module _ {K : Type 0} {R : K → K → Ordering} {table : KeyTable R} (is_table : IsTable table) where
   differ : (j k : K) → table.is_key j ≡ true → table.is_key k ≡ true → eq_by_cmp R j k ≡ false → (table.cell j == table.cell k) ≡ false
-  differ j k is_j is_k ne = go (table.cell j == table.cell k) refl
-    where
-      go : (c : Bool) → (table.cell j == table.cell k) ≡ c → c ≡ false
-      go false h = refl
-      go true h =
-          let same = is_table.own_cell j k is_j is_k (eqb-true (table.cell j) (table.cell k) h) in
-          absurd (true≢false (sym (subst (λ x. eq_by_cmp R j x ≡ true) same ((eq_by_cmp_equiv is_table.total).refl j)) ∙ ne))
+  differ j k h1 h2 h3 = grind (arith, common_steps, gets)
 
   module _ (old new : List Bool) (k : K) (flag : Bool) (is_key : table.is_key k ≡ true) (sets : SetsFlag old new (table.cell k) flag) where
     is_set : has_key table new k ≡ flag
     is_set = ap (λ b. b && flag_in new (table.cell k)) is_key ∙ sets (table.cell k) ∙ rw (cell_itself (table.cell k)) refl
 
     is_kept : (q : K) → eq_by_cmp R q k ≡ false → has_key table new q ≡ has_key table old q
-    is_kept q ne = go (table.is_key q) refl
-      where
-        go : (b : Bool) → table.is_key q ≡ b → (b && flag_in new (table.cell q)) ≡ (b && flag_in old (table.cell q))
-        go true is = sets (table.cell q) ∙ rw (differ q k is is_key ne) refl
-        go false is = refl
+    is_kept q h1 = grind (arith, common_steps, gets)
 
   -- a flag that is set adds its key, one that is cleared takes it out
   pub key_inserted : (old new : List Bool) (k : K) → table.is_key k ≡ true → SetsFlag old new (table.cell k) true → keys_in table new ≡ set.insert (keys_in table old) k
@@ -136,22 +125,23 @@ module _ {B : Type 0} (test : B → Bool) (f : ℕ → List B) (i : ℕ) (here :
   joined_at : (n a : ℕ) → a ≤ i → i < a + n → list_any test (flat_map f (range_with_len a n)) ≡ true
   joined_at zero a low high = absurd (omega arith)
   joined_at (suc n) a low high =
-      list_any-append test (f a) (flat_map f (range_with_len (a + 1) n))
-      ∙ ⊎_elim
-      (λ e. ap (λ b. b || list_any test (flat_map f (range_with_len (a + 1) n))) (subst (λ x. list_any test (f x) ≡ true) e here))
-      (λ ne. ap (λ b. list_any test (f a) || b) (joined_at n (a + 1) (omega arith) (omega arith)) ∙ or-true (list_any test (f a)))
-      (cases_eq i a)
+      rw list_any-append
+      (elim (cases_eq i a) [
+        | inl e ↦ rw (← e, here) refl
+        | inr ne ↦ rw (joined_at n (a + 1) (omega arith) (omega arith)) (or-true (list_any test (f a)))
+      ])
 
 module _ {B : Type 0} (test : B → Bool) (g : ℕ → B) (i : ℕ) (here : test (g i) ≡ true) where
   mapped_at : (n a : ℕ) → a ≤ i → i < a + n → list_any test (map g (range_with_len a n)) ≡ true
   mapped_at zero a low high = absurd (omega arith)
-  mapped_at (suc n) a low high = ⊎_elim
-      (λ e. ap (λ b. b || list_any test (map g (range_with_len (a + 1) n))) (subst (λ x. test (g x) ≡ true) e here))
-      (λ ne. ap (λ b. test (g a) || b) (mapped_at n (a + 1) (omega arith) (omega arith)) ∙ or-true (test (g a)))
-      (cases_eq i a)
+  mapped_at (suc n) a low high =
+      elim (cases_eq i a) [
+        | inl e ↦ rw (← e, here) refl
+        | inr ne ↦ rw (mapped_at n (a + 1) (omega arith) (omega arith)) (or-true (test (g a)))
+      ]
 
   processes_at : is_process i ≡ true → list_any test (map g all_processes) ≡ true
-  processes_at within = subst (λ l. list_any test (map g l) ≡ true) (sym nine) (mapped_at 9 1 (grind (arith, nat_tests)) (grind (arith, nat_tests)))
+  processes_at within = rw nine (mapped_at 9 1 (grind (arith, nat_tests)) (grind (arith, nat_tests)))
 
 below_count : (m : ℕ) → nat_le m 65535 ≡ true → m < 0 + count_numbers
 unfolding count_numbers
@@ -178,9 +168,7 @@ same_digits : (m n p q : ℕ) → is_process p ≡ true → is_process q ≡ tru
 same_digits m n p q is_p is_q e = (grind (arith, nat_tests), grind (arith, nat_tests))
 
 same_name : (j k : MsgName) → is_name j ≡ true → is_name k ≡ true → name_table.cell j ≡ name_table.cell k → j ≡ k
-same_name j k is_j is_k e =
-    let same = same_digits j.m k.m j.s k.s (both (is_process j.s) (nat_le j.m 65535) is_j).0 (both (is_process k.s) (nat_le k.m 65535) is_k).0 e in
-    λ i. record { s = same.1 i; m = same.0 i }
+same_name j k h1 h2 h3 = grind (arith, common_steps, gets)
 
 pub name_table-IsTable : IsTable name_table
 name_table-IsTable =
@@ -207,21 +195,14 @@ module _ (k : CopyName) (named : is_copy k ≡ true) where
       go : (list_any (eq_by_cmp name_cmp k.msg) names ≡ true → list_any is_this (flat_map copies_of_name names) ≡ true)
           → (b : Bool) → eq_by_cmp name_cmp k.msg x ≡ b → (b || list_any (eq_by_cmp name_cmp k.msg) names) ≡ true
           → (list_any is_this (copies_of_name x) || list_any is_this (flat_map copies_of_name names)) ≡ true
-      go rest true e h =
-          ap (λ b. b || list_any is_this (flat_map copies_of_name names))
-          (subst (λ n. list_any is_this (copies_of_name n) ≡ true) (is_same name_cmp_total name_cmp-IsAntisymmetric names k.msg x e) is_here)
-      go rest false e h = ap (λ b. list_any is_this (copies_of_name x) || b) (rest h) ∙ or-true (list_any is_this (copies_of_name x))
+      go rest true e h = rw (← is_same name_cmp_total name_cmp-IsAntisymmetric names k.msg x e, is_here) refl
+      go rest false e h = rw (rest h) (or-true (list_any is_this (copies_of_name x)))
 
   is_listed_copy : list_any is_this all_copies ≡ true
   is_listed_copy = among all_names (is_listed_name k.msg (both (is_name k.msg) (is_process k.to) named).0)
 
 same_copy : (j k : CopyName) → is_copy j ≡ true → is_copy k ≡ true → copy_table.cell j ≡ copy_table.cell k → j ≡ k
-same_copy j k is_j is_k e =
-    let js = both (is_name j.msg) (is_process j.to) is_j in
-    let ks = both (is_name k.msg) (is_process k.to) is_k in
-    let same = same_digits (name_table.cell j.msg) (name_table.cell k.msg) j.to k.to js.1 ks.1 e in
-    let msg = same_name j.msg k.msg js.0 ks.0 same.0 in
-    λ i. record { msg = msg i; to = same.1 i }
+same_copy j k h1 h2 h3 = grind (arith, common_steps, gets)
 
 pub copy_table-IsTable : IsTable copy_table
 copy_table-IsTable =

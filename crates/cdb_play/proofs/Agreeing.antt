@@ -1,20 +1,28 @@
--- A race whose decisions agree ends with the line that says so.
+-- A race whose decisions agree ends with the line that says so, and the decisions before it were inputs.
 use Rattle.std.proofs.Common.{◌≡◌, ℕ, suc, ◌==◌, ◌&&◌, true, List, [], ◌∷◌, ◌++◌, Contains, codes, if◌then◌else◌, refl, sym, ap, ◌∙◌, subst, arith, append_assoc, eq-eqb}
 use Rattle.std.specs.List.{flat_map, list_all}
 use Rattle.cdb_base.specs.declared.event.Event.{Event}
 use Rattle.cdb_control.specs.Commands.{outcome}
 use Rattle.cdb_control.specs.Journal.{Journaled}
-use Rattle.cdb_rules.specs.Agreement.{AllAgree, HasMajorityIfNeeded}
+use Rattle.cdb_rules.specs.Agreement.{AllAgree, AreProposed, HasMajorityIfNeeded}
 use Rattle.cdb_rules.specs.Rules.{Rules}
 use Rattle.cdb_setup.specs.Parts.{Parts}
 use Rattle.cdb_shared.specs.Seats.{HasHeadline}
 use Rattle.cdb_text.specs.Reports.{decision_text, decisions_text}
-use Rattle.cdb_play.specs.Races.{EndsInAgreement, end_text, have_one_value, last_decisions, verdict_text}
+use Rattle.cdb_play.specs.Races.{EndsInAgreement, EndsInProposed, end_text, have_one_value, last_decisions, verdict_text}
 
 -- the decisions of a control agree
 pub agrees : (rules : Parts → Rules) (SameState : Parts → List Event → List Event → Type 0) (c : Journaled) (setup : Parts) → c.setup ≡ setup → HasHeadline rules SameState c → HasMajorityIfNeeded setup → AllAgree (last_decisions rules c)
 unfolding outcome
 agrees rules SameState c setup is headline majority = headline.agreement 1 (last_decisions rules c) (subst HasMajorityIfNeeded (sym is) majority) refl
+
+-- each of them was proposed
+pub proposes : (rules : Parts → Rules) (SameState : Parts → List Event → List Event → Type 0) (c : Journaled) (setup : Parts) → c.setup ≡ setup → HasHeadline rules SameState c → AreProposed setup (last_decisions rules c)
+unfolding outcome
+proposes rules SameState c setup is headline = subst (λ s. AreProposed s (last_decisions rules c)) is (headline.validity 1 (last_decisions rules c) refl)
+
+pub ends_in_proposed : (setup : Parts) (front : List ℕ) (pairs : List (ℕ × ℕ)) → AreProposed setup pairs → EndsInProposed setup (front ++ end_text pairs)
+ends_in_proposed setup front pairs proposed = (front, pairs, refl, proposed)
 
 all_equal : (v : ℕ) (pairs : List (ℕ × ℕ)) → ((other : ℕ × ℕ) → Contains pairs other → other.1 ≡ v) → list_all (λ other. other.1 == v) pairs ≡ true
 all_equal v [] same = refl

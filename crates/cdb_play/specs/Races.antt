@@ -9,7 +9,7 @@ use Rattle.cdb_race.specs.Faults as of_threads
 use Rattle.cdb_race.specs.Races.{IsRaced, MayFill, replies_in}
 use Rattle.cdb_race.specs.declared.threads.RaceFault.{RaceFault as ThreadFault}
 use Rattle.cdb_race.specs.declared.threads.RaceFault.TheVariants as threads
-use Rattle.cdb_rules.specs.Agreement.{HasMajorityIfNeeded}
+use Rattle.cdb_rules.specs.Agreement.{AreProposed, HasMajorityIfNeeded}
 use Rattle.cdb_rules.specs.Rules.{Rules}
 use Rattle.cdb_setup.specs.Format.{Encodes, longest}
 use Rattle.cdb_setup.specs.Order.{IsFirstFault}
@@ -49,6 +49,10 @@ have_one_value (pair ∷ pairs) = list_all (λ other. other.1 == pair.1) pairs
 abbrev pub verdict_text : List (ℕ × ℕ) → List ℕ
 verdict_text decisions = if have_one_value decisions then codes "decisions agree\n" else codes "decisions differ\n"
 
+-- the decisions, and whether they agree
+abbrev pub end_text : List (ℕ × ℕ) → List ℕ
+end_text decisions = decisions_text decisions ++ verdict_text decisions
+
 -- the text is that of a setup that has a majority if it needs one
 abbrev pub IsSetupWithMajority : List ℕ → Type 0
 IsSetupWithMajority json = (setup : Parts) × Encodes json setup × HasMajorityIfNeeded setup
@@ -57,15 +61,19 @@ IsSetupWithMajority json = (setup : Parts) × Encodes json setup × HasMajorityI
 abbrev pub EndsInAgreement : List ℕ → Type 0
 EndsInAgreement text = (before : List ℕ) × (text ≡ before ++ codes "\n" ++ codes "decisions agree\n")
 
+-- the text ends with the lines of decisions that were inputs of processes of the setup
+abbrev pub EndsInProposed : Parts → List ℕ → Type 0
+EndsInProposed setup text = (before : List ℕ) × (decisions : List (ℕ × ℕ)) × (text ≡ before ++ end_text decisions) × AreProposed setup decisions
+
 -- Of a writer before and after, each seen as a stream
 module _ {W : Type 0} (stream : W → Stream) where
   -- where the race ended well, the last line that the writer took says that the decisions agree
   abbrev pub AgreesAtEnd : {A : Type 0} → Result A RaceFault → W → W → Type 0
   AgreesAtEnd outcome old new = OnOk outcome (IsWritten stream Complete old new EndsInAgreement)
 
--- the decisions, and whether they agree
-abbrev pub end_text : List (ℕ × ℕ) → List ℕ
-end_text decisions = decisions_text decisions ++ verdict_text decisions
+  -- where the race ended well, the decisions that the writer took at the end were inputs of processes of the setup
+  abbrev pub ProposedAtEnd : {A : Type 0} → Parts → Result A RaceFault → W → W → Type 0
+  ProposedAtEnd setup outcome old new = OnOk outcome (IsWritten stream Complete old new (EndsInProposed setup))
 
 -- the decisions of the last state
 abbrev pub last_decisions : (Parts → Rules) → Journaled → List (ℕ × ℕ)

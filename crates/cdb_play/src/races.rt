@@ -7,7 +7,7 @@ ghost use Rattle.cdb_race.specs.Races.{AllPass};
 ghost use Rattle.cdb_rules.specs.Agreement.{HasMajorityIfNeeded};
 ghost use Rattle.cdb_setup.specs.Format.{Encodes};
 ghost use Rattle.cdb_setup.specs.Parts.{Parts};
-ghost use Rattle.cdb_play.specs.Races.{race_fault_of_script, race_fault_of_threads, bytes_of, AreScripts, IsTextOnSetup, IsTextOfRace, StopsNoSeat, IsFaultUngated, IsFaultOnSetup, IsFaultOfRace, IsSetupWithMajority, AgreesAtEnd};
+ghost use Rattle.cdb_play.specs.Races.{race_fault_of_script, race_fault_of_threads, bytes_of, AreScripts, IsTextOnSetup, IsTextOfRace, StopsNoSeat, IsFaultUngated, IsFaultOnSetup, IsFaultOfRace, IsSetupWithMajority, AgreesAtEnd, ProposedAtEnd};
 ghost use Rattle.cdb_play.specs.RaceStages.{IsTextOfCommands, IsFaultOfScripts, IsFaultOfCommands};
 ghost use Rattle.cdb_streams.specs.Endings.{race_ending};
 ghost use Rattle.cdb_streams.specs.Written.{IsWritten};
@@ -105,6 +105,7 @@ fn run_race<T: Runs + Send, G: Gate + Drop + Send, R: Threads + Wait + Sync, W: 
     ensures wrote { IsWritten W.stream (race_ending result) out.old out.new
         (IsTextOfCommands T.rules setup turns scripts.now) }
     ensures agree { HasMajorityIfNeeded setup → AgreesAtEnd W.stream result out.old out.new }
+    ensures proposed { ProposedAtEnd W.stream setup result out.old out.new }
     ensures fault { IfErr result
         (IsFaultOfCommands (IsFaultBehind T T.rules G.heard G.passes gates.items)
         setup turns scripts.now) }
@@ -138,7 +139,8 @@ fn run_race<T: Runs + Send, G: Gate + Drop + Send, R: Threads + Wait + Sync, W: 
 /// 65,536 bytes. `Write` comes only where the writer failed in this call, and `Setup` never. `NoMemory` comes only
 /// where the first script is not too long.
 ///
-/// With a majority, or in Alpha, the last line of a race that ended well is `decisions agree`. Of several faults of
+/// With a majority, or in Alpha, the last line of a race that ended well is `decisions agree`, and each decision in the line
+/// before it was the input of a process. Of several faults of
 /// sessions that of the least seat is reported; `JournalFull` comes only where processes times turns and the commands
 /// of the scripts are 999,999 at least, and `Stopped` only of a gate that did not let a call go on.
 pub fn race_on_with<T: Runs + Send, G: Gate + Drop + Send, R: Threads + Wait + Sync, W: Sink>(
@@ -155,6 +157,7 @@ pub fn race_on_with<T: Runs + Send, G: Gate + Drop + Send, R: Threads + Wait + S
     ensures wrote { IsWritten W.stream (race_ending result) out.old out.new
         (IsTextOnSetup T.rules setup turns (bytes_of scripts.now)) }
     ensures agree { HasMajorityIfNeeded setup → AgreesAtEnd W.stream result out.old out.new }
+    ensures proposed { ProposedAtEnd W.stream setup result out.old out.new }
     ensures fault { IfErr result
         (IsFaultOnSetup (IsFaultBehind T T.rules G.heard G.passes gates.items)
         setup turns (bytes_of scripts.now)) }
@@ -177,6 +180,7 @@ pub fn race_on<T: Runs + Send, R: Threads + Wait + Sync, W: Sink>(
     ensures wrote { IsWritten W.stream (race_ending result) out.old out.new
         (IsTextOnSetup T.rules setup turns (bytes_of scripts.now)) }
     ensures agree { HasMajorityIfNeeded setup → AgreesAtEnd W.stream result out.old out.new }
+    ensures proposed { ProposedAtEnd W.stream setup result out.old out.new }
     ensures fault { IfErr result
         (IsFaultOnSetup IsFaultUngated setup turns (bytes_of scripts.now)) }
 {
@@ -203,6 +207,8 @@ pub fn race_with<T: Runs + Send, G: Gate + Drop + Send, R: Threads + Wait + Sync
     ensures wrote { IsWritten W.stream (race_ending result) out.old out.new
         (IsTextOfRace T.rules setup.now turns (bytes_of scripts.now)) }
     ensures agree { IsSetupWithMajority setup.now → AgreesAtEnd W.stream result out.old out.new }
+    ensures proposed { (parts : Parts) → Encodes setup.now parts →
+        ProposedAtEnd W.stream parts result out.old out.new }
     ensures fault { IfErr result
         (IsFaultOfRace (IsFaultBehind T T.rules G.heard G.passes gates.items)
         setup.now turns (bytes_of scripts.now)) }
@@ -226,6 +232,8 @@ pub fn race<T: Runs + Send, R: Threads + Wait + Sync, W: Sink>(
     ensures wrote { IsWritten W.stream (race_ending result) out.old out.new
         (IsTextOfRace T.rules setup.now turns (bytes_of scripts.now)) }
     ensures agree { IsSetupWithMajority setup.now → AgreesAtEnd W.stream result out.old out.new }
+    ensures proposed { (parts : Parts) → Encodes setup.now parts →
+        ProposedAtEnd W.stream parts result out.old out.new }
     ensures fault { IfErr result
         (IsFaultOfRace IsFaultUngated setup.now turns (bytes_of scripts.now)) }
 {

@@ -1,7 +1,8 @@
 -- An event that was undone is taken again exactly where it is enabled.
+use Rattle.std.proofs.lemmas.Grind.{common_steps}
+use Rattle.std.proofs.lemmas.Option.{gets, same_Some}
 use Rattle.std.proofs.Common.{◌≡◌, ℕ, ◌+◌, ◌≤◌, Bool, true, false, not, ◌&&◌, ◌==◌, ◌↔◌, nat_le, List, [], ◌∷◌, length, Option, Some, None, Result, Ok, Err, IsOk, IfOk, is_ok, IsSome, option_map, if◌then◌else◌, find, refl, sym, ap, ap₂, ◌∙◌, subst, true≢false, arith}
 use Rattle.std.specs.Option.{option_map_or}
-use Rattle.std.proofs.lemmas.Option.{none-some, same_Some}
 use Rattle.std.proofs.lemmas.Bool.Decides.{nat_tests}
 use Rattle.std.specs.FinSet as set
 use Rattle.cdb_base.specs.Positions.{nth}
@@ -21,9 +22,8 @@ use Rattle.cdb_rules.specs.Step.{is_among, may_lose, after}
 use Rattle.cdb_rules.proofs.Stages.{sight_in}
 use Rattle.cdb_rules.proofs.Enabled.{accepts_by, fits_by}
 use Rattle.cdb_rules.proofs.Granted.{IsLawful, Fits, AllPass, all_pass, enabled_where_accepted}
-use Rattle.cdb_rules.proofs.Mails.{not_true}
 use Rattle.cdb_rules.proofs.Planned.{unrefused, not_false}
-use Rattle.cdb_rules.proofs.Taken.{IsAccepted, taken_from, parts, some_of, both, where_true}
+use Rattle.cdb_rules.proofs.Taken.{IsAccepted, taken_from, parts, some_of}
 use Rattle.cdb_setup.specs.Parts.{Parts}
 
 -- a row of checks of which none holds refuses nothing
@@ -88,25 +88,7 @@ module _ {L : Type 0} (machine : Machine L) (setup : Parts) (number : length mac
         all_of a b c d e p q r s t = cc
 
     pub loss_again : IsSome (after machine state (Lost copy)) → again_result machine setup state (Lost copy) ≡ Ok (Lost copy)
-    loss_again enabled =
-        let to = some_of (after machine state (Lost copy)) enabled in
-        let may = sym may_is ∙ (where_true (may_lose machine (mail_of state) copy) (Some (record state { lost = set.insert state.lost copy })) to.0 to.1).0 in
-        let version = setup.version == 2 in
-        let among = is_among setup.processes copy.to in
-        let sent = is_sent (mail_of state) copy.msg in
-        let open_to = not (is_received (mail_of state) copy.to copy.msg) in
-        let kept = both (version && among && sent && open_to) (not (is_lost (mail_of state) copy)) may in
-        let received = both (version && among && sent) open_to kept.0 in
-        let sends = both (version && among) sent received.0 in
-        let first = both version among sends.0 in
-        unless_ok (first_refusal (lose_checks setup (mail_of state) copy.msg copy.to)) (Lost copy)
-        (none_refuses (lose_checks setup (mail_of state) copy.msg copy.to) (
-          turned version first.0,
-          (
-            turned among first.1,
-            (turned sent sends.1, (not_true (is_received (mail_of state) copy.to copy.msg) received.1, (not_true (is_lost (mail_of state) copy) kept.1, tt))),
-          ),
-        ))
+    loss_again h1 = grind (arith, common_steps, gets)
 
 module _ {L : Type 0} (machine : Machine L) (lawful : IsLawful machine) (setup : Parts) (number : length machine.firsts ≡ setup.processes) (loses : machine.loses_copies ≡ (setup.version == 2)) (state : RunState L) where
   module _ (p k : ℕ) (kind : Kind) (process : ProcessState L) (at : nth state.processes p ≡ Some process) where
@@ -157,10 +139,7 @@ module _ {L : Type 0} (machine : Machine L) (lawful : IsLawful machine) (setup :
   none_again p k kind at = ap (λ o. option_map_or (λ (x : ProcessState L). unless_refused (first_refusal (again_checks machine (mail_of state) state.registers x.progress p k kind)) (Some (Step p k kind))) o (Err refusal.NoProcess)) at
 
   none_after : (p k : ℕ) (kind : Kind) → nth state.processes p ≡ None → IsSome (after machine state (Step p k kind)) → ⊥
-  none_after p k kind at enabled =
-      let to = some_of (after machine state (Step p k kind)) enabled in
-      let taken = taken_from machine state to.0 p k kind to.1 in
-      none-some taken.process (sym at ∙ taken.at_process)
+  none_after p k kind h1 h2 = grind (arith, common_steps, gets)
 
   -- an event of the run is taken again exactly where it is enabled
   pub again_exact : (event : Event) → IsOfRun setup event → (returned : Result Event Refusal) → returned ≡ again_result machine setup state event → IsOk returned ↔ IsSome (after machine state event)

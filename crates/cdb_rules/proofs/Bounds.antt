@@ -1,13 +1,14 @@
 -- How far the numbers of a run can rise.
-use Rattle.std.proofs.Common.{◌≡◌, ℕ, zero, suc, ◌+◌, ◌*◌, ◌<◌, ◌≤◌, ◌≢◌, ◌==◌, slice_get, slice_set, true, false, List, [], ◌∷◌, length, map, replicate, Option, Some, None, option_map, option_to_list, if◌then◌else◌, refl, sym, ap, ◌∙◌, subst, length-append, arith}
+use Rattle.std.proofs.lemmas.Grind.{common_steps}
+use Rattle.std.proofs.lemmas.Option.{gets, none-some, same_Some}
+use Rattle.std.proofs.Common.{◌≡◌, ℕ, zero, suc, ◌+◌, ◌*◌, ◌<◌, ◌≤◌, ◌≢◌, ◌==◌, slice_get, slice_set, true, false, List, [], ◌∷◌, length, map, replicate, Option, Some, None, option_map, option_to_list, if◌then◌else◌, refl, sym, ap, ◌∙◌, subst, arith}
 use Rattle.std.proofs.lemmas.List.{length-map}
-use Rattle.std.proofs.lemmas.Option.{none-some, same_Some}
 use Rattle.std.proofs.lemmas.Bool.Decides.{nat_tests}
 use Rattle.cdb_base.specs.Positions.{nth, set_nth, update_nth}
 use Rattle.cdb_base.specs.declared.event.Event.{Event}
 use Rattle.cdb_base.specs.declared.event.Event.TheVariants.{Step, Lost}
 use Rattle.cdb_base.specs.declared.event.Kind.{Kind}
-use Rattle.cdb_base.specs.declared.event.Kind.TheVariants.{Query, Send, Write}
+use Rattle.cdb_base.specs.declared.event.Kind.TheVariants.{Query, Write}
 use Rattle.cdb_base.specs.declared.register.Cell.{Cell}
 use Rattle.cdb_base.specs.declared.register.Reg.{Reg}
 use Rattle.cdb_base.specs.declared.register.Reg.TheVariants.{R, Dec}
@@ -16,7 +17,7 @@ use Rattle.cdb_register.specs.declared.RegisterState.{RegisterState}
 use Rattle.std.specs.FinSet as set
 use Rattle.cdb_rules.specs.Mail.{mail_of}
 use Rattle.cdb_rules.specs.State.{Machine, ProcessState, RunState, start, fresh_process}
-use Rattle.cdb_process.specs.Wishes.{wished_payload, wished_cell}
+use Rattle.cdb_process.specs.Wishes.{wished_cell}
 use Rattle.cdb_rules.specs.Step.{may_lose, after}
 use Rattle.cdb_rules.specs.Taking.{queries_after, registers_after}
 use Rattle.cdb_rules.proofs.Stages.{sight_in, sent_after, process_after}
@@ -41,9 +42,7 @@ pub record IsSound {L : Type 0} (machine : Machine L) (state : RunState L) : Typ
   pub few_writes : (register : Reg) (stands : RegisterState) → register_of state.registers register ≡ Some stands → stands.writes ≤ all_steps state.processes
 
 length-slice_set : {A : Type 0} (xs : List A) (i : ℕ) (a : A) → length (slice_set xs i a) ≡ length xs
-length-slice_set [] i a = refl
-length-slice_set (x ∷ xs) zero a = refl
-length-slice_set (x ∷ xs) (suc i) a = ap suc (length-slice_set xs i a)
+length-slice_set xs i a = grind (arith, common_steps, gets)
 
 pub length-set_nth : {A : Type 0} (xs : List A) (p : ℕ) (a : A) → length (set_nth xs p a) ≡ length xs
 length-set_nth xs zero a = refl
@@ -64,9 +63,7 @@ option_few None = omega arith
 option_few (Some a) = omega arith
 
 written_more : (cell : Cell) (o : Option RegisterState) (stands : RegisterState) (most : ℕ) → ((old : RegisterState) → o ≡ Some old → old.writes ≤ most) → option_map (put_cell cell) o ≡ Some stands → stands.writes ≤ most + 1
-written_more cell None stands most few at = absurd (none-some stands at)
-written_more cell (Some old) stands most few at =
-    let is = ap (λ (r : RegisterState). r.writes) (same_Some (put_cell cell old) stands at) in let less = few old refl in omega (arith, is, less)
+written_more cell o stands most h1 h2 = grind (arith, common_steps, gets)
 
 kept_few : (o : Option RegisterState) (stands : RegisterState) (most : ℕ) → ((old : RegisterState) → o ≡ Some old → old.writes ≤ most) → o ≡ Some stands → stands.writes ≤ most + 1
 kept_few o stands most few at = let less = few stands at in omega (arith, less)
@@ -109,10 +106,7 @@ module _ {L : Type 0} where
       later xs (suc i) process x at = at
 
   sends_few : (machine : Machine L) (process : ProcessState L) (kind : Kind) → length process.sent ≤ process.progress.steps → length (sent_after machine process kind) ≤ process.progress.steps + 1
-  sends_few machine process (Send m) few =
-      let added = option_few (wished_payload (machine.wish process.progress.local)) in
-      omega (arith, few, added, length-append process.sent (option_to_list (wished_payload (machine.wish process.progress.local))))
-  sends_few machine process _ few = omega (arith, few)
+  sends_few machine process kind h1 = grind (arith, common_steps, gets)
 
   module _ (machine : Machine L) where
     module _ (state to : RunState L) (p k : ℕ) (kind : Kind) (t : IsTaken machine state p k kind to) (sound : IsSound machine state) where
@@ -163,17 +157,10 @@ module _ {L : Type 0} where
     fresh_at (x ∷ xs) (suc i) process at = fresh_at xs i process at
 
     fresh_replicated : (n i : ℕ) (stands : RegisterState) → slice_get (replicate n fresh_register) i ≡ Some stands → stands.writes ≡ 0
-    fresh_replicated zero i stands at = absurd (none-some stands at)
-    fresh_replicated (suc n) zero stands at = ap (λ (r : RegisterState). r.writes) (sym (same_Some fresh_register stands at))
-    fresh_replicated (suc n) (suc i) stands at = fresh_replicated n i stands at
+    fresh_replicated n i stands h1 = grind (arith, common_steps, gets)
 
     unwritten : (n : ℕ) (register : Reg) (stands : RegisterState) → register_of (fresh_registers n) register ≡ Some stands → stands.writes ≡ 0
-    unwritten zero (R zero) stands at = absurd (none-some stands at)
-    unwritten zero (R (suc i)) stands at = absurd (none-some stands at)
-    unwritten zero Dec stands at = absurd (none-some stands at)
-    unwritten (suc n) (R zero) stands at = absurd (none-some stands at)
-    unwritten (suc n) (R (suc i)) stands at = fresh_replicated (suc n) i stands at
-    unwritten (suc n) Dec stands at = ap (λ (r : RegisterState). r.writes) (sym (same_Some fresh_register stands at))
+    unwritten n register stands h1 = grind (arith, common_steps, gets)
 
     pub start_sound : IsSound machine (start machine)
     start_sound =

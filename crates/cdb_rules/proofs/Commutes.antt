@@ -1,6 +1,7 @@
 -- Two events that do not depend on each other may be taken in either order, with the same outcome.
-use Rattle.std.proofs.Common.{◌≡◌, ℕ, Bool, true, false, not, ◌&&◌, ◌||◌, length, Some, None, option_and_then, option_map, if◌then◌else◌, refl, sym, ap, ap₂, ◌∙◌, subst, true≢false}
-use Rattle.std.proofs.lemmas.Option.{same_Some}
+use Rattle.std.proofs.Common.{arith, ◌≡◌, ℕ, Bool, true, false, not, ◌&&◌, ◌||◌, length, Some, None, if◌then◌else◌, refl, sym, ap, ap₂, ◌∙◌, subst, true≢false}
+use Rattle.std.proofs.lemmas.Grind.{common_steps}
+use Rattle.std.proofs.lemmas.Option.{gets}
 use Rattle.std.specs.FinSet as set
 use Rattle.std.specs.Cmp.{Equal-is, tied_itself}
 use Rattle.std.specs.Ordering.{eq_by_cmp}
@@ -26,15 +27,12 @@ use Rattle.cdb_rules.proofs.Stages.{sight_in, accepted, process_after, state_aft
 use Rattle.cdb_rules.proofs.Kept.{nat_eq-ne, other_copy, registers_swap, process_kept, sight_kept, may_lose_kept, with_loss, sight_but}
 use Rattle.cdb_rules.proofs.Mails.{not_true}
 use Rattle.cdb_rules.proofs.Positions.{set_nth-set_nth}
-use Rattle.cdb_rules.proofs.Tables.{step_in_stages}
-use Rattle.cdb_rules.proofs.Taken.{IsTaken, taken_from, where_true, both}
+use Rattle.cdb_rules.proofs.Taken.{IsTaken, taken_from, both}
 
 -- sets of copies
 
 or_swap : (a b c : Bool) → (a || (b || c)) ≡ (b || (a || c))
-or_swap true true c = refl
-or_swap true false c = refl
-or_swap false b c = refl
+or_swap a b c = grind (arith, common_steps, gets)
 
 insert-insert : (lost : CopySet) (a b : CopyName) → set.insert (set.insert lost a) b ≡ set.insert (set.insert lost b) a
 insert-insert lost a b =
@@ -56,17 +54,11 @@ lacked lost a b h =
 
 module _ {L : Type 0} (machine : Machine L) where
   pub after_taken : (state to : RunState L) (p k : ℕ) (kind : Kind) → IsTaken machine state p k kind to → after machine state (Step p k kind) ≡ Some to
-  after_taken state to p k kind t =
-      step_in_stages machine state p k kind
-      ∙ ap (option_and_then (λ process. option_map (state_after machine state p k kind process) (accepted machine process k kind (sight_in state p kind)))) t.at_process
-      ∙ ap (option_map (state_after machine state p k kind t.process)) t.accepts
-      ∙ ap Some t.leads_to
+  after_taken state to p k kind h1 = grind (arith, common_steps, gets)
 
   -- a loss that is taken
   pub lost_from : (state to : RunState L) (copy : CopyName) → after machine state (Lost copy) ≡ Some to → (may_lose machine (mail_of state) copy ≡ true) × (with_loss state copy ≡ to)
-  lost_from state to copy h =
-      let w = where_true (may_lose machine (mail_of state) copy) (Some (with_loss state copy)) to h in
-      (w.0, same_Some (with_loss state copy) to w.1)
+  lost_from state to copy h1 = grind (arith, common_steps, gets)
 
   pub after_lost : (state : RunState L) (copy : CopyName) → may_lose machine (mail_of state) copy ≡ true → after machine state (Lost copy) ≡ Some (with_loss state copy)
   after_lost state copy h = ap (λ b. if b then Some (with_loss state copy) else None) h

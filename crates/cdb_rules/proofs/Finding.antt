@@ -1,6 +1,7 @@
 -- A process is found by its number, and an event by its name.
-use Rattle.std.proofs.Common.{◌≡◌, ℕ, zero, suc, ◌+◌, ◌-◌, ◌<◌, ◌≤◌, Bool, true, false, not, ◌&&◌, ◌==◌, List, [], ◌∷◌, length, Option, Some, None, option_map, Err, MatchOption, MatchResult, IfOk, IfNone, cond, nat_lt, slice_get, if◌then◌else◌, refl, sym, ap, ap₂, ◌∙◌, subst, true≢false, arith}
-use Rattle.std.proofs.lemmas.Option.{none-some, same_Some}
+use Rattle.std.proofs.lemmas.Grind.{common_steps}
+use Rattle.std.proofs.lemmas.Option.{gets, none-some, same_Some}
+use Rattle.std.proofs.Common.{◌≡◌, ℕ, zero, suc, ◌+◌, ◌-◌, ◌<◌, ◌≤◌, Bool, true, false, not, ◌&&◌, ◌==◌, List, [], ◌∷◌, length, Option, Some, None, option_map, Err, MatchOption, MatchResult, IfOk, IfNone, cond, nat_lt, slice_get, if◌then◌else◌, refl, sym, ap, ap₂, ◌∙◌, subst, arith}
 use Rattle.std.proofs.lemmas.Bool.Decides.{nat_tests}
 use Rattle.std.specs.List.{position, position_or_len}
 use Rattle.std.specs.Option.{option_map_or}
@@ -20,7 +21,6 @@ use Rattle.cdb_rules.proofs.Kept.{is_false}
 use Rattle.cdb_rules.proofs.Limits.{step_within, loss_within}
 use Rattle.cdb_rules.proofs.Naming.{in_position}
 use Rattle.cdb_rules.proofs.Positions.{get_at, nth_within}
-use Rattle.cdb_rules.proofs.Taken.{both}
 
 module _ {E : Type 0} (test : E → Bool) where
   found_or_len : (xs : List E) (i : ℕ) (x : E) → slice_get xs i ≡ Some x → test x ≡ true → ((k : ℕ) (y : E) → k < i → slice_get xs k ≡ Some y → test y ≡ false) → (position_or_len test xs ≡ i) × (i < length xs)
@@ -65,19 +65,7 @@ itself : (a : ℕ) → (a == a) ≡ true
 itself a = grind (arith, nat_tests)
 
 pub has_name_is : (name : StepId) (event : Event) → is_named name event ≡ true → event_name event ≡ name
-has_name_is (named.Step name) (Step p k kind) h =
-    let parts = both (p == name.p) (k == name.k) h in
-    ap₂ (λ q l. named.Step (record { p = q; k = l })) (is_same p name.p parts.0) (is_same k name.k parts.1)
-has_name_is (named.Step name) (Lost copy) h = absurd (true≢false (sym h))
-has_name_is (named.Lost copy) (Step p k kind) h = absurd (true≢false (sym h))
-has_name_is (named.Lost copy) (Lost other) h =
-    let parts = both ((other.msg.s == copy.msg.s) && (other.msg.m == copy.msg.m)) (other.to == copy.to) h in
-    let message = both (other.msg.s == copy.msg.s) (other.msg.m == copy.msg.m) parts.0 in
-    λ i.
-    named.Lost (record {
-      msg = record { s = is_same other.msg.s copy.msg.s message.0 i; m = is_same other.msg.m copy.msg.m message.1 i };
-      to = is_same other.to copy.to parts.1 i;
-    })
+has_name_is name event h1 = grind (arith, common_steps, gets)
 
 has_own_name : (event : Event) → is_named (event_name event) event ≡ true
 has_own_name (Step p k kind) = ap₂ (λ a b. a && b) (itself p) (itself k)
@@ -153,12 +141,7 @@ module _ (n p : ℕ) where
 
   module _ (found : Option ℕ) (is : found ≡ (if is_among n p then Some p else None)) where
     pub among_some : MatchOption found (is_among n p ≡ false) (λ q. (q ≡ p) × (p ≤ n) × (1 ≤ p))
-    among_some =
-        subst (λ o. MatchOption o (is_among n p ≡ false) (λ q. (q ≡ p) × (p ≤ n) × (1 ≤ p))) (sym is)
-        (elim (is_among n p) as (λ b. is_among n p ≡ b → MatchOption (if b then Some p else None) (is_among n p ≡ false) (λ q. (q ≡ p) × (p ≤ n) × (1 ≤ p))) [
-          | true ↦ λ e. (refl, among_last e, among_first e)
-          | false ↦ λ e. e
-        ] refl)
+    among_some = grind (arith, common_steps, gets)
 
     pub among_none : {P : Type 0} → (is_among n p ≡ false → P) → IfNone found P
     among_none {P = P} none =
@@ -176,11 +159,7 @@ module _ (history : List Event) (name : StepId) (at : Option ℕ) (is : MatchOpt
       by (Some position) stands = stands_named history name n position there stands
 
   pub found_within : IfOk (ok_or at refusal.NoStep) (λ position. (1 ≤ position) × (position ≤ length history))
-  found_within = by at is
-    where
-      by : (o : Option ℕ) → MatchOption o (IsNewName history name) (IsPositionOf history name) → IfOk (ok_or o refusal.NoStep) (λ position. (1 ≤ position) × (position ≤ length history))
-      by None new = tt
-      by (Some position) stands = (stands.from_one, position_within history name position stands)
+  found_within = grind (arith, common_steps, gets)
 
 -- what stands at a position from 1 stands, counted from 0, at the one before
 pub position_before : {A : Type 0} (xs : List A) (at : ℕ) (x : A) → 1 ≤ at → nth xs at ≡ Some x → slice_get xs (at - 1) ≡ Some x

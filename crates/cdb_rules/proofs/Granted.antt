@@ -1,7 +1,8 @@
 -- A step that nothing refuses is enabled, and an enabled one is refused by nothing.
-use Rattle.std.proofs.Common.{◌≡◌, ℕ, ◌+◌, Bool, true, false, not, ◌&&◌, ◌==◌, nat_le, List, [], ◌∷◌, length, Option, Some, None, IsSome, is_some, option_and_then, option_map, if◌then◌else◌, find, refl, sym, ap, ap₂, ◌∙◌, subst, true≢false}
+use Rattle.std.proofs.Common.{arith, ◌≡◌, ℕ, ◌+◌, Bool, true, false, not, ◌&&◌, ◌==◌, nat_le, List, [], ◌∷◌, length, Option, Some, None, IsSome, is_some, option_and_then, option_map, if◌then◌else◌, find, refl, sym, ap, ap₂, ◌∙◌, subst, true≢false}
+use Rattle.std.proofs.lemmas.Grind.{common_steps}
+use Rattle.std.proofs.lemmas.Option.{gets, none-some}
 use Rattle.std.specs.Option.{option_map_or}
-use Rattle.std.proofs.lemmas.Option.{none-some}
 use Rattle.std.specs.FinSet as set
 use Rattle.cdb_base.specs.Positions.{nth}
 use Rattle.cdb_base.specs.declared.event.Event.TheVariants.{Step}
@@ -9,7 +10,7 @@ use Rattle.cdb_base.specs.declared.event.Kind.{Kind}
 use Rattle.cdb_base.specs.declared.event.Kind.TheVariants.{Query, Send, Recv, Read, Write, Local, Learn, Crash}
 use Rattle.cdb_base.specs.declared.payload.Payload.{Payload}
 use Rattle.cdb_base.specs.declared.refusal.Refusal.{Refusal}
-use Rattle.cdb_message.specs.Mail.{MailState, message_name, copy_name, sent_by, payload_of, is_sent, is_received, is_lost}
+use Rattle.cdb_message.specs.Mail.{MailState, message_name, copy_name, sent_by, is_sent, is_received, is_lost}
 use Rattle.cdb_process.specs.Process.{QueryDependsOnStateAlone, RecvDependsOnStateAlone, WishNamesSend, WishNamesWrite}
 use Rattle.cdb_process.specs.declared.Input.TheVariants as input
 use Rattle.cdb_process.specs.Wishes.{wished_payload, wished_cell}
@@ -60,9 +61,7 @@ map_or_true test None h = absurd (true≢false (sym h))
 map_or_true test (Some a) h = (a, refl, h)
 
 comes : (mail : MailState) (p s m : ℕ) → is_sent mail (message_name s m) ≡ true → is_lost mail (copy_name (message_name s m) p) ≡ false → (payload : Payload) × (arriving mail p (message_name s m) ≡ Some payload)
-comes mail p s m sent kept =
-    let payload = some_of (payload_of mail (message_name s m)) sent in
-    (payload.0, ap (λ b. if b then None else payload_of mail (message_name s m)) kept ∙ payload.1)
+comes mail p s m h1 h2 = grind (arith, common_steps, gets)
 
 module _ {L : Type 0} (machine : Machine L) (lawful : IsLawful machine) where
   module _ (state : RunState L) (p : ℕ) (process : ProcessState L) (at : nth state.processes p ≡ Some process) where

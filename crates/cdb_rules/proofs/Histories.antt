@@ -1,6 +1,7 @@
 -- What follows for histories from that independent events commute.
-use Rattle.std.proofs.Common.{◌≡◌, ℕ, zero, suc, false, List, [], ◌∷◌, ◌++◌, append-nil, Some, option_and_then, Option, None, unwrap_or, IsSome, refl, ap, ap₂, subst, sym, ◌∙◌, true≢false}
-use Rattle.std.proofs.lemmas.Option.{none-some}
+use Rattle.std.proofs.Common.{arith, ◌≡◌, ℕ, zero, suc, false, List, [], ◌∷◌, ◌++◌, append-nil, Some, option_and_then, IsSome, refl, ap, ap₂, subst, sym, ◌∙◌}
+use Rattle.std.proofs.lemmas.Grind.{common_steps}
+use Rattle.std.proofs.lemmas.Option.{gets, none-some}
 use Rattle.cdb_base.specs.Positions.{nth}
 use Rattle.cdb_base.specs.declared.event.Event.{Event}
 use Rattle.cdb_causal.specs.Causality.{IsFree}
@@ -9,7 +10,7 @@ use Rattle.cdb_causal.specs.Exchange.{IsExchanged}
 use Rattle.cdb_causal.specs.Rollback.{without, caught, uncaught, remaining, rolled_back}
 use Rattle.cdb_causal.proofs.FromOne.{free_down, without_is, rolled_back_is, remaining_is}
 use Rattle.cdb_causal.proofs.Reaches.{reached_exchange, reached_exchanged, reached_free, reached_rollback, reached_front_some, reached_push}
-use Rattle.cdb_rules.specs.State.{Machine, RunState, start}
+use Rattle.cdb_rules.specs.State.{Machine, start}
 use Rattle.cdb_rules.specs.Step.{after, fold, IsEnabled, IsValid, state_of}
 use Rattle.cdb_rules.proofs.Commutes.{after_commutes}
 
@@ -34,11 +35,7 @@ module _ {L : Type 0} (machine : Machine L) where
   undo_redo history at event stands free = sym (reached_push (after machine) (start machine) (without history at) event) ∙ fold_free history at event stands free
 
   pub reached_state : (history : List Event) → IsValid machine history → fold machine history ≡ Some (state_of machine history)
-  reached_state history valid = is_some_of (fold machine history) valid
-    where
-      is_some_of : (o : Option (RunState L)) → IsSome o → o ≡ Some (unwrap_or o (start machine))
-      is_some_of None h = absurd (true≢false (sym h))
-      is_some_of (Some state) h = refl
+  reached_state history h1 = grind (arith, common_steps, gets)
 
   -- the event, taken again last, leads to the state that the history reached
   pub undo_again : (history : List Event) (at : ℕ) (event : Event) → nth history at ≡ Some event → IsFree depends history at → IsValid machine history → after machine (state_of machine (without history at)) event ≡ Some (state_of machine history)

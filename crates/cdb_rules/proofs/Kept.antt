@@ -1,4 +1,6 @@
 -- What an event leaves of what another one meets, where the one does not affect the other.
+use Rattle.std.proofs.lemmas.Grind.{common_steps}
+use Rattle.std.proofs.lemmas.Option.{gets}
 use Rattle.std.proofs.Common.{◌≡◌, ℕ, ◌+◌, ◌≢◌, Bool, true, false, not, ◌&&◌, ◌||◌, ◌==◌, List, [], ◌++◌, length, Option, Some, None, is_some, option_map, option_to_list, unwrap_or, nat_eq, if◌then◌else◌, refl, sym, ap, ap₂, ◌∙◌, subst, true≢false, eq-eqb, eqb-true, append-nil, arith}
 use Rattle.std.proofs.lemmas.Bool.Decides.{nat_tests}
 use Rattle.std.specs.FinSet as set
@@ -23,13 +25,13 @@ use Rattle.cdb_message.proofs.Sets.{name_cmp_total, name_cmp-IsAntisymmetric, co
 use Rattle.cdb_register.specs.Registers.{RegisterStates, register_of, with_register, put_cell}
 use Rattle.cdb_rules.specs.Mail.{mail_of}
 use Rattle.cdb_rules.specs.State.{Machine, ProcessState, RunState}
-use Rattle.cdb_process.specs.Wishes.{wished_payload, wished_cell}
+use Rattle.cdb_process.specs.Wishes.{wished_cell}
 use Rattle.cdb_rules.specs.Step.{is_among, may_lose}
 use Rattle.cdb_rules.specs.Taking.{Sight, arriving, registers_after}
 use Rattle.cdb_rules.proofs.Stages.{sight_in, accepted, sent_after, received_after, process_after}
 use Rattle.cdb_rules.proofs.Mails.{sent_is, received_is}
 use Rattle.cdb_rules.proofs.Positions.{nth-map, nth-set_nth_other, nth-set_nth_same, nth_push_other, nth-update_nth_other, update_nth-update_nth}
-use Rattle.cdb_rules.proofs.Taken.{IsTaken, accepted_parts, both}
+use Rattle.cdb_rules.proofs.Taken.{IsTaken}
 
 pub nat_eq-ne : (a b : ℕ) → nat_eq a b ≡ false → a ≢ b
 nat_eq-ne a b h e = true≢false (sym (eq-eqb a b e) ∙ h)
@@ -71,15 +73,11 @@ register_of_after registers p _ cell x h = refl
 
 -- what affects a write of a register affects a read of it
 pub affects_read : (p : ℕ) (kind : Kind) (x : Reg) → kind_affects p kind (Read x) ≡ kind_affects p kind (Write x)
-affects_read p (Send m) x = refl
-affects_read p (Write y) x = refl
-affects_read p _ x = refl
+affects_read p kind x = grind (arith, common_steps, gets)
 
 -- what affects a receive sends its message
 affects_receive : (p : ℕ) (kind : Kind) (s m : ℕ) → kind_affects p kind (Recv s m) ≡ sends s m p kind
-affects_receive p (Send n) s m = refl
-affects_receive p (Write y) s m = refl
-affects_receive p _ s m = refl
+affects_receive p kind s m = grind (arith, common_steps, gets)
 
 sends_it : (p s m : ℕ) → nat_eq p s ≡ true → sends s m p (Send m) ≡ true
 sends_it p s m h = ap (λ b. b && nat_eq m m) h ∙ eq-eqb m m refl
@@ -113,9 +111,7 @@ module _ {L : Type 0} (machine : Machine L) where
 
   -- a send has the next number
   pub next_number : (process : ProcessState L) (k m : ℕ) (around : Sight) (next : L) → accepted machine process k (Send m) around ≡ Some next → m ≡ length process.sent + 1
-  next_number process k m around next h =
-      number_is m (length process.sent + 1)
-      (both (m == length process.sent + 1) (is_some (wished_payload (machine.wish process.progress.local))) (accepted_parts machine process k (Send m) around next h).due).0
+  next_number process k m around next h1 = grind (arith, common_steps, gets)
 
   push_option_other : (sent : List Payload) (o : Option Payload) (m : ℕ) → m ≢ length sent + 1 → nth (sent ++ option_to_list o) m ≡ nth sent m
   push_option_other sent None m other = ap (λ l. nth l m) (append-nil sent)
@@ -123,9 +119,7 @@ module _ {L : Type 0} (machine : Machine L) where
 
   -- a step that does not send the m-th message leaves it as it is
   sent_other : (process : ProcessState L) (k : ℕ) (kind : Kind) (around : Sight) (next : L) → accepted machine process k kind around ≡ Some next → (m : ℕ) → (kind ≡ Send m → ⊥) → nth (sent_after machine process kind) m ≡ nth process.sent m
-  sent_other process k (Send n) around next h m other =
-      push_option_other process.sent (wished_payload (machine.wish process.progress.local)) m (λ e. other (ap Send (next_number process k n around next h ∙ sym e)))
-  sent_other process k _ around next h m other = refl
+  sent_other process k kind around next h1 m h2 = grind (arith, common_steps, gets)
 
   -- what a step leaves
   module _ (state to : RunState L) (p k : ℕ) (kind : Kind) (t : IsTaken machine state p k kind to) where

@@ -1,6 +1,7 @@
 -- What stands in lists that are made of others.
-use Rattle.std.proofs.Common.{◌≡◌, ℕ, zero, suc, ◌<◌, ◌≤◌, Bool, true, false, ◌||◌, ◌⊎◌, inl, inr, ⊎_elim, List, [], ◌∷◌, ◌++◌, Some, length, take, map, filter, cond, slice_get, refl, sym, ap, ◌∙◌, subst, true≢false, arith}
-use Rattle.std.proofs.lemmas.Option.{none-some}
+use Rattle.std.proofs.lemmas.Grind.{common_steps}
+use Rattle.std.proofs.lemmas.Option.{gets}
+use Rattle.std.proofs.Common.{◌≡◌, ℕ, suc, ◌<◌, ◌≤◌, Bool, true, false, ◌||◌, ◌⊎◌, inl, inr, ⊎_elim, List, [], ◌∷◌, ◌++◌, Some, length, take, map, filter, cond, slice_get, refl, sym, ap, ◌∙◌, subst, true≢false, arith}
 use Rattle.std.specs.List.{list_any, flat_map}
 use Rattle.cdb_causal.specs.Exchange.{IsIn, here, there}
 use Rattle.cdb_rules.proofs.Naming.{in_cases}
@@ -65,22 +66,13 @@ module _ {E : Type 0} where
 
   -- a list up to a position, with what stands there
   pub get-take : (xs : List E) (j k : ℕ) → k < j → slice_get (take j xs) k ≡ slice_get xs k
-  get-take xs zero k below = absurd (omega (arith, below))
-  get-take [] (suc j) k below = refl
-  get-take (x ∷ xs) (suc j) zero below = refl
-  get-take (x ∷ xs) (suc j) (suc k) below = get-take xs j k (omega (arith, below))
+  get-take xs j k h1 = grind (arith, common_steps, gets)
 
   pub get_up_to : (xs : List E) (j : ℕ) (x : E) → slice_get xs j ≡ Some x → (k : ℕ) → k ≤ j → slice_get (take j xs ++ x ∷ []) k ≡ slice_get xs k
-  get_up_to [] j x at k last = absurd (none-some x at)
-  get_up_to (y ∷ ys) zero x at zero last = sym at
-  get_up_to (y ∷ ys) zero x at (suc k) last = absurd (omega (arith, last))
-  get_up_to (y ∷ ys) (suc j) x at zero last = refl
-  get_up_to (y ∷ ys) (suc j) x at (suc k) last = get_up_to ys j x at k (omega (arith, last))
+  get_up_to xs j x h1 k h2 = grind (arith, common_steps, gets)
 
   pub length_up_to : (xs : List E) (j : ℕ) (x : E) → slice_get xs j ≡ Some x → length (take j xs) ≡ j
-  length_up_to [] j x at = absurd (none-some x at)
-  length_up_to (y ∷ ys) zero x at = refl
-  length_up_to (y ∷ ys) (suc j) x at = ap suc (length_up_to ys j x at)
+  length_up_to xs j x h1 = grind (arith, common_steps, gets)
 
 module _ {A B : Type 0} where
   pub in_map : (f : A → B) (x : A) (xs : List A) → IsIn x xs → IsIn (f x) (map f xs)

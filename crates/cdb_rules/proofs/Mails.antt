@@ -1,11 +1,13 @@
 -- What a step does to the mail of a run.
-use Rattle.std.proofs.Common.{◌≡◌, ℕ, ◌<◌, Bool, true, false, not, List, [], ◌∷◌, ◌++◌, length, map, Option, Some, None, is_some, option_map, option_to_list, unwrap_or, if◌then◌else◌, refl, sym, ap, ap₂, ◌∙◌, subst, true≢false, append-nil}
+use Rattle.std.proofs.Common.{arith, ◌≡◌, ℕ, ◌<◌, Bool, true, false, not, List, [], ◌∷◌, ◌++◌, length, map, Option, Some, None, is_some, option_map, option_to_list, unwrap_or, refl, sym, ap, ap₂, ◌∙◌, subst, true≢false, append-nil}
+use Rattle.std.proofs.lemmas.Grind.{common_steps}
+use Rattle.std.proofs.lemmas.Option.{gets}
 use Rattle.std.specs.FinSet as set
 use Rattle.cdb_base.specs.Positions.{nth, set_nth}
 use Rattle.cdb_base.specs.declared.event.Kind.{Kind}
 use Rattle.cdb_base.specs.declared.event.Kind.TheVariants.{Send, Recv}
 use Rattle.cdb_base.specs.declared.payload.Payload.{Payload}
-use Rattle.cdb_message.specs.Mail.{MailState, message_name, copy_name, sent_by, received_by, payload_of, is_sent, is_lost}
+use Rattle.cdb_message.specs.Mail.{MailState, message_name, copy_name, sent_by, received_by, is_sent, is_lost}
 use Rattle.cdb_message.specs.Names.{NameSet}
 use Rattle.cdb_rules.specs.Mail.{mail_of}
 use Rattle.cdb_rules.specs.Taking.{mail_after, IsPostable, sight, arriving}
@@ -16,11 +18,7 @@ use Rattle.cdb_rules.proofs.Positions.{nth-map, map-set_nth, set_nth_same, nth_w
 
 -- what a receive meets was sent and is not lost
 pub arrives : (mail : MailState) (p s m : ℕ) → is_some (arriving mail p (message_name s m)) ≡ true → (is_sent mail (message_name s m) ≡ true) × (is_lost mail (copy_name (message_name s m) p) ≡ false)
-arrives mail p s m h = go (is_lost mail (copy_name (message_name s m) p)) refl h
-  where
-    go : (b : Bool) → is_lost mail (copy_name (message_name s m) p) ≡ b → is_some (if b then None else payload_of mail (message_name s m)) ≡ true → (is_sent mail (message_name s m) ≡ true) × (is_lost mail (copy_name (message_name s m) p) ≡ false)
-    go true e h = absurd (true≢false (sym h))
-    go false e h = (h, e)
+arrives mail p s m h1 = grind (arith, common_steps, gets)
 
 pub not_true : (b : Bool) → not b ≡ true → b ≡ false
 not_true true h = absurd (true≢false (sym h))

@@ -1,13 +1,14 @@
 -- What one event that is taken says of the numbers of the processes, of what is received and lost, and of the register
 -- that it reads or writes.
-use Rattle.std.proofs.Common.{◌≡◌, ℕ, ◌+◌, ◌≤◌, Bool, true, false, ◌||◌, ◌⊎◌, inl, inr, ⊎_elim, length, Option, Some, None, option_and_then, option_map, option_to_list, nat_eq, refl, sym, ap, ap₂, ◌∙◌, subst, true≢false, le_refl, le_of_eq, length-append, arith}
-use Rattle.std.proofs.lemmas.Option.{same_Some}
+use Rattle.std.proofs.lemmas.Grind.{common_steps}
+use Rattle.std.proofs.lemmas.Option.{gets, same_Some}
+use Rattle.std.proofs.Common.{◌≡◌, ℕ, ◌+◌, ◌≤◌, Bool, true, false, ◌||◌, ◌⊎◌, inl, inr, ⊎_elim, length, Option, Some, None, option_and_then, option_map, option_to_list, nat_eq, refl, sym, ap, ap₂, ◌∙◌, subst, le_refl, le_of_eq, length-append, arith}
 use Rattle.std.proofs.lemmas.List.{length_push}
 use Rattle.std.specs.FinSet as set
 use Rattle.std.specs.Cmp.{Equal-is, tied_itself}
 use Rattle.std.specs.Ordering.{eq_by_cmp}
 use Rattle.cdb_base.specs.Positions.{nth, update_nth}
-use Rattle.cdb_base.specs.Registers.{same_register-itself, same_register-true}
+use Rattle.cdb_base.specs.Registers.{same_register-itself}
 use Rattle.cdb_base.specs.declared.event.Event.{Event}
 use Rattle.cdb_base.specs.declared.event.Event.TheVariants.{Step, Lost}
 use Rattle.cdb_base.specs.declared.event.Kind.{Kind}
@@ -28,11 +29,11 @@ use Rattle.cdb_rules.specs.State.{Machine, OwnEvent, ProcessState, RunState}
 use Rattle.cdb_process.specs.Wishes.{wished_payload, wished_cell}
 use Rattle.cdb_rules.specs.Step.{after}
 use Rattle.cdb_rules.specs.Taking.{registers_after}
-use Rattle.cdb_rules.proofs.Stages.{sight_in, meets, is_due, accepted, sent_after, received_after, own_event}
+use Rattle.cdb_rules.proofs.Stages.{sight_in, meets, is_due, sent_after, received_after, own_event}
 use Rattle.cdb_rules.proofs.Commutes.{lost_from}
-use Rattle.cdb_rules.proofs.Kept.{nat_eq-ne, nat_eq-is, same_copy, next_number, left, at_left, process_kept, lost_kept, other_sent_kept, other_received_kept}
-use Rattle.cdb_rules.proofs.Mails.{sent_is, received_is, arrives, not_true}
-use Rattle.cdb_rules.proofs.Positions.{nth-update_nth_same, nth-update_nth_other, nth_push_front, nth_push_back, nth_push_cases, nth_within}
+use Rattle.cdb_rules.proofs.Kept.{nat_eq-ne, nat_eq-is, same_copy, left, at_left, process_kept, lost_kept, other_sent_kept, other_received_kept}
+use Rattle.cdb_rules.proofs.Mails.{sent_is, received_is, arrives}
+use Rattle.cdb_rules.proofs.Positions.{nth-update_nth_same, nth-update_nth_other, nth_within}
 use Rattle.cdb_rules.proofs.Taken.{IsTaken, IsAccepted, taken_from, parts, some_of}
 
 -- a number of a process, and of a register; nothing counts as 0
@@ -65,9 +66,7 @@ IsCounted {L} state = (p : ℕ) (process : ProcessState L) → nth state.process
 
 -- what accesses a register reads or writes it
 access_cases : (register : Reg) (kind : Kind) → accesses register kind ≡ true → (kind ≡ Read register) ⊎ (kind ≡ Write register)
-access_cases register (Read other) h = inl (ap Read (sym (same_register-true register other h)))
-access_cases register (Write other) h = inr (ap Write (sym (same_register-true register other h)))
-access_cases register _ h = absurd (true≢false (sym h))
+access_cases register kind h1 = grind (arith, common_steps, gets)
 
 of_register-put_cell : (cell : Cell) (o : Option RegisterState) → of_register o ≤ of_register (option_map (put_cell cell) o)
 of_register-put_cell cell None = le_refl 0
@@ -139,13 +138,7 @@ module _ {L : Type 0} (machine : Machine L) (state to : RunState L) (p k : ℕ) 
   others q e = process_kept machine state to p k kind t q (nat_eq-ne p q e)
 
   step_steps_grow : (q : ℕ) → steps_of state q ≤ steps_of to q
-  step_steps_grow q =
-      elim (nat_eq p q) as (λ b. nat_eq p q ≡ b → steps_of state q ≤ steps_of to q) [
-        | true ↦ λ e.
-            subst (λ i. steps_of state i ≤ steps_of to i) (nat_eq-is p q e)
-            (let was = ap (of_process (λ process. process.progress.steps)) t.at_process in let is = ap (of_process (λ process. process.progress.steps)) at_next in omega (arith, was, is))
-        | false ↦ λ e. le_of_eq (ap (of_process (λ process. process.progress.steps)) (sym (others q e)))
-      ] refl
+  step_steps_grow q = grind (arith, common_steps, gets)
 
   step_sends_grow : (q : ℕ) → sends_of state q ≤ sends_of to q
   step_sends_grow q =
@@ -179,10 +172,7 @@ module _ {L : Type 0} (machine : Machine L) (state to : RunState L) (p k : ℕ) 
   number_after = let is = ap (of_process (λ process. process.progress.steps)) at_next in let n = goes_on.number in omega (arith, is, n)
 
   pub send_number : (m : ℕ) → kind ≡ Send m → m ≡ sends_of state p + 1
-  send_number m e =
-      let was = ap length (sent_is state p t.process t.at_process) in
-      let n = next_number machine t.process k m (sight_in state p (Send m)) t.next (subst (λ x. accepted machine t.process k x (sight_in state p x) ≡ Some t.next) e t.accepts) in
-      omega (arith, was, n)
+  send_number m h1 = grind (arith, common_steps, gets)
 
   -- what is received was sent, and is neither received nor lost
   pub arrived : (s m : ℕ) → kind ≡ Recv s m → (is_sent (mail_of state) (message_name s m) ≡ true) × (is_lost (mail_of state) (copy_name (message_name s m) p) ≡ false)
@@ -195,9 +185,7 @@ module _ {L : Type 0} (machine : Machine L) (state to : RunState L) (p k : ℕ) 
   received_not_lost s m e = (arrived s m e).1
 
   pub received_first : (s m : ℕ) → kind ≡ Recv s m → is_received (mail_of state) p (message_name s m) ≡ false
-  received_first s m e =
-      ap (λ names. set.contains names (message_name s m)) (received_is state p t.process t.at_process)
-      ∙ not_true (set.contains t.process.received (message_name s m)) (subst (λ x. is_due machine t.process x ≡ true) e goes_on.due)
+  received_first s m h1 = grind (arith, common_steps, gets)
 
   pub received_now : (s m : ℕ) → kind ≡ Recv s m → is_received (mail_of to) p (message_name s m) ≡ true
   received_now s m e =
@@ -210,34 +198,13 @@ module _ {L : Type 0} (machine : Machine L) (state to : RunState L) (p k : ℕ) 
   noted = own_event p k kind (sight_in state p kind)
 
   pub step_stands : IsCounted state → own_at to p k ≡ Some noted
-  step_stands counted =
-      ap (option_and_then (λ process. nth process.own k)) at_next
-      ∙ nth_push_back t.process.own noted k (goes_on.number ∙ ap (λ n. n + 1) (counted p t.process t.at_process))
+  step_stands h1 = grind (arith, common_steps, gets)
 
   step_own_kept : (q l : ℕ) (own : OwnEvent) → own_at state q l ≡ Some own → own_at to q l ≡ Some own
-  step_own_kept q l own h =
-      elim (nat_eq p q) as (λ b. nat_eq p q ≡ b → own_at to q l ≡ Some own) [
-        | true ↦ λ e.
-            let same : p ≡ q = nat_eq-is p q e in
-            subst (λ i. own_at to i l ≡ Some own) same
-            (ap (option_and_then (λ process. nth process.own l)) at_next
-            ∙ nth_push_front t.process.own noted own l
-            (sym (ap (option_and_then (λ process. nth process.own l)) t.at_process) ∙ subst (λ i. own_at state i l ≡ Some own) (sym same) h))
-        | false ↦ λ e. ap (option_and_then (λ process. nth process.own l)) (others q e) ∙ h
-      ] refl
+  step_own_kept q l own h1 = grind (arith, common_steps, gets)
 
   step_own_cases : (q l : ℕ) (own : OwnEvent) → own_at to q l ≡ Some own → (own_at state q l ≡ Some own) ⊎ (Step p k kind ≡ own.event)
-  step_own_cases q l own h =
-      elim (nat_eq p q) as (λ b. nat_eq p q ≡ b → (own_at state q l ≡ Some own) ⊎ (Step p k kind ≡ own.event)) [
-        | true ↦ λ e.
-            let same : p ≡ q = nat_eq-is p q e in
-            let here_it_is = subst (λ i. own_at to i l ≡ Some own) (sym same) h in
-            ⊎_elim
-            (λ old. inl (subst (λ i. own_at state i l ≡ Some own) same (ap (option_and_then (λ process. nth process.own l)) t.at_process ∙ old)))
-            (λ new. inr (ap (λ (o : OwnEvent). o.event) new))
-            (nth_push_cases t.process.own noted own l (sym (ap (option_and_then (λ process. nth process.own l)) at_next) ∙ here_it_is))
-        | false ↦ λ e. inl (sym (ap (option_and_then (λ process. nth process.own l)) (others q e)) ∙ h)
-      ] refl
+  step_own_cases q l own h1 = grind (arith, common_steps, gets)
 
   step_counted : IsCounted state → IsCounted to
   step_counted counted q process at =
@@ -265,13 +232,7 @@ module _ {L : Type 0} (machine : Machine L) (state to : RunState L) (p k : ℕ) 
   noted_writes register stands at = ap (option_map (λ (s : RegisterState). s.writes)) at ∙ sym (ap (λ o. Some (of_register o)) at)
 
   pub access_noted : (register : Reg) → accesses register kind ≡ true → noted.writes_before ≡ Some (writes_of state register)
-  access_noted register h =
-      let met = met_register register h in
-      let writes = noted_writes register met.1 met.2 in
-      ⊎_elim
-      (λ e. ap (λ x. option_map (λ (s : RegisterState). s.writes) (sight_in state p x).register) e ∙ writes)
-      (λ e. ap (λ x. option_map (λ (s : RegisterState). s.writes) (sight_in state p x).register) e ∙ writes)
-      met.0
+  access_noted register h1 = grind (arith, common_steps, gets)
 
   -- a write counts
   pub write_counts : (register : Reg) → kind ≡ Write register → writes_of to register ≡ writes_of state register + 1

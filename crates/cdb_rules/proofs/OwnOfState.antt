@@ -1,16 +1,15 @@
 -- The own events of a process, as the state has them, are its steps as the history alone tells them.
-use Rattle.std.proofs.Common.{◌≡◌, ℕ, zero, suc, ◌+◌, length, replicate, slice_get, true, false, cond, List, [], ◌∷◌, ◌++◌, Option, Some, None, filter, option_map, unwrap_or, ◌==◌, if◌then◌else◌, refl, sym, ap, ap₂, ◌∙◌, subst, append-nil, append_assoc}
-use Rattle.std.proofs.lemmas.Option.{same_Some}
+use Rattle.std.proofs.Common.{arith, ◌≡◌, ℕ, zero, suc, ◌+◌, length, replicate, slice_get, true, false, cond, List, [], ◌∷◌, ◌++◌, Option, Some, None, filter, option_map, unwrap_or, ◌==◌, if◌then◌else◌, refl, sym, ap, ap₂, ◌∙◌, subst, append-nil, append_assoc}
+use Rattle.std.proofs.lemmas.Grind.{common_steps}
+use Rattle.std.proofs.lemmas.Option.{gets, same_Some}
 use Rattle.cdb_base.specs.Event.{is_step_of}
 use Rattle.cdb_base.specs.Positions.{nth}
-use Rattle.cdb_base.specs.Registers.{same_register, same_register-itself, same_register-true}
+use Rattle.cdb_base.specs.Registers.{same_register, same_register-true}
 use Rattle.cdb_base.specs.declared.event.Event.{Event}
 use Rattle.cdb_base.specs.declared.event.Event.TheVariants.{Step, Lost}
 use Rattle.cdb_base.specs.declared.event.Kind.{Kind}
 use Rattle.cdb_base.specs.declared.event.Kind.TheVariants.{Query, Send, Recv, Read, Write, Local, Learn, Crash}
 use Rattle.cdb_base.specs.declared.register.Reg.{Reg}
-use Rattle.cdb_base.specs.declared.register.Reg.TheVariants.{R, Dec}
-use Rattle.cdb_causal.specs.Dependence.{accesses}
 use Rattle.cdb_causal.specs.Effects.{kind_affects}
 use Rattle.cdb_register.specs.Registers.{register_of, fresh_register, fresh_registers}
 use Rattle.cdb_rules.specs.OwnSteps.{no_writes, writes_with, writes_met, as_own_events, own_steps, own_of}
@@ -18,35 +17,21 @@ use Rattle.cdb_rules.specs.State.{Machine, OwnEvent, ProcessState, RunState, sta
 use Rattle.cdb_rules.specs.Step.{after, fold}
 use Rattle.cdb_rules.proofs.Stages.{own_event, sight_in}
 use Rattle.cdb_rules.proofs.Commutes.{lost_from}
-use Rattle.cdb_rules.proofs.Kept.{at_left, process_kept, register_kept, nat_eq-is, nat_eq-ne}
+use Rattle.cdb_rules.proofs.Kept.{process_kept, register_kept, nat_eq-is, nat_eq-ne}
 use Rattle.cdb_rules.proofs.Members.{Reaches, first_step, nth-fresh}
-use Rattle.cdb_rules.proofs.Numbers.{of_register, writes_of, access_noted, write_counts}
+use Rattle.cdb_rules.proofs.Numbers.{of_register, writes_of, write_counts}
 use Rattle.cdb_rules.proofs.Taken.{IsTaken, taken_from}
 
 -- what is noted depends on the counts of the registers alone
 pub noted_same : (writes others : Reg → ℕ) → ((register : Reg) → writes register ≡ others register) → (events : List Event) → as_own_events writes events ≡ as_own_events others events
-noted_same writes others same [] = refl
-noted_same writes others same (event ∷ events) =
-    ap₂ (λ met later. record { event = event; writes_before = met } ∷ later) (met_same event) (noted_same (writes_with writes event) (writes_with others event) (with_same event) events)
-  where
-    met_same : (e : Event) → writes_met writes e ≡ writes_met others e
-    met_same (Step p k (Read register)) = ap Some (same register)
-    met_same (Step p k (Write register)) = ap Some (same register)
-    met_same _ = refl
-
-    with_same : (e : Event) (register : Reg) → writes_with writes e register ≡ writes_with others e register
-    with_same (Step p k (Write other)) register = ap (λ n. if same_register other register then n + 1 else n) (same register)
-    with_same (Step p k _) register = same register
-    with_same (Lost copy) register = same register
+noted_same writes others h1 events = grind (arith, common_steps, gets)
 
 -- the steps of process p among the events, where this many writes of each register stand before them
 abbrev steps_behind : (Reg → ℕ) → ℕ → List Event → List OwnEvent
 steps_behind writes p events = filter (λ own. is_step_of p own.event) (as_own_events writes events)
 
 fresh_at : (n i : ℕ) → of_register (slice_get (replicate n fresh_register) i) ≡ 0
-fresh_at zero i = refl
-fresh_at (suc n) zero = refl
-fresh_at (suc n) (suc i) = fresh_at n i
+fresh_at n i = grind (arith, common_steps, gets)
 
 fresh_of_process : (n p : ℕ) → of_register (nth (replicate n fresh_register) p) ≡ 0
 fresh_of_process n zero = refl
@@ -54,10 +39,7 @@ fresh_of_process n (suc i) = fresh_at n i
 
 -- nobody has written at the start
 fresh_writes : (n : ℕ) (register : Reg) → of_register (register_of (fresh_registers n) register) ≡ 0
-fresh_writes zero (R p) = fresh_of_process zero p
-fresh_writes zero Dec = refl
-fresh_writes (suc n) (R p) = fresh_of_process (suc n) p
-fresh_writes (suc n) Dec = refl
+fresh_writes n register = grind (arith, common_steps, gets)
 
 module _ {L : Type 0} (machine : Machine L) where
   module _ (state to : RunState L) (p k : ℕ) (kind : Kind) (t : IsTaken machine state p k kind to) where
@@ -84,26 +66,14 @@ module _ {L : Type 0} (machine : Machine L) where
 
     -- what the step met
     met_is : (own_event p k kind (sight_in state p kind)).writes_before ≡ writes_met (writes_of state) (Step p k kind)
-    met_is = by_kind kind refl
-      where
-        by_kind : (other : Kind) → kind ≡ other → (own_event p k kind (sight_in state p kind)).writes_before ≡ writes_met (writes_of state) (Step p k other)
-        by_kind (Read register) is = access_noted machine state to p k kind t register (ap (accesses register) is ∙ same_register-itself register)
-        by_kind (Write register) is = access_noted machine state to p k kind t register (ap (accesses register) is ∙ same_register-itself register)
-        by_kind (Query leader) is = ap (λ y. (own_event p k y (sight_in state p y)).writes_before) is
-        by_kind (Send m) is = ap (λ y. (own_event p k y (sight_in state p y)).writes_before) is
-        by_kind (Recv s m) is = ap (λ y. (own_event p k y (sight_in state p y)).writes_before) is
-        by_kind Local is = ap (λ y. (own_event p k y (sight_in state p y)).writes_before) is
-        by_kind Learn is = ap (λ y. (own_event p k y (sight_in state p y)).writes_before) is
-        by_kind Crash is = ap (λ y. (own_event p k y (sight_in state p y)).writes_before) is
+    met_is = grind (arith, common_steps, gets)
 
     -- the step as it joins the own list of its process
     abbrev stands : OwnEvent
     stands = record { event = Step p k kind; writes_before = writes_met (writes_of state) (Step p k kind) }
 
     own_joins : own_of to p ≡ own_of state p ++ stands ∷ []
-    own_joins =
-        ap (λ o. unwrap_or (option_map (λ (process : ProcessState L). process.own) o) []) (at_left machine state to p k kind t)
-        ∙ ap₂ (λ own met. own ++ record { event = Step p k kind; writes_before = met } ∷ []) (sym (ap (λ o. unwrap_or (option_map (λ (process : ProcessState L). process.own) o) []) t.at_process)) met_is
+    own_joins = grind (arith, common_steps, gets)
 
   -- one event more
   one_more : (state next : RunState L) (event : Event) (events : List Event) → after machine state event ≡ Some next → (p : ℕ) → own_of next p ++ steps_behind (writes_of next) p events ≡ own_of state p ++ steps_behind (writes_of state) p (event ∷ events)

@@ -1,7 +1,8 @@
 -- The event of a step that is not refused is enabled.
+use Rattle.std.proofs.lemmas.Grind.{common_steps}
+use Rattle.std.proofs.lemmas.Option.{gets, same_Some}
 use Rattle.std.proofs.Common.{◌≡◌, ℕ, ◌+◌, Bool, true, false, not, ◌==◌, nat_le, length, Option, Some, None, Ok, IsSome, refl, sym, subst, true≢false, arith}
 use Rattle.std.specs.Option.{option_map_or}
-use Rattle.std.proofs.lemmas.Option.{same_Some}
 use Rattle.std.proofs.lemmas.Bool.Decides.{nat_tests}
 use Rattle.cdb_base.specs.Positions.{nth}
 use Rattle.cdb_base.specs.declared.act.Act.{Act}
@@ -24,9 +25,7 @@ use Rattle.cdb_setup.specs.Parts.{Parts, answer_of}
 
 -- an event that is answered was refused by nothing
 pub unrefused : (why : Option Refusal) (named : Option Event) (event : Event) → unless_refused why named ≡ Ok event → (why ≡ None) × (named ≡ Some event)
-unrefused (Some why) named event h = absurd (cc)
-unrefused None (Some named) event h = (refl, cc)
-unrefused None None event h = absurd (cc)
+unrefused why named event h1 = grind (arith, common_steps, gets)
 
 pub not_false : (b : Bool) → not b ≡ false → b ≡ true
 not_false true h = refl

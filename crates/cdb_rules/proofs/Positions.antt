@@ -1,20 +1,15 @@
 -- What stands at a position of a list after a write to another position, or to that one.
-use Rattle.std.proofs.Common.{map, ◌≡◌, ℕ, zero, suc, ◌+◌, ◌≤◌, ◌≢◌, ◌⊎◌, inl, inr, List, [], ◌∷◌, ◌++◌, Some, option_map, length, slice_get, slice_set, refl, sym, ap, subst, ◌∙◌, add-one}
-use Rattle.std.proofs.lemmas.Option.{none-some, same_Some, slice_get_within}
+use Rattle.std.proofs.Common.{arith, map, ◌≡◌, ℕ, zero, suc, ◌+◌, ◌≤◌, ◌≢◌, ◌⊎◌, inl, List, [], ◌∷◌, ◌++◌, Some, option_map, length, slice_get, slice_set, refl, sym, ap, subst, ◌∙◌, add-one}
+use Rattle.std.proofs.lemmas.Grind.{common_steps}
+use Rattle.std.proofs.lemmas.Option.{gets, none-some, slice_get_within}
 use Rattle.cdb_base.specs.Positions.{nth, set_nth, update, update_nth}
 
 module _ {A : Type 0} where
   slice_get-slice_set_other : (xs : List A) (i j : ℕ) (a : A) → i ≢ j → slice_get (slice_set xs i a) j ≡ slice_get xs j
-  slice_get-slice_set_other [] i j a ne = refl
-  slice_get-slice_set_other (x ∷ xs) zero zero a ne = absurd (ne refl)
-  slice_get-slice_set_other (x ∷ xs) zero (suc j) a ne = refl
-  slice_get-slice_set_other (x ∷ xs) (suc i) zero a ne = refl
-  slice_get-slice_set_other (x ∷ xs) (suc i) (suc j) a ne = slice_get-slice_set_other xs i j a (λ e. ne (ap suc e))
+  slice_get-slice_set_other xs i j a h1 = grind (arith, common_steps, gets)
 
   slice_get-slice_set_same : (xs : List A) (i : ℕ) (a old : A) → slice_get xs i ≡ Some old → slice_get (slice_set xs i a) i ≡ Some a
-  slice_get-slice_set_same [] i a old at = absurd (none-some old at)
-  slice_get-slice_set_same (x ∷ xs) zero a old at = refl
-  slice_get-slice_set_same (x ∷ xs) (suc i) a old at = slice_get-slice_set_same xs i a old at
+  slice_get-slice_set_same xs i a old h1 = grind (arith, common_steps, gets)
 
   slice_set-slice_set : (xs : List A) (i j : ℕ) (a b : A) → i ≢ j → slice_set (slice_set xs i a) j b ≡ slice_set (slice_set xs j b) i a
   slice_set-slice_set [] i j a b ne = refl
@@ -24,9 +19,7 @@ module _ {A : Type 0} where
   slice_set-slice_set (x ∷ xs) (suc i) (suc j) a b ne = ap (λ l. x ∷ l) (slice_set-slice_set xs i j a b (λ e. ne (ap suc e)))
 
   pub nth-set_nth_other : (xs : List A) (i j : ℕ) (a : A) → i ≢ j → nth (set_nth xs i a) j ≡ nth xs j
-  nth-set_nth_other xs zero j a ne = refl
-  nth-set_nth_other xs (suc i) zero a ne = refl
-  nth-set_nth_other xs (suc i) (suc j) a ne = slice_get-slice_set_other xs i j a (λ e. ne (ap suc e))
+  nth-set_nth_other xs i j a h1 = grind (arith, common_steps, gets)
 
   pub nth-set_nth_same : (xs : List A) (i : ℕ) (a old : A) → nth xs i ≡ Some old → nth (set_nth xs i a) i ≡ Some a
   nth-set_nth_same xs zero a old at = absurd (none-some old at)
@@ -39,10 +32,7 @@ module _ {A : Type 0} where
   set_nth-set_nth xs (suc i) (suc j) a b ne = slice_set-slice_set xs i j a b (λ e. ne (ap suc e))
 
   slice_get_push_other : (xs : List A) (a : A) (j : ℕ) → j ≢ length xs → slice_get (xs ++ a ∷ []) j ≡ slice_get xs j
-  slice_get_push_other [] a zero ne = absurd (ne refl)
-  slice_get_push_other [] a (suc j) ne = refl
-  slice_get_push_other (x ∷ xs) a zero ne = refl
-  slice_get_push_other (x ∷ xs) a (suc j) ne = slice_get_push_other xs a j (λ e. ne (ap suc e))
+  slice_get_push_other xs a j h1 = grind (arith, common_steps, gets)
 
   pub nth_push_other : (xs : List A) (a : A) (j : ℕ) → j ≢ length xs + 1 → nth (xs ++ a ∷ []) j ≡ nth xs j
   nth_push_other xs a zero ne = refl
@@ -83,9 +73,7 @@ module _ {A : Type 0} where
   nth-update_nth_same f xs (suc i) = update-same f xs i
 
   slice_get_push_front : (xs : List A) (a x : A) (j : ℕ) → slice_get xs j ≡ Some x → slice_get (xs ++ a ∷ []) j ≡ Some x
-  slice_get_push_front [] a x j h = absurd (none-some x h)
-  slice_get_push_front (y ∷ ys) a x zero h = h
-  slice_get_push_front (y ∷ ys) a x (suc j) h = slice_get_push_front ys a x j h
+  slice_get_push_front xs a x j h1 = grind (arith, common_steps, gets)
 
   pub nth_push_front : (xs : List A) (a x : A) (j : ℕ) → nth xs j ≡ Some x → nth (xs ++ a ∷ []) j ≡ Some x
   nth_push_front xs a x zero h = h
@@ -99,10 +87,7 @@ module _ {A : Type 0} where
   nth_push_back xs a j e = subst (λ j. nth (xs ++ a ∷ []) j ≡ Some a) (sym (e ∙ add-one (length xs))) (slice_get_push_back xs a)
 
   slice_get_push_cases : (xs : List A) (a x : A) (j : ℕ) → slice_get (xs ++ a ∷ []) j ≡ Some x → (slice_get xs j ≡ Some x) ⊎ (a ≡ x)
-  slice_get_push_cases [] a x zero h = inr (same_Some a x h)
-  slice_get_push_cases [] a x (suc j) h = inl h
-  slice_get_push_cases (y ∷ ys) a x zero h = inl h
-  slice_get_push_cases (y ∷ ys) a x (suc j) h = slice_get_push_cases ys a x j h
+  slice_get_push_cases xs a x j h1 = grind (arith, common_steps, gets)
 
   pub nth_push_cases : (xs : List A) (a x : A) (j : ℕ) → nth (xs ++ a ∷ []) j ≡ Some x → (nth xs j ≡ Some x) ⊎ (a ≡ x)
   nth_push_cases xs a x zero h = inl h
@@ -113,9 +98,7 @@ module _ {A : Type 0} where
   nth_within xs (suc j) x h = slice_get_within xs j x h
 
   slice_set_same : (xs : List A) (i : ℕ) (a : A) → slice_get xs i ≡ Some a → slice_set xs i a ≡ xs
-  slice_set_same [] i a at = refl
-  slice_set_same (x ∷ xs) zero a at = ap (λ y. y ∷ xs) (sym (same_Some x a at))
-  slice_set_same (x ∷ xs) (suc i) a at = ap (λ ys. x ∷ ys) (slice_set_same xs i a at)
+  slice_set_same xs i a h1 = grind (arith, common_steps, gets)
 
   -- what stands there, written again
   pub set_nth_same : (xs : List A) (i : ℕ) (a : A) → nth xs i ≡ Some a → set_nth xs i a ≡ xs
@@ -130,9 +113,7 @@ module _ {A : Type 0} where
   get_at xs i p position = ap (nth xs) (sym (add-one i) ∙ position)
 
 slice_get-map : {A B : Type 0} (f : A → B) (xs : List A) (i : ℕ) → slice_get (map f xs) i ≡ option_map f (slice_get xs i)
-slice_get-map f [] i = refl
-slice_get-map f (x ∷ xs) zero = refl
-slice_get-map f (x ∷ xs) (suc i) = slice_get-map f xs i
+slice_get-map f xs i = grind (arith, common_steps, gets)
 
 pub nth-map : {A B : Type 0} (f : A → B) (xs : List A) (p : ℕ) → nth (map f xs) p ≡ option_map f (nth xs p)
 nth-map f xs zero = refl

@@ -1,8 +1,9 @@
 -- What undo and rollback take out of a history is missing from it.
+use Rattle.std.proofs.lemmas.Grind.{common_steps}
+use Rattle.std.proofs.lemmas.Option.{gets, none-some, same_Some}
 use Rattle.std.proofs.Common.{◌≡◌, ℕ, zero, suc, ◌+◌, ◌≤◌, Bool, true, false, cond, List, [], ◌∷◌, ◌++◌, length, Option, Some, None, Result, Ok, Err, reverse, slice_get, find, refl, sym, subst, arith}
 use Rattle.std.specs.List.{AllByRecursion, position}
 use Rattle.std.proofs.lemmas.List.{length-reverse, reverse-append}
-use Rattle.std.proofs.lemmas.Option.{none-some, same_Some}
 use Rattle.cdb_base.specs.Positions.{nth}
 use Rattle.cdb_base.specs.declared.event.Event.{Event}
 use Rattle.cdb_base.specs.declared.name.StepId.{StepId}
@@ -119,19 +120,10 @@ module _ (P : Event → Type 0) where
 
 -- a rollback removes one event at least
 rolled-one : (history : List Event) (at : ℕ) (event : Event) → nth history at ≡ Some event → 1 ≤ length (from_one.rolled_back depends history at)
-rolled-one history zero event stands = absurd (none-some event stands)
-rolled-one [] (suc i) event stands = absurd (none-some event stands)
-rolled-one (x ∷ xs) (suc zero) event stands = omega arith
-rolled-one (x ∷ xs) (suc (suc i)) event stands = rolled-one xs (suc i) event stands
+rolled-one history at event h1 = grind (arith, common_steps, gets)
 
 pub removed-one : (n : ℕ) (history : List Event) (name : StepId) (removed : List Event × List Event) → rollback_of n history name ≡ Ok removed → 1 ≤ length removed.0
-removed-one n history name removed h =
-    result_cases (1 ≤ length removed.0) (event_named n history name)
-    (λ found is. let f : rollback_of n history name ≡ Ok removed → 1 ≤ length removed.0 =
-    rw is (λ k. subst (λ (r : List Event × List Event). 1 ≤ length r.0) (ok_same _ removed k)
-    (omega (arith, length-reverse (from_one.rolled_back depends history found.position), rolled-one history found.position found.event (standing-at n history name found is)))) in
-    f h)
-    (λ why is. let f : rollback_of n history name ≡ Ok removed → 1 ≤ length removed.0 = rw is (λ k. absurd (cc)) in f h)
+removed-one n history name removed h1 = grind (arith, common_steps, gets)
 
 -- no more events are removed than stood
 pub few-removed : (n : ℕ) (history : List Event) (name : StepId) (count most : ℕ) → length history ≤ most → number_removed (result_alone (rollback_of n history name)) ≡ Ok count → count ≤ most

@@ -1,6 +1,7 @@
 -- What an undo is answered, by what is found.
+use Rattle.std.proofs.lemmas.Grind.{common_steps}
+use Rattle.std.proofs.lemmas.Option.{gets, none-some, same_Some, slice_get_cases}
 use Rattle.std.proofs.Common.{◌≡◌, ℕ, zero, suc, ◌+◌, ◌<◌, ◌≤◌, Bool, true, false, List, [], ◌∷◌, Some, None, Ok, Err, find, drop, length, ◌-◌, ⊎_elim, slice_get, refl, sym, ap, ap₂, ◌∙◌, arith, cond}
-use Rattle.std.proofs.lemmas.Option.{none-some, same_Some, slice_get_cases}
 use Rattle.std.specs.Option.{option_map_or}
 use Rattle.std.specs.Result.{result_err}
 use Rattle.cdb_base.specs.Event.{event_name}
@@ -32,10 +33,7 @@ module _ {E : Type 0} (test : E → Bool) where
   find_none (y ∷ ys) none = ap (λ b. cond b (Some y) (find test ys)) (none 0 y refl) ∙ find_none ys (λ k z at_k. none (suc k) z at_k)
 
 pub get-drop : {E : Type 0} (xs : List E) (i k n : ℕ) → n ≡ i + k → slice_get (drop i xs) k ≡ slice_get xs n
-get-drop xs zero k n e = let same : k ≡ n = omega (arith, e) in ap (slice_get xs) same
-get-drop [] (suc i) k n e = refl
-get-drop (x ∷ xs) (suc i) k zero e = absurd (omega (arith, e))
-get-drop (x ∷ xs) (suc i) k (suc n) e = get-drop xs i k n (omega (arith, e))
+get-drop xs i k n h1 = grind (arith, common_steps, gets)
 
 module _ (history : List Event) (at : ℕ) where
   module _ (event : Event) (stands : nth history at ≡ Some event) where

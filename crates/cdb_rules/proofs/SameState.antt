@@ -1,7 +1,7 @@
 -- Histories that reach the same state are equal up to exchange.
-use Rattle.std.proofs.Common.{◌≡◌, ℕ, Bool, true, false, ◌&&◌, ◌||◌, ◌⊎◌, inl, inr, ⊎_elim, List, [], ◌∷◌, Option, Some, nat_eq, refl, sym, ap, ap₂, ◌∙◌, subst, true≢false, lt_irrefl, arith}
-use Rattle.std.proofs.lemmas.Option.{same_Some}
-use Rattle.cdb_base.specs.Registers.{same_register-itself}
+use Rattle.std.proofs.lemmas.Grind.{common_steps}
+use Rattle.std.proofs.lemmas.Option.{gets, same_Some}
+use Rattle.std.proofs.Common.{◌≡◌, ℕ, Bool, true, false, ◌||◌, ◌⊎◌, inl, inr, ⊎_elim, List, [], ◌∷◌, Option, Some, nat_eq, refl, sym, ap, ap₂, ◌∙◌, subst, true≢false, lt_irrefl, arith}
 use Rattle.cdb_base.specs.declared.event.Event.{Event}
 use Rattle.cdb_base.specs.declared.event.Event.TheVariants.{Step, Lost}
 use Rattle.cdb_base.specs.declared.event.Kind.{Kind}
@@ -10,10 +10,8 @@ use Rattle.cdb_base.specs.declared.name.CopyName.{CopyName}
 use Rattle.cdb_base.specs.declared.register.Reg.{Reg}
 use Rattle.cdb_causal.specs.Dependence.{accesses, sends, receives, depends}
 use Rattle.cdb_causal.specs.Effects.{kind_affects}
-use Rattle.cdb_causal.proofs.Effects.{by_effect}
 use Rattle.cdb_causal.specs.Exchange.{IsExchanged, IsIn, here, there, IsBefore, IsEachOnce, KeepsOrder}
 use Rattle.cdb_causal.proofs.Orders.{exchanged_from_order}
-use Rattle.cdb_causal.proofs.Symmetry.{depends-symmetric}
 use Rattle.cdb_message.specs.Mail.{is_lost}
 use Rattle.cdb_rules.specs.Mail.{mail_of}
 use Rattle.cdb_rules.specs.State.{Machine, OwnEvent, RunState, start}
@@ -38,9 +36,7 @@ sends_it s m p (Send n) h = let q = both (nat_eq p s) (nat_eq n m) h in (nat_eq-
 sends_it s m p _ h = absurd (true≢false (sym h))
 
 affects_cases : (p : ℕ) (kind other : Kind) → kind_affects p kind other ≡ true → ((m : ℕ) × (kind ≡ Send m) × (other ≡ Recv p m)) ⊎ ((register : Reg) × (kind ≡ Write register) × (accesses register other ≡ true))
-affects_cases p (Send m) other h = inl (m, refl, receives_it p m other h)
-affects_cases p (Write register) other h = inr (register, refl, h)
-affects_cases p _ other h = absurd (true≢false (sym h))
+affects_cases p kind other h1 = grind (arith, common_steps, gets)
 
 -- of two events of a list, the one stands before the other, or they are one
 pub stand_apart : (x y : Event) (events : List Event) → IsIn x events → IsIn y events → IsBefore x y events ⊎ ((x ≡ y) ⊎ IsBefore y x events)
@@ -57,39 +53,17 @@ noted_number x a b h = same_Some a b (ap (λ (o : OwnEvent). o.writes_before) (s
 module _ {L : Type 0} (machine : Machine L) where
   module _ (to : RunState L) where
     clash : (register : Reg) (p k : ℕ) (kind : Kind) (q l : ℕ) (other : Kind) → kind ≡ Write register → accesses register other ≡ true → AreStepsOrdered machine to p k kind q l other → AreStepsOrdered machine to q l other p k kind → ⊥
-    clash register p k kind q l other e two o b =
-        let one = ap (accesses register) e ∙ same_register-itself register in
-        let w = o.writes register one two in
-        let z = b.writes register two one in
-        let same_first = noted_number (Step p k kind) w.0 z.1 (sym w.2 ∙ z.3) in
-        let same_second = noted_number (Step q l other) w.1 z.0 (sym w.3 ∙ z.2) in
-        let less = w.5 e in
-        let most = z.4 in
-        omega (arith, same_first, same_second, less, most)
+    clash register p k kind q l other h1 h2 h3 h4 = grind (arith, common_steps, gets)
 
     steps_not_both : (p k : ℕ) (kind : Kind) (q l : ℕ) (other : Kind) → depends (Step p k kind) (Step q l other) ≡ true → AreStepsOrdered machine to p k kind q l other → AreStepsOrdered machine to q l other p k kind → ⊥
-    steps_not_both p k kind q l other h o b =
-        ⊎_elim
-        (λ e. let same = nat_eq-is p q e in let one = o.numbers same in let two = b.numbers (sym same) in omega (arith, one, two))
-        (λ r. ⊎_elim
-        (λ a. ⊎_elim (λ c. b.no_early_receive c.0 c.2 c.1) (λ c. clash c.0 p k kind q l other c.1 c.2 o b) (affects_cases p kind other a))
-        (λ a. ⊎_elim (λ c. o.no_early_receive c.0 c.2 c.1) (λ c. clash c.0 q l other p k kind c.1 c.2 b o) (affects_cases q other kind a))
-        (or_cases (kind_affects p kind other) (kind_affects q other kind) r))
-        (or_cases (nat_eq p q) (kind_affects p kind other || kind_affects q other kind) (sym (by_effect (Step p k kind) (Step q l other)) ∙ h))
+    steps_not_both p k kind q l other h1 h2 h3 = grind (arith, common_steps, gets)
 
     pub step_loss_not_both : (p k : ℕ) (kind : Kind) (copy : CopyName) → depends (Step p k kind) (Lost copy) ≡ true → IsOrdered machine to (Lost copy) (Step p k kind) → ⊥
-    step_loss_not_both p k kind copy h o =
-        ⊎_elim
-        (λ s. o.0 (sends_it copy.msg.s copy.msg.m p kind s))
-        (λ r. let q = both (nat_eq p copy.to) (receives copy.msg.s copy.msg.m kind) r in o.1 (nat_eq-is p copy.to q.0, receives_it copy.msg.s copy.msg.m kind q.1))
-        (or_cases (sends copy.msg.s copy.msg.m p kind) (nat_eq p copy.to && receives copy.msg.s copy.msg.m kind) (sym (by_effect (Step p k kind) (Lost copy)) ∙ h))
+    step_loss_not_both p k kind copy h1 h2 = grind (arith, common_steps, gets)
 
     -- two events that depend on each other cannot stand in both orders
     not_both_orders : (x y : Event) → depends x y ≡ true → IsOrdered machine to x y → IsOrdered machine to y x → ⊥
-    not_both_orders (Step p k kind) (Step q l other) h o b = steps_not_both p k kind q l other h o b
-    not_both_orders (Step p k kind) (Lost copy) h o b = step_loss_not_both p k kind copy h b
-    not_both_orders (Lost copy) (Step p k kind) h o b = step_loss_not_both p k kind copy (depends-symmetric (Step p k kind) (Lost copy) ∙ h) o
-    not_both_orders (Lost copy) (Lost other) h o b = true≢false (sym h)
+    not_both_orders x y h1 h2 h3 = grind (arith, common_steps, gets)
 
     once_ordered : (event : Event) → IsOrdered machine to event event → ⊥
     once_ordered (Step p k kind) o = lt_irrefl k (o.numbers refl)

@@ -1,21 +1,19 @@
 -- The step by the two tables of its kind is the step in its stages.
-use Rattle.std.proofs.Common.{◌≡◌, ℕ, Bool, true, false, not, ◌&&◌, ◌==◌, ◌+◌, length, Option, Some, None, is_some, option_and_then, option_map, if◌then◌else◌, refl, ap, ◌∙◌}
-use Rattle.std.specs.FinSet as set
+use Rattle.std.proofs.Common.{arith, ◌≡◌, ℕ, Bool, true, false, not, ◌&&◌, Option, Some, None, is_some, option_and_then, option_map, if◌then◌else◌, refl}
+use Rattle.std.proofs.lemmas.Grind.{common_steps}
+use Rattle.std.proofs.lemmas.Option.{gets}
 use Rattle.cdb_base.specs.Positions.{nth}
 use Rattle.cdb_base.specs.declared.event.Event.TheVariants.{Step}
 use Rattle.cdb_base.specs.declared.event.Kind.{Kind}
-use Rattle.cdb_base.specs.declared.event.Kind.TheVariants.{Query, Send, Recv, Read, Write, Local, Learn, Crash}
 use Rattle.cdb_base.specs.declared.payload.Payload.{Payload}
 use Rattle.cdb_base.specs.declared.register.Cell.{Cell}
-use Rattle.cdb_message.specs.Mail.{message_name, copy_name, received_by, payload_of, is_lost}
+use Rattle.cdb_message.specs.Mail.{received_by}
 use Rattle.cdb_process.specs.declared.Input.{Input}
 use Rattle.cdb_process.specs.declared.Input.TheVariants as input
-use Rattle.cdb_process.specs.Wishes.{wished_payload, wished_cell}
-use Rattle.cdb_register.specs.Registers.{register_of}
 use Rattle.cdb_register.specs.declared.RegisterState.{RegisterState}
 use Rattle.cdb_rules.specs.Mail.{mail_of}
 use Rattle.cdb_rules.specs.State.{Machine, ProcessState, RunState}
-use Rattle.cdb_rules.specs.Step.{is_among, may_step, after_step, after}
+use Rattle.cdb_rules.specs.Step.{may_step, after_step, after}
 use Rattle.cdb_rules.specs.Taking.{taken_local}
 use Rattle.cdb_rules.proofs.Mails.{received_is}
 use Rattle.cdb_rules.proofs.Stages.{sight_in, accepted, state_after}
@@ -27,34 +25,22 @@ module _ {L T : Type 0} (next : L → Input → Option L) (local : L) (to : L �
   unasked false o = refl
 
   asked : (may due : Bool) (o : Option L) → (if may then option_map to (if due then o else None) else None) ≡ option_map to (if may && due && true then o else None)
-  asked true true o = refl
-  asked true false o = refl
-  asked false due o = refl
+  asked may due o = grind (arith, common_steps, gets)
 
   receives : (may received lost : Bool) (s : ℕ) (payload : Option Payload)
       → (if may then option_map to (option_and_then (λ x. next local (input.Recv s x)) (if not received && not lost then payload else None)) else None)
       ≡ option_map to (if may && not received && is_some (if lost then None else payload) then taken_local next local (option_map (input.Recv s) (if lost then None else payload)) else None)
-  receives false received lost s payload = refl
-  receives true true lost s payload = refl
-  receives true false true s payload = refl
-  receives true false false s None = refl
-  receives true false false s (Some payload) = refl
+  receives may received lost s payload = grind (arith, common_steps, gets)
 
   reads : (may : Bool) (read : Cell → Input) (o : Option RegisterState)
       → (if may then option_map to (option_and_then (λ cell. next local (read cell)) (option_map (λ (stands : RegisterState). stands.cell) o)) else None)
       ≡ option_map to (if may && true && is_some o then taken_local next local (option_map (λ (stands : RegisterState). read stands.cell) o) else None)
-  reads false read o = refl
-  reads true read None = refl
-  reads true read (Some stands) = refl
+  reads may read o = grind (arith, common_steps, gets)
 
   writes : (may due : Bool) (write : Input) (o : Option RegisterState)
       → (if may then option_map to (if is_some o && due then next local write else None) else None)
       ≡ option_map to (if may && due && is_some o then taken_local next local (option_map (λ (stands : RegisterState). write) o) else None)
-  writes false due write o = refl
-  writes true true write None = refl
-  writes true true write (Some stands) = refl
-  writes true false write None = refl
-  writes true false write (Some stands) = refl
+  writes may due write o = grind (arith, common_steps, gets)
 
 module _ {L : Type 0} (machine : Machine L) (state : RunState L) (p k : ℕ) where
   -- of a process that stands there
@@ -69,23 +55,7 @@ module _ {L : Type 0} (machine : Machine L) (state : RunState L) (p k : ℕ) whe
     to kind next = state_after machine state p k kind process next
 
     by_kind : (kind : Kind) → after_step machine state p process k kind ≡ option_map (to kind) (accepted machine process k kind (sight_in state p kind))
-    by_kind (Query leader) = asked machine.next local (to (Query leader)) may (is_among (length machine.firsts) leader) (machine.next local (input.Query leader))
-    by_kind (Send m) =
-        asked machine.next local (to (Send m)) may ((m == length process.sent + 1) && is_some (wished_payload (machine.wish local))) (machine.next local input.Send)
-    by_kind (Recv s m) =
-        let name = message_name s m in
-        let lost = is_lost (mail_of state) (copy_name name p) in
-        let payload = payload_of (mail_of state) name in
-        ap
-        (λ names. if may then option_map (to (Recv s m)) (option_and_then (λ x. machine.next local (input.Recv s x)) (if not (set.contains names name) && not lost then payload else None)) else None)
-        received
-        ∙ receives machine.next local (to (Recv s m)) may (set.contains process.received name) lost s payload
-    by_kind (Read register) = reads machine.next local (to (Read register)) may (input.Read register) (register_of state.registers register)
-    by_kind (Write register) =
-        writes machine.next local (to (Write register)) may (is_some (wished_cell (machine.wish local))) (input.Write register) (register_of state.registers register)
-    by_kind Local = unasked machine.next local (to Local) may (machine.next local input.Local)
-    by_kind Learn = unasked machine.next local (to Learn) may (machine.next local input.Learn)
-    by_kind Crash = unasked machine.next local (to Crash) may (Some local)
+    by_kind kind = grind (arith, common_steps, gets)
 
   pub step_in_stages : (kind : Kind)
       → after machine state (Step p k kind)

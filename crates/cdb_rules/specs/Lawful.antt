@@ -11,7 +11,7 @@ use Rattle.cdb_causal.specs.Causality.{IsFree}
 use Rattle.cdb_causal.specs.Dependence.{depends}
 use Rattle.cdb_causal.specs.Exchange.{IsExchanged}
 use Rattle.cdb_causal.specs.Standing.{IsStanding}
-use Rattle.cdb_rules.specs.Agreement.{AllAgree, HasMajorityIfNeeded}
+use Rattle.cdb_rules.specs.Agreement.{AllAgree, AreProposed, HasMajorityIfNeeded}
 use Rattle.cdb_rules.specs.Refusals.{IsOfRun}
 use Rattle.cdb_rules.specs.Rules.{Rules, Shown}
 use Rattle.cdb_rules.specs.Step.{is_among}
@@ -27,7 +27,7 @@ pub record AreLawful (rules : Rules) (setup : Parts) : Type 0 where
   pub lose : (history : List Event) (name : MsgName) (p : ℕ) (event : Event) → rules.lose history name p ≡ Ok event → IsOfRun setup event
   pub again : (history : List Event) (event taken : Event) → rules.again history event ≡ Ok taken → taken ≡ event
 
--- The rules keep valid histories, the state that they reach, and agreement. SameState says of two histories that they
+-- The rules keep valid histories, the state that they reach, agreement and validity. SameState says of two histories that they
 -- reach one state.
 pub record KeepHistories (rules : Rules) (SameState : List Event → List Event → Type 0) (setup : Parts) : Type 0 where
   -- the history of no event is valid, and so is each beginning of a valid one
@@ -58,3 +58,5 @@ pub record KeepHistories (rules : Rules) (SameState : List Event → List Event 
   -- no two decisions that a valid history shows differ
   pub agreement : HasMajorityIfNeeded setup → (history : List Event) → IsTrue (rules.valid history)
       → AllAgree (rules.decisions history)
+  -- each decision that a valid history shows was the input of a process
+  pub validity : (history : List Event) → IsTrue (rules.valid history) → AreProposed setup (rules.decisions history)

@@ -14,7 +14,7 @@ pub mod Rules
 pub mod ByRules
 pub mod Auto
 pub mod Views
--- the laws: what the rules keep, and agreement
+-- the laws: what the rules keep, agreement and validity
 pub mod Lawful
 pub mod Agreement
 -- what the code keeps for itself: a step as it is taken, how runs are compared, and events by their positions

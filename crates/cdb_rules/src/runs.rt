@@ -164,7 +164,7 @@ pub trait Runs: Sized + Drop {
     fn decisions(&self, alloc: Global) -> Result<Vec<(Proc, Val)>, NoMemory>
         ensures { IfOk result (λ pairs. pairs.items ≡ decisions_in rules (run self.now)) };
 
-    // What the rules keep: events of the run, and valid histories, the state that these reach, and agreement.
+    // What the rules keep: events of the run, and valid histories, the state that these reach, agreement and validity.
     ghost lawful: { (given : Parts) → AreInRange given → AreLawful (rules given) given };
 
     ghost histories: { (given : Parts) → AreInRange given →

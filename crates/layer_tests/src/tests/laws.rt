@@ -33,6 +33,7 @@ fn laws_of_events() {
 fn laws_of_the_machines() {
     leader::sent_messages_are_founded();
     leader::received_messages_are_brought();
+    leader::no_value_is_made();
     leader::majorities_meet();
     alpha::rounds_are_entered_once();
     alpha::cells_left_never_fall();
@@ -41,4 +42,5 @@ fn laws_of_the_machines() {
     alpha::reached_states_hold();
     alpha::rounds_are_of_one_process();
     alpha::each_input_is_a_step();
+    alpha::no_value_is_made();
 }

@@ -2,7 +2,6 @@ use Rattle.std.proofs.Common.{Err, refl, inl}
 use Rattle.std.proofs.lemmas.Result.{err_from_is_err_and}
 use Rattle.cdb_streams.proofs.Ending.{only_as}
 use Rattle.cdb_streams.specs.Endings.{Complete, pieces_ending}
-use Rattle.cdb_draw.specs.Picture.{picture_text}
 use Rattle.cdb_draw.proofs.draws.draw_run.Goals as goal
 
 pub returns-in_err-flags : goal.returns-in_err-flags
@@ -13,14 +12,10 @@ returns-in_err-flags g c =
 pub returns-in_err-write_picture : goal.returns-in_err-write_picture
 returns-in_err-write_picture g c =
     let p = err_from_is_err_and c.from_residual-in_err-write_picture.result c.from_residual-in_err-write_picture.ensures.1 in
-    let flags = c.in_ok-flags.flags.items in
-    let text = picture_text g.T.Runs.rules c.args.run.now flags in
     rw (p.1, p.2)
-    (only_as g.W.Sink.stream (pieces_ending {A = Unit {0}} (Err c.in_err-write_picture.field-0.0)) c.args.out.now c.write_picture.new.out text _ (flags, c.in_ok-flags.ensures.full, refl)
+    (only_as g.W.Sink.stream (pieces_ending {A = Unit {0}} (Err c.in_err-write_picture.field-0.0)) _ _ _ _ (c.in_ok-flags.flags.items, c.in_ok-flags.ensures.full, refl)
     (rw c.as_slice.ensures.value at c.in_err-write_picture.ensures))
 
 pub returns : goal.returns
 returns g c =
-    let flags = c.in_ok-flags.flags.items in
-    let text = picture_text g.T.Runs.rules c.args.run.now flags in
-    only_as g.W.Sink.stream Complete c.args.out.now c.write_picture.new.out text _ (flags, c.in_ok-flags.ensures.full, refl) (rw c.as_slice.ensures.value at c.in_ok-write_picture.ensures)
+    only_as g.W.Sink.stream Complete _ _ _ _ (c.in_ok-flags.flags.items, c.in_ok-flags.ensures.full, refl) (rw c.as_slice.ensures.value at c.in_ok-write_picture.ensures)

@@ -1,23 +1,8 @@
-use Rattle.std.specs.Prelude.{List, codes, decimal, string_bytes, ℕ, ◌++◌, ◌≡◌}
+use Rattle.std.proofs.Common.{append_assoc}
+use Rattle.std.proofs.lemmas.Result.{IfOk-equal}
 use Rattle.cdb_draw.specs.Lanes.{lane_open}
-use Rattle.cdb_draw.proofs.Pushing.{last, next}
 use Rattle.cdb_draw.proofs.lanes.push_open.Goals as goal
 
 pub returns : goal.returns
 unfolding lane_open
-returns c =
-    let piece-1 : List ℕ = codes "<g class='" in
-    let piece-2 : List ℕ = c.args.class.now in
-    let piece-3 : List ℕ = codes "' transform='translate(0," in
-    let piece-4 : List ℕ = decimal c.args.y in
-    let piece-5 : List ℕ = codes ")'>" in
-    let bytes-0 : List ℕ = string_bytes c.args.text.now in
-    let bytes-1 : List ℕ = string_bytes c.push.new.text in
-    let bytes-2 : List ℕ = string_bytes c.push-2.new.text in
-    let bytes-3 : List ℕ = string_bytes c.push-3.new.text in
-    let bytes-4 : List ℕ = string_bytes c.push_number.new.text in
-    let bytes-5 : List ℕ = string_bytes c.push-4.new.text in
-    let text-2 : bytes-2 ≡ bytes-0 ++ (piece-1 ++ piece-2) = next bytes-0 bytes-1 bytes-2 (piece-1) piece-2 c.in_ok-push.ensures c.in_ok-push-2.ensures in
-    let text-3 : bytes-3 ≡ bytes-0 ++ (piece-1 ++ piece-2 ++ piece-3) = next bytes-0 bytes-2 bytes-3 (piece-1 ++ piece-2) piece-3 text-2 c.in_ok-push-3.ensures in
-    let text-4 : bytes-4 ≡ bytes-0 ++ (piece-1 ++ piece-2 ++ piece-3 ++ piece-4) = next bytes-0 bytes-3 bytes-4 (piece-1 ++ piece-2 ++ piece-3) piece-4 text-3 c.in_ok-push_number.ensures in
-    last c.push-4.result bytes-0 bytes-4 bytes-5 (piece-1 ++ piece-2 ++ piece-3 ++ piece-4) piece-5 text-4 c.push-4.ensures
+returns c = IfOk-equal c.push-4.result _ _ _ c.push-4.ensures (simp (c.in_ok-push_number.ensures, c.in_ok-push-3.ensures, c.in_ok-push-2.ensures, c.in_ok-push.ensures, append_assoc))

@@ -1,10 +1,7 @@
-use Rattle.std.proofs.Common.{◌≡◌, ◌+◌, string_bytes, arith}
+use Rattle.std.proofs.Common.{string_bytes, arith}
 use Rattle.cdb_draw.specs.Lanes.{own_register_lane}
 use Rattle.cdb_draw.proofs.Growing.{text_more}
 use Rattle.cdb_draw.proofs.lanes.push_own_registers.Goals as goal
 
 pub loop-i-preserved : goal.loop-i-preserved
-loop-i-preserved c =
-    let number = c.new.ensures.value in
-    let is : c.new.result ≡ 1 + c.loop-i.i = omega (arith, number) in
-    text_more (own_register_lane c.args.run.now) 1 c.loop-i.i c.new.result (string_bytes c.args.text.now) (string_bytes c.loop-i.text) (string_bytes c.push_register_lane.new.text) is c.loop-i.invariant c.in_ok-push_register_lane.ensures
+loop-i-preserved c = text_more (own_register_lane c.args.run.now) 1 c.loop-i.i (string_bytes c.args.text.now) (omega arith) c.loop-i.invariant c.in_ok-push_register_lane.ensures

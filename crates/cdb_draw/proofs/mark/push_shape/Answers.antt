@@ -1,17 +1,8 @@
-use Rattle.std.specs.Prelude.{List, codes, string_bytes, ℕ, ◌++◌, ◌≡◌}
+use Rattle.std.proofs.Common.{append_assoc}
+use Rattle.std.proofs.lemmas.Result.{IfOk-equal}
 use Rattle.cdb_draw.specs.EventMarks.{shape_text}
-use Rattle.cdb_draw.proofs.Pushing.{last, next}
 use Rattle.cdb_draw.proofs.mark.push_shape.Goals as goal
 
 pub returns : goal.returns
 unfolding shape_text
-returns c =
-    let piece-1 : List ℕ = codes "<use href='#" in
-    let piece-2 : List ℕ = c.args.shape.now in
-    let piece-3 : List ℕ = codes "'/>" in
-    let bytes-0 : List ℕ = string_bytes c.args.text.now in
-    let bytes-1 : List ℕ = string_bytes c.push.new.text in
-    let bytes-2 : List ℕ = string_bytes c.push-2.new.text in
-    let bytes-3 : List ℕ = string_bytes c.push-3.new.text in
-    let text-2 : bytes-2 ≡ bytes-0 ++ (piece-1 ++ piece-2) = next bytes-0 bytes-1 bytes-2 (piece-1) piece-2 c.in_ok-push.ensures c.in_ok-push-2.ensures in
-    last c.push-3.result bytes-0 bytes-2 bytes-3 (piece-1 ++ piece-2) piece-3 text-2 c.push-3.ensures
+returns c = IfOk-equal c.push-3.result _ _ _ c.push-3.ensures (simp (c.in_ok-push-2.ensures, c.in_ok-push.ensures, append_assoc))

@@ -1,5 +1,4 @@
-use Rattle.std.proofs.Common.{◌≡◌, ◌<◌, ◌-◌, ℕ, Bool, false, List, [], ◌++◌, get_or, length, Some, slice_get, refl, sym, ap, ◌∙◌, subst, arith}
-use Rattle.std.specs.Option.{option_map_or}
+use Rattle.std.proofs.Common.{◌<◌, ◌-◌, Bool, false, List, ℕ, get_or, length, Some, refl, arith, ◌∙◌, ◌≡◌}
 use Rattle.cdb_base.specs.Positions.{nth}
 use Rattle.cdb_base.specs.declared.event.Event.{Event}
 use Rattle.cdb_causal.proofs.FromOne.{by_next}
@@ -11,24 +10,16 @@ use Rattle.cdb_draw.proofs.picture.arrow_of.Goals as goal
 
 -- what is drawn of an event at its position
 drawn : (run : RunView) (flags : List Bool) (position : ℕ) (event : Event) (full : Bool) → nth run.history position ≡ Some event → is_flagged flags position ≡ full → event_arrow run full position event ≡ arrow_at run flags position
-drawn run flags position event full stands is =
-    ap (λ b. event_arrow run b position event) (sym is)
-    ∙ sym (ap (λ o. option_map_or (event_arrow run (is_flagged flags position) position) o (let none : List ℕ = [] in none)) stands)
+drawn run flags position event full stands is = rw (stands, is) refl
 
 pub returns : goal.returns
 returns c =
-    let run : RunView = c.args.run.now in
-    let history : List Event = c.history-history.result.now in
-    let position : ℕ = c.args.position in
-    let i : ℕ = position - 1 in
-    let first = c.requires.from_one in
-    let last = c.requires.to_len in
-    let event : Event = c.event-event.result.now in
-    let same : history ≡ run.history = c.history-history.ensures in
-    let stands = by_next (λ n. nth run.history n ≡ Some event) position first (subst (λ (h : List Event). slice_get h i ≡ Some event) same c.event-event.ensures) in
-    let number = c.requires.a_flag_each in
-    let within : i < length c.args.flags.now = omega (arith, number, first, last) in
-    let full : Bool = get_or c.args.flags.now i false in
-    let flagged = by_next (λ n. is_flagged c.args.flags.now n ≡ full) position first (flag_read c.args.flags.now i false full within refl) in
-    let arrow : List ℕ = event_arrow run full position event in
-    c.in_ok-push_arrow.ensures ∙ ap (λ (t : List ℕ). t ++ arrow) c.new-text.ensures.bytes ∙ drawn run c.args.flags.now position event full stands flagged
+    let run = c.args.run.now in
+    let flags = c.args.flags.now in
+    let i = c.args.position - 1 in
+    let event = c.event-event.result.now in
+    let full = get_or flags i false in
+    let within : i < length flags = omega arith in
+    let stands = by_next (λ n. nth run.history n ≡ Some event) c.args.position c.requires.from_one (rw c.history-history.ensures at c.event-event.ensures) in
+    let flagged = by_next (λ n. is_flagged flags n ≡ full) c.args.position c.requires.from_one (flag_read flags i false full within refl) in
+    rw c.new-text.ensures.bytes at c.in_ok-push_arrow.ensures ∙ drawn run flags c.args.position event full stands flagged

@@ -1,35 +1,8 @@
-use Rattle.std.specs.Prelude.{List, codes, decimal, string_bytes, ℕ, ◌++◌, ◌≡◌}
+use Rattle.std.proofs.Common.{rules, append_assoc}
+use Rattle.std.proofs.lemmas.Result.{IfOk-equal}
 use Rattle.cdb_draw.specs.Picture.{size_text}
-use Rattle.cdb_draw.proofs.Pushing.{last, next}
 use Rattle.cdb_draw.proofs.picture.push_size.Goals as goal
 
 pub returns : goal.returns
 unfolding size_text
-returns c =
-    let piece-1 : List ℕ = codes "width='" in
-    let piece-2 : List ℕ = decimal c.args.w in
-    let piece-3 : List ℕ = codes "mm' height='" in
-    let piece-4 : List ℕ = decimal c.args.h in
-    let piece-5 : List ℕ = codes "mm' viewBox='0 0 " in
-    let piece-6 : List ℕ = decimal c.args.across in
-    let piece-7 : List ℕ = codes " " in
-    let piece-8 : List ℕ = decimal c.args.down in
-    let piece-9 : List ℕ = codes "'>\n" in
-    let bytes-0 : List ℕ = string_bytes c.args.text.now in
-    let bytes-1 : List ℕ = string_bytes c.push.new.text in
-    let bytes-2 : List ℕ = string_bytes c.push_number.new.text in
-    let bytes-3 : List ℕ = string_bytes c.push-2.new.text in
-    let bytes-4 : List ℕ = string_bytes c.push_number-2.new.text in
-    let bytes-5 : List ℕ = string_bytes c.push-3.new.text in
-    let bytes-6 : List ℕ = string_bytes c.push_number-3.new.text in
-    let bytes-7 : List ℕ = string_bytes c.push-4.new.text in
-    let bytes-8 : List ℕ = string_bytes c.push_number-4.new.text in
-    let bytes-9 : List ℕ = string_bytes c.push-5.new.text in
-    let text-2 : bytes-2 ≡ bytes-0 ++ (piece-1 ++ piece-2) = next bytes-0 bytes-1 bytes-2 (piece-1) piece-2 c.in_ok-push.ensures c.in_ok-push_number.ensures in
-    let text-3 : bytes-3 ≡ bytes-0 ++ (piece-1 ++ piece-2 ++ piece-3) = next bytes-0 bytes-2 bytes-3 (piece-1 ++ piece-2) piece-3 text-2 c.in_ok-push-2.ensures in
-    let text-4 : bytes-4 ≡ bytes-0 ++ (piece-1 ++ piece-2 ++ piece-3 ++ piece-4) = next bytes-0 bytes-3 bytes-4 (piece-1 ++ piece-2 ++ piece-3) piece-4 text-3 c.in_ok-push_number-2.ensures in
-    let text-5 : bytes-5 ≡ bytes-0 ++ (piece-1 ++ piece-2 ++ piece-3 ++ piece-4 ++ piece-5) = next bytes-0 bytes-4 bytes-5 (piece-1 ++ piece-2 ++ piece-3 ++ piece-4) piece-5 text-4 c.in_ok-push-3.ensures in
-    let text-6 : bytes-6 ≡ bytes-0 ++ (piece-1 ++ piece-2 ++ piece-3 ++ piece-4 ++ piece-5 ++ piece-6) = next bytes-0 bytes-5 bytes-6 (piece-1 ++ piece-2 ++ piece-3 ++ piece-4 ++ piece-5) piece-6 text-5 c.in_ok-push_number-3.ensures in
-    let text-7 : bytes-7 ≡ bytes-0 ++ (piece-1 ++ piece-2 ++ piece-3 ++ piece-4 ++ piece-5 ++ piece-6 ++ piece-7) = next bytes-0 bytes-6 bytes-7 (piece-1 ++ piece-2 ++ piece-3 ++ piece-4 ++ piece-5 ++ piece-6) piece-7 text-6 c.in_ok-push-4.ensures in
-    let text-8 : bytes-8 ≡ bytes-0 ++ (piece-1 ++ piece-2 ++ piece-3 ++ piece-4 ++ piece-5 ++ piece-6 ++ piece-7 ++ piece-8) = next bytes-0 bytes-7 bytes-8 (piece-1 ++ piece-2 ++ piece-3 ++ piece-4 ++ piece-5 ++ piece-6 ++ piece-7) piece-8 text-7 c.in_ok-push_number-4.ensures in
-    last c.push-5.result bytes-0 bytes-8 bytes-9 (piece-1 ++ piece-2 ++ piece-3 ++ piece-4 ++ piece-5 ++ piece-6 ++ piece-7 ++ piece-8) piece-9 text-8 c.push-5.ensures
+returns c = search (rules, IfOk-equal, append_assoc)

@@ -9,8 +9,7 @@ pub returns-clause-before : goal.returns-clause-before
 returns-clause-before c =
     λ k j before from less.
     let low = c.count_up_to.ensures.low k before in
-    let is_mark = c.mark_at.ensures.mark in
     ⊎_elim
-    (λ here. let same = ap (mark c.args.log.now) here in omega (arith, low, is_mark, same))
-    (λ later. let rises = c.mark_at.ensures.rising c.args.from j later less in omega (arith, low, is_mark, rises))
+    (λ here. let same = ap (mark c.args.log.now) here in omega (arith, low, same))
+    (λ later. let rises = c.mark_at.ensures.rising c.args.from j later less in omega (arith, low, rises))
     (at_or_behind c.args.from j from)

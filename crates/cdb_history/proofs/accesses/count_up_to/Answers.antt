@@ -16,7 +16,6 @@ returns-clause-low c =
     let rises = c.requires k l le within in
     grind (arith, nat_tests, h, at_k, at_l, rises))
     (λ a r q k. search rules) in
-    let bound = c.partition_point.ensures.bound in
     let t = point.0 k 0 (omega arith) before in
     grind (arith, nat_tests, t)
 

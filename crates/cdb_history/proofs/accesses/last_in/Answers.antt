@@ -38,14 +38,9 @@ returns-then-i-low c =
     let value : c.saturating_sub.result ≡ slice_index bounds k - 1 = c.saturating_sub.ensures in
     let has = c.requires.each i event at is.0 in
     let below = c.loop-k.invariant i has.0 event low less at is has.1 has.2 in
-    let count = c.count_up_to-k.ensures.within in
-    let most = c.loop-k.auto.k in
-    let some = c.loop-k-test.true in
-    let up = c.requires.rising has.0 k (omega (arith, below)) (omega (arith, count, most, some)) in
-    let bound = has.2 in
-    let early = not_later log c.mark_at.ensures.rising i c.in-Some.i (slice_index bounds k) event c.in-Some.event.now at found.stands (found.is_mark ∙ value) (omega (arith, up, bound)) in
-    let under = c.if-i-low.true in
-    omega (arith, early, under, low)
+    let up = c.requires.rising has.0 k (omega (arith, below)) (omega arith) in
+    let early = not_later log c.mark_at.ensures.rising i c.in-Some.i (slice_index bounds k) event c.in-Some.event.now at found.stands (found.is_mark ∙ value) (omega (arith, up)) in
+    omega (arith, early, low)
 
 pub returns-then-is_sought : goal.returns-then-is_sought
 returns-then-is_sought c =
@@ -54,22 +49,17 @@ returns-then-is_sought c =
     let k : ℕ = c.loop-k.k - 1 in
     let found = c.in-Some.ensures in
     let value : c.saturating_sub.result ≡ slice_index bounds k - 1 = c.saturating_sub.ensures in
-    let count = c.count_up_to-k.ensures.within in
-    let most = c.loop-k.auto.k in
-    let some = c.loop-k-test.true in
-    let not_under = c.if-i-low.false in
     record {
       event = c.in-Some.event.now;
       at = found.stands;
       sought = c.is_sought.ensures.0 c.if-is_sought.true;
-      from = omega (arith, not_under);
+      from = omega arith;
       before = c.if-i-j.true;
       last = λ i event low less at is.
           let has = c.requires.each i event at is.0 in
           let below = c.loop-k.invariant i has.0 event low less at is has.1 has.2 in
-          let up = c.requires.rising has.0 k (omega (arith, below)) (omega (arith, count, most, some)) in
-          let bound = has.2 in
-          not_later log c.mark_at.ensures.rising i c.in-Some.i (slice_index bounds k) event c.in-Some.event.now at found.stands (found.is_mark ∙ value) (omega (arith, up, bound));
+          let up = c.requires.rising has.0 k (omega (arith, below)) (omega arith) in
+          not_later log c.mark_at.ensures.rising i c.in-Some.i (slice_index bounds k) event c.in-Some.event.now at found.stands (found.is_mark ∙ value) (omega (arith, up));
     }
 
 this_or_lower : (n k : ℕ) → n < k → (n ≡ k - 1) ⊎ (n < k - 1)

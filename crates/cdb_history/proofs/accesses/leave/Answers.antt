@@ -21,10 +21,7 @@ returns-then-is_last-clause-kept c =
 pub returns-then-index-bound-clause-rising : goal.returns-then-index-bound-clause-rising
 returns-then-index-bound-clause-rising c =
     let bounds : List ℕ = c.args.bounds.now.items in
-    let ok = c.args.bounds.now.ok.0 in
-    let len = c.len.ensures in
-    let test = c.if-n-len.true in
-    let within : c.partition_point-n.result < length bounds = omega (arith, ok, len, test) in
+    let within : c.partition_point-n.result < length bounds = omega arith in
     subst IsRising (sym c.remove.ensures.items) (rising_remove bounds c.partition_point-n.result within c.requires)
 
 pub returns-then-index-bound-clause-kept : goal.returns-then-index-bound-clause-kept
@@ -32,9 +29,6 @@ returns-then-index-bound-clause-kept c =
     λ b other has.
     let bounds : List ℕ = c.args.bounds.now.items in
     let n : ℕ = c.partition_point-n.result in
-    let ok = c.args.bounds.now.ok.0 in
-    let len = c.len.ensures in
-    let test = c.if-n-len.true in
-    let within : n < length bounds = omega (arith, ok, len, test) in
+    let within : n < length bounds = omega arith in
     let at : slice_index bounds n ≡ c.args.bound = sym (get_or_default bounds n c.index.result.now 0 within) ∙ sym c.index.ensures ∙ c.if-index-bound.true in
     subst (λ l. HasBound l b) (sym c.remove.ensures.items) (bound_remove bounds n b within (λ same. other (sym same ∙ at)) has)

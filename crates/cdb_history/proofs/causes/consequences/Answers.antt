@@ -60,10 +60,8 @@ loop-j-preserved c =
             below = subst (λ l. (k i : ℕ) → slice_get l k ≡ Some i → i ≤ j + 1) (sym items) (still_below history c.loop-j.positions.items j c.loop-j.invariant.below);
             consequences_are = more true (sym tested ∙ w.if-has_cause_of.true);
             none_above = λ k effect later above at.
-                let end = w.end_with-end.ensures.higher in
-                let is = w.end-is in
-                none_of_more depends (first ∷ found) event effect (c.loop-j.invariant.none_above k effect (omega (arith, later)) (omega (arith, above, end, is)) at)
-                (unlinked depends history j k event effect (omega (arith, later)) at_j at (λ l. let below = w.end_with-end.ensures.above k l in omega (arith, below, above, end, is)));
+                none_of_more depends (first ∷ found) event effect (c.loop-j.invariant.none_above k effect (omega (arith, later)) (omega (arith, above)) at)
+                (unlinked depends history j k event effect (omega (arith, later)) at_j at (λ l. let below = w.end_with-end.ensures.above k l in omega (arith, below, above)));
           }
       | else-has_cause_of w ↦
           record {
@@ -75,8 +73,7 @@ loop-j-preserved c =
             below = subst (λ l. (k i : ℕ) → slice_get l.items k ≡ Some i → i ≤ j + 1) (sym w.positions-is) (λ k i at. let low = c.loop-j.invariant.below k i at in omega (arith, low));
             consequences_are = more false (sym tested ∙ w.if-has_cause_of.false);
             none_above = λ k effect later above at.
-                let is = w.end-is in
-                c.loop-j.invariant.none_above k effect (omega (arith, later)) (omega (arith, above, is)) at;
+                c.loop-j.invariant.none_above k effect (omega (arith, later)) (omega (arith, above)) at;
           }
     ]
 
@@ -88,11 +85,10 @@ returns c =
     none_caught depends history causes c.loop-j.j
     (λ k event later at.
     let within = slice_get_within history k event at in
-    let count = c.len-count.ensures.count in
     c.loop-j.invariant.none_above k event later
     (elim c.loop-j-test.branch [
       | then-loop-j-test+else-j-end w ↦ (let h = w.if-j-end.false in omega (arith, later, h))
-      | else-loop-j-test w ↦ absurd (let h = w.loop-j-test.false in omega (arith, later, within, count, h))
+      | else-loop-j-test w ↦ absurd (let h = w.loop-j-test.false in omega (arith, later, within, h))
     ]) at)
     in
     subst (AreAt history c.loop-j.positions.items)

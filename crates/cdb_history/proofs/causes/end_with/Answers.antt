@@ -5,5 +5,4 @@ pub returns-clause-above : goal.returns-clause-above
 returns-clause-above c =
     λ k l.
     let below = c.end_of_dependents.ensures k l in
-    let higher = c.max.ensures in
-    omega (arith, below, higher)
+    omega (arith, below)

@@ -10,7 +10,6 @@ returns-then-depends c =
     let events = c.args.history.now in
     let at_i = c.event-cause.ensures in
     let at_j = c.event-event.ensures in
-    let low = c.loop-j.auto.j in
     let later : c.args.i < c.loop-j.j = omega arith in
     record {
       position = c.loop-j.j;

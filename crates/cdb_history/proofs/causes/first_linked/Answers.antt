@@ -17,10 +17,8 @@ pub returns-then-start-count : goal.returns-then-start-count
 returns-then-start-count c =
     λ j l.
     let within = slice_get_within c.args.history.now j l.effect l.at_effect in
-    let all = c.len-count.ensures.count in
-    let past = c.if-start-count.true in
     let low = c.start_of_dependents-start.ensures.start j l in
-    absurd (omega (arith, within, all, past, low))
+    absurd (omega (arith, within, low))
 
 pub returns : goal.returns
 returns c =
@@ -28,8 +26,6 @@ returns c =
     (λ j less l. c.in_default.ensures j (c.start_of_dependents-start.ensures.start j l) less l)
     (λ j l.
     let within = slice_get_within c.args.history.now j l.effect l.at_effect in
-    let all = c.len-count.ensures.count in
     let linked = c.end_of_dependents.ensures j l in
-    let least = c.min-end.ensures in
-    omega (arith, within, all, linked, least))
+    omega (arith, within, linked))
     c.first_among-2.result c.first_among-2.ensures

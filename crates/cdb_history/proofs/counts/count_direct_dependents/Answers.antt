@@ -30,25 +30,19 @@ pub loop-j-preserved : goal.loop-j-preserved
 loop-j-preserved c =
     let few = c.loop-j.invariant.few in
     let later = c.loop-j.auto.j in
-    let test = c.loop-j-test.true in
     let within : c.loop-j.j < length c.args.history.now = let len = c.len-j-end.ensures.count in omega arith in
     let more = counted_more c.args.history.now c.args.at c.loop-j.j c.is_direct_cause.result c.requires.from_one later within c.is_direct_cause.ensures in
     elim c.if-is_direct_cause.branch [
       | then-is_direct_cause w ↦
           let one = ap as_number w.if-is_direct_cause.true in
-          let is = w.count-is in
           record { count = λ event at. let now = more event at in let before = c.loop-j.invariant.count event at in omega arith; few = omega arith }
       | else-is_direct_cause w ↦
           let none = ap as_number w.if-is_direct_cause.false in
-          let is = w.count-is in
           record { count = λ event at. let now = more event at in let before = c.loop-j.invariant.count event at in omega arith; few = omega arith }
     ]
 
 pub returns-clause-count : goal.returns-clause-count
 returns-clause-count c =
     λ event at.
-    let test = c.loop-j-test.false in
-    let later = c.loop-j.auto.j-end in
-    let len = c.len-j-end.ensures.count in
     c.loop-j.invariant.count event (nth_below c.args.history.now c.args.at event c.requires.from_one at)
     ∙ ap (direct_dependents depends event) (ap (λ n. take (n - c.args.at) (drop c.args.at c.args.history.now)) (let e : c.loop-j.j ≡ length c.args.history.now = omega arith in e) ∙ take_rest c.args.history.now c.args.at)

@@ -13,7 +13,6 @@ pub push_reserved-requires : goal.push_reserved-requires
 push_reserved-requires c =
     let standing = standing_down c.args.history.now c.len-standing.ensures.standing in
     let room_for_one = room c.args.history.now standing c.args.j c.loop-slot.causes.items c.loop-slot.slot c.loop-slot-test.true c.loop-slot.invariant.0 c.in-Some.name c.in-Some.ensures in
-    let capacity = c.loop-slot.invariant.1 in
     (omega arith, omega arith)
 
 pub loop-slot-preserved : goal.loop-slot-preserved

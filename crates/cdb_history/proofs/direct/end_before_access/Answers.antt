@@ -15,12 +15,10 @@ returns c =
     let n = c.requires.at.1.0 in
     let at_j = c.requires.at.1.1 in
     let first_met = sym c.accesses.ensures ∙ c.if-not-accesses.false in
-    let most = c.max.ensures in
     let end = c.end_of-end.ensures in
-    let read_end = c.end_of.ensures in
     ⊎_elim
-    (λ low. omega (arith, low, most, end))
-    (λ low. omega (arith, low, most, read_end))
+    (λ low. omega (arith, low, end))
+    (λ low. omega (arith, low))
     (after_write events c.args.j c.args.p n register c.args.kind at_j met c.last_write.result c.last_write.ensures i k one two apart c.args.q m c.args.first at_i
     c.match-kind.reader c.last_read.result
     (λ read. elim c.match-kind.branch [

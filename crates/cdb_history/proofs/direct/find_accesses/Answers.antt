@@ -13,8 +13,7 @@ loop-slot-preserved c =
     let causes : List (Option ℕ) = c.loop-slot.causes in
     let found = c.if-index-slot.causes in
     let ten = c.loop-slot.invariant.1 in
-    let test = c.loop-slot-test.true in
-    let within : slot < length causes = omega (arith, ten, test) in
+    let within : slot < length causes = omega (arith, ten) in
     let here : IsLastOrIndirect events c.args.j slot found =
     (elim c.if-index-slot.branch [
       | then-index-slot w ↦ subst (IsLastOrIndirect events c.args.j slot) (sym w.causes-is) (last_or_indirect events c.args.j slot w.last_in_slot.result w.last_in_slot.ensures)

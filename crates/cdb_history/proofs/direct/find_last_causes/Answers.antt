@@ -8,8 +8,6 @@ use Rattle.cdb_history.proofs.direct.find_last_causes.Goals as goal
 pub find_last_in-requires-clause-others : goal.find_last_in-requires-clause-others
 find_last_in-requires-clause-others c =
     let at = c.requires.at ∙ ap Some (c.in-Step.is ∙ ap (Step c.in-Step.p c.in-Step.k) c.in-Recv.is) in
-    let own = c.index.ensures.value in
-    let sender = c.index-in-Recv.ensures.value in
     λ slot not_in below.
     none_but_for_receive c.args.history.now c.args.j c.in-Step.p c.in-Step.k c.in-Recv.s c.in-Recv.field-1 slot at
     (λ same. not_in 0 (ap Some (let is : c.index.result ≡ slot = omega arith in is)))
@@ -35,8 +33,6 @@ returns-clause-end c =
 
 pub find_last_in-requires-in-Lost-clause-others : goal.find_last_in-requires-in-Lost-clause-others
 find_last_in-requires-in-Lost-clause-others c =
-    let sender = c.index-in-Lost.ensures.value in
-    let receiver = c.index-in-Lost-2.ensures.value in
     λ slot not_in below.
     none_but_for_loss c.args.history.now c.args.j slot c.in-Lost.copy (c.requires.at ∙ ap Some c.in-Lost.is)
     (λ same. not_in 0 (ap Some (let is : c.index-in-Lost.result ≡ slot = omega arith in is)))

@@ -8,26 +8,18 @@ use Rattle.cdb_history.proofs.direct.is_direct.Goals as goal
 pub event-between-requires : goal.event-between-requires
 event-between-requires c =
     let within = slice_get_within c.args.history.now c.args.j c.args.effect.now c.requires.effect in
-    let least = c.min-k.ensures in
-    let test = c.loop-k-test.true in
-    let before = c.loop-k.auto.k in
     omega arith
 
 pub loop-k-init : goal.loop-k-init
 loop-k-init c =
     λ m low one two.
-    let later = two.later in
     let below = c.requires.end m one two in
-    let least = c.min-k.ensures in
     omega arith
 
 pub returns-then-leads_on : goal.returns-then-leads_on
 returns-then-leads_on c =
     let events : List Event = c.args.history.now in
     let k : ℕ = c.loop-k.k - 1 in
-    let before = c.loop-k.auto.k in
-    let least = c.min-k.ensures in
-    let test = c.loop-k-test.true in
     let at_i = c.requires.cause in
     let at_k = c.event-between.ensures in
     let at_j = c.requires.effect in
@@ -44,9 +36,6 @@ pub loop-k-preserved : goal.loop-k-preserved
 loop-k-preserved c =
     let events : List Event = c.args.history.now in
     let k : ℕ = c.loop-k.k - 1 in
-    let before = c.loop-k.auto.k in
-    let least = c.min-k.ensures in
-    let test = c.loop-k-test.true in
     let some : 0 < c.loop-k.k = omega arith in
     let at_i = c.requires.cause in
     let at_k = c.event-between.ensures in
@@ -63,8 +52,6 @@ loop-k-preserved c =
 pub returns : goal.returns
 returns c = (
   (λ _ m one two.
-      let later = one.later in
-      let test = c.loop-k-test.false in
       c.loop-k.invariant m (let n : c.loop-k.k ≤ m = omega arith in n) one two),
   (λ _. refl),
 )

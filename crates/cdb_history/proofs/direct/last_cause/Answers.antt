@@ -9,18 +9,13 @@ use Rattle.cdb_history.proofs.direct.last_cause.Goals as goal
 pub loop-i-init : goal.loop-i-init
 loop-i-init c =
     λ k l low in_slot.
-    let later = l.later in
     let below = c.requires.end k l in_slot in
-    let least = c.min-i.ensures in
     omega arith
 
 pub returns-then-is_cause : goal.returns-then-is_cause
 returns-then-is_cause c =
     let events : List Event = c.args.history.now in
     let i : ℕ = c.loop-i.i - 1 in
-    let before = c.loop-i.auto.i in
-    let least = c.min-i.ensures in
-    let test = c.loop-i-test.true in
     let later : i < c.args.j = omega arith in
     let at_i = c.event-event.ensures in
     let at_j = c.requires.at in
@@ -35,9 +30,6 @@ pub loop-i-preserved : goal.loop-i-preserved
 loop-i-preserved c =
     let events : List Event = c.args.history.now in
     let i : ℕ = c.loop-i.i - 1 in
-    let least = c.min-i.ensures in
-    let before = c.loop-i.auto.i in
-    let test = c.loop-i-test.true in
     let later : i < c.args.j = omega arith in
     let at_i = c.event-event.ensures in
     let at_j = c.requires.at in

@@ -10,7 +10,6 @@ use Rattle.cdb_history.proofs.direct.only_slot.Goals.{in_default-via-in-Send+els
 pub returns-in_default-clause-only : goal.returns-in_default-clause-only
 returns-in_default-clause-only c =
     let events : List Event = c.args.history.now in
-    let value = c.index.ensures.value in
     λ slot other.
     let not_own : slot + 1 ≢ c.in-Step.p = λ same. other (omega arith) in
     elim c.in_default.branch [

@@ -20,7 +20,6 @@ pub loop-i-preserved : goal.loop-i-preserved
 loop-i-preserved c =
     let events : List Event = c.args.history.now in
     let i : ℕ = c.loop-i.i - 1 in
-    let before = c.loop-i.auto.i in
     let test = c.loop-i-test.true in
     let within : i < length events = omega arith in
     let at = c.event-event.ensures in
@@ -33,8 +32,6 @@ pub returns-then-is_named : goal.returns-then-is_named
 returns-then-is_named c =
     let events : List Event = c.args.history.now in
     let i : ℕ = c.loop-i.i - 1 in
-    let before = c.loop-i.auto.i in
-    let test = c.loop-i-test.true in
     let within : i < length events = omega arith in
     let at = c.event-event.ensures in
     let next : suc i ≡ i + 1 = omega arith in

@@ -4,6 +4,5 @@ use Rattle.cdb_log.proofs.offsets.next_of.Goals as goal
 
 pub returns-else-count-eq0 : goal.returns-else-count-eq0
 returns-else-count-eq0 c =
-    let some = c.if-count-eq0.false in
     let is = next_is c.args.offsets.now (omega arith) in
     omega arith

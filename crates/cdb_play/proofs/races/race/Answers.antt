@@ -2,7 +2,7 @@ use Rattle.std.proofs.Common.{Ok, refl, sym, subst}
 use Rattle.std.proofs.lemmas.Result.{err_from_is_err_and, IfErr-weaker}
 use Rattle.cdb_rules.specs.Agreement.{HasMajorityIfNeeded}
 use Rattle.cdb_streams.specs.Endings.{race_ending}
-use Rattle.cdb_play.specs.Races.{IsFaultUngated, bytes_of, IsTextOnSetup, IsTextOfRace}
+use Rattle.cdb_play.specs.Races.{IsFaultUngated, bytes_of, IsTextOnSetup, IsTextOfRace, ProposedAtEnd}
 use Rattle.cdb_play.proofs.Ending.{race_unwritten_setup}
 use Rattle.cdb_streams.proofs.Ending.{written_as}
 use Rattle.cdb_play.proofs.RunningFaults.{of_race, of_setup_read}
@@ -29,6 +29,17 @@ pub returns-in_err-parts-clause-fault : goal.returns-in_err-parts-clause-fault
 returns-in_err-parts-clause-fault g c =
     let p = err_from_is_err_and c.from_residual.result c.from_residual.ensures.1 in
     rw (p.1, p.2) (of_setup_read IsFaultUngated c.args.turns c.args.setup.now (bytes_of c.args.scripts.now) c.in_err-parts.field-0.0 c.in_err-parts.ensures.fault (λ long. cc (c.in_err-parts.ensures.too_long long)))
+
+pub returns-in_err-parts-clause-proposed : goal.returns-in_err-parts-clause-proposed
+returns-in_err-parts-clause-proposed g c = λ parts encodes.
+    let p = err_from_is_err_and c.from_residual.result c.from_residual.ensures.1 in
+    rw p.1 tt
+
+pub returns-clause-proposed : goal.returns-clause-proposed
+returns-clause-proposed g c = λ parts encodes.
+    let found = c.in_ok-parts.parts in
+    subst (λ s. ProposedAtEnd g.W.Sink.stream s c.race_on.result c.args.out.now c.race_on.new.out)
+    (same_setup (Ok found) found parts refl (c.in_ok-parts.ensures.only parts encodes)) c.race_on.ensures.proposed
 
 pub returns-in_err-parts-clause-agree : goal.returns-in_err-parts-clause-agree
 returns-in_err-parts-clause-agree g c = λ majority.

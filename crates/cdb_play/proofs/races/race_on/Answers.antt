@@ -35,6 +35,11 @@ returns-clause-fault g c =
     (ungated (IsFaultBehind g.row.T.Denot g.T.Runs.rules (λ (gate : Open). None) (λ (gate : Open). true) c.in_ok-gates.gates.items) c.args.turns c.args.setup commands (bytes_of c.args.scripts.now) c.in_ok-commands.ensures.read)
     (rw c.as_slice.ensures.value at c.run_race.ensures.fault) (c.run_race.ensures.passes (λ k gate low. refl))
 
+pub returns-in_err-commands-clause-proposed : goal.returns-in_err-commands-clause-proposed
+returns-in_err-commands-clause-proposed g c =
+    let p = err_from_is_err_and c.from_residual.result c.from_residual.ensures.1 in
+    rw p.1 tt
+
 pub returns-in_err-commands-clause-agree : goal.returns-in_err-commands-clause-agree
 returns-in_err-commands-clause-agree g c = λ majority.
     let p = err_from_is_err_and c.from_residual.result c.from_residual.ensures.1 in

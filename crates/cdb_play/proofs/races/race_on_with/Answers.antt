@@ -31,6 +31,11 @@ returns-clause-fault g c =
     let commands = c.in_ok-commands.commands.items in
     IfErr-weaker c.run_race.result _ _ (on_setup (IsFaultBehind g.row.T.Denot g.T.Runs.rules g.G.Gate.heard g.G.Gate.passes c.args.gates.items) c.args.turns c.args.setup commands (bytes_of c.args.scripts.now) c.in_ok-commands.ensures.read) (rw c.as_slice.ensures.value at c.run_race.ensures.fault)
 
+pub returns-in_err-commands-clause-proposed : goal.returns-in_err-commands-clause-proposed
+returns-in_err-commands-clause-proposed g c =
+    let p = err_from_is_err_and c.from_residual.result c.from_residual.ensures.1 in
+    rw p.1 tt
+
 pub returns-in_err-commands-clause-agree : goal.returns-in_err-commands-clause-agree
 returns-in_err-commands-clause-agree g c = λ majority.
     let p = err_from_is_err_and c.from_residual.result c.from_residual.ensures.1 in

@@ -7,13 +7,13 @@ use Rattle.cdb_race.specs.Faults.{IsFaultBehind}
 use Rattle.cdb_race.specs.Races.{all_told}
 use Rattle.cdb_race.specs.declared.threads.RaceFault.{RaceFault as ThreadFault}
 use Rattle.cdb_streams.specs.Endings.{Complete}
-use Rattle.cdb_play.specs.Races.{last_decisions, EndsInAgreement}
+use Rattle.cdb_play.specs.Races.{last_decisions, EndsInAgreement, EndsInProposed}
 use Rattle.cdb_play.specs.RaceStages.{IsTextOfCommands}
 use Rattle.cdb_play.proofs.Ending.{race_unwritten_threads, race_wrote}
 use Rattle.cdb_streams.proofs.Ending.{only_as}
 use Rattle.cdb_play.proofs.RaceTexts.{text_of_replies}
 use Rattle.cdb_play.proofs.RunningFaults.{of_threads, of_writing, not_of_threads, not_of_writing}
-use Rattle.cdb_play.proofs.Agreeing.{agrees, ends_in_agreement}
+use Rattle.cdb_play.proofs.Agreeing.{agrees, ends_in_agreement, proposes, ends_in_proposed}
 use Rattle.cdb_play.proofs.races.run_race.Goals as goal
 
 pub returns-in-Err-clause-wrote : goal.returns-in-Err-clause-wrote
@@ -52,6 +52,18 @@ returns-clause-agree g c = λ majority.
     let said = c.in-Ok.ensures in
     only_as g.W.Sink.stream Complete c.args.out.now c.write_race-written.new.out _ EndsInAgreement
     (ends_in_agreement _ (last_decisions g.T.Runs.rules raced.control) (agrees g.T.Runs.rules g.T.Runs.same_state raced.control c.args.setup said.raced.setup_is said.headline majority)) (rw c.in_ok-written.was at c.write_race-written.ensures)
+
+pub returns-clause-proposed : goal.returns-clause-proposed
+returns-clause-proposed g c =
+    let raced = c.in-Ok.raced in
+    let said = c.in-Ok.ensures in
+    only_as g.W.Sink.stream Complete c.args.out.now c.write_race-written.new.out _ (EndsInProposed c.args.setup)
+    (ends_in_proposed c.args.setup _ (last_decisions g.T.Runs.rules raced.control) (proposes g.T.Runs.rules g.T.Runs.same_state raced.control c.args.setup said.raced.setup_is said.headline)) (rw c.in_ok-written.was at c.write_race-written.ensures)
+
+pub returns-in_err-written-clause-proposed : goal.returns-in_err-written-clause-proposed
+returns-in_err-written-clause-proposed g c =
+    let p = err_from_is_err_and c.from_residual-in_err-written.result c.from_residual-in_err-written.ensures.1 in
+    rw p.1 tt
 
 pub returns-in_err-written-clause-agree : goal.returns-in_err-written-clause-agree
 returns-in_err-written-clause-agree g c = λ majority.

@@ -129,6 +129,9 @@ fn laws_can_be_called() {
     agreement::leader_decisions_agree();
     agreement::alpha_decisions_agree();
     agreement::shown_decisions_agree();
+    agreement::leader_decisions_are_proposed();
+    agreement::alpha_decisions_are_proposed();
+    agreement::shown_decisions_are_proposed();
     agreement::worked_runs();
     agreement::leader_rounds();
     agreement::alpha_rounds();

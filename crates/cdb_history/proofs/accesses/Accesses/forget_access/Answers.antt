@@ -6,30 +6,21 @@ use Rattle.cdb_history.proofs.accesses.Accesses.forget_access.Goals as goal
 pub leave-requires : goal.leave-requires
 leave-requires c =
     let lists = c.args.self.now.lists.items in
-    let ok = c.args.self.now.lists.ok.0 in
-    let len = c.len.ensures in
-    let test = c.if-n-len.true in
-    let within : c.in-Some.n < length lists = omega (arith, ok, len, test) in
+    let within : c.in-Some.n < length lists = omega arith in
     subst IsRising (list_is lists c.in-Some.n c.index_mut.result.now within c.index_mut.ensures.value) (c.requires.rising c.in-Some.n)
 
 pub returns-then-n-len-clause-rising : goal.returns-then-n-len-clause-rising
 returns-then-n-len-clause-rising c =
     λ n.
     let lists = c.args.self.now.lists.items in
-    let ok = c.args.self.now.lists.ok.0 in
-    let len = c.len.ensures in
-    let test = c.if-n-len.true in
-    let within : c.in-Some.n < length lists = omega (arith, ok, len, test) in
+    let within : c.in-Some.n < length lists = omega arith in
     each_set IsRising lists c.in-Some.n n c.leave.new.bounds within (λ _. c.leave.ensures.rising) (λ _. c.requires.rising n)
 
 pub returns-then-n-len-clause-kept : goal.returns-then-n-len-clause-kept
 returns-then-n-len-clause-kept c =
     λ n b other has.
     let lists = c.args.self.now.lists.items in
-    let ok = c.args.self.now.lists.ok.0 in
-    let len = c.len.ensures in
-    let test = c.if-n-len.true in
-    let within : c.in-Some.n < length lists = omega (arith, ok, len, test) in
+    let within : c.in-Some.n < length lists = omega arith in
     each_set (λ l. HasBound l b) lists c.in-Some.n n c.leave.new.bounds within
     (λ same.
     c.leave.ensures.kept b other

@@ -4,7 +4,4 @@ use Rattle.cdb_history.proofs.accesses.Accesses.has_room_in.Goals as goal
 
 pub returns-then-n-len : goal.returns-then-n-len
 returns-then-n-len c holds =
-    let ok = c.args.self.now.lists.ok.0 in
-    let below = c.if-n-len.true in
-    let len = c.len.ensures in
-    room_at c.args.self.now.lists.items c.args.n c.index.result.now (omega (arith, ok, below, len)) c.index.ensures (c.has_room.ensures holds)
+    room_at c.args.self.now.lists.items c.args.n c.index.result.now (omega arith) c.index.ensures (c.has_room.ensures holds)

@@ -15,20 +15,14 @@ kind_listed n kind (Lost copy) all is = absurd is
 pub last_in-requires-clause-rising : goal.last_in-requires-clause-rising
 last_in-requires-clause-rising c =
     let lists = c.args.self.now.lists.items in
-    let ok = c.args.self.now.lists.ok.0 in
-    let len = c.len.ensures in
-    let test = c.if-n-len.true in
-    let within : c.args.n < length lists = omega (arith, ok, len, test) in
+    let within : c.args.n < length lists = omega arith in
     subst IsRising (list_is lists c.args.n c.index.result.now within c.index.ensures ∙ sym c.deref.ensures.value) (c.requires.listed.rising c.args.n)
 
 pub last_in-requires-clause-each : goal.last_in-requires-clause-each
 last_in-requires-clause-each c =
     λ i event at is.
     let lists = c.args.self.now.lists.items in
-    let ok = c.args.self.now.lists.ok.0 in
-    let len = c.len.ensures in
-    let test = c.if-n-len.true in
-    let within : c.args.n < length lists = omega (arith, ok, len, test) in
+    let within : c.args.n < length lists = omega arith in
     subst (λ l. HasBound l (mark c.args.log.now i + 1)) (list_is lists c.args.n c.index.result.now within c.index.ensures ∙ sym c.deref.ensures.value)
     (c.requires.listed.each i c.args.n event at (kind_listed c.args.n c.args.kind event c.requires.list is))
 
@@ -36,9 +30,6 @@ pub returns-else-n-len : goal.returns-else-n-len
 returns-else-n-len c =
     λ i event low less at is.
     let lists = c.args.self.now.lists.items in
-    let ok = c.args.self.now.lists.ok.0 in
-    let len = c.len.ensures in
-    let test = c.if-n-len.false in
     none_in_nothing (mark c.args.log.now i + 1)
-    (subst (λ l. HasBound l (mark c.args.log.now i + 1)) (list_past lists c.args.n (omega (arith, ok, len, test)))
+    (subst (λ l. HasBound l (mark c.args.log.now i + 1)) (list_past lists c.args.n (omega arith))
     (c.requires.listed.each i c.args.n event at (kind_listed c.args.n c.args.kind event c.requires.list is.0)))

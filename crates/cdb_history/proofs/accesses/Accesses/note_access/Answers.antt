@@ -5,9 +5,8 @@ use Rattle.cdb_history.proofs.accesses.Accesses.note_access.Goals as goal
 
 pub index_mut-requires : goal.index_mut-requires
 index_mut-requires c =
-    let ok = c.args.self.now.lists.ok.0 in
     let within = room_within c.args.self.now.lists.items c.in-Some.n (c.requires.room c.in-Some.n c.in-Some.ensures.found) in
-    omega (arith, ok, within)
+    omega (arith, within)
 
 pub join-requires-clause-rising : goal.join-requires-clause-rising
 join-requires-clause-rising c =

@@ -7,26 +7,17 @@ use Rattle.cdb_history.proofs.accesses.Accesses.start_of.Goals as goal
 pub start_in-requires : goal.start_in-requires
 start_in-requires c =
     let lists = c.args.self.now.lists.items in
-    let ok = c.args.self.now.lists.ok.0 in
-    let len = c.len.ensures in
-    let test = c.if-n-len.true in
-    let within : c.args.n < length lists = omega (arith, ok, len, test) in
+    let within : c.args.n < length lists = omega arith in
     subst IsRising (list_is lists c.args.n c.index.result.now within c.index.ensures ∙ sym c.deref.ensures.value) (c.requires c.args.n)
 
 pub returns-then-n-len : goal.returns-then-n-len
 returns-then-n-len c =
     let lists = c.args.self.now.lists.items in
-    let ok = c.args.self.now.lists.ok.0 in
-    let len = c.len.ensures in
-    let test = c.if-n-len.true in
-    let within : c.args.n < length lists = omega (arith, ok, len, test) in
+    let within : c.args.n < length lists = omega arith in
     subst (λ l. IsStartIn c.args.log.now l c.args.from c.start_in.result) (c.deref.ensures.value ∙ sym (list_is lists c.args.n c.index.result.now within c.index.ensures)) c.start_in.ensures
 
 pub returns-else-n-len : goal.returns-else-n-len
 returns-else-n-len c =
     λ j later inside has.
     let lists = c.args.self.now.lists.items in
-    let ok = c.args.self.now.lists.ok.0 in
-    let len = c.len.ensures in
-    let test = c.if-n-len.false in
-    absurd (none_in_nothing (mark c.args.log.now j + 1) (subst (λ l. HasBound l (mark c.args.log.now j + 1)) (list_past lists c.args.n (omega (arith, ok, len, test))) has))
+    absurd (none_in_nothing (mark c.args.log.now j + 1) (subst (λ l. HasBound l (mark c.args.log.now j + 1)) (list_past lists c.args.n (omega arith)) has))

@@ -12,7 +12,6 @@ pub returns-in-Step-3 : goal.returns-in-Step-3
 returns-in-Step-3 c =
     let other_process = c.if-index-slot.false in
     let not_last = c.if-slot-eq9.false in
-    let value = c.index.ensures.value in
     let same = same_step_process c.args.event.now c.in-Step-2.p c.in-Step-2.k c.in-Step-2.kind c.in-Step-3.p c.in-Step-3.k c.in-Step-3.kind c.in-Step-2.is c.in-Step-3.is in
     λ i cause before within in_slot unsent h.
     above_steps c.args.self.now c.args.slot c.end_for_step.result c.args.event.now c.in-Step-3.p c.in-Step-3.k c.in-Step-3.kind c.in-Step-3.is not_last

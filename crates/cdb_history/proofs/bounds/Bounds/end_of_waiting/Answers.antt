@@ -6,12 +6,8 @@ use Rattle.cdb_history.proofs.bounds.Bounds.end_of_waiting.Goals as goal
 
 pub returns : goal.returns
 returns c =
-    let slot = c.index.ensures.value in
     let same : c.index.result ≡ c.args.p - 1 = omega arith in
-    let sent = c.end_of_sends-sent.ensures in
     let lost = c.end_of_losses-lost.ensures ∙ ap (λ n. bound_of c.args.self.now.losses (named_copy_cell c.args.s c.args.r n)) same in
-    let one = c.max.ensures in
-    let two = c.max-2.ensures in
     λ i k l between within unshared h g.
     above_waiting c.args.self.now c.args.q c.args.m c.args.p c.args.s c.args.r c.max-2.result c.requires
     (omega arith)

@@ -39,15 +39,13 @@ pub returns-in-Step-clause-own : goal.returns-in-Step-clause-own
 returns-in-Step-clause-own c =
     let noted = c.note_own.ensures.own c.in-Step.kind in
     let same = ap (λ l. slice_index l (c.in-Step.p - 1)) c.note_kind.ensures.own in
-    let low = noted.1 in
     subst (IsOwnNoted c.args.self.now c.note_own.new.self c.args.mark) (sym c.in-Step.is) (noted.0, omega arith)
 
 pub returns-in-Step-clause-within : goal.returns-in-Step-clause-within
 returns-in-Step-clause-within c =
     let rest = c.note_kind.ensures.within in
-    let raised = c.raise.ensures.raised in
     let event : Event = Step c.in-Step.p c.in-Step.k c.in-Step.kind in
     let steps = ap (λ t. bound_of t (named_cell c.in-Step.p c.in-Step.k)) c.note_kind.ensures.steps in
-    let here : c.args.mark < bound_of c.note_kind.new.self.steps (named_cell c.in-Step.p c.in-Step.k) = omega (arith, raised, steps) in
+    let here : c.args.mark < bound_of c.note_kind.new.self.steps (named_cell c.in-Step.p c.in-Step.k) = omega (arith, steps) in
     subst (IsEventWithin c.note_own.new.self c.args.mark) (sym c.in-Step.is)
     (within_raised (c.args.mark + 1) c.note_kind.new.self c.note_own.new.self c.note_own.ensures.others c.args.mark event (omega arith) (here, rest))

@@ -8,6 +8,5 @@ pub returns-in-Step : goal.returns-in-Step
 returns-in-Step c = λ events flagged.
     let old = c.args.self.now in
     let nine : length old.stepped ≡ 9 = search rules in
-    let low = c.index.ensures.below_nine in
     subst (λ (e : Event). AreFlagged c.note_kind.new.self (events ++ e ∷ [])) (sym c.in-Step.is)
-    (step_flagged old c.note_kind.new.self c.index.result c.in-Step.p _ c.in-Step.kind events c.index.ensures.value (omega (arith, nine, low)) c.note_kind.ensures flagged)
+    (step_flagged old c.note_kind.new.self c.index.result c.in-Step.p _ c.in-Step.kind events c.index.ensures.value (omega (arith, nine)) c.note_kind.ensures flagged)

@@ -6,8 +6,6 @@ use Rattle.cdb_history.proofs.flags.Flags.step_depends.Goals as goal
 pub returns-then-is_set : goal.returns-then-is_set
 returns-then-is_set c = λ k events flagged.
     let p : ℕ = c.args.p in
-    let value = c.index.ensures.value in
-    let low = c.index.ensures.below_nine in
     let cell : c.index.result ≡ p - 1 = omega arith in
     let one : 1 ≤ p = omega arith in
     let nine : p ≤ 9 = omega arith in
@@ -17,8 +15,6 @@ returns-then-is_set c = λ k events flagged.
 pub returns-else-is_set : goal.returns-else-is_set
 returns-else-is_set c = λ k events flagged.
     let p : ℕ = c.args.p in
-    let value = c.index.ensures.value in
-    let low = c.index.ensures.below_nine in
     let cell : c.index.result ≡ p - 1 = omega arith in
     let one : 1 ≤ p = omega arith in
     let nine : p ≤ 9 = omega arith in

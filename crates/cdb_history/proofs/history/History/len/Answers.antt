@@ -11,5 +11,4 @@ pub returns-clause-few : goal.returns-clause-few
 returns-clause-few c =
     let h = c.self.invariant in
     let few = few_events c.self.inside.events.items h.standing h.ranged h.name_cells in
-    let len = c.len.ensures in
     omega arith

@@ -15,8 +15,7 @@ returns-then-bound-eq0 c =
     (new_up c.self.inside.events.items c.args.name
     (λ i named.
     let low = c.end_of_name-bound.ensures (mark c.self.inside.events i) named.0 (c.self.invariant.within i named.0 named.1) named.2 in
-    let none = c.if-bound-eq0.true in
-    omega (arith, low, none)))
+    omega (arith, low)))
 
 pub overflow_add-result : goal.overflow_add-result
 overflow_add-result c =

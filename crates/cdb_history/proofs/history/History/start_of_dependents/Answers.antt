@@ -11,10 +11,7 @@ returns-then-own-next-clause-start c = λ j l. let later = l.later in omega (ari
 pub returns-clause-start : goal.returns-clause-start
 returns-clause-start c =
     λ j l.
-    let later = l.later in
-    let least = c.min.ensures in
-    let most = c.max.ensures in
     elim (same_process l.cause l.effect) as (λ b. same_process l.cause l.effect ≡ b → c.max.result ≤ j) [
-      | true ↦ λ same. (let low = c.start_of_own-own.ensures j l same in omega (arith, later, least, most, low))
-      | false ↦ λ apart. (let low = c.start_of_others.ensures j l apart in omega (arith, later, least, most, low))
+      | true ↦ λ same. (let low = c.start_of_own-own.ensures j l same in omega (arith, low))
+      | false ↦ λ apart. (let low = c.start_of_others.ensures j l apart in omega (arith, low))
     ] refl

@@ -9,13 +9,12 @@ pub returns-then-bound-eq0 : goal.returns-then-bound-eq0
 returns-then-bound-eq0 c =
     let log = c.self.inside.events in
     let bounds = c.self.inside.bounds in
-    let none = c.if-bound-eq0.true in
     subst (λ h. IsStartOfReceives h c.args.s c.args.m c.args.slot c.args.from c.len.result) c.self.view_is
     (λ j event later at is.
     absurd
     (let below = subst (λ b. mark log j < b) (sym c.end_of_receives-bound.ensures)
     (receive_below bounds (mark log j) (named_copy_cell c.args.s c.args.m c.args.slot) event (c.self.invariant.within j event at) is) in
-    omega (arith, below, none)))
+    omega (arith, below)))
 
 pub returns-then-end-from : goal.returns-then-end-from
 returns-then-end-from c =
@@ -23,11 +22,10 @@ returns-then-end-from c =
     let bounds = c.self.inside.bounds in
     let end = c.position_above-end.result in
     let bound = c.end_of_receives-bound.result in
-    let test = c.if-end-from.true in
     subst (λ h. IsStartOfReceives h c.args.s c.args.m c.args.slot c.args.from c.len-then-end-from.result) c.self.view_is
     (λ j event later at is.
     absurd
     (let below = stands_below log end bound c.position_above-end.ensures.marks j event at
     (subst (λ b. mark log j < b) (sym c.end_of_receives-bound.ensures)
     (receive_below bounds (mark log j) (named_copy_cell c.args.s c.args.m c.args.slot) event (c.self.invariant.within j event at) is)) in
-    omega (arith, below, later, test)))
+    omega (arith, below, later)))

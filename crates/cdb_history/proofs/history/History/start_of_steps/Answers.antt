@@ -6,5 +6,4 @@ pub returns-then-end_of_steps-from : goal.returns-then-end_of_steps-from
 returns-then-end_of_steps-from c =
     λ j event more at of_process.
     let below = end_down c.args.self.now c.args.p c.end_of_steps.result c.end_of_steps.ensures.above j event at of_process in
-    let end = c.if-end_of_steps-from.true in
     absurd (omega arith)

@@ -28,9 +28,6 @@ loop-i-preserved c =
     let items = c.args.log.now.items in
     let event = c.get.result.now in
     let i : ℕ = c.loop-i.i in
-    let more = c.reserve_for.ensures.pieces in
-    let same = c.add.ensures.pieces in
-    let few = c.loop-i.invariant.pieces in
     let next : suc i ≡ i + 1 = omega arith in
     record {
       added = c.add.ensures.added ∙ ap (λ l. l ++ event ∷ []) (c.reserve_for.ensures.same ∙ c.loop-i.invariant.added) ∙ sym (take_next items i event c.get.ensures) ∙ ap (λ n. take n items) next;

@@ -15,10 +15,6 @@ pub returns-then-k-len : goal.returns-then-k-len
 returns-then-k-len g c =
     λ i less is.
     let pieces = c.self.inside.pieces.items in
-    let test = c.if-k-len.true in
-    let long = c.self.invariant.items_end.same_length in
-    let ok = c.self.inside.ends.ok.0 in
-    let len = c.len.ensures in
     let past : PIECE * length pieces ≤ c.args.mark = omega arith in
     let low =
     subst (λ log. mark log i < c.args.mark) c.self.view_is
@@ -29,10 +25,6 @@ pub place_of-requires-clause-rising : goal.place_of-requires-clause-rising
 place_of-requires-clause-rising g c =
     let offsets = c.self.inside.offsets.items in
     let h = c.self.invariant in
-    let test = c.if-k-len.false in
-    let long = h.offsets_end.same_length in
-    let ok = c.self.inside.ends.ok.0 in
-    let len = c.len.ensures in
     let k : ℕ = c.args.mark / PIECE in
     let o = c.index-offsets.result.now in
     subst AreOffsets (sym c.deref.ensures.value) (offsets_at (lists offsets) k o.items h.rise (lists_at offsets k o (omega arith) c.index-offsets.ensures))
@@ -43,15 +35,9 @@ overflow_add-result g c =
     let ends = c.self.inside.ends.items in
     let h = c.self.invariant.offsets_end in
     let k : ℕ = c.args.mark / PIECE in
-    let test = c.if-k-len.false in
-    let long = h.same_length in
-    let few = h.few in
-    let ok = c.self.inside.ends.ok.0 in
-    let len = c.len.ensures in
     let s = c.start_of.ensures ∙ ap (λ l. piece_start l k) c.deref-in-Some.ensures.value ∙ start_is offsets ends h k (omega arith) in
     let b = bounded offsets ends h k in
     let most = small_piece offsets ends h k c.index-offsets.result.now (omega arith) c.index-offsets.ensures in
-    let within = c.in-Some.ensures.0 in
     let same = ap length c.deref.ensures.value in
     omega arith
 
@@ -59,16 +45,10 @@ pub index-requires : goal.index-requires
 index-requires g c =
     let h = c.self.invariant in
     let k : ℕ = c.args.mark / PIECE in
-    let test = c.if-k-len.false in
-    let long = h.items_end.same_length in
-    let ok = c.self.inside.ends.ok.0 in
-    let len = c.len.ensures in
     let v = c.index-items.result.now in
     let o = c.index-offsets.result.now in
     let many = same_piece c.self.inside.pieces.items c.self.inside.offsets.items c.self.inside.ends.items h k v o (omega arith) c.index-items.ensures c.index-offsets.ensures in
-    let within = c.in-Some.ensures.0 in
     let same = ap length c.deref.ensures.value in
-    let fits = v.ok.0 in
     omega arith
 
 pub returns-in-Some : goal.returns-in-Some
@@ -80,11 +60,6 @@ returns-in-Some g c =
     let k : ℕ = c.args.mark / PIECE in
     let i : ℕ = c.in-Some.i in
     let position : ℕ = c.start_of.result + i in
-    let test = c.if-k-len.false in
-    let long = h.items_end.same_length in
-    let long_o = h.offsets_end.same_length in
-    let ok = c.self.inside.ends.ok.0 in
-    let len = c.len.ensures in
     let v = c.index-items.result.now in
     let o = c.index-offsets.result.now in
     let in_pieces : k < length pieces = omega arith in
@@ -112,10 +87,6 @@ returns-in-None g c =
     let ends = c.self.inside.ends.items in
     let h = c.self.invariant in
     let k : ℕ = c.args.mark / PIECE in
-    let test = c.if-k-len.false in
-    let long = h.items_end.same_length in
-    let ok = c.self.inside.ends.ok.0 in
-    let len = c.len.ensures in
     let o = c.index-offsets.result.now in
     let none = subst (λ l. HasNoOffset l (c.args.mark % PIECE)) c.deref.ensures.value c.in-None.ensures in
     let whole : PIECE * k + c.args.mark % PIECE ≡ c.args.mark = omega arith in

@@ -16,8 +16,6 @@ pub index-requires : goal.index-requires
 index-requires g c =
     let f = found c.self.inside.pieces.items c.self.inside.ends.items c.self.invariant.items_end c.args.position c.spot_of-k.result.0 c.spot_of-k.result.1
     (subst (λ l. IsSpot l c.args.position c.spot_of-k.result.0 c.spot_of-k.result.1) c.deref.ensures.value c.spot_of-k.ensures) c.index-piece.result.now c.index-piece.ensures in
-    let less = f.less in
-    let ok = c.index-piece.result.now.ok.0 in
     omega arith
 
 pub returns : goal.returns

@@ -18,8 +18,6 @@ index-requires g c =
     let o = c.index-offsets.result.now in
     let f = found c.self.inside.offsets.items c.self.inside.ends.items c.self.invariant.offsets_end c.args.position c.spot_of-k.result.0 c.spot_of-k.result.1
     (subst (λ l. IsSpot l c.args.position c.spot_of-k.result.0 c.spot_of-k.result.1) c.deref.ensures.value c.spot_of-k.ensures) o c.index-offsets.ensures in
-    let less = f.less in
-    let ok = o.ok.0 in
     omega arith
 
 pub returns-clause-mark : goal.returns-clause-mark
@@ -33,7 +31,6 @@ returns-clause-mark g c =
     let o = c.index-offsets.result.now in
     let f = found offsets ends h.offsets_end c.args.position k i (subst (λ l. IsSpot l c.args.position k i) c.deref.ensures.value c.spot_of-k.ensures) o c.index-offsets.ensures in
     let same = same_pieces pieces offsets ends h in
-    let within = f.within in
     let m = mark_is pieces offsets ends h c.args.position k i o c.index-offsets.ensures (omega arith) f.is_position f.less in
     let read : c.index.result.now ≡ slice_index o.items i = c.index.ensures ∙ get_or_default o.items i c.index.result.now 0 f.less in
     subst (λ log. k * PIECE + c.index.result.now ≡ mark log c.args.position) c.self.view_is (omega arith)

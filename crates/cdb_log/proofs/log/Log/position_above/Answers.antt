@@ -18,10 +18,6 @@ returns-then-k-len-clause-marks g c =
     let offsets = c.self.inside.offsets.items in
     let ends = c.self.inside.ends.items in
     let h = c.self.invariant in
-    let test = c.if-k-len.true in
-    let long = h.items_end.same_length in
-    let ok = c.self.inside.ends.ok.0 in
-    let len = c.len.ensures in
     let past : PIECE * length pieces ≤ c.args.bound = omega arith in (
       λ q. subst (λ log. mark log i < c.args.bound) c.self.view_is
           (all_marked pieces offsets ends h c.args.bound i past (subst (λ log. i < length (items_of log)) (sym c.self.view_is) less)),
@@ -32,10 +28,6 @@ pub count_below-requires : goal.count_below-requires
 count_below-requires g c =
     let offsets = c.self.inside.offsets.items in
     let h = c.self.invariant in
-    let test = c.if-k-len.false in
-    let long = h.offsets_end.same_length in
-    let ok = c.self.inside.ends.ok.0 in
-    let len = c.len.ensures in
     let k : ℕ = c.args.bound / PIECE in
     let o = c.index-offsets.result.now in
     subst AreOffsets (sym c.deref-2.ensures.value) (offsets_at (lists offsets) k o.items h.rise (lists_at offsets k o (omega arith) c.index-offsets.ensures))
@@ -46,15 +38,9 @@ overflow_add-result g c =
     let ends = c.self.inside.ends.items in
     let h = c.self.invariant.offsets_end in
     let k : ℕ = c.args.bound / PIECE in
-    let test = c.if-k-len.false in
-    let long = h.same_length in
-    let few = h.few in
-    let ok = c.self.inside.ends.ok.0 in
-    let len = c.len.ensures in
     let s = c.start_of.ensures ∙ ap (λ l. piece_start l k) c.deref.ensures.value ∙ start_is offsets ends h k (omega arith) in
     let b = bounded offsets ends h k in
     let most = small_piece offsets ends h k c.index-offsets.result.now (omega arith) c.index-offsets.ensures in
-    let within = c.count_below.ensures.within in
     let same = ap length c.deref-2.ensures.value in
     omega arith
 
@@ -65,16 +51,11 @@ returns-clause-within g c =
     let ends = c.self.inside.ends.items in
     let h = c.self.invariant.offsets_end in
     let k : ℕ = c.args.bound / PIECE in
-    let test = c.if-k-len.false in
-    let long = h.same_length in
-    let ok = c.self.inside.ends.ok.0 in
-    let len = c.len.ensures in
     let o = c.index-offsets.result.now in
     let s = c.start_of.ensures ∙ ap (λ l. piece_start l k) c.deref.ensures.value ∙ start_is offsets ends h k (omega arith) in
     let step = before_step (lists offsets) k o.items (lists_at offsets k o (omega arith) c.index-offsets.ensures) in
     let most = before_most (lists offsets) (suc k) in
     let many = same_many pieces offsets ends c.self.invariant in
-    let within = c.count_below.ensures.within in
     let same = ap length c.deref-2.ensures.value in
     subst (λ log. c.start_of.result + c.count_below.result ≤ length (items_of log)) c.self.view_is (omega arith)
 
@@ -87,10 +68,6 @@ returns-clause-marks g c =
     let h = c.self.invariant in
     let bound : ℕ = c.args.bound in
     let count : ℕ = c.count_below.result in
-    let test = c.if-k-len.false in
-    let long = h.items_end.same_length in
-    let ok = c.self.inside.ends.ok.0 in
-    let len = c.len.ensures in
     let within : bound / PIECE < length pieces = omega arith in
     let rest : bound % PIECE < PIECE = omega arith in
     let whole : PIECE * (bound / PIECE) + bound % PIECE ≡ bound = omega arith in

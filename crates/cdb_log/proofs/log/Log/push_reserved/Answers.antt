@@ -21,9 +21,6 @@ overflow_cast-offset g c =
     let k : ℕ = c.len-last.result - 1 in
     let o = c.index_mut-offsets.result.now in
     let open_is = opened pieces offsets ends h c.len-last.result o (c.len-last.ensures ∙ c.self.inside.ends.ok.0) (subst HasRoom (sym c.self.view_is) c.requires) c.index_mut-offsets.ensures.value in
-    let last = open_is.last in
-    let below = open_is.below in
-    let many = open_is.many in
     let next_is = c.next_of-offset.ensures ∙ ap next c.deref.ensures.value in
     omega arith
 
@@ -36,12 +33,7 @@ push_reserved-requires g c =
     let k : ℕ = c.len-last.result - 1 in
     let o = c.index_mut-offsets.result.now in
     let open_is = opened pieces offsets ends h c.len-last.result o (c.len-last.ensures ∙ c.self.inside.ends.ok.0) (subst HasRoom (sym c.self.view_is) c.requires) c.index_mut-offsets.ensures.value in
-    let last = open_is.last in
-    let below = open_is.below in
-    let many = open_is.many in
     let next_is = c.next_of-offset.ensures ∙ ap next c.deref.ensures.value in
-    let roomy = open_is.roomy in
-    let ok = o.ok.0 in
     omega arith
 
 pub push_reserved-requires-2 : goal.push_reserved-requires-2
@@ -53,14 +45,10 @@ push_reserved-requires-2 g c =
     let k : ℕ = c.len-last.result - 1 in
     let o = c.index_mut-offsets.result.now in
     let open_is = opened pieces offsets ends h c.len-last.result o (c.len-last.ensures ∙ c.self.inside.ends.ok.0) (subst HasRoom (sym c.self.view_is) c.requires) c.index_mut-offsets.ensures.value in
-    let last = open_is.last in
-    let below = open_is.below in
-    let many = open_is.many in
     let next_is = c.next_of-offset.ensures ∙ ap next c.deref.ensures.value in
     let v = c.index_mut-piece.result.now in
     let same = same_piece pieces offsets ends h k v o (omega arith) c.index_mut-piece.ensures.value c.index_mut-offsets.ensures.value in
     let roomy = roomy_at pieces k v h.items_end.roomy (omega arith) c.index_mut-piece.ensures.value in
-    let ok = v.ok.0 in
     omega arith
 
 pub overflow_add-index_mut : goal.overflow_add-index_mut
@@ -72,12 +60,7 @@ overflow_add-index_mut g c =
     let k : ℕ = c.len-last.result - 1 in
     let o = c.index_mut-offsets.result.now in
     let open_is = opened pieces offsets ends h c.len-last.result o (c.len-last.ensures ∙ c.self.inside.ends.ok.0) (subst HasRoom (sym c.self.view_is) c.requires) c.index_mut-offsets.ensures.value in
-    let last = open_is.last in
-    let below = open_is.below in
-    let many = open_is.many in
     let next_is = c.next_of-offset.ensures ∙ ap next c.deref.ensures.value in
-    let long = h.items_end.same_length in
-    let few = h.items_end.few in
     let e = c.index_mut.ensures.value ∙ get_or_default ends k c.index_mut.result.now 0 (omega arith) ∙ h.items_end.each k (omega arith) in
     let b = bounded pieces ends h.items_end (suc k) in
     omega arith
@@ -91,11 +74,7 @@ returns-clause-small g c =
     let k : ℕ = c.len-last.result - 1 in
     let o = c.index_mut-offsets.result.now in
     let open_is = opened pieces offsets ends h c.len-last.result o (c.len-last.ensures ∙ c.self.inside.ends.ok.0) (subst HasRoom (sym c.self.view_is) c.requires) c.index_mut-offsets.ensures.value in
-    let last = open_is.last in
-    let below = open_is.below in
-    let many = open_is.many in
     let next_is = c.next_of-offset.ensures ∙ ap next c.deref.ensures.value in
-    let few = h.items_end.few in
     let mark : k * PIECE + c.next_of-offset.result < ABOVE_ALL = omega arith in
     mark
 
@@ -115,21 +94,14 @@ invariant_of-self g c =
     let o = c.index_mut-offsets.result.now in
     let open_is = opened pieces offsets ends h c.len-last.result o (c.len-last.ensures ∙ c.self.inside.ends.ok.0) (subst HasRoom (sym c.self.view_is) c.requires) c.index_mut-offsets.ensures.value in
     let last = open_is.last in
-    let below = open_is.below in
-    let many = open_is.many in
     let next_is = c.next_of-offset.ensures ∙ ap next c.deref.ensures.value in
     let v = c.index_mut-piece.result.now in
     let w = c.push_reserved-2.new.self in
     let u = c.push_reserved.new.self in
-    let long = h.items_end.same_length in
-    let same_offsets = h.offsets_end.same_length in
     let same = same_piece pieces offsets ends h k v o (omega arith) c.index_mut-piece.ensures.value c.index_mut-offsets.ensures.value in
     let roomy = roomy_at pieces k v h.items_end.roomy (omega arith) c.index_mut-piece.ensures.value in
-    let roomy_offsets = open_is.roomy in
     let more = ap length c.push_reserved-2.ensures.items ∙ length_push v.items c.args.item in
     let more_offsets = ap length c.push_reserved.ensures.items ∙ length_push o.items c.next_of-offset.result in
-    let cap = c.push_reserved-2.ensures.capacity in
-    let cap_offsets = c.push_reserved.ensures.capacity in
     let end_is = c.index_mut.ensures.value ∙ get_or_default ends k c.index_mut.result.now 0 (omega arith) in
     record {
       items_end = ends_pushed pieces ends h.items_end k c.index_mut.result.now v w last c.index_mut-piece.ensures.value end_is (omega arith) (omega arith) (omega arith);
@@ -150,8 +122,6 @@ returns-clause-pushed g c =
     let o = c.index_mut-offsets.result.now in
     let open_is = opened pieces offsets ends h c.len-last.result o (c.len-last.ensures ∙ c.self.inside.ends.ok.0) (subst HasRoom (sym c.self.view_is) c.requires) c.index_mut-offsets.ensures.value in
     let last = open_is.last in
-    let below = open_is.below in
-    let many = open_is.many in
     let next_is = c.next_of-offset.ensures ∙ ap next c.deref.ensures.value in
     let v = c.index_mut-piece.result.now in
     let w = c.push_reserved-2.new.self in

@@ -25,15 +25,12 @@ spot_of-k-requires-clause-within g c =
 pub take_from-item-requires : goal.take_from-item-requires
 take_from-item-requires g c =
     let pieces = c.self.inside.pieces.items in
-    let offsets = c.self.inside.offsets.items in
     let ends = c.self.inside.ends.items in
     let h = c.self.invariant in
     let k : ℕ = c.spot_of-k.result.0 in
     let i : ℕ = c.spot_of-k.result.1 in
     let v = c.index_mut-piece.result.now in
     let f = found pieces ends h.items_end c.args.position k i (subst (λ l. IsSpot l c.args.position k i) c.deref.ensures.value c.spot_of-k.ensures) v c.index_mut-piece.ensures.value in
-    let less = f.less in
-    let ok = v.ok.0 in
     omega arith
 
 pub take_from-offset-requires : goal.take_from-offset-requires
@@ -48,8 +45,6 @@ take_from-offset-requires g c =
     let f = found pieces ends h.items_end c.args.position k i (subst (λ l. IsSpot l c.args.position k i) c.deref.ensures.value c.spot_of-k.ensures) v c.index_mut-piece.ensures.value in
     let o = c.index_mut-offsets.result.now in
     let same = same_piece pieces offsets ends h k v o f.within c.index_mut-piece.ensures.value c.index_mut-offsets.ensures.value in
-    let less = f.less in
-    let ok = o.ok.0 in
     omega arith
 
 pub lower-requires : goal.lower-requires
@@ -57,17 +52,14 @@ lower-requires g c = record {
   above = λ j le less_than.
       let less : j < length c.self.inside.ends.items = subst (λ (l : List ℕ). j < length l) c.deref_mut.ensures.value less_than in
       let pieces = c.self.inside.pieces.items in
-      let offsets = c.self.inside.offsets.items in
       let ends = c.self.inside.ends.items in
       let h = c.self.invariant in
       let k : ℕ = c.spot_of-k.result.0 in
       let i : ℕ = c.spot_of-k.result.1 in
       let v = c.index_mut-piece.result.now in
       let f = found pieces ends h.items_end c.args.position k i (subst (λ l. IsSpot l c.args.position k i) c.deref.ensures.value c.spot_of-k.ensures) v c.index_mut-piece.ensures.value in
-      let same = h.items_end.same_length in
       let e = h.items_end.each j (omega arith) in
       let rises = before_rises (lists pieces) (suc k) (suc j) (omega arith) in
-      let high = f.high in
       subst (λ (l : List ℕ). 1 ≤ slice_index l j) (sym c.deref_mut.ensures.value) (omega arith);
 }
 
@@ -86,8 +78,6 @@ drop_spares-requires g c =
     let u = c.take_from-offset.new.items in
     let same = same_piece pieces offsets ends h k v o f.within c.index_mut-piece.ensures.value c.index_mut-offsets.ensures.value in
     let same_long = same_pieces pieces offsets ends h in
-    let within = f.within in
-    let less = f.less in
     let less_o : i < length o.items = omega arith in
     let left = ap length c.take_from-item.ensures.items in
     let fewer = length-remove v.items i f.less in
@@ -123,7 +113,6 @@ returns-clause-taken_out g c =
     let w = c.take_from-item.new.items in
     let u = c.take_from-offset.new.items in
     let same = same_piece pieces offsets ends h k v o f.within c.index_mut-piece.ensures.value c.index_mut-offsets.ensures.value in
-    let less = f.less in
     let left = seen c.drop_spares.new.pieces.items c.drop_spares.new.offsets.items in
     subst (λ log. IsTakenOut log c.args.position c.take_from-item.result left) c.self.view_is
     (taken_then (seen pieces offsets) (seen (set pieces k w) (set offsets k u)) left c.args.position c.take_from-item.result (subst (λ log. c.args.position < length (items_of log)) (sym c.self.view_is) c.requires)
@@ -142,7 +131,6 @@ returns-clause-mark g c =
     let o = c.index_mut-offsets.result.now in
     let f = found offsets ends h.offsets_end c.args.position k i (subst (λ l. IsSpot l c.args.position k i) c.deref.ensures.value c.spot_of-k.ensures) o c.index_mut-offsets.ensures.value in
     let same = same_pieces pieces offsets ends h in
-    let within = f.within in
     let m = mark_is pieces offsets ends h c.args.position k i o c.index_mut-offsets.ensures.value (omega arith) f.is_position f.less in
     let read : slice_index o.items i ≡ c.take_from-offset.result = get_or_from_slice_get o.items i c.take_from-offset.result 0 c.take_from-offset.ensures.value in
     subst (λ log. k * PIECE + c.take_from-offset.result ≡ mark log c.args.position) c.self.view_is (omega arith)
@@ -158,7 +146,6 @@ returns-clause-small g c =
     let o = c.index_mut-offsets.result.now in
     let f = found offsets ends h.offsets_end c.args.position k i (subst (λ l. IsSpot l c.args.position k i) c.deref.ensures.value c.spot_of-k.ensures) o c.index_mut-offsets.ensures.value in
     let same = same_pieces pieces offsets ends h in
-    let within = f.within in
     let m = mark_is pieces offsets ends h c.args.position k i o c.index_mut-offsets.ensures.value (omega arith) f.is_position f.less in
     let read : slice_index o.items i ≡ c.take_from-offset.result = get_or_from_slice_get o.items i c.take_from-offset.result 0 c.take_from-offset.ensures.value in
     let small = marks_small pieces offsets ends h c.args.position (subst (λ log. c.args.position < length (items_of log)) (sym c.self.view_is) c.requires) in

@@ -1,11 +1,7 @@
-use Rattle.std.proofs.Common.{◌∙◌, ap, subst, true}
-use Rattle.std.specs.FinSet as set
-use Rattle.cdb_message.specs.Flags.{SetsFlag}
 use Rattle.cdb_message.proofs.Tables.{key_inserted, name_table-IsTable}
 use Rattle.cdb_message.proofs.names.Names.insert.Goals as goal
 
 pub returns-clause-ok : goal.returns-clause-ok
 returns-clause-ok c =
-    key_inserted name_table-IsTable c.self.inside.flags.items c.set.new.flags.items c.args.name c.cell_of.ensures.named
-    (subst (λ cell. SetsFlag c.self.inside.flags.items c.set.new.flags.items cell true) c.cell_of.ensures.value c.in_ok-set.ensures.ok)
-    ∙ ap (λ s. set.insert s c.args.name) c.self.view_is
+    rw (← c.self.view_is)
+    (key_inserted name_table-IsTable c.self.inside.flags.items c.set.new.flags.items c.args.name c.cell_of.ensures.named (rw c.cell_of.ensures.value at c.in_ok-set.ensures.ok))

@@ -1,0 +1,87 @@
+-- How values go through the leader machine.
+use Rattle.std.specs.Prelude.{ℕ, ◌+◌, not, ◌&&◌, List, [], ◌∷◌, length, find, Option, Some, None, is_some, if◌then◌else◌}
+use Rattle.std.specs.Option.{option_map, option_and_then, option_flatten}
+use Rattle.cdb_base.specs.Positions.{nth}
+use Rattle.cdb_base.specs.Processes.{all_processes}
+use Rattle.cdb_base.specs.declared.event.Kind.{Kind}
+use Rattle.cdb_base.specs.declared.event.Kind.TheVariants.{Query, Send, Recv, Local, Learn}
+use Rattle.cdb_base.specs.declared.payload.Payload.{Payload}
+use Rattle.cdb_process.specs.Values.{payload_value}
+use Rattle.cdb_leader.specs.declared.inbox.Received.{Received}
+use Rattle.cdb_leader.specs.declared.place.Place.{Place}
+use Rattle.cdb_leader.specs.declared.place.Place.TheVariants.{L1, L2, L3, L4, L5}
+use Rattle.cdb_leader.specs.Inbox.{first_phase, second_phase, second_phase_from, as_decision, decision_from, if_from, agreed_leader}
+use Rattle.cdb_leader.specs.LocalState.{LocalState}
+use Rattle.cdb_leader.specs.Table.{heard_first_phase, is_lead}
+use Rattle.cdb_trail.specs.Flow.{slot, message, Flow, still, moves, Flows, number_of}
+
+-- the i-th message that a process received, its estimate, what came of the first phase, and its decision
+pub data Slot : Type 0 where
+  received : (i : ℕ) → Slot
+  estimate : Slot
+  aux : Slot
+  decision : Slot
+
+abbrev pub slot_value : LocalState → Slot → Option ℕ
+slot_value s (received i) = option_and_then (λ it. payload_value it.payload) (nth s.inbox i)
+slot_value s estimate = Some s.estimate
+slot_value s aux = s.aux
+slot_value s decision = s.decision
+
+-- ---- which message of the inbox a step takes its value from
+
+-- the first message from m that reads as something, by its number in the inbox
+abbrev pub number_from : {A : Type 0} → ℕ → (Payload → Option A) → List Received → Option ℕ
+number_from m reading inbox = number_of (λ it. is_some (if_from m reading it)) inbox
+
+-- where aux is set: the first-phase message of the round from the leader that the senders agreed on
+abbrev pub number_of_estimate : LocalState → Option ℕ
+number_of_estimate s = option_and_then (λ m. number_from m (first_phase s.round) s.inbox) (agreed_leader s.quorum s.round s.inbox)
+
+-- where the round ends: the second-phase message of the round from the least sender whose message has a value
+abbrev pub number_of_proposal : LocalState → Option ℕ
+number_of_proposal s =
+    option_and_then (λ m. number_from m (second_phase s.round) s.inbox)
+    (find (λ m. is_some (option_flatten (second_phase_from s.round m s.inbox))) all_processes)
+
+-- where a decision is adopted: the first decision of the least sender that sent one
+abbrev pub number_of_learnt : LocalState → Option ℕ
+number_of_learnt s = option_and_then (λ m. number_from m as_decision s.inbox) (find (λ m. is_some (decision_from m s.inbox)) all_processes)
+
+-- ---- the flow of each row
+
+-- the first phase ends: aux is set to the value of that message, or to none
+abbrev pub sets_aux : ℕ → LocalState → Flow Slot
+sets_aux p s = record { takes = option_map (λ i. slot p (received i)) (number_of_estimate s); sets = slot p aux ∷ [] }
+
+-- the estimate is set to the value of a message, where there is one, and else stays
+abbrev pub sets_estimate : ℕ → Option ℕ → Flow Slot
+sets_estimate p None = still
+sets_estimate p (Some i) = moves (slot p (received i)) (slot p estimate ∷ [])
+
+-- a send sends the estimate or aux; with the last one the process decides its estimate
+abbrev pub send_flow : Place → ℕ → ℕ → Flow Slot
+send_flow L1 p m = moves (slot p estimate) (message p m ∷ [])
+send_flow L3 p m = moves (slot p aux) (message p m ∷ [])
+send_flow L5 p m = moves (slot p estimate) (message p m ∷ slot p decision ∷ [])
+send_flow place p m = still
+
+abbrev pub query_flow : Place → ℕ → LocalState → ℕ → Flow Slot
+query_flow L2 p s l = if heard_first_phase s && not (is_lead l s.lead) then sets_aux p s else still
+query_flow place p s l = still
+
+abbrev pub local_flow : Place → ℕ → LocalState → Flow Slot
+local_flow L2 p s = sets_aux p s
+local_flow L4 p s = sets_estimate p (number_of_proposal s)
+local_flow place p s = still
+
+abbrev pub flow : ℕ → LocalState → Kind → Flow Slot
+flow p s (Query l) = query_flow s.place p s l
+flow p s (Send m) = send_flow s.place p m
+flow p s (Recv o m) = moves (message o m) (slot p (received (length s.inbox + 1)) ∷ [])
+flow p s Local = local_flow s.place p s
+flow p s Learn = sets_estimate p (number_of_learnt s)
+flow p s kind = still
+
+abbrev pub leader_flows : Flows LocalState Slot
+leader_flows = record { input = estimate; decision = decision; value = slot_value; flow = flow }

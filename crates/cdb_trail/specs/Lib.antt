@@ -1,0 +1,5 @@
+-- what a reader of the contracts believes: where a value lies and how a step moves it, by machine, and trails
+pub mod Flow
+pub mod LeaderFlow
+pub mod AlphaFlow
+pub mod Trails
